@@ -1,0 +1,16 @@
+pub mod Bytes
+pub mod Tests
+pub mod Block
+pub mod Frame
+pub mod Mask
+pub mod State
+pub mod View
+pub mod Sound
+pub mod Answer
+pub mod Open
+pub mod Deliver
+pub mod Move
+pub mod Signal
+pub mod Submit
+pub mod Read
+pub mod Fetch
