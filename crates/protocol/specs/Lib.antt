@@ -14,3 +14,8 @@ pub mod Signal
 pub mod Submit
 pub mod Read
 pub mod Fetch
+pub mod EveryLaws
+pub mod TestsLaws
+pub mod MaskLaws
+pub mod StateLaws
+pub mod QuorumLaws
