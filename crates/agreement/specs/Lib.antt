@@ -5,3 +5,6 @@ pub mod Fresh
 pub mod Keeping
 pub mod Statements
 pub mod Moving
+pub mod Run
+pub mod Opening
+pub mod Replica
