@@ -8,3 +8,5 @@ pub mod Moving
 pub mod Run
 pub mod Opening
 pub mod Replica
+pub mod Chains
+pub mod Agreement
