@@ -10,3 +10,7 @@ pub mod Opening
 pub mod Replica
 pub mod Chains
 pub mod Agreement
+pub mod ListTests
+pub mod ListTestsLaws
+pub mod Witness
+pub mod WitnessLaws

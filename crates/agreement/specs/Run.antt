@@ -40,12 +40,12 @@ flag-4-after-1 f n e =
     rw r e
 
 -- ---- lists
-or-else-assoc : {A : Type 0} (x y z : Option A) → orElse (orElse x y) z ≡ orElse x (orElse y z)
+pub or-else-assoc : {A : Type 0} (x y z : Option A) → orElse (orElse x y) z ≡ orElse x (orElse y z)
 unfolding orElse
 or-else-assoc (some a) y z = refl
 or-else-assoc none y z = refl
 
-or-else-none : {A : Type 0} (x : Option A) → x ≡ orElse x none
+pub or-else-none : {A : Type 0} (x : Option A) → x ≡ orElse x none
 unfolding orElse
 or-else-none (some a) = refl
 or-else-none none = refl
