@@ -31,7 +31,8 @@ module _ (digest : Bytes → Bytes) (n dishonest : ℕ) (l : List Member) (third
   whole-list : (t : ℕ) → Honest digest n dishonest t → GoodBytes digest n dishonest l t (lastLeft digest t l)
   whole-list t ht = good-after digest n dishonest l keeps unforged l [] (sym (append-nil l)) t ht
 
-  one-vote : (t h : ℕ) (d d′ : Bytes) → Honest digest n dishonest t → Wrote digest t (votesBlock h d) l → Wrote digest t (votesBlock h d′) l → d ≡ d′
+  one-vote : (t h : ℕ) (d d′ : Bytes) → Honest digest n dishonest t → Wrote digest t (votesBlock h d) l →
+      Wrote digest t (votesBlock h d′) l → d ≡ d′
   one-vote t h d d′ ht w w′ = go (lastLeft digest t l) (whole-list t ht)
     where
       go : (o : Option Bytes) → GoodBytes digest n dishonest l t o → d ≡ d′
@@ -79,7 +80,8 @@ module _ (digest : Bytes → Bytes) (n dishonest : ℕ) (l : List Member) (third
     unfolding HonestIn
     honest t low e = let q = x .good .same-n in (omega arith, e)
 
-    equal-blocks : (i : ℕ) → isNotarized (at b (suc i)) ≡ true → isNotarized (at b′ (suc i)) ≡ true → at b (suc i) .notarized ≡ at b′ (suc i) .notarized
+    equal-blocks : (i : ℕ) → isNotarized (at b (suc i)) ≡ true → isNotarized (at b′ (suc i)) ≡ true →
+        at b (suc i) .notarized ≡ at b′ (suc i) .notarized
     unfolding NoCollision
     equal-blocks i e e′ =
         let (t, low, inA, inB, notD) = shared (at b (suc i) .certificateMask) (at b′ (suc i) .certificateMask) (x .grants .certificates i e) (x′ .grants .certificates i e′) in
@@ -92,14 +94,16 @@ module _ (digest : Bytes → Bytes) (n dishonest : ℕ) (l : List Member) (third
         (in-whole b x (p .0) (p .1)) (in-whole b′ x′ (p′ .0) (p′ .1)) (p .2) (p′ .2) (p .3) (p′ .3)
         (one-vote t (suc i) _ _ ht w w′)
 
-    final-not-dummy : (i : ℕ) → quorum (view b) (at b (suc i) .finalizeMask) ≡ true → quorum (view b′) (at b′ (suc i) .dummyMask) ≡ true → ⊥
+    final-not-dummy : (i : ℕ) → quorum (view b) (at b (suc i) .finalizeMask) ≡ true →
+        quorum (view b′) (at b′ (suc i) .dummyMask) ≡ true → ⊥
     final-not-dummy i e e′ =
         let (t, low, inA, inB, notD) = shared (at b (suc i) .finalizeMask) (at b′ (suc i) .dummyMask) e e′ in
         let ht = honest t low notD in
         never-both t (suc i) ht (stated b′ x′ t _ ht (backed-at b′ x′ i .dummies t inB)) (stated b x t _ ht (backed-at b x i .finalizations t inA))
 
     -- ---- chains of finalized heights
-    chains : (g g′ : ℕ) → (g ≡ 0) ⊎ (isFinalized digest (view b) g ≡ true) → (g′ ≡ 0) ⊎ (isFinalized digest (view b′) g′ ≡ true) → g ≤ g′ → Prefix (chain (view b) g) (chain (view b′) g′)
+    chains : (g g′ : ℕ) → (g ≡ 0) ⊎ (isFinalized digest (view b) g ≡ true) → (g′ ≡ 0) ⊎ (isFinalized digest (view b′) g′ ≡ true) →
+        g ≤ g′ → Prefix (chain (view b) g) (chain (view b′) g′)
     unfolding chain chainWithin isFinalized linked isDummy view
     chains zero g′ q q′ le = prefix-nil (chain (view b′) g′)
     chains (suc i) g′ (inl q) q′ le = absurd (omega arith)
@@ -125,7 +129,8 @@ module _ (digest : Bytes → Bytes) (n dishonest : ℕ) (l : List Member) (third
       split : (front : List Member) × (back : List Member) × (l ≡ front ++ (m ∷ back))
       split = member-split l here
 
-      go : sound digest (m .book) ≡ true → (o : Option Bytes) → Follows digest n (m .replica) m o → GoodBytes digest n dishonest (split .0) (m .replica) o → Had (decode (m .book))
+      go : sound digest (m .book) ≡ true → (o : Option Bytes) → Follows digest n (m .replica) m o →
+          GoodBytes digest n dishonest (split .0) (m .replica) o → Had (decode (m .book))
       go ok none x g = let e′ = x .2 in let z : _≡_ {A = ℕ} 0 1 = cc in absurd (omega arith)
       go ok (some book) x g = record {
         P = split .0;
@@ -155,7 +160,8 @@ module _ (digest : Bytes → Bytes) (n dishonest : ℕ) (l : List Member) (third
       b′ : State
       b′ = decode (m′ .book)
 
-      go : (b .finalized ≤ b′ .finalized) ⊎ (b′ .finalized < b .finalized) → Begins (join (log b)) (join (log b′)) ⊎ Begins (join (log b′)) (join (log b))
+      go : (b .finalized ≤ b′ .finalized) ⊎ (b′ .finalized < b .finalized) →
+          Begins (join (log b)) (join (log b′)) ⊎ Begins (join (log b′)) (join (log b))
       go (inl h) = inl (logs b b′ x x′ h)
       go (inr h) = inr (logs b′ b x′ x (omega arith))
 

@@ -12,10 +12,9 @@ use lib.Dec.{eqb, leb}
 use borrow.Author.Tests.{eqb-true, eqb-false, leb-true, le-leb}
 use Rattle.protocol.specs.Bytes.{Bytes, part, same}
 use Rattle.protocol.specs.Deliver.{notarize, votersFor, withMasks, withNotarized, withProposal, withVote}
-use Rattle.protocol.specs.Frame.{proposal}
 use Rattle.protocol.specs.Mask.{inMask}
 use Rattle.protocol.specs.MaskLaws.{inMask-maskOf}
-use Rattle.protocol.specs.State.{Height, at, holdsProposal, isNotarized, voteOf}
+use Rattle.protocol.specs.State.{Height, holdsProposal, isNotarized, voteOf}
 use Rattle.protocol.specs.StateLaws.{ShapedHeight}
 use Rattle.protocol.specs.Tests.{allOf}
 use Rattle.protocol.specs.TestsLaws.{and-true, cond-elim, le-or-lt}
@@ -89,7 +88,8 @@ module _ (x : Height) (s : ℕ) (d : Bytes) (sized : ShapedHeight x) (few : s < 
   unfolding voteOf withVote
   vote-other t ne = go (le-or-lt s t)
     where
-      go : (s ≤ t) ⊎ (t < s) → part (take (32 * s) (x .voteDigests) ++ (d ++ drop (32 * s + 32) (x .voteDigests))) (32 * t) 32 ≡ part (x .voteDigests) (32 * t) 32
+      go : (s ≤ t) ⊎ (t < s) →
+          part (take (32 * s) (x .voteDigests) ++ (d ++ drop (32 * s + 32) (x .voteDigests))) (32 * t) 32 ≡ part (x .voteDigests) (32 * t) 32
       go (inl h) = splice-after (x .voteDigests) d (32 * s) fits size (32 * t) (omega arith)
       go (inr h) = splice-before (x .voteDigests) d (32 * s) fits size (32 * t) (omega arith)
 
@@ -118,17 +118,20 @@ module _ (digest : Bytes → Bytes) where
 
   module _ {W : ℕ → Statement → Type 0} {S : Bytes → Type 0} {h : ℕ} {x : Height} (k : Backed W S h x) where
     -- ---- the ways to keep something
-    pub backed-dummies : (m : ℕ) → ((t : ℕ) → inMask m t ≡ true → W t (votesDummy h)) → Backed W S h (withMasks x m (x .finalizeMask))
+    pub backed-dummies : (m : ℕ) → ((t : ℕ) → inMask m t ≡ true → W t (votesDummy h)) →
+        Backed W S h (withMasks x m (x .finalizeMask))
     unfolding withMasks holdsProposal isNotarized voteOf
     backed-dummies m f = record
         { dummies = f; finalizations = k .finalizations; ballots = k .ballots; certifiers = k .certifiers; proposal-seen = k .proposal-seen; notarized-seen = k .notarized-seen }
 
-    pub backed-finalizations : (m : ℕ) → ((t : ℕ) → inMask m t ≡ true → W t (finalizes h)) → Backed W S h (withMasks x (x .dummyMask) m)
+    pub backed-finalizations : (m : ℕ) → ((t : ℕ) → inMask m t ≡ true → W t (finalizes h)) →
+        Backed W S h (withMasks x (x .dummyMask) m)
     unfolding withMasks holdsProposal isNotarized voteOf
     backed-finalizations m f = record
         { dummies = k .dummies; finalizations = f; ballots = k .ballots; certifiers = k .certifiers; proposal-seen = k .proposal-seen; notarized-seen = k .notarized-seen }
 
-    pub backed-notarized : (m : ℕ) (p : Bytes) → ((t : ℕ) → inMask m t ≡ true → W t (votesBlock h (digest p))) → S p → Backed W S h (withNotarized x m p)
+    pub backed-notarized : (m : ℕ) (p : Bytes) → ((t : ℕ) → inMask m t ≡ true → W t (votesBlock h (digest p))) → S p →
+        Backed W S h (withNotarized x m p)
     unfolding withNotarized holdsProposal isNotarized voteOf
     backed-notarized m p f s = record
         { dummies = k .dummies; finalizations = k .finalizations; ballots = k .ballots; certifiers = f; proposal-seen = λ e. k .proposal-seen (parity e); notarized-seen = λ e. s }
@@ -144,7 +147,9 @@ module _ (digest : Bytes → Bytes) where
         order : leb 2 (x .status + 1) ≡ true → leb 2 (x .status) ≡ true
         order e = let a = eqb-false (x .status % 2) 1 n in let b = leb-true 2 (x .status + 1) e in le-leb 2 (x .status) (omega arith)
 
-    pub backed-vote : (s : ℕ) (d : Bytes) → ((t : ℕ) → inMask (x .voterMask + 2 ^ s) t ≡ true → W t (votesBlock h (voteOf (withVote x s d) t))) → Backed W S h (withVote x s d)
+    pub backed-vote : (s : ℕ) (d : Bytes) →
+        ((t : ℕ) → inMask (x .voterMask + 2 ^ s) t ≡ true → W t (votesBlock h (voteOf (withVote x s d) t))) →
+        Backed W S h (withVote x s d)
     unfolding withVote holdsProposal isNotarized voteOf
     backed-vote s d f = record
         { dummies = k .dummies; finalizations = k .finalizations; ballots = f; certifiers = k .certifiers; proposal-seen = k .proposal-seen; notarized-seen = k .notarized-seen }
@@ -159,7 +164,8 @@ module _ (digest : Bytes → Bytes) where
         voters : ℕ
         voters = votersFor x (digest (x .proposal)) (v .n)
 
-        agreed : (t : ℕ) → (inMask (x .voterMask) t && same (voteOf x t) (digest (x .proposal))) ≡ true → W t (votesBlock h (digest (x .proposal)))
+        agreed : (t : ℕ) → (inMask (x .voterMask) t && same (voteOf x t) (digest (x .proposal))) ≡ true →
+            W t (votesBlock h (digest (x .proposal)))
         agreed t e =
             let q = and-true (inMask (x .voterMask) t) (same (voteOf x t) (digest (x .proposal))) e in
             rw (← same-eq (voteOf x t) (digest (x .proposal)) (q .1)) (k .ballots t (q .0))

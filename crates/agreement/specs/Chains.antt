@@ -10,7 +10,6 @@ use lib.Dec.{eqb·suc-zero}
 use borrow.Author.Tests.{eqb-true}
 use Rattle.protocol.specs.Block.{allEntries, parentHeight}
 use Rattle.protocol.specs.Bytes.{Bytes, join}
-use Rattle.protocol.specs.State.{at}
 use Rattle.protocol.specs.TestsLaws.{and-true, le-or-lt}
 use Rattle.protocol.specs.View.{View, chainWithin, dummyRun, extendsOver, isDummy, linkedWithin}
 use Rattle.agreement.specs.Granted.{row}
@@ -45,7 +44,8 @@ module _ (digest : Bytes → Bytes) where
       let a = and-true (v .hasBlock (suc i)) _ e′ in
       (a .0, row _ 1 (a .1), row _ 3 (a .1))
 
-  chain-link : (f : ℕ) (v : View) (i : ℕ) → chainWithin (suc f) v (suc i) ≡ chainWithin f v (back v (suc i)) ++ (v .block (suc i) ∷ [])
+  chain-link : (f : ℕ) (v : View) (i : ℕ) →
+      chainWithin (suc f) v (suc i) ≡ chainWithin f v (back v (suc i)) ++ (v .block (suc i) ∷ [])
   unfolding chainWithin back
   chain-link f v i = rw eqb·suc-zero
 
@@ -60,7 +60,8 @@ module _ (digest : Bytes → Bytes) where
 
   module _ (v v′ : View)
       (equal : (i : ℕ) → v .hasBlock (suc i) ≡ true → v′ .hasBlock (suc i) ≡ true → v .block (suc i) ≡ v′ .block (suc i)) where
-    same-chain : (f f′ h : ℕ) → linkedWithin digest f v h ≡ true → linkedWithin digest f′ v′ h ≡ true → chainWithin f v h ≡ chainWithin f′ v′ h
+    same-chain : (f f′ h : ℕ) → linkedWithin digest f v h ≡ true → linkedWithin digest f′ v′ h ≡ true →
+        chainWithin f v h ≡ chainWithin f′ v′ h
     same-chain zero f′ h e e′ = rw (no-fuel v h e, chain-zero f′ v′, chain-zero zero v)
     same-chain (suc f) zero h e e′ = rw (no-fuel v′ h e′, chain-zero (suc f) v, chain-zero zero v′)
     same-chain (suc f) (suc f′) zero e e′ = chain-zero (suc f) v ∙ sym (chain-zero (suc f′) v′)
@@ -73,7 +74,8 @@ module _ (digest : Bytes → Bytes) where
         (same-chain f f′ (back v (suc i)) (l .1) (rw q (l′ .1)) ∙ ap (λ (j : ℕ). chainWithin f′ v′ j) q) p ∙ sym (chain-link f′ v′ i)
 
     -- the chain of a height that is not blank in the other book begins each longer chain of that book
-    pub begins : (f f′ g g′ : ℕ) → linkedWithin digest f v g ≡ true → linkedWithin digest f′ v′ g′ ≡ true → (isDummy v′ g ≡ true → ⊥) → g ≤ g′ → Prefix (chainWithin f v g) (chainWithin f′ v′ g′)
+    pub begins : (f f′ g g′ : ℕ) → linkedWithin digest f v g ≡ true → linkedWithin digest f′ v′ g′ ≡ true →
+        (isDummy v′ g ≡ true → ⊥) → g ≤ g′ → Prefix (chainWithin f v g) (chainWithin f′ v′ g′)
     unfolding Prefix
     begins f zero g g′ e e′ final le =
         let z = no-fuel v′ g′ e′ in let z′ : g ≡ 0 = omega arith in (chainWithin zero v′ g′, rw (z′, chain-zero f v))
@@ -85,14 +87,17 @@ module _ (digest : Bytes → Bytes) where
         l : (v′ .hasBlock (suc i) ≡ true) × (linkedWithin digest f′ v′ (back v′ (suc i)) ≡ true) × (dummyRun v′ (back v′ (suc i)) (suc i - 1 - back v′ (suc i)) ≡ true)
         l = link f′ v′ i e′
 
-        longer : Prefix (chainWithin f v g) (chainWithin f′ v′ (back v′ (suc i))) → Prefix (chainWithin f v g) (chainWithin (suc f′) v′ (suc i))
+        longer : Prefix (chainWithin f v g) (chainWithin f′ v′ (back v′ (suc i))) →
+            Prefix (chainWithin f v g) (chainWithin (suc f′) v′ (suc i))
         longer (zs, z) = (zs ++ (v′ .block (suc i) ∷ []), chain-link f′ v′ i ∙ rw z (append-assoc (chainWithin f v g) zs (v′ .block (suc i) ∷ [])))
 
-        behind : (g ≤ back v′ (suc i) → Prefix (chainWithin f v g) (chainWithin f′ v′ (back v′ (suc i)))) → g < suc i → (g ≤ back v′ (suc i)) ⊎ (back v′ (suc i) < g) → Prefix (chainWithin f v g) (chainWithin (suc f′) v′ (suc i))
+        behind : (g ≤ back v′ (suc i) → Prefix (chainWithin f v g) (chainWithin f′ v′ (back v′ (suc i)))) → g < suc i →
+            (g ≤ back v′ (suc i)) ⊎ (back v′ (suc i) < g) → Prefix (chainWithin f v g) (chainWithin (suc f′) v′ (suc i))
         behind below h (inl z) = longer (below z)
         behind below h (inr z) = absurd (final (dummy-in-run v′ (back v′ (suc i)) (suc i - 1 - back v′ (suc i)) g (l .2) z (omega arith)))
 
-        go : (g ≤ back v′ (suc i) → Prefix (chainWithin f v g) (chainWithin f′ v′ (back v′ (suc i)))) → (suc i ≤ g) ⊎ (g < suc i) → Prefix (chainWithin f v g) (chainWithin (suc f′) v′ (suc i))
+        go : (g ≤ back v′ (suc i) → Prefix (chainWithin f v g) (chainWithin f′ v′ (back v′ (suc i)))) → (suc i ≤ g) ⊎ (g < suc i) →
+            Prefix (chainWithin f v g) (chainWithin (suc f′) v′ (suc i))
         go below (inl h) = let z : g ≡ suc i = omega arith in
             ([], ap (λ (x : ℕ). chainWithin (suc f′) v′ x) (sym z) ∙ sym (same-chain f (suc f′) g e (rw z e′)) ∙ sym (append-nil (chainWithin f v g)))
         go below (inr h) = behind below h (le-or-lt g (back v′ (suc i)))

@@ -3,18 +3,18 @@ use Prim.Native.Nat.{ℕ, zero, suc, _≤_, _<_}
 use native.Mathlib.Omega.{arith}
 use mathlib.Core.Path.{_≡_}
 use mathlib.Core.Logic.{_⊎_, inl, inr}
-use mathlib.Core.Bool.{true, false, cond, _||_}
-use mathlib.Core.List.{List, [], _∷_, _++_}
+use mathlib.Core.Bool.{true}
+use mathlib.Core.List.{List, [], _∷_}
 use mathlib.Core.Option.{none}
 use lib.ListN.{length, getD}
-use lib.Dec.{eqb, ltb}
-use borrow.Author.Tests.{eqb-true, eqb-false, leb-true}
+use lib.Dec.{ltb}
+use borrow.Author.Tests.{eqb-true, leb-true}
 use Rattle.protocol.specs.Bytes.{Bytes}
 use Rattle.protocol.specs.Deliver.{deliverRows, readRows}
 use Rattle.protocol.specs.EveryLaws.{Every, one}
 use Rattle.protocol.specs.Frame.{frameHeight, frameWellFormed, isCertificate, isStatement, kind, signer}
 use Rattle.protocol.specs.Sound.{sound}
-use Rattle.protocol.specs.State.{State, at, decode, last}
+use Rattle.protocol.specs.State.{State, decode, last}
 use Rattle.protocol.specs.Tests.{firstRefusal, inRange}
 use Rattle.protocol.specs.TestsLaws.{or-true}
 use Rattle.agreement.specs.Granted.{granted, in-range, row, row-passes}

@@ -3,12 +3,12 @@ use Prim.Native.Nat.{ℕ, zero, suc, _+_, _-_, _≤_, _<_}
 use native.Mathlib.Omega.{arith}
 use mathlib.Core.Path.{_≡_, refl, ap}
 use mathlib.Core.Logic.{_⊎_, inl, inr}
-use mathlib.Core.Bool.{Bool, true, false, _&&_, _||_, cond, false≢true}
+use mathlib.Core.Bool.{Bool, true, false, cond, false≢true}
 use mathlib.Core.List.{List, [], _∷_}
 use mathlib.Core.Option.{some, none}
 use lib.ListN.{length, getD, drop, List·getD-eq-default}
-use lib.Dec.{eqb, leb, ltb}
-use borrow.Author.Tests.{eqb-true, leb-true, not-true}
+use lib.Dec.{eqb, leb}
+use borrow.Author.Tests.{eqb-true, leb-true}
 use Rattle.protocol.specs.Bytes.{Bytes, byteAt, pieces}
 use Rattle.protocol.specs.Sound.{sound, view}
 use Rattle.protocol.specs.State.{State, at, decode, decodeHeights, isNotarized, last, noHeight}
@@ -97,10 +97,12 @@ module _ (digest : Bytes → Bytes) (book : Bytes) where
     finalizes = settled (or-true (eqb (b .finalized) 0) _ (row _ 15 e));
   }
     where
-      certified : (i : ℕ) → (byteAt book 2 ≤ i) ⊎ (i < byteAt book 2) → isNotarized (at b (suc i)) ≡ true → quorum (view b) (at b (suc i) .certificateMask) ≡ true
+      certified : (i : ℕ) → (byteAt book 2 ≤ i) ⊎ (i < byteAt book 2) → isNotarized (at b (suc i)) ≡ true →
+          quorum (view b) (at b (suc i) .certificateMask) ≡ true
       certified i (inl h) q = absurd (past-end i h q)
       certified i (inr h) q = implied _ _ (every-height _ (byteAt book 2) (row _ 12 e) i h) q
 
-      settled : (eqb (b .finalized) 0 ≡ true) ⊎ (isFinalized digest (view b) (b .finalized) ≡ true) → (b .finalized ≡ 0) ⊎ (isFinalized digest (view b) (b .finalized) ≡ true)
+      settled : (eqb (b .finalized) 0 ≡ true) ⊎ (isFinalized digest (view b) (b .finalized) ≡ true) →
+          (b .finalized ≡ 0) ⊎ (isFinalized digest (view b) (b .finalized) ≡ true)
       settled (inl z) = inl (eqb-true _ _ z)
       settled (inr z) = inr z

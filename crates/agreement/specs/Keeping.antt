@@ -7,12 +7,11 @@ use mathlib.Core.Bool.{true, false, not, true≢false}
 use mathlib.Core.List.{[], _∷_, _++_}
 use mathlib.Core.Option.{Option, some}
 use lib.ListN.{length, take, drop, length-append, length-drop, length-take}
-use lib.Seq.{length-take-le}
 use lib.Dec.{eqb}
 use borrow.Author.Tests.{eqb-true, eqb-false}
 use Rattle.protocol.specs.Bytes.{Bytes, part}
 use Rattle.protocol.specs.Deliver.{keep, keepBlockCertificate, keepBlockVote, keepDummyCertificate, keepDummyVote, keepFinalize, keepFinalizeCertificate, keepProposal, notarize, votersFor, withMasks, withNotarized, withProposal, withVote}
-use Rattle.protocol.specs.Frame.{carriesBlock, frameBlock, frameDigest, frameHeight, kind, proposal, signer, signerMask}
+use Rattle.protocol.specs.Frame.{carriesBlock, frameBlock, frameDigest, frameHeight, kind, signer, signerMask}
 use Rattle.protocol.specs.Mask.{inMask, union}
 use Rattle.protocol.specs.MaskLaws.{inMask-add, inMask-maskOf}
 use Rattle.protocol.specs.Sound.{view}
@@ -23,6 +22,23 @@ use Rattle.protocol.specs.TestsLaws.{cond-elim, eqb-self, or-true}
 use Rattle.protocol.specs.View.{View, quorum}
 use Rattle.agreement.specs.Backing.{Backed, IfSome, backed-dummies, backed-finalizations, backed-notarize, backed-notarized, backed-proposal, backed-vote, vote-other, vote-same}
 use Rattle.agreement.specs.Lists.{Statement, blockIn, finalizes, statementOf, votesBlock, votesDummy, when}
+
+-- ---- what holds of every replica in a mask holds where the mask grows
+module _ {Q : ℕ → Type 0} (mask : ℕ) (old : (t : ℕ) → inMask mask t ≡ true → Q t) where
+  with-one : (s : ℕ) → inMask mask s ≡ false → Q s → (t : ℕ) → inMask (mask + 2 ^ s) t ≡ true → Q t
+  with-one s n new t e = go (inMask-add mask s t n e)
+    where
+      go : (inMask mask t ≡ true) ⊎ (t ≡ s) → Q t
+      go (inl q) = old t q
+      go (inr q) = rw q new
+
+  with-all : (n other : ℕ) → ((t : ℕ) → inMask other t ≡ true → Q t) → (t : ℕ) → inMask (union n mask other) t ≡ true → Q t
+  unfolding union
+  with-all n other new t e = go (or-true (inMask mask t) (inMask other t) (inMask-maskOf _ n t e .1))
+    where
+      go : (inMask mask t ≡ true) ⊎ (inMask other t ≡ true) → Q t
+      go (inl q) = old t q
+      go (inr q) = new t q
 
 -- ---- sizes
 module _ (x : Height) (z : ShapedHeight x) where
@@ -46,7 +62,7 @@ module _ (x : Height) (z : ShapedHeight x) where
       v = z .votes-size
 
       size : length (take (32 * s) (x .voteDigests) ++ (d ++ drop (32 * s + 32) (x .voteDigests))) ≡ 512
-      size = rw (length-append (take (32 * s) (x .voteDigests)) (d ++ drop (32 * s + 32) (x .voteDigests)), length-append d (drop (32 * s + 32) (x .voteDigests)), length-take-le (32 * s) (x .voteDigests) (let q = v in omega arith), length-drop) (let q = v in omega arith)
+      size = simp (length-append, length-take, length-drop) (let q = v in omega arith)
 
   shaped-notarize : (digest : Bytes → Bytes) (v : View) → ShapedHeight (notarize digest v x)
   unfolding notarize
@@ -77,7 +93,8 @@ module _ (digest : Bytes → Bytes) (f : Bytes) where
   unfolding statementOf when
   says-4 e = rw (e, eqb-self (signer f))
 
-  says-5 : (t : ℕ) → kind f ≡ 5 → inMask (signerMask f) t ≡ true → statementOf digest f t ≡ some (votesBlock (frameHeight f) (digest (frameBlock f)))
+  says-5 : (t : ℕ) → kind f ≡ 5 → inMask (signerMask f) t ≡ true →
+      statementOf digest f t ≡ some (votesBlock (frameHeight f) (digest (frameBlock f)))
   unfolding statementOf when
   says-5 t e h = rw (e, h)
 
@@ -117,54 +134,47 @@ module _ (digest : Bytes → Bytes) {W : ℕ → Statement → Type 0} {S : Byte
     shaped-notarize (withProposal x (frameBlock f)) (shaped-proposal x z (frameBlock f) block-size) digest (view b),
   )
 
-  keep-2 : kind f ≡ 2 → inMask (x .voterMask) (signer f) ≡ false → Good (notarize digest (view b) (withVote x (signer f) (frameDigest f)))
+  keep-2 : kind f ≡ 2 → inMask (x .voterMask) (signer f) ≡ false →
+      Good (notarize digest (view b) (withVote x (signer f) (frameDigest f)))
   keep-2 e n = (
-    backed-notarize digest (backed-vote digest k (signer f) (frameDigest f) (λ t q. votes t (inMask-add (x .voterMask) (signer f) t n q))) (view b),
+    backed-notarize digest (backed-vote digest k (signer f) (frameDigest f) (λ t q. vote t (inMask-add (x .voterMask) (signer f) t n q))) (view b),
     shaped-notarize (withVote x (signer f) (frameDigest f)) (shaped-vote x z (signer f) (frameDigest f) (few e) digest-size) digest (view b),
   )
     where
-      votes : (t : ℕ) → (inMask (x .voterMask) t ≡ true) ⊎ (t ≡ signer f) → W t (votesBlock h (voteOf (withVote x (signer f) (frameDigest f)) t))
-      votes t (inl q) =
-          rw (vote-other x (signer f) (frameDigest f) z (few e) digest-size t (λ (r : t ≡ signer f). true≢false (sym (rw r at q) ∙ n))) (k .ballots t q)
-      votes t (inr q) = rw (q, vote-same x (signer f) (frameDigest f) z (few e) digest-size) (said (signer f) _ (says-2 digest f e))
+      voted : ℕ → Bytes
+      voted t = voteOf (withVote x (signer f) (frameDigest f)) t
 
-  keep-3 : kind f ≡ 3 → inMask (x .dummyMask) (signer f) ≡ false → Good (withMasks x (x .dummyMask + 2 ^ signer f) (x .finalizeMask))
-  keep-3 e n = (backed-dummies digest k (x .dummyMask + 2 ^ signer f) (λ t q. go t (inMask-add (x .dummyMask) (signer f) t n q)), shaped-masks x z _ _)
-    where
-      go : (t : ℕ) → (inMask (x .dummyMask) t ≡ true) ⊎ (t ≡ signer f) → W t (votesDummy h)
-      go t (inl q) = k .dummies t q
-      go t (inr q) = rw q (said (signer f) _ (says-3 digest f e))
+      vote : (t : ℕ) → (inMask (x .voterMask) t ≡ true) ⊎ (t ≡ signer f) → W t (votesBlock h (voted t))
+      vote t (inl q) =
+          rw (vote-other x (signer f) (frameDigest f) z (few e) digest-size t (λ (r : t ≡ signer f). true≢false (sym (rw r at q) ∙ n)))
+          (k .ballots t q)
+      vote t (inr q) = rw (q, vote-same x (signer f) (frameDigest f) z (few e) digest-size) (said (signer f) _ (says-2 digest f e))
 
-  keep-4 : kind f ≡ 4 → inMask (x .finalizeMask) (signer f) ≡ false → Good (withMasks x (x .dummyMask) (x .finalizeMask + 2 ^ signer f))
-  keep-4 e n = (backed-finalizations digest k (x .finalizeMask + 2 ^ signer f) (λ t q. go t (inMask-add (x .finalizeMask) (signer f) t n q)), shaped-masks x z _ _)
-    where
-      go : (t : ℕ) → (inMask (x .finalizeMask) t ≡ true) ⊎ (t ≡ signer f) → W t (finalizes h)
-      go t (inl q) = k .finalizations t q
-      go t (inr q) = rw q (said (signer f) _ (says-4 digest f e))
+  keep-3 : kind f ≡ 3 → inMask (x .dummyMask) (signer f) ≡ false →
+      Good (withMasks x (x .dummyMask + 2 ^ signer f) (x .finalizeMask))
+  keep-3 e n = (backed-dummies digest k _ (with-one (x .dummyMask) (k .dummies) (signer f) n (said (signer f) _ (says-3 digest f e))), shaped-masks x z _ _)
+
+  keep-4 : kind f ≡ 4 → inMask (x .finalizeMask) (signer f) ≡ false →
+      Good (withMasks x (x .dummyMask) (x .finalizeMask + 2 ^ signer f))
+  keep-4 e n = (backed-finalizations digest k _ (with-one (x .finalizeMask) (k .finalizations) (signer f) n (said (signer f) _ (says-4 digest f e))), shaped-masks x z _ _)
 
   keep-5 : kind f ≡ 5 → Good (withNotarized x (signerMask f) (frameBlock f))
-  keep-5 e = (backed-notarized digest k (signerMask f) (frameBlock f) (λ t q. said t _ (says-5 digest f t e q)) (seen (frameBlock f) (carried-5 f e)), shaped-notarized x z (signerMask f) (frameBlock f) block-size)
+  keep-5 e = (
+    backed-notarized digest k (signerMask f) (frameBlock f) (λ t q. said t _ (says-5 digest f t e q)) (seen (frameBlock f) (carried-5 f e)),
+    shaped-notarized x z (signerMask f) (frameBlock f) block-size,
+  )
 
   keep-6 : kind f ≡ 6 → Good (withMasks x (union (b .n) (x .dummyMask) (signerMask f)) (x .finalizeMask))
-  unfolding union
-  keep-6 e = (backed-dummies digest k (union (b .n) (x .dummyMask) (signerMask f)) (λ t q. go t (or-true (inMask (x .dummyMask) t) (inMask (signerMask f) t) (inMask-maskOf _ (b .n) t q .1))), shaped-masks x z _ _)
-    where
-      go : (t : ℕ) → (inMask (x .dummyMask) t ≡ true) ⊎ (inMask (signerMask f) t ≡ true) → W t (votesDummy h)
-      go t (inl q) = k .dummies t q
-      go t (inr q) = said t _ (says-6 digest f t e q)
+  keep-6 e = (backed-dummies digest k _ (with-all (x .dummyMask) (k .dummies) (b .n) (signerMask f) (λ t q. said t _ (says-6 digest f t e q))), shaped-masks x z _ _)
 
   keep-7 : kind f ≡ 7 → Good (withMasks x (x .dummyMask) (union (b .n) (x .finalizeMask) (signerMask f)))
-  unfolding union
-  keep-7 e = (backed-finalizations digest k (union (b .n) (x .finalizeMask) (signerMask f)) (λ t q. go t (or-true (inMask (x .finalizeMask) t) (inMask (signerMask f) t) (inMask-maskOf _ (b .n) t q .1))), shaped-masks x z _ _)
-    where
-      go : (t : ℕ) → (inMask (x .finalizeMask) t ≡ true) ⊎ (inMask (signerMask f) t ≡ true) → W t (finalizes h)
-      go t (inl q) = k .finalizations t q
-      go t (inr q) = said t _ (says-7 digest f t e q)
+  keep-7 e = (backed-finalizations digest k _ (with-all (x .finalizeMask) (k .finalizations) (b .n) (signerMask f) (λ t q. said t _ (says-7 digest f t e q))), shaped-masks x z _ _)
 
   abbrev Good? : Option Height → Type 0
   Good? o = IfSome Good o
 
-  seventh : eqb (kind f) 1 ≡ false → eqb (kind f) 2 ≡ false → eqb (kind f) 3 ≡ false → eqb (kind f) 4 ≡ false → eqb (kind f) 5 ≡ false → eqb (kind f) 6 ≡ false → kind f ≡ 7
+  seventh : eqb (kind f) 1 ≡ false → eqb (kind f) 2 ≡ false → eqb (kind f) 3 ≡ false → eqb (kind f) 4 ≡ false →
+      eqb (kind f) 5 ≡ false → eqb (kind f) 6 ≡ false → kind f ≡ 7
   seventh e1 e2 e3 e4 e5 e6 =
       let n1 = eqb-false (kind f) 1 e1 in let n2 = eqb-false (kind f) 2 e2 in let n3 = eqb-false (kind f) 3 e3 in
       let n4 = eqb-false (kind f) 4 e4 in let n5 = eqb-false (kind f) 5 e5 in let n6 = eqb-false (kind f) 6 e6 in

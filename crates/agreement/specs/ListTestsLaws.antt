@@ -3,12 +3,12 @@ use Prim.Native.Nat.{ℕ, zero, suc, _<_, _≤_}
 use native.Mathlib.Omega.{arith}
 use mathlib.Core.Path.{_≡_, refl, sym, ap, subst, _∙_}
 use mathlib.Core.Logic.{_⊎_, inl, inr}
-use mathlib.Core.Bool.{Bool, true, false, _&&_, _||_, not, cond, true≢false, false≢true}
-use mathlib.Core.List.{List, [], _∷_, _++_, append-nil, List·Memᴰ, List·Memᴰ·head, List·Memᴰ·tail, List·Memᴰ·not-nil, List·Memᴰ·cases-cons, List·Memᴰ·append-cases, List·Memᴰ·eq-of-singleton, Memᴰ·append-left, Memᴰ·append-right}
+use mathlib.Core.Bool.{Bool, true, false, not, cond, false≢true}
+use mathlib.Core.List.{List, [], _∷_, _++_, append-nil, List·Memᴰ, List·Memᴰ·head, List·Memᴰ·tail, List·Memᴰ·not-nil, List·Memᴰ·cases-cons, List·Memᴰ·append-cases, List·Memᴰ·eq-of-singleton, Memᴰ·append-right}
 use mathlib.Core.Option.{Option, some, none}
 use lib.ListN.{drop}
 use lib.Seq.{append-snoc}
-use lib.Dec.{eqb, leb, ltb}
+use lib.Dec.{eqb, ltb}
 use borrow.Author.Tests.{eqb-true, eq-eqb, leb-true, le-leb, not-true}
 use Rattle.protocol.specs.Bytes.{Bytes, byteAt, holds, part, same}
 use Rattle.protocol.specs.Mask.{inMask}
@@ -39,11 +39,13 @@ unfolding someIn
 some-in test [] e = absurd (false≢true e)
 some-in {A} test (y ∷ ys) e = go (or-true (test y) (someIn test ys) e) (some-in test ys)
   where
-    go : (test y ≡ true) ⊎ (someIn test ys ≡ true) → (someIn test ys ≡ true → (x : A) × List·Memᴰ x ys × (test x ≡ true)) → (x : A) × List·Memᴰ x (y ∷ ys) × (test x ≡ true)
+    go : (test y ≡ true) ⊎ (someIn test ys ≡ true) → (someIn test ys ≡ true → (x : A) × List·Memᴰ x ys × (test x ≡ true)) →
+        (x : A) × List·Memᴰ x (y ∷ ys) × (test x ≡ true)
     go (inl z) below = (y, List·Memᴰ·head refl, z)
     go (inr z) below = let r = below z in (r .0, List·Memᴰ·tail (r .1), r .2)
 
-pub every-honest : (dishonest : ℕ) (test : ℕ → Bool) (n : ℕ) → everyHonest dishonest test n ≡ true → (s : ℕ) → HonestIn n dishonest s → test s ≡ true
+pub every-honest : (dishonest : ℕ) (test : ℕ → Bool) (n : ℕ) → everyHonest dishonest test n ≡ true → (s : ℕ) →
+    HonestIn n dishonest s → test s ≡ true
 unfolding everyHonest HonestIn
 every-honest dishonest test zero e s (low, h) = absurd (omega arith)
 every-honest dishonest test (suc k) e s (low, h) = go (le-or-lt k s) (λ l. every-honest dishonest test k (q .0) s (l, h))
@@ -77,7 +79,8 @@ unfolding holds
 holds-member x [] e = absurd (false≢true e)
 holds-member x (y ∷ ys) e = go (same x y) refl (λ h. List·Memᴰ·tail (holds-member x ys h)) e
   where
-    go : (b : Bool) → same x y ≡ b → (holds x ys ≡ true → List·Memᴰ x (y ∷ ys)) → cond b true (holds x ys) ≡ true → List·Memᴰ x (y ∷ ys)
+    go : (b : Bool) → same x y ≡ b → (holds x ys ≡ true → List·Memᴰ x (y ∷ ys)) → cond b true (holds x ys) ≡ true →
+        List·Memᴰ x (y ∷ ys)
     go true q below h = List·Memᴰ·head (same-eq x y q)
     go false q below h = below h
 
@@ -157,7 +160,8 @@ module _ (digest : Bytes → Bytes) where
     abbrev Logged : List Member → List Bytes → Type 0
     Logged P log = (s : ℕ) (st : Statement) → List·Memᴰ (s ∷ statementBytes st) log → Wrote digest s st P
 
-    signed-in : (s : ℕ) (frames : List Bytes) (t : ℕ) (st : Statement) → List·Memᴰ (t ∷ statementBytes st) (signedIn digest s frames) →
+    signed-in : (s : ℕ) (frames : List Bytes) (t : ℕ) (st : Statement) →
+        List·Memᴰ (t ∷ statementBytes st) (signedIn digest s frames) →
         (t ≡ s) × (frame : Bytes) × List·Memᴰ frame frames × (statementOf digest frame s ≡ some st)
     unfolding signedIn signed
     signed-in s [] t st i = absurd (List·Memᴰ·not-nil i)
@@ -166,7 +170,8 @@ module _ (digest : Bytes → Bytes) where
         Found : List Bytes → Type 0
         Found l = (t ≡ s) × (frame : Bytes) × List·Memᴰ frame l × (statementOf digest frame s ≡ some st)
 
-        go : (o : Option Statement) → statementOf digest f s ≡ o → List·Memᴰ (t ∷ statementBytes st) (signed digest s o) ⊎ List·Memᴰ (t ∷ statementBytes st) (signedIn digest s frames) →
+        go : (o : Option Statement) → statementOf digest f s ≡ o →
+            List·Memᴰ (t ∷ statementBytes st) (signed digest s o) ⊎ List·Memᴰ (t ∷ statementBytes st) (signedIn digest s frames) →
             (List·Memᴰ (t ∷ statementBytes st) (signedIn digest s frames) → Found frames) → Found (f ∷ frames)
         go o e (inr j) below = let r = below j in (r .0, r .1, List·Memᴰ·tail (r .2), r .3)
         go none e (inl j) below = absurd (List·Memᴰ·not-nil j)
@@ -174,16 +179,19 @@ module _ (digest : Bytes → Bytes) where
             let q = same-statement t s st st′ (List·Memᴰ·eq-of-singleton j) in
             (q .0, f, List·Memᴰ·head refl, e ∙ ap some (sym (q .1)))
 
-    logged-more : (P : List Member) (log : List Bytes) (m : Member) → Logged P log → Logged (P ++ (m ∷ [])) (signedIn digest (m .replica) (writes digest m) ++ log)
+    logged-more : (P : List Member) (log : List Bytes) (m : Member) → Logged P log →
+        Logged (P ++ (m ∷ [])) (signedIn digest (m .replica) (writes digest m) ++ log)
     unfolding Wrote
     logged-more P log m h s st i = go (List·Memᴰ·append-cases (signedIn digest (m .replica) (writes digest m)) i)
       where
-        go : List·Memᴰ (s ∷ statementBytes st) (signedIn digest (m .replica) (writes digest m)) ⊎ List·Memᴰ (s ∷ statementBytes st) log → Wrote digest s st (P ++ (m ∷ []))
+        go : List·Memᴰ (s ∷ statementBytes st) (signedIn digest (m .replica) (writes digest m)) ⊎ List·Memᴰ (s ∷ statementBytes st) log →
+            Wrote digest s st (P ++ (m ∷ []))
         go (inl j) = let r = signed-in (m .replica) (writes digest m) s st j in
             (m, r .1, Memᴰ·append-right P (List·Memᴰ·head refl), sym (r .0), r .2, ap (statementOf digest (r .1)) (r .0) ∙ r .3)
         go (inr j) = wrote-more digest s st P (m ∷ []) (h s st j)
 
-    backed-sound : (P : List Member) (log : List Bytes) (frame : Bytes) → Logged P log → isBacked digest n dishonest log frame ≡ true →
+    backed-sound : (P : List Member) (log : List Bytes) (frame : Bytes) → Logged P log →
+        isBacked digest n dishonest log frame ≡ true →
         (s : ℕ) (st : Statement) → HonestIn n dishonest s → statementOf digest frame s ≡ some st → Wrote digest s st P
     unfolding isBacked signed
     backed-sound P log frame h t s st hs e =
@@ -191,7 +199,8 @@ module _ (digest : Bytes → Bytes) where
         let r = every-in (λ (x : Bytes). holds x log) (signed digest s (some st)) (rw e at q) (s ∷ statementBytes st) (List·Memᴰ·head refl) in
         h s st (holds-member (s ∷ statementBytes st) log r)
 
-    forged-from : (P : List Member) (log : List Bytes) (l : List Member) → Logged P log → notForged digest n dishonest log l ≡ true →
+    forged-from : (P : List Member) (log : List Bytes) (l : List Member) → Logged P log →
+        notForged digest n dishonest log l ≡ true →
         (before : List Member) (m : Member) (after : List Member) (frame : Bytes) (s : ℕ) (st : Statement) → l ≡ before ++ (m ∷ after) →
         HonestIn n dishonest (m .replica) → HonestIn n dishonest s → List·Memᴰ frame (delivers digest m) → statementOf digest frame s ≡ some st → Wrote digest s st (P ++ before)
     unfolding notForged
@@ -223,7 +232,8 @@ module _ (digest : Bytes → Bytes) where
         let k = every-in (λ (f : Bytes). isAmong blocks (blockIn f)) (delivers digest m ++ writes digest m) (implied _ _ q (is-honest n dishonest (m .replica) hm)) frame j in
         holds-member block blocks (rw e at k)
 
-    pub collision-sound : (blocks : List Bytes) (l : List Member) → showsOnly digest n dishonest blocks l ≡ true → noCollision digest blocks ≡ true → NoCollision digest (HonestIn n dishonest) l
+    pub collision-sound : (blocks : List Bytes) (l : List Member) → showsOnly digest n dishonest blocks l ≡ true →
+        noCollision digest blocks ≡ true → NoCollision digest (HonestIn n dishonest) l
     unfolding NoCollision noCollision
     collision-sound blocks l t u m m′ p p′ i i′ hm hm′ w w′ e =
         let q = every-in _ blocks u p (shown-among blocks l t m p i hm w) in
@@ -235,7 +245,8 @@ module _ (digest : Bytes → Bytes) where
   unfolding Reads readsPart
   reads-sound m part t = go (m .call) refl t
     where
-      go : (c : Call) → m .call ≡ c → readsPart digest part (m .book) c ≡ true → (buffer : Bytes) × (m .call ≡ reading buffer) × (part ≡ readPart digest (m .book) buffer)
+      go : (c : Call) → m .call ≡ c → readsPart digest part (m .book) c ≡ true →
+          (buffer : Bytes) × (m .call ≡ reading buffer) × (part ≡ readPart digest (m .book) buffer)
       go (opening n own heights leaders) e q = absurd (false≢true q)
       go (delivery frame) e q = absurd (false≢true q)
       go (moving reply) e q = absurd (false≢true q)

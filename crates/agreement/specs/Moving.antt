@@ -50,7 +50,8 @@ module _ (digest : Bytes → Bytes) (o c s : ℕ) (st : Statement) where
   unfolding statementOf finalize frameOf kind signer frameHeight
   finalize-says e = when-some (eqb o s) (finalizes c) st e .0
 
-  blockVote-says : (d : Bytes) → statementOf digest (blockVote o c d) s ≡ some st → st ≡ votesBlock c (frameDigest (blockVote o c d))
+  blockVote-says : (d : Bytes) → statementOf digest (blockVote o c d) s ≡ some st →
+      st ≡ votesBlock c (frameDigest (blockVote o c d))
   unfolding statementOf blockVote frameOf kind signer frameHeight
   blockVote-says d e = when-some (eqb o s) (votesBlock c (frameDigest (blockVote o c d))) st e .0
 
@@ -58,13 +59,15 @@ module _ (digest : Bytes → Bytes) (o c s : ℕ) (st : Statement) where
   unfolding statementOf proposal frameOf kind signer frameHeight
   proposal-says p e = (c, frameBlock (proposal o c p), when-some (eqb o s) (proposes c (frameBlock (proposal o c p))) st e .0)
 
-  blockCertificate-says : (m : ℕ) (p : Bytes) → statementOf digest (blockCertificate c m p) s ≡ some st → (st ≡ votesBlock c (digest p)) × (inMask m s ≡ true)
+  blockCertificate-says : (m : ℕ) (p : Bytes) → statementOf digest (blockCertificate c m p) s ≡ some st →
+      (st ≡ votesBlock c (digest p)) × (inMask m s ≡ true)
   unfolding statementOf blockCertificate frameOf kind signer frameHeight signerMask word16 le16 zeros frameBlock
   blockCertificate-says m p e =
       let q = when-some (inMask (m % 256 + 256 * (m / 256)) s) (votesBlock c (digest p)) st e in
       (q .0, rw (word16-le16 m) at (q .1))
 
-  dummyCertificate-says : (m : ℕ) → statementOf digest (dummyCertificate c m) s ≡ some st → (st ≡ votesDummy c) × (inMask m s ≡ true)
+  dummyCertificate-says : (m : ℕ) → statementOf digest (dummyCertificate c m) s ≡ some st →
+      (st ≡ votesDummy c) × (inMask m s ≡ true)
   unfolding statementOf dummyCertificate frameOf kind signer frameHeight signerMask word16 le16 zeros
   dummyCertificate-says m e =
       let q = when-some (inMask (m % 256 + 256 * (m / 256)) s) (votesDummy c) st e in
@@ -113,11 +116,13 @@ module _ (digest : Bytes → Bytes) (U : ℕ → Statement → Type 0) (U′ : S
   adds-none : Adds [] → (t : Statement) → U′ t → U s t ⊎ ((h : ℕ) × (p : Bytes) × (t ≡ proposes h p))
   adds-none a t w = go (a t w)
     where
-      go : U s t ⊎ ((f : Bytes) × List·Memᴰ f [] × (statementOf digest f s ≡ some t)) → U s t ⊎ ((h : ℕ) × (p : Bytes) × (t ≡ proposes h p))
+      go : U s t ⊎ ((f : Bytes) × List·Memᴰ f [] × (statementOf digest f s ≡ some t)) →
+          U s t ⊎ ((h : ℕ) × (p : Bytes) × (t ≡ proposes h p))
       go (inl v) = inl v
       go (inr v) = absurd (List·Memᴰ·not-nil (v .1))
 
-  adds-one : {X : Statement → Type 0} (g : Bytes) → ((t : Statement) → statementOf digest g s ≡ some t → X t) → Adds (g ∷ []) → (t : Statement) → U′ t → U s t ⊎ X t
+  adds-one : {X : Statement → Type 0} (g : Bytes) → ((t : Statement) → statementOf digest g s ≡ some t → X t) → Adds (g ∷ []) →
+      (t : Statement) → U′ t → U s t ⊎ X t
   adds-one {X} g says a t w = go (a t w)
     where
       go : U s t ⊎ ((f : Bytes) × List·Memᴰ f (g ∷ []) × (statementOf digest f s ≡ some t)) → U s t ⊎ X t
@@ -152,15 +157,21 @@ module _ (digest : Bytes → Bytes) (U : ℕ → Statement → Type 0) (U′ : S
   unfolding passStep withHead
   good-pass a = rw (add-one c) (stated-finalize k (λ t w. sort t (a t w)))
     where
-      second : (t : Statement) (fired : Bool) {f : Bytes} → flag 1 b ≡ fired → List·Memᴰ f (cond (not fired) (finalize (b .own) c ∷ []) []) → statementOf digest f s ≡ some t → (t ≡ finalizes c) × (flag 1 b ≡ false)
+      second : (t : Statement) (fired : Bool) {f : Bytes} → flag 1 b ≡ fired →
+          List·Memᴰ f (cond (not fired) (finalize (b .own) c ∷ []) []) → statementOf digest f s ≡ some t →
+          (t ≡ finalizes c) × (flag 1 b ≡ false)
       second t true e m r = absurd (List·Memᴰ·not-nil m)
       second t false e m r = let q = List·Memᴰ·eq-of-singleton m in (finalize-says digest (b .own) c s t (rw q at r), e)
 
-      either : (t : Statement) {f : Bytes} → (f ≡ passCertificate digest b) ⊎ List·Memᴰ f (cond (not (flag 1 b)) (finalize (b .own) c ∷ []) []) → statementOf digest f s ≡ some t → U s t ⊎ ((t ≡ finalizes c) × (flag 1 b ≡ false))
+      either : (t : Statement) {f : Bytes} →
+          (f ≡ passCertificate digest b) ⊎ List·Memᴰ f (cond (not (flag 1 b)) (finalize (b .own) c ∷ []) []) →
+          statementOf digest f s ≡ some t → U s t ⊎ ((t ≡ finalizes c) × (flag 1 b ≡ false))
       either t (inl q) r = inl (certificate-old t (rw q at r))
       either t (inr m) r = inr (second t (flag 1 b) refl m r)
 
-      sort : (t : Statement) → U s t ⊎ ((f : Bytes) × List·Memᴰ f (passCertificate digest b ∷ cond (not (flag 1 b)) (finalize (b .own) c ∷ []) []) × (statementOf digest f s ≡ some t)) → U s t ⊎ ((t ≡ finalizes c) × (flag 1 b ≡ false))
+      sort : (t : Statement) →
+          U s t ⊎ ((f : Bytes) × List·Memᴰ f (passCertificate digest b ∷ cond (not (flag 1 b)) (finalize (b .own) c ∷ []) []) × (statementOf digest f s ≡ some t)) →
+          U s t ⊎ ((t ≡ finalizes c) × (flag 1 b ≡ false))
       sort t (inl u) = inl u
       sort t (inr u) = either t (List·Memᴰ·cases-cons (u .1)) (u .2)
 

@@ -1,5 +1,5 @@
 -- A new book, and a book with one more pending entry.
-use Prim.Native.Nat.{ℕ, zero, suc, _+_, _-_, _*_, _≤_}
+use Prim.Native.Nat.{ℕ, zero, suc, _-_, _*_, _≤_}
 use native.Mathlib.Omega.{arith}
 use mathlib.Core.Path.{_≡_, refl, sym, _∙_}
 use mathlib.Core.Bool.{true, true≢false, false≢true}
@@ -48,7 +48,8 @@ pool-size es h few =
     rw (length-append (join es) (replicate (512 - 16 * length es) 0), e, length-replicate) (omega arith)
 
 module _ (digest : Bytes → Bytes) (n dishonest : ℕ) (P : List Member) (m : Member) where
-  pub submit-good : (s : ℕ) (book entry : Bytes) → Good digest n dishonest P s (decode book) → writes digest m ≡ [] → Good digest n dishonest (P ++ (m ∷ [])) s (decode (submitCall digest book entry .book))
+  pub submit-good : (s : ℕ) (book entry : Bytes) → Good digest n dishonest P s (decode book) → writes digest m ≡ [] →
+      Good digest n dishonest (P ++ (m ∷ [])) s (decode (submitCall digest book entry .book))
   unfolding submitCall submitRows stillPending withPending flag pending
   submit-good s book entry g silent =
       unless-refused-good digest n dishonest P m s (firstRefusal (submitRows digest book entry)) book _ (unchanged digest n dishonest P m s b g (λ q. silent)) (λ r. encoded digest n dishonest (P ++ (m ∷ [])) s _ (added r))
@@ -110,19 +111,23 @@ unfolding newHeight zeros
 shaped-leaders [] = no-more
 shaped-leaders (l ∷ leaders) = one (record { proposal-size = refl; notarized-size = refl; votes-size = refl }) (shaped-leaders leaders)
 
-open-unrefused : (book : Bytes) (n own heights : ℕ) (leaders : Bytes) → isAccepted (openCall book n own heights leaders .answer) ≡ true → openCall book n own heights leaders .book ≡ encode (newState n own leaders)
+open-unrefused : (book : Bytes) (n own heights : ℕ) (leaders : Bytes) →
+    isAccepted (openCall book n own heights leaders .answer) ≡ true →
+    openCall book n own heights leaders .book ≡ encode (newState n own leaders)
 unfolding openCall unlessRefused isAccepted
 open-unrefused book n own heights leaders = go (firstRefusal (openRows book n own heights leaders))
   where
     opened : Outcome Done
     opened = record { answer = accepted done; book = encode (newState n own leaders) }
 
-    go : (o : Option ℕ) → isAccepted (unlessRefused o book opened .answer) ≡ true → unlessRefused o book opened .book ≡ encode (newState n own leaders)
+    go : (o : Option ℕ) → isAccepted (unlessRefused o book opened .answer) ≡ true →
+        unlessRefused o book opened .book ≡ encode (newState n own leaders)
     go none e = refl
     go (some number) e = absurd (false≢true e)
 
 module _ (digest : Bytes → Bytes) (n dishonest : ℕ) (P : List Member) (m : Member) where
-  new-book-good : (s : ℕ) (leaders : Bytes) → Honest digest n dishonest s → ((st : Statement) → Wrote digest s st P → ⊥) → writes digest m ≡ [] → Good digest n dishonest (P ++ (m ∷ [])) s (newState n s leaders)
+  new-book-good : (s : ℕ) (leaders : Bytes) → Honest digest n dishonest s → ((st : Statement) → Wrote digest s st P → ⊥) →
+      writes digest m ≡ [] → Good digest n dishonest (P ++ (m ∷ [])) s (newState n s leaders)
   unfolding newState zeros
   new-book-good s leaders hs none-before silent = record {
     same-n = refl;
@@ -143,7 +148,8 @@ module _ (digest : Bytes → Bytes) (n dishonest : ℕ) (P : List Member) (m : M
       refl′ : length (zeros 512) ≡ 512
       refl′ = length-replicate {A = ℕ} 512 0
 
-  pub opening-good : (s : ℕ) (book : Bytes) (heights : ℕ) (leaders : Bytes) → Honest digest n dishonest s → ((st : Statement) → Wrote digest s st P → ⊥) → writes digest m ≡ [] →
+  pub opening-good : (s : ℕ) (book : Bytes) (heights : ℕ) (leaders : Bytes) → Honest digest n dishonest s →
+      ((st : Statement) → Wrote digest s st P → ⊥) → writes digest m ≡ [] →
       isAccepted (openCall book n s heights leaders .answer) ≡ true → Good digest n dishonest (P ++ (m ∷ [])) s (decode (openCall book n s heights leaders .book))
   opening-good s book heights leaders hs none-before silent e =
       rw (open-unrefused book n s heights leaders e) (encoded digest n dishonest (P ++ (m ∷ [])) s (newState n s leaders) (new-book-good s leaders hs none-before silent))

@@ -1,5 +1,5 @@
 -- The book of an honest replica, along a list of calls.
-use Prim.Native.Nat.{ℕ, suc, _+_, _-_, _*_, _/_, _%_, _<_}
+use Prim.Native.Nat.{ℕ, suc, _+_, _-_, _/_, _%_, _<_}
 use native.Mathlib.Omega.{arith}
 use native.Mathlib.Nat.{div-one, div-div-eq-div-mul}
 use mathlib.Core.Path.{_≡_, refl, sym, ap, subst, _∙_}
@@ -50,7 +50,8 @@ unfolding orElse
 or-else-none (some a) = refl
 or-else-none none = refl
 
-pub last-left-snoc : (digest : Bytes → Bytes) (s : ℕ) (P : List Member) (m : Member) → lastLeft digest s (P ++ (m ∷ [])) ≡ orElse (leftBy digest s m) (lastLeft digest s P)
+pub last-left-snoc : (digest : Bytes → Bytes) (s : ℕ) (P : List Member) (m : Member) →
+    lastLeft digest s (P ++ (m ∷ [])) ≡ orElse (leftBy digest s m) (lastLeft digest s P)
 unfolding lastLeft orElse
 last-left-snoc digest s [] m = or-else-none (leftBy digest s m)
 last-left-snoc digest s (q ∷ P) m = rw (last-left-snoc digest s P m) (or-else-assoc (leftBy digest s m) (lastLeft digest s P) (leftBy digest s q))
@@ -65,7 +66,8 @@ module _ (digest : Bytes → Bytes) where
   unfolding Wrote
   wrote-last s st P m w = go (List·Memᴰ·append-cases P (w .2))
     where
-      go : List·Memᴰ (w .0) P ⊎ List·Memᴰ (w .0) (m ∷ []) → Wrote digest s st P ⊎ ((m .replica ≡ s) × (f : Bytes) × List·Memᴰ f (writes digest m) × (statementOf digest f s ≡ some st))
+      go : List·Memᴰ (w .0) P ⊎ List·Memᴰ (w .0) (m ∷ []) →
+          Wrote digest s st P ⊎ ((m .replica ≡ s) × (f : Bytes) × List·Memᴰ f (writes digest m) × (statementOf digest f s ≡ some st))
       go (inl i) = inl (w .0, w .1, i, w .3, w .4, w .5)
       go (inr i) = let e = List·Memᴰ·eq-of-singleton i in inr (rw e at (w .3), w .1, rw e at (w .4), w .5)
 
@@ -107,15 +109,18 @@ module _ (digest : Bytes → Bytes) where
       backed-more k = later digest states-more seen-more k
 
       -- a call that writes nothing
-      pub nothing-new : (s : ℕ) → (m .replica ≡ s → writes digest m ≡ []) → (st : Statement) → Wrote digest s st P′ → Wrote digest s st P
+      pub nothing-new : (s : ℕ) → (m .replica ≡ s → writes digest m ≡ []) → (st : Statement) → Wrote digest s st P′ →
+          Wrote digest s st P
       nothing-new s e st w = go (wrote-last s st P m w)
         where
-          go : Wrote digest s st P ⊎ ((m .replica ≡ s) × (f : Bytes) × List·Memᴰ f (writes digest m) × (statementOf digest f s ≡ some st)) → Wrote digest s st P
+          go : Wrote digest s st P ⊎ ((m .replica ≡ s) × (f : Bytes) × List·Memᴰ f (writes digest m) × (statementOf digest f s ≡ some st)) →
+              Wrote digest s st P
           go (inl v) = v
           go (inr v) = absurd (List·Memᴰ·not-nil (rw (e (v .0)) at (v .2)))
 
       -- and changes flags only upwards
-      pub quiet : (s : ℕ) (b b′ : State) → Good P s b → (m .replica ≡ s → writes digest m ≡ []) → b′ .n ≡ b .n → b′ .current ≡ b .current →
+      pub quiet : (s : ℕ) (b b′ : State) → Good P s b → (m .replica ≡ s → writes digest m ≡ []) → b′ .n ≡ b .n →
+          b′ .current ≡ b .current →
           (flag 1 b ≡ true → flag 1 b′ ≡ true) → (flag 4 b ≡ true → flag 4 b′ ≡ true) → Shaped b′ →
           ((i : ℕ) → Backed digest (States P′) (Seen P′) (suc i) (getD (b′ .heights) i noHeight)) → Good P′ s b′
       quiet s b b′ g e en ec e1 e4 sh k = record {
@@ -167,7 +172,8 @@ module _ (digest : Bytes → Bytes) where
         backed-set : (i : ℕ) → Backed digest (States P′) (Seen P′) (suc i) (getD (set (b .heights) (h - 1) new) i noHeight)
         backed-set i = go (eqb i (h - 1)) refl
           where
-            go : (e : Bool) → eqb i (h - 1) ≡ e → Backed digest (States P′) (Seen P′) (suc i) (getD (set (b .heights) (h - 1) new) i noHeight)
+            go : (e : Bool) → eqb i (h - 1) ≡ e →
+                Backed digest (States P′) (Seen P′) (suc i) (getD (set (b .heights) (h - 1) new) i noHeight)
             go true e =
                 rw (eqb-true i (h - 1) e, getD-set-same (b .heights) (h - 1) new noHeight inside)
                 (subst (λ (j : ℕ). Backed digest (States P′) (Seen P′) j new) (sym number) (new-good .0))
@@ -186,7 +192,8 @@ module _ (digest : Bytes → Bytes) where
       delivery-good s book f g silent honest d said =
           go (firstRefusal (deliverRows digest book f)) refl (keep digest (decode book) f) refl d
         where
-          go : (o : Option ℕ) → firstRefusal (deliverRows digest book f) ≡ o → (x : Option Height) → keep digest (decode book) f ≡ x →
+          go : (o : Option ℕ) → firstRefusal (deliverRows digest book f) ≡ o → (x : Option Height) →
+              keep digest (decode book) f ≡ x →
               delivers digest m ≡ cond (isAccepted (unlessRefused o book (kept digest book f x) .answer)) (f ∷ []) [] →
               Good P′ s (decode (unlessRefused o book (kept digest book f x) .book))
           go (some number) p x q e = unchanged s (decode book) g (λ z. silent)
@@ -202,7 +209,8 @@ module _ (digest : Bytes → Bytes) where
       unless-refused-good s none book outcome g g′ = g′ refl
       unless-refused-good s (some number) book outcome g g′ = g
 
-      pub reopening-good : (s : ℕ) (book : Bytes) (n′ own heights : ℕ) (leaders : Bytes) → Good P s (decode book) → writes digest m ≡ [] →
+      pub reopening-good : (s : ℕ) (book : Bytes) (n′ own heights : ℕ) (leaders : Bytes) → Good P s (decode book) →
+          writes digest m ≡ [] →
           isAccepted (openCall book n′ own heights leaders .answer) ≡ false → Good P′ s (decode (openCall book n′ own heights leaders .book))
       unfolding openCall unlessRefused isAccepted
       reopening-good s book n′ own heights leaders g silent no-way = go (firstRefusal (openRows book n′ own heights leaders)) no-way
@@ -210,11 +218,13 @@ module _ (digest : Bytes → Bytes) where
           opened : Outcome Done
           opened = record { answer = accepted done; book = encode (newState n′ own leaders) }
 
-          go : (o : Option ℕ) → isAccepted (unlessRefused o book opened .answer) ≡ false → Good P′ s (decode (unlessRefused o book opened .book))
+          go : (o : Option ℕ) → isAccepted (unlessRefused o book opened .answer) ≡ false →
+              Good P′ s (decode (unlessRefused o book opened .book))
           go none e = absurd (true≢false e)
           go (some number) e = unchanged s (decode book) g (λ q. silent)
 
-      pub signal-good : (s : ℕ) (book : Bytes) (h : ℕ) → Good P s (decode book) → writes digest m ≡ [] → Good P′ s (decode (signalCall digest book h .book))
+      pub signal-good : (s : ℕ) (book : Bytes) (h : ℕ) → Good P s (decode book) → writes digest m ≡ [] →
+          Good P′ s (decode (signalCall digest book h .book))
       unfolding signalCall signalRows withTimerFired withHead flag
       signal-good s book h g silent =
           unless-refused-good s (firstRefusal (signalRows digest book h)) book _ (unchanged s b g (λ q. silent)) (λ e. encoded P′ s _ (fired e))
@@ -233,7 +243,8 @@ module _ (digest : Bytes → Bytes) where
               (record { pool-size = g .shaped .pool-size; heights = g .shaped .heights }) (λ i. backed-more (g .backed i))
 
       -- ---- a move
-      pub step-keeps : (s : ℕ) (book : Bytes) → Honest s → Good P s (decode book) → sound digest book ≡ true → writes digest m ≡ step digest (decode book) .frames →
+      pub step-keeps : (s : ℕ) (book : Bytes) → Honest s → Good P s (decode book) → sound digest book ≡ true →
+          writes digest m ≡ step digest (decode book) .frames →
           Good P′ s (step digest (decode book) .after)
       step-keeps s book hs g ok e =
           let body = step-body digest b in
@@ -247,12 +258,14 @@ module _ (digest : Bytes → Bytes) where
           b : State
           b = decode book
 
-          go : (t : Statement) → Wrote digest s t P ⊎ ((m .replica ≡ s) × (f : Bytes) × List·Memᴰ f (writes digest m) × (statementOf digest f s ≡ some t)) →
+          go : (t : Statement) →
+              Wrote digest s t P ⊎ ((m .replica ≡ s) × (f : Bytes) × List·Memᴰ f (writes digest m) × (statementOf digest f s ≡ some t)) →
               States P s t ⊎ ((f : Bytes) × List·Memᴰ f (step digest b .frames) × (statementOf digest f s ≡ some t))
           go t (inl v) = inl (λ q. v)
           go t (inr v) = inr (v .1, rw e at (v .2), v .3)
 
-      pub move-good : (s : ℕ) (book reply : Bytes) → Honest s → Good P s (decode book) → writes digest m ≡ moveCall digest book reply .frames →
+      pub move-good : (s : ℕ) (book reply : Bytes) → Honest s → Good P s (decode book) →
+          writes digest m ≡ moveCall digest book reply .frames →
           Good P′ s (decode (moveCall digest book reply .book))
       unfolding moveCall unlessMoveRefused moved moveRows
       move-good s book reply hs g = go (firstRefusal (moveRows digest book reply)) refl
@@ -260,7 +273,8 @@ module _ (digest : Bytes → Bytes) where
           st : Step
           st = step digest (decode book)
 
-          go : (o : Option ℕ) → firstRefusal (moveRows digest book reply) ≡ o → writes digest m ≡ unlessMoveRefused o book reply st .frames →
+          go : (o : Option ℕ) → firstRefusal (moveRows digest book reply) ≡ o →
+              writes digest m ≡ unlessMoveRefused o book reply st .frames →
               Good P′ s (decode (unlessMoveRefused o book reply st .book))
           go none p e = encoded P′ s (st .after) (step-keeps s book hs g (row-passes _ _ p .0) e)
           go (some number) p e = unchanged s (decode book) g (λ z. e)

@@ -72,7 +72,8 @@ module _ {W W′ : Statement → Type 0} {c : ℕ} {fired voted : Bool} (k : Con
     unfolding kindOf
     old-block h d w = old-vote (votesBlock h d) (λ h′ p e. differ _ _ refl e) w
 
-    pub stated-nothing : {fired′ voted′ : Bool} → (fired ≡ true → fired′ ≡ true) → (voted ≡ true → voted′ ≡ true) → Consistent W′ c fired′ voted′
+    pub stated-nothing : {fired′ voted′ : Bool} → (fired ≡ true → fired′ ≡ true) → (voted ≡ true → voted′ ≡ true) →
+        Consistent W′ c fired′ voted′
     stated-nothing f v = record {
       dummy-old = λ h w. wider f (k .dummy-old h (old-dummy h w));
       finalize-old = λ h w. k .finalize-old h (old-finalize h w);
@@ -83,7 +84,8 @@ module _ {W W′ : Statement → Type 0} {c : ℕ} {fired voted : Bool} (k : Con
 
   -- the dummy vote of the current height is stated, after the timer fired
   module _ (new : (st : Statement) → W′ st → W st ⊎ (st ≡ votesDummy c)) where
-    dummy-reached : {fired′ : Bool} → fired ≡ true → (fired ≡ true → fired′ ≡ true) → (h : ℕ) → W (votesDummy h) ⊎ (votesDummy h ≡ votesDummy c) → Reached c fired′ h
+    dummy-reached : {fired′ : Bool} → fired ≡ true → (fired ≡ true → fired′ ≡ true) → (h : ℕ) →
+        W (votesDummy h) ⊎ (votesDummy h ≡ votesDummy c) → Reached c fired′ h
     dummy-reached t f h (inl w) = wider f (k .dummy-old h w)
     dummy-reached t f h (inr e) = inr (cc, f t)
 
@@ -91,7 +93,8 @@ module _ {W W′ : Statement → Type 0} {c : ℕ} {fired voted : Bool} (k : Con
     dummy-alone h (inl w) w′ = k .not-both h w w′
     dummy-alone h (inr e) w′ = let z : h ≡ c = cc in let q = k .finalize-old h w′ in omega arith
 
-    pub stated-dummy : {fired′ voted′ : Bool} → fired ≡ true → (fired ≡ true → fired′ ≡ true) → (voted ≡ true → voted′ ≡ true) → Consistent W′ c fired′ voted′
+    pub stated-dummy : {fired′ voted′ : Bool} → fired ≡ true → (fired ≡ true → fired′ ≡ true) → (voted ≡ true → voted′ ≡ true) →
+        Consistent W′ c fired′ voted′
     unfolding kindOf
     stated-dummy t f v = record {
       dummy-old = λ h w. dummy-reached t f h (new _ w);
@@ -103,7 +106,8 @@ module _ {W W′ : Statement → Type 0} {c : ℕ} {fired voted : Bool} (k : Con
 
   -- a block vote of the current height is stated, the first one
   module _ (p : Bytes) (new : (st : Statement) → W′ st → W st ⊎ (st ≡ votesBlock c p)) where
-    block-reached : {voted′ : Bool} → voted′ ≡ true → (h : ℕ) (d : Bytes) → W (votesBlock h d) ⊎ (votesBlock h d ≡ votesBlock c p) → Reached c voted′ h
+    block-reached : {voted′ : Bool} → voted′ ≡ true → (h : ℕ) (d : Bytes) → W (votesBlock h d) ⊎ (votesBlock h d ≡ votesBlock c p) →
+        Reached c voted′ h
     block-reached t h d (inl w) = wider (λ z. t) (k .block-old h d w)
     block-reached t h d (inr e) = inr (cc, t)
 
@@ -114,7 +118,8 @@ module _ {W W′ : Statement → Type 0} {c : ℕ} {fired voted : Bool} (k : Con
     block-alone u h d d′ (inr e) (inl w′) = let q : h ≡ c = cc in not-reached u (k .block-old c d′ (rw q at w′))
     block-alone u h d d′ (inr e) (inr e′) = cc
 
-    pub stated-block : {fired′ voted′ : Bool} → voted ≡ false → voted′ ≡ true → (fired ≡ true → fired′ ≡ true) → Consistent W′ c fired′ voted′
+    pub stated-block : {fired′ voted′ : Bool} → voted ≡ false → voted′ ≡ true → (fired ≡ true → fired′ ≡ true) →
+        Consistent W′ c fired′ voted′
     unfolding kindOf
     stated-block u t f = record {
       dummy-old = λ h w. wider f (k .dummy-old h (old _ new (votesDummy h) refl w));
