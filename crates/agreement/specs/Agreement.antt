@@ -84,7 +84,8 @@ module _ (digest : Bytes → Bytes) (n dishonest : ℕ) (l : List Member) (third
         at b (suc i) .notarized ≡ at b′ (suc i) .notarized
     unfolding NoCollision
     equal-blocks i e e′ =
-        let (t, low, inA, inB, notD) = shared (at b (suc i) .certificateMask) (at b′ (suc i) .certificateMask) (x .grants .certificates i e) (x′ .grants .certificates i e′) in
+        let (t, low, inA, inB, notD) = shared (at b (suc i) .certificateMask) (at b′ (suc i) .certificateMask)
+        (x .grants .certificates i e) (x′ .grants .certificates i e′) in
         let ht = honest t low notD in
         let w = stated b x t _ ht (backed-at b x i .certifiers t inA) in
         let w′ = stated b′ x′ t _ ht (backed-at b′ x′ i .certifiers t inB) in
@@ -99,7 +100,8 @@ module _ (digest : Bytes → Bytes) (n dishonest : ℕ) (l : List Member) (third
     final-not-dummy i e e′ =
         let (t, low, inA, inB, notD) = shared (at b (suc i) .finalizeMask) (at b′ (suc i) .dummyMask) e e′ in
         let ht = honest t low notD in
-        never-both t (suc i) ht (stated b′ x′ t _ ht (backed-at b′ x′ i .dummies t inB)) (stated b x t _ ht (backed-at b x i .finalizations t inA))
+        never-both t (suc i) ht (stated b′ x′ t _ ht (backed-at b′ x′ i .dummies t inB))
+        (stated b x t _ ht (backed-at b x i .finalizations t inA))
 
     -- ---- chains of finalized heights
     chains : (g g′ : ℕ) → (g ≡ 0) ⊎ (isFinalized digest (view b) g ≡ true) → (g′ ≡ 0) ⊎ (isFinalized digest (view b′) g′ ≡ true) →
@@ -123,7 +125,9 @@ module _ (digest : Bytes → Bytes) (n dishonest : ℕ) (l : List Member) (third
 
   read-of : (m : Member) (r : Bytes) → List·Memᴰ m l → Honest digest n dishonest (m .replica) → Reads digest m r → ReadOf m r
   unfolding Reads readPart ReadOf KeepsOneBook Follows Opens Continues
-  read-of m r here hm (buffer, e, q) = subst (λ (z : Bytes). ReadOf m z) (sym q) (cond-elim (λ (z : Bytes). ReadOf m z) (sound digest (m .book) && leb (logSize (m .book)) (length buffer))
+  read-of m r here hm (buffer, e, q) =
+      subst (λ (z : Bytes). ReadOf m z) (sym q)
+      (cond-elim (λ (z : Bytes). ReadOf m z) (sound digest (m .book) && leb (logSize (m .book)) (length buffer))
       (λ ok. inr (had (and-true (sound digest (m .book)) _ ok .0), refl)) (λ ok. inl refl))
     where
       split : (front : List Member) × (back : List Member) × (l ≡ front ++ (m ∷ back))
@@ -142,7 +146,9 @@ module _ (digest : Bytes → Bytes) (n dishonest : ℕ) (l : List Member) (third
       }
 
       had : sound digest (m .book) ≡ true → Had (decode (m .book))
-      had ok = go ok (lastLeft digest (m .replica) (split .0)) (keeps (m .replica) hm (split .0) m (split .1) (split .2) refl) (good-after digest n dishonest l keeps unforged (split .0) (m ∷ split .1) (split .2) (m .replica) hm)
+      had ok =
+          go ok (lastLeft digest (m .replica) (split .0)) (keeps (m .replica) hm (split .0) m (split .1) (split .2) refl)
+          (good-after digest n dishonest l keeps unforged (split .0) (m ∷ split .1) (split .2) (m .replica) hm)
 
   begins-nil : (r : Bytes) → Begins [] r
   unfolding Begins

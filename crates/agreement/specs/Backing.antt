@@ -88,8 +88,10 @@ module _ (x : Height) (s : ℕ) (d : Bytes) (sized : ShapedHeight x) (few : s < 
   unfolding voteOf withVote
   vote-other t ne = go (le-or-lt s t)
     where
-      go : (s ≤ t) ⊎ (t < s) →
-          part (take (32 * s) (x .voteDigests) ++ (d ++ drop (32 * s + 32) (x .voteDigests))) (32 * t) 32 ≡ part (x .voteDigests) (32 * t) 32
+      spliced : Bytes
+      spliced = take (32 * s) (x .voteDigests) ++ (d ++ drop (32 * s + 32) (x .voteDigests))
+
+      go : (s ≤ t) ⊎ (t < s) → part spliced (32 * t) 32 ≡ part (x .voteDigests) (32 * t) 32
       go (inl h) = splice-after (x .voteDigests) d (32 * s) fits size (32 * t) (omega arith)
       go (inr h) = splice-before (x .voteDigests) d (32 * s) fits size (32 * t) (omega arith)
 
@@ -121,28 +123,52 @@ module _ (digest : Bytes → Bytes) where
     pub backed-dummies : (m : ℕ) → ((t : ℕ) → inMask m t ≡ true → W t (votesDummy h)) →
         Backed W S h (withMasks x m (x .finalizeMask))
     unfolding withMasks holdsProposal isNotarized voteOf
-    backed-dummies m f = record
-        { dummies = f; finalizations = k .finalizations; ballots = k .ballots; certifiers = k .certifiers; proposal-seen = k .proposal-seen; notarized-seen = k .notarized-seen }
+    backed-dummies m f = record {
+      dummies = f;
+      finalizations = k .finalizations;
+      ballots = k .ballots;
+      certifiers = k .certifiers;
+      proposal-seen = k .proposal-seen;
+      notarized-seen = k .notarized-seen;
+    }
 
     pub backed-finalizations : (m : ℕ) → ((t : ℕ) → inMask m t ≡ true → W t (finalizes h)) →
         Backed W S h (withMasks x (x .dummyMask) m)
     unfolding withMasks holdsProposal isNotarized voteOf
-    backed-finalizations m f = record
-        { dummies = k .dummies; finalizations = f; ballots = k .ballots; certifiers = k .certifiers; proposal-seen = k .proposal-seen; notarized-seen = k .notarized-seen }
+    backed-finalizations m f = record {
+      dummies = k .dummies;
+      finalizations = f;
+      ballots = k .ballots;
+      certifiers = k .certifiers;
+      proposal-seen = k .proposal-seen;
+      notarized-seen = k .notarized-seen;
+    }
 
     pub backed-notarized : (m : ℕ) (p : Bytes) → ((t : ℕ) → inMask m t ≡ true → W t (votesBlock h (digest p))) → S p →
         Backed W S h (withNotarized x m p)
     unfolding withNotarized holdsProposal isNotarized voteOf
-    backed-notarized m p f s = record
-        { dummies = k .dummies; finalizations = k .finalizations; ballots = k .ballots; certifiers = f; proposal-seen = λ e. k .proposal-seen (parity e); notarized-seen = λ e. s }
+    backed-notarized m p f s = record {
+      dummies = k .dummies;
+      finalizations = k .finalizations;
+      ballots = k .ballots;
+      certifiers = f;
+      proposal-seen = λ e. k .proposal-seen (parity e);
+      notarized-seen = λ e. s;
+    }
       where
         parity : eqb ((x .status + 2) % 2) 1 ≡ true → eqb (x .status % 2) 1 ≡ true
         parity e = let q : (x .status + 2) % 2 ≡ x .status % 2 = omega arith in (rw q at e)
 
     pub backed-proposal : (p : Bytes) → holdsProposal x ≡ false → S p → Backed W S h (withProposal x p)
     unfolding withProposal holdsProposal isNotarized voteOf
-    backed-proposal p n s = record
-        { dummies = k .dummies; finalizations = k .finalizations; ballots = k .ballots; certifiers = k .certifiers; proposal-seen = λ e. s; notarized-seen = λ e. k .notarized-seen (order e) }
+    backed-proposal p n s = record {
+      dummies = k .dummies;
+      finalizations = k .finalizations;
+      ballots = k .ballots;
+      certifiers = k .certifiers;
+      proposal-seen = λ e. s;
+      notarized-seen = λ e. k .notarized-seen (order e);
+    }
       where
         order : leb 2 (x .status + 1) ≡ true → leb 2 (x .status) ≡ true
         order e = let a = eqb-false (x .status % 2) 1 n in let b = leb-true 2 (x .status + 1) e in le-leb 2 (x .status) (omega arith)
@@ -151,8 +177,14 @@ module _ (digest : Bytes → Bytes) where
         ((t : ℕ) → inMask (x .voterMask + 2 ^ s) t ≡ true → W t (votesBlock h (voteOf (withVote x s d) t))) →
         Backed W S h (withVote x s d)
     unfolding withVote holdsProposal isNotarized voteOf
-    backed-vote s d f = record
-        { dummies = k .dummies; finalizations = k .finalizations; ballots = f; certifiers = k .certifiers; proposal-seen = k .proposal-seen; notarized-seen = k .notarized-seen }
+    backed-vote s d f = record {
+      dummies = k .dummies;
+      finalizations = k .finalizations;
+      ballots = f;
+      certifiers = k .certifiers;
+      proposal-seen = k .proposal-seen;
+      notarized-seen = k .notarized-seen;
+    }
 
     pub backed-notarize : (v : View) → Backed W S h (notarize digest v x)
     unfolding notarize votersFor

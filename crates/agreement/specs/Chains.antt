@@ -1,4 +1,5 @@
--- Two books that agree on notarized pages, and of which none is blank where the other is final, have chains of which one begins the other.
+-- Two views that agree on notarized blocks, and of which none has a dummy block where the other is finalized, have chains
+-- of which one begins the other.
 use Prim.Native.Nat.{ℕ, zero, suc, _+_, _-_, _≤_, _<_}
 use native.Mathlib.Omega.{arith}
 use mathlib.Core.Path.{_≡_, refl, sym, ap, ap₂, _∙_}
@@ -15,7 +16,7 @@ use Rattle.protocol.specs.View.{View, chainWithin, dummyRun, extendsOver, isDum
 use Rattle.agreement.specs.Granted.{row}
 use Rattle.agreement.specs.Lists.{Begins}
 
--- every height of a run of dummies is one
+-- every height of a run of dummy blocks has one
 dummy-in-run : (v : View) (j k h : ℕ) → dummyRun v j k ≡ true → j < h → h ≤ j + k → isDummy v h ≡ true
 unfolding dummyRun
 dummy-in-run v j zero h e lo hi = absurd (omega arith)
@@ -31,28 +32,31 @@ dummy-in-run v j (suc k) h e lo hi = go (λ z. dummy-in-run v j k h (q .0) lo z)
 unfoldable pub Prefix : {A : Type 0} → List A → List A → Type 0
 Prefix {A} xs ys = (zs : List A) × (ys ≡ xs ++ zs)
 
-module _ (digest : Bytes → Bytes) where
-  -- ---- one link of a chain
-  back : View → ℕ → ℕ
-  back v h = parentHeight (v .block h)
+-- ---- one link of a chain
+back : View → ℕ → ℕ
+back v h = parentHeight (v .block h)
 
-  link : (f : ℕ) (v : View) (i : ℕ) → linkedWithin digest (suc f) v (suc i) ≡ true →
-      (v .hasBlock (suc i) ≡ true) × (linkedWithin digest f v (back v (suc i)) ≡ true) × (dummyRun v (back v (suc i)) (suc i - 1 - back v (suc i)) ≡ true)
+chain-link : (f : ℕ) (v : View) (i : ℕ) → chainWithin (suc f) v (suc i) ≡ chainWithin f v (back v (suc i)) ++ (v .block (suc i) ∷ [])
+unfolding chainWithin back
+chain-link f v i = rw eqb·suc-zero
+
+chain-zero : (f : ℕ) (v : View) → chainWithin f v 0 ≡ []
+unfolding chainWithin
+chain-zero zero v = refl
+chain-zero (suc f) v = refl
+
+module _ (digest : Bytes → Bytes) where
+  -- what it takes to be linked, where the parent is linked going back at most `f` times
+  record Link (f : ℕ) (v : View) (h : ℕ) : Type 0 where
+    present : v .hasBlock h ≡ true
+    below : linkedWithin digest f v (back v h) ≡ true
+    run : dummyRun v (back v h) (h - 1 - back v h) ≡ true
+
+  link : (f : ℕ) (v : View) (i : ℕ) → linkedWithin digest (suc f) v (suc i) ≡ true → Link f v (suc i)
   unfolding linkedWithin extendsOver back
   link f v i e =
-      let e′ = rw eqb·suc-zero at e in
-      let a = and-true (v .hasBlock (suc i)) _ e′ in
-      (a .0, row _ 1 (a .1), row _ 3 (a .1))
-
-  chain-link : (f : ℕ) (v : View) (i : ℕ) →
-      chainWithin (suc f) v (suc i) ≡ chainWithin f v (back v (suc i)) ++ (v .block (suc i) ∷ [])
-  unfolding chainWithin back
-  chain-link f v i = rw eqb·suc-zero
-
-  chain-zero : (f : ℕ) (v : View) → chainWithin f v 0 ≡ []
-  unfolding chainWithin
-  chain-zero zero v = refl
-  chain-zero (suc f) v = refl
+      let q = and-true (v .hasBlock (suc i)) _ (rw eqb·suc-zero at e) in
+      record { present = q .0; below = row _ 1 (q .1); run = row _ 3 (q .1) }
 
   no-fuel : (v : View) (h : ℕ) → linkedWithin digest 0 v h ≡ true → h ≡ 0
   unfolding linkedWithin
@@ -60,20 +64,19 @@ module _ (digest : Bytes → Bytes) where
 
   module _ (v v′ : View)
       (equal : (i : ℕ) → v .hasBlock (suc i) ≡ true → v′ .hasBlock (suc i) ≡ true → v .block (suc i) ≡ v′ .block (suc i)) where
-    same-chain : (f f′ h : ℕ) → linkedWithin digest f v h ≡ true → linkedWithin digest f′ v′ h ≡ true →
-        chainWithin f v h ≡ chainWithin f′ v′ h
+    same-chain : (f f′ h : ℕ) → linkedWithin digest f v h ≡ true → linkedWithin digest f′ v′ h ≡ true → chainWithin f v h ≡ chainWithin f′ v′ h
     same-chain zero f′ h e e′ = rw (no-fuel v h e, chain-zero f′ v′, chain-zero zero v)
     same-chain (suc f) zero h e e′ = rw (no-fuel v′ h e′, chain-zero (suc f) v, chain-zero zero v′)
     same-chain (suc f) (suc f′) zero e e′ = chain-zero (suc f) v ∙ sym (chain-zero (suc f′) v′)
     same-chain (suc f) (suc f′) (suc i) e e′ =
         let l = link f v i e in
         let l′ = link f′ v′ i e′ in
-        let p = equal i (l .0) (l′ .0) in
+        let p = equal i (l .present) (l′ .present) in
         let q : back v (suc i) ≡ back v′ (suc i) = unfold back in ap parentHeight p in
-        chain-link f v i ∙ ap₂ (λ (x : List Bytes) (y : Bytes). x ++ (y ∷ []))
-        (same-chain f f′ (back v (suc i)) (l .1) (rw q (l′ .1)) ∙ ap (λ (j : ℕ). chainWithin f′ v′ j) q) p ∙ sym (chain-link f′ v′ i)
+        let lower = same-chain f f′ (back v (suc i)) (l .below) (rw q (l′ .below)) ∙ ap (chainWithin f′ v′) q in
+        chain-link f v i ∙ ap₂ (λ (x : List Bytes) (y : Bytes). x ++ (y ∷ [])) lower p ∙ sym (chain-link f′ v′ i)
 
-    -- the chain of a height that is not blank in the other book begins each longer chain of that book
+    -- the chain of a height that has no dummy block in the other view begins each longer chain of that view
     pub begins : (f f′ g g′ : ℕ) → linkedWithin digest f v g ≡ true → linkedWithin digest f′ v′ g′ ≡ true →
         (isDummy v′ g ≡ true → ⊥) → g ≤ g′ → Prefix (chainWithin f v g) (chainWithin f′ v′ g′)
     unfolding Prefix
@@ -82,24 +85,31 @@ module _ (digest : Bytes → Bytes) where
     begins f (suc f′) g zero e e′ final le =
         let z′ : g ≡ 0 = omega arith in (chainWithin (suc f′) v′ 0, rw (z′, chain-zero f v))
     begins f (suc f′) g (suc i) e e′ final le =
-        go (λ h. begins f f′ g (back v′ (suc i)) e (l .1) final h) (le-or-lt (suc i) g)
+        go (λ h. begins f f′ g (back v′ (suc i)) e (l .below) final h) (le-or-lt (suc i) g)
       where
-        l : (v′ .hasBlock (suc i) ≡ true) × (linkedWithin digest f′ v′ (back v′ (suc i)) ≡ true) × (dummyRun v′ (back v′ (suc i)) (suc i - 1 - back v′ (suc i)) ≡ true)
+        l : Link f′ v′ (suc i)
         l = link f′ v′ i e′
 
-        longer : Prefix (chainWithin f v g) (chainWithin f′ v′ (back v′ (suc i))) →
-            Prefix (chainWithin f v g) (chainWithin (suc f′) v′ (suc i))
-        longer (zs, z) = (zs ++ (v′ .block (suc i) ∷ []), chain-link f′ v′ i ∙ rw z (append-assoc (chainWithin f v g) zs (v′ .block (suc i) ∷ [])))
+        Longer : Type 0
+        Longer = Prefix (chainWithin f v g) (chainWithin (suc f′) v′ (suc i))
 
-        behind : (g ≤ back v′ (suc i) → Prefix (chainWithin f v g) (chainWithin f′ v′ (back v′ (suc i)))) → g < suc i →
-            (g ≤ back v′ (suc i)) ⊎ (back v′ (suc i) < g) → Prefix (chainWithin f v g) (chainWithin (suc f′) v′ (suc i))
+        Shorter : Type 0
+        Shorter = Prefix (chainWithin f v g) (chainWithin f′ v′ (back v′ (suc i)))
+
+        longer : Shorter → Longer
+        longer (zs, z) =
+            let top : List Bytes = v′ .block (suc i) ∷ [] in
+            (zs ++ top, chain-link f′ v′ i ∙ rw z (append-assoc (chainWithin f v g) zs top))
+
+        behind : (g ≤ back v′ (suc i) → Shorter) → g < suc i → (g ≤ back v′ (suc i)) ⊎ (back v′ (suc i) < g) → Longer
         behind below h (inl z) = longer (below z)
-        behind below h (inr z) = absurd (final (dummy-in-run v′ (back v′ (suc i)) (suc i - 1 - back v′ (suc i)) g (l .2) z (omega arith)))
+        behind below h (inr z) = absurd (final (dummy-in-run v′ (back v′ (suc i)) (suc i - 1 - back v′ (suc i)) g (l .run) z (omega arith)))
 
-        go : (g ≤ back v′ (suc i) → Prefix (chainWithin f v g) (chainWithin f′ v′ (back v′ (suc i)))) → (suc i ≤ g) ⊎ (g < suc i) →
-            Prefix (chainWithin f v g) (chainWithin (suc f′) v′ (suc i))
-        go below (inl h) = let z : g ≡ suc i = omega arith in
-            ([], ap (λ (x : ℕ). chainWithin (suc f′) v′ x) (sym z) ∙ sym (same-chain f (suc f′) g e (rw z e′)) ∙ sym (append-nil (chainWithin f v g)))
+        go : (g ≤ back v′ (suc i) → Shorter) → (suc i ≤ g) ⊎ (g < suc i) → Longer
+        go below (inl h) =
+            let z : g ≡ suc i = omega arith in
+            let same-one = same-chain f (suc f′) g e (rw z e′) in
+            ([], ap (chainWithin (suc f′) v′) (sym z) ∙ sym same-one ∙ sym (append-nil (chainWithin f v g)))
         go below (inr h) = behind below h (le-or-lt g (back v′ (suc i)))
 
 -- ---- from chains to bytes
@@ -116,7 +126,8 @@ join-append (x ∷ xs) ys = rw (join-append xs ys, append-assoc)
 pub prefix-bytes : (xs ys : List Bytes) → Prefix xs ys → Begins (join (allEntries xs)) (join (allEntries ys))
 unfolding Begins Prefix
 prefix-bytes xs ys (zs, e) =
-    rw (e, entries-append xs zs, join-append (allEntries xs) (allEntries zs)) (sym (take-append-seam (join (allEntries xs)) (join (allEntries zs))))
+    rw (e, entries-append xs zs, join-append (allEntries xs) (allEntries zs))
+    (sym (take-append-seam (join (allEntries xs)) (join (allEntries zs))))
 
 pub prefix-nil : {A : Type 0} (ys : List A) → Prefix [] ys
 unfolding Prefix

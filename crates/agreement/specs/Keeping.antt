@@ -1,14 +1,15 @@
 -- What a delivery keeps is backed by the frame that it reads.
 use Prim.Native.Nat.{ℕ, _+_, _*_, _^_, _≤_, _<_}
 use native.Mathlib.Omega.{arith}
-use mathlib.Core.Path.{_≡_, sym, _∙_}
+use mathlib.Core.Path.{_≡_, refl, sym, _∙_}
 use mathlib.Core.Logic.{_⊎_, inl, inr}
-use mathlib.Core.Bool.{true, false, not, true≢false}
+use mathlib.Core.Bool.{Bool, true, false, not, cond, true≢false}
 use mathlib.Core.List.{[], _∷_, _++_}
-use mathlib.Core.Option.{Option, some}
+use mathlib.Core.Option.{Option, some, none}
 use lib.ListN.{length, take, drop, length-append, length-drop, length-take}
 use lib.Dec.{eqb}
 use borrow.Author.Tests.{eqb-true, eqb-false}
+use Rattle.protocol.specs.Answer.{known}
 use Rattle.protocol.specs.Bytes.{Bytes, part}
 use Rattle.protocol.specs.Deliver.{keep, keepBlockCertificate, keepBlockVote, keepDummyCertificate, keepDummyVote, keepFinalize, keepFinalizeCertificate, keepProposal, notarize, votersFor, withMasks, withNotarized, withProposal, withVote}
 use Rattle.protocol.specs.Frame.{carriesBlock, frameBlock, frameDigest, frameHeight, kind, signer, signerMask}
@@ -137,8 +138,10 @@ module _ (digest : Bytes → Bytes) {W : ℕ → Statement → Type 0} {S : Byte
   keep-2 : kind f ≡ 2 → inMask (x .voterMask) (signer f) ≡ false →
       Good (notarize digest (view b) (withVote x (signer f) (frameDigest f)))
   keep-2 e n = (
-    backed-notarize digest (backed-vote digest k (signer f) (frameDigest f) (λ t q. vote t (inMask-add (x .voterMask) (signer f) t n q))) (view b),
-    shaped-notarize (withVote x (signer f) (frameDigest f)) (shaped-vote x z (signer f) (frameDigest f) (few e) digest-size) digest (view b),
+    backed-notarize digest
+        (backed-vote digest k (signer f) (frameDigest f) (λ t q. vote t (inMask-add (x .voterMask) (signer f) t n q))) (view b),
+    shaped-notarize (withVote x (signer f) (frameDigest f)) (shaped-vote x z (signer f) (frameDigest f) (few e) digest-size) digest
+        (view b),
   )
     where
       voted : ℕ → Bytes
@@ -152,11 +155,15 @@ module _ (digest : Bytes → Bytes) {W : ℕ → Statement → Type 0} {S : Byte
 
   keep-3 : kind f ≡ 3 → inMask (x .dummyMask) (signer f) ≡ false →
       Good (withMasks x (x .dummyMask + 2 ^ signer f) (x .finalizeMask))
-  keep-3 e n = (backed-dummies digest k _ (with-one (x .dummyMask) (k .dummies) (signer f) n (said (signer f) _ (says-3 digest f e))), shaped-masks x z _ _)
+  keep-3 e n =
+      let voted = with-one (x .dummyMask) (k .dummies) (signer f) n (said (signer f) _ (says-3 digest f e)) in
+      (backed-dummies digest k _ voted, shaped-masks x z _ _)
 
   keep-4 : kind f ≡ 4 → inMask (x .finalizeMask) (signer f) ≡ false →
       Good (withMasks x (x .dummyMask) (x .finalizeMask + 2 ^ signer f))
-  keep-4 e n = (backed-finalizations digest k _ (with-one (x .finalizeMask) (k .finalizations) (signer f) n (said (signer f) _ (says-4 digest f e))), shaped-masks x z _ _)
+  keep-4 e n =
+      let voted = with-one (x .finalizeMask) (k .finalizations) (signer f) n (said (signer f) _ (says-4 digest f e)) in
+      (backed-finalizations digest k _ voted, shaped-masks x z _ _)
 
   keep-5 : kind f ≡ 5 → Good (withNotarized x (signerMask f) (frameBlock f))
   keep-5 e = (
@@ -165,13 +172,22 @@ module _ (digest : Bytes → Bytes) {W : ℕ → Statement → Type 0} {S : Byte
   )
 
   keep-6 : kind f ≡ 6 → Good (withMasks x (union (b .n) (x .dummyMask) (signerMask f)) (x .finalizeMask))
-  keep-6 e = (backed-dummies digest k _ (with-all (x .dummyMask) (k .dummies) (b .n) (signerMask f) (λ t q. said t _ (says-6 digest f t e q))), shaped-masks x z _ _)
+  keep-6 e =
+      let voted = with-all (x .dummyMask) (k .dummies) (b .n) (signerMask f) (λ t q. said t _ (says-6 digest f t e q)) in
+      (backed-dummies digest k _ voted, shaped-masks x z _ _)
 
   keep-7 : kind f ≡ 7 → Good (withMasks x (x .dummyMask) (union (b .n) (x .finalizeMask) (signerMask f)))
-  keep-7 e = (backed-finalizations digest k _ (with-all (x .finalizeMask) (k .finalizations) (b .n) (signerMask f) (λ t q. said t _ (says-7 digest f t e q))), shaped-masks x z _ _)
+  keep-7 e =
+      let voted = with-all (x .finalizeMask) (k .finalizations) (b .n) (signerMask f) (λ t q. said t _ (says-7 digest f t e q)) in
+      (backed-finalizations digest k _ voted, shaped-masks x z _ _)
 
   abbrev Good? : Option Height → Type 0
   Good? o = IfSome Good o
+
+  -- nothing is kept where the frame is known
+  unless : (known : Bool) {y : Height} → (known ≡ false → Good y) → Good? (cond known none (some y))
+  unless true good = tt
+  unless false good = good refl
 
   seventh : eqb (kind f) 1 ≡ false → eqb (kind f) 2 ≡ false → eqb (kind f) 3 ≡ false → eqb (kind f) 4 ≡ false →
       eqb (kind f) 5 ≡ false → eqb (kind f) 6 ≡ false → kind f ≡ 7
@@ -183,10 +199,10 @@ module _ (digest : Bytes → Bytes) {W : ℕ → Statement → Type 0} {S : Byte
   pub keep-good : IfSome (λ (y : Height). Backed digest W S (frameHeight f) y × ShapedHeight y) (keep digest b f)
   unfolding keep keepProposal keepBlockVote keepDummyVote keepFinalize keepBlockCertificate keepDummyCertificate keepFinalizeCertificate
   keep-good =
-      cond-elim Good? (eqb (kind f) 1) (λ e. cond-elim Good? (holdsProposal x) (λ q. tt) (λ q. keep-1 (eqb-true _ _ e) q)) (λ e1.
-      cond-elim Good? (eqb (kind f) 2) (λ e. cond-elim Good? (inMask (x .voterMask) (signer f)) (λ q. tt) (λ q. keep-2 (eqb-true _ _ e) q)) (λ e2.
-      cond-elim Good? (eqb (kind f) 3) (λ e. cond-elim Good? (inMask (x .dummyMask) (signer f)) (λ q. tt) (λ q. keep-3 (eqb-true _ _ e) q)) (λ e3.
-      cond-elim Good? (eqb (kind f) 4) (λ e. cond-elim Good? (inMask (x .finalizeMask) (signer f)) (λ q. tt) (λ q. keep-4 (eqb-true _ _ e) q)) (λ e4.
-      cond-elim Good? (eqb (kind f) 5) (λ e. cond-elim Good? (isNotarized x) (λ q. tt) (λ q. keep-5 (eqb-true _ _ e))) (λ e5.
-      cond-elim Good? (eqb (kind f) 6) (λ e. cond-elim Good? (eqb (union (b .n) (x .dummyMask) (signerMask f)) (x .dummyMask)) (λ q. tt) (λ q. keep-6 (eqb-true _ _ e))) (λ e6.
-      cond-elim Good? (eqb (union (b .n) (x .finalizeMask) (signerMask f)) (x .finalizeMask)) (λ q. tt) (λ q. keep-7 (seventh e1 e2 e3 e4 e5 e6))))))))
+      cond-elim Good? (eqb (kind f) 1) (λ e. unless (holdsProposal x) (keep-1 (eqb-true _ _ e))) (λ e1.
+      cond-elim Good? (eqb (kind f) 2) (λ e. unless (inMask (x .voterMask) (signer f)) (keep-2 (eqb-true _ _ e))) (λ e2.
+      cond-elim Good? (eqb (kind f) 3) (λ e. unless (inMask (x .dummyMask) (signer f)) (keep-3 (eqb-true _ _ e))) (λ e3.
+      cond-elim Good? (eqb (kind f) 4) (λ e. unless (inMask (x .finalizeMask) (signer f)) (keep-4 (eqb-true _ _ e))) (λ e4.
+      cond-elim Good? (eqb (kind f) 5) (λ e. unless (isNotarized x) (λ q. keep-5 (eqb-true _ _ e))) (λ e5.
+      cond-elim Good? (eqb (kind f) 6) (λ e. unless (eqb (union (b .n) (x .dummyMask) (signerMask f)) (x .dummyMask)) (λ q. keep-6 (eqb-true _ _ e))) (λ e6.
+      unless (eqb (union (b .n) (x .finalizeMask) (signerMask f)) (x .finalizeMask)) (λ q. keep-7 (seventh e1 e2 e3 e4 e5 e6))))))))

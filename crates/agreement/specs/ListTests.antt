@@ -74,18 +74,25 @@ module _ (digest : Bytes → Bytes) where
   isBacked n dishonest log frame =
       everyHonest dishonest (λ s. everyIn (λ statement. holds statement log) (signed s (statementOf digest frame s))) n
 
+  -- a member, if it is honest, delivers only frames that are backed
+  unfoldable pub deliversBacked : ℕ → ℕ → List Bytes → Member → Bool
+  deliversBacked n dishonest log m =
+      implies (isHonest n dishonest (m .replica)) (everyIn (isBacked n dishonest log) (delivers digest m))
+
   -- nothing is forged, where `log` has the statements written before these members
   unfoldable pub notForged : ℕ → ℕ → List Bytes → List Member → Bool
   notForged n dishonest log [] = true
   notForged n dishonest log (m ∷ ms) =
-      implies (isHonest n dishonest (m .replica)) (everyIn (isBacked n dishonest log) (delivers digest m)) &&
-      notForged n dishonest (signedIn (m .replica) (writes digest m) ++ log) ms
+      deliversBacked n dishonest log m && notForged n dishonest (signedIn (m .replica) (writes digest m) ++ log) ms
 
   -- ---- blocks
-  -- the honest members show these blocks and no others
+  -- a member shows these blocks and no others
+  unfoldable pub shows : List Bytes → Member → Bool
+  shows blocks m = everyIn (λ frame. isAmong blocks (blockIn frame)) (delivers digest m ++ writes digest m)
+
+  -- so does every honest member
   unfoldable pub showsOnly : ℕ → ℕ → List Bytes → List Member → Bool
-  showsOnly n dishonest blocks ms =
-      everyIn (λ m. implies (isHonest n dishonest (m .replica)) (everyIn (λ frame. isAmong blocks (blockIn frame)) (delivers digest m ++ writes digest m))) ms
+  showsOnly n dishonest blocks ms = everyIn (λ m. implies (isHonest n dishonest (m .replica)) (shows blocks m)) ms
 
   unfoldable pub noCollision : List Bytes → Bool
   noCollision blocks =

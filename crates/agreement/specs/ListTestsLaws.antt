@@ -17,9 +17,10 @@ use Rattle.protocol.specs.Tests.{implies}
 use Rattle.protocol.specs.TestsLaws.{and-true, eqb-self, le-or-lt, or-true}
 use Rattle.agreement.specs.Backing.{same-eq}
 use Rattle.agreement.specs.Granted.{implied}
-use Rattle.agreement.specs.ListTests.{everyHonest, everyIn, follows, isAmong, isBacked, isHonest, keepsOneBook, noCollision, notForged, opensFor, readsPart, showsOnly, signed, signedIn, someIn, statementBytes}
+use Rattle.agreement.specs.ListTests.{deliversBacked, everyHonest, everyIn, follows, isAmong, isBacked, isHonest, keepsOneBook, noCollision, notForged, opensFor, readsPart, shows, showsOnly, signed, signedIn, someIn, statementBytes}
 use Rattle.agreement.specs.Lists.{Call, Continues, Follows, HonestIn, KeepsOneBook, Member, NoCollision, NotForged, Opens, Reads, Shows, Statement, Wrote, blockIn, delivers, delivery, finalizes, lastLeft, leftBy, moving, opening, orElse, proposes, reading, signalling, statementOf, submitting, votesBlock, votesDummy, writes}
 use Rattle.agreement.specs.Run.{or-else-assoc, or-else-none, wrote-more}
+use Rattle.agreement.specs.Witness.{dishonest, entry, leaders}
 
 -- ---- over lists and replicas
 pub every-in : {A : Type 0} (test : A → Bool) (l : List A) → everyIn test l ≡ true → (x : A) → List·Memᴰ x l → test x ≡ true
@@ -63,7 +64,8 @@ is-honest n dishonest s (low, h) = rw (h, le-leb (suc s) n low)
 
 pub honest-in : (n dishonest s : ℕ) → isHonest n dishonest s ≡ true → HonestIn n dishonest s
 unfolding isHonest HonestIn
-honest-in n dishonest s e = let q = and-true (ltb s n) (not (inMask dishonest s)) e in (leb-true (suc s) n (q .0), not-true (inMask dishonest s) (q .1))
+honest-in n dishonest s e =
+    let q = and-true (ltb s n) (not (inMask dishonest s)) e in (leb-true (suc s) n (q .0), not-true (inMask dishonest s) (q .1))
 
 -- ---- bytes
 same-self : (a : Bytes) → same a a ≡ true
@@ -100,7 +102,8 @@ statement-back (votesDummy h) = refl
 statement-back (finalizes h) = refl
 
 same-statement : (s t : ℕ) (a b : Statement) → s ∷ statementBytes a ≡ t ∷ statementBytes b → (s ≡ t) × (a ≡ b)
-same-statement s t a b e = (ap (λ (x : Bytes). byteAt x 0) e, sym (statement-back a) ∙ ap (λ (x : Bytes). statementFrom (drop 1 x)) e ∙ statement-back b)
+same-statement s t a b e =
+    (ap (λ (x : Bytes). byteAt x 0) e, sym (statement-back a) ∙ ap (λ (x : Bytes). statementFrom (drop 1 x)) e ∙ statement-back b)
 
 -- ---- splits of a list
 split-head : {A : Type 0} {x m : A} {xs after : List A} → x ∷ xs ≡ m ∷ after → (x ≡ m) × (xs ≡ after)
@@ -134,7 +137,8 @@ module _ (digest : Bytes → Bytes) where
       (same-eq (m .book) book (q .0), not-true _ (q .1))
 
   keeps-from : (n s : ℕ) (left : Option Bytes) (l : List Member) → keepsOneBook digest n s left l ≡ true →
-      (before : List Member) (m : Member) (after : List Member) → l ≡ before ++ (m ∷ after) → m .replica ≡ s → Follows digest n s m (orElse (lastLeft digest s before) left)
+      (before : List Member) (m : Member) (after : List Member) → l ≡ before ++ (m ∷ after) → m .replica ≡ s → Follows digest n s m
+      (orElse (lastLeft digest s before) left)
   unfolding keepsOneBook lastLeft orElse
   keeps-from n s left [] t before m after e own = absurd (split-never m before after e)
   keeps-from n s left (x ∷ xs) t [] m after e own =
@@ -152,7 +156,8 @@ module _ (digest : Bytes → Bytes) where
   pub keeps-sound : (n s : ℕ) (l : List Member) → keepsOneBook digest n s none l ≡ true → KeepsOneBook digest n l s
   unfolding KeepsOneBook
   keeps-sound n s l t before m after e own =
-      subst (λ (o : Option Bytes). Follows digest n s m o) (sym (or-else-none (lastLeft digest s before))) (keeps-from n s none l t before m after e own)
+      subst (λ (o : Option Bytes). Follows digest n s m o) (sym (or-else-none (lastLeft digest s before)))
+      (keeps-from n s none l t before m after e own)
 
   -- ---- statements
   module _ (n dishonest : ℕ) where
@@ -165,7 +170,8 @@ module _ (digest : Bytes → Bytes) where
         (t ≡ s) × (frame : Bytes) × List·Memᴰ frame frames × (statementOf digest frame s ≡ some st)
     unfolding signedIn signed
     signed-in s [] t st i = absurd (List·Memᴰ·not-nil i)
-    signed-in s (f ∷ frames) t st i = go (statementOf digest f s) refl (List·Memᴰ·append-cases (signed digest s (statementOf digest f s)) i) (signed-in s frames t st)
+    signed-in s (f ∷ frames) t st i =
+        go (statementOf digest f s) refl (List·Memᴰ·append-cases (signed digest s (statementOf digest f s)) i) (signed-in s frames t st)
       where
         Found : List Bytes → Type 0
         Found l = (t ≡ s) × (frame : Bytes) × List·Memᴰ frame l × (statementOf digest frame s ≡ some st)
@@ -195,28 +201,33 @@ module _ (digest : Bytes → Bytes) where
         (s : ℕ) (st : Statement) → HonestIn n dishonest s → statementOf digest frame s ≡ some st → Wrote digest s st P
     unfolding isBacked signed
     backed-sound P log frame h t s st hs e =
-        let q = every-honest dishonest (λ s. everyIn (λ statement. holds statement log) (signed digest s (statementOf digest frame s))) n t s hs in
-        let r = every-in (λ (x : Bytes). holds x log) (signed digest s (some st)) (rw e at q) (s ∷ statementBytes st) (List·Memᴰ·head refl) in
+        let q = every-honest dishonest
+        (λ s. everyIn (λ statement. holds statement log) (signed digest s (statementOf digest frame s))) n t s hs in
+        let r = every-in (λ (x : Bytes). holds x log) (signed digest s (some st)) (rw e at q) (s ∷ statementBytes st)
+        (List·Memᴰ·head refl) in
         h s st (holds-member (s ∷ statementBytes st) log r)
+
+    delivers-backed : (log : List Bytes) (m : Member) → deliversBacked digest n dishonest log m ≡ true → HonestIn n dishonest (m .replica) →
+        (frame : Bytes) → List·Memᴰ frame (delivers digest m) → isBacked digest n dishonest log frame ≡ true
+    unfolding deliversBacked
+    delivers-backed log m t hm frame d =
+        every-in (isBacked digest n dishonest log) (delivers digest m) (implied _ _ t (is-honest n dishonest (m .replica) hm)) frame d
 
     forged-from : (P : List Member) (log : List Bytes) (l : List Member) → Logged P log →
         notForged digest n dishonest log l ≡ true →
         (before : List Member) (m : Member) (after : List Member) (frame : Bytes) (s : ℕ) (st : Statement) → l ≡ before ++ (m ∷ after) →
-        HonestIn n dishonest (m .replica) → HonestIn n dishonest s → List·Memᴰ frame (delivers digest m) → statementOf digest frame s ≡ some st → Wrote digest s st (P ++ before)
+        HonestIn n dishonest (m .replica) → HonestIn n dishonest s → List·Memᴰ frame (delivers digest m)
+        → statementOf digest frame s ≡ some st → Wrote digest s st (P ++ before)
     unfolding notForged
     forged-from P log [] h t before m after frame s st e hm hs d r = absurd (split-never m before after e)
     forged-from P log (x ∷ xs) h t [] m after frame s st e hm hs d r =
-        let x≡m = split-head e .0 in
-        let q = and-true (implies (isHonest n dishonest (x .replica)) (everyIn (isBacked digest n dishonest log) (delivers digest x))) _ t .0 in
-        let q′ : implies (isHonest n dishonest (m .replica)) (everyIn (isBacked digest n dishonest log) (delivers digest m)) ≡ true =
-        subst (λ (y : Member). implies (isHonest n dishonest (y .replica)) (everyIn (isBacked digest n dishonest log) (delivers digest y)) ≡ true) x≡m q in
-        let k = every-in (isBacked digest n dishonest log) (delivers digest m) (implied _ _ q′ (is-honest n dishonest (m .replica) hm)) frame d in
-        rw append-nil (backed-sound P log frame h k s st hs r)
+        let q = subst (λ (y : Member). deliversBacked digest n dishonest log y ≡ true) (split-head e .0) (and-true _ _ t .0) in
+        rw append-nil (backed-sound P log frame h (delivers-backed log m q hm frame d) s st hs r)
     forged-from P log (x ∷ xs) h t (y ∷ before) m after frame s st e hm hs d r =
-        let x≡y = split-head e .0 in
-        let q = and-true (implies (isHonest n dishonest (x .replica)) (everyIn (isBacked digest n dishonest log) (delivers digest x))) _ t .1 in
-        let w = forged-from (P ++ (x ∷ [])) (signedIn digest (x .replica) (writes digest x) ++ log) xs (logged-more P log x h) q before m after frame s st (split-head e .1) hm hs d r in
-        subst (λ (z : List Member). Wrote digest s st z) (append-snoc P x before ∙ ap (λ (z : Member). P ++ (z ∷ before)) x≡y) w
+        let rest = signedIn digest (x .replica) (writes digest x) ++ log in
+        let q = and-true (deliversBacked digest n dishonest log x) (notForged digest n dishonest rest xs) t .1 in
+        let w = forged-from (P ++ (x ∷ [])) rest xs (logged-more P log x h) q before m after frame s st (split-head e .1) hm hs d r in
+        subst (λ (z : List Member). Wrote digest s st z) (append-snoc P x before ∙ ap (λ (z : Member). P ++ (z ∷ before)) (split-head e .0)) w
 
     pub forged-sound : (l : List Member) → notForged digest n dishonest [] l ≡ true → NotForged digest (HonestIn n dishonest) l
     unfolding NotForged
@@ -226,10 +237,11 @@ module _ (digest : Bytes → Bytes) where
     -- ---- blocks
     shown-among : (blocks : List Bytes) (l : List Member) → showsOnly digest n dishonest blocks l ≡ true →
         (m : Member) (block : Bytes) → List·Memᴰ m l → HonestIn n dishonest (m .replica) → Shows digest m block → List·Memᴰ block blocks
-    unfolding showsOnly Shows isAmong
+    unfolding showsOnly shows Shows isAmong
     shown-among blocks l t m block i hm (frame, j, e) =
         let q = every-in _ l t m i in
-        let k = every-in (λ (f : Bytes). isAmong blocks (blockIn f)) (delivers digest m ++ writes digest m) (implied _ _ q (is-honest n dishonest (m .replica) hm)) frame j in
+        let k = every-in (λ (f : Bytes). isAmong blocks (blockIn f)) (delivers digest m ++ writes digest m)
+        (implied _ _ q (is-honest n dishonest (m .replica) hm)) frame j in
         holds-member block blocks (rw e at k)
 
     pub collision-sound : (blocks : List Bytes) (l : List Member) → showsOnly digest n dishonest blocks l ≡ true →
@@ -237,7 +249,8 @@ module _ (digest : Bytes → Bytes) where
     unfolding NoCollision noCollision
     collision-sound blocks l t u m m′ p p′ i i′ hm hm′ w w′ e =
         let q = every-in _ blocks u p (shown-among blocks l t m p i hm w) in
-        let r = every-in (λ (other : Bytes). implies (same (digest p) (digest other)) (same p other)) blocks q p′ (shown-among blocks l t m′ p′ i′ hm′ w′) in
+        let r = every-in (λ (other : Bytes). implies (same (digest p) (digest other)) (same p other)) blocks q p′
+        (shown-among blocks l t m′ p′ i′ hm′ w′) in
         same-eq p p′ (implied _ _ r (eq-same (digest p) (digest p′) e))
 
   -- ---- readings

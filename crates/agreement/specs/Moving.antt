@@ -111,7 +111,9 @@ module _ (digest : Bytes → Bytes) (U : ℕ → Statement → Type 0) (U′ : S
   -- a current height is backed under its own number
   backed-here : Backed digest U S c (at b c)
   unfolding at
-  backed-here = subst (λ (h : ℕ). Backed digest U S h (getD (b .heights) (c - 1) noHeight)) (let e : suc (c - 1) ≡ c = omega arith in e) (backed (c - 1))
+  backed-here =
+      subst (λ (h : ℕ). Backed digest U S h (getD (b .heights) (c - 1) noHeight)) (let e : suc (c - 1) ≡ c = omega arith in e)
+      (backed (c - 1))
 
   adds-none : Adds [] → (t : Statement) → U′ t → U s t ⊎ ((h : ℕ) × (p : Bytes) × (t ≡ proposes h p))
   adds-none a t w = go (a t w)
@@ -121,9 +123,9 @@ module _ (digest : Bytes → Bytes) (U : ℕ → Statement → Type 0) (U′ : S
       go (inl v) = inl v
       go (inr v) = absurd (List·Memᴰ·not-nil (v .1))
 
-  adds-one : {X : Statement → Type 0} (g : Bytes) → ((t : Statement) → statementOf digest g s ≡ some t → X t) → Adds (g ∷ []) →
+  adds-one : (X : Statement → Type 0) (g : Bytes) → ((t : Statement) → statementOf digest g s ≡ some t → X t) → Adds (g ∷ []) →
       (t : Statement) → U′ t → U s t ⊎ X t
-  adds-one {X} g says a t w = go (a t w)
+  adds-one X g says a t w = go (a t w)
     where
       go : U s t ⊎ ((f : Bytes) × List·Memᴰ f (g ∷ []) × (statementOf digest f s ≡ some t)) → U s t ⊎ X t
       go (inl v) = inl v
@@ -136,8 +138,8 @@ module _ (digest : Bytes → Bytes) (U : ℕ → Statement → Type 0) (U′ : S
   good-dummy : dummyVoteApplies b ≡ true → StepGood (dummyVoteStep b)
   unfolding dummyVoteApplies dummyVoteStep withHead flag
   good-dummy e a =
-      stated-dummy k (adds-one {X = λ (t : Statement). t ≡ votesDummy c} (dummyVote (b .own) c) (λ t r. dummyVote-says digest (b .own) c s t r) a)
-      (row _ 1 e) (λ r. flag-low (b .flags) 1 r) (λ r. flag-4-after-2 (b .flags) (not-true (flag 2 b) (row _ 2 e)) r)
+      let new = adds-one (λ (t : Statement). t ≡ votesDummy c) (dummyVote (b .own) c) (dummyVote-says digest (b .own) c s) a in
+      stated-dummy k new (row _ 1 e) (λ r. flag-low (b .flags) 1 r) (λ r. flag-4-after-2 (b .flags) (not-true (flag 2 b) (row _ 2 e)) r)
 
   good-output : StepGood (outputStep digest b)
   unfolding outputStep withHead flag
@@ -178,16 +180,18 @@ module _ (digest : Bytes → Bytes) (U : ℕ → Statement → Type 0) (U′ : S
   good-propose : StepGood (proposeStep digest b)
   unfolding proposeStep withHead flag
   good-propose a =
-      stated-nothing k (adds-one {X = λ (t : Statement). (h : ℕ) × (p : Bytes) × (t ≡ proposes h p)} _ (λ t r. proposal-says digest (b .own) c s t _ r) a)
-      (λ r. flag-low (b .flags) 4 r) (λ r. flag-4-after-8 (b .flags) r)
+      let X : Statement → Type 0 = λ (t : Statement). (h : ℕ) × (p : Bytes) × (t ≡ proposes h p) in
+      let new = adds-one X _ (λ t r. proposal-says digest (b .own) c s t _ r) a in
+      stated-nothing k new (λ r. flag-low (b .flags) 4 r) (λ r. flag-4-after-8 (b .flags) r)
 
   good-block : blockVoteApplies digest b ≡ true → StepGood (blockVoteStep digest b)
   unfolding blockVoteApplies blockVoteStep withHead flag
   good-block e a =
       let d : Bytes = digest (at b c .proposal) in
+      let vote : Bytes = blockVote (b .own) c d in
       let unset = not-true (flag 4 b) (row _ 1 e) in
-      stated-block k (frameDigest (blockVote (b .own) c d)) (adds-one {X = λ (t : Statement). t ≡ votesBlock c (frameDigest (blockVote (b .own) c d))} (blockVote (b .own) c d) (λ t r. blockVote-says digest (b .own) c s t d r) a)
-      unset (flag-4-after-4 (b .flags) unset) (λ r. flag-low (b .flags) 2 r)
+      let new = adds-one (λ (t : Statement). t ≡ votesBlock c (frameDigest vote)) vote (λ t r. blockVote-says digest (b .own) c s t d r) a in
+      stated-block k (frameDigest vote) new unset (flag-4-after-4 (b .flags) unset) (λ r. flag-low (b .flags) 2 r)
 
   pub step-good : StepGood (step digest b)
   unfolding step

@@ -52,7 +52,8 @@ module _ (digest : Bytes → Bytes) (n dishonest : ℕ) (P : List Member) (m : M
       Good digest n dishonest (P ++ (m ∷ [])) s (decode (submitCall digest book entry .book))
   unfolding submitCall submitRows stillPending withPending flag pending
   submit-good s book entry g silent =
-      unless-refused-good digest n dishonest P m s (firstRefusal (submitRows digest book entry)) book _ (unchanged digest n dishonest P m s b g (λ q. silent)) (λ r. encoded digest n dishonest (P ++ (m ∷ [])) s _ (added r))
+      unless-refused-good digest n dishonest P m s (firstRefusal (submitRows digest book entry)) book _
+      (unchanged digest n dishonest P m s b g (λ q. silent)) (λ r. encoded digest n dishonest (P ++ (m ∷ [])) s _ (added r))
     where
       b : State
       b = decode book
@@ -71,7 +72,9 @@ module _ (digest : Bytes → Bytes) (n dishonest : ℕ) (P : List Member) (m : M
           let r4 = row-passes _ _ (r3 .1) in
           let w = granted digest book (r1 .0) .pends in
           let ps = g .shaped .pool-size in
-          let full : Every (Sized 16) es = every-append still (entry ∷ []) (every-without (log b) (pending b) (every-pieces (b .pendingCount) (b .pool) (omega arith))) (one (eqb-true (length entry) 16 (r2 .0)) no-more) in
+          let full : Every (Sized 16) es = every-append still (entry ∷ [])
+          (every-without (log b) (pending b) (every-pieces (b .pendingCount) (b .pool) (omega arith)))
+          (one (eqb-true (length entry) 16 (r2 .0)) no-more) in
           let room = leb-true (suc (length still)) 32 (r4 .0) in
           quiet digest n dishonest P m s b (withPending b es) g (λ q. silent) refl refl (λ q. q) (λ q. q)
           (record { pool-size = pool-size es full (rw length-append (omega arith)); heights = g .shaped .heights })
@@ -150,6 +153,8 @@ module _ (digest : Bytes → Bytes) (n dishonest : ℕ) (P : List Member) (m : M
 
   pub opening-good : (s : ℕ) (book : Bytes) (heights : ℕ) (leaders : Bytes) → Honest digest n dishonest s →
       ((st : Statement) → Wrote digest s st P → ⊥) → writes digest m ≡ [] →
-      isAccepted (openCall book n s heights leaders .answer) ≡ true → Good digest n dishonest (P ++ (m ∷ [])) s (decode (openCall book n s heights leaders .book))
+      isAccepted (openCall book n s heights leaders .answer) ≡ true → Good digest n dishonest (P ++ (m ∷ [])) s
+      (decode (openCall book n s heights leaders .book))
   opening-good s book heights leaders hs none-before silent e =
-      rw (open-unrefused book n s heights leaders e) (encoded digest n dishonest (P ++ (m ∷ [])) s (newState n s leaders) (new-book-good s leaders hs none-before silent))
+      rw (open-unrefused book n s heights leaders e)
+      (encoded digest n dishonest (P ++ (m ∷ [])) s (newState n s leaders) (new-book-good s leaders hs none-before silent))

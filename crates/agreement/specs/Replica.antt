@@ -43,7 +43,8 @@ module _ (digest : Bytes → Bytes) (n dishonest : ℕ) (l : List Member)
         subst (λ (c : Call). Good digest n dishonest P′ s (decode (bookAfter digest (m .book) c))) (sym (x .2))
         (opening-good digest n dishonest P m s (m .book) (x .0) (x .1) hs g (rw (x .2)) (rw (x .2) at (x .3)))
     next-good (some book) x g =
-        subst (λ (z : Bytes). Good digest n dishonest P′ s (decode (bookAfter digest z (m .call)))) (sym (x .0)) (call-good book x (m .call) refl g)
+        subst (λ (z : Bytes). Good digest n dishonest P′ s (decode (bookAfter digest z (m .call)))) (sym (x .0))
+        (call-good book x (m .call) refl g)
 
   module _ (P after : List Member) (m : Member) (here : l ≡ P ++ (m ∷ after)) (s : ℕ) (hs : Honest digest n dishonest s) where
     other-good : (m .replica ≢ s) → (o : Option Bytes) → GoodBytes digest n dishonest P s o →
@@ -55,10 +56,12 @@ module _ (digest : Bytes → Bytes) (n dishonest : ℕ) (l : List Member)
         GoodBytes digest n dishonest (P ++ (m ∷ [])) s (lastLeft digest s (P ++ (m ∷ [])))
     unfolding leftBy orElse KeepsOneBook
     one-more g =
-        subst (λ (o : Option Bytes). GoodBytes digest n dishonest (P ++ (m ∷ [])) s o) (sym (last-left-snoc digest s P m)) (go (eqb (m .replica) s) refl)
+        subst (λ (o : Option Bytes). GoodBytes digest n dishonest (P ++ (m ∷ [])) s o) (sym (last-left-snoc digest s P m))
+        (go (eqb (m .replica) s) refl)
       where
         go : (b : Bool) → eqb (m .replica) s ≡ b →
-            GoodBytes digest n dishonest (P ++ (m ∷ [])) s (orElse (cond b (some (bookAfter digest (m .book) (m .call))) none) (lastLeft digest s P))
+            GoodBytes digest n dishonest (P ++ (m ∷ [])) s
+            (orElse (cond b (some (bookAfter digest (m .book) (m .call))) none) (lastLeft digest s P))
         go true e =
             let own = eqb-true (m .replica) s e in
             next-good P after m here s hs own (lastLeft digest s P) (keeps s hs P m after here own) g

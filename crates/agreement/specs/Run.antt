@@ -54,7 +54,8 @@ pub last-left-snoc : (digest : Bytes → Bytes) (s : ℕ) (P : List Member) (m :
     lastLeft digest s (P ++ (m ∷ [])) ≡ orElse (leftBy digest s m) (lastLeft digest s P)
 unfolding lastLeft orElse
 last-left-snoc digest s [] m = or-else-none (leftBy digest s m)
-last-left-snoc digest s (q ∷ P) m = rw (last-left-snoc digest s P m) (or-else-assoc (leftBy digest s m) (lastLeft digest s P) (leftBy digest s q))
+last-left-snoc digest s (q ∷ P) m =
+    rw (last-left-snoc digest s P m) (or-else-assoc (leftBy digest s m) (lastLeft digest s P) (leftBy digest s q))
 
 module _ (digest : Bytes → Bytes) where
   pub wrote-more : (s : ℕ) (st : Statement) (P Q : List Member) → Wrote digest s st P → Wrote digest s st (P ++ Q)
@@ -127,7 +128,8 @@ module _ (digest : Bytes → Bytes) where
         same-n = en ∙ g .same-n;
         shaped = sh;
         backed = k;
-        consistent = subst (λ (c : ℕ). Consistent (States P′ s) c (flag 1 b′) (flag 4 b′)) (sym ec) (stated-nothing (g .consistent) (λ st w. inl (λ h. nothing-new s e st (w h))) e1 e4);
+        consistent = subst (λ (c : ℕ). Consistent (States P′ s) c (flag 1 b′) (flag 4 b′)) (sym ec)
+            (stated-nothing (g .consistent) (λ st w. inl (λ h. nothing-new s e st (w h))) e1 e4);
       }
 
       pub unchanged : (s : ℕ) (b : State) → Good P s b → (m .replica ≡ s → writes digest m ≡ []) → Good P′ s b
@@ -137,7 +139,8 @@ module _ (digest : Bytes → Bytes) where
       module _ (s : ℕ) (book f : Bytes) (g : Good P s (decode book)) (silent : writes digest m ≡ []) (honest : Honest (m .replica))
           (delivered : List·Memᴰ f (delivers digest m))
           (said : (t : ℕ) (st : Statement) → statementOf digest f t ≡ some st → States P t st)
-          (passed : firstRefusal (deliverRows digest book f) ≡ none) (new : Height) (was-kept : keep digest (decode book) f ≡ some new) where
+          (passed : firstRefusal (deliverRows digest book f) ≡ none) (new : Height)
+          (was-kept : keep digest (decode book) f ≡ some new) where
         abbrev b : State
         b = decode book
 
@@ -155,7 +158,9 @@ module _ (digest : Bytes → Bytes) where
 
         backed-at : Backed digest (States P′) (Seen P′) h (at b h)
         unfolding at
-        backed-at = subst (λ (j : ℕ). Backed digest (States P′) (Seen P′) j (getD (b .heights) (h - 1) noHeight)) number (backed-more (g .backed (h - 1)))
+        backed-at =
+            subst (λ (j : ℕ). Backed digest (States P′) (Seen P′) j (getD (b .heights) (h - 1) noHeight)) number
+            (backed-more (g .backed (h - 1)))
 
         shaped-at : ShapedHeight (at b h)
         unfolding at
@@ -211,7 +216,8 @@ module _ (digest : Bytes → Bytes) where
 
       pub reopening-good : (s : ℕ) (book : Bytes) (n′ own heights : ℕ) (leaders : Bytes) → Good P s (decode book) →
           writes digest m ≡ [] →
-          isAccepted (openCall book n′ own heights leaders .answer) ≡ false → Good P′ s (decode (openCall book n′ own heights leaders .book))
+          isAccepted (openCall book n′ own heights leaders .answer) ≡ false → Good P′ s
+          (decode (openCall book n′ own heights leaders .book))
       unfolding openCall unlessRefused isAccepted
       reopening-good s book n′ own heights leaders g silent no-way = go (firstRefusal (openRows book n′ own heights leaders)) no-way
         where
@@ -227,7 +233,8 @@ module _ (digest : Bytes → Bytes) where
           Good P′ s (decode (signalCall digest book h .book))
       unfolding signalCall signalRows withTimerFired withHead flag
       signal-good s book h g silent =
-          unless-refused-good s (firstRefusal (signalRows digest book h)) book _ (unchanged s b g (λ q. silent)) (λ e. encoded P′ s _ (fired e))
+          unless-refused-good s (firstRefusal (signalRows digest book h)) book _ (unchanged s b g (λ q. silent))
+          (λ e. encoded P′ s _ (fired e))
         where
           b : State
           b = decode book
@@ -250,9 +257,11 @@ module _ (digest : Bytes → Bytes) where
           let body = step-body digest b in
           record {
             same-n = body .same-n ∙ g .same-n;
-            shaped = record { pool-size = rw (body .same-pool) (g .shaped .pool-size); heights = rw (body .same-heights) (g .shaped .heights) };
+            shaped = record
+                { pool-size = rw (body .same-pool) (g .shaped .pool-size); heights = rw (body .same-heights) (g .shaped .heights) };
             backed = λ i. rw (body .same-heights) (backed-more (g .backed i));
-            consistent = step-good digest (States P) (States P′ s) (Seen P) s b (g .backed) (g .consistent) (granted digest book ok .positive) (λ t w. go t (wrote-last s t P m (w hs)));
+            consistent = step-good digest (States P) (States P′ s) (Seen P) s b (g .backed) (g .consistent)
+                (granted digest book ok .positive) (λ t w. go t (wrote-last s t P m (w hs)));
           }
         where
           b : State

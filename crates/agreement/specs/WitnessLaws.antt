@@ -25,7 +25,7 @@ use Rattle.protocol.specs.Tests.{allOf, everyHeight, firstRefusal, implies, inR
 use Rattle.protocol.specs.TestsLaws.{and-true}
 use Rattle.protocol.specs.View.{chain, chainWithin, digestAt, dummyRun, extends, extendsOver, isDummy, isFinalized, largestFinalized, linked, linkedWithin, logAt, parentOf, quorum}
 use Rattle.agreement.specs.Granted.{row}
-use Rattle.agreement.specs.ListTests.{everyHonest, everyIn, follows, isAmong, isBacked, isHonest, keepsOneBook, noCollision, notForged, opensFor, readsPart, showsOnly, signed, signedIn, someIn, statementBytes}
+use Rattle.agreement.specs.ListTests.{deliversBacked, everyHonest, everyIn, follows, isAmong, isBacked, isHonest, keepsOneBook, noCollision, notForged, opensFor, readsPart, shows, showsOnly, signed, signedIn, someIn, statementBytes}
 use Rattle.agreement.specs.ListTestsLaws.{collision-sound, every-honest, forged-sound, holds-member, honest-in, keeps-sound, reads-sound, some-in}
 use Rattle.agreement.specs.Lists.{HonestIn, Member, Reads, blockIn, bookAfter, deliveredBy, delivers, isAccepted, leftBy, opensBook, orElse, proposes, statementOf, when, writes, writtenBy}
 use Rattle.agreement.specs.Witness.{HearsProposal, MemberOf, Witness, agreed, anything, build, dishonest, entry, hear, list, move, nextBlock, oneBlock, openings, otherBlock, readings, sample, split, timeouts}
@@ -57,7 +57,7 @@ tests l = allOf
     someIn (passes 1) l ∷ [])
 
 tested : tests list ≡ true
-unfolding tests list reads hears passes everyHonest isHonest keepsOneBook notForged showsOnly noCollision someIn everyIn signed signedIn isBacked statementBytes opensFor isAmong follows readsPart isAccepted orElse when blockIn statementOf opensBook deliveredBy writtenBy leftBy sample entry oneBlock otherBlock nextBlock move hear openings split timeouts agreed readings build anything bookAfter part zeros word16 le16 overFront all isZero same pieces join holds allOf implies inRange everyHeight firstRefusal inMask maskOf ones union belowBit newBlock blockHeight parentHeight entryCount parentDigest entries blockWellFormed allEntries proposal blockVote dummyVote finalize blockCertificate dummyCertificate finalizeCertificate frameOf kind signer frameHeight signerMask frameDigest frameBlock isStatement isCertificate carriesBlock carriesDigest frameWellFormed bookSize headBytes contentBytes bodyBytes encode decodeHeight decodeHeights decode last noHeight at holdsProposal isNotarized voteOf withHeight withHead flag pending quorum isDummy dummyRun digestAt extendsOver linkedWithin linked extends isFinalized largestFinalized parentOf chainWithin chain logAt view log masksBelow blocksWellFormed contentZeros sound unlessRefused newHeight newState openInRange openRows openCall withProposal withNotarized withMasks withVote votersFor keepDummyVote keepFinalize keepBlockCertificate keepDummyCertificate keepFinalizeCertificate readRows clashRows notarize keepProposal keepBlockVote keep kept deliverRows deliverCall firstStep without isSome someOr isRunning idleStep dummyVoteApplies dummyVoteStep unused written moved unlessMoveRefused newFinalized outputApplies outputStep parentBelow passApplies passCertificate passStep proposeApplies offered proposedBlock proposeStep blockVoteApplies blockVoteStep step moveRows moveCall withTimerFired signalRows signalCall withPending stillPending submitRows submitCall logSize readPart
+unfolding tests list reads hears passes everyHonest isHonest keepsOneBook deliversBacked notForged shows showsOnly noCollision someIn everyIn signed signedIn isBacked statementBytes opensFor isAmong follows readsPart isAccepted orElse when blockIn statementOf opensBook deliveredBy writtenBy leftBy sample entry oneBlock otherBlock nextBlock move hear openings split timeouts agreed readings build anything bookAfter part zeros word16 le16 overFront all isZero same pieces join holds allOf implies inRange everyHeight firstRefusal inMask maskOf ones union belowBit newBlock blockHeight parentHeight entryCount parentDigest entries blockWellFormed allEntries proposal blockVote dummyVote finalize blockCertificate dummyCertificate finalizeCertificate frameOf kind signer frameHeight signerMask frameDigest frameBlock isStatement isCertificate carriesBlock carriesDigest frameWellFormed bookSize headBytes contentBytes bodyBytes encode decodeHeight decodeHeights decode last noHeight at holdsProposal isNotarized voteOf withHeight withHead flag pending quorum isDummy dummyRun digestAt extendsOver linkedWithin linked extends isFinalized largestFinalized parentOf chainWithin chain logAt view log masksBelow blocksWellFormed contentZeros sound unlessRefused newHeight newState openInRange openRows openCall withProposal withNotarized withMasks withVote votersFor keepDummyVote keepFinalize keepBlockCertificate keepDummyCertificate keepFinalizeCertificate readRows clashRows notarize keepProposal keepBlockVote keep kept deliverRows deliverCall firstStep without isSome someOr isRunning idleStep dummyVoteApplies dummyVoteStep unused written moved unlessMoveRefused newFinalized outputApplies outputStep parentBelow passApplies passCertificate passStep proposeApplies offered proposedBlock proposeStep blockVoteApplies blockVoteStep step moveRows moveCall withTimerFired signalRows signalCall withPending stillPending submitRows submitCall logSize readPart
 tested = refl
 
 -- ---- from tests to facts
