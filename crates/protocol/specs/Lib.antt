@@ -22,3 +22,4 @@ pub mod QuorumLaws
 pub mod RowLaws
 pub mod BytesLaws
 pub mod CodecLaws
+pub mod SoundLaws
