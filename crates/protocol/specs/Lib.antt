@@ -23,3 +23,4 @@ pub mod RowLaws
 pub mod BytesLaws
 pub mod CodecLaws
 pub mod SoundLaws
+pub mod PlaceLaws
