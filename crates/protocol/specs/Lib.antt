@@ -25,3 +25,4 @@ pub mod CodecLaws
 pub mod SoundLaws
 pub mod PlaceLaws
 pub mod FieldLaws
+pub mod WriteLaws
