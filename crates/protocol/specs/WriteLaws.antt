@@ -47,6 +47,11 @@ unfolding encode headBytes withPool
 write-pool s size j new h =
     middle-put (headBytes s) (s .pool) (join (map contentBytes (s .heights)) ++ join (map bodyBytes (s .heights))) 64 (head-size s) j new (rw size h)
 
+pub write-whole-pool : (s : State) → length (s .pool) ≡ 512 → (new : Bytes) → length new ≡ 512 →
+    put (encode s) 64 new ≡ encode (withPool s (s .pendingCount) new)
+write-whole-pool s size new e =
+    write-pool s size 0 new (rw e (omega arith)) ∙ ap (λ (pool : Bytes). encode (withPool s (s .pendingCount) pool)) (put-all (s .pool) new (size ∙ sym e))
+
 -- ---- one field of a height
 unfoldable pub withStatus : Height → ℕ → Height
 withStatus x status = record {
