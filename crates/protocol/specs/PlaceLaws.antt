@@ -35,6 +35,10 @@ length-encode s shaped =
     let bodies = bodies-length (shaped .heights) in
     simp length-append (omega (arith, head-size s, shaped .pool-size))
 
+-- a height that is not 0 is the next after another
+pub suc-pred : (h : ℕ) → 1 ≤ h → suc (h - 1) ≡ h
+suc-pred h low = omega arith
+
 -- ---- a height put into a state
 module _ (s : State) (i : ℕ) where
   suc-minus : suc i - 1 ≡ i

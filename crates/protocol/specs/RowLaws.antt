@@ -142,6 +142,26 @@ unfolding all
 at-all test [] each = refl
 at-all test (x ∷ xs) each = true-and (test x) (all test xs) (each 0 (omega arith)) (at-all test xs (λ i l. each (suc i) (omega arith)))
 
+-- ---- zero bytes and unequal bytes, by a place
+pub is-zero-byte : (bytes : Bytes) (i : ℕ) → isZero bytes ≡ true → getD bytes i 0 ≡ 0
+unfolding isZero all
+is-zero-byte [] i e = refl
+is-zero-byte (x ∷ xs) zero e = eqb-true x 0 (and-true (eqb x 0) (all (λ y. eqb y 0) xs) e .0)
+is-zero-byte (x ∷ xs) (suc i) e = is-zero-byte xs i (and-true (eqb x 0) (all (λ y. eqb y 0) xs) e .1)
+
+pub bytes-are-zero : (bytes : Bytes) → ((i : ℕ) → i < length bytes → getD bytes i 0 ≡ 0) → isZero bytes ≡ true
+unfolding isZero
+bytes-are-zero bytes each = at-all (λ x. eqb x 0) bytes (λ i l. eq-eqb (getD bytes i 0) 0 (each i l))
+
+pub not-zero : (bytes : Bytes) (i : ℕ) → (getD bytes i 0 ≡ 0 → ⊥) → isZero bytes ≡ false
+not-zero bytes i f = not-passed (isZero bytes) (λ e. f (is-zero-byte bytes i e))
+
+pub not-same : (a b : Bytes) → (a ≡ b → ⊥) → same a b ≡ false
+not-same a b f = not-passed (same a b) (λ e. f (same-eq a b e))
+
+pub differ-at : (a b : Bytes) (i : ℕ) → (getD a i 0 ≡ getD b i 0 → ⊥) → same a b ≡ false
+differ-at a b i f = not-same a b (λ e. f (ap (λ (l : Bytes). getD l i 0) e))
+
 -- ---- every element of a list, by its place
 pub every-at : {A : Type 0} {P : A → Type 0} {l : List A} (i : ℕ) (d : A) → Every P l → i < length l → P (getD l i d)
 every-at i d Every.none h = absurd (omega arith)

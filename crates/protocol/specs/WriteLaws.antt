@@ -53,6 +53,19 @@ write-whole-pool s size new e =
     write-pool s size 0 new (rw e (omega arith)) ∙ ap (λ (pool : Bytes). encode (withPool s (s .pendingCount) pool)) (put-all (s .pool) new (size ∙ sym e))
 
 -- ---- one field of a height
+unfoldable pub withLeader : Height → ℕ → Height
+withLeader x leader = record {
+  leader = leader;
+  status = x .status;
+  certificateMask = x .certificateMask;
+  dummyMask = x .dummyMask;
+  finalizeMask = x .finalizeMask;
+  voterMask = x .voterMask;
+  proposal = x .proposal;
+  notarized = x .notarized;
+  voteDigests = x .voteDigests;
+}
+
 unfoldable pub withStatus : Height → ℕ → Height
 withStatus x status = record {
   leader = x .leader;
@@ -159,6 +172,11 @@ withVoteDigests x digests = record {
 
 -- ---- a height: its bytes in place of those of `x`
 module _ (s : State) (shaped : Shaped s) (i : ℕ) (inside : i < last s) (x : Height) where
+  pub write-leader : (v : ℕ) →
+      set (encode (withHeight s (suc i) x)) (576 + 16 * i) v ≡ encode (withHeight s (suc i) (withLeader x v))
+  unfolding withLeader contentBytes bodyBytes
+  write-leader v = rw add-zero at (content-set s shaped i inside x (withLeader x v) 0 v (omega arith) refl refl)
+
   pub write-status : (v : ℕ) →
       set (encode (withHeight s (suc i) x)) (576 + 16 * i + 1) v ≡ encode (withHeight s (suc i) (withStatus x v))
   unfolding withStatus contentBytes bodyBytes
