@@ -27,3 +27,4 @@ pub mod PlaceLaws
 pub mod FieldLaws
 pub mod WriteLaws
 pub mod ChangeLaws
+pub mod BookLaws
