@@ -28,3 +28,4 @@ pub mod FieldLaws
 pub mod WriteLaws
 pub mod ChangeLaws
 pub mod BookLaws
+pub mod NewStateLaws
