@@ -1,12 +1,12 @@
 -- What a write to the bytes of a whole book makes of the state that it says.
-use Prim.Native.Nat.{ℕ, zero, suc, _+_, _*_, _^_, _≤_, _<_}
-use mathlib.Core.Path.{_≡_, refl, sym, ap, _∙_}
+use Prim.Native.Nat.{ℕ, suc, _+_, _*_, _^_, _≤_, _<_}
+use mathlib.Core.Path.{_≡_}
 use lib.ListN.{length, set}
 use Rattle.protocol.specs.Bytes.{Bytes, byteAt, le16}
-use Rattle.protocol.specs.State.{State, Height, at, last, withHead, withHeight, encode, decode}
+use Rattle.protocol.specs.State.{at, last, withHead, withHeight, encode, decode}
 use Rattle.protocol.specs.Deliver.{withProposal, withNotarized, withMasks, withVote}
 use Rattle.protocol.specs.BytesLaws.{put}
-use Rattle.protocol.specs.StateLaws.{Shaped, ShapedHeight}
+use Rattle.protocol.specs.StateLaws.{ShapedHeight}
 use Rattle.protocol.specs.CodecLaws.{Exact, last-decode, decode-shaped}
 use Rattle.protocol.specs.PlaceLaws.{shaped-at}
 use Rattle.protocol.specs.WriteLaws.{withPool, write-flags, write-current, write-finalized, write-pending-count, write-pool, write-whole-pool}

@@ -1,10 +1,10 @@
 -- The changes that calls make to a state, as writes of its bytes, and that they keep its shape.
-use Prim.Native.Nat.{ℕ, zero, suc, _+_, _-_, _*_, _^_, _≤_, _<_}
+use Prim.Native.Nat.{ℕ, suc, _+_, _-_, _*_, _^_, _<_}
 use native.Mathlib.Omega.{arith}
-use mathlib.Core.Path.{_≡_, refl, sym, ap, _∙_}
+use mathlib.Core.Path.{_≡_, refl, ap, _∙_}
 use mathlib.Core.List.{List, _++_}
 use lib.ListN.{length, set}
-use Rattle.protocol.specs.Bytes.{Bytes, byteAt, le16, zeros, join}
+use Rattle.protocol.specs.Bytes.{Bytes, le16, zeros, join}
 use Rattle.protocol.specs.State.{State, Height, at, last, withHead, withHeight, encode, decode}
 use Rattle.protocol.specs.Deliver.{withProposal, withNotarized, withMasks, withVote}
 use Rattle.protocol.specs.Submit.{withPending}

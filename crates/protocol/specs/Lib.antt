@@ -23,9 +23,11 @@ pub mod RowLaws
 pub mod BytesLaws
 pub mod CodecLaws
 pub mod SoundLaws
+pub mod GrantedLaws
 pub mod PlaceLaws
 pub mod FieldLaws
 pub mod WriteLaws
 pub mod ChangeLaws
 pub mod BookLaws
 pub mod NewStateLaws
+pub mod FormedLaws

@@ -1,11 +1,11 @@
 -- The bytes of a new state: zero bytes with five bytes of the head set, and then a leader for each height.
-use Prim.Native.Nat.{ℕ, zero, suc, _+_, _-_, _*_, _≤_, _<_}
+use Prim.Native.Nat.{ℕ, zero, suc, _+_, _-_, _*_, _<_}
 use native.Mathlib.Omega.{arith}
 use native.Mathlib.Nat.{mul-zero}
 use mathlib.Core.Path.{_≡_, refl, sym, ap, _∙_}
 use mathlib.Core.List.{List, [], _∷_, _++_, map}
-use lib.ListN.{length, getD, set, length-map, length-replicate, replicate-append-replicate, List·getD-map}
-use Rattle.protocol.specs.Bytes.{Bytes, byteAt, le16, zeros, join}
+use lib.ListN.{length, getD, set, length-map, length-replicate, replicate-append-replicate}
+use Rattle.protocol.specs.Bytes.{Bytes, le16, zeros, join}
 use Rattle.protocol.specs.State.{State, Height, at, last, noHeight, withHeight, encode, headBytes, contentBytes, bodyBytes}
 use Rattle.protocol.specs.Open.{newHeight, newState}
 use Rattle.protocol.specs.EveryLaws.{Every, none, one}

@@ -1,15 +1,15 @@
 -- What writing a field's bytes makes of a state: one law for each field, over the state's bytes.
-use Prim.Native.Nat.{ℕ, zero, suc, _+_, _-_, _*_, _^_, _/_, _%_, _≤_, _<_}
+use Prim.Native.Nat.{ℕ, suc, _+_, _*_, _≤_, _<_}
 use native.Mathlib.Omega.{arith}
-use native.Mathlib.Nat.{add-zero, add-assoc}
+use native.Mathlib.Nat.{add-zero}
 use mathlib.Core.Path.{_≡_, refl, sym, ap, _∙_}
-use mathlib.Core.List.{List, [], _∷_, _++_, map, append-assoc}
-use lib.ListN.{length, take, drop, set}
-use Rattle.protocol.specs.Bytes.{Bytes, byteAt, le16, part, zeros, join}
-use Rattle.protocol.specs.State.{State, Height, at, last, withHead, withHeight, encode, decode, headBytes, contentBytes, bodyBytes}
+use mathlib.Core.List.{_++_, map}
+use lib.ListN.{length, set}
+use Rattle.protocol.specs.Bytes.{Bytes, le16, join}
+use Rattle.protocol.specs.State.{State, Height, at, last, withHead, withHeight, encode, headBytes, contentBytes, bodyBytes}
 use Rattle.protocol.specs.BytesLaws.{put, put-front, put-all, put-after, middle-put}
 use Rattle.protocol.specs.StateLaws.{Shaped, ShapedHeight}
-use Rattle.protocol.specs.PlaceLaws.{head-size, with-at, content-set, content-put, body-put}
+use Rattle.protocol.specs.PlaceLaws.{head-size, content-set, content-put, body-put}
 
 -- ---- the head: each byte by itself
 pub write-flags : (s : State) (v : ℕ) → set (encode s) 3 v ≡ encode (withHead s v (s .current) (s .finalized))
