@@ -16,7 +16,7 @@ use Rattle.protocol.specs.View.{View, quorum, extendsOver, linkedWithin,
 use Rattle.protocol.specs.Sound.{view, masksBelow, blocksWellFormed, contentZeros, sound}
 use Rattle.protocol.specs.EveryLaws.{none, one}
 use Rattle.protocol.specs.TestsLaws.{and-true, or-true, le-or-lt}
-use Rattle.protocol.specs.RowLaws.{row, all-of, true-and, every-height-at, every-height, implies-true, true-implies, in-range, range-in, zeros-is-zero}
+use Rattle.protocol.specs.RowLaws.{not-passed, row, all-of, true-and, every-height-at, every-height, implies-true, true-implies, in-range, range-in, zeros-is-zero}
 use Rattle.protocol.specs.StateLaws.{Shaped, decode-encode}
 use Rattle.protocol.specs.BytesLaws.{AreBytes, zero-part}
 use Rattle.protocol.specs.CodecLaws.{Exact, Clean, at-suc, last-decode, decode-shaped, clean-back}
@@ -67,6 +67,13 @@ module _ (digest : Bytes → Bytes) (s : State) where
       go : (eqb (suc i) 0 ≡ true) ⊎ ((isNotarized (at s (suc i)) && extendsOver digest (λ j. linkedWithin digest i (view s) j) (view s) (suc i) (at s (suc i) .notarized)) ≡ true) → suc i ≤ last s
       go (inl z) = let impossible : suc i ≡ 0 = eqb-true (suc i) 0 z in absurd (omega arith)
       go (inr z) = notarized-in s i (and-true _ _ z .0)
+
+  pub not-linked-past : (h : ℕ) → last s < h → linked digest (view s) h ≡ false
+  not-linked-past h past = not-passed (linked digest (view s) h) (λ e. let inside = linked-in h e in omega arith)
+
+  pub not-finalized-past : (h : ℕ) → last s < h → isFinalized digest (view s) h ≡ false
+  unfolding isFinalized
+  not-finalized-past h past = rw (not-linked-past h past)
 
   pub finalized-in : SoundState digest s → s .finalized ≤ last s
   unfolding isFinalized
