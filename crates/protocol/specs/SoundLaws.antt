@@ -203,6 +203,7 @@ module _ (digest : Bytes → Bytes) where
           zero-part book (576 + 16 * i + 10) 6 (omega arith) (rw place at (content-zero-row (suc i) (omega arith) (omega arith)));
     }
 
+    -- a mask's low byte above 255 would go over into its high byte
     pub encode-decode : AreBytes book → encode (decode book) ≡ book
     encode-decode small = clean-back book small sound-clean
 
