@@ -19,3 +19,4 @@ pub mod TestsLaws
 pub mod MaskLaws
 pub mod StateLaws
 pub mod QuorumLaws
+pub mod FlagLaws
