@@ -20,3 +20,6 @@ pub mod MaskLaws
 pub mod StateLaws
 pub mod QuorumLaws
 pub mod FlagLaws
+pub mod RowLaws
+pub mod BytesLaws
+pub mod CodecLaws
