@@ -30,7 +30,6 @@ above-four f h =
 halves : (a b k : ℕ) → a / k ≡ b / k → a / (k * 2) ≡ b / (k * 2)
 halves a b k e = sym (div-div-eq-div-mul a k 2) ∙ ap (λ (x : ℕ). x / 2) e ∙ div-div-eq-div-mul b k 2
 
-
 test-same : {x y : ℕ} → x ≡ y → eqb x 1 ≡ eqb y 1
 test-same e = ap (λ (x : ℕ). eqb x 1) e
 
