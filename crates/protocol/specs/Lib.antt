@@ -19,3 +19,5 @@ pub mod TestsLaws
 pub mod MaskLaws
 pub mod StateLaws
 pub mod QuorumLaws
+pub mod Linked
+pub mod LinkedLaws
