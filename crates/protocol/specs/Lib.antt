@@ -21,3 +21,4 @@ pub mod StateLaws
 pub mod QuorumLaws
 pub mod Linked
 pub mod LinkedLaws
+pub mod ChainLaws

@@ -15,16 +15,16 @@ use Rattle.protocol.specs.Linked.{OnParent, Linked, start, link, Extends
 use Rattle.protocol.specs.TestsLaws.{eqb-self, and-true, le-or-lt}
 
 -- ---- equal byte strings
-pub same-sound : (a b : Bytes) → same a b ≡ true → a ≡ b
+same-eq : (a b : Bytes) → same a b ≡ true → a ≡ b
 unfolding same
-same-sound [] [] e = refl
-same-sound [] (y ∷ ys) e = absurd (false≢true e)
-same-sound (x ∷ xs) [] e = absurd (false≢true e)
-same-sound (x ∷ xs) (y ∷ ys) e =
+same-eq [] [] e = refl
+same-eq [] (y ∷ ys) e = absurd (false≢true e)
+same-eq (x ∷ xs) [] e = absurd (false≢true e)
+same-eq (x ∷ xs) (y ∷ ys) e =
     let both = and-true (eqb x y) (same xs ys) e in
-    ap₂ _∷_ (eqb-true x y (both .0)) (same-sound xs ys (both .1))
+    ap₂ _∷_ (eqb-true x y (both .0)) (same-eq xs ys (both .1))
 
-pub same-self : (a : Bytes) → same a a ≡ true
+same-self : (a : Bytes) → same a a ≡ true
 unfolding same
 same-self [] = refl
 same-self (x ∷ xs) = rw (eqb-self x, same-self xs)
@@ -98,7 +98,7 @@ module _ (digest : Bytes → Bytes) where
       record {
         height = refl;
         below = below;
-        names = same-sound _ _ named;
+        names = same-eq _ _ named;
         dummies = λ k low high. run-sound v (parentHeight block) (h - 1 - parentHeight block) run k low (omega arith);
       }
 
