@@ -22,3 +22,4 @@ pub mod QuorumLaws
 pub mod Linked
 pub mod LinkedLaws
 pub mod ChainLaws
+pub mod ParentLaws
