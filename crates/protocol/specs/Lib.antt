@@ -23,3 +23,7 @@ pub mod FlagLaws
 pub mod RowLaws
 pub mod BytesLaws
 pub mod CodecLaws
+pub mod Linked
+pub mod LinkedLaws
+pub mod ChainLaws
+pub mod ParentLaws
