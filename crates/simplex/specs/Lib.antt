@@ -1,3 +1,5 @@
 pub mod Paper
 pub mod Idle
 pub mod IdleLaws
+pub mod Blockchains
+pub mod BlockchainsLaws

@@ -34,6 +34,21 @@ lastBlock genesis = 0
 lastBlock (addDummy c) = lastBlock c
 lastBlock (addBlock c b) = suc (height c)
 
+module _ (v : View) where
+  -- a notarization of block `b` of height `h` has been seen: votes of two thirds of the processes
+  pub record NotarizedBlock (h : ℕ) (b : Bytes) : Type 0 where
+    pub seen : v .hasBlock h ≡ true
+    pub same : v .block h ≡ b
+    pub votes : quorum v (v .certificateMask h) ≡ true
+
+  -- a notarization of the dummy block of height `h` has been seen
+  abbrev pub NotarizedDummy : ℕ → Type 0
+  NotarizedDummy h = quorum v (v .dummyMask h) ≡ true
+
+  -- a finalization for height `h` has been seen: finalize messages of two thirds of the processes
+  abbrev pub Finalization : ℕ → Type 0
+  Finalization h = quorum v (v .finalizeMask h) ≡ true
+
 module _ (digest : Bytes → Bytes) where
   -- the digest of the last block that is no dummy, and zeros where all are: with `lastBlock` it stands for H(b₀, .., bₕ)
   unfoldable pub lastDigest : Sequence → Bytes
@@ -54,30 +69,16 @@ module _ (digest : Bytes → Bytes) where
     blockNext : {c : Sequence} {b : Bytes} → Blockchain c → Follows c b → Blockchain (addBlock c b)
 
   module _ (v : View) where
-    -- a notarization of block `b` of height `h` has been seen: votes of two thirds of the processes
-    pub record NotarizedBlock (h : ℕ) (b : Bytes) : Type 0 where
-      pub seen : v .hasBlock h ≡ true
-      pub same : v .block h ≡ b
-      pub votes : quorum v (v .certificateMask h) ≡ true
-
-    -- a notarization of the dummy block of height `h` has been seen
-    abbrev pub NotarizedDummy : ℕ → Type 0
-    NotarizedDummy h = quorum v (v .dummyMask h) ≡ true
-
     -- a notarized blockchain: a blockchain with a notarization for each block after the genesis block
     pub data NotarizedBlockchain : Sequence → Type 0 where
       start : NotarizedBlockchain genesis
-      dummyNext : {c : Sequence} → NotarizedBlockchain c → NotarizedDummy (suc (height c)) → NotarizedBlockchain (addDummy c)
-      blockNext : {c : Sequence} {b : Bytes} → NotarizedBlockchain c → Follows c b → NotarizedBlock (suc (height c)) b → NotarizedBlockchain (addBlock c b)
-
-    -- a finalization for height `h` has been seen: finalize messages of two thirds of the processes
-    abbrev pub Finalization : ℕ → Type 0
-    Finalization h = quorum v (v .finalizeMask h) ≡ true
+      dummyNext : {c : Sequence} → NotarizedBlockchain c → NotarizedDummy v (suc (height c)) → NotarizedBlockchain (addDummy c)
+      blockNext : {c : Sequence} {b : Bytes} → NotarizedBlockchain c → Follows c b → NotarizedBlock v (suc (height c)) b → NotarizedBlockchain (addBlock c b)
 
     -- a finalized blockchain: the genesis block, or a notarized blockchain with a finalization for its last block
     pub data FinalizedBlockchain : Sequence → Type 0 where
       start : FinalizedBlockchain genesis
-      ended : {c : Sequence} → NotarizedBlockchain c → Finalization (height c) → FinalizedBlockchain c
+      ended : {c : Sequence} → NotarizedBlockchain c → Finalization v (height c) → FinalizedBlockchain c
 
     -- some notarized blockchain has height `h`
     pub record SeenOfHeight (h : ℕ) : Type 0 where
