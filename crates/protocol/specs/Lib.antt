@@ -28,3 +28,5 @@ pub mod LinkedLaws
 pub mod ChainLaws
 pub mod ParentLaws
 pub mod SoundLaws
+pub mod PlaceLaws
+pub mod FieldLaws
