@@ -23,3 +23,5 @@ pub mod Linked
 pub mod LinkedLaws
 pub mod ChainLaws
 pub mod ParentLaws
+pub mod OnesLaws
+pub mod UnionLaws
