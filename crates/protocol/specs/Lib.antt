@@ -30,3 +30,4 @@ pub mod BytesLaws
 pub mod CodecLaws
 pub mod SoundLaws
 pub mod PlaceLaws
+pub mod LogLaws
