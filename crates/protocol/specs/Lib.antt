@@ -32,9 +32,4 @@ pub mod PlaceLaws
 pub mod FieldLaws
 pub mod OnesLaws
 pub mod UnionLaws
-pub mod RowLaws
-pub mod BytesLaws
-pub mod CodecLaws
-pub mod SoundLaws
-pub mod PlaceLaws
 pub mod LogLaws

@@ -3,3 +3,4 @@ pub mod Idle
 pub mod IdleLaws
 pub mod Blockchains
 pub mod BlockchainsLaws
+pub mod Steps
