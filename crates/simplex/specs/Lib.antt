@@ -4,3 +4,4 @@ pub mod IdleLaws
 pub mod Blockchains
 pub mod BlockchainsLaws
 pub mod Steps
+pub mod StepsLaws
