@@ -35,7 +35,7 @@ allEntries-one : (x : Bytes) → allEntries (x ∷ []) ≡ entries x
 unfolding allEntries
 allEntries-one x = append-nil (entries x)
 
-pieces-sized : (size count : ℕ) (bytes : Bytes) → size * count ≤ length bytes → Every (Sized size) (pieces size count bytes)
+pub pieces-sized : (size count : ℕ) (bytes : Bytes) → size * count ≤ length bytes → Every (Sized size) (pieces size count bytes)
 unfolding pieces
 pieces-sized size zero bytes h = none
 pieces-sized size (suc count) bytes h =

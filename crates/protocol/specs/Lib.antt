@@ -33,3 +33,5 @@ pub mod FieldLaws
 pub mod OnesLaws
 pub mod UnionLaws
 pub mod LogLaws
+pub mod BlockLaws
+pub mod PendingLaws

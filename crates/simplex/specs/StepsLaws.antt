@@ -6,26 +6,31 @@ use mathlib.Core.Logic.{_⊎_, inl, inr, _↔_}
 use mathlib.Core.Bool.{Bool, true, false, _&&_, _||_, not, cond, true≢false, false≢true}
 use mathlib.Core.List.{List, [], _∷_}
 use mathlib.Core.Option.{Option, some, none}
+use lib.ListN.{length, take}
 use lib.Dec.{eqb, leb, ltb}
 use borrow.Author.Tests.{eqb-true, eq-eqb, leb-true, le-leb, ltb-true, lt-ltb, not-true, not-false}
-use Rattle.protocol.specs.Bytes.{Bytes}
-use Rattle.protocol.specs.Block.{blockHeight, blockWellFormed}
+use Rattle.protocol.specs.Bytes.{Bytes, isZero}
+use Rattle.protocol.specs.Block.{blockHeight, parentHeight, newBlock, blockWellFormed}
 use Rattle.protocol.specs.Frame.{finalize}
 use Rattle.protocol.specs.TestsLaws.{and-true, or-true}
-use Rattle.protocol.specs.RowLaws.{row, all-of, true-and}
+use Rattle.protocol.specs.RowLaws.{row, all-of, true-and, zeros-is-zero}
+use Rattle.protocol.specs.StateLaws.{Sized}
+use Rattle.protocol.specs.BlockLaws.{zeros-size, digest-back, entries-back, new-block-good}
+use Rattle.protocol.specs.PendingLaws.{offered-sized, offered-few}
 use Rattle.protocol.specs.EveryLaws.{Every}
-use Rattle.protocol.specs.State.{State, at, last, flag, withHead, holdsProposal}
-use Rattle.protocol.specs.View.{quorum, linked, isDummy, extends, isFinalized, largestFinalized, parentOf}
+use Rattle.protocol.specs.State.{State, at, last, flag, withHead, holdsProposal, pending}
+use Rattle.protocol.specs.View.{quorum, logAt, digestAt, linked, isDummy, extends, isFinalized, largestFinalized, parentOf}
 use Rattle.protocol.specs.Linked.{Finalized, Largest}
 use Rattle.protocol.specs.LinkedLaws.{finalized-sound, finalized-complete}
-use Rattle.protocol.specs.ParentLaws.{largestFinalized-is}
+use Rattle.protocol.specs.ParentLaws.{parent-some, largestFinalized-is}
 use Rattle.protocol.specs.Sound.{view}
 use Rattle.protocol.specs.SoundLaws.{SoundState}
 use Rattle.protocol.specs.Answer.{Move, idle, voteDummy, output, pass, propose, voteBlock, Certificate, onBlock, onDummy}
-use Rattle.protocol.specs.Move.{Step, step, firstStep, isRunning, isSome, idleStep, dummyVoteApplies, dummyVoteStep, outputApplies, outputStep, passApplies, passStep, proposeApplies, proposeStep, blockVoteApplies, blockVoteStep, newFinalized, parentBelow, passCertificate}
-use Rattle.simplex.specs.Paper.{Sequence, genesis, addDummy, addBlock, height, NotarizedBlockchain, SeenOfHeight, SeenWithBlock, Finalization}
-use Rattle.simplex.specs.Blockchains.{ParentOf, InThePapersTerms, LinkedIsSeen, ParentIsSeen, FinalizedIsSeen, ExtendsIsFollowing}
-use Rattle.simplex.specs.Steps.{Running, Makes, DummyBlocks, Sent, NextIteration, NotarizingProposals, FinalizedOutputs}
+use Rattle.protocol.specs.Move.{Step, step, firstStep, without, offered, proposedBlock, someOr, isRunning, isSome, idleStep, dummyVoteApplies, dummyVoteStep, outputApplies, outputStep, passApplies, passStep, proposeApplies, proposeStep, blockVoteApplies, blockVoteStep, newFinalized, parentBelow, passCertificate}
+use Rattle.simplex.specs.Paper.{lastBlock, linearize, Sequence, genesis, addDummy, addBlock, height, NotarizedBlockchain, SeenOfHeight, SeenWithBlock, Finalization}
+use Rattle.simplex.specs.Blockchains.{ChainEndingAt, ParentOf, InThePapersTerms, LinkedIsSeen, ParentIsSeen, ParentIsLargest, FinalizedIsSeen, ExtendsIsFollowing}
+use Rattle.simplex.specs.BlockchainsLaws.{in-the-papers-terms}
+use Rattle.simplex.specs.Steps.{FiveSteps, Running, Makes, Offers, LeaderProposal, DummyBlocks, Sent, NextIteration, NotarizingProposals, FinalizedOutputs}
 
 module _ (digest : Bytes → Bytes) (s : State) where
   -- which row was taken
@@ -339,3 +344,115 @@ module _ (digest : Bytes → Bytes) (s : State) where
     notarizing-proposals e1 e2 e3 e4 =
         (((λ e. block-when (took-block e .0)), λ q. block-move (step-block e1 e2 e3 e4 (block-applies q))),
         λ e. let q = took-block e .1 in record { answers = e; writes = ap (λ (st : Step). st .frames) q; leaves = ap (λ (st : Step). st .after) q })
+
+    -- ---- step 1
+    abbrev MayPropose : Type 0
+    MayPropose = Running digest s × (at s (s .current) .leader ≡ s .own) × (flag 8 s ≡ false) × SeenOfHeight digest (view s) (s .current - 1)
+
+    propose-when : proposeApplies digest s ≡ true → MayPropose
+    unfolding proposeApplies parentBelow
+    propose-when e = (running (row _ 0 e), eqb-true _ _ (row _ 1 e), not-true (flag 8 s) (row _ 2 e), parent-seen (s .current - 1) .0 (row _ 3 e))
+
+    propose-applies : MayPropose → proposeApplies digest s ≡ true
+    unfolding proposeApplies parentBelow
+    propose-applies (r, l, f, q) =
+        all-of (Every.one (is-running r) (Every.one (eq-eqb _ _ l) (Every.one (rw f) (Every.one (parent-seen (s .current - 1) .1 q) Every.none))))
+
+    took-propose : step digest s .move ≡ propose (s .current) → (proposeApplies digest s ≡ true) × (step digest s ≡ proposeStep digest s)
+    took-propose e = go taken
+      where
+        go : Taken → (proposeApplies digest s ≡ true) × (step digest s ≡ proposeStep digest s)
+        go (by-dummy-vote a q) = clash (λ z. cc) (dummy-move q) e
+        go (by-output a b q) = clash (λ z. cc) (output-move q) e
+        go (by-pass a b c q) = clash (λ z. cc) (pass-move q) e
+        go (by-proposal a b c d q) = (d, q)
+        go (by-block-vote a b c d f q) = clash (λ z. cc) (block-move q) e
+        go (by-none q) = clash (λ z. cc) (idle-move q) e
+
+    step-propose : dummyVoteApplies s ≡ false → outputApplies digest s ≡ false → passApplies digest s ≡ false → proposeApplies digest s ≡ true → step digest s ≡ proposeStep digest s
+    unfolding step firstStep
+    step-propose e1 e2 e3 e4 = rw (e1, e2, e3, e4)
+
+    module _ (digest-size : (block : Bytes) → length (digest block) ≡ 32) where
+      -- the digest of a linked height has 32 bytes, and that of height 0 is zero
+      parent-digest-size : (j : ℕ) → length (digestAt digest (view s) j) ≡ 32
+      unfolding digestAt
+      parent-digest-size zero = zeros-size 32
+      parent-digest-size (suc j) = digest-size (view s .block (suc j))
+
+      zero-parent : (j : ℕ) → j ≡ 0 → isZero (digestAt digest (view s) j) ≡ true
+      unfolding digestAt
+      zero-parent zero e = zeros-is-zero 32
+      zero-parent (suc j) e = absurd (omega arith)
+
+      -- the block on the chain with the largest last block
+      offers : (j : ℕ) → parentBelow digest s ≡ some j → Offers digest s (proposedBlock digest s j)
+      unfolding parentBelow ParentIsLargest proposedBlock
+      offers j e = record {
+        parent = chain .sequence;
+        notarized = chain .notarized;
+        its-height = ap suc (chain .its-height) ∙ before;
+        longest = λ c n h. subst (λ (k : ℕ). lastBlock c ≤ k) (sym (chain .its-last)) (both .1 c n (h ∙ chain .its-height));
+        follows = record {
+          its-height = unfold blockHeight newBlock in sym before ∙ ap suc (sym (chain .its-height));
+          its-parent = unfold parentHeight newBlock in sym (chain .its-last);
+          its-digest = digest-back c j d es below (parent-digest-size j) (zero-parent j) few sized ∙ sym (chain .its-digest);
+        };
+        its-entries = entries-back c j d es below (parent-digest-size j) (zero-parent j) few sized ∙ chosen;
+        formed = new-block-good c j d es below (parent-digest-size j) (zero-parent j) few sized;
+      }
+        where
+          both : ChainEndingAt digest (view s) (s .current - 1) j × ((c : Sequence) → NotarizedBlockchain digest (view s) c → height c ≡ s .current - 1 → lastBlock c ≤ j)
+          both = terms .parent-largest (s .current - 1) j e
+
+          chain : ChainEndingAt digest (view s) (s .current - 1) j
+          chain = both .0
+
+          c : ℕ
+          c = s .current
+
+          d : Bytes
+          d = digestAt digest (view s) j
+
+          es : List Bytes
+          es = offered digest s j
+
+          few : length es ≤ 8
+          few = offered-few digest s j
+
+          sized : Every (Sized 16) es
+          sized = offered-sized digest s sound j
+
+          below : j < c
+          below = let low = sound .current-low in let within = parent-some digest (view s) (s .current - 1) j e .0 .within in omega arith
+
+          chosen : offered digest s j ≡ take 8 (without (linearize (chain .sequence)) (pending s))
+          chosen = unfold offered in ap (λ (l : List Bytes). take 8 (without l (pending s))) (sym (chain .its-log))
+
+      proposed : proposeApplies digest s ≡ true → Offers digest s (proposedBlock digest s (someOr 0 (parentBelow digest s)))
+      unfolding proposeApplies someOr
+      proposed e = go (parentBelow digest s) refl (row _ 3 e)
+        where
+          go : (o : Option ℕ) → parentBelow digest s ≡ o → isSome o ≡ true → Offers digest s (proposedBlock digest s (someOr 0 o))
+          go none q z = absurd (false≢true (unfold isSome in z))
+          go (some j) q z = offers j q
+
+      pub leader-proposal : LeaderProposal digest s
+      unfolding LeaderProposal proposeStep
+      leader-proposal e1 e2 e3 =
+          (((λ e. propose-when (took-propose e .0)), λ q. propose-move (step-propose e1 e2 e3 (propose-applies q))),
+          λ e. let q = took-propose e in
+          (proposedBlock digest s (someOr 0 (parentBelow digest s)), proposed (q .0),
+          record { answers = e; writes = ap (λ (st : Step). st .frames) (q .1); leaves = ap (λ (st : Step). st .after) (q .1) }))
+
+-- the five steps, for every sound state and every digest of 32 bytes
+pub five-steps : (digest : Bytes → Bytes) → ((block : Bytes) → length (digest block) ≡ 32) → (s : State) → SoundState digest s → FiveSteps digest s
+five-steps digest size s sound =
+    let terms = in-the-papers-terms digest s sound in
+    record {
+      leader-proposal = leader-proposal digest s sound terms size;
+      dummy-blocks = dummy-blocks digest s;
+      notarizing-proposals = notarizing-proposals digest s sound terms;
+      next-iteration = next-iteration digest s sound terms;
+      finalized-outputs = finalized-outputs digest s sound terms;
+    }
