@@ -28,6 +28,7 @@ pub mod LinkedLaws
 pub mod ChainLaws
 pub mod ParentLaws
 pub mod SoundLaws
+pub mod GrantedLaws
 pub mod PlaceLaws
 pub mod FieldLaws
 pub mod OnesLaws
@@ -35,3 +36,8 @@ pub mod UnionLaws
 pub mod LogLaws
 pub mod BlockLaws
 pub mod PendingLaws
+pub mod WriteLaws
+pub mod ChangeLaws
+pub mod BookLaws
+pub mod NewStateLaws
+pub mod FormedLaws
