@@ -1,0 +1,150 @@
+-- When the frame of each kind is read over a state, and that it says what it was made of.
+use Prim.Native.Nat.{ℕ, _≤_, _<_}
+use mathlib.Core.Path.{_≡_, refl, sym, ap, _∙_}
+use mathlib.Core.Bool.{Bool, true, false, _||_, cond}
+use mathlib.Core.List.{List, [], _∷_}
+use mathlib.Core.Option.{none}
+use lib.ListN.{length}
+use lib.Dec.{eqb, leb, ltb}
+use borrow.Author.Tests.{eq-eqb, lt-ltb, le-leb, eqb-true}
+use Rattle.protocol.specs.Bytes.{Bytes, zeros, isZero, all}
+use Rattle.protocol.specs.Tests.{allOf, implies, inRange, Row, firstRefusal}
+use Rattle.protocol.specs.Mask.{belowBit}
+use Rattle.protocol.specs.Block.{blockSize, digestSize, blockWellFormed}
+use Rattle.protocol.specs.Frame.{kind, signer, frameHeight, signerMask, isStatement, isCertificate, carriesBlock, carriesDigest, frameOf, proposal, blockVote, dummyVote, finalize, blockCertificate, dummyCertificate, finalizeCertificate}
+use Rattle.protocol.specs.State.{State, at, last}
+use Rattle.protocol.specs.View.{quorum}
+use Rattle.protocol.specs.Sound.{view}
+use Rattle.protocol.specs.Deliver.{readRows}
+use Rattle.protocol.specs.EveryLaws.{Every, one}
+use Rattle.protocol.specs.TestsLaws.{and-true}
+use Rattle.conduct.specs.Fields.{Fields, fields, IsRead, proposalFields, blockVoteFields, dummyVoteFields, finalizeFields, blockCertificateFields, dummyCertificateFields, finalizeCertificateFields}
+use Rattle.conduct.specs.FrameLaws.{zeros-size, and-both, Fitting, fields-back, frame-size, well-formed, mask-back}
+
+-- rows that all pass refuse nothing
+pass-rows : {rows : List Row} → Every (λ (r : Row). r .1 ≡ true) rows → firstRefusal rows ≡ none
+unfolding firstRefusal
+pass-rows Every.none = refl
+pass-rows (one p ps) = rw p (pass-rows ps)
+
+zeros-zero : isZero (zeros 176) ≡ true
+unfolding isZero all zeros
+zeros-zero = refl
+
+digest-zero : isZero (zeros 32) ≡ true
+unfolding isZero all zeros
+digest-zero = refl
+
+-- a frame of 224 bytes that is read over a state and says this
+pub record Written (s : State) (said : Fields) (frame : Bytes) : Type 0 where
+  pub size : length frame ≡ 224
+  pub read : IsRead s frame
+  pub says : fields frame ≡ said
+
+module _ (t : State) (k s h mask : ℕ) (digest block : Bytes) (digest-size : length digest ≡ 32) where
+  read-over : Fitting k s h mask digest block digest-size → (1 ≤ h) → (h ≤ last t) →
+      cond (isStatement k) (ltb s (t .n)) (belowBit (t .n) mask) ≡ true →
+      implies (eqb k 1) (eqb s (at t h .leader)) ≡ true →
+      (isStatement k || quorum (view t) mask) ≡ true →
+      Written t (record { kind = k; signer = s; height = h; mask = mask; digest = digest; block = block }) (frameOf k s h mask digest block)
+  read-over fits low high signer-row leader-row quorum-row = record {
+    size = frame-size k s h mask digest block digest-size (fits .block-size);
+    read = passes;
+    says = fields-back k s h mask digest block digest-size;
+  }
+    where
+      passes : IsRead t (frameOf k s h mask digest block)
+      passes = unfold readRows kind signer frameHeight frameOf inRange in
+          pass-rows
+          (one (well-formed k s h mask digest block digest-size fits)
+          (one (and-both (le-leb 1 h low) (le-leb h (last t) high))
+          (one (ap (λ (m : ℕ). cond (isStatement k) (ltb s (t .n)) (belowBit (t .n) m)) (mask-back k s h mask digest block digest-size) ∙ signer-row)
+          (one leader-row
+          (one (ap (λ (m : ℕ). isStatement k || quorum (view t) m) (mask-back k s h mask digest block digest-size) ∙ quorum-row)
+          Every.none)))))
+
+block-size-of : (h : ℕ) (block : Bytes) → blockWellFormed h block ≡ true → length block ≡ 176
+unfolding blockWellFormed allOf
+block-size-of h block e = eqb-true (length block) 176 (and-true (eqb (length block) 176) _ e .0)
+
+-- ---- the fields of each kind
+pub proposal-fields : (s h : ℕ) (block : Bytes) → fields (proposal s h block) ≡ proposalFields s h block
+unfolding proposal proposalFields
+proposal-fields s h block = fields-back 1 s h 0 (zeros 32) block (zeros-size 32)
+
+pub block-vote-fields : (s h : ℕ) (digest : Bytes) → length digest ≡ 32 → fields (blockVote s h digest) ≡ blockVoteFields s h digest
+unfolding blockVote blockVoteFields
+block-vote-fields s h digest e = fields-back 2 s h 0 digest (zeros 176) e
+
+pub dummy-vote-fields : (s h : ℕ) → fields (dummyVote s h) ≡ dummyVoteFields s h
+unfolding dummyVote dummyVoteFields
+dummy-vote-fields s h = fields-back 3 s h 0 (zeros 32) (zeros 176) (zeros-size 32)
+
+pub finalize-fields : (s h : ℕ) → fields (finalize s h) ≡ finalizeFields s h
+unfolding finalize finalizeFields
+finalize-fields s h = fields-back 4 s h 0 (zeros 32) (zeros 176) (zeros-size 32)
+
+pub block-certificate-fields : (h mask : ℕ) (block : Bytes) → fields (blockCertificate h mask block) ≡ blockCertificateFields h mask block
+unfolding blockCertificate blockCertificateFields
+block-certificate-fields h mask block = fields-back 5 0 h mask (zeros 32) block (zeros-size 32)
+
+pub dummy-certificate-fields : (h mask : ℕ) → fields (dummyCertificate h mask) ≡ dummyCertificateFields h mask
+unfolding dummyCertificate dummyCertificateFields
+dummy-certificate-fields h mask = fields-back 6 0 h mask (zeros 32) (zeros 176) (zeros-size 32)
+
+pub finalize-certificate-fields : (h mask : ℕ) → fields (finalizeCertificate h mask) ≡ finalizeCertificateFields h mask
+unfolding finalizeCertificate finalizeCertificateFields
+finalize-certificate-fields h mask = fields-back 7 0 h mask (zeros 32) (zeros 176) (zeros-size 32)
+
+-- ---- each kind over a state that has its height
+module _ (t : State) (h : ℕ) (low : 1 ≤ h) (high : h ≤ last t) where
+  module _ (s : ℕ) (small : s < t .n) where
+    pub proposal-read : (block : Bytes) → blockWellFormed h block ≡ true → s ≡ at t h .leader → Written t (proposalFields s h block) (proposal s h block)
+    unfolding proposal proposalFields isStatement isCertificate carriesBlock carriesDigest inRange implies
+    proposal-read block good leads =
+        read-over t 1 s h 0 (zeros 32) block (zeros-size 32)
+        (record { block-size = block-size-of h block good; a-kind = refl; a-signer = refl; a-mask = refl; a-digest = digest-zero; a-block = refl; good-block = good })
+        low high (lt-ltb s (t .n) small) (eq-eqb s (at t h .leader) leads) refl
+
+    pub block-vote-read : (digest : Bytes) → length digest ≡ 32 → Written t (blockVoteFields s h digest) (blockVote s h digest)
+    unfolding blockVote blockVoteFields isStatement isCertificate carriesBlock carriesDigest inRange implies
+    block-vote-read digest sized =
+        read-over t 2 s h 0 digest (zeros 176) sized
+        (record { block-size = zeros-size 176; a-kind = refl; a-signer = refl; a-mask = refl; a-digest = refl; a-block = zeros-zero; good-block = refl })
+        low high (lt-ltb s (t .n) small) refl refl
+
+    pub dummy-vote-read : Written t (dummyVoteFields s h) (dummyVote s h)
+    unfolding dummyVote dummyVoteFields isStatement isCertificate carriesBlock carriesDigest inRange implies
+    dummy-vote-read =
+        read-over t 3 s h 0 (zeros 32) (zeros 176) (zeros-size 32)
+        (record { block-size = zeros-size 176; a-kind = refl; a-signer = refl; a-mask = refl; a-digest = digest-zero; a-block = zeros-zero; good-block = refl })
+        low high (lt-ltb s (t .n) small) refl refl
+
+    pub finalize-read : Written t (finalizeFields s h) (finalize s h)
+    unfolding finalize finalizeFields isStatement isCertificate carriesBlock carriesDigest inRange implies
+    finalize-read =
+        read-over t 4 s h 0 (zeros 32) (zeros 176) (zeros-size 32)
+        (record { block-size = zeros-size 176; a-kind = refl; a-signer = refl; a-mask = refl; a-digest = digest-zero; a-block = zeros-zero; good-block = refl })
+        low high (lt-ltb s (t .n) small) refl refl
+
+  module _ (mask : ℕ) (small : belowBit (t .n) mask ≡ true) (enough : quorum (view t) mask ≡ true) where
+    pub block-certificate-read : (block : Bytes) → blockWellFormed h block ≡ true → Written t (blockCertificateFields h mask block) (blockCertificate h mask block)
+    unfolding blockCertificate blockCertificateFields isStatement isCertificate carriesBlock carriesDigest inRange implies
+    block-certificate-read block good =
+        read-over t 5 0 h mask (zeros 32) block (zeros-size 32)
+        (record { block-size = block-size-of h block good; a-kind = refl; a-signer = refl; a-mask = refl; a-digest = digest-zero; a-block = refl; good-block = good })
+        low high small refl enough
+
+    pub dummy-certificate-read : Written t (dummyCertificateFields h mask) (dummyCertificate h mask)
+    unfolding dummyCertificate dummyCertificateFields isStatement isCertificate carriesBlock carriesDigest inRange implies
+    dummy-certificate-read =
+        read-over t 6 0 h mask (zeros 32) (zeros 176) (zeros-size 32)
+        (record { block-size = zeros-size 176; a-kind = refl; a-signer = refl; a-mask = refl; a-digest = digest-zero; a-block = zeros-zero; good-block = refl })
+        low high small refl enough
+
+    pub finalize-certificate-read : Written t (finalizeCertificateFields h mask) (finalizeCertificate h mask)
+    unfolding finalizeCertificate finalizeCertificateFields isStatement isCertificate carriesBlock carriesDigest inRange implies
+    finalize-certificate-read =
+        read-over t 7 0 h mask (zeros 32) (zeros 176) (zeros-size 32)
+        (record { block-size = zeros-size 176; a-kind = refl; a-signer = refl; a-mask = refl; a-digest = digest-zero; a-block = zeros-zero; good-block = refl })
+        low high small refl enough
