@@ -1,3 +1,4 @@
 pub mod Fields
 pub mod FrameLaws
 pub mod ReadLaws
+pub mod BlockLaws

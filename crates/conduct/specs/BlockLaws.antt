@@ -1,0 +1,68 @@
+-- A block that is put together of a parent and entries is well formed.
+use Prim.Native.Nat.{ℕ, zero, suc, _+_, _-_, _*_, _≤_, _<_}
+use native.Mathlib.Omega.{arith}
+use mathlib.Core.Path.{_≡_, refl, sym, ap, _∙_}
+use mathlib.Core.Bool.{Bool, true, false}
+use mathlib.Core.List.{List, [], _∷_, _++_}
+use lib.ListN.{length, take, drop, length-append}
+use lib.Seq.{take-at, drop-at, drop-drop}
+use lib.Dec.{eqb}
+use borrow.Author.Tests.{eq-eqb, lt-ltb, le-leb, eqb-true}
+use Rattle.protocol.specs.Bytes.{Bytes, part, zeros, isZero, all, join}
+use Rattle.protocol.specs.Tests.{allOf, implies}
+use Rattle.protocol.specs.Block.{blockHeight, parentHeight, entryCount, parentDigest, blockWellFormed, newBlock}
+use Rattle.protocol.specs.EveryLaws.{Every, one, none}
+use Rattle.protocol.specs.TestsLaws.{eqb-self}
+use Rattle.protocol.specs.StateLaws.{Sized, length-join}
+use Rattle.conduct.specs.FrameLaws.{zeros-size, and-both}
+
+zeros-zero : (count : ℕ) → isZero (zeros count) ≡ true
+unfolding isZero all zeros
+zeros-zero zero = refl
+zeros-zero (suc count) = zeros-zero count
+
+true-implies : (a b : Bool) → (a ≡ true → b ≡ true) → implies a b ≡ true
+unfolding implies
+true-implies true b f = f refl
+true-implies false b f = refl
+
+module _ (h parent : ℕ) (digest : Bytes) (es : List Bytes)
+    (below : parent < h) (digest-size : length digest ≡ 32) (from-start : parent ≡ 0 → isZero digest ≡ true)
+    (few : length es ≤ 8) (sized : Every (Sized 16) es) where
+  abbrev block : Bytes
+  block = newBlock h parent digest es
+
+  abbrev tail : Bytes
+  tail = zeros (128 - 16 * length es)
+
+  size : length block ≡ 176
+  unfolding newBlock zeros
+  size = simp (length-append, length-join 16 es sized, zeros-size) (omega arith)
+
+  eleven-zeros : isZero (part block 5 11) ≡ true
+  unfolding isZero all part newBlock zeros
+  eleven-zeros = refl
+
+  digest-back : parentDigest block ≡ digest
+  unfolding parentDigest part newBlock zeros
+  digest-back = take-at digest (join es ++ tail) 32 digest-size
+
+  entries-from : drop 48 block ≡ join es ++ tail
+  unfolding newBlock zeros
+  entries-from = drop-at digest (join es ++ tail) 32 digest-size
+
+  rest : drop (48 + 16 * length es) block ≡ tail
+  rest = sym (drop-drop (16 * length es) 48 block) ∙ rw entries-from (drop-at (join es) tail (16 * length es) (length-join 16 es sized))
+
+  pub new-block-good : blockWellFormed h block ≡ true
+  unfolding blockWellFormed allOf blockHeight parentHeight entryCount newBlock
+  new-block-good =
+      and-both (eq-eqb (length block) 176 size)
+      (and-both (eqb-self h)
+      (and-both refl
+      (and-both (lt-ltb parent h below)
+      (and-both refl
+      (and-both (le-leb (length es) 8 few)
+      (and-both eleven-zeros
+      (and-both (true-implies (eqb parent 0) _ (λ e. ap isZero digest-back ∙ from-start (eqb-true parent 0 e)))
+      (and-both (ap isZero rest ∙ zeros-zero (128 - 16 * length es)) refl))))))))
