@@ -22,3 +22,6 @@ pub mod QuorumLaws
 pub mod RowLaws
 pub mod BytesLaws
 pub mod CodecLaws
+pub mod Linked
+pub mod LinkedLaws
+pub mod ChainLaws
