@@ -14,17 +14,8 @@ use Rattle.protocol.specs.Block.{blockHeight, parentHeight, entryCount, parentD
 use Rattle.protocol.specs.EveryLaws.{Every, one, none}
 use Rattle.protocol.specs.TestsLaws.{eqb-self}
 use Rattle.protocol.specs.StateLaws.{Sized, length-join}
-use Rattle.conduct.specs.FrameLaws.{zeros-size, and-both}
-
-zeros-zero : (count : ℕ) → isZero (zeros count) ≡ true
-unfolding isZero all zeros
-zeros-zero zero = refl
-zeros-zero (suc count) = zeros-zero count
-
-true-implies : (a b : Bool) → (a ≡ true → b ≡ true) → implies a b ≡ true
-unfolding implies
-true-implies true b f = f refl
-true-implies false b f = refl
+use Rattle.protocol.specs.RowLaws.{all-of, true-implies, zeros-is-zero}
+use Rattle.conduct.specs.FrameLaws.{zeros-size}
 
 module _ (h parent : ℕ) (digest : Bytes) (es : List Bytes)
     (below : parent < h) (digest-size : length digest ≡ 32) (from-start : parent ≡ 0 → isZero digest ≡ true)
@@ -55,14 +46,15 @@ module _ (h parent : ℕ) (digest : Bytes) (es : List Bytes)
   rest = sym (drop-drop (16 * length es) 48 block) ∙ rw entries-from (drop-at (join es) tail (16 * length es) (length-join 16 es sized))
 
   pub new-block-good : blockWellFormed h block ≡ true
-  unfolding blockWellFormed allOf blockHeight parentHeight entryCount newBlock
+  unfolding blockWellFormed blockHeight parentHeight entryCount newBlock
   new-block-good =
-      and-both (eq-eqb (length block) 176 size)
-      (and-both (eqb-self h)
-      (and-both refl
-      (and-both (lt-ltb parent h below)
-      (and-both refl
-      (and-both (le-leb (length es) 8 few)
-      (and-both eleven-zeros
-      (and-both (true-implies (eqb parent 0) _ (λ e. ap isZero digest-back ∙ from-start (eqb-true parent 0 e)))
-      (and-both (ap isZero rest ∙ zeros-zero (128 - 16 * length es)) refl))))))))
+      all-of
+      (one (eq-eqb (length block) 176 size)
+      (one (eqb-self h)
+      (one refl
+      (one (lt-ltb parent h below)
+      (one refl
+      (one (le-leb (length es) 8 few)
+      (one eleven-zeros
+      (one (true-implies (eqb parent 0) _ (λ e. ap isZero digest-back ∙ from-start (eqb-true parent 0 e)))
+      (one (ap isZero rest ∙ zeros-is-zero (128 - 16 * length es)) none)))))))))

@@ -11,15 +11,14 @@ use borrow.Author.Tests.{eq-eqb}
 use Rattle.protocol.specs.Bytes.{Bytes, word16, le16, part, zeros, isZero, all}
 use Rattle.protocol.specs.Tests.{allOf, implies, inRange}
 use Rattle.protocol.specs.Block.{digestSize, blockSize, blockWellFormed}
+use Rattle.protocol.specs.EveryLaws.{one, none}
+use Rattle.protocol.specs.RowLaws.{all-of}
 use Rattle.conduct.specs.Fields.{Fields, fields}
 use Rattle.protocol.specs.Frame.{kind, signer, frameHeight, signerMask, frameDigest, frameBlock, frameSize, isStatement, isCertificate, carriesBlock, carriesDigest, frameWellFormed, frameOf}
 
 pub zeros-size : (count : ℕ) → length (zeros count) ≡ count
 unfolding zeros
 zeros-size count = length-replicate count 0
-
-pub and-both : {a b : Bool} → a ≡ true → b ≡ true → (a && b) ≡ true
-and-both p q = rw (p, q)
 
 module _ (k s h mask : ℕ) (digest block : Bytes) (digest-size : length digest ≡ 32) where
   abbrev frame : Bytes
@@ -61,14 +60,15 @@ module _ (k s h mask : ℕ) (digest block : Bytes) (digest-size : length digest 
   ten-zeros = refl
 
   pub well-formed : Fitting → frameWellFormed frame ≡ true
-  unfolding frameWellFormed allOf kind signer frameHeight frameOf
+  unfolding frameWellFormed kind signer frameHeight frameOf
   well-formed fits =
-      and-both (eq-eqb (length frame) 224 (frame-size (fits .block-size)))
-      (and-both (fits .a-kind)
-      (and-both (fits .a-signer)
-      (and-both refl
-      (and-both (ap (λ (m : ℕ). isCertificate k || eqb m 0) mask-back ∙ fits .a-mask)
-      (and-both ten-zeros
-      (and-both (ap (λ (d : Bytes). carriesDigest k || isZero d) digest-back ∙ fits .a-digest)
-      (and-both (ap (λ (b : Bytes). carriesBlock k || isZero b) block-back ∙ fits .a-block)
-      (and-both (ap (λ (b : Bytes). implies (carriesBlock k) (blockWellFormed h b)) block-back ∙ fits .good-block) refl))))))))
+      all-of
+      (one (eq-eqb (length frame) 224 (frame-size (fits .block-size)))
+      (one (fits .a-kind)
+      (one (fits .a-signer)
+      (one refl
+      (one (ap (λ (m : ℕ). isCertificate k || eqb m 0) mask-back ∙ fits .a-mask)
+      (one ten-zeros
+      (one (ap (λ (d : Bytes). carriesDigest k || isZero d) digest-back ∙ fits .a-digest)
+      (one (ap (λ (b : Bytes). carriesBlock k || isZero b) block-back ∙ fits .a-block)
+      (one (ap (λ (b : Bytes). implies (carriesBlock k) (blockWellFormed h b)) block-back ∙ fits .good-block) none)))))))))

@@ -18,22 +18,15 @@ use Rattle.protocol.specs.Sound.{view}
 use Rattle.protocol.specs.Deliver.{readRows}
 use Rattle.protocol.specs.EveryLaws.{Every, one}
 use Rattle.protocol.specs.TestsLaws.{and-true}
+use Rattle.protocol.specs.RowLaws.{zeros-is-zero, range-in}
 use Rattle.conduct.specs.Fields.{Fields, fields, IsRead, proposalFields, blockVoteFields, dummyVoteFields, finalizeFields, blockCertificateFields, dummyCertificateFields, finalizeCertificateFields}
-use Rattle.conduct.specs.FrameLaws.{zeros-size, and-both, Fitting, fields-back, frame-size, well-formed, mask-back}
+use Rattle.conduct.specs.FrameLaws.{zeros-size, Fitting, fields-back, frame-size, well-formed, mask-back}
 
 -- rows that all pass refuse nothing
 pass-rows : {rows : List Row} → Every (λ (r : Row). r .1 ≡ true) rows → firstRefusal rows ≡ none
 unfolding firstRefusal
 pass-rows Every.none = refl
 pass-rows (one p ps) = rw p (pass-rows ps)
-
-zeros-zero : isZero (zeros 176) ≡ true
-unfolding isZero all zeros
-zeros-zero = refl
-
-digest-zero : isZero (zeros 32) ≡ true
-unfolding isZero all zeros
-digest-zero = refl
 
 -- a frame of 224 bytes that is read over a state and says this
 pub record Written (s : State) (said : Fields) (frame : Bytes) : Type 0 where
@@ -54,10 +47,10 @@ module _ (t : State) (k s h mask : ℕ) (digest block : Bytes) (digest-size : le
   }
     where
       passes : IsRead t (frameOf k s h mask digest block)
-      passes = unfold readRows kind signer frameHeight frameOf inRange in
+      passes = unfold readRows kind signer frameHeight frameOf in
           pass-rows
           (one (well-formed k s h mask digest block digest-size fits)
-          (one (and-both (le-leb 1 h low) (le-leb h (last t) high))
+          (one (range-in 1 (last t) h low high)
           (one (ap (λ (m : ℕ). cond (isStatement k) (ltb s (t .n)) (belowBit (t .n) m)) (mask-back k s h mask digest block digest-size) ∙ signer-row)
           (one leader-row
           (one (ap (λ (m : ℕ). isStatement k || quorum (view t) m) (mask-back k s h mask digest block digest-size) ∙ quorum-row)
@@ -103,28 +96,28 @@ module _ (t : State) (h : ℕ) (low : 1 ≤ h) (high : h ≤ last t) where
     unfolding proposal proposalFields isStatement isCertificate carriesBlock carriesDigest inRange implies
     proposal-read block good leads =
         read-over t 1 s h 0 (zeros 32) block (zeros-size 32)
-        (record { block-size = block-size-of h block good; a-kind = refl; a-signer = refl; a-mask = refl; a-digest = digest-zero; a-block = refl; good-block = good })
+        (record { block-size = block-size-of h block good; a-kind = refl; a-signer = refl; a-mask = refl; a-digest = zeros-is-zero 32; a-block = refl; good-block = good })
         low high (lt-ltb s (t .n) small) (eq-eqb s (at t h .leader) leads) refl
 
     pub block-vote-read : (digest : Bytes) → length digest ≡ 32 → Written t (blockVoteFields s h digest) (blockVote s h digest)
     unfolding blockVote blockVoteFields isStatement isCertificate carriesBlock carriesDigest inRange implies
     block-vote-read digest sized =
         read-over t 2 s h 0 digest (zeros 176) sized
-        (record { block-size = zeros-size 176; a-kind = refl; a-signer = refl; a-mask = refl; a-digest = refl; a-block = zeros-zero; good-block = refl })
+        (record { block-size = zeros-size 176; a-kind = refl; a-signer = refl; a-mask = refl; a-digest = refl; a-block = zeros-is-zero 176; good-block = refl })
         low high (lt-ltb s (t .n) small) refl refl
 
     pub dummy-vote-read : Written t (dummyVoteFields s h) (dummyVote s h)
     unfolding dummyVote dummyVoteFields isStatement isCertificate carriesBlock carriesDigest inRange implies
     dummy-vote-read =
         read-over t 3 s h 0 (zeros 32) (zeros 176) (zeros-size 32)
-        (record { block-size = zeros-size 176; a-kind = refl; a-signer = refl; a-mask = refl; a-digest = digest-zero; a-block = zeros-zero; good-block = refl })
+        (record { block-size = zeros-size 176; a-kind = refl; a-signer = refl; a-mask = refl; a-digest = zeros-is-zero 32; a-block = zeros-is-zero 176; good-block = refl })
         low high (lt-ltb s (t .n) small) refl refl
 
     pub finalize-read : Written t (finalizeFields s h) (finalize s h)
     unfolding finalize finalizeFields isStatement isCertificate carriesBlock carriesDigest inRange implies
     finalize-read =
         read-over t 4 s h 0 (zeros 32) (zeros 176) (zeros-size 32)
-        (record { block-size = zeros-size 176; a-kind = refl; a-signer = refl; a-mask = refl; a-digest = digest-zero; a-block = zeros-zero; good-block = refl })
+        (record { block-size = zeros-size 176; a-kind = refl; a-signer = refl; a-mask = refl; a-digest = zeros-is-zero 32; a-block = zeros-is-zero 176; good-block = refl })
         low high (lt-ltb s (t .n) small) refl refl
 
   module _ (mask : ℕ) (small : belowBit (t .n) mask ≡ true) (enough : quorum (view t) mask ≡ true) where
@@ -132,19 +125,19 @@ module _ (t : State) (h : ℕ) (low : 1 ≤ h) (high : h ≤ last t) where
     unfolding blockCertificate blockCertificateFields isStatement isCertificate carriesBlock carriesDigest inRange implies
     block-certificate-read block good =
         read-over t 5 0 h mask (zeros 32) block (zeros-size 32)
-        (record { block-size = block-size-of h block good; a-kind = refl; a-signer = refl; a-mask = refl; a-digest = digest-zero; a-block = refl; good-block = good })
+        (record { block-size = block-size-of h block good; a-kind = refl; a-signer = refl; a-mask = refl; a-digest = zeros-is-zero 32; a-block = refl; good-block = good })
         low high small refl enough
 
     pub dummy-certificate-read : Written t (dummyCertificateFields h mask) (dummyCertificate h mask)
     unfolding dummyCertificate dummyCertificateFields isStatement isCertificate carriesBlock carriesDigest inRange implies
     dummy-certificate-read =
         read-over t 6 0 h mask (zeros 32) (zeros 176) (zeros-size 32)
-        (record { block-size = zeros-size 176; a-kind = refl; a-signer = refl; a-mask = refl; a-digest = digest-zero; a-block = zeros-zero; good-block = refl })
+        (record { block-size = zeros-size 176; a-kind = refl; a-signer = refl; a-mask = refl; a-digest = zeros-is-zero 32; a-block = zeros-is-zero 176; good-block = refl })
         low high small refl enough
 
     pub finalize-certificate-read : Written t (finalizeCertificateFields h mask) (finalizeCertificate h mask)
     unfolding finalizeCertificate finalizeCertificateFields isStatement isCertificate carriesBlock carriesDigest inRange implies
     finalize-certificate-read =
         read-over t 7 0 h mask (zeros 32) (zeros 176) (zeros-size 32)
-        (record { block-size = zeros-size 176; a-kind = refl; a-signer = refl; a-mask = refl; a-digest = digest-zero; a-block = zeros-zero; good-block = refl })
+        (record { block-size = zeros-size 176; a-kind = refl; a-signer = refl; a-mask = refl; a-digest = zeros-is-zero 32; a-block = zeros-is-zero 176; good-block = refl })
         low high small refl enough
