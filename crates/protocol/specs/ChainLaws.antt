@@ -1,11 +1,11 @@
 -- The chain and the log of a linked height, built from those of its parent, and the sizes of a log.
-use Prim.Native.Nat.{ℕ, zero, suc, _+_, _-_, _*_, _≤_, _<_}
+use Prim.Native.Nat.{ℕ, zero, suc, _*_, _≤_}
 use native.Mathlib.Omega.{arith}
 use native.Mathlib.Nat.{mul-suc}
 use mathlib.Core.Path.{_≡_, refl, sym, ap, _∙_}
-use mathlib.Core.Bool.{Bool, true, false, _&&_}
+use mathlib.Core.Bool.{Bool, true}
 use mathlib.Core.List.{List, [], _∷_, _++_, append-assoc, append-nil}
-use lib.Dec.{eqb, leb, eqb·suc-zero}
+use lib.Dec.{eqb·suc-zero}
 use lib.ListN.{length, getD, take, drop, length-append, length-take, length-drop}
 use borrow.Author.Tests.{eqb-true, leb-true}
 use Rattle.protocol.specs.Bytes.{Bytes, join, pieces}
@@ -18,7 +18,7 @@ use Rattle.protocol.specs.View.{View, linked, chainWithin, chain, logAt}
 use Rattle.protocol.specs.LinkedLaws.{linked-parent}
 
 -- ---- lists
-pub every-append : {A : Type 0} {P : A → Type 0} {xs ys : List A} → Every P xs → Every P ys → Every P (xs ++ ys)
+every-append : {A : Type 0} {P : A → Type 0} {xs ys : List A} → Every P xs → Every P ys → Every P (xs ++ ys)
 every-append none qs = qs
 every-append (one p ps) qs = one p (every-append ps qs)
 
@@ -36,7 +36,7 @@ allEntries-one : (x : Bytes) → allEntries (x ∷ []) ≡ entries x
 unfolding allEntries
 allEntries-one x = append-nil (entries x)
 
-pub pieces-sized : (size count : ℕ) (bytes : Bytes) → size * count ≤ length bytes → Every (Sized size) (pieces size count bytes)
+pieces-sized : (size count : ℕ) (bytes : Bytes) → size * count ≤ length bytes → Every (Sized size) (pieces size count bytes)
 unfolding pieces
 pieces-sized size zero bytes h = none
 pieces-sized size (suc count) bytes h =
@@ -44,7 +44,7 @@ pieces-sized size (suc count) bytes h =
     let first : length (take size bytes) ≡ size = simp length-take (omega arith) in
     one first (pieces-sized size count (drop size bytes) (simp length-drop (omega arith)))
 
-pub pieces-length : (size count : ℕ) (bytes : Bytes) → length (pieces size count bytes) ≡ count
+pieces-length : (size count : ℕ) (bytes : Bytes) → length (pieces size count bytes) ≡ count
 unfolding pieces
 pieces-length size zero bytes = refl
 pieces-length size (suc count) bytes = ap suc (pieces-length size count (drop size bytes))

@@ -25,3 +25,4 @@ pub mod CodecLaws
 pub mod Linked
 pub mod LinkedLaws
 pub mod ChainLaws
+pub mod ParentLaws

@@ -1,6 +1,7 @@
 -- Linked heights, blocks that extend them, finalized heights and chains, as facts with their reasons.
 use Prim.Native.Nat.{ℕ, _≤_, _<_}
 use mathlib.Core.Path.{_≡_}
+use mathlib.Core.Logic.{_⊎_}
 use mathlib.Core.Bool.{true}
 use Rattle.protocol.specs.Bytes.{Bytes}
 use Rattle.protocol.specs.Block.{parentHeight, parentDigest}
@@ -34,3 +35,9 @@ pub record ChainOf (digest : Bytes → Bytes) (v : View) (h j : ℕ) : Type 0 wh
   pub within : j ≤ h
   pub isLinked : Linked digest v j
   pub dummies : (k : ℕ) → j < k → k ≤ h → isDummy v k ≡ true
+
+-- the largest finalized height from 1 to `h`, and 0 where there is none
+pub record Largest (digest : Bytes → Bytes) (v : View) (h g : ℕ) : Type 0 where
+  pub within : g ≤ h
+  pub finalized : (g ≡ 0) ⊎ Finalized digest v g
+  pub most : (k : ℕ) → 1 ≤ k → k ≤ h → Finalized digest v k → k ≤ g
