@@ -4,3 +4,4 @@ pub mod ReadLaws
 pub mod BlockLaws
 pub mod Grows
 pub mod GrowsLaws
+pub mod StepLaws
