@@ -26,3 +26,4 @@ pub mod Linked
 pub mod LinkedLaws
 pub mod ChainLaws
 pub mod ParentLaws
+pub mod SoundLaws

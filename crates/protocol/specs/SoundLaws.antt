@@ -1,0 +1,157 @@
+-- What soundness says of a state, apart from bytes: a sound book says a sound state, and a sound state's bytes are a sound book.
+use Prim.Native.Nat.{ℕ, zero, suc, _+_, _-_, _*_, _^_, _≤_, _<_}
+use native.Mathlib.Omega.{arith}
+use mathlib.Core.Path.{_≡_, refl, sym, ap, subst, _∙_}
+use mathlib.Core.Logic.{_⊎_, inl, inr}
+use mathlib.Core.Bool.{Bool, true, false, _&&_, _||_, true≢false, false≢true}
+use mathlib.Core.List.{List, [], _∷_}
+use lib.ListN.{length, List·getD-eq-default}
+use lib.Dec.{eqb, leb, ltb}
+use borrow.Author.Tests.{eqb-true, eq-eqb, leb-true, le-leb, ltb-true, lt-ltb}
+use Rattle.protocol.specs.Bytes.{Bytes, byteAt, part, zeros, isZero}
+use Rattle.protocol.specs.Tests.{implies, inRange, everyHeight}
+use Rattle.protocol.specs.Block.{blockWellFormed}
+use Rattle.protocol.specs.Mask.{belowBit}
+use Rattle.protocol.specs.State.{State, Height, noHeight, at, last, decode, encode, bookSize, holdsProposal, isNotarized, headBytes}
+use Rattle.protocol.specs.View.{View, quorum, extendsOver, linkedWithin, linked, isFinalized}
+use Rattle.protocol.specs.Sound.{view, masksBelow, blocksWellFormed, contentZeros, sound}
+use Rattle.protocol.specs.EveryLaws.{Every, none, one}
+use Rattle.protocol.specs.TestsLaws.{and-true, or-true}
+use Rattle.protocol.specs.RowLaws.{row, all-of, true-and, every-height-at, every-height, implies-true, true-implies, in-range, range-in, is-zero-zeros, zeros-is-zero}
+use Rattle.protocol.specs.StateLaws.{Shaped, decode-encode}
+use Rattle.protocol.specs.BytesLaws.{AreBytes, zero-part}
+use Rattle.protocol.specs.CodecLaws.{Exact, Clean, last-decode, decode-shaped, clean-back}
+
+-- ---- facts about a state
+-- what stands at height `h`
+pub record SoundHeight (v : View) (h : ℕ) (x : Height) : Type 0 where
+  pub leader-below : x .leader < v .n
+  pub status-small : x .status ≤ 3
+  pub certificate-below : x .certificateMask < 2 ^ v .n
+  pub dummy-below : x .dummyMask < 2 ^ v .n
+  pub finalize-below : x .finalizeMask < 2 ^ v .n
+  pub voter-below : x .voterMask < 2 ^ v .n
+  pub proposal-formed : holdsProposal x ≡ true → blockWellFormed h (x .proposal) ≡ true
+  pub notarized-formed : isNotarized x ≡ true → blockWellFormed h (x .notarized) ≡ true
+  pub certified : isNotarized x ≡ true → quorum v (x .certificateMask) ≡ true
+
+pub record SoundState (digest : Bytes → Bytes) (s : State) : Type 0 where
+  pub shaped : Shaped s
+  pub n-low : 1 ≤ s .n
+  pub n-high : s .n ≤ 16
+  pub own-below : s .own < s .n
+  pub last-low : 1 ≤ last s
+  pub last-high : last s ≤ 63
+  pub current-low : 1 ≤ s .current
+  pub current-high : s .current ≤ last s + 1
+  pub flags-small : s .flags < 16
+  pub pending-few : s .pendingCount ≤ 32
+  pub each : (h : ℕ) → 1 ≤ h → h ≤ last s → SoundHeight (view s) h (at s h)
+  pub final : (s .finalized ≡ 0) ⊎ (isFinalized digest (view s) (s .finalized) ≡ true)
+
+-- ---- rows about one height, as facts
+module _ (v : View) (h : ℕ) (x : Height) where
+  height-facts : ltb (x .leader) (v .n) ≡ true → masksBelow (v .n) x ≡ true → leb (x .status) 3 ≡ true → blocksWellFormed h x ≡ true →
+      implies (isNotarized x) (quorum v (x .certificateMask)) ≡ true → SoundHeight v h x
+  unfolding masksBelow blocksWellFormed belowBit
+  height-facts leader masks status blocks certificate = record {
+    leader-below = ltb-true _ _ leader;
+    status-small = leb-true _ _ status;
+    certificate-below = ltb-true _ _ (row _ 0 masks);
+    dummy-below = ltb-true _ _ (row _ 1 masks);
+    finalize-below = ltb-true _ _ (row _ 2 masks);
+    voter-below = ltb-true _ _ (row _ 3 masks);
+    proposal-formed = implies-true _ _ (formed .0);
+    notarized-formed = implies-true _ _ (formed .1);
+    certified = implies-true _ _ certificate;
+  }
+    where
+      formed : (implies (holdsProposal x) (blockWellFormed h (x .proposal)) ≡ true) × (implies (isNotarized x) (blockWellFormed h (x .notarized)) ≡ true)
+      formed = and-true _ _ blocks
+
+  module _ (facts : SoundHeight v h x) where
+    masks-row : masksBelow (v .n) x ≡ true
+    unfolding masksBelow belowBit
+    masks-row = all-of
+        (one (lt-ltb _ _ (facts .certificate-below)) (one (lt-ltb _ _ (facts .dummy-below))
+        (one (lt-ltb _ _ (facts .finalize-below)) (one (lt-ltb _ _ (facts .voter-below)) none))))
+
+    blocks-row : blocksWellFormed h x ≡ true
+    unfolding blocksWellFormed
+    blocks-row = true-and _ _ (true-implies _ _ (facts .proposal-formed)) (true-implies _ _ (facts .notarized-formed))
+
+    certificate-row : implies (isNotarized x) (quorum v (x .certificateMask)) ≡ true
+    certificate-row = true-implies _ _ (facts .certified)
+
+module _ (digest : Bytes → Bytes) where
+  -- ---- a sound book, row by row
+  module _ (book : Bytes) (e : sound digest book ≡ true) where
+    abbrev H : ℕ
+    H = byteAt book 2
+
+    abbrev S : State
+    S = decode book
+
+    pub exact : Exact book
+    unfolding sound bookSize
+    exact = eqb-true _ _ (row _ 0 e)
+
+    heights-range : (1 ≤ H) × (H ≤ 63)
+    unfolding sound
+    heights-range = in-range _ _ _ (row _ 3 e)
+
+    edition-row : byteAt book 7 ≡ 1
+    unfolding sound
+    edition-row = eqb-true _ _ (row _ 4 e)
+
+    current-range : (1 ≤ S .current) × (S .current ≤ H + 1)
+    unfolding sound
+    current-range = in-range _ _ _ (row _ 5 e)
+
+    n-range : (1 ≤ S .n) × (S .n ≤ 16)
+    unfolding sound
+    n-range = in-range _ _ _ (row _ 1 e)
+
+    height-row : (h : ℕ) → 1 ≤ h → h ≤ H → SoundHeight (view S) h (at S h)
+    unfolding sound view
+    height-row h low high = height-facts (view S) h (at S h)
+        (every-height-at _ H h (row _ 8 e) low high)
+        (every-height-at _ H h (row _ 9 e) low high)
+        (every-height-at _ H h (row _ 10 e) low high)
+        (every-height-at _ H h (row _ 11 e) low high)
+        (every-height-at _ H h (row _ 12 e) low high)
+
+    head-zero-row : isZero (part book 8 56) ≡ true
+    unfolding sound
+    head-zero-row = row _ 13 e
+
+    content-zero-row : (h : ℕ) → 1 ≤ h → h ≤ H → isZero (contentZeros book h) ≡ true
+    unfolding sound
+    content-zero-row h low high = every-height-at _ H h (row _ 14 e) low high
+
+    final-row : (S .finalized ≡ 0) ⊎ (isFinalized digest (view S) (S .finalized) ≡ true)
+    unfolding sound
+    final-row = zero-or (or-true _ _ (row _ 15 e))
+      where
+        zero-or : {A : Type 0} → (eqb (S .finalized) 0 ≡ true) ⊎ A → (S .finalized ≡ 0) ⊎ A
+        zero-or (inl z) = inl (eqb-true _ _ z)
+        zero-or (inr z) = inr z
+
+    pub sound-decode : SoundState digest (decode book)
+    unfolding sound
+    sound-decode =
+        let count = last-decode book in
+        record {
+          shaped = decode-shaped book exact;
+          n-low = n-range .0;
+          n-high = n-range .1;
+          own-below = ltb-true _ _ (row _ 2 e);
+          last-low = rw count (heights-range .0);
+          last-high = rw count (heights-range .1);
+          current-low = current-range .0;
+          current-high = rw count (current-range .1);
+          flags-small = ltb-true _ _ (row _ 6 e);
+          pending-few = leb-true _ _ (row _ 7 e);
+          each = λ h low high. height-row h low (rw count at high);
+          final = final-row;
+        }
