@@ -2,18 +2,20 @@
 use Prim.Native.Nat.{ℕ, _≤_}
 use mathlib.Core.Path.{_≡_}
 use mathlib.Core.Bool.{true, false, cond}
-use mathlib.Core.List.{List, [], _∷_}
+use mathlib.Core.List.{List, [], _∷_, map}
 use mathlib.Core.Option.{none}
 use lib.ListN.{length}
 use lib.Dec.{eqb}
 use Rattle.protocol.specs.Bytes.{Bytes, zeros}
 use Rattle.protocol.specs.Tests.{firstRefusal}
 use Rattle.protocol.specs.Block.{digestSize, blockSize}
-use Rattle.protocol.specs.Frame.{kind, signer, frameHeight, signerMask, frameDigest, frameBlock}
+use Rattle.protocol.specs.EveryLaws.{Every}
+use Rattle.protocol.specs.StateLaws.{Sized}
+use Rattle.protocol.specs.Frame.{frameSize, kind, signer, frameHeight, signerMask, frameDigest, frameBlock}
 use Rattle.protocol.specs.State.{State, at, last}
 use Rattle.protocol.specs.Deliver.{readRows}
 use Rattle.protocol.specs.Move.{someOr, parentBelow, proposedBlock}
-use Rattle.protocol.specs.Answer.{Move, idle, voteDummy, output, pass, propose, voteBlock, Certificate, onBlock, onDummy}
+use Rattle.protocol.specs.Answer.{Answer, refused, accepted, Done, Move, idle, voteDummy, output, pass, propose, voteBlock, Certificate, onBlock, onDummy}
 
 pub record Fields : Type 0 where
   pub kind : ℕ
@@ -94,8 +96,24 @@ module _ (digest : Bytes → Bytes) where
       proposalFields (s .own) h (proposedBlock digest s (someOr 0 (parentBelow digest s))) ∷ []
   moveFields s (voteBlock h) = blockVoteFields (s .own) h (digest (at s h .proposal)) ∷ []
 
+  -- a refused move says nothing
+  unfoldable pub moveAnswerFields : State → Answer Move → List Fields
+  moveAnswerFields s (refused number) = []
+  moveAnswerFields s (accepted move) = moveFields s move
+
 -- what the frame of Fetch says: the certificate of kind 5, 6 or 7 of a height
 unfoldable pub fetchFields : State → ℕ → ℕ → Fields
 fetchFields s k h =
     cond (eqb k 5) (blockCertificateFields h (at s h .certificateMask) (at s h .notarized))
     (cond (eqb k 6) (dummyCertificateFields h (at s h .dummyMask)) (finalizeCertificateFields h (at s h .finalizeMask)))
+
+unfoldable pub fetchAnswerFields : State → ℕ → ℕ → Answer Done → List Fields
+fetchAnswerFields s k h (refused number) = []
+fetchAnswerFields s k h (accepted answer) = fetchFields s k h ∷ []
+
+-- ---- frames that say something
+-- frames of 224 bytes that are read over a state and say these fields, one by one
+pub record Said (s : State) (said : List Fields) (frames : List Bytes) : Type 0 where
+  pub says : map fields frames ≡ said
+  pub sized : Every (Sized frameSize) frames
+  pub read : Every (IsRead s) frames

@@ -5,3 +5,6 @@ pub mod BlockLaws
 pub mod Grows
 pub mod GrowsLaws
 pub mod StepLaws
+pub mod MoveKeptLaws
+pub mod SubmitKeptLaws
+pub mod WrittenReadLaws

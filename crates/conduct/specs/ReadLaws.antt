@@ -1,6 +1,6 @@
 -- When the frame of each kind is read over a state, and that it says what it was made of.
 use Prim.Native.Nat.{ℕ, _≤_, _<_}
-use mathlib.Core.Path.{_≡_, refl, sym, ap, _∙_}
+use mathlib.Core.Path.{_≡_, refl, sym, ap, ap₂, _∙_}
 use mathlib.Core.Bool.{Bool, true, false, _||_, cond}
 use mathlib.Core.List.{List, [], _∷_}
 use mathlib.Core.Option.{none}
@@ -19,7 +19,7 @@ use Rattle.protocol.specs.Deliver.{readRows}
 use Rattle.protocol.specs.EveryLaws.{Every, one}
 use Rattle.protocol.specs.TestsLaws.{and-true}
 use Rattle.protocol.specs.RowLaws.{zeros-is-zero, range-in}
-use Rattle.conduct.specs.Fields.{Fields, fields, IsRead, proposalFields, blockVoteFields, dummyVoteFields, finalizeFields, blockCertificateFields, dummyCertificateFields, finalizeCertificateFields}
+use Rattle.conduct.specs.Fields.{Fields, fields, IsRead, Said, proposalFields, blockVoteFields, dummyVoteFields, finalizeFields, blockCertificateFields, dummyCertificateFields, finalizeCertificateFields}
 use Rattle.conduct.specs.FrameLaws.{zeros-size, Fitting, fields-back, frame-size, well-formed, mask-back}
 
 -- rows that all pass refuse nothing
@@ -33,6 +33,12 @@ pub record Written (s : State) (said : Fields) (frame : Bytes) : Type 0 where
   pub size : length frame ≡ 224
   pub read : IsRead s frame
   pub says : fields frame ≡ said
+
+pub said-none : (t : State) → Said t [] []
+said-none t = record { says = refl; sized = Every.none; read = Every.none }
+
+pub said-more : {t : State} {said : Fields} {frame : Bytes} {saids : List Fields} {frames : List Bytes} → Written t said frame → Said t saids frames → Said t (said ∷ saids) (frame ∷ frames)
+said-more w ws = record { says = ap₂ _∷_ (w .says) (ws .says); sized = one (w .size) (ws .sized); read = one (w .read) (ws .read) }
 
 module _ (t : State) (k s h mask : ℕ) (digest block : Bytes) (digest-size : length digest ≡ 32) where
   read-over : Fitting k s h mask digest block digest-size → (1 ≤ h) → (h ≤ last t) →

@@ -18,7 +18,7 @@ use Rattle.protocol.specs.View.{View, linked, chainWithin, chain, logAt}
 use Rattle.protocol.specs.LinkedLaws.{linked-parent}
 
 -- ---- lists
-every-append : {A : Type 0} {P : A → Type 0} {xs ys : List A} → Every P xs → Every P ys → Every P (xs ++ ys)
+pub every-append : {A : Type 0} {P : A → Type 0} {xs ys : List A} → Every P xs → Every P ys → Every P (xs ++ ys)
 every-append none qs = qs
 every-append (one p ps) qs = one p (every-append ps qs)
 
@@ -36,7 +36,7 @@ allEntries-one : (x : Bytes) → allEntries (x ∷ []) ≡ entries x
 unfolding allEntries
 allEntries-one x = append-nil (entries x)
 
-pieces-sized : (size count : ℕ) (bytes : Bytes) → size * count ≤ length bytes → Every (Sized size) (pieces size count bytes)
+pub pieces-sized : (size count : ℕ) (bytes : Bytes) → size * count ≤ length bytes → Every (Sized size) (pieces size count bytes)
 unfolding pieces
 pieces-sized size zero bytes h = none
 pieces-sized size (suc count) bytes h =

@@ -149,8 +149,12 @@ module _ (book : Bytes) (small : AreBytes book) (clean : Clean book) where
   unfolding decode
   from-contents =
       let size : length book ≡ 576 + 880 * byteAt book 2 = clean .size in
-      rw (from-bodies, contents-back (byteAt book 2) (drop 576 book) (drop (576 + 16 * byteAt book 2) book) (rw length-drop (omega arith)) (are-bytes-drop 576 book small)
-      (λ i l. part-drop book 576 (16 * i + 10) 6 ∙ rw (← add-assoc 576 (16 * i) 10) (clean .content-zeros i l)), ← drop-drop (16 * byteAt book 2) 576 book)
+      rw (
+        from-bodies,
+        contents-back (byteAt book 2) (drop 576 book) (drop (576 + 16 * byteAt book 2) book) (rw length-drop (omega arith)) (are-bytes-drop 576 book small)
+            (λ i l. part-drop book 576 (16 * i + 10) 6 ∙ rw (← add-assoc 576 (16 * i) 10) (clean .content-zeros i l)),
+        ← drop-drop (16 * byteAt book 2) 576 book,
+      )
       (take-append-drop (16 * byteAt book 2) (drop 576 book))
 
   from-pool : decode book .pool ++ drop 576 book ≡ drop 64 book
