@@ -3,14 +3,13 @@ use Prim.Native.Nat.{ℕ, zero, suc, _*_, _≤_}
 use native.Mathlib.Omega.{arith}
 use native.Mathlib.Nat.{mul-suc}
 use mathlib.Core.Path.{_≡_, refl, sym, ap, _∙_}
-use mathlib.Core.Bool.{Bool, true}
+use mathlib.Core.Bool.{true}
 use mathlib.Core.List.{List, [], _∷_, _++_, append-assoc, append-nil}
 use lib.Dec.{eqb·suc-zero}
-use lib.ListN.{length, getD, take, drop, length-append, length-take, length-drop}
+use lib.ListN.{length, take, drop, length-append, length-take, length-drop}
 use borrow.Author.Tests.{eqb-true, leb-true}
 use Rattle.protocol.specs.Bytes.{Bytes, join, pieces}
-use Rattle.protocol.specs.Tests.{allOf}
-use Rattle.protocol.specs.TestsLaws.{and-true}
+use Rattle.protocol.specs.RowLaws.{row}
 use Rattle.protocol.specs.EveryLaws.{Every, none, one}
 use Rattle.protocol.specs.StateLaws.{Sized, length-join}
 use Rattle.protocol.specs.Block.{parentHeight, entryCount, entries, allEntries, blockWellFormed}
@@ -97,12 +96,6 @@ module _ (digest : Bytes → Bytes) (v : View) where
       ap allEntries (chain-suc i e) ∙ allEntries-append p (b ∷ []) ∙ ap (λ (x : List Bytes). allEntries p ++ x) (allEntries-one b)
 
 -- ---- sizes
-row : (rows : List Bool) (i : ℕ) → allOf rows ≡ true → getD rows i true ≡ true
-unfolding allOf
-row [] i e = refl
-row (r ∷ rows) zero e = and-true r (allOf rows) e .0
-row (r ∷ rows) (suc i) e = row rows i (and-true r (allOf rows) e .1)
-
 -- a well-formed block has room for the entries that it counts
 entries-fit : (h : ℕ) (block : Bytes) → blockWellFormed h block ≡ true → (length block ≡ 176) × (entryCount block ≤ 8)
 unfolding blockWellFormed

@@ -1,33 +1,19 @@
 -- The tests of linked, extending and finalized hold exactly where the facts do, and need no fuel.
 use Prim.Native.Nat.{ℕ, zero, suc, _+_, _-_, _≤_, _<_}
 use native.Mathlib.Omega.{arith}
-use mathlib.Core.Path.{_≡_, refl, sym, ap, ap₂, _∙_}
+use mathlib.Core.Path.{_≡_, refl, sym, ap, _∙_}
 use mathlib.Core.Logic.{_⊎_, inl, inr}
-use mathlib.Core.Bool.{Bool, true, false, _&&_, _||_, false≢true}
+use mathlib.Core.Bool.{Bool, true, false, _&&_, _||_}
 use mathlib.Core.List.{[], _∷_}
 use lib.Dec.{eqb, ltb, eqb·suc-zero}
-use borrow.Author.Tests.{eqb-true, ltb-true, lt-ltb}
+use borrow.Author.Tests.{ltb-true, lt-ltb}
 use Rattle.protocol.specs.Bytes.{Bytes, same}
 use Rattle.protocol.specs.Tests.{allOf}
 use Rattle.protocol.specs.Block.{parentHeight, parentDigest}
 use Rattle.protocol.specs.View.{View, quorum, isDummy, dummyRun, digestAt, extendsOver, linkedWithin, linked, extends, isFinalized}
 use Rattle.protocol.specs.Linked.{OnParent, Linked, start, link, Extends, Finalized}
-use Rattle.protocol.specs.TestsLaws.{eqb-self, and-true, le-or-lt}
-
--- ---- equal byte strings
-same-eq : (a b : Bytes) → same a b ≡ true → a ≡ b
-unfolding same
-same-eq [] [] e = refl
-same-eq [] (y ∷ ys) e = absurd (false≢true e)
-same-eq (x ∷ xs) [] e = absurd (false≢true e)
-same-eq (x ∷ xs) (y ∷ ys) e =
-    let both = and-true (eqb x y) (same xs ys) e in
-    ap₂ _∷_ (eqb-true x y (both .0)) (same-eq xs ys (both .1))
-
-same-self : (a : Bytes) → same a a ≡ true
-unfolding same
-same-self [] = refl
-same-self (x ∷ xs) = rw (eqb-self x, same-self xs)
+use Rattle.protocol.specs.TestsLaws.{and-true, le-or-lt}
+use Rattle.protocol.specs.RowLaws.{row, same-eq, same-self}
 
 -- ---- runs of dummies
 pub run-sound : (v : View) (j count : ℕ) → dummyRun v j count ≡ true → (k : ℕ) → j < k → k ≤ j + count → isDummy v k ≡ true
@@ -91,27 +77,20 @@ module _ (digest : Bytes → Bytes) where
       (λ j l. enough-fuel i j v j (omega arith) (omega arith))))
 
   -- ---- the tests and the facts
-  onParent-sound : (v : View) (h : ℕ) (block : Bytes) → let j : ℕ = parentHeight block in
-      ltb j h ≡ true → same (parentDigest block) (digestAt digest v j) ≡ true → dummyRun v j (h - 1 - j) ≡ true → OnParent digest v h j block
-  onParent-sound v h block lower named run =
-      let below : parentHeight block < h = ltb-true _ _ lower in
-      record {
-        height = refl;
-        below = below;
-        names = same-eq _ _ named;
-        dummies = λ k low high. run-sound v (parentHeight block) (h - 1 - parentHeight block) run k low (omega arith);
-      }
-
   -- what the rows of an extending block say
   extends-rows : (v : View) (h : ℕ) (block : Bytes) → extends digest v h block ≡ true →
       (linked digest v (parentHeight block) ≡ true) × OnParent digest v h (parentHeight block) block
-  unfolding extends extendsOver allOf
+  unfolding extends extendsOver
   extends-rows v h block e =
-      let a = and-true (ltb (parentHeight block) h) _ e in
-      let b = and-true (linked digest v (parentHeight block)) _ (a .1) in
-      let c = and-true (same (parentDigest block) (digestAt digest v (parentHeight block))) _ (b .1) in
-      let d = and-true (dummyRun v (parentHeight block) (h - 1 - parentHeight block)) _ (c .1) in
-      (b .0, onParent-sound v h block (a .0) (c .0) (d .0))
+      let lower : parentHeight block < h = ltb-true _ _ (row _ 0 e) in (
+        row _ 1 e,
+        record {
+          height = refl;
+          below = lower;
+          names = same-eq _ _ (row _ 2 e);
+          dummies = λ k low high. run-sound v (parentHeight block) (h - 1 - parentHeight block) (row _ 3 e) k low (omega arith);
+        },
+      )
 
   extends-from : (v : View) (h j : ℕ) (block : Bytes) → linked digest v j ≡ true → OnParent digest v h j block → extends digest v h block ≡ true
   unfolding extends extendsOver allOf
