@@ -6,13 +6,13 @@ use mathlib.Core.Path.{_≡_, refl, sym, ap, _∙_}
 use mathlib.Core.List.{List, [], _∷_, _++_, map, append-assoc}
 use lib.ListN.{length, getD, take, drop, set, length-append, length-map, length-set, length-drop}
 use lib.Seq.{set-getD, set-set, getD-set-same, getD-set-other, length-take-le}
-use Rattle.protocol.specs.Bytes.{Bytes, byteAt, part, zeros, join}
+use Rattle.protocol.specs.Bytes.{Bytes, byteAt, le16, part, zeros, join}
 use Rattle.protocol.specs.State.{State, Height, noHeight, at, last, withHeight, encode, headBytes, contentBytes, bodyBytes}
 use Rattle.protocol.specs.EveryLaws.{Every, every-map, every-set}
 use Rattle.protocol.specs.RowLaws.{every-at, every-take}
 use Rattle.protocol.specs.BytesLaws.{put, middle-byte, middle-part, middle-set, middle-put, cut-set}
 use Rattle.protocol.specs.StateLaws.{Shaped, ShapedHeight, Sized, length-join, content-size, body-size, contents-sized, bodies-sized}
-use Rattle.protocol.specs.CodecLaws.{at-suc}
+use Rattle.protocol.specs.CodecLaws.{Clean, at-suc}
 
 pub head-size : (s : State) → length (headBytes s) ≡ 64
 unfolding headBytes zeros
@@ -167,3 +167,30 @@ module _ (s : State) (shaped : Shaped s) (i : ℕ) (inside : i < last s) where
   body-put x y fits j new h contents bodies =
       rw (body-cut x, body-cut y, contents, bodies)
       (middle-put (front s i ++ (contentBytes x ++ between s i)) (bodyBytes x) (back s i) (576 + 16 * last s + 864 * i) (body-front-size x) j new (rw (body-size x fits) h))
+
+-- ---- the bytes of a state of the right shape are those of a clean book
+content-zeros : (x : Height) → part (contentBytes x) 10 6 ≡ zeros 6
+unfolding contentBytes le16 part zeros
+content-zeros x = refl
+
+pub count-encode : (s : State) → byteAt (encode s) 2 ≡ last s
+unfolding encode headBytes last
+count-encode s = refl
+
+head-zeros : (s : State) → part (encode s) 8 56 ≡ zeros 56
+unfolding encode headBytes part zeros
+head-zeros s = refl
+
+edition-encode : (s : State) → byteAt (encode s) 7 ≡ 1
+unfolding encode headBytes
+edition-encode s = refl
+
+pub clean-encode : (s : State) → Shaped s → Clean (encode s)
+clean-encode s shaped = record {
+  size = rw count-encode (length-encode s shaped);
+  edition-byte = edition-encode s;
+  head-zeros = head-zeros s;
+  content-zeros = λ i h.
+      ap (λ (t : State). part (encode t) (576 + 16 * i + 10) 6) (sym (with-at s i)) ∙
+      content-part s shaped i (rw count-encode at h) (at s (suc i)) 10 6 (omega arith) ∙ content-zeros (at s (suc i));
+}

@@ -20,6 +20,11 @@ IsTrue test = test ≡ true
 pub true-and : (a b : Bool) → a ≡ true → b ≡ true → (a && b) ≡ true
 true-and a b p q = rw (p, q)
 
+-- a test that cannot pass fails
+pub not-passed : (a : Bool) → (a ≡ true → ⊥) → a ≡ false
+not-passed true f = absurd (f refl)
+not-passed false f = refl
+
 -- ---- rows that all pass
 -- the row of that number, counted from 0
 pub row : (rows : List Bool) (i : ℕ) → allOf rows ≡ true → getD rows i true ≡ true
@@ -32,6 +37,10 @@ pub all-of : {rows : List Bool} → Every IsTrue rows → allOf rows ≡ true
 unfolding allOf
 all-of Every.none = refl
 all-of (one {x = x} {xs = xs} p ps) = true-and x (allOf xs) p (all-of ps)
+
+-- one row that fails is enough
+pub row-fails : (rows : List Bool) (i : ℕ) → getD rows i true ≡ false → allOf rows ≡ false
+row-fails rows i f = not-passed (allOf rows) (λ e. true≢false (sym (row rows i e) ∙ f))
 
 -- ---- heights
 pub every-height-at : (test : ℕ → Bool) (last h : ℕ) → everyHeight test last ≡ true → 1 ≤ h → h ≤ last → test h ≡ true
@@ -49,6 +58,10 @@ unfolding everyHeight
 every-height test zero each = refl
 every-height test (suc last) each = true-and (everyHeight test last) (test (suc last))
     (every-height test last (λ h low high. each h low (omega arith))) (each (suc last) (omega arith) (omega arith))
+
+pub every-height-fails : (test : ℕ → Bool) (last h : ℕ) → 1 ≤ h → h ≤ last → test h ≡ false → everyHeight test last ≡ false
+every-height-fails test last h low high f =
+    not-passed (everyHeight test last) (λ e. true≢false (sym (every-height-at test last h e low high) ∙ f))
 
 -- ---- implications and ranges
 pub implies-true : (a b : Bool) → implies a b ≡ true → a ≡ true → b ≡ true

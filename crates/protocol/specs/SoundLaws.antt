@@ -16,11 +16,12 @@ use Rattle.protocol.specs.State.{State, Height, noHeight, at, last, deco
 use Rattle.protocol.specs.View.{View, quorum, extendsOver, linkedWithin, linked, isFinalized}
 use Rattle.protocol.specs.Sound.{view, masksBelow, blocksWellFormed, contentZeros, sound}
 use Rattle.protocol.specs.EveryLaws.{Every, none, one}
-use Rattle.protocol.specs.TestsLaws.{and-true, or-true}
+use Rattle.protocol.specs.TestsLaws.{and-true, or-true, le-or-lt}
 use Rattle.protocol.specs.RowLaws.{row, all-of, true-and, every-height-at, every-height, implies-true, true-implies, in-range, range-in, is-zero-zeros, zeros-is-zero}
 use Rattle.protocol.specs.StateLaws.{Shaped, decode-encode}
 use Rattle.protocol.specs.BytesLaws.{AreBytes, zero-part}
-use Rattle.protocol.specs.CodecLaws.{Exact, Clean, last-decode, decode-shaped, clean-back}
+use Rattle.protocol.specs.CodecLaws.{Exact, Clean, at-suc, last-decode, decode-shaped, clean-back}
+use Rattle.protocol.specs.PlaceLaws.{clean-encode}
 
 -- ---- facts about a state
 -- what stands at height `h`
@@ -48,6 +49,33 @@ pub record SoundState (digest : Bytes → Bytes) (s : State) : Type 0 where
   pub pending-few : s .pendingCount ≤ 32
   pub each : (h : ℕ) → 1 ≤ h → h ≤ last s → SoundHeight (view s) h (at s h)
   pub final : (s .finalized ≡ 0) ⊎ (isFinalized digest (view s) (s .finalized) ≡ true)
+
+-- ---- heights past the last hold nothing
+pub notarized-in : (s : State) (i : ℕ) → isNotarized (at s (suc i)) ≡ true → i < last s
+unfolding isNotarized noHeight last
+notarized-in s i e = go (le-or-lt (length (s .heights)) i)
+  where
+    go : (length (s .heights) ≤ i) ⊎ (i < length (s .heights)) → i < length (s .heights)
+    go (inl l) = absurd (false≢true (rw (at-suc s i, List·getD-eq-default (s .heights) noHeight {n = i} l) at e))
+    go (inr l) = l
+
+module _ (digest : Bytes → Bytes) (s : State) where
+  pub linked-in : (h : ℕ) → linked digest (view s) h ≡ true → h ≤ last s
+  unfolding linked linkedWithin view
+  linked-in zero e = omega arith
+  linked-in (suc i) e = go (or-true (eqb (suc i) 0) _ e)
+    where
+      go : (eqb (suc i) 0 ≡ true) ⊎ ((isNotarized (at s (suc i)) && extendsOver digest (λ j. linkedWithin digest i (view s) j) (view s) (suc i) (at s (suc i) .notarized)) ≡ true) → suc i ≤ last s
+      go (inl z) = let impossible : suc i ≡ 0 = eqb-true (suc i) 0 z in absurd (omega arith)
+      go (inr z) = notarized-in s i (and-true _ _ z .0)
+
+  pub finalized-in : SoundState digest s → s .finalized ≤ last s
+  unfolding isFinalized
+  finalized-in facts = go (facts .final)
+    where
+      go : (s .finalized ≡ 0) ⊎ ((linked digest (view s) (s .finalized) && quorum (view s) (view s .finalizeMask (s .finalized))) ≡ true) → s .finalized ≤ last s
+      go (inl z) = omega arith
+      go (inr z) = linked-in (s .finalized) (and-true _ _ z .0)
 
 -- ---- rows about one height, as facts
 module _ (v : View) (h : ℕ) (x : Height) where
@@ -155,3 +183,107 @@ module _ (digest : Bytes → Bytes) where
           each = λ h low high. height-row h low (rw count at high);
           final = final-row;
         }
+
+    -- its bytes called zero are zero
+    pub sound-clean : Clean book
+    unfolding contentZeros
+    sound-clean = record {
+      size = exact;
+      edition-byte = edition-row;
+      head-zeros = let size : length book ≡ 576 + 880 * H = exact in zero-part book 8 56 (omega arith) head-zero-row;
+      content-zeros = λ i h.
+          let size : length book ≡ 576 + 880 * H = exact in
+          let place : suc i - 1 ≡ i = omega arith in
+          zero-part book (576 + 16 * i + 10) 6 (omega arith) (rw place at (content-zero-row (suc i) (omega arith) (omega arith)));
+    }
+
+    pub encode-decode : AreBytes book → encode (decode book) ≡ book
+    encode-decode small = clean-back book small sound-clean
+
+  -- ---- and back: a clean book of a sound state is sound
+  module _ (book : Bytes) (clean : Clean book) (facts : SoundState digest (decode book)) where
+    abbrev D : State
+    D = decode book
+
+    height-of : (h : ℕ) → 1 ≤ h → h ≤ byteAt book 2 → SoundHeight (view D) h (at D h)
+    height-of h low high = facts .each h low (rw (last-decode book) high)
+
+    size-row : eqb (length book) (bookSize (byteAt book 2)) ≡ true
+    unfolding bookSize
+    size-row = eq-eqb _ _ (clean .size)
+
+    zeros-row : (h : ℕ) → 1 ≤ h → h ≤ byteAt book 2 → isZero (contentZeros book h) ≡ true
+    unfolding contentZeros
+    zeros-row h low high = rw (clean .content-zeros (h - 1) (omega arith)) (zeros-is-zero 6)
+
+    final-or : (D .finalized ≡ 0) ⊎ (isFinalized digest (view D) (D .finalized) ≡ true) →
+        (eqb (D .finalized) 0 || isFinalized digest (view D) (D .finalized)) ≡ true
+    final-or (inl z) = rw (eq-eqb (D .finalized) 0 z)
+    final-or (inr z) = rw z (or-last (eqb (D .finalized) 0))
+      where
+        or-last : (b : Bool) → (b || true) ≡ true
+        or-last true = refl
+        or-last false = refl
+
+    pub sound-of : sound digest book ≡ true
+    unfolding sound view
+    sound-of =
+        let count = last-decode book in
+        all-of
+        (one size-row
+        (one (range-in _ _ _ (facts .n-low) (facts .n-high))
+        (one (lt-ltb _ _ (facts .own-below))
+        (one (range-in _ _ _ (rw count at (facts .last-low)) (rw count at (facts .last-high)))
+        (one (eq-eqb _ _ (clean .edition-byte))
+        (one (range-in _ _ _ (facts .current-low) (rw count at (facts .current-high)))
+        (one (lt-ltb _ _ (facts .flags-small))
+        (one (le-leb _ _ (facts .pending-few))
+        (one (every-height _ _ (λ h low high. lt-ltb _ _ (height-of h low high .leader-below)))
+        (one (every-height _ _ (λ h low high. masks-row (view D) h (at D h) (height-of h low high)))
+        (one (every-height _ _ (λ h low high. le-leb _ _ (height-of h low high .status-small)))
+        (one (every-height _ _ (λ h low high. blocks-row (view D) h (at D h) (height-of h low high)))
+        (one (every-height _ _ (λ h low high. certificate-row (view D) h (at D h) (height-of h low high)))
+        (one (rw (clean .head-zeros) (zeros-is-zero 56))
+        (one (every-height _ _ zeros-row)
+        (one (final-or (facts .final)) none))))))))))))))))
+
+  pub sound-encode : (s : State) → SoundState digest s → sound digest (encode s) ≡ true
+  sound-encode s facts =
+      sound-of (encode s) (clean-encode s (facts .shaped)) (subst (λ (t : State). SoundState digest t) (sym (decode-encode s (facts .shaped))) facts)
+
+-- ---- what a sound book grants to those who read it
+pub record Granted (digest : Bytes → Bytes) (book : Bytes) : Type 0 where
+  pub state : SoundState digest (decode book)
+  pub clean : Clean book
+  pub whole : AreBytes book → encode (decode book) ≡ book
+  pub size : length book ≡ 576 + 880 * last (decode book)
+  pub finalized-high : decode book .finalized ≤ last (decode book)
+  -- the head's bytes
+  pub n-byte : byteAt book 0 ≡ decode book .n
+  pub own-byte : byteAt book 1 ≡ decode book .own
+  pub last-byte : byteAt book 2 ≡ last (decode book)
+  pub flags-byte : byteAt book 3 ≡ decode book .flags
+  pub current-byte : byteAt book 4 ≡ decode book .current
+  pub finalized-byte : byteAt book 5 ≡ decode book .finalized
+  pub pending-byte : byteAt book 6 ≡ decode book .pendingCount
+
+module _ (digest : Bytes → Bytes) (book : Bytes) where
+  pub granted : sound digest book ≡ true → Granted digest book
+  unfolding decode
+  granted e = record {
+    state = sound-decode digest book e;
+    clean = sound-clean digest book e;
+    whole = encode-decode digest book e;
+    size = rw (last-decode book) (exact digest book e);
+    finalized-high = finalized-in digest (decode book) (sound-decode digest book e);
+    n-byte = refl;
+    own-byte = refl;
+    last-byte = sym (last-decode book);
+    flags-byte = refl;
+    current-byte = refl;
+    finalized-byte = refl;
+    pending-byte = refl;
+  }
+
+  pub granted-sound : Granted digest book → sound digest book ≡ true
+  granted-sound g = sound-of digest book (g .clean) (g .state)
