@@ -31,6 +31,7 @@ use Rattle.conduct.specs.Fields.{Fields, Said, SameRoll, DigestSized, mo
 use Rattle.conduct.specs.FrameLaws.{zeros-size}
 use Rattle.conduct.specs.BlockLaws.{new-block-good}
 use Rattle.conduct.specs.ReadLaws.{Written, said-none, said-more, proposal-read, block-vote-read, dummy-vote-read, finalize-read, block-certificate-read, dummy-certificate-read, finalize-certificate-read}
+use Rattle.conduct.specs.GrowsLaws.{same-quorum}
 use Rattle.conduct.specs.StepLaws.{step-cases}
 use Rattle.conduct.specs.SubmitKeptLaws.{every-without, pending-sized}
 
@@ -44,11 +45,6 @@ has-block : {digest : Bytes → Bytes} {v : View} {h : ℕ} → Linked digest v 
 has-block start low = absurd (omega arith)
 has-block (link has parent on) low = has
 
--- quorums are the same in states of the same replicas
-same-quorum : (s t : State) (mask : ℕ) → t .n ≡ s .n → quorum (view s) mask ≡ true → quorum (view t) mask ≡ true
-unfolding quorum view
-same-quorum s t mask e q = rw e q
-
 module _ (digest : Bytes → Bytes) (sized : DigestSized digest) (s : State) (is : SoundState digest s) (t : State) (same : SameRoll s t) where
   abbrev c : ℕ
   c = s .current
@@ -59,6 +55,10 @@ module _ (digest : Bytes → Bytes) (sized : DigestSized digest) (s : State) (is
   mask-small : (mask : ℕ) → mask < 2 ^ view s .n → belowBit (t .n) mask ≡ true
   unfolding belowBit view
   mask-small mask small = rw (same .same-n) (lt-ltb mask (2 ^ s .n) small)
+
+  as-many : (mask : ℕ) → quorum (view s) mask ≡ true → quorum (view t) mask ≡ true
+  unfolding view
+  as-many mask e = same-quorum (view s) (view t) mask (same .same-n) e
 
   -- ---- certificates of a height
   module _ (h : ℕ) (low : 1 ≤ h) (high : h ≤ last s) where
@@ -71,18 +71,18 @@ module _ (digest : Bytes → Bytes) (sized : DigestSized digest) (s : State) (is
     block-certificate : isNotarized (at s h) ≡ true → Written t (blockCertificateFields h (at s h .certificateMask) (at s h .notarized)) (blockCertificate h (at s h .certificateMask) (at s h .notarized))
     block-certificate has =
         block-certificate-read t h low also-high (at s h .certificateMask) (mask-small (at s h .certificateMask) (facts .certificate-below))
-        (same-quorum s t (at s h .certificateMask) (same .same-n) (facts .certified has)) (at s h .notarized) (facts .notarized-formed has)
+        (as-many (at s h .certificateMask) (facts .certified has)) (at s h .notarized) (facts .notarized-formed has)
 
     dummy-certificate : isDummy (view s) h ≡ true → Written t (dummyCertificateFields h (at s h .dummyMask)) (dummyCertificate h (at s h .dummyMask))
     unfolding isDummy view
     dummy-certificate enough =
         dummy-certificate-read t h low also-high (at s h .dummyMask) (mask-small (at s h .dummyMask) (facts .dummy-below))
-        (same-quorum s t (at s h .dummyMask) (same .same-n) enough)
+        (as-many (at s h .dummyMask) enough)
 
     finalize-certificate : quorum (view s) (at s h .finalizeMask) ≡ true → Written t (finalizeCertificateFields h (at s h .finalizeMask)) (finalizeCertificate h (at s h .finalizeMask))
     finalize-certificate enough =
         finalize-certificate-read t h low also-high (at s h .finalizeMask) (mask-small (at s h .finalizeMask) (facts .finalize-below))
-        (same-quorum s t (at s h .finalizeMask) (same .same-n) enough)
+        (as-many (at s h .finalizeMask) enough)
 
   -- ---- the moves
   abbrev Good : Step → Type 0

@@ -28,8 +28,5 @@ pub mod ChainLaws
 pub mod ParentLaws
 pub mod OnesLaws
 pub mod UnionLaws
-pub mod RowLaws
-pub mod BytesLaws
-pub mod CodecLaws
 pub mod SoundLaws
 pub mod PlaceLaws
