@@ -2,12 +2,13 @@
 use Prim.Native.Nat.{ℕ, zero, suc, _+_, _*_, _/_, _%_, _≤_, _<_, suc-le-suc}
 use native.Mathlib.Omega.{arith}
 use native.Mathlib.Nat.{add-assoc, add-zero, zero-add, suc-add, mul-suc, mul-zero, zero-lt-suc, le-of-suc-le-suc, not-suc-le-zero}
+use native.Mathlib.Numerals.{add-one}
 use mathlib.Core.Path.{_≡_, refl, sym, ap, _∙_}
 use mathlib.Core.Bool.{true}
-use mathlib.Core.List.{List, [], _∷_, _++_, map, append-assoc}
+use mathlib.Core.List.{List, [], _∷_, _++_, map, append-assoc, append-nil}
 use lib.Dec.{lit<}
-use lib.ListN.{length, getD, take, drop, set, replicate, length-append, length-take, length-drop, take-append-drop, List·getD-append}
-use lib.Seq.{paste, take-length, take-all, take-take, take-append-le, take-append-add, drop-at, drop-cons, drop-drop, drop-append-add, drop-append-le, getD-drop, getD-take, getD-append-add, set-append-left, length-take-le}
+use lib.ListN.{length, getD, take, drop, set, replicate, length-append, length-take, length-drop, take-append-drop, drop-of-length-le, List·getD-append}
+use lib.Seq.{paste, take-length, take-all, take-take, take-append-le, take-append-add, drop-at, drop-cons, drop-drop, drop-append-add, drop-append-le, getD-drop, getD-take, getD-append-add, set-append-left, set-split, sets-eq, length-take-le}
 use Rattle.protocol.specs.Bytes.{Bytes, byteAt, word16, le16, part, zeros, isZero, join, pieces}
 use Rattle.protocol.specs.RowLaws.{is-zero-zeros}
 
@@ -97,6 +98,27 @@ pub put-paste : (bytes new : Bytes) (i : ℕ) → paste bytes i new (length new)
 unfolding put
 put-paste bytes new i = rw take-length (append-assoc (take i bytes) new (drop (i + length new) bytes))
 
+-- all the bytes
+pub put-all : (old new : Bytes) → length old ≡ length new → put old 0 new ≡ new
+unfolding put
+put-all old new e = rw (zero-add, drop-of-length-le old {i = length new} (omega arith)) (append-nil new)
+
+-- bytes past a front part
+pub put-after : (front rest : Bytes) (k : ℕ) → length front ≡ k → (j : ℕ) (new : Bytes) → put (front ++ rest) (k + j) new ≡ front ++ put rest j new
+unfolding put
+put-after front rest k size j new =
+    rw (← size, take-append-add, add-assoc (length front) j (length new), drop-append-add) (append-assoc front (take j rest) (new ++ drop (j + length new) rest))
+
+-- one byte, and the two bytes of a number
+pub put-byte : (bytes : Bytes) (i v : ℕ) → i < length bytes → put bytes i (v ∷ []) ≡ set bytes i v
+unfolding put
+put-byte bytes i v h = rw (add-one i) (sym (set-split bytes i v h))
+
+pub put-word : (bytes : Bytes) (i v : ℕ) → i + 1 < length bytes → put bytes i (le16 v) ≡ set (set bytes i (v % 256)) (i + 1) (v / 256)
+unfolding put le16
+put-word bytes i v h =
+    rw (add-one i) (sym (sets-eq (v % 256 ∷ v / 256 ∷ []) bytes i (omega arith) ∙ append-assoc (take i bytes) (v % 256 ∷ v / 256 ∷ []) (drop (i + 2) bytes)))
+
 set-append-add : (xs ys : Bytes) (i v : ℕ) → set (xs ++ ys) (length xs + i) v ≡ xs ++ set ys i v
 set-append-add [] ys i v = rw zero-add
 set-append-add (x ∷ xs) ys i v = rw suc-add (ap (λ (l : Bytes). x ∷ l) (set-append-add xs ys i v))
@@ -143,3 +165,17 @@ module _ {A : Type 0} (f : A → Bytes) (d : A) where
   cut-set [] i y h = absurd (not-suc-le-zero h)
   cut-set (x ∷ xs) zero y h = refl
   cut-set (x ∷ xs) (suc i) y h = rw append-assoc (ap (λ (l : Bytes). f x ++ l) (cut-set xs i y (le-of-suc-le-suc h)))
+
+-- ---- pieces of a byte string, by their place
+pub length-pieces : (size count : ℕ) (bytes : Bytes) → length (pieces size count bytes) ≡ count
+unfolding pieces
+length-pieces size zero bytes = refl
+length-pieces size (suc count) bytes = ap suc (length-pieces size count (drop size bytes))
+
+pub get-pieces : (size count : ℕ) (bytes : Bytes) (i : ℕ) → i < count → getD (pieces size count bytes) i [] ≡ part bytes (size * i) size
+unfolding pieces part
+get-pieces size zero bytes i h = absurd (not-suc-le-zero h)
+get-pieces size (suc count) bytes zero h = rw mul-zero
+get-pieces size (suc count) bytes (suc i) h =
+    let e : size + size * i ≡ size * suc i = omega arith in
+    get-pieces size count (drop size bytes) i (le-of-suc-le-suc h) ∙ rw (drop-drop, e)

@@ -30,3 +30,5 @@ pub mod OnesLaws
 pub mod UnionLaws
 pub mod SoundLaws
 pub mod PlaceLaws
+pub mod FieldLaws
+pub mod WriteLaws
