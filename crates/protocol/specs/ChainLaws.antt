@@ -114,7 +114,7 @@ entries-count h block e =
     let n = pieces-length 16 (entryCount block) (drop 48 block) in
     omega arith
 
-module _ (digest : Bytes → Bytes) (v : View) (formed : (h : ℕ) → v .hasBlock h ≡ true → blockWellFormed h (v .block h) ≡ true) where
+module _ (digest : Bytes → Bytes) (v : View) (formed : (h : ℕ) → 1 ≤ h → v .hasBlock h ≡ true → blockWellFormed h (v .block h) ≡ true) where
   -- a property of logs that each block's entries keep
   log-induction : (P : ℕ → List Bytes → Type 0) → P 0 [] →
       ((i j : ℕ) (log : List Bytes) → j ≤ i → P j log → blockWellFormed (suc i) (v .block (suc i)) ≡ true → P (suc i) (log ++ entries (v .block (suc i)))) →
@@ -127,7 +127,7 @@ module _ (digest : Bytes → Bytes) (v : View) (formed : (h : ℕ) → v .hasBlo
       let lower = on .below in
       let below = log-induction P base step f (parentHeight (v .block (suc i))) (omega arith) parent in
       rw (log-suc digest v i e)
-      (step i (parentHeight (v .block (suc i))) (logAt v (parentHeight (v .block (suc i)))) (omega arith) below (formed (suc i) has))
+      (step i (parentHeight (v .block (suc i))) (logAt v (parentHeight (v .block (suc i)))) (omega arith) below (formed (suc i) (omega arith) has))
 
   pub log-sized : (h : ℕ) → linked digest v h ≡ true → Every (Sized 16) (logAt v h)
   log-sized h e =

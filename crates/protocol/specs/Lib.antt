@@ -32,3 +32,4 @@ pub mod SoundLaws
 pub mod PlaceLaws
 pub mod FieldLaws
 pub mod WriteLaws
+pub mod LogLaws
