@@ -8,3 +8,4 @@ pub mod StepLaws
 pub mod MoveKeptLaws
 pub mod SubmitKeptLaws
 pub mod WrittenReadLaws
+pub mod HeightKeptLaws

@@ -24,7 +24,7 @@ use Rattle.protocol.specs.Linked.{Linked, start, link, ChainOf}
 use Rattle.protocol.specs.LinkedLaws.{linked-sound}
 use Rattle.protocol.specs.ParentLaws.{parent-some}
 use Rattle.protocol.specs.TestsLaws.{and-true, or-true}
-use Rattle.protocol.specs.RowLaws.{row, zeros-is-zero}
+use Rattle.protocol.specs.RowLaws.{row, every-take, zeros-is-zero}
 use Rattle.protocol.specs.StateLaws.{Sized}
 use Rattle.protocol.specs.SoundLaws.{SoundState, SoundHeight}
 use Rattle.conduct.specs.Fields.{Fields, Said, SameRoll, DigestSized, moveFields, passFields, finalizeFields, blockCertificateFields, dummyCertificateFields, finalizeCertificateFields}
@@ -34,11 +34,6 @@ use Rattle.conduct.specs.ReadLaws.{Written, said-none, said-more, propos
 use Rattle.conduct.specs.GrowsLaws.{same-quorum}
 use Rattle.conduct.specs.StepLaws.{step-cases}
 use Rattle.conduct.specs.SubmitKeptLaws.{every-without, pending-sized}
-
-every-take : {A : Type 0} {P : A → Type 0} (count : ℕ) {l : List A} → Every P l → Every P (take count l)
-every-take zero ps = none
-every-take (suc count) none = none
-every-take (suc count) (one p ps) = one p (every-take count ps)
 
 -- a linked height from 1 on has a block
 has-block : {digest : Bytes → Bytes} {v : View} {h : ℕ} → Linked digest v h → 1 ≤ h → v .hasBlock h ≡ true
