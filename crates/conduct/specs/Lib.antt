@@ -9,3 +9,5 @@ pub mod MoveKeptLaws
 pub mod SubmitKeptLaws
 pub mod WrittenReadLaws
 pub mod HeightKeptLaws
+pub mod KeepLaws
+pub mod DeliverKeptLaws

@@ -62,7 +62,7 @@ module _ (t : State) (k s h mask : ℕ) (digest block : Bytes) (digest-size : le
           (one (ap (λ (m : ℕ). isStatement k || quorum (view t) m) (mask-back k s h mask digest block digest-size) ∙ quorum-row)
           Every.none)))))
 
-block-size-of : (h : ℕ) (block : Bytes) → blockWellFormed h block ≡ true → length block ≡ 176
+pub block-size-of : (h : ℕ) (block : Bytes) → blockWellFormed h block ≡ true → length block ≡ 176
 unfolding blockWellFormed allOf
 block-size-of h block e = eqb-true (length block) 176 (and-true (eqb (length block) 176) _ e .0)
 
