@@ -11,3 +11,6 @@ pub mod WrittenReadLaws
 pub mod HeightKeptLaws
 pub mod KeepLaws
 pub mod DeliverKeptLaws
+pub mod OpenKeptLaws
+pub mod SoundKeptLaws
+pub mod SoundKept
