@@ -1,15 +1,14 @@
 -- Deliver leaves a sound state.
 use Prim.Native.Nat.{ℕ, zero, suc, _+_, _^_, _≤_, _<_}
 use native.Mathlib.Omega.{arith}
-use mathlib.Core.Path.{_≡_, refl, sym, ap, subst, _∙_}
-use mathlib.Core.Logic.{_⊎_, inl, inr}
+use mathlib.Core.Path.{_≡_, refl, ap, subst, _∙_}
 use mathlib.Core.Bool.{Bool, true, false, _||_, cond}
-use mathlib.Core.List.{List, [], _∷_, _++_}
+use mathlib.Core.List.{List, _++_}
 use mathlib.Core.Option.{Option, some, none}
 use lib.ListN.{length}
 use lib.Dec.{eqb, ltb}
 use borrow.Author.Tests.{eqb-true, ltb-true}
-use Rattle.protocol.specs.Bytes.{Bytes, part}
+use Rattle.protocol.specs.Bytes.{Bytes}
 use Rattle.protocol.specs.Tests.{implies, inRange, Row, firstRefusal}
 use Rattle.protocol.specs.Block.{blockWellFormed}
 use Rattle.protocol.specs.Mask.{inMask, union, belowBit}
@@ -17,7 +16,7 @@ use Rattle.protocol.specs.Frame.{kind, signer, frameHeight, signerMask, frameDi
 use Rattle.protocol.specs.State.{State, Height, at, last, holdsProposal, isNotarized, withHeight}
 use Rattle.protocol.specs.View.{View, quorum}
 use Rattle.protocol.specs.Sound.{view}
-use Rattle.protocol.specs.Deliver.{keepDummyVote, keepFinalize, keepBlockCertificate, keepDummyCertificate, keepFinalizeCertificate, keepProposal, keepBlockVote, keep, readRows, withMasks, withNotarized, withProposal, withVote, notarize}
+use Rattle.protocol.specs.Deliver.{keepDummyVote, keepFinalize, keepBlockCertificate, keepDummyCertificate, keepFinalizeCertificate, keepProposal, keepBlockVote, keep, readRows, withProposal, withVote}
 use Rattle.protocol.specs.MaskLaws.{Within, inMask-add-keep, add-below, below-lt}
 use Rattle.protocol.specs.UnionLaws.{union-left, union-lt}
 use Rattle.protocol.specs.TestsLaws.{cond-elim}

@@ -1,20 +1,19 @@
 -- The fields of a frame that is put together are read back, and when such a frame is well formed.
-use Prim.Native.Nat.{ℕ, _+_, _*_, _/_, _%_}
+use Prim.Native.Nat.{ℕ}
 use native.Mathlib.Omega.{arith}
-use mathlib.Core.Path.{_≡_, refl, sym, ap, _∙_}
-use mathlib.Core.Bool.{Bool, true, false, _&&_, _||_}
-use mathlib.Core.List.{List, [], _∷_, _++_}
-use lib.ListN.{length, take, drop, length-append, length-replicate}
+use mathlib.Core.Path.{_≡_, refl, ap, _∙_}
+use mathlib.Core.Bool.{true, _||_}
+use lib.ListN.{length, length-append, length-replicate}
 use lib.Seq.{take-at, drop-at}
 use lib.Dec.{eqb}
 use borrow.Author.Tests.{eq-eqb}
 use Rattle.protocol.specs.Bytes.{Bytes, word16, le16, part, zeros, isZero, all}
-use Rattle.protocol.specs.Tests.{allOf, implies, inRange}
-use Rattle.protocol.specs.Block.{digestSize, blockSize, blockWellFormed}
+use Rattle.protocol.specs.Tests.{implies}
+use Rattle.protocol.specs.Block.{blockWellFormed}
 use Rattle.protocol.specs.EveryLaws.{one, none}
 use Rattle.protocol.specs.RowLaws.{all-of}
-use Rattle.conduct.specs.Fields.{Fields, fields}
-use Rattle.protocol.specs.Frame.{kind, signer, frameHeight, signerMask, frameDigest, frameBlock, frameSize, isStatement, isCertificate, carriesBlock, carriesDigest, frameWellFormed, frameOf}
+use Rattle.conduct.specs.Fields.{fields}
+use Rattle.protocol.specs.Frame.{kind, signer, frameHeight, signerMask, frameDigest, frameBlock, isStatement, isCertificate, carriesBlock, carriesDigest, frameWellFormed, frameOf}
 
 pub zeros-size : (count : ℕ) → length (zeros count) ≡ count
 unfolding zeros

@@ -1,12 +1,12 @@
 -- What is linked or finalized stays so as a view grows.
-use Prim.Native.Nat.{ℕ, zero, suc, _≤_, _<_}
+use Prim.Native.Nat.{ℕ, zero, suc, _≤_}
 use native.Mathlib.Omega.{arith}
 use mathlib.Core.Path.{_≡_, refl, sym, ap, _∙_}
-use mathlib.Core.Bool.{Bool, true}
+use mathlib.Core.Bool.{true}
 use Rattle.protocol.specs.Bytes.{Bytes}
 use Rattle.protocol.specs.Block.{parentHeight, parentDigest}
 use Rattle.protocol.specs.View.{View, quorum, isDummy, digestAt, linked, isFinalized}
-use Rattle.protocol.specs.Linked.{OnParent, Linked, start, link, Finalized}
+use Rattle.protocol.specs.Linked.{OnParent, Linked, start, link}
 use Rattle.protocol.specs.LinkedLaws.{linked-sound, linked-complete, finalized-sound, finalized-complete}
 use Rattle.protocol.specs.MaskLaws.{Within}
 use Rattle.protocol.specs.OnesLaws.{quorum-mono}

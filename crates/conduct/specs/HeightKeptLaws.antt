@@ -2,12 +2,12 @@
 use Prim.Native.Nat.{ℕ, zero, suc, _≤_, _<_}
 use native.Mathlib.Omega.{arith}
 use native.Mathlib.Decide.{ℕ-discrete}
-use mathlib.Core.Path.{_≡_, refl, sym, subst}
+use mathlib.Core.Path.{_≡_, refl}
 use mathlib.Core.Logic.{_⊎_, inl, inr}
-use mathlib.Core.Bool.{Bool, true}
+use mathlib.Core.Bool.{true}
 use Rattle.protocol.specs.Bytes.{Bytes}
 use Rattle.protocol.specs.State.{State, Height, at, last, withHeight, isNotarized}
-use Rattle.protocol.specs.View.{View, quorum, isFinalized}
+use Rattle.protocol.specs.View.{View, isFinalized}
 use Rattle.protocol.specs.Sound.{view}
 use Rattle.protocol.specs.MaskLaws.{Within}
 use Rattle.protocol.specs.StateLaws.{ShapedHeight}

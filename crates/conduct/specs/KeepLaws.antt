@@ -1,12 +1,11 @@
 -- Each change that Deliver makes at a height leaves one that may take its place.
 use Prim.Native.Nat.{ℕ, _+_, _*_, _%_, _^_, _≤_, _<_}
 use native.Mathlib.Omega.{arith}
-use mathlib.Core.Path.{_≡_, refl, sym, ap, _∙_}
-use mathlib.Core.Logic.{_⊎_, inl, inr, _≢_}
-use mathlib.Core.Bool.{Bool, true, false, not, true≢false}
+use mathlib.Core.Path.{_≡_, refl, sym, _∙_}
+use mathlib.Core.Logic.{_≢_}
+use mathlib.Core.Bool.{true, false, not, true≢false}
 use mathlib.Core.List.{[], _∷_, _++_}
 use lib.ListN.{length, take, drop, length-append, length-take, length-drop}
-use lib.Dec.{eqb, leb}
 use borrow.Author.Tests.{eqb-true, eqb-false, eq-eqb, leb-true, leb-false, le-leb, not-true}
 use Rattle.protocol.specs.Bytes.{Bytes}
 use Rattle.protocol.specs.Tests.{allOf}
@@ -15,13 +14,13 @@ use Rattle.protocol.specs.Mask.{inMask}
 use Rattle.protocol.specs.State.{Height, holdsProposal, isNotarized}
 use Rattle.protocol.specs.View.{View, quorum}
 use Rattle.protocol.specs.Deliver.{withProposal, withNotarized, withMasks, withVote, votersFor, notarize}
-use Rattle.protocol.specs.MaskLaws.{Within, inMask-add-keep, add-below, maskOf-below}
+use Rattle.protocol.specs.MaskLaws.{Within, add-below, maskOf-below}
 use Rattle.protocol.specs.TestsLaws.{cond-elim}
 use Rattle.protocol.specs.RowLaws.{row}
 use Rattle.protocol.specs.StateLaws.{ShapedHeight}
 use Rattle.protocol.specs.SoundLaws.{SoundHeight}
 use Rattle.conduct.specs.ReadLaws.{block-size-of}
-use Rattle.conduct.specs.HeightKeptLaws.{GrownHeight, Replaces}
+use Rattle.conduct.specs.HeightKeptLaws.{Replaces}
 
 -- ---- what a status says
 none-held : (x : Height) → holdsProposal x ≡ false → x .status % 2 ≡ 0

@@ -1,4 +1,6 @@
 pub mod Fields
+pub mod Readable
+pub mod Named
 pub mod FrameLaws
 pub mod ReadLaws
 pub mod BlockLaws
@@ -14,3 +16,7 @@ pub mod DeliverKeptLaws
 pub mod OpenKeptLaws
 pub mod SoundKeptLaws
 pub mod SoundKept
+pub mod Reply
+pub mod ReplyLaws
+pub mod CallWrittenLaws
+pub mod WrittenRead

@@ -1,13 +1,12 @@
 -- Move and Signal leave a sound state.
-use Prim.Native.Nat.{ℕ, zero, suc, _+_, _/_, _%_, _≤_, _<_}
+use Prim.Native.Nat.{ℕ, _+_, _/_, _%_, _≤_, _<_}
 use native.Mathlib.Omega.{arith}
-use mathlib.Core.Path.{_≡_, refl}
+use mathlib.Core.Path.{_≡_}
 use mathlib.Core.Logic.{_⊎_, inl, inr, _≢_}
-use mathlib.Core.Bool.{Bool, true, false, not}
+use mathlib.Core.Bool.{true, false, not}
 use lib.Dec.{eqb}
 use borrow.Author.Tests.{eqb-false, leb-true, not-true}
 use Rattle.protocol.specs.Bytes.{Bytes}
-use Rattle.protocol.specs.Tests.{allOf}
 use Rattle.protocol.specs.State.{State, at, last, flag, withHead}
 use Rattle.protocol.specs.View.{isFinalized}
 use Rattle.protocol.specs.Sound.{view}

@@ -1,16 +1,15 @@
 -- Open makes a sound state.
-use Prim.Native.Nat.{ℕ, zero, suc, _+_, _^_, _≤_, _<_}
+use Prim.Native.Nat.{ℕ, zero, suc, _≤_, _<_}
 use native.Mathlib.Omega.{arith}
-use mathlib.Core.Path.{_≡_, refl, sym, ap, _∙_}
-use mathlib.Core.Logic.{_⊎_, inl, inr}
-use mathlib.Core.Bool.{Bool, true, false, false≢true}
-use mathlib.Core.List.{List, [], _∷_, map}
+use mathlib.Core.Path.{_≡_, refl}
+use mathlib.Core.Logic.{inl}
+use mathlib.Core.Bool.{true, false≢true}
+use mathlib.Core.List.{[], _∷_}
 use lib.ListN.{length, length-map}
-use lib.Dec.{eqb, ltb}
+use lib.Dec.{ltb}
 use lib.Pow.{pow-pos}
 use borrow.Author.Tests.{eqb-true, ltb-true}
 use Rattle.protocol.specs.Bytes.{Bytes, all}
-use Rattle.protocol.specs.Tests.{inRange}
 use Rattle.protocol.specs.State.{State, Height, noHeight, at, last, holdsProposal, isNotarized}
 use Rattle.protocol.specs.View.{View}
 use Rattle.protocol.specs.Sound.{view}

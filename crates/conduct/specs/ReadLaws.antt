@@ -1,25 +1,26 @@
 -- When the frame of each kind is read over a state, and that it says what it was made of.
 use Prim.Native.Nat.{ℕ, _≤_, _<_}
-use mathlib.Core.Path.{_≡_, refl, sym, ap, ap₂, _∙_}
-use mathlib.Core.Bool.{Bool, true, false, _||_, cond}
+use mathlib.Core.Path.{_≡_, refl, ap, ap₂, _∙_}
+use mathlib.Core.Bool.{true, false, _||_, cond}
 use mathlib.Core.List.{List, [], _∷_}
-use mathlib.Core.Option.{none}
+use mathlib.Core.Option.{none, some}
 use lib.ListN.{length}
-use lib.Dec.{eqb, leb, ltb}
-use borrow.Author.Tests.{eq-eqb, lt-ltb, le-leb, eqb-true}
-use Rattle.protocol.specs.Bytes.{Bytes, zeros, isZero, all}
+use lib.Dec.{eqb, ltb}
+use borrow.Author.Tests.{eq-eqb, lt-ltb, eqb-true}
+use Rattle.protocol.specs.Bytes.{Bytes, zeros}
 use Rattle.protocol.specs.Tests.{allOf, implies, inRange, Row, firstRefusal}
 use Rattle.protocol.specs.Mask.{belowBit}
-use Rattle.protocol.specs.Block.{blockSize, digestSize, blockWellFormed}
-use Rattle.protocol.specs.Frame.{kind, signer, frameHeight, signerMask, isStatement, isCertificate, carriesBlock, carriesDigest, frameOf, proposal, blockVote, dummyVote, finalize, blockCertificate, dummyCertificate, finalizeCertificate}
+use Rattle.protocol.specs.Block.{blockWellFormed}
+use Rattle.protocol.specs.Frame.{kind, signer, frameHeight, frameWellFormed, isStatement, isCertificate, carriesBlock, carriesDigest, frameOf, proposal, blockVote, dummyVote, finalize, blockCertificate, dummyCertificate, finalizeCertificate}
 use Rattle.protocol.specs.State.{State, at, last}
 use Rattle.protocol.specs.View.{quorum}
 use Rattle.protocol.specs.Sound.{view}
 use Rattle.protocol.specs.Deliver.{readRows}
 use Rattle.protocol.specs.EveryLaws.{Every, one}
 use Rattle.protocol.specs.TestsLaws.{and-true}
-use Rattle.protocol.specs.RowLaws.{zeros-is-zero, range-in}
-use Rattle.conduct.specs.Fields.{Fields, fields, IsRead, Said, proposalFields, blockVoteFields, dummyVoteFields, finalizeFields, blockCertificateFields, dummyCertificateFields, finalizeCertificateFields}
+use Rattle.protocol.specs.RowLaws.{refuse-row, zeros-is-zero, range-in}
+use Rattle.conduct.specs.Fields.{Fields, fields, proposalFields, blockVoteFields, dummyVoteFields, finalizeFields, blockCertificateFields, dummyCertificateFields, finalizeCertificateFields}
+use Rattle.conduct.specs.Readable.{IsRead, Said}
 use Rattle.conduct.specs.FrameLaws.{zeros-size, Fitting, fields-back, frame-size, well-formed, mask-back}
 
 -- rows that all pass refuse nothing
@@ -147,3 +148,12 @@ module _ (t : State) (h : ℕ) (low : 1 ≤ h) (high : h ≤ last t) where
         read-over t 7 0 h mask (zeros 32) (zeros 176) (zeros-size 32)
         (record { block-size = zeros-size 176; a-kind = refl; a-signer = refl; a-mask = refl; a-digest = zeros-is-zero 32; a-block = zeros-is-zero 176; good-block = refl })
         low high small refl enough
+
+-- ---- 224 zero bytes
+zeros-unformed : frameWellFormed (zeros 224) ≡ false
+unfolding frameWellFormed allOf kind isStatement isCertificate inRange zeros
+zeros-unformed = refl
+
+pub zero-frame : (t : State) → firstRefusal (readRows t (zeros 224)) ≡ some 4
+unfolding readRows
+zero-frame t = refuse-row (4, frameWellFormed (zeros 224)) _ zeros-unformed

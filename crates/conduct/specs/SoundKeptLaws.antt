@@ -2,21 +2,20 @@
 use Prim.Native.Nat.{ℕ}
 use native.Mathlib.Omega.{arith}
 use mathlib.Core.Path.{_≡_, refl}
-use mathlib.Core.Bool.{Bool, true, not}
+use mathlib.Core.Bool.{true}
 use mathlib.Core.List.{List, [], _∷_, _++_}
 use mathlib.Core.Option.{Option, some, none}
-use lib.ListN.{length}
 use lib.Dec.{eqb}
 use borrow.Author.Tests.{eqb-true, ltb-true}
 use Rattle.protocol.specs.Bytes.{Bytes}
 use Rattle.protocol.specs.Tests.{Row, firstRefusal}
 use Rattle.protocol.specs.Frame.{frameHeight}
-use Rattle.protocol.specs.State.{State, Height, encode, decode, withHeight, flag}
+use Rattle.protocol.specs.State.{State, Height, encode, decode, withHeight}
 use Rattle.protocol.specs.Sound.{sound}
-use Rattle.protocol.specs.Answer.{Answer, refused, accepted, Outcome, Done, done, Delivery, unlessRefused}
-use Rattle.protocol.specs.Open.{newState, openInRange, openRows, openCall}
-use Rattle.protocol.specs.Deliver.{clashRows, readRows, keep, kept, deliverRows, deliverCall}
-use Rattle.protocol.specs.Move.{Step, step, moved, unlessMoveRefused, moveRows, moveCall}
+use Rattle.protocol.specs.Answer.{Answer, refused, accepted, Outcome, Done, done, unlessRefused}
+use Rattle.protocol.specs.Open.{newState, openRows, openCall}
+use Rattle.protocol.specs.Deliver.{clashRows, keep, kept, deliverRows, deliverCall}
+use Rattle.protocol.specs.Move.{step, moved, unlessMoveRefused, moveRows, moveCall}
 use Rattle.protocol.specs.Signal.{withTimerFired, signalRows, signalCall}
 use Rattle.protocol.specs.Submit.{withPending, stillPending, submitRows, submitCall}
 use Rattle.protocol.specs.TestsLaws.{and-true}

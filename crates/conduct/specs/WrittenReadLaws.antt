@@ -1,33 +1,32 @@
 -- Each frame that Move or Fetch writes is read over a state of the same replicas, heights and leaders.
-use Prim.Native.Nat.{ℕ, zero, suc, _+_, _-_, _*_, _^_, _≤_, _<_}
+use Prim.Native.Nat.{ℕ, zero, suc, _-_, _^_, _≤_, _<_}
 use native.Mathlib.Omega.{arith}
-use mathlib.Core.Path.{_≡_, refl, sym, ap, subst, _∙_}
-use mathlib.Core.Logic.{_⊎_, inl, inr}
+use mathlib.Core.Path.{_≡_, refl, sym, _∙_}
 use mathlib.Core.Bool.{Bool, true, false, _&&_, _||_, not, cond, false≢true}
-use mathlib.Core.List.{List, [], _∷_}
+use mathlib.Core.List.{[], _∷_}
 use mathlib.Core.Option.{Option, some, none}
-use lib.ListN.{length, take, length-take}
-use lib.Dec.{eqb, leb}
+use lib.ListN.{length, length-take}
 use borrow.Author.Tests.{lt-ltb, leb-true, eqb-true}
-use Rattle.protocol.specs.Bytes.{Bytes, zeros, isZero}
-use Rattle.protocol.specs.Tests.{allOf}
-use Rattle.protocol.specs.Mask.{ones, belowBit}
+use Rattle.protocol.specs.Bytes.{Bytes, isZero}
+use Rattle.protocol.specs.Mask.{belowBit}
 use Rattle.protocol.specs.Block.{blockWellFormed}
-use Rattle.protocol.specs.Frame.{proposal, blockVote, dummyVote, finalize, blockCertificate, dummyCertificate, finalizeCertificate}
+use Rattle.protocol.specs.Frame.{proposal, finalize, blockCertificate, dummyCertificate, finalizeCertificate}
 use Rattle.protocol.specs.State.{State, at, last, flag, isNotarized}
-use Rattle.protocol.specs.View.{View, quorum, isDummy, linked, digestAt, parentOf, logAt}
+use Rattle.protocol.specs.View.{View, quorum, isDummy, linked, digestAt, logAt}
 use Rattle.protocol.specs.Sound.{view}
-use Rattle.protocol.specs.Answer.{Move, pass, Certificate, onBlock, onDummy}
-use Rattle.protocol.specs.Move.{Step, isRunning, isSome, someOr, parentBelow, offered, proposedBlock, without, passCertificate, step, dummyVoteApplies, dummyVoteStep, outputStep, passApplies, passStep, proposeApplies, proposeStep, blockVoteApplies, blockVoteStep, idleStep}
-use Rattle.protocol.specs.EveryLaws.{Every, one, none}
-use Rattle.protocol.specs.Linked.{Linked, start, link, ChainOf}
+use Rattle.protocol.specs.Answer.{pass, onBlock, onDummy}
+use Rattle.protocol.specs.Move.{Step, isRunning, isSome, someOr, parentBelow, offered, proposedBlock, passCertificate, step, dummyVoteApplies, dummyVoteStep, outputStep, passApplies, passStep, proposeApplies, proposeStep, blockVoteApplies, blockVoteStep, idleStep}
+use Rattle.protocol.specs.EveryLaws.{Every, none}
+use Rattle.protocol.specs.Linked.{Linked, start, link}
 use Rattle.protocol.specs.LinkedLaws.{linked-sound}
 use Rattle.protocol.specs.ParentLaws.{parent-some}
-use Rattle.protocol.specs.TestsLaws.{and-true, or-true}
+use Rattle.protocol.specs.TestsLaws.{and-true}
 use Rattle.protocol.specs.RowLaws.{row, every-take, zeros-is-zero}
 use Rattle.protocol.specs.StateLaws.{Sized}
 use Rattle.protocol.specs.SoundLaws.{SoundState, SoundHeight}
-use Rattle.conduct.specs.Fields.{Fields, Said, SameRoll, DigestSized, moveFields, passFields, finalizeFields, blockCertificateFields, dummyCertificateFields, finalizeCertificateFields}
+use Rattle.conduct.specs.Fields.{blockCertificateFields, dummyCertificateFields, finalizeCertificateFields}
+use Rattle.conduct.specs.Readable.{Said, SameSetting, DigestSized}
+use Rattle.conduct.specs.Named.{offeredBlock, moveFields, passFields}
 use Rattle.conduct.specs.FrameLaws.{zeros-size}
 use Rattle.conduct.specs.BlockLaws.{new-block-good}
 use Rattle.conduct.specs.ReadLaws.{Written, said-none, said-more, proposal-read, block-vote-read, dummy-vote-read, finalize-read, block-certificate-read, dummy-certificate-read, finalize-certificate-read}
@@ -40,7 +39,7 @@ has-block : {digest : Bytes → Bytes} {v : View} {h : ℕ} → Linked digest v 
 has-block start low = absurd (omega arith)
 has-block (link has parent on) low = has
 
-module _ (digest : Bytes → Bytes) (sized : DigestSized digest) (s : State) (is : SoundState digest s) (t : State) (same : SameRoll s t) where
+module _ (digest : Bytes → Bytes) (s : State) (is : SoundState digest s) (t : State) (same : SameSetting s t) where
   abbrev c : ℕ
   c = s .current
 
@@ -63,18 +62,18 @@ module _ (digest : Bytes → Bytes) (sized : DigestSized digest) (s : State) (is
     also-high : h ≤ last t
     also-high = rw (same .same-last) high
 
-    block-certificate : isNotarized (at s h) ≡ true → Written t (blockCertificateFields h (at s h .certificateMask) (at s h .notarized)) (blockCertificate h (at s h .certificateMask) (at s h .notarized))
+    pub block-certificate : isNotarized (at s h) ≡ true → Written t (blockCertificateFields h (at s h .certificateMask) (at s h .notarized)) (blockCertificate h (at s h .certificateMask) (at s h .notarized))
     block-certificate has =
         block-certificate-read t h low also-high (at s h .certificateMask) (mask-small (at s h .certificateMask) (facts .certificate-below))
         (as-many (at s h .certificateMask) (facts .certified has)) (at s h .notarized) (facts .notarized-formed has)
 
-    dummy-certificate : isDummy (view s) h ≡ true → Written t (dummyCertificateFields h (at s h .dummyMask)) (dummyCertificate h (at s h .dummyMask))
+    pub dummy-certificate : isDummy (view s) h ≡ true → Written t (dummyCertificateFields h (at s h .dummyMask)) (dummyCertificate h (at s h .dummyMask))
     unfolding isDummy view
     dummy-certificate enough =
         dummy-certificate-read t h low also-high (at s h .dummyMask) (mask-small (at s h .dummyMask) (facts .dummy-below))
         (as-many (at s h .dummyMask) enough)
 
-    finalize-certificate : quorum (view s) (at s h .finalizeMask) ≡ true → Written t (finalizeCertificateFields h (at s h .finalizeMask)) (finalizeCertificate h (at s h .finalizeMask))
+    pub finalize-certificate : quorum (view s) (at s h .finalizeMask) ≡ true → Written t (finalizeCertificateFields h (at s h .finalizeMask)) (finalizeCertificate h (at s h .finalizeMask))
     finalize-certificate enough =
         finalize-certificate-read t h low also-high (at s h .finalizeMask) (mask-small (at s h .finalizeMask) (facts .finalize-below))
         (as-many (at s h .finalizeMask) enough)
@@ -117,53 +116,54 @@ module _ (digest : Bytes → Bytes) (sized : DigestSized digest) (s : State) (is
           (said-more (finalize-read t c (is .current-low) (also-high c (is .current-low) (runs (both .0))) (s .own) own-small) (said-none t))
       go false = unfold moveFields in said-more (certificate (linked digest (view s) c) refl (runs (both .0)) (both .1)) (said-none t)
 
-  -- ---- a proposal
-  digest-size : (j : ℕ) → length (digestAt digest (view s) j) ≡ 32
-  unfolding digestAt
-  digest-size zero = zeros-size 32
-  digest-size (suc j) = sized _
+  -- ---- statements with a digest
+  module _ (sized : DigestSized digest) where
+    digest-size : (j : ℕ) → length (digestAt digest (view s) j) ≡ 32
+    unfolding digestAt
+    digest-size zero = zeros-size 32
+    digest-size (suc j) = sized _
 
-  start-digest : (j : ℕ) → j ≡ 0 → isZero (digestAt digest (view s) j) ≡ true
-  unfolding digestAt
-  start-digest zero e = zeros-is-zero 32
-  start-digest (suc j) e = absurd (omega arith)
+    start-digest : (j : ℕ) → j ≡ 0 → isZero (digestAt digest (view s) j) ≡ true
+    unfolding digestAt
+    start-digest zero e = zeros-is-zero 32
+    start-digest (suc j) e = absurd (omega arith)
 
-  offered-few : (j : ℕ) → length (offered digest s j) ≤ 8
-  unfolding offered
-  offered-few j = simp length-take (omega arith)
+    offered-few : (j : ℕ) → length (offered digest s j) ≤ 8
+    unfolding offered
+    offered-few j = simp length-take (omega arith)
 
-  offered-sized : (j : ℕ) → Every (Sized 16) (offered digest s j)
-  unfolding offered
-  offered-sized j = every-take 8 (every-without (logAt (view s) j) (pending-sized digest s is))
+    offered-sized : (j : ℕ) → Every (Sized 16) (offered digest s j)
+    unfolding offered
+    offered-sized j = every-take 8 (every-without (logAt (view s) j) (pending-sized digest s is))
 
-  below-current : (j : ℕ) → parentBelow digest s ≡ some j → j < c
-  unfolding parentBelow
-  below-current j p = let chain = parent-some digest (view s) (c - 1) j p .0 in omega (arith, is .current-low, chain .within)
+    below-current : (j : ℕ) → parentBelow digest s ≡ some j → j < c
+    unfolding parentBelow
+    below-current j p = let chain = parent-some digest (view s) (c - 1) j p .0 in omega (arith, is .current-low, chain .within)
 
-  proposed-good : (parent : Option ℕ) → parentBelow digest s ≡ parent → isSome parent ≡ true → blockWellFormed c (proposedBlock digest s (someOr 0 parent)) ≡ true
-  unfolding isSome someOr proposedBlock
-  proposed-good none p e = absurd (false≢true e)
-  proposed-good (some j) p e = new-block-good c j (digestAt digest (view s) j) (offered digest s j) (below-current j p) (digest-size j) (start-digest j) (offered-few j) (offered-sized j)
+    proposed-good : (parent : Option ℕ) → parentBelow digest s ≡ parent → isSome parent ≡ true → blockWellFormed c (proposedBlock digest s (someOr 0 parent)) ≡ true
+    unfolding isSome someOr proposedBlock
+    proposed-good none p e = absurd (false≢true e)
+    proposed-good (some j) p e = new-block-good c j (digestAt digest (view s) j) (offered digest s j) (below-current j p) (digest-size j) (start-digest j) (offered-few j) (offered-sized j)
 
-  propose-good : proposeApplies digest s ≡ true → Good (proposeStep digest s)
-  unfolding proposeApplies proposeStep moveFields
-  propose-good e =
-      let high : c ≤ last s = runs (row _ 0 e) in
-      said-more
-      (proposal-read t c (is .current-low) (also-high c (is .current-low) high) (s .own) own-small
-      (proposedBlock digest s (someOr 0 (parentBelow digest s))) (proposed-good (parentBelow digest s) refl (row _ 3 e))
-      (sym (eqb-true _ _ (row _ 1 e)) ∙ sym (same .same-leaders c (is .current-low) high)))
-      (said-none t)
+    propose-good : proposeApplies digest s ≡ true → Good (proposeStep digest s)
+    unfolding proposeApplies proposeStep moveFields offeredBlock
+    propose-good e =
+        let high : c ≤ last s = runs (row _ 0 e) in
+        said-more
+        (proposal-read t c (is .current-low) (also-high c (is .current-low) high) (s .own) own-small
+        (proposedBlock digest s (someOr 0 (parentBelow digest s))) (proposed-good (parentBelow digest s) refl (row _ 3 e))
+        (sym (eqb-true _ _ (row _ 1 e)) ∙ sym (same .same-leaders c (is .current-low) high)))
+        (said-none t)
 
-  block-vote : blockVoteApplies digest s ≡ true → Good (blockVoteStep digest s)
-  unfolding blockVoteApplies blockVoteStep moveFields
-  block-vote e =
-      said-more (block-vote-read t c (is .current-low) (also-high c (is .current-low) (runs (row _ 0 e))) (s .own) own-small (digest (at s c .proposal)) (sized _))
-      (said-none t)
+    block-vote : blockVoteApplies digest s ≡ true → Good (blockVoteStep digest s)
+    unfolding blockVoteApplies blockVoteStep moveFields
+    block-vote e =
+        said-more (block-vote-read t c (is .current-low) (also-high c (is .current-low) (runs (row _ 0 e))) (s .own) own-small (digest (at s c .proposal)) (sized _))
+        (said-none t)
 
-  idle-good : Good (idleStep s)
-  unfolding idleStep moveFields
-  idle-good = said-none t
+    idle-good : Good (idleStep s)
+    unfolding idleStep moveFields
+    idle-good = said-none t
 
-  pub step-said : Good (step digest s)
-  step-said = step-cases digest s Good dummy-vote (λ e. output-good) pass-good propose-good block-vote idle-good
+    pub step-said : Good (step digest s)
+    step-said = step-cases digest s Good dummy-vote (λ e. output-good) pass-good propose-good block-vote idle-good
