@@ -7,6 +7,7 @@ pub mod BlockLaws
 pub mod Grows
 pub mod GrowsLaws
 pub mod StepLaws
+pub mod HeadKeptLaws
 pub mod MoveKeptLaws
 pub mod SubmitKeptLaws
 pub mod WrittenReadLaws

@@ -7,7 +7,7 @@ use mathlib.Core.Bool.{true, false, not}
 use lib.Dec.{eqb}
 use borrow.Author.Tests.{eqb-false, leb-true, not-true}
 use Rattle.protocol.specs.Bytes.{Bytes}
-use Rattle.protocol.specs.State.{State, at, last, flag, withHead}
+use Rattle.protocol.specs.State.{State, last, flag, withHead}
 use Rattle.protocol.specs.View.{isFinalized}
 use Rattle.protocol.specs.Sound.{view}
 use Rattle.protocol.specs.Move.{Step, isRunning, newFinalized, step, dummyVoteApplies, dummyVoteStep, outputStep, passApplies, passStep, proposeApplies, proposeStep, blockVoteApplies, blockVoteStep, idleStep}
@@ -18,6 +18,7 @@ use Rattle.protocol.specs.ParentLaws.{largestFinalized-is}
 use Rattle.protocol.specs.TestsLaws.{and-true}
 use Rattle.protocol.specs.RowLaws.{row}
 use Rattle.protocol.specs.SoundLaws.{SoundState}
+use Rattle.conduct.specs.HeadKeptLaws.{head-sound}
 use Rattle.conduct.specs.StepLaws.{step-cases}
 
 -- a flag that is not set can be added
@@ -42,27 +43,13 @@ unfolding flag
 flag-clear k s e = bit-clear (s .flags / k) (not-true _ e)
 
 module _ (digest : Bytes → Bytes) (s : State) (is : SoundState digest s) where
-  -- a change of the head alone
-  head-sound : (f c g : ℕ) → f < 16 → 1 ≤ c → c ≤ last s + 1 → (g ≡ 0) ⊎ (isFinalized digest (view s) g ≡ true) → SoundState digest (withHead s f c g)
-  unfolding withHead view at last
-  head-sound f c g small low high ended = record {
-    shaped = record { pool-size = is .shaped .pool-size; heights = is .shaped .heights };
-    n-low = is .n-low;
-    n-high = is .n-high;
-    own-below = is .own-below;
-    last-low = is .last-low;
-    last-high = is .last-high;
-    current-low = low;
-    current-high = high;
-    flags-small = small;
-    pending-few = is .pending-few;
-    each = is .each;
-    final = ended;
-  }
+  with-head-sound : (f c g : ℕ) → f < 16 → 1 ≤ c → c ≤ last s + 1 → (g ≡ 0) ⊎ (isFinalized digest (view s) g ≡ true) → SoundState digest (withHead s f c g)
+  unfolding withHead
+  with-head-sound f c g small low high ended = head-sound digest s is f c g (s .pendingCount) (s .pool) small low high ended (is .pending-few) (is .shaped .pool-size)
 
   -- one more flag
   flags-sound : (f : ℕ) → f < 16 → SoundState digest (withHead s f (s .current) (s .finalized))
-  flags-sound f small = head-sound f (s .current) (s .finalized) small (is .current-low) (is .current-high) (is .final)
+  flags-sound f small = with-head-sound f (s .current) (s .finalized) small (is .current-low) (is .current-high) (is .final)
 
   abbrev After : Step → Type 0
   After st = SoundState digest (st .after)
@@ -73,7 +60,7 @@ module _ (digest : Bytes → Bytes) (s : State) (is : SoundState digest s) where
 
   output-sound : After (outputStep digest s)
   unfolding outputStep newFinalized
-  output-sound = head-sound (s .flags) (s .current) (newFinalized digest s) (is .flags-small) (is .current-low) (is .current-high)
+  output-sound = with-head-sound (s .flags) (s .current) (newFinalized digest s) (is .flags-small) (is .current-low) (is .current-high)
       (tested (largestFinalized-is digest (view s) (last s) .finalized))
     where
       tested : {g : ℕ} → (g ≡ 0) ⊎ Finalized digest (view s) g → (g ≡ 0) ⊎ (isFinalized digest (view s) g ≡ true)
@@ -84,7 +71,7 @@ module _ (digest : Bytes → Bytes) (s : State) (is : SoundState digest s) where
   unfolding passApplies passStep isRunning
   pass-sound e =
       let running : s .current ≤ last s = leb-true _ _ (and-true _ _ e .0) in
-      head-sound 0 (s .current + 1) (s .finalized) (omega arith) (omega arith) (omega arith) (is .final)
+      with-head-sound 0 (s .current + 1) (s .finalized) (omega arith) (omega arith) (omega arith) (is .final)
 
   propose-sound : proposeApplies digest s ≡ true → After (proposeStep digest s)
   unfolding proposeApplies proposeStep

@@ -96,15 +96,43 @@ pub finalize-certificate-fields : (h mask : ℕ) → fields (finalizeCertificate
 unfolding finalizeCertificate finalizeCertificateFields
 finalize-certificate-fields h mask = fields-back 7 0 h mask (zeros 32) (zeros 176) (zeros-size 32)
 
+-- ---- what a kind asks of the other fields
+-- where it carries no digest and no block
+bare : (k s h mask : ℕ) → (isStatement k || isCertificate k) ≡ true → (isStatement k || eqb s 0) ≡ true → (isCertificate k || eqb mask 0) ≡ true →
+    carriesDigest k ≡ false → carriesBlock k ≡ false → Fitting k s h mask (zeros 32) (zeros 176) (zeros-size 32)
+unfolding implies
+bare k s h mask a b c d e = record {
+  block-size = zeros-size 176;
+  a-kind = a;
+  a-signer = b;
+  a-mask = c;
+  a-digest = rw d (zeros-is-zero 32);
+  a-block = rw e (zeros-is-zero 176);
+  good-block = rw e;
+}
+
+-- where it carries a block
+carrying : (k s h mask : ℕ) (block : Bytes) → (isStatement k || isCertificate k) ≡ true → (isStatement k || eqb s 0) ≡ true → (isCertificate k || eqb mask 0) ≡ true →
+    carriesDigest k ≡ false → carriesBlock k ≡ true → blockWellFormed h block ≡ true → Fitting k s h mask (zeros 32) block (zeros-size 32)
+unfolding implies
+carrying k s h mask block a b c d e good = record {
+  block-size = block-size-of h block good;
+  a-kind = a;
+  a-signer = b;
+  a-mask = c;
+  a-digest = rw d (zeros-is-zero 32);
+  a-block = rw e;
+  good-block = rw e good;
+}
+
 -- ---- each kind over a state that has its height
 module _ (t : State) (h : ℕ) (low : 1 ≤ h) (high : h ≤ last t) where
   module _ (s : ℕ) (small : s < t .n) where
     pub proposal-read : (block : Bytes) → blockWellFormed h block ≡ true → s ≡ at t h .leader → Written t (proposalFields s h block) (proposal s h block)
     unfolding proposal proposalFields isStatement isCertificate carriesBlock carriesDigest inRange implies
     proposal-read block good leads =
-        read-over t 1 s h 0 (zeros 32) block (zeros-size 32)
-        (record { block-size = block-size-of h block good; a-kind = refl; a-signer = refl; a-mask = refl; a-digest = zeros-is-zero 32; a-block = refl; good-block = good })
-        low high (lt-ltb s (t .n) small) (eq-eqb s (at t h .leader) leads) refl
+        read-over t 1 s h 0 (zeros 32) block (zeros-size 32) (carrying 1 s h 0 block refl refl refl refl refl good) low high
+        (lt-ltb s (t .n) small) (eq-eqb s (at t h .leader) leads) refl
 
     pub block-vote-read : (digest : Bytes) → length digest ≡ 32 → Written t (blockVoteFields s h digest) (blockVote s h digest)
     unfolding blockVote blockVoteFields isStatement isCertificate carriesBlock carriesDigest inRange implies
@@ -116,38 +144,28 @@ module _ (t : State) (h : ℕ) (low : 1 ≤ h) (high : h ≤ last t) where
     pub dummy-vote-read : Written t (dummyVoteFields s h) (dummyVote s h)
     unfolding dummyVote dummyVoteFields isStatement isCertificate carriesBlock carriesDigest inRange implies
     dummy-vote-read =
-        read-over t 3 s h 0 (zeros 32) (zeros 176) (zeros-size 32)
-        (record { block-size = zeros-size 176; a-kind = refl; a-signer = refl; a-mask = refl; a-digest = zeros-is-zero 32; a-block = zeros-is-zero 176; good-block = refl })
-        low high (lt-ltb s (t .n) small) refl refl
+        read-over t 3 s h 0 (zeros 32) (zeros 176) (zeros-size 32) (bare 3 s h 0 refl refl refl refl refl) low high (lt-ltb s (t .n) small) refl refl
 
     pub finalize-read : Written t (finalizeFields s h) (finalize s h)
     unfolding finalize finalizeFields isStatement isCertificate carriesBlock carriesDigest inRange implies
     finalize-read =
-        read-over t 4 s h 0 (zeros 32) (zeros 176) (zeros-size 32)
-        (record { block-size = zeros-size 176; a-kind = refl; a-signer = refl; a-mask = refl; a-digest = zeros-is-zero 32; a-block = zeros-is-zero 176; good-block = refl })
-        low high (lt-ltb s (t .n) small) refl refl
+        read-over t 4 s h 0 (zeros 32) (zeros 176) (zeros-size 32) (bare 4 s h 0 refl refl refl refl refl) low high (lt-ltb s (t .n) small) refl refl
 
   module _ (mask : ℕ) (small : belowBit (t .n) mask ≡ true) (enough : quorum (view t) mask ≡ true) where
     pub block-certificate-read : (block : Bytes) → blockWellFormed h block ≡ true → Written t (blockCertificateFields h mask block) (blockCertificate h mask block)
     unfolding blockCertificate blockCertificateFields isStatement isCertificate carriesBlock carriesDigest inRange implies
     block-certificate-read block good =
-        read-over t 5 0 h mask (zeros 32) block (zeros-size 32)
-        (record { block-size = block-size-of h block good; a-kind = refl; a-signer = refl; a-mask = refl; a-digest = zeros-is-zero 32; a-block = refl; good-block = good })
-        low high small refl enough
+        read-over t 5 0 h mask (zeros 32) block (zeros-size 32) (carrying 5 0 h mask block refl refl refl refl refl good) low high small refl enough
 
     pub dummy-certificate-read : Written t (dummyCertificateFields h mask) (dummyCertificate h mask)
     unfolding dummyCertificate dummyCertificateFields isStatement isCertificate carriesBlock carriesDigest inRange implies
     dummy-certificate-read =
-        read-over t 6 0 h mask (zeros 32) (zeros 176) (zeros-size 32)
-        (record { block-size = zeros-size 176; a-kind = refl; a-signer = refl; a-mask = refl; a-digest = zeros-is-zero 32; a-block = zeros-is-zero 176; good-block = refl })
-        low high small refl enough
+        read-over t 6 0 h mask (zeros 32) (zeros 176) (zeros-size 32) (bare 6 0 h mask refl refl refl refl refl) low high small refl enough
 
     pub finalize-certificate-read : Written t (finalizeCertificateFields h mask) (finalizeCertificate h mask)
     unfolding finalizeCertificate finalizeCertificateFields isStatement isCertificate carriesBlock carriesDigest inRange implies
     finalize-certificate-read =
-        read-over t 7 0 h mask (zeros 32) (zeros 176) (zeros-size 32)
-        (record { block-size = zeros-size 176; a-kind = refl; a-signer = refl; a-mask = refl; a-digest = zeros-is-zero 32; a-block = zeros-is-zero 176; good-block = refl })
-        low high small refl enough
+        read-over t 7 0 h mask (zeros 32) (zeros 176) (zeros-size 32) (bare 7 0 h mask refl refl refl refl refl) low high small refl enough
 
 -- ---- 224 zero bytes
 zeros-unformed : frameWellFormed (zeros 224) ≡ false

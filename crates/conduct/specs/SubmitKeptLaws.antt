@@ -5,8 +5,8 @@ use mathlib.Core.Path.{_≡_}
 use mathlib.Core.List.{List, [], _∷_, _++_}
 use lib.ListN.{length, length-append}
 use Rattle.protocol.specs.Bytes.{Bytes, zeros, join, holds}
-use Rattle.protocol.specs.State.{State, at, last, pending}
-use Rattle.protocol.specs.Sound.{view, log}
+use Rattle.protocol.specs.State.{State, pending}
+use Rattle.protocol.specs.Sound.{log}
 use Rattle.protocol.specs.Move.{without}
 use Rattle.protocol.specs.Submit.{withPending, stillPending}
 use Rattle.protocol.specs.EveryLaws.{Every, one, none}
@@ -14,6 +14,7 @@ use Rattle.protocol.specs.TestsLaws.{cond-elim}
 use Rattle.protocol.specs.StateLaws.{Sized, length-join}
 use Rattle.protocol.specs.ChainLaws.{every-append, pieces-sized}
 use Rattle.protocol.specs.SoundLaws.{SoundState}
+use Rattle.conduct.specs.HeadKeptLaws.{head-sound}
 use Rattle.conduct.specs.FrameLaws.{zeros-size}
 
 -- entries that are left have what all had
@@ -32,21 +33,10 @@ module _ (digest : Bytes → Bytes) (s : State) (is : SoundState digest s) where
   pool-size es sized few = simp (length-append, length-join 16 es sized, zeros-size) (omega arith)
 
   with-pending-sound : (es : List Bytes) → Every (Sized 16) es → length es ≤ 32 → SoundState digest (withPending s es)
-  unfolding withPending view at last
-  with-pending-sound es sized few = record {
-    shaped = record { pool-size = pool-size es sized few; heights = is .shaped .heights };
-    n-low = is .n-low;
-    n-high = is .n-high;
-    own-below = is .own-below;
-    last-low = is .last-low;
-    last-high = is .last-high;
-    current-low = is .current-low;
-    current-high = is .current-high;
-    flags-small = is .flags-small;
-    pending-few = few;
-    each = is .each;
-    final = is .final;
-  }
+  unfolding withPending
+  with-pending-sound es sized few =
+      head-sound digest s is (s .flags) (s .current) (s .finalized) (length es) (join es ++ zeros (512 - 16 * length es))
+      (is .flags-small) (is .current-low) (is .current-high) (is .final) few (pool-size es sized few)
 
   pub submit-sound : (entry : Bytes) → length entry ≡ 16 → length (stillPending s) < 32 → SoundState digest (withPending s (stillPending s ++ (entry ∷ [])))
   submit-sound entry sized room =

@@ -2,9 +2,7 @@
 -- book of the same n, H and leaders with the same kind, height, signers, digest and block.
 -- The other book need not be sound. A book that is not sound, or a reply too short, is refused, and no frame is written.
 use Prim.Native.Nat.{ℕ}
-use mathlib.Core.Path.{_≡_, refl}
-use mathlib.Core.Bool.{true}
-use mathlib.Core.List.{List}
+use mathlib.Core.Path.{_≡_}
 use mathlib.Core.Option.{some}
 use Rattle.protocol.specs.Bytes.{Bytes, zeros}
 use Rattle.protocol.specs.Tests.{firstRefusal}
