@@ -1,16 +1,16 @@
 -- Byte strings in three parts, equal pieces joined, and lists whose numbers are all bytes.
-use Prim.Native.Nat.{ℕ, zero, suc, _+_, _*_, _/_, _%_, _≤_, _<_, suc-le-suc}
+use Prim.Native.Nat.{ℕ, zero, suc, _+_, _*_, _/_, _%_, _≤_, _<_}
 use native.Mathlib.Omega.{arith}
-use native.Mathlib.Nat.{add-assoc, add-zero, zero-add, suc-add, mul-suc, mul-zero, zero-lt-suc, le-of-suc-le-suc, not-suc-le-zero}
+use native.Mathlib.Nat.{add-assoc, add-zero, zero-add, suc-add, mul-zero, le-of-suc-le-suc, not-suc-le-zero}
 use native.Mathlib.Numerals.{add-one}
 use mathlib.Core.Path.{_≡_, refl, sym, ap, _∙_}
-use mathlib.Core.Bool.{true}
+use mathlib.Core.Bool.{true, false}
 use mathlib.Core.List.{List, [], _∷_, _++_, map, append-assoc, append-nil}
 use lib.Dec.{lit<}
-use lib.ListN.{length, getD, take, drop, set, replicate, length-append, length-take, length-drop, take-append-drop, drop-of-length-le, List·getD-append}
-use lib.Seq.{paste, take-length, take-all, take-take, take-append-le, take-append-add, drop-at, drop-cons, drop-drop, drop-append-add, drop-append-le, getD-drop, getD-take, getD-append-add, set-append-left, set-split, sets-eq, length-take-le}
+use lib.ListN.{length, getD, take, drop, set, length-append, length-take, length-drop, drop-of-length-le, List·getD-append}
+use lib.Seq.{paste, take-length, take-take, take-append-le, take-append-add, drop-at, drop-cons, drop-drop, drop-append-add, drop-append-le, getD-drop, getD-take, getD-append-add, set-append-left, set-split, sets-eq, length-take-le, ext-getD}
 use Rattle.protocol.specs.Bytes.{Bytes, byteAt, word16, le16, part, zeros, isZero, join, pieces}
-use Rattle.protocol.specs.RowLaws.{is-zero-zeros}
+use Rattle.protocol.specs.RowLaws.{is-zero-zeros, bytes-are-zero, not-zero}
 
 -- every number of the list is a byte, as in a byte slice
 abbrev pub AreBytes : Bytes → Type 0
@@ -70,6 +70,20 @@ part-part bytes i k j m h = take-drop m k j (drop i bytes) (omega arith) ∙ rw 
 
 pub zero-part : (bytes : Bytes) (i k : ℕ) → i + k ≤ length bytes → isZero (part bytes i k) ≡ true → part bytes i k ≡ zeros k
 zero-part bytes i k h e = is-zero-zeros (part bytes i k) e ∙ ap zeros (length-part bytes i k h)
+
+-- the bytes of a part are zero, or one is not
+pub part-is-zero : (bytes : Bytes) (i k : ℕ) → i + k ≤ length bytes → ((j : ℕ) → j < k → byteAt bytes (i + j) ≡ 0) → isZero (part bytes i k) ≡ true
+part-is-zero bytes i k h each =
+    bytes-are-zero (part bytes i k) (λ j l. let inside : j < k = rw (length-part bytes i k h) at l in byte-part bytes i k j inside ∙ each j inside)
+
+pub part-not-zero : (bytes : Bytes) (i k j : ℕ) → j < k → (byteAt bytes (i + j) ≡ 0 → ⊥) → isZero (part bytes i k) ≡ false
+part-not-zero bytes i k j h f = not-zero (part bytes i k) j (λ e. f (sym (byte-part bytes i k j h) ∙ e))
+
+-- two parts have the same bytes
+pub parts-same : (a b : Bytes) (i j k : ℕ) → i + k ≤ length a → j + k ≤ length b → ((m : ℕ) → m < k → byteAt a (i + m) ≡ byteAt b (j + m)) → part a i k ≡ part b j k
+parts-same a b i j k p q each =
+    ext-getD 0 (part a i k) (part b j k) (length-part a i k p ∙ sym (length-part b j k q))
+    (λ m l. let inside : m < k = rw (length-part a i k p) at l in byte-part a i k m inside ∙ each m inside ∙ sym (byte-part b j k m inside))
 
 -- ---- bytes spelled out
 abbrev pub firsts : ℕ → ℕ → Bytes → Bytes

@@ -1,13 +1,13 @@
 -- What the bytes of a book say, place by place, and when they are the bytes of the state that they say.
-use Prim.Native.Nat.{ℕ, zero, suc, _+_, _-_, _*_, _/_, _%_, _≤_, _<_}
+use Prim.Native.Nat.{ℕ, zero, suc, _+_, _-_, _*_, _≤_, _<_}
 use native.Mathlib.Omega.{arith}
 use native.Mathlib.Nat.{add-assoc, le-of-suc-le-suc, not-suc-le-zero}
 use mathlib.Core.Path.{_≡_, refl, sym, ap, _∙_}
-use mathlib.Core.List.{List, [], _∷_, _++_, map}
+use mathlib.Core.List.{_++_, map}
 use lib.ListN.{length, getD, take, drop, length-drop, take-append-drop}
 use lib.Seq.{take-all, take-add, drop-drop, length-take-le}
-use Rattle.protocol.specs.Bytes.{Bytes, byteAt, word16, le16, part, zeros, join, pieces}
-use Rattle.protocol.specs.State.{State, Height, noHeight, at, last, encode, decode, headBytes, contentBytes, bodyBytes, decodeHeight, decodeHeights}
+use Rattle.protocol.specs.Bytes.{Bytes, byteAt, le16, part, zeros, join, pieces}
+use Rattle.protocol.specs.State.{State, noHeight, at, last, encode, decode, headBytes, contentBytes, bodyBytes, decodeHeight, decodeHeights}
 use Rattle.protocol.specs.RowLaws.{every-from}
 use Rattle.protocol.specs.BytesLaws.{AreBytes, are-bytes-take, are-bytes-drop, word-low, word-high, length-part, part-part, firsts, spell}
 use Rattle.protocol.specs.StateLaws.{Shaped, ShapedHeight}

@@ -1,12 +1,12 @@
 -- Where a reader finds each field of the state that a book says; height `suc i` counts from 0 in the bytes.
-use Prim.Native.Nat.{ℕ, zero, suc, _+_, _-_, _*_, _≤_, _<_}
+use Prim.Native.Nat.{ℕ, suc, _+_, _*_, _≤_, _<_}
 use native.Mathlib.Omega.{arith}
-use native.Mathlib.Nat.{add-zero, add-assoc}
-use mathlib.Core.Path.{_≡_, refl, sym, ap, _∙_}
+use native.Mathlib.Nat.{add-zero}
+use mathlib.Core.Path.{_≡_, refl, sym, _∙_}
 use mathlib.Core.List.{[]}
-use lib.ListN.{length, getD}
+use lib.ListN.{getD}
 use Rattle.protocol.specs.Bytes.{Bytes, byteAt, word16, part}
-use Rattle.protocol.specs.State.{State, Height, at, last, decode, decodeHeight, voteOf, pending}
+use Rattle.protocol.specs.State.{at, decode, decodeHeight, voteOf, pending}
 use Rattle.protocol.specs.BytesLaws.{byte-part, word-part, part-part, get-pieces}
 use Rattle.protocol.specs.CodecLaws.{at-decode}
 

@@ -19,6 +19,7 @@ pub mod TestsLaws
 pub mod MaskLaws
 pub mod StateLaws
 pub mod QuorumLaws
+pub mod FlagLaws
 pub mod RowLaws
 pub mod BytesLaws
 pub mod CodecLaws
@@ -26,6 +27,10 @@ pub mod Linked
 pub mod LinkedLaws
 pub mod ChainLaws
 pub mod ParentLaws
+pub mod SoundLaws
+pub mod GrantedLaws
+pub mod PlaceLaws
+pub mod FieldLaws
 pub mod OnesLaws
 pub mod UnionLaws
 pub mod SoundLaws
@@ -33,3 +38,11 @@ pub mod PlaceLaws
 pub mod FieldLaws
 pub mod WriteLaws
 pub mod LogLaws
+pub mod LogLaws
+pub mod BlockLaws
+pub mod PendingLaws
+pub mod WriteLaws
+pub mod ChangeLaws
+pub mod BookLaws
+pub mod NewStateLaws
+pub mod FormedLaws

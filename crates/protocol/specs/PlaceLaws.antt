@@ -1,17 +1,16 @@
 -- Where one height stands in the bytes of a state: reading it there, and writing it there.
-use Prim.Native.Nat.{ℕ, zero, suc, _+_, _-_, _*_, _≤_, _<_}
+use Prim.Native.Nat.{ℕ, suc, _+_, _-_, _*_, _≤_, _<_}
 use native.Mathlib.Omega.{arith}
-use native.Mathlib.Nat.{add-assoc}
 use mathlib.Core.Path.{_≡_, refl, sym, ap, _∙_}
 use mathlib.Core.List.{List, [], _∷_, _++_, map, append-assoc}
-use lib.ListN.{length, getD, take, drop, set, length-append, length-map, length-set, length-drop}
+use lib.ListN.{length, take, drop, set, length-append, length-map, length-set, length-drop}
 use lib.Seq.{set-getD, set-set, getD-set-same, getD-set-other, length-take-le}
 use Rattle.protocol.specs.Bytes.{Bytes, byteAt, le16, part, zeros, join}
 use Rattle.protocol.specs.State.{State, Height, noHeight, at, last, withHeight, encode, headBytes, contentBytes, bodyBytes}
-use Rattle.protocol.specs.EveryLaws.{Every, every-map, every-set}
+use Rattle.protocol.specs.EveryLaws.{Every, every-set}
 use Rattle.protocol.specs.RowLaws.{every-at, every-take}
 use Rattle.protocol.specs.BytesLaws.{put, middle-byte, middle-part, middle-set, middle-put, cut-set}
-use Rattle.protocol.specs.StateLaws.{Shaped, ShapedHeight, Sized, length-join, content-size, body-size, contents-sized, bodies-sized}
+use Rattle.protocol.specs.StateLaws.{Shaped, ShapedHeight, Sized, length-join, content-size, body-size, bodies-sized}
 use Rattle.protocol.specs.CodecLaws.{Clean, at-suc}
 
 pub head-size : (s : State) → length (headBytes s) ≡ 64
@@ -34,6 +33,10 @@ length-encode s shaped =
     let contents = contents-length (s .heights) in
     let bodies = bodies-length (shaped .heights) in
     simp length-append (omega (arith, head-size s, shaped .pool-size))
+
+-- a height that is not 0 is the next after another
+pub suc-pred : (h : ℕ) → 1 ≤ h → suc (h - 1) ≡ h
+suc-pred h low = omega arith
 
 -- ---- a height put into a state
 module _ (s : State) (i : ℕ) where

@@ -1,12 +1,12 @@
 -- Tests taken apart and put together: rows, heights, ranges, refusals, zero bytes and equal bytes.
 use Prim.Native.Nat.{ℕ, zero, suc, _≤_, _<_}
 use native.Mathlib.Omega.{arith}
-use mathlib.Core.Path.{_≡_, refl, sym, ap, ap₂, subst, _∙_}
+use mathlib.Core.Path.{_≡_, refl, sym, ap, ap₂, _∙_}
 use mathlib.Core.Logic.{_⊎_, inl, inr}
-use mathlib.Core.Bool.{Bool, true, false, _&&_, _||_, not, cond, true≢false, false≢true}
-use mathlib.Core.List.{List, [], _∷_}
-use mathlib.Core.Option.{Option, some, none}
-use lib.ListN.{length, getD, take, replicate}
+use mathlib.Core.Bool.{Bool, true, false, _&&_, cond, true≢false, false≢true}
+use mathlib.Core.List.{List, [], _∷_, _++_}
+use mathlib.Core.Option.{some, none}
+use lib.ListN.{length, getD, take}
 use lib.Dec.{eqb, leb}
 use borrow.Author.Tests.{eqb-true, eq-eqb, leb-true, le-leb}
 use Rattle.protocol.specs.Bytes.{Bytes, zeros, all, isZero, same}
@@ -100,6 +100,37 @@ pub refuse-row : (r : Row) (rows : List Row) → r .1 ≡ false → firstRefusal
 unfolding firstRefusal
 refuse-row r rows e = rw e
 
+-- the row of that number, counted from 0, where nothing is refused
+pub passed : (rows : List Row) (i : ℕ) → firstRefusal rows ≡ none → getD rows i (0, true) .1 ≡ true
+passed [] i e = refl
+passed (r ∷ rows) zero e = row-passes r rows e .0
+passed (r ∷ rows) (suc i) e = passed rows i (row-passes r rows e .1)
+
+-- rows after rows
+pub pass-rows : (rows more : List Row) → firstRefusal rows ≡ none → firstRefusal (rows ++ more) ≡ firstRefusal more
+pass-rows [] more e = refl
+pass-rows (r ∷ rows) more e =
+    let t = row-passes r rows e in
+    pass-row r (rows ++ more) (t .0) ∙ pass-rows rows more (t .1)
+
+pub refuse-rows : (rows more : List Row) (number : ℕ) → firstRefusal rows ≡ some number → firstRefusal (rows ++ more) ≡ some number
+unfolding firstRefusal
+refuse-rows [] more number e = let z : _≡_ {A = ℕ} 0 1 = cc in absurd (omega arith)
+refuse-rows (r ∷ rows) more number e = go (r .1) e (λ f. refuse-rows rows more number f)
+  where
+    go : (t : Bool) → cond t (firstRefusal rows) (some (r .0)) ≡ some number → (firstRefusal rows ≡ some number → firstRefusal (rows ++ more) ≡ some number) →
+        cond t (firstRefusal (rows ++ more)) (some (r .0)) ≡ some number
+    go true e below = below e
+    go false e below = e
+
+pub rows-pass : (rows more : List Row) → firstRefusal (rows ++ more) ≡ none → (firstRefusal rows ≡ none) × (firstRefusal more ≡ none)
+unfolding firstRefusal
+rows-pass [] more e = (refl, e)
+rows-pass (r ∷ rows) more e =
+    let t = row-passes r (rows ++ more) e in
+    let u = rows-pass rows more (t .1) in
+    (pass-row r rows (t .0) ∙ u .0, u .1)
+
 -- ---- zero bytes, equal bytes
 pub is-zero-zeros : (bytes : Bytes) → isZero bytes ≡ true → bytes ≡ zeros (length bytes)
 unfolding isZero all zeros
@@ -141,6 +172,26 @@ pub at-all : (test : ℕ → Bool) (bytes : Bytes) → ((i : ℕ) → i < length
 unfolding all
 at-all test [] each = refl
 at-all test (x ∷ xs) each = true-and (test x) (all test xs) (each 0 (omega arith)) (at-all test xs (λ i l. each (suc i) (omega arith)))
+
+-- ---- zero bytes and unequal bytes, by a place
+pub is-zero-byte : (bytes : Bytes) (i : ℕ) → isZero bytes ≡ true → getD bytes i 0 ≡ 0
+unfolding isZero all
+is-zero-byte [] i e = refl
+is-zero-byte (x ∷ xs) zero e = eqb-true x 0 (and-true (eqb x 0) (all (λ y. eqb y 0) xs) e .0)
+is-zero-byte (x ∷ xs) (suc i) e = is-zero-byte xs i (and-true (eqb x 0) (all (λ y. eqb y 0) xs) e .1)
+
+pub bytes-are-zero : (bytes : Bytes) → ((i : ℕ) → i < length bytes → getD bytes i 0 ≡ 0) → isZero bytes ≡ true
+unfolding isZero
+bytes-are-zero bytes each = at-all (λ x. eqb x 0) bytes (λ i l. eq-eqb (getD bytes i 0) 0 (each i l))
+
+pub not-zero : (bytes : Bytes) (i : ℕ) → (getD bytes i 0 ≡ 0 → ⊥) → isZero bytes ≡ false
+not-zero bytes i f = not-passed (isZero bytes) (λ e. f (is-zero-byte bytes i e))
+
+pub not-same : (a b : Bytes) → (a ≡ b → ⊥) → same a b ≡ false
+not-same a b f = not-passed (same a b) (λ e. f (same-eq a b e))
+
+pub differ-at : (a b : Bytes) (i : ℕ) → (getD a i 0 ≡ getD b i 0 → ⊥) → same a b ≡ false
+differ-at a b i f = not-same a b (λ e. f (ap (λ (l : Bytes). getD l i 0) e))
 
 -- ---- every element of a list, by its place
 pub every-at : {A : Type 0} {P : A → Type 0} {l : List A} (i : ℕ) (d : A) → Every P l → i < length l → P (getD l i d)

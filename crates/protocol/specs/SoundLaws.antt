@@ -1,23 +1,22 @@
 -- What soundness says of a state, apart from bytes: a sound book says a sound state, and a sound state's bytes are a sound book.
 use Prim.Native.Nat.{ℕ, zero, suc, _+_, _-_, _*_, _^_, _≤_, _<_}
 use native.Mathlib.Omega.{arith}
-use mathlib.Core.Path.{_≡_, refl, sym, ap, subst, _∙_}
+use mathlib.Core.Path.{_≡_, refl, sym, subst}
 use mathlib.Core.Logic.{_⊎_, inl, inr}
-use mathlib.Core.Bool.{Bool, true, false, _&&_, _||_, true≢false, false≢true}
-use mathlib.Core.List.{List, [], _∷_}
+use mathlib.Core.Bool.{Bool, true, false, _&&_, _||_, false≢true}
 use lib.ListN.{length, List·getD-eq-default}
 use lib.Dec.{eqb, leb, ltb}
 use borrow.Author.Tests.{eqb-true, eq-eqb, leb-true, le-leb, ltb-true, lt-ltb}
-use Rattle.protocol.specs.Bytes.{Bytes, byteAt, part, zeros, isZero}
-use Rattle.protocol.specs.Tests.{implies, inRange, everyHeight}
+use Rattle.protocol.specs.Bytes.{Bytes, byteAt, part, isZero}
+use Rattle.protocol.specs.Tests.{implies}
 use Rattle.protocol.specs.Block.{blockWellFormed}
 use Rattle.protocol.specs.Mask.{belowBit}
-use Rattle.protocol.specs.State.{State, Height, noHeight, at, last, decode, encode, bookSize, holdsProposal, isNotarized, headBytes}
+use Rattle.protocol.specs.State.{State, Height, noHeight, at, last, decode, encode, bookSize, holdsProposal, isNotarized}
 use Rattle.protocol.specs.View.{View, quorum, extendsOver, linkedWithin, linked, isFinalized}
 use Rattle.protocol.specs.Sound.{view, masksBelow, blocksWellFormed, contentZeros, sound}
-use Rattle.protocol.specs.EveryLaws.{Every, none, one}
+use Rattle.protocol.specs.EveryLaws.{none, one}
 use Rattle.protocol.specs.TestsLaws.{and-true, or-true, le-or-lt}
-use Rattle.protocol.specs.RowLaws.{row, all-of, true-and, every-height-at, every-height, implies-true, true-implies, in-range, range-in, is-zero-zeros, zeros-is-zero}
+use Rattle.protocol.specs.RowLaws.{not-passed, row, all-of, true-and, every-height-at, every-height, implies-true, true-implies, in-range, range-in, zeros-is-zero}
 use Rattle.protocol.specs.StateLaws.{Shaped, decode-encode}
 use Rattle.protocol.specs.BytesLaws.{AreBytes, zero-part}
 use Rattle.protocol.specs.CodecLaws.{Exact, Clean, at-suc, last-decode, decode-shaped, clean-back}
@@ -68,6 +67,13 @@ module _ (digest : Bytes → Bytes) (s : State) where
       go : (eqb (suc i) 0 ≡ true) ⊎ ((isNotarized (at s (suc i)) && extendsOver digest (λ j. linkedWithin digest i (view s) j) (view s) (suc i) (at s (suc i) .notarized)) ≡ true) → suc i ≤ last s
       go (inl z) = let impossible : suc i ≡ 0 = eqb-true (suc i) 0 z in absurd (omega arith)
       go (inr z) = notarized-in s i (and-true _ _ z .0)
+
+  pub not-linked-past : (h : ℕ) → last s < h → linked digest (view s) h ≡ false
+  not-linked-past h past = not-passed (linked digest (view s) h) (λ e. let inside = linked-in h e in omega arith)
+
+  pub not-finalized-past : (h : ℕ) → last s < h → isFinalized digest (view s) h ≡ false
+  unfolding isFinalized
+  not-finalized-past h past = rw (not-linked-past h past)
 
   pub finalized-in : SoundState digest s → s .finalized ≤ last s
   unfolding isFinalized
@@ -197,6 +203,7 @@ module _ (digest : Bytes → Bytes) where
           zero-part book (576 + 16 * i + 10) 6 (omega arith) (rw place at (content-zero-row (suc i) (omega arith) (omega arith)));
     }
 
+    -- a mask's low byte above 255 would go over into its high byte
     pub encode-decode : AreBytes book → encode (decode book) ≡ book
     encode-decode small = clean-back book small sound-clean
 
@@ -250,40 +257,3 @@ module _ (digest : Bytes → Bytes) where
   pub sound-encode : (s : State) → SoundState digest s → sound digest (encode s) ≡ true
   sound-encode s facts =
       sound-of (encode s) (clean-encode s (facts .shaped)) (subst (λ (t : State). SoundState digest t) (sym (decode-encode s (facts .shaped))) facts)
-
--- ---- what a sound book grants to those who read it
-pub record Granted (digest : Bytes → Bytes) (book : Bytes) : Type 0 where
-  pub state : SoundState digest (decode book)
-  pub clean : Clean book
-  pub whole : AreBytes book → encode (decode book) ≡ book
-  pub size : length book ≡ 576 + 880 * last (decode book)
-  pub finalized-high : decode book .finalized ≤ last (decode book)
-  -- the head's bytes
-  pub n-byte : byteAt book 0 ≡ decode book .n
-  pub own-byte : byteAt book 1 ≡ decode book .own
-  pub last-byte : byteAt book 2 ≡ last (decode book)
-  pub flags-byte : byteAt book 3 ≡ decode book .flags
-  pub current-byte : byteAt book 4 ≡ decode book .current
-  pub finalized-byte : byteAt book 5 ≡ decode book .finalized
-  pub pending-byte : byteAt book 6 ≡ decode book .pendingCount
-
-module _ (digest : Bytes → Bytes) (book : Bytes) where
-  pub granted : sound digest book ≡ true → Granted digest book
-  unfolding decode
-  granted e = record {
-    state = sound-decode digest book e;
-    clean = sound-clean digest book e;
-    whole = encode-decode digest book e;
-    size = rw (last-decode book) (exact digest book e);
-    finalized-high = finalized-in digest (decode book) (sound-decode digest book e);
-    n-byte = refl;
-    own-byte = refl;
-    last-byte = sym (last-decode book);
-    flags-byte = refl;
-    current-byte = refl;
-    finalized-byte = refl;
-    pending-byte = refl;
-  }
-
-  pub granted-sound : Granted digest book → sound digest book ≡ true
-  granted-sound g = sound-of digest book (g .clean) (g .state)

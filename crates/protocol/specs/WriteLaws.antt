@@ -1,15 +1,15 @@
 -- What writing a field's bytes makes of a state: one law for each field, over the state's bytes.
-use Prim.Native.Nat.{ℕ, zero, suc, _+_, _-_, _*_, _^_, _/_, _%_, _≤_, _<_}
+use Prim.Native.Nat.{ℕ, suc, _+_, _*_, _≤_, _<_}
 use native.Mathlib.Omega.{arith}
-use native.Mathlib.Nat.{add-zero, add-assoc}
+use native.Mathlib.Nat.{add-zero}
 use mathlib.Core.Path.{_≡_, refl, sym, ap, _∙_}
-use mathlib.Core.List.{List, [], _∷_, _++_, map, append-assoc}
-use lib.ListN.{length, take, drop, set}
-use Rattle.protocol.specs.Bytes.{Bytes, byteAt, le16, part, zeros, join}
-use Rattle.protocol.specs.State.{State, Height, at, last, withHead, withHeight, encode, decode, headBytes, contentBytes, bodyBytes}
+use mathlib.Core.List.{_++_, map}
+use lib.ListN.{length, set}
+use Rattle.protocol.specs.Bytes.{Bytes, le16, join}
+use Rattle.protocol.specs.State.{State, Height, at, last, withHead, withHeight, encode, headBytes, contentBytes, bodyBytes}
 use Rattle.protocol.specs.BytesLaws.{put, put-front, put-all, put-after, middle-put}
 use Rattle.protocol.specs.StateLaws.{Shaped, ShapedHeight}
-use Rattle.protocol.specs.PlaceLaws.{head-size, with-at, content-set, content-put, body-put}
+use Rattle.protocol.specs.PlaceLaws.{head-size, content-set, content-put, body-put}
 
 -- ---- the head: each byte by itself
 pub write-flags : (s : State) (v : ℕ) → set (encode s) 3 v ≡ encode (withHead s v (s .current) (s .finalized))
@@ -47,7 +47,25 @@ unfolding encode headBytes withPool
 write-pool s size j new h =
     middle-put (headBytes s) (s .pool) (join (map contentBytes (s .heights)) ++ join (map bodyBytes (s .heights))) 64 (head-size s) j new (rw size h)
 
+pub write-whole-pool : (s : State) → length (s .pool) ≡ 512 → (new : Bytes) → length new ≡ 512 →
+    put (encode s) 64 new ≡ encode (withPool s (s .pendingCount) new)
+write-whole-pool s size new e =
+    write-pool s size 0 new (rw e (omega arith)) ∙ ap (λ (pool : Bytes). encode (withPool s (s .pendingCount) pool)) (put-all (s .pool) new (size ∙ sym e))
+
 -- ---- one field of a height
+unfoldable pub withLeader : Height → ℕ → Height
+withLeader x leader = record {
+  leader = leader;
+  status = x .status;
+  certificateMask = x .certificateMask;
+  dummyMask = x .dummyMask;
+  finalizeMask = x .finalizeMask;
+  voterMask = x .voterMask;
+  proposal = x .proposal;
+  notarized = x .notarized;
+  voteDigests = x .voteDigests;
+}
+
 unfoldable pub withStatus : Height → ℕ → Height
 withStatus x status = record {
   leader = x .leader;
@@ -154,6 +172,11 @@ withVoteDigests x digests = record {
 
 -- ---- a height: its bytes in place of those of `x`
 module _ (s : State) (shaped : Shaped s) (i : ℕ) (inside : i < last s) (x : Height) where
+  pub write-leader : (v : ℕ) →
+      set (encode (withHeight s (suc i) x)) (576 + 16 * i) v ≡ encode (withHeight s (suc i) (withLeader x v))
+  unfolding withLeader contentBytes bodyBytes
+  write-leader v = rw add-zero at (content-set s shaped i inside x (withLeader x v) 0 v (omega arith) refl refl)
+
   pub write-status : (v : ℕ) →
       set (encode (withHeight s (suc i) x)) (576 + 16 * i + 1) v ≡ encode (withHeight s (suc i) (withStatus x v))
   unfolding withStatus contentBytes bodyBytes
