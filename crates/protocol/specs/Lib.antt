@@ -33,10 +33,10 @@ pub mod PlaceLaws
 pub mod FieldLaws
 pub mod OnesLaws
 pub mod UnionLaws
-pub mod WriteLaws
 pub mod LogLaws
 pub mod BlockLaws
 pub mod PendingLaws
+pub mod WriteLaws
 pub mod ChangeLaws
 pub mod BookLaws
 pub mod NewStateLaws
