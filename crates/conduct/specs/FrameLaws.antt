@@ -3,7 +3,7 @@ use Prim.Native.Nat.{ℕ}
 use native.Mathlib.Omega.{arith}
 use mathlib.Core.Path.{_≡_, refl, ap, _∙_}
 use mathlib.Core.Bool.{true, _||_}
-use lib.ListN.{length, length-append, length-replicate}
+use lib.ListN.{length, length-append}
 use lib.Seq.{take-at, drop-at}
 use lib.Dec.{eqb}
 use borrow.Author.Tests.{eq-eqb}
@@ -14,10 +14,6 @@ use Rattle.protocol.specs.EveryLaws.{one, none}
 use Rattle.protocol.specs.RowLaws.{all-of}
 use Rattle.conduct.specs.Fields.{fields}
 use Rattle.protocol.specs.Frame.{kind, signer, frameHeight, signerMask, frameDigest, frameBlock, isStatement, isCertificate, carriesBlock, carriesDigest, frameWellFormed, frameOf}
-
-pub zeros-size : (count : ℕ) → length (zeros count) ≡ count
-unfolding zeros
-zeros-size count = length-replicate count 0
 
 module _ (k s h mask : ℕ) (digest block : Bytes) (digest-size : length digest ≡ 32) where
   abbrev frame : Bytes

@@ -1,11 +1,11 @@
 -- Each change that Deliver makes at a height leaves one that may take its place.
-use Prim.Native.Nat.{ℕ, _+_, _*_, _%_, _^_, _≤_, _<_}
+use Prim.Native.Nat.{ℕ, _+_, _%_, _^_, _≤_, _<_}
 use native.Mathlib.Omega.{arith}
 use mathlib.Core.Path.{_≡_, refl, sym, _∙_}
 use mathlib.Core.Logic.{_≢_}
 use mathlib.Core.Bool.{true, false, not, true≢false}
-use mathlib.Core.List.{[], _∷_, _++_}
-use lib.ListN.{length, take, drop, length-append, length-take, length-drop}
+use mathlib.Core.List.{[], _∷_}
+use lib.ListN.{length}
 use borrow.Author.Tests.{eqb-true, eqb-false, eq-eqb, leb-true, leb-false, le-leb, not-true}
 use Rattle.protocol.specs.Bytes.{Bytes}
 use Rattle.protocol.specs.Tests.{allOf}
@@ -18,8 +18,9 @@ use Rattle.protocol.specs.MaskLaws.{Within, add-below, maskOf-below}
 use Rattle.protocol.specs.TestsLaws.{cond-elim}
 use Rattle.protocol.specs.RowLaws.{row}
 use Rattle.protocol.specs.StateLaws.{ShapedHeight}
+use Rattle.protocol.specs.FormedLaws.{formed}
+use Rattle.protocol.specs.ChangeLaws.{shaped-proposal, shaped-notarized, shaped-masks, shaped-vote}
 use Rattle.protocol.specs.SoundLaws.{SoundHeight}
-use Rattle.conduct.specs.ReadLaws.{block-size-of}
 use Rattle.conduct.specs.HeightKeptLaws.{Replaces}
 
 -- ---- what a status says
@@ -44,7 +45,7 @@ module _ (v : View) (h : ℕ) (x : Height) (was : ShapedHeight x) (is : SoundHei
       Within (v .n) (x .dummyMask) dummies → Within (v .n) (x .finalizeMask) finalizes → Replaces v h x (withMasks x dummies finalizes)
   unfolding withMasks isNotarized holdsProposal
   masks-replace dummies finalizes d f more more′ = record {
-    shaped = record { proposal-size = was .proposal-size; notarized-size = was .notarized-size; votes-size = was .votes-size };
+    shaped = shaped-masks x dummies finalizes was;
     sound = record {
       leader-below = is .leader-below;
       status-small = is .status-small;
@@ -62,7 +63,7 @@ module _ (v : View) (h : ℕ) (x : Height) (was : ShapedHeight x) (is : SoundHei
   pub proposal-replaces : (block : Bytes) → holdsProposal x ≡ false → blockWellFormed h block ≡ true → Replaces v h x (withProposal x block)
   unfolding withProposal
   proposal-replaces block free good = record {
-    shaped = record { proposal-size = block-size-of h block good; notarized-size = was .notarized-size; votes-size = was .votes-size };
+    shaped = shaped-proposal x block (formed h block good .size) was;
     sound = record {
       leader-below = is .leader-below;
       status-small = omega (arith, even, is .status-small);
@@ -93,7 +94,7 @@ module _ (v : View) (h : ℕ) (x : Height) (was : ShapedHeight x) (is : SoundHei
   pub vote-replaces : (s : ℕ) (digest : Bytes) → s < v .n → v .n ≤ 16 → inMask (x .voterMask) s ≡ false → length digest ≡ 32 → Replaces v h x (withVote x s digest)
   unfolding withVote isNotarized holdsProposal
   vote-replaces s digest small few new sized = record {
-    shaped = record { proposal-size = was .proposal-size; notarized-size = was .notarized-size; votes-size = votes };
+    shaped = shaped-vote x s digest (omega arith) sized was;
     sound = record {
       leader-below = is .leader-below;
       status-small = is .status-small;
@@ -107,16 +108,13 @@ module _ (v : View) (h : ℕ) (x : Height) (was : ShapedHeight x) (is : SoundHei
     };
     grown = record { keeps-block = λ has. (has, refl); more-dummies = λ t l e. e; more-finalizes = λ t l e. e };
   }
-    where
-      votes : length (take (32 * s) (x .voteDigests) ++ (digest ++ drop (32 * s + 32) (x .voteDigests))) ≡ 512
-      votes = simp (length-append, length-take, length-drop, sized, was .votes-size) (omega arith)
 
 module _ (v : View) (h : ℕ) (x y : Height) (fits : Replaces v h x y) where
   -- a block is notarized where none was
   pub notarized-replaces : (mask : ℕ) (block : Bytes) → isNotarized y ≡ false → mask < 2 ^ v .n → quorum v mask ≡ true → blockWellFormed h block ≡ true → Replaces v h x (withNotarized y mask block)
   unfolding withNotarized
   notarized-replaces mask block free small enough good = record {
-    shaped = record { proposal-size = fits .shaped .proposal-size; notarized-size = block-size-of h block good; votes-size = fits .shaped .votes-size };
+    shaped = shaped-notarized y mask block (formed h block good .size) (fits .shaped);
     sound = record {
       leader-below = fits .sound .leader-below;
       status-small = omega (arith, low);

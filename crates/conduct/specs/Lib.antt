@@ -3,7 +3,6 @@ pub mod Readable
 pub mod Named
 pub mod FrameLaws
 pub mod ReadLaws
-pub mod BlockLaws
 pub mod Grows
 pub mod GrowsLaws
 pub mod StepLaws

@@ -18,18 +18,13 @@ use Rattle.protocol.specs.EveryLaws.{Every, one, none, every-map}
 use Rattle.protocol.specs.TestsLaws.{and-true}
 use Rattle.protocol.specs.RowLaws.{row, in-range, every-at}
 use Rattle.protocol.specs.CodecLaws.{at-suc}
-use Rattle.protocol.specs.StateLaws.{ShapedHeight}
+use Rattle.protocol.specs.NewStateLaws.{new-shaped}
 use Rattle.protocol.specs.SoundLaws.{SoundState, SoundHeight}
-use Rattle.conduct.specs.FrameLaws.{zeros-size}
 
 leaders-below : (n : ℕ) (leaders : Bytes) → all (λ leader. ltb leader n) leaders ≡ true → Every (λ (leader : ℕ). leader < n) leaders
 unfolding all
 leaders-below n [] e = none
 leaders-below n (x ∷ xs) e = let both = and-true (ltb x n) _ e in one (ltb-true x n (both .0)) (leaders-below n xs (both .1))
-
-new-shaped : (leader : ℕ) → ShapedHeight (newHeight leader)
-unfolding newHeight
-new-shaped leader = record { proposal-size = zeros-size 176; notarized-size = zeros-size 176; votes-size = zeros-size 512 }
 
 -- a new height is sound at each height
 new-sound : (v : View) (leader : ℕ) → leader < v .n → (h : ℕ) → SoundHeight v h (newHeight leader)
@@ -65,10 +60,6 @@ module _ (digest : Bytes → Bytes) (n own heights : ℕ) (leaders : Bytes) (ran
   unfolding openInRange newState view
   all-sound = every-map newHeight (λ leader small. new-sound (view s) leader small) (leaders-below n leaders (row _ 4 ranges))
 
-  all-shaped : Every ShapedHeight (s .heights)
-  unfolding openInRange newState
-  all-shaped = every-map newHeight (λ leader small. new-shaped leader) (leaders-below n leaders (row _ 4 ranges))
-
   each-sound : (h : ℕ) → 1 ≤ h → h ≤ last s → SoundHeight (view s) h (at s h)
   each-sound zero low high = absurd (omega arith)
   each-sound (suc i) low high = rw at-suc (every-at i noHeight all-sound (unfold last in high) (suc i))
@@ -76,7 +67,7 @@ module _ (digest : Bytes → Bytes) (n own heights : ℕ) (leaders : Bytes) (ran
   pub open-sound : SoundState digest s
   unfolding newState
   open-sound = record {
-    shaped = record { pool-size = zeros-size 512; heights = all-shaped };
+    shaped = new-shaped n own leaders;
     n-low = n-range .0;
     n-high = n-range .1;
     own-below = ltb-true own n (unfold openInRange in row _ 1 ranges);

@@ -6,7 +6,7 @@ use mathlib.Core.List.{List, [], _∷_}
 use mathlib.Core.Option.{none, some}
 use lib.ListN.{length}
 use lib.Dec.{eqb, ltb}
-use borrow.Author.Tests.{eq-eqb, lt-ltb, eqb-true}
+use borrow.Author.Tests.{eq-eqb, lt-ltb}
 use Rattle.protocol.specs.Bytes.{Bytes, zeros}
 use Rattle.protocol.specs.Tests.{allOf, implies, inRange, Row, firstRefusal}
 use Rattle.protocol.specs.Mask.{belowBit}
@@ -17,11 +17,12 @@ use Rattle.protocol.specs.View.{quorum}
 use Rattle.protocol.specs.Sound.{view}
 use Rattle.protocol.specs.Deliver.{readRows}
 use Rattle.protocol.specs.EveryLaws.{Every, one}
-use Rattle.protocol.specs.TestsLaws.{and-true}
+use Rattle.protocol.specs.FormedLaws.{formed}
 use Rattle.protocol.specs.RowLaws.{refuse-row, zeros-is-zero, range-in}
 use Rattle.conduct.specs.Fields.{Fields, fields, proposalFields, blockVoteFields, dummyVoteFields, finalizeFields, blockCertificateFields, dummyCertificateFields, finalizeCertificateFields}
 use Rattle.conduct.specs.Readable.{IsRead, Said}
-use Rattle.conduct.specs.FrameLaws.{zeros-size, Fitting, fields-back, frame-size, well-formed, mask-back}
+use Rattle.protocol.specs.BlockLaws.{zeros-size}
+use Rattle.conduct.specs.FrameLaws.{Fitting, fields-back, frame-size, well-formed, mask-back}
 
 -- rows that all pass refuse nothing
 pass-rows : {rows : List Row} → Every (λ (r : Row). r .1 ≡ true) rows → firstRefusal rows ≡ none
@@ -62,10 +63,6 @@ module _ (t : State) (k s h mask : ℕ) (digest block : Bytes) (digest-size : le
           (one leader-row
           (one (ap (λ (m : ℕ). isStatement k || quorum (view t) m) (mask-back k s h mask digest block digest-size) ∙ quorum-row)
           Every.none)))))
-
-pub block-size-of : (h : ℕ) (block : Bytes) → blockWellFormed h block ≡ true → length block ≡ 176
-unfolding blockWellFormed allOf
-block-size-of h block e = eqb-true (length block) 176 (and-true (eqb (length block) 176) _ e .0)
 
 -- ---- the fields of each kind
 pub proposal-fields : (s h : ℕ) (block : Bytes) → fields (proposal s h block) ≡ proposalFields s h block
@@ -116,7 +113,7 @@ carrying : (k s h mask : ℕ) (block : Bytes) → (isStatement k || isCertificat
     carriesDigest k ≡ false → carriesBlock k ≡ true → blockWellFormed h block ≡ true → Fitting k s h mask (zeros 32) block (zeros-size 32)
 unfolding implies
 carrying k s h mask block a b c d e good = record {
-  block-size = block-size-of h block good;
+  block-size = formed h block good .size;
   a-kind = a;
   a-signer = b;
   a-mask = c;

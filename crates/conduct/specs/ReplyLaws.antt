@@ -10,7 +10,7 @@ use Rattle.protocol.specs.Bytes.{Bytes, part, zeros, join, overFront}
 use Rattle.protocol.specs.EveryLaws.{Every, one, none}
 use Rattle.protocol.specs.StateLaws.{Sized, length-join}
 use Rattle.conduct.specs.Reply.{Wrote}
-use Rattle.conduct.specs.FrameLaws.{zeros-size}
+use Rattle.protocol.specs.BlockLaws.{zeros-size}
 
 -- a piece of pieces that are joined
 piece-at : (k : ℕ) (xs : List Bytes) (rest : Bytes) → Every (Sized k) xs → (i : ℕ) → i < length xs → part (join xs ++ rest) (k * i) k ≡ getD xs i []

@@ -5,34 +5,33 @@ use mathlib.Core.Path.{_≡_, refl, sym, _∙_}
 use mathlib.Core.Bool.{Bool, true, false, _&&_, _||_, not, cond, false≢true}
 use mathlib.Core.List.{[], _∷_}
 use mathlib.Core.Option.{Option, some, none}
-use lib.ListN.{length, length-take}
+use lib.ListN.{length}
 use borrow.Author.Tests.{lt-ltb, leb-true, eqb-true}
 use Rattle.protocol.specs.Bytes.{Bytes, isZero}
 use Rattle.protocol.specs.Mask.{belowBit}
 use Rattle.protocol.specs.Block.{blockWellFormed}
 use Rattle.protocol.specs.Frame.{proposal, finalize, blockCertificate, dummyCertificate, finalizeCertificate}
 use Rattle.protocol.specs.State.{State, at, last, flag, isNotarized}
-use Rattle.protocol.specs.View.{View, quorum, isDummy, linked, digestAt, logAt}
+use Rattle.protocol.specs.View.{View, quorum, isDummy, linked, digestAt}
 use Rattle.protocol.specs.Sound.{view}
 use Rattle.protocol.specs.Answer.{pass, onBlock, onDummy}
 use Rattle.protocol.specs.Move.{Step, isRunning, isSome, someOr, parentBelow, offered, proposedBlock, passCertificate, step, dummyVoteApplies, dummyVoteStep, outputStep, passApplies, passStep, proposeApplies, proposeStep, blockVoteApplies, blockVoteStep, idleStep}
-use Rattle.protocol.specs.EveryLaws.{Every, none}
+use Rattle.protocol.specs.EveryLaws.{none}
 use Rattle.protocol.specs.Linked.{Linked, start, link}
 use Rattle.protocol.specs.LinkedLaws.{linked-sound}
 use Rattle.protocol.specs.ParentLaws.{parent-some}
 use Rattle.protocol.specs.TestsLaws.{and-true}
-use Rattle.protocol.specs.RowLaws.{row, every-take, zeros-is-zero}
-use Rattle.protocol.specs.StateLaws.{Sized}
+use Rattle.protocol.specs.RowLaws.{row, zeros-is-zero}
+use Rattle.protocol.specs.BlockLaws.{new-block-good}
+use Rattle.protocol.specs.PendingLaws.{offered-few, offered-sized}
 use Rattle.protocol.specs.SoundLaws.{SoundState, SoundHeight}
 use Rattle.conduct.specs.Fields.{blockCertificateFields, dummyCertificateFields, finalizeCertificateFields}
 use Rattle.conduct.specs.Readable.{Said, SameSetting, DigestSized}
 use Rattle.conduct.specs.Named.{offeredBlock, moveFields, passFields}
-use Rattle.conduct.specs.FrameLaws.{zeros-size}
-use Rattle.conduct.specs.BlockLaws.{new-block-good}
+use Rattle.protocol.specs.BlockLaws.{zeros-size}
 use Rattle.conduct.specs.ReadLaws.{Written, said-none, said-more, proposal-read, block-vote-read, dummy-vote-read, finalize-read, block-certificate-read, dummy-certificate-read, finalize-certificate-read}
 use Rattle.conduct.specs.GrowsLaws.{same-quorum}
 use Rattle.conduct.specs.StepLaws.{step-cases}
-use Rattle.conduct.specs.SubmitKeptLaws.{every-without, pending-sized}
 
 -- a linked height from 1 on has a block
 has-block : {digest : Bytes → Bytes} {v : View} {h : ℕ} → Linked digest v h → 1 ≤ h → v .hasBlock h ≡ true
@@ -128,14 +127,6 @@ module _ (digest : Bytes → Bytes) (s : State) (is : SoundState digest s) (t : 
     start-digest zero e = zeros-is-zero 32
     start-digest (suc j) e = absurd (omega arith)
 
-    offered-few : (j : ℕ) → length (offered digest s j) ≤ 8
-    unfolding offered
-    offered-few j = simp length-take (omega arith)
-
-    offered-sized : (j : ℕ) → Every (Sized 16) (offered digest s j)
-    unfolding offered
-    offered-sized j = every-take 8 (every-without (logAt (view s) j) (pending-sized digest s is))
-
     below-current : (j : ℕ) → parentBelow digest s ≡ some j → j < c
     unfolding parentBelow
     below-current j p = let chain = parent-some digest (view s) (c - 1) j p .0 in omega (arith, is .current-low, chain .within)
@@ -143,7 +134,7 @@ module _ (digest : Bytes → Bytes) (s : State) (is : SoundState digest s) (t : 
     proposed-good : (parent : Option ℕ) → parentBelow digest s ≡ parent → isSome parent ≡ true → blockWellFormed c (proposedBlock digest s (someOr 0 parent)) ≡ true
     unfolding isSome someOr proposedBlock
     proposed-good none p e = absurd (false≢true e)
-    proposed-good (some j) p e = new-block-good c j (digestAt digest (view s) j) (offered digest s j) (below-current j p) (digest-size j) (start-digest j) (offered-few j) (offered-sized j)
+    proposed-good (some j) p e = new-block-good c j (digestAt digest (view s) j) (offered digest s j) (below-current j p) (digest-size j) (start-digest j) (offered-few digest s j) (offered-sized digest s is j)
 
     propose-good : proposeApplies digest s ≡ true → Good (proposeStep digest s)
     unfolding proposeApplies proposeStep moveFields offeredBlock
