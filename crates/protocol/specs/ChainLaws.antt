@@ -17,7 +17,7 @@ use Rattle.protocol.specs.View.{View, linked, chainWithin, chain, logAt}
 use Rattle.protocol.specs.LinkedLaws.{linked-parent}
 
 -- ---- lists
-every-append : {A : Type 0} {P : A → Type 0} {xs ys : List A} → Every P xs → Every P ys → Every P (xs ++ ys)
+pub every-append : {A : Type 0} {P : A → Type 0} {xs ys : List A} → Every P xs → Every P ys → Every P (xs ++ ys)
 every-append none qs = qs
 every-append (one p ps) qs = one p (every-append ps qs)
 
