@@ -19,3 +19,6 @@ pub mod TestsLaws
 pub mod MaskLaws
 pub mod StateLaws
 pub mod QuorumLaws
+pub mod Computing
+pub mod Examples
+pub mod NewBookLaws
