@@ -22,3 +22,5 @@ pub mod QuorumLaws
 pub mod Computing
 pub mod Examples
 pub mod NewBookLaws
+pub mod NewBookCallsLaws
+pub mod ExamplesLaws

@@ -79,7 +79,7 @@ pub record Ranges (n own leader : ℕ) (leaders : Bytes) : Type 0 where
   pub leaders-below : all (λ x. ltb x n) leaders ≡ true
   pub few-heights : length leaders < 63
 
-power-positive : (n : ℕ) → 0 < 2 ^ n
+pub power-positive : (n : ℕ) → 0 < 2 ^ n
 power-positive zero = omega arith
 power-positive (suc n) = let q = power-positive n in rw pow-suc (omega arith)
 
