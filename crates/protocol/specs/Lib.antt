@@ -24,3 +24,5 @@ pub mod Examples
 pub mod NewBookLaws
 pub mod NewBookCallsLaws
 pub mod ExamplesLaws
+pub mod CheckCalls
+pub mod Checks
