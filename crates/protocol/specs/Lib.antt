@@ -26,3 +26,4 @@ pub mod NewBookCallsLaws
 pub mod ExamplesLaws
 pub mod CheckCalls
 pub mod Checks
+pub mod RunChecks
