@@ -1,9 +1,8 @@
 -- Calls as data, their answers as numbers, and a digest that computes: what the checks of the definitions run.
 use Prim.Native.Nat.{ℕ, zero, suc, _+_, _*_, _%_}
-use mathlib.Core.Bool.{Bool, true, false, _&&_}
+use mathlib.Core.Bool.{Bool, _&&_, cond}
 use mathlib.Core.List.{List, [], _∷_, _++_}
 use lib.ListN.{length, take, drop}
-use lib.Dec.{eqb}
 use Rattle.protocol.specs.Bytes.{Bytes, same}
 use Rattle.protocol.specs.Answer.{Answer, refused, accepted, Done, Delivery, known, fresh, Move, idle, voteDummy, output, pass, propose, voteBlock, Outcome, certificateKind, finalizeKind, moveNumber, moveHeight}
 use Rattle.protocol.specs.Open.{openCall}
@@ -122,7 +121,34 @@ refuses number book call =
 unfoldable pub splice : ℕ → Bytes → Bytes → Bytes
 splice place new bytes = take place bytes ++ (new ++ drop (place + length new) bytes)
 
+-- ---- calls with what is expected of them
+pub record Expected : Type 0 where
+  pub call : Call
+  pub numbers : List ℕ
+  -- the parts of the book that the call changed, by their places
+  pub changes : List (ℕ × Bytes)
+  pub buffer : Bytes
+
+unfoldable pub expect : Call → List ℕ → List (ℕ × Bytes) → Bytes → Expected
+expect call numbers changes buffer = record { call = call; numbers = numbers; changes = changes; buffer = buffer }
+
+unfoldable pub changed : List (ℕ × Bytes) → Bytes → Bytes
+changed [] book = book
+changed (x ∷ xs) book = changed xs (splice (x .0) (x .1) book)
+
+unfoldable pub agrees : Bytes → Result → Expected → Bool
+agrees book r x =
+    same (r .numbers) (x .numbers) && (same (r .book) (changed (x .changes) book) && same (r .buffer) (x .buffer))
+
+-- the number of the first call whose result is not the expected one, counted from `i`, and 0 if there is none
+unfoldable pub disagreement : ℕ → Bytes → List Expected → ℕ
+disagreement i book [] = 0
+disagreement i book (x ∷ xs) =
+    let r : Result = perform book (x .call) in
+    let rest : ℕ = disagreement (suc i) (r .book) xs in
+    cond (agrees book r x) rest i
+
 -- opens every definition and these tools
 unfoldable pub tools : Unit {0}
-unfolding everything standIn placeSum countUp perform plain ofMove ofFetch numbersOf doneNumbers deliveryNumbers passNumbers moveNumbers after answers lent refuses splice
+unfolding everything standIn placeSum countUp perform plain ofMove ofFetch numbersOf doneNumbers deliveryNumbers passNumbers moveNumbers after answers lent refuses splice expect changed agrees disagreement
 tools = tt

@@ -27,3 +27,4 @@ pub mod ExamplesLaws
 pub mod CheckCalls
 pub mod Checks
 pub mod RunChecks
+pub mod ReferenceChecks
