@@ -101,6 +101,37 @@ refusals : allOf
 unfolding books
 refusals = refl
 
+-- ---- document 01's frames: each field that a kind does not use is zero, and a block is as it must be
+-- a frame is refused by 4 with any of these places set to 1
+spoiled : Bytes → List ℕ → Bool
+spoiled frame [] = true
+spoiled frame (place ∷ places) = refuses 4 single (delivery (splice place (1 ∷ []) frame)) && spoiled frame places
+
+-- the places of bytes 3 and 6 to 15 (of all kinds), of the mask, of the digest and of the block: first and last of each
+malformed : allOf
+    (spoiled (blockVote 1 1 (standIn one)) (3 ∷ 6 ∷ 15 ∷ 4 ∷ 5 ∷ 48 ∷ 223 ∷ []) ∷
+    spoiled (dummyVote 1 1) (3 ∷ 6 ∷ 15 ∷ 4 ∷ 5 ∷ 16 ∷ 47 ∷ 48 ∷ 223 ∷ []) ∷
+    spoiled (finalize 1 1) (3 ∷ 6 ∷ 15 ∷ 4 ∷ 5 ∷ 16 ∷ 47 ∷ 48 ∷ 223 ∷ []) ∷
+    spoiled (dummyCertificate 1 7) (1 ∷ 3 ∷ 6 ∷ 15 ∷ 16 ∷ 47 ∷ 48 ∷ 223 ∷ []) ∷
+    spoiled (finalizeCertificate 1 7) (1 ∷ 3 ∷ 6 ∷ 15 ∷ 16 ∷ 47 ∷ 48 ∷ 223 ∷ []) ∷
+    -- of a block also its own zero bytes, a parent that is not below it, a parent digest without a parent, bytes past the entry
+    spoiled (proposal 0 1 one) (3 ∷ 6 ∷ 15 ∷ 4 ∷ 5 ∷ 16 ∷ 47 ∷ 49 ∷ 50 ∷ 51 ∷ 53 ∷ 63 ∷ 64 ∷ 95 ∷ 112 ∷ 223 ∷ []) ∷
+    spoiled (blockCertificate 1 7 one) (1 ∷ 3 ∷ 6 ∷ 15 ∷ 16 ∷ 47 ∷ 49 ∷ 50 ∷ 51 ∷ 53 ∷ 63 ∷ 64 ∷ 95 ∷ 112 ∷ 223 ∷ []) ∷
+    -- another height than the frame's, nine entries, a frame of 223 and of 225 bytes
+    refuses 4 single (delivery (splice 48 (2 ∷ []) (proposal 0 1 one))) ∷
+    refuses 4 single (delivery (splice 52 (9 ∷ []) (proposal 0 1 one))) ∷
+    refuses 4 single (delivery (take 223 (dummyVote 1 1))) ∷
+    refuses 4 single (delivery (dummyVote 1 1 ++ (0 ∷ []))) ∷ []) ≡ true
+unfolding books spoiled
+malformed = refl
+
+-- the frames as they were are all fresh
+formed : answers single
+    (delivery (blockVote 1 1 (standIn one)) ∷ delivery (dummyVote 1 1) ∷ delivery (finalize 1 1) ∷ delivery (dummyCertificate 1 7) ∷
+    delivery (finalizeCertificate 1 7) ∷ delivery (proposal 0 1 one) ∷ delivery (blockCertificate 1 7 one) ∷ []) ≡ replicate 7 (0 ∷ 1 ∷ [])
+unfolding books
+formed = refl
+
 -- ---- document 01's line of orders: inputs that are wrong in two ways
 orders : allOf
     -- open 2, 1

@@ -389,3 +389,28 @@ examples Letter.i = example-i
 examples Letter.j = example-j
 examples Letter.k = λ digest. (example-k digest, finalized-stays digest)
 examples Letter.l = away
+
+-- ---- the premises of f to k can be met
+-- replica 2 of 4 with one height, which another or the replica itself leads
+start : (leader : ℕ) → openCall (zeros 1456) 4 2 1 (leader ∷ []) .answer ≡ accepted done → Start
+start leader opens = record {
+  old = zeros 1456;
+  n = 4;
+  own = 2;
+  heights = 1;
+  leaders = leader ∷ [];
+  reply = zeros 448;
+  opens = opens;
+  room = le-of-reply;
+}
+  where
+    le-of-reply : 448 ≤ length (zeros 448)
+    le-of-reply = unfold zeros in omega arith
+
+pub led-by-other : (x : Start) × (x .n ≡ 4) × (firstLeader x ≢ x .own)
+unfolding everything firstLeader start
+led-by-other = (start 0 refl, refl, λ q. omega arith)
+
+pub led-by-own : (x : Start) × (x .n ≡ 4) × (firstLeader x ≡ x .own)
+unfolding everything firstLeader start
+led-by-own = (start 2 refl, refl, refl)

@@ -176,3 +176,71 @@ by-certificates = refl
 log-back : readPart standIn (after (after (zeros 2336) byVotes) byCertificates) (zeros 50) ≡ join (entry 1 ∷ entry 2 ∷ entry 3 ∷ [])
 unfolding tools entry first second byVotes byCertificates
 log-back = refl
+
+-- ---- the order of the moves, and the errors that document 01 lists
+-- where the timer fired and height 1 is notarized and finalized: moves 1, 2 and 3, the last without a finalize
+all-apply : answers (zeros 1456)
+    (opening 4 0 1 (0 ∷ []) ∷
+    delivery (proposal 0 1 first) ∷
+    delivery (blockCertificate 1 7 first) ∷
+    delivery (finalizeCertificate 1 7) ∷
+    signalling 1 ∷
+    moving (zeros 448) ∷
+    moving (zeros 448) ∷
+    moving (zeros 448) ∷
+    moving (zeros 448) ∷ []) ≡
+    (0 ∷ []) ∷
+    (0 ∷ 1 ∷ []) ∷
+    (0 ∷ 1 ∷ []) ∷
+    (0 ∷ 1 ∷ []) ∷
+    (0 ∷ []) ∷
+    (0 ∷ 1 ∷ 1 ∷ []) ∷
+    (0 ∷ 2 ∷ 1 ∷ []) ∷
+    (0 ∷ 3 ∷ 1 ∷ 5 ∷ 0 ∷ []) ∷
+    (0 ∷ 0 ∷ 0 ∷ []) ∷ []
+unfolding tools entry first
+all-apply = refl
+
+-- the leader holds a proposal: move 4, then 5; the timer then fires after the vote, and its flag stays after the dummy vote
+vote-and-dummy : answers (zeros 1456)
+    (opening 4 0 1 (0 ∷ []) ∷
+    delivery (proposal 0 1 first) ∷
+    moving (zeros 448) ∷
+    moving (zeros 448) ∷
+    signalling 1 ∷
+    moving (zeros 448) ∷
+    signalling 1 ∷
+    moving (zeros 448) ∷ []) ≡
+    (0 ∷ []) ∷
+    (0 ∷ 1 ∷ []) ∷
+    (0 ∷ 4 ∷ 1 ∷ []) ∷
+    (0 ∷ 5 ∷ 1 ∷ []) ∷
+    (0 ∷ []) ∷
+    (0 ∷ 1 ∷ 1 ∷ []) ∷
+    (14 ∷ []) ∷
+    (0 ∷ 0 ∷ 0 ∷ []) ∷ []
+unfolding tools entry first
+vote-and-dummy = refl
+
+-- a block vote after a dummy vote; one signer's dummy votes count once
+dummy-and-vote : answers (zeros 1456)
+    (opening 4 1 1 (0 ∷ []) ∷
+    signalling 1 ∷
+    moving (zeros 448) ∷
+    delivery (proposal 0 1 first) ∷
+    moving (zeros 448) ∷
+    delivery (dummyVote 1 1) ∷
+    delivery (dummyVote 1 1) ∷
+    delivery (dummyVote 2 1) ∷
+    moving (zeros 448) ∷ []) ≡
+    (0 ∷ []) ∷
+    (0 ∷ []) ∷
+    (0 ∷ 1 ∷ 1 ∷ []) ∷
+    (0 ∷ 1 ∷ []) ∷
+    (0 ∷ 5 ∷ 1 ∷ []) ∷
+    (0 ∷ 1 ∷ []) ∷
+    (0 ∷ 0 ∷ []) ∷
+    (0 ∷ 1 ∷ []) ∷
+    (0 ∷ 0 ∷ 0 ∷ []) ∷ []
+unfolding tools entry first
+dummy-and-vote = refl
