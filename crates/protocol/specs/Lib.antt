@@ -41,3 +41,12 @@ pub mod ChangeLaws
 pub mod BookLaws
 pub mod NewStateLaws
 pub mod FormedLaws
+pub mod Computing
+pub mod Examples
+pub mod NewBookLaws
+pub mod NewBookCallsLaws
+pub mod ExamplesLaws
+pub mod CheckCalls
+pub mod Checks
+pub mod RunChecks
+pub mod ReferenceChecks
