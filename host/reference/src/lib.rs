@@ -10,9 +10,9 @@
 #![warn(clippy::indexing_slicing, clippy::arithmetic_side_effects)]
 #![warn(clippy::unwrap_used, clippy::expect_used, clippy::panic)]
 
-mod answer;
 mod api;
 mod block;
+mod calls;
 mod chain;
 mod codec;
 mod deliver;
@@ -20,6 +20,7 @@ mod fetch;
 mod frame;
 mod frame_reader;
 mod frame_writer;
+pub mod inspect;
 mod log;
 mod make_move;
 mod open;
@@ -33,9 +34,9 @@ mod soundness;
 mod state;
 mod submit;
 
-pub use answer::{Certificate, Delivered, Move};
 pub use api::{deliver, fetch, make_move, open, read, signal, size, submit};
 pub use frame::FRAME;
 pub use quorum::is_quorum;
 pub use rules::{Digest, Rules};
 pub use state::{book_length, ENTRY};
+pub use types::{Certificate, Delivered, Move};

@@ -1,0 +1,101 @@
+/* The C interface of the proved replica: each call on pointers and lengths, each answer as one number.
+ *
+ * A book is 576 + 880 * H bytes that you own and keep (H heights, 1 to 63). Lend it to every call; nothing else is
+ * remembered between calls, and nothing is allocated. No call keeps a pointer. The parts lent to one call must not
+ * overlap, and pointers must not be null, with a length of 0 too.
+ *
+ * Every answer's lowest byte is the number of a refusal, 0 if the call was not refused:
+ *
+ *    1 the book is not sound (open: its length does not fit H)     8 another proposal or page vote is kept
+ *    2 n, own number, H, roll length or a leader out of range      9 the certificate's mask is no quorum
+ *    3 the reply is too short                                     10 another page is notarised
+ *    4 frame, kind to fetch or entry not of the required form     11 no such certificate in the book
+ *    5 signer or mask bit not below n                             12 32 entries are pending, none in the register
+ *    6 height 0 or above H                                        13 the entry is pending or in the register
+ *    7 the proposer does not lead the height                      14 signal not for the current height, or repeated
+ *
+ * A refused call leaves every byte of every buffer as it was, and its answer is that number alone. Bytes of a reply or
+ * buffer past what a call writes keep their values. A call that is refused for several reasons answers the first in
+ * the order given with it. What stands above the lowest byte is told at each call; where nothing is told it is 0.
+ */
+#ifndef MAVUNILAI_H
+#define MAVUNILAI_H
+
+#include <stddef.h>
+#include <stdint.h>
+
+#ifdef __cplusplus
+extern "C" {
+#endif
+
+/* Lengths in bytes. */
+#define MAVUNILAI_FRAME 224u
+#define MAVUNILAI_ENTRY 16u
+#define MAVUNILAI_MOVE_REPLY 448u
+#define MAVUNILAI_FETCH_REPLY 224u
+#define MAVUNILAI_BOOK(heights) (576u + 880u * (size_t)(heights))
+
+/* Parts of an answer. */
+#define MAVUNILAI_REFUSAL(answer) ((unsigned)((answer) & 255u))
+#define MAVUNILAI_FRESH(answer) ((unsigned)(((answer) >> 8) & 255u))
+#define MAVUNILAI_MOVE(answer) ((unsigned)(((answer) >> 8) & 255u))
+#define MAVUNILAI_HEIGHT(answer) ((unsigned)(((answer) >> 16) & 255u))
+#define MAVUNILAI_CERTIFICATE(answer) ((unsigned)(((answer) >> 24) & 255u))
+#define MAVUNILAI_FINALISE(answer) ((unsigned)(((answer) >> 32) & 255u))
+#define MAVUNILAI_SIZE(answer) ((uint64_t)(answer) >> 8)
+
+/* The moves, as MAVUNILAI_MOVE gives them. */
+#define MAVUNILAI_IDLE 0u       /* no move applies; nothing is written */
+#define MAVUNILAI_BLANK_VOTE 1u /* one frame of kind 3 */
+#define MAVUNILAI_SETTLE 2u     /* the settled height grew; nothing is written */
+#define MAVUNILAI_PASS 3u       /* a certificate, then a finalise or 224 zero bytes */
+#define MAVUNILAI_PROPOSAL 4u   /* one frame of kind 1 */
+#define MAVUNILAI_PAGE_VOTE 5u  /* one frame of kind 2 */
+
+/* Makes a new book for station `own` of `n`, with `heights` heights; byte h - 1 of `leaders` leads height h, so
+ * `leaders_len` must equal `heights`. The book's old bytes do not matter.
+ * Refusals: 2, 1. After 0 the book is new, every byte of it set. */
+uint64_t mavunilai_open(uint8_t *book, size_t book_len, uint64_t n, uint64_t own, uint64_t heights,
+                        const uint8_t *leaders, size_t leaders_len);
+
+/* Takes one frame of 224 bytes whose signatures you have checked; a station's own frames too.
+ * Refusals: 1, 4, 6, 5, 7, 9, 8, 10. Else byte 1 of the answer (MAVUNILAI_FRESH) is 1 if the frame was fresh: the book
+ * changed; 0 if it was known: the book is as before. */
+uint64_t mavunilai_deliver(uint8_t *book, size_t book_len, const uint8_t *frame, size_t frame_len);
+
+/* Makes the first move that applies; call it until it is idle. The reply needs 448 bytes or more.
+ * Refusals: 1, 3. Else the answer's bytes are
+ *   1 (MAVUNILAI_MOVE)         the move, 0 to 5
+ *   2 (MAVUNILAI_HEIGHT)       its height; for move 2 the new settled height; 0 if idle
+ *   3 (MAVUNILAI_CERTIFICATE)  for a pass the kind of the first frame, 5 page or 6 blank certificate; else 0
+ *   4 (MAVUNILAI_FINALISE)     for a pass 4 if the second frame is a finalise, else 0
+ * Moves 1, 4 and 5 write bytes 0 to 223 of the reply, one frame. Move 3 writes bytes 0 to 447: the certificate, then
+ * the finalise or zeros, which are no frame. Moves 0 and 2 write none. The book is kept up to date by every move. */
+uint64_t mavunilai_move(uint8_t *book, size_t book_len, uint8_t *reply, size_t reply_len);
+
+/* Tells the book that the timer of a height fired. Refusals: 1, 6, 14. After 0 the flag of the current height is set. */
+uint64_t mavunilai_signal(uint8_t *book, size_t book_len, uint64_t height);
+
+/* Adds an entry of 16 bytes to the pending ones; those that the register holds by now are dropped.
+ * Refusals: 1, 4, 13, 12. After 0 the entry is the last pending one. */
+uint64_t mavunilai_submit(uint8_t *book, size_t book_len, const uint8_t *entry, size_t entry_len);
+
+/* The register's length in bytes: MAVUNILAI_SIZE of the answer, which is the refusal plus 256 times the size.
+ * Refusals: 1. No byte changes. */
+uint64_t mavunilai_size(const uint8_t *book, size_t book_len);
+
+/* Writes the register to the front of the buffer, oldest page first, and returns the number of bytes of the part read.
+ * This is no packed answer: it returns 0, and writes nothing, where the book is not sound or the buffer is shorter
+ * than the register; it returns 0 for an empty register as well. The book does not change. */
+uint64_t mavunilai_read(const uint8_t *book, size_t book_len, uint8_t *buffer, size_t buffer_len);
+
+/* Writes the certificate of kind 5, 6 or 7 of a height to bytes 0 to 223 of the reply, which needs 224 or more.
+ * Refusals: 1, 4, 6, 3, 11. The book does not change. */
+uint64_t mavunilai_fetch(const uint8_t *book, size_t book_len, uint64_t kind, uint64_t height, uint8_t *reply,
+                         size_t reply_len);
+
+#ifdef __cplusplus
+}
+#endif
+
+#endif

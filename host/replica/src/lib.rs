@@ -1,0 +1,31 @@
+//! The proved replica as a Rust library: a book that owns its bytes, typed answers, frames by name.
+//!
+//! With the feature `proved` the static library of the proved replica is linked, and [`Proved`] makes its calls. A
+//! program that can do without it uses [`Book`] over another implementation of [`Calls`]. No input makes a call panic.
+//!
+//! ```ignore
+//! let mut book = replica::open(4, 2, &[0, 1, 2])?;
+//! let vote = replica::Frame::DummyVote { signer: 0, height: 1 };
+//! book.deliver(&vote.bytes())?;
+//! let (made, frames) = book.make_move()?;
+//! ```
+
+#![warn(clippy::indexing_slicing, clippy::arithmetic_side_effects)]
+#![warn(clippy::unwrap_used, clippy::expect_used, clippy::panic)]
+
+#[cfg(feature = "proved")]
+mod foreign;
+
+#[cfg(feature = "proved")]
+pub use foreign::Proved;
+pub use types::refusal::meaning;
+pub use types::{
+    book_length, Block, Book, Calls, Certificate, Delivered, Frame, Move, Written, BLOCK, ENTRY,
+    FRAME,
+};
+
+/// A new book of the proved replica for replica `own` of `n`, with one leader for each height.
+#[cfg(feature = "proved")]
+pub fn open(n: u64, own: u64, leaders: &[u8]) -> Result<Book<Proved>, u8> {
+    Book::open(Proved, n, own, leaders)
+}

@@ -1,0 +1,37 @@
+//! The calls of a replica over byte slices, as one trait that each implementation fulfils.
+
+use crate::{Delivered, Move};
+
+/// A replica's calls. An error is the number of a refusal; a refused call changes no byte.
+pub trait Calls {
+    /// Makes a new book: 2, 1.
+    fn open(
+        &self,
+        book: &mut [u8],
+        n: u64,
+        own: u64,
+        heights: u64,
+        leaders: &[u8],
+    ) -> Result<(), u8>;
+
+    /// Takes a frame into the book: 1, 4, 6, 5, 7, 9, 8, 10.
+    fn deliver(&self, book: &mut [u8], frame: &[u8]) -> Result<Delivered, u8>;
+
+    /// Makes the first move that applies and writes its frames to the reply's front: 1, 3.
+    fn make_move(&self, book: &mut [u8], reply: &mut [u8]) -> Result<Move, u8>;
+
+    /// Tells that the timer of a height fired: 1, 6, 14.
+    fn signal(&self, book: &mut [u8], height: u64) -> Result<(), u8>;
+
+    /// Adds a pending entry: 1, 4, 13, 12.
+    fn submit(&self, book: &mut [u8], entry: &[u8]) -> Result<(), u8>;
+
+    /// The length of the log in bytes (document 01: register size): 1.
+    fn size(&self, book: &[u8]) -> Result<u64, u8>;
+
+    /// Writes the log to the buffer's front and counts its bytes; 0, and nothing written, where it cannot.
+    fn read(&self, book: &[u8], buffer: &mut [u8]) -> u64;
+
+    /// Writes a certificate of kind 5, 6 or 7 to the reply's front: 1, 4, 6, 3, 11.
+    fn fetch(&self, book: &[u8], kind: u64, height: u64, reply: &mut [u8]) -> Result<(), u8>;
+}

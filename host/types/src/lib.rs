@@ -1,0 +1,25 @@
+//! What a replica and its callers share: the calls as a trait, their answers, frames, and where things are in a book.
+//!
+//! Nothing here decides anything: the rules are those of the replica behind the trait [`Calls`]. No input
+//! makes a function of this crate panic.
+
+#![warn(clippy::indexing_slicing, clippy::arithmetic_side_effects)]
+#![warn(clippy::unwrap_used, clippy::expect_used, clippy::panic)]
+
+mod answer;
+mod block;
+mod book;
+mod calls;
+mod frame;
+mod layout;
+pub mod packing;
+mod random;
+pub mod refusal;
+
+pub use answer::{Certificate, Delivered, Move};
+pub use block::{Block, BLOCK};
+pub use book::{Book, Written};
+pub use calls::Calls;
+pub use frame::{Frame, FRAME};
+pub use layout::{book_length, field, mask_at, Area, Layout, ENTRY, MOST_HEIGHTS, MOST_REPLICAS};
+pub use random::Random;
