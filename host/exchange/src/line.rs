@@ -1,0 +1,133 @@
+//! One line of a list: a remark, bytes given to a buffer, or a call with what is expected of it.
+
+use crate::{bytes, Answer, Call};
+use std::fmt;
+
+/// What a call must answer and the digests of its buffers afterwards: the book, then the second buffer if any.
+#[derive(Clone, Debug, PartialEq, Eq)]
+pub struct Expected {
+    /// The answer.
+    pub answer: Answer,
+    /// The digests.
+    pub digests: Vec<[u8; 32]>,
+}
+
+/// A line of a list.
+#[derive(Clone, Debug, PartialEq, Eq)]
+#[allow(missing_docs)] // the fields are told in the cases' comments
+pub enum Line {
+    /// Nothing but words for people; empty for an empty line.
+    Remark(String),
+    /// A buffer of this name holds these bytes from now on.
+    Give { name: String, bytes: Vec<u8> },
+    /// A call on the buffers of these names; the second is empty if none is lent.
+    Call { call: Call, book: String, buffer: String, expected: Option<Expected> },
+}
+
+impl fmt::Display for Line {
+    fn fmt(&self, to: &mut fmt::Formatter<'_>) -> fmt::Result {
+        match self {
+            Line::Remark(text) if text.is_empty() => Ok(()),
+            Line::Remark(text) => write!(to, "# {text}"),
+            Line::Give { name, bytes } => write!(to, "give {name} {}", bytes::print(bytes)),
+            Line::Call { call, book, buffer, expected } => {
+                write!(to, "{}", call.words(book, buffer))?;
+                expected.iter().try_for_each(|expected| write!(to, " = {expected}"))
+            }
+        }
+    }
+}
+
+impl fmt::Display for Expected {
+    fn fmt(&self, to: &mut fmt::Formatter<'_>) -> fmt::Result {
+        write!(to, "{}", self.answer)?;
+        for digest in &self.digests {
+            write!(to, " ")?;
+            digest.iter().try_for_each(|byte| write!(to, "{byte:02x}"))?;
+        }
+        Ok(())
+    }
+}
+
+impl Line {
+    /// The line of a text, or a sentence about what is wrong with it.
+    pub fn parse(text: &str) -> Result<Line, String> {
+        let text = text.trim();
+        if text.is_empty() {
+            return Ok(Line::Remark(String::new()));
+        }
+        if let Some(remark) = text.strip_prefix('#') {
+            return Ok(Line::Remark(remark.trim().to_string()));
+        }
+        let words: Vec<&str> = text.split_whitespace().collect();
+        if let ["give", name, literal] = *words {
+            return Ok(Line::Give { name: name.to_string(), bytes: bytes::parse(literal)? });
+        }
+        let mut halves = words.split(|word| *word == "=");
+        let (call, book, buffer) = call(halves.next().unwrap_or(&[]))?;
+        let expected = halves.next().map(|half| expected(half, &call)).transpose()?;
+        match halves.next() {
+            Some(_) => Err("a line has one '=' at most".to_string()),
+            None => Ok(Line::Call { call, book, buffer, expected }),
+        }
+    }
+}
+
+/// The call before the equals sign, with the names of its buffers.
+fn call(words: &[&str]) -> Result<(Call, String, String), String> {
+    let mut second = "";
+    let (call, book) = match *words {
+        ["open", book, n, own, heights, leaders] => {
+            let (n, own, heights) = (number(n)?, number(own)?, number(heights)?);
+            (Call::Open { n, own, heights, leaders: bytes::parse(leaders)? }, book)
+        }
+        ["deliver", book, frame] => (Call::Deliver { frame: bytes::parse(frame)? }, book),
+        ["move", book, buffer] => {
+            second = buffer;
+            (Call::Move, book)
+        }
+        ["signal", book, height] => (Call::Signal { height: number(height)? }, book),
+        ["submit", book, entry] => (Call::Submit { entry: bytes::parse(entry)? }, book),
+        ["size", book] => (Call::Size, book),
+        ["read", book, buffer] => {
+            second = buffer;
+            (Call::Read, book)
+        }
+        ["fetch", book, kind, height, buffer] => {
+            second = buffer;
+            (Call::Fetch { kind: number(kind)?, height: number(height)? }, book)
+        }
+        _ => return Err(format!("'{}' is no call with its arguments", words.join(" "))),
+    };
+    if book == second {
+        return Err("a call needs two different buffers".to_string());
+    }
+    Ok((call, book.to_string(), second.to_string()))
+}
+
+/// What stands behind the equals sign.
+fn expected(words: &[&str], call: &Call) -> Result<Expected, String> {
+    let buffers = if call.lends() { 2 } else { 1 };
+    let (answer, digests) = words
+        .split_at_checked(words.len().saturating_sub(buffers))
+        .ok_or_else(|| "the answer is missing".to_string())?;
+    let answer = Answer::parse(answer).ok_or_else(|| {
+        format!("'{}' is no answer followed by {buffers} digests", words.join(" "))
+    })?;
+    let digests = digests.iter().map(|word| digest(word)).collect::<Result<_, _>>()?;
+    Ok(Expected { answer, digests })
+}
+
+/// A digest of 64 digits.
+fn digest(word: &str) -> Result<[u8; 32], String> {
+    let wrong = || format!("'{word}' is no digest");
+    if word.len() != 64 {
+        return Err(wrong());
+    }
+    bytes::parse(word)?.try_into().map_err(|_| wrong())
+}
+
+/// A number of 64 bits.
+fn number(word: &str) -> Result<u64, String> {
+    word.parse().map_err(|_| format!("'{word}' is no number"))
+}

@@ -1,0 +1,28 @@
+//! The lists of the folder `exchange/`, as programs that record them.
+
+mod books;
+mod moves;
+mod parts;
+mod refusals;
+mod rehearsal;
+mod season;
+
+use crate::{List, Recorder};
+use types::Calls;
+
+/// The names of the lists; each is a file of the folder with `.txt` behind it.
+pub const NAMES: [&str; 5] = ["refusals", "moves", "rehearsal", "season", "books"];
+
+/// Records a list by its name.
+pub fn record(name: &str, calls: impl Calls) -> Option<List> {
+    let mut to = Recorder::new(calls);
+    match name {
+        "refusals" => refusals::run(&mut to),
+        "moves" => moves::run(&mut to),
+        "rehearsal" => rehearsal::run(&mut to),
+        "season" => season::run(&mut to),
+        "books" => books::run(&mut to),
+        _ => return None,
+    }
+    Some(to.into_list())
+}

@@ -1,0 +1,77 @@
+//! Small parts of the lists: entries out of words, blocks on blocks, moves until idle.
+
+use crate::{Answer, Call, Recorder};
+use reference::sha256;
+use types::{Block, Calls, Frame, Move, ENTRY};
+
+/// The name of the reply buffer in every list.
+pub const REPLY: &str = "reply";
+
+/// The most moves before idle that a list needs.
+const MOVES: usize = 50;
+
+/// An entry out of a few words, filled up with blanks.
+pub fn entry(words: &str) -> [u8; ENTRY] {
+    let mut entry = [b' '; ENTRY];
+    entry.iter_mut().zip(words.bytes()).for_each(|(to, from)| *to = from);
+    entry
+}
+
+/// The digest of a block.
+pub fn digest(block: &Block) -> [u8; 32] {
+    sha256::digest(&block.bytes())
+}
+
+/// A block with no parent.
+pub fn first(height: u8, entries: &[[u8; ENTRY]]) -> Block {
+    Block { height, entries: entries.to_vec(), ..Block::default() }
+}
+
+/// A block on another one.
+pub fn child(height: u8, below: &Block, entries: &[[u8; ENTRY]]) -> Block {
+    Block { height, parent: below.height, digest: digest(below), entries: entries.to_vec() }
+}
+
+/// A vote for a block.
+pub fn vote(signer: u8, block: &Block) -> Frame {
+    Frame::BlockVote { signer, height: block.height, digest: digest(block) }
+}
+
+/// Submits an entry.
+pub fn submit<C: Calls>(to: &mut Recorder<C>, book: &str, words: &str) -> Option<Answer> {
+    to.make(Call::Submit { entry: entry(words).to_vec() }, book, "")
+}
+
+/// The timer of a height fires.
+pub fn signal<C: Calls>(to: &mut Recorder<C>, book: &str, height: u64) -> Option<Answer> {
+    to.make(Call::Signal { height }, book, "")
+}
+
+/// Delivers frames one after another.
+pub fn deliver<C: Calls>(to: &mut Recorder<C>, book: &str, frames: &[Frame]) {
+    frames.iter().for_each(|frame| _ = to.deliver(book, &frame.bytes()));
+}
+
+/// Moves until idle; returns the frames written.
+pub fn moves<C: Calls>(to: &mut Recorder<C>, book: &str) -> Vec<Vec<u8>> {
+    let mut written = Vec::new();
+    for _ in 0..MOVES {
+        let (made, frames) = to.make_move(book, REPLY);
+        written.extend(frames);
+        if made.is_none_or(|made| made == Move::Idle) {
+            break;
+        }
+    }
+    written
+}
+
+/// Moves until idle, and what is written is delivered to the same book before the next move.
+pub fn moves_with_own_frames<C: Calls>(to: &mut Recorder<C>, book: &str) {
+    for _ in 0..MOVES {
+        let (made, frames) = to.make_move(book, REPLY);
+        frames.iter().for_each(|frame| _ = to.deliver(book, frame));
+        if made.is_none_or(|made| made == Move::Idle) {
+            break;
+        }
+    }
+}

@@ -1,0 +1,144 @@
+//! The list of a season: four replicas through five heights, one of them dishonest, none of them in step.
+
+use super::parts::*;
+use crate::{Call, Recorder};
+use types::{Block, Calls, Frame, BLOCK};
+
+/// The books, by replica.
+const BOOKS: [&str; 4] = ["book0", "book1", "book2", "book3"];
+
+/// The leaders of the five heights.
+const LEADERS: [u8; 5] = [0, 1, 3, 2, 0];
+
+/// Records the list.
+pub fn run<C: Calls>(to: &mut Recorder<C>) {
+    to.remark("A season of four stations. Station 3 is cut off at first, and later says two things at once.");
+    to.give(REPLY, vec![0xaa; 448]);
+    for (own, book) in (0..).zip(BOOKS) {
+        to.open(book, 4, own, &LEADERS);
+    }
+    first_height(to);
+    second_height(to);
+    catching_up(to);
+    third_height(to);
+    fourth_height(to);
+    reading(to);
+}
+
+/// The book of a replica.
+fn book(replica: usize) -> &'static str {
+    BOOKS.get(replica).copied().unwrap_or(REPLY)
+}
+
+/// These replicas move until idle; returns all frames written of these kinds.
+fn all_move<C: Calls>(to: &mut Recorder<C>, replicas: &[usize], kinds: &[u8]) -> Vec<Vec<u8>> {
+    let written = replicas.iter().flat_map(|replica| moves(to, book(*replica)));
+    let wanted = |frame: &Vec<u8>| frame.first().is_some_and(|kind| kinds.contains(kind));
+    written.filter(wanted).collect()
+}
+
+/// Delivers frames to these replicas.
+fn send<C: Calls>(to: &mut Recorder<C>, frames: &[Vec<u8>], replicas: &[usize]) {
+    for replica in replicas {
+        frames.iter().for_each(|frame| _ = to.deliver(book(*replica), frame));
+    }
+}
+
+/// Fetches certificates from one book and delivers them to another.
+fn hand_over<C: Calls>(to: &mut Recorder<C>, from: usize, into: usize, wanted: &[(u64, u64)]) {
+    for (kind, height) in wanted {
+        to.make(Call::Fetch { kind: *kind, height: *height }, book(from), REPLY);
+        let frame: Vec<u8> = to.bytes(REPLY).iter().copied().take(types::FRAME).collect();
+        to.deliver(book(into), &frame);
+    }
+}
+
+fn first_height<C: Calls>(to: &mut Recorder<C>) {
+    to.part("Height 1: station 0 leads, station 3 hears nothing, the other three settle page 1");
+    submit(to, book(0), "swap A12 to B40");
+    submit(to, book(1), "seed lot 77 to 3");
+    let offer = all_move(to, &[0], &[1]);
+    send(to, &offer, &[0, 1, 2]);
+    let votes = all_move(to, &[0, 1, 2], &[2]);
+    to.remark("The swap was a mistake: an undo entry waits for the next page");
+    submit(to, book(1), "undo A12 to B40");
+    send(to, &votes, &[0, 1, 2]);
+    let after = all_move(to, &[0, 1, 2], &[1, 4]);
+    send(to, &after, &[0, 1, 2]);
+}
+
+fn second_height<C: Calls>(to: &mut Recorder<C>) {
+    to.part(
+        "Height 2: the timer of station 2 fires between two votes, so it passes without a finalise",
+    );
+    let votes = all_move(to, &[0, 1, 2], &[2]);
+    send(to, &votes, &[0, 1]);
+    send(to, votes.get(..1).unwrap_or(&[]), &[2]);
+    signal(to, book(2), 2);
+    let late = all_move(to, &[2], &[3]);
+    send(to, votes.get(1..).unwrap_or(&[]), &[2]);
+    let passed = all_move(to, &[0, 1, 2], &[4]);
+    to.remark("Both votes of station 2 count: its page vote and the blank vote");
+    send(to, &late, &[0, 1, 2]);
+    send(to, &passed, &[0, 1, 2]);
+}
+
+fn catching_up<C: Calls>(to: &mut Recorder<C>) {
+    to.part("Station 3 is back and catches up with what fetch gives of station 0's book");
+    hand_over(to, 0, 3, &[(5, 1), (7, 1), (5, 2)]);
+    submit(to, book(3), "lot 9 to plot 5");
+}
+
+fn third_height<C: Calls>(to: &mut Recorder<C>) {
+    to.part("Height 3: station 3 leads and sends one page to station 0 and another to 1 and 2");
+    let offer = all_move(to, &[3], &[1]);
+    let one = offered(&offer);
+    let two = Block { entries: vec![entry("lot 9 to plot 6")], ..one.clone() };
+    send(to, &offer, &[0]);
+    let other = [Frame::Proposal { signer: 3, block: two.clone() }];
+    [1, 2, 0].into_iter().for_each(|replica| deliver(to, book(replica), &other));
+    let votes = all_move(to, &[0, 1, 2], &[2]);
+    send(to, &votes, &[0, 1, 2]);
+    to.remark("Its second vote is refused where the first is kept");
+    deliver(to, book(0), &[vote(3, &one), vote(3, &two)]);
+    to.remark("No page gets three votes. Timers fire at 0 and 1; 2 passes on the blank before its own does");
+    signal(to, book(0), 3);
+    signal(to, book(1), 3);
+    let mut blanks = all_move(to, &[0, 1], &[3]);
+    blanks.push(Frame::DummyVote { signer: 3, height: 3 }.bytes().to_vec());
+    submit(to, book(2), "plot C7 fallow");
+    send(to, &blanks, &[0, 1, 2]);
+}
+
+fn fourth_height<C: Calls>(to: &mut Recorder<C>) {
+    to.part("Height 4: page 4 stands on page 2 over the blank; station 1 gets its certificate before the page");
+    let offer = all_move(to, &[0, 1, 2], &[1]);
+    hand_over(to, 0, 3, &[(6, 3)]);
+    send(to, &offer, &[0, 2, 3]);
+    let votes = all_move(to, &[0, 2, 3], &[2]);
+    send(to, &votes, &[0, 2]);
+    let passed = all_move(to, &[0, 2], &[4, 5]);
+    send(to, &passed, &[0, 1, 2]);
+    send(to, &offer, &[1]);
+    let last = all_move(to, &[1], &[4]);
+    send(to, &last, &[0, 1, 2]);
+    all_move(to, &[0, 1, 2], &[]);
+    to.remark("Station 3 catches up again");
+    hand_over(to, 1, 3, &[(5, 4), (7, 4)]);
+    all_move(to, &[3], &[]);
+}
+
+fn reading<C: Calls>(to: &mut Recorder<C>) {
+    to.part("All four read the same register");
+    for book in BOOKS {
+        to.make(Call::Size, book, "");
+        to.give("register", vec![0xbb; 80]);
+        to.make(Call::Read, book, "register");
+    }
+}
+
+/// The block of the first proposal among these frames.
+fn offered(frames: &[Vec<u8>]) -> Block {
+    let bytes = frames.iter().find_map(|frame| frame.last_chunk::<BLOCK>());
+    bytes.map_or_else(Block::default, Block::parts)
+}

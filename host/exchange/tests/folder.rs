@@ -1,0 +1,121 @@
+//! The folder `exchange/`: its files are what the reference records, they replay, and together they cover all.
+
+use exchange::{record, replay, scenarios, Answer, Line, List, Tally};
+use reference::Rules;
+use std::path::PathBuf;
+
+/// The file of a list.
+fn file(name: &str) -> PathBuf {
+    let root = PathBuf::from(env!("CARGO_MANIFEST_DIR")).join("../..");
+    root.join("exchange").join(format!("{name}.txt"))
+}
+
+/// The list in a file of the folder.
+fn list(name: &str) -> List {
+    let text = std::fs::read_to_string(file(name)).unwrap();
+    List::parse(&text).unwrap_or_else(|problem| panic!("{name}: {problem}"))
+}
+
+#[test]
+fn files_are_as_recorded() {
+    for name in scenarios::NAMES {
+        let recorded = scenarios::record(name, Rules::SHA256).unwrap();
+        let text = std::fs::read_to_string(file(name)).unwrap_or_default();
+        assert!(recorded.to_string() == text, "{name}: record the folder anew");
+    }
+}
+
+#[test]
+fn folder_has_no_other_files() {
+    let folder = file("").parent().unwrap().to_path_buf();
+    for entry in std::fs::read_dir(folder).unwrap() {
+        let path = entry.unwrap().path();
+        let stem = path.file_stem().unwrap().to_str().unwrap().to_string();
+        assert!(scenarios::NAMES.contains(&stem.as_str()), "{path:?}");
+    }
+}
+
+#[test]
+fn all_refusals_moves_and_passes_occur() {
+    let mut tally = Tally::default();
+    for name in scenarios::NAMES {
+        tally.add(&replay(&list(name), &Rules::SHA256).unwrap());
+    }
+    assert_eq!(tally.missing(), Vec::<String>::new(), "{tally}");
+}
+
+#[test]
+fn refusals_alone_cover_every_number() {
+    let tally = replay(&list("refusals"), &Rules::SHA256).unwrap();
+    assert!(tally.missing().iter().all(|name| !name.starts_with("refusal")), "{tally}");
+}
+
+#[test]
+fn text_comes_back() {
+    for name in scenarios::NAMES {
+        let list = list(name);
+        assert_eq!(List::parse(&list.to_string()), Ok(list.clone()));
+        assert_eq!(record(&list, &Rules::SHA256), Ok(list));
+    }
+}
+
+#[test]
+fn files_are_small() {
+    for name in scenarios::NAMES {
+        assert!(std::fs::metadata(file(name)).unwrap().len() < 64 * 1024, "{name}");
+    }
+}
+
+/// The answers of a list on one book, in order.
+fn answers(list: &List, wanted: &str) -> Vec<Answer> {
+    let answer = |line: &Line| match line {
+        Line::Call { book, expected: Some(expected), .. } if book == wanted => {
+            Some(expected.answer)
+        }
+        _ => None,
+    };
+    list.lines.iter().filter_map(answer).collect()
+}
+
+/// The moves of a list on one book, in words, without idle.
+fn moves(list: &List, book: &str) -> Vec<String> {
+    let words = answers(list, book).into_iter().filter_map(|answer| match answer {
+        Answer::Moved(made) => Some(made.to_string()),
+        _ => None,
+    });
+    words.filter(|words| words != "idle").collect()
+}
+
+#[test]
+fn the_season_goes_as_told() {
+    let list = list("season");
+    let expected = [
+        "offer 1,vote 1,pass 1 5 4,final 1,vote 2,pass 2 5 4,vote 3,dummy 3,pass 3 6 0,vote 4,pass 4 5 4,offer 5,final 4",
+        "vote 1,pass 1 5 4,offer 2,final 1,vote 2,pass 2 5 4,vote 3,dummy 3,pass 3 6 0,pass 4 5 4,final 4",
+        "vote 1,pass 1 5 4,final 1,vote 2,dummy 2,pass 2 5 0,vote 3,pass 3 6 4,offer 4,vote 4,pass 4 5 4,final 4",
+        "final 1,pass 1 5 4,pass 2 5 4,offer 3,pass 3 6 4,vote 4,final 4,pass 4 5 4",
+    ];
+    for (replica, expected) in expected.iter().enumerate() {
+        let book = format!("book{replica}");
+        assert_eq!(moves(&list, &book).join(","), *expected, "{book}");
+        let denied = answers(&list, &book).contains(&Answer::Deny(8));
+        assert_eq!(denied, replica == 0, "{book}");
+        assert_eq!(answers(&list, &book).last(), Some(&Answer::Part(64)), "{book}");
+    }
+}
+
+#[test]
+fn the_four_registers_are_the_same() {
+    let mut registers = list("season").lines.into_iter().filter_map(|line| match line {
+        Line::Call { call: exchange::Call::Read, expected, .. } => {
+            expected?.digests.get(1).copied()
+        }
+        _ => None,
+    });
+    let first = registers.next().unwrap();
+    let mut buffer = [0xbb; 80];
+    let words = ["swap A12 to B40 ", "seed lot 77 to 3", "undo A12 to B40 ", "plot C7 fallow  "];
+    buffer[..64].copy_from_slice(words.concat().as_bytes());
+    assert_eq!(first, reference::sha256::digest(&buffer));
+    assert_eq!(registers.filter(|other| *other == first).count(), 3);
+}

@@ -1,0 +1,98 @@
+//! Replaying finds every kind of difference, and bad lists get a sentence with the line.
+
+use exchange::{record, replay, List, Problem, HEADING};
+use reference::Rules;
+
+/// A list of these lines.
+fn list(lines: &str) -> Result<List, Problem> {
+    List::parse(&format!("{HEADING}\n{lines}"))
+}
+
+/// A short list with all expectations.
+fn sample() -> String {
+    let calls = "give book 5a*1456\ngive reply aa*448\nopen book 4 2 1 00\nsignal book 1\nmove book reply\nsize book";
+    record(&list(calls).unwrap(), &Rules::SHA256).unwrap().to_string()
+}
+
+/// The problem that replaying a text ends with.
+fn problem(text: &str) -> Option<String> {
+    let replayed = List::parse(text).and_then(|list| replay(&list, &Rules::SHA256));
+    replayed.err().map(|problem| problem.to_string())
+}
+
+#[test]
+fn a_recorded_list_replays() {
+    assert_eq!(problem(&sample()), None);
+    assert!(sample().contains("move book reply = dummy 1 "));
+}
+
+#[test]
+fn another_answer_is_found() {
+    let text = sample().replace("= dummy 1 ", "= vote 1 ");
+    let expected = "line 6: the answer is 'dummy 1', expected is 'vote 1'";
+    assert_eq!(problem(&text).as_deref(), Some(expected));
+}
+
+#[test]
+fn other_bytes_are_found() {
+    let text = sample().replace("aa*448", "aa*449");
+    assert_eq!(
+        problem(&text).as_deref(),
+        Some("line 6: the bytes of the reply or buffer are not the expected ones")
+    );
+    let text = sample().replace("signal book 1 = done", "submit book 00*16 = done");
+    assert_eq!(
+        problem(&text).as_deref(),
+        Some("line 5: the bytes of the book are not the expected ones")
+    );
+}
+
+#[test]
+fn every_digit_of_the_digests_counts() {
+    let sample = sample();
+    let digits = sample.match_indices(|c: char| c.is_ascii_hexdigit()).map(|(at, _)| at);
+    let in_digest = |at: &usize| {
+        let word = sample[..*at].rfind(' ').map_or(0, |start| start + 1);
+        sample[word..].split_whitespace().next().is_some_and(|word| word.len() == 64)
+    };
+    let places: Vec<usize> = digits.filter(in_digest).collect();
+    assert_eq!(places.len(), 5 * 64);
+    for at in places {
+        let other = if &sample[at..=at] == "0" { "1" } else { "0" };
+        let text = format!("{}{other}{}", &sample[..at], &sample[at + 1..]);
+        assert!(problem(&text).is_some(), "{at}");
+    }
+}
+
+#[test]
+fn bad_lists_get_a_sentence() {
+    assert!(problem("").is_some());
+    assert!(problem("mavunilai exchange 2\n").is_some());
+    let zeros = "0".repeat(64);
+    let with_two = format!("size book = size 0 {zeros} {zeros}");
+    for line in [
+        "opne book 4 2 1 00",
+        "open book 4 2 1",
+        "open book 4 2 x 00",
+        "signal book -1",
+        "signal book 18446744073709551616",
+        "deliver book 0",
+        "move book book",
+        "move book",
+        "give book",
+        "size book =",
+        "size book = size 0",
+        "size book = size 0 00",
+        "size book = done = done",
+        "size missing",
+        "move book missing",
+        &with_two,
+    ] {
+        let text = format!("{HEADING}\ngive book 00*576\n{line}\n");
+        let found = problem(&text);
+        assert!(
+            found.as_ref().is_some_and(|found| found.starts_with("line 3: ")),
+            "{line} {found:?}"
+        );
+    }
+}
