@@ -52,7 +52,7 @@ fn every_digit_of_the_digests_counts() {
     let sample = sample();
     let digits = sample.match_indices(|c: char| c.is_ascii_hexdigit()).map(|(at, _)| at);
     let in_digest = |at: &usize| {
-        let word = sample[..*at].rfind(' ').map_or(0, |start| start + 1);
+        let word = sample[..*at].rfind(char::is_whitespace).map_or(0, |start| start + 1);
         sample[word..].split_whitespace().next().is_some_and(|word| word.len() == 64)
     };
     let places: Vec<usize> = digits.filter(in_digest).collect();

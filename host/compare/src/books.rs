@@ -1,0 +1,116 @@
+//! Random books: new ones, sound ones that no run makes, damaged ones and garbage.
+
+use crate::frames::{any_block, any_entry, any_mask};
+use reference::Rules;
+use types::{book_length, field, Area, Calls, Layout, Random, MOST_HEIGHTS, MOST_REPLICAS};
+
+/// A number of heights: mostly small, now and then up to the most.
+pub fn any_heights(random: &mut Random) -> u8 {
+    let bound = match random.below(16) {
+        0 => MOST_HEIGHTS,
+        1..=3 => 20,
+        _ => 6,
+    };
+    random.byte_below(bound).saturating_add(1)
+}
+
+/// A number of replicas.
+pub fn any_replicas(random: &mut Random) -> u8 {
+    let bound = if random.one_in(2) { 5 } else { MOST_REPLICAS };
+    random.byte_below(bound).saturating_add(1)
+}
+
+/// Bytes of a book's length to open a book on: the arguments are n, own, heights, leaders.
+pub fn any_arguments(random: &mut Random) -> (u8, u8, Vec<u8>) {
+    let (n, heights) = (any_replicas(random), any_heights(random));
+    let leaders = (0..heights).map(|_| random.byte_below(n)).collect();
+    (n, random.byte_below(n), leaders)
+}
+
+/// A sound book with any flags, any current height, junk in every free byte, and blocks that may not fit together.
+pub fn strange_book(random: &mut Random) -> Vec<u8> {
+    let (n, own, leaders) = any_arguments(random);
+    let heights = u8::try_from(leaders.len()).unwrap_or(1);
+    let mut book = vec![0; book_length(heights)];
+    let layout = Layout::new(heights);
+    random.fill(&mut book[layout.area(1, Area::Held).start..]);
+    let current = random.byte_below(heights.saturating_add(1)).saturating_add(1);
+    let (flags, pending) = (random.byte_below(16), random.byte_below(33));
+    book[..8].copy_from_slice(&[n, own, heights, flags, current, 0, pending, 1]);
+    for place in book[layout.pending()].chunks_mut(16) {
+        place.copy_from_slice(&any_entry(random));
+    }
+    for (height, leader) in (1..=heights).zip(leaders) {
+        fill_height(random, &mut book, height, leader);
+    }
+    settle(random, &mut book);
+    book
+}
+
+/// The row and the blocks of one height.
+fn fill_height(random: &mut Random, book: &mut [u8], height: u8, leader: u8) {
+    let (n, layout) = (book[field::N], Layout::new(book[field::HEIGHTS]));
+    let all = u16::MAX >> 16_u8.saturating_sub(n).min(15);
+    let state = random.byte_below(4) | if random.one_in(3) { 0 } else { 2 };
+    let mut row = [0; 16];
+    (row[0], row[1]) = (leader, state);
+    for mask in row[2..10].chunks_mut(2) {
+        mask.copy_from_slice(&(any_mask(random, n) & all).to_le_bytes());
+    }
+    if state & 2 != 0 {
+        row[2..4].copy_from_slice(&all.to_le_bytes());
+        let block = any_block(random, book, height).bytes();
+        book[layout.area(height, Area::Notarized)].copy_from_slice(&block);
+    }
+    if state & 1 != 0 {
+        let block = any_block(random, book, height).bytes();
+        book[layout.area(height, Area::Held)].copy_from_slice(&block);
+    }
+    book[layout.area(height, Area::Row)].copy_from_slice(&row);
+}
+
+/// Makes some settled height the finalized one, if a few tries find one.
+fn settle(random: &mut Random, book: &mut [u8]) {
+    for _ in 0..3 {
+        book[field::FINALIZED] = random.byte_below(book[field::HEIGHTS]).saturating_add(1);
+        if Calls::size(&Rules::SHA256, book).is_ok() {
+            return;
+        }
+    }
+    book[field::FINALIZED] = 0;
+}
+
+/// Changes one byte, or cuts or lengthens the book.
+pub fn damage(random: &mut Random, book: &mut Vec<u8>) {
+    let rows = 576_usize.saturating_add(usize::from(book.get(2).copied().unwrap_or(0)) * 16);
+    let bound = *random.pick(&[8, 64, rows, book.len()]).unwrap_or(&0);
+    let at = random.index(bound.min(book.len()));
+    let bit = 1 << random.below(8);
+    let any = random.byte();
+    match (random.below(12), book.get_mut(at)) {
+        (0, _) => book.truncate(book.len().saturating_sub(random.index(3).saturating_add(1))),
+        (1, _) => book.push(0),
+        (2..=6, Some(byte)) => *byte = any,
+        (_, Some(byte)) => *byte ^= bit,
+        (_, None) => book.push(any),
+    }
+}
+
+/// Bytes of any length, often that of a book, sometimes with a head that looks like one.
+pub fn garbage(random: &mut Random) -> Vec<u8> {
+    let heights = any_heights(random);
+    let length = match random.below(3) {
+        0 => random.index(4000),
+        1 => random.index(600),
+        _ => book_length(heights),
+    };
+    let mut book = vec![0; length];
+    if random.one_in(2) {
+        random.fill(&mut book);
+    }
+    let head = [4, 2, heights, 0, 1, 0, 0, 1];
+    if random.one_in(2) {
+        book.iter_mut().zip(head).for_each(|(to, from)| *to = from);
+    }
+    book
+}

@@ -1,0 +1,111 @@
+//! The next call on a single book, with the length of the buffer lent to it.
+
+use crate::books::any_arguments;
+use crate::frames::{any_entry, any_frame_bytes, any_height, byte};
+use exchange::Call;
+use types::{book_length, field, Random};
+
+/// Lengths around the limits of move and fetch.
+const LENGTHS: [usize; 14] = [0, 1, 223, 224, 225, 256, 446, 447, 448, 449, 450, 600, 671, 672];
+
+/// A call and the length of its reply or buffer.
+pub fn any_call(random: &mut Random, book: &[u8], recent: &mut Vec<Vec<u8>>) -> (Call, usize) {
+    let limit = |random: &mut Random, usual| match random.one_in(8) {
+        true => random.pick(&LENGTHS).copied().unwrap_or(usual),
+        false => usual,
+    };
+    match random.below(32) {
+        0..=15 => (Call::Deliver { frame: frame(random, book, recent) }, 0),
+        16..=23 => (Call::Move, limit(random, 448)),
+        24 | 25 => (Call::Signal { height: signal_height(random, book) }, 0),
+        26 | 27 => (Call::Submit { entry: entry(random) }, 0),
+        28 => (Call::Size, 0),
+        29 => (Call::Read, reading_length(random)),
+        30 => {
+            (Call::Fetch { kind: kind(random), height: number(random, book) }, limit(random, 224))
+        }
+        _ if random.one_in(8) => (any_open(random, book), 0),
+        _ => (Call::Read, 63 * 8 * 16),
+    }
+}
+
+/// A new frame, or one that came before.
+fn frame(random: &mut Random, book: &[u8], recent: &mut Vec<Vec<u8>>) -> Vec<u8> {
+    if random.one_in(6) {
+        if let Some(frame) = random.pick(recent) {
+            return frame.clone();
+        }
+    }
+    let frame = any_frame_bytes(random, book);
+    if recent.len() < 8 {
+        recent.push(frame.clone());
+    } else {
+        let at = random.index(recent.len());
+        recent[at].clone_from(&frame);
+    }
+    frame
+}
+
+/// The current height mostly.
+fn signal_height(random: &mut Random, book: &[u8]) -> u64 {
+    match random.one_in(3) {
+        true => number(random, book),
+        false => byte(book, field::CURRENT).into(),
+    }
+}
+
+/// A height as an argument; seldom a number that no byte holds.
+fn number(random: &mut Random, book: &[u8]) -> u64 {
+    match random.one_in(32) {
+        true => *random.pick(&[256, 257, 1 << 32, u64::MAX]).unwrap_or(&256),
+        false => any_height(random, book).into(),
+    }
+}
+
+/// A kind to fetch.
+fn kind(random: &mut Random) -> u64 {
+    match random.one_in(12) {
+        true => *random.pick(&[0, 1, 4, 8, 255, 261, u64::MAX]).unwrap_or(&0),
+        false => random.below(3).saturating_add(5),
+    }
+}
+
+/// An entry, seldom of another length.
+fn entry(random: &mut Random) -> Vec<u8> {
+    let mut entry = any_entry(random).to_vec();
+    if random.one_in(24) {
+        entry.resize(*random.pick(&[0, 1, 15, 17, 32]).unwrap_or(&0), 0);
+    }
+    entry
+}
+
+/// A length around multiples of an entry.
+fn reading_length(random: &mut Random) -> usize {
+    let whole = random.index(24).saturating_mul(16);
+    whole.saturating_add(random.index(3)).saturating_sub(1)
+}
+
+/// Opening, mostly with arguments that fit the book's length.
+pub fn any_open(random: &mut Random, book: &[u8]) -> Call {
+    let (n, own, mut leaders) = any_arguments(random);
+    let (mut n, mut own) = (u64::from(n), u64::from(own));
+    let fitting = (1..=63).find(|heights| book_length(*heights) == book.len());
+    if let Some(heights) = fitting.filter(|_| !random.one_in(4)) {
+        leaders.resize(heights.into(), 0);
+    }
+    let mut heights = leaders.len() as u64;
+    match random.below(12) {
+        0 => n = *random.pick(&[0, 17, 256, 260, u64::MAX]).unwrap_or(&0),
+        1 => own = *random.pick(&[n, 255, 256, u64::MAX]).unwrap_or(&n),
+        2 => heights = *random.pick(&[0, 64, 256, 257, u64::MAX]).unwrap_or(&0),
+        3 => leaders.push(0),
+        4 => leaders.truncate(leaders.len().saturating_sub(1)),
+        5 => leaders.extend([255; 4]),
+        6 => {
+            let at = random.index(leaders.len());
+            leaders.iter_mut().skip(at).take(1).for_each(|leader| *leader = 16);
+        }
+        _ => {}
+    }
+    Call::Open { n, own, heights, leaders }
+}

@@ -1,0 +1,112 @@
+//! Random frames for a book: mostly ones that it takes, some that it must refuse.
+
+use reference::sha256;
+use types::{field, Area, Block, Frame, Layout, Random, BLOCK, ENTRY, FRAME};
+
+/// The byte of a book at an offset; 0 past the end.
+pub fn byte(book: &[u8], at: usize) -> u8 {
+    book.get(at).copied().unwrap_or(0)
+}
+
+/// An area of a height in a book of any bytes.
+pub fn area(book: &[u8], height: u8, area: Area) -> &[u8] {
+    let range = Layout::new(byte(book, field::HEIGHTS)).area(height, area);
+    book.get(range).unwrap_or(&[])
+}
+
+/// One of few entries, so that repeats are common.
+pub fn any_entry(random: &mut Random) -> [u8; ENTRY] {
+    let tag = random.byte_below(40);
+    let mut entry = [tag; ENTRY];
+    entry[0] = b'#';
+    entry
+}
+
+/// A mask: any, all, or all but one; seldom with a bit that names nobody.
+pub fn any_mask(random: &mut Random, n: u8) -> u16 {
+    let [low, high, ..] = random.next_bits().to_be_bytes();
+    let any = u16::from_le_bytes([low, high]);
+    let all = u16::MAX.checked_shr(16_u32.saturating_sub(n.into())).unwrap_or(0);
+    match random.below(16) {
+        0 => any,
+        1..=3 => any & all,
+        4..=6 => all & !1_u16.checked_shl(random.byte_below(n).into()).unwrap_or(0),
+        _ => all,
+    }
+}
+
+/// A height: mostly near the current one, seldom outside the book.
+pub fn any_height(random: &mut Random, book: &[u8]) -> u8 {
+    let (last, current) = (byte(book, field::HEIGHTS), byte(book, field::CURRENT));
+    let near = current.saturating_add(random.byte_below(4)).saturating_sub(1);
+    match random.below(24) {
+        0 => *random.pick(&[0, last.wrapping_add(1), 64, 255]).unwrap_or(&0),
+        1..=5 => random.byte_below(last).saturating_add(1),
+        _ => near.clamp(1, last.max(1)),
+    }
+}
+
+/// A block for a height, mostly on the nearest notarized block below it.
+pub fn any_block(random: &mut Random, book: &[u8], height: u8) -> Block {
+    let notarized =
+        |height: &u8| area(book, *height, Area::Row).get(1).is_some_and(|state| state & 2 != 0);
+    let parent = match random.below(6) {
+        0 => random.byte_below(height),
+        _ => (1..height).rev().find(notarized).unwrap_or(0),
+    };
+    let digest = match parent {
+        0 => [0; 32],
+        _ if random.one_in(24) => [random.byte(); 32],
+        _ => sha256::digest(area(book, parent, Area::Notarized)),
+    };
+    let entries = (0..random.below(9)).map(|_| any_entry(random)).collect();
+    Block { height, parent, digest, entries }
+}
+
+/// A block for a height: the held one, the notarized one or another.
+fn likely_block(random: &mut Random, book: &[u8], height: u8) -> Block {
+    let state = area(book, height, Area::Row).get(1).copied().unwrap_or(0);
+    let known = match random.below(4) {
+        0 | 1 if state & 1 != 0 => area(book, height, Area::Held).first_chunk::<BLOCK>(),
+        0..=2 if state & 2 != 0 => area(book, height, Area::Notarized).first_chunk::<BLOCK>(),
+        _ => None,
+    };
+    known.map_or_else(|| any_block(random, book, height), Block::parts)
+}
+
+/// A frame of any kind.
+pub fn any_frame(random: &mut Random, book: &[u8]) -> Frame {
+    let n = byte(book, field::N);
+    let height = any_height(random, book);
+    let signer = if random.one_in(24) { random.byte() } else { random.byte_below(n) };
+    let mask = any_mask(random, n);
+    let block = likely_block(random, book, height);
+    let leader = byte(area(book, height, Area::Row), 0);
+    match random.below(16) {
+        0..=2 if random.one_in(16) => Frame::Proposal { signer, block },
+        0..=2 => Frame::Proposal { signer: leader, block },
+        3..=6 => {
+            let digest = sha256::digest(&block.bytes());
+            Frame::BlockVote { signer, height, digest }
+        }
+        7..=9 => Frame::DummyVote { signer, height },
+        10 | 11 => Frame::Finalize { signer, height },
+        12 | 13 => Frame::BlockCertificate { mask, block },
+        14 => Frame::DummyCertificate { mask, height },
+        _ => Frame::FinalizeCertificate { mask, height },
+    }
+}
+
+/// The bytes of a frame, now and then with a byte changed or of another length.
+pub fn any_frame_bytes(random: &mut Random, book: &[u8]) -> Vec<u8> {
+    let mut frame = any_frame(random, book).bytes().to_vec();
+    if random.one_in(12) {
+        let at = if random.one_in(2) { random.index(FRAME) } else { random.index(6) };
+        frame[at] = random.byte() >> random.below(8);
+    }
+    if random.one_in(32) {
+        let length = [0, 1, 223, 225, 448, random.index(300)];
+        frame.resize(*random.pick(&length).unwrap_or(&0), 0);
+    }
+    frame
+}

@@ -1,0 +1,89 @@
+//! What the dishonest replicas of a network do: two proposals, two votes, certificates sent to some only.
+
+use crate::frames::{any_entry, byte};
+use crate::network::Network;
+use reference::{is_quorum, sha256};
+use types::{field, Block, Calls, Frame};
+
+impl<A: Calls, B: Calls> Network<'_, A, B> {
+    /// One act of the dishonest replicas, at a height near an honest one's.
+    pub fn mischief(&mut self) {
+        let seen = self.random.index(self.books.len());
+        let last = self.leaders.len().min(255) as u8;
+        let near = byte(&self.books[seen], field::CURRENT).saturating_add(1).min(last);
+        let height = self.random.byte_below(near).saturating_add(1).max(near.saturating_sub(2));
+        let signer = self.honest + self.random.byte_below(self.n - self.honest);
+        match self.random.below(6) {
+            0 => self.equivocate(height),
+            1 | 2 => self.vote_for_all(signer, height),
+            3 => self.whisper(&Frame::DummyVote { signer, height }),
+            4 => self.whisper(&Frame::Finalize { signer, height }),
+            _ => self.certify(height),
+        }
+    }
+
+    /// Two proposals for one height, if a dishonest replica leads it.
+    fn equivocate(&mut self, height: u8) {
+        let leader = self.leaders.get(usize::from(height).wrapping_sub(1)).copied().unwrap_or(0);
+        if leader < self.honest {
+            return;
+        }
+        let below: Vec<Block> =
+            self.blocks.iter().filter(|block| block.height < height).cloned().collect();
+        let recent = below.len().saturating_sub(6);
+        let parent = self.random.pick(&below[recent..]).cloned();
+        for _ in 0..2 {
+            let entries = vec![any_entry(self.random)];
+            let mut block = Block { height, entries, ..Block::default() };
+            if let Some(parent) = &parent {
+                block.parent = parent.height;
+                block.digest = sha256::digest(&parent.bytes());
+            }
+            self.blocks.push(block.clone());
+            self.whisper(&Frame::Proposal { signer: leader, block });
+        }
+    }
+
+    /// A vote of one signer for every block of a height, each to some.
+    fn vote_for_all(&mut self, signer: u8, height: u8) {
+        for block in self.blocks_at(height) {
+            let digest = sha256::digest(&block.bytes());
+            self.whisper(&Frame::BlockVote { signer, height, digest });
+        }
+    }
+
+    /// All certificates of a height that true statements and dishonest ones allow.
+    fn certify(&mut self, height: u8) {
+        for block in self.blocks_at(height) {
+            let digest = sha256::digest(&block.bytes());
+            let mask = self.mask(2, height, Some(&digest));
+            self.whisper_if_quorum(mask, Frame::BlockCertificate { mask, block });
+        }
+        let mask = self.mask(3, height, None);
+        self.whisper_if_quorum(mask, Frame::DummyCertificate { mask, height });
+        let mask = self.mask(4, height, None);
+        self.whisper_if_quorum(mask, Frame::FinalizeCertificate { mask, height });
+    }
+
+    /// The blocks that were proposed for a height.
+    fn blocks_at(&self, height: u8) -> Vec<Block> {
+        self.blocks.iter().filter(|block| block.height == height).cloned().collect()
+    }
+
+    /// Who can be said to state this: the honest who did, and all dishonest ones.
+    fn mask(&self, kind: u8, height: u8, digest: Option<&[u8; 32]>) -> u16 {
+        let states = |frame: &&[u8; 224]| {
+            (frame[0], frame[2]) == (kind, height)
+                && digest.is_none_or(|digest| frame[16..48] == *digest)
+        };
+        let honest = self.spoken.iter().filter(states).map(|frame| frame[1]);
+        honest.chain(self.honest..self.n).fold(0, |mask, signer| mask | 1 << signer)
+    }
+
+    /// Sends a certificate to some, if its mask is a quorum.
+    fn whisper_if_quorum(&mut self, mask: u16, frame: Frame) {
+        if is_quorum(mask, self.n) {
+            self.whisper(&frame);
+        }
+    }
+}

@@ -1,0 +1,203 @@
+//! A network of replicas: what the honest ones do and say, and the check that their logs never fork.
+
+use crate::books::any_heights;
+use crate::frames::{any_entry, byte};
+use crate::{Difference, Pair};
+use exchange::{Answer, Call};
+use types::{book_length, field, Block, Calls, Frame, Move, Random, BLOCK, FRAME};
+
+/// The length of the longest log.
+const LONGEST: usize = 63 * 8 * 16;
+
+/// The replicas and what is under way between them. The last few replicas are dishonest and have no book here.
+pub struct Network<'a, A, B> {
+    pub pair: &'a mut Pair<A, B>,
+    pub random: &'a mut Random,
+    pub n: u8,
+    pub honest: u8,
+    pub leaders: Vec<u8>,
+    pub books: Vec<Vec<u8>>,
+    pub logs: Vec<Vec<u8>>,
+    /// Frames on their way, each to a replica.
+    pub wire: Vec<(usize, [u8; FRAME])>,
+    /// All statements of honest replicas.
+    pub spoken: Vec<[u8; FRAME]>,
+    /// All blocks that anyone proposed.
+    pub blocks: Vec<Block>,
+    /// Pairs of logs that were compared, both not empty.
+    pub held_together: u64,
+}
+
+/// Nothing, or what the two replicas differ in.
+pub type Outcome = Result<(), Box<Difference>>;
+
+impl<'a, A: Calls, B: Calls> Network<'a, A, B> {
+    /// Opens the honest books over junk; fewer than a third of the replicas are dishonest.
+    pub fn open(
+        pair: &'a mut Pair<A, B>,
+        random: &'a mut Random,
+    ) -> Result<Network<'a, A, B>, Box<Difference>> {
+        let n: u8 = *random.pick(&[1, 2, 3, 4, 4, 4, 5, 7, 10, 13, 16]).unwrap_or(&4);
+        let dishonest = random.byte_below(n.saturating_sub(1) / 3 + 1);
+        let honest = n.saturating_sub(dishonest);
+        let heights = any_heights(random).max(3);
+        let leaders: Vec<u8> = (0..heights).map(|_| random.byte_below(n)).collect();
+        let (books, logs) = (Vec::new(), vec![Vec::new(); honest.into()]);
+        let (wire, spoken, blocks) = Default::default();
+        let mut network = Network {
+            pair,
+            random,
+            n,
+            honest,
+            leaders,
+            books,
+            logs,
+            wire,
+            spoken,
+            blocks,
+            held_together: 0,
+        };
+        for own in 0..honest {
+            network.open_book(own, heights)?;
+        }
+        Ok(network)
+    }
+
+    /// Opens the book of one replica.
+    fn open_book(&mut self, own: u8, heights: u8) -> Outcome {
+        let mut book = vec![0; book_length(heights)];
+        self.random.fill(&mut book);
+        let (n, own, heights) = (self.n.into(), own.into(), heights.into());
+        let open = Call::Open { n, own, heights, leaders: self.leaders.clone() };
+        self.pair.make(&open, &mut book, &mut [])?;
+        self.books.push(book);
+        Ok(())
+    }
+
+    /// Makes a call on a replica's book.
+    pub fn call(
+        &mut self,
+        replica: usize,
+        call: &Call,
+        buffer: &mut [u8],
+    ) -> Result<Answer, Box<Difference>> {
+        match self.books.get_mut(replica) {
+            Some(book) => self.pair.make(call, book, buffer),
+            None => Ok(Answer::Done),
+        }
+    }
+
+    /// Something happens somewhere.
+    pub fn event(&mut self) -> Outcome {
+        let replica = self.random.index(self.books.len());
+        match self.random.below(20) {
+            0..=10 => self.arrive(),
+            11..=16 => self.step(replica),
+            17 if self.random.one_in(12) => {
+                let height = byte(&self.books[replica], field::CURRENT).into();
+                self.call(replica, &Call::Signal { height }, &mut []).map(|_| ())
+            }
+            18 => {
+                let entry = any_entry(self.random).to_vec();
+                self.call(replica, &Call::Submit { entry }, &mut []).map(|_| ())
+            }
+            19 if self.honest < self.n => {
+                self.mischief();
+                Ok(())
+            }
+            _ => Ok(()),
+        }
+    }
+
+    /// One frame arrives, in no order; some are lost and some come twice.
+    fn arrive(&mut self) -> Outcome {
+        if self.wire.is_empty() {
+            return Ok(());
+        }
+        let at = self.random.index(self.wire.len());
+        let (replica, frame) = match self.random.one_in(20) {
+            true => self.wire[at],
+            false => self.wire.swap_remove(at),
+        };
+        if self.random.one_in(200) {
+            return Ok(());
+        }
+        self.call(replica, &Call::Deliver { frame: frame.to_vec() }, &mut []).map(|_| ())
+    }
+
+    /// A replica moves, and its host sends what it wrote.
+    fn step(&mut self, replica: usize) -> Outcome {
+        let mut reply = [[0xaa; FRAME]; 2];
+        let answer = self.call(replica, &Call::Move, reply.as_flattened_mut())?;
+        let Answer::Moved(made) = answer else {
+            return Ok(());
+        };
+        if matches!(made, Move::Pass { .. } | Move::Offer { .. }) && self.random.one_in(3) {
+            self.send_certificates(replica)?;
+        }
+        reply.into_iter().take(made.frames()).for_each(|frame| self.say(frame));
+        Ok(())
+    }
+
+    /// Sends all that fetch gives of heights not far below the current one.
+    fn send_certificates(&mut self, replica: usize) -> Outcome {
+        let current = u64::from(byte(&self.books[replica], field::CURRENT));
+        for height in current.saturating_sub(3)..=current {
+            for kind in 5..=7 {
+                let mut frame = [0; FRAME];
+                let answer = self.call(replica, &Call::Fetch { kind, height }, &mut frame)?;
+                if answer == Answer::Done {
+                    self.say(frame);
+                }
+            }
+        }
+        Ok(())
+    }
+
+    /// An honest replica says something to all, itself among them.
+    fn say(&mut self, frame: [u8; FRAME]) {
+        if frame[0] < 5 {
+            self.spoken.push(frame);
+        }
+        if let (1, Some(block)) = (frame[0], frame.last_chunk::<BLOCK>()) {
+            self.blocks.push(Block::parts(block));
+        }
+        self.wire.extend((0..self.books.len()).map(|replica| (replica, frame)));
+    }
+
+    /// Something is sent to some of the honest replicas only.
+    pub fn whisper(&mut self, frame: &Frame) {
+        let frame = frame.bytes();
+        for replica in 0..self.books.len() {
+            if self.random.one_in(2) {
+                self.wire.push((replica, frame));
+            }
+        }
+    }
+
+    /// Reads all logs: none may have shrunk, and of any two one must begin the other.
+    pub fn check(&mut self) -> Result<Option<&'static str>, Box<Difference>> {
+        let mut buffer = vec![0xbb; LONGEST];
+        for replica in 0..self.books.len() {
+            let answer = self.call(replica, &Call::Read, &mut buffer)?;
+            let Answer::Part(length) = answer else { continue };
+            let log = buffer[..usize::try_from(length).unwrap_or(0)].to_vec();
+            if !log.starts_with(&self.logs[replica]) {
+                return Ok(Some("a log does not begin with what it was before"));
+            }
+            self.logs[replica] = log;
+        }
+        let pairs = self
+            .logs
+            .iter()
+            .enumerate()
+            .flat_map(|(at, one)| self.logs[at + 1..].iter().map(move |two| (one, two)));
+        for (one, two) in pairs {
+            if !one.starts_with(two) && !two.starts_with(one) {
+                return Ok(Some("two honest logs fork"));
+            }
+            self.held_together += u64::from(!one.is_empty() && !two.is_empty());
+        }
+        Ok(None)
+    }
+}
