@@ -35,7 +35,8 @@ pub fn strange_book(random: &mut Random) -> Vec<u8> {
     let layout = Layout::new(heights);
     random.fill(&mut book[layout.area(1, Area::Held).start..]);
     let current = random.byte_below(heights.saturating_add(1)).saturating_add(1);
-    let (flags, pending) = (random.byte_below(16), random.byte_below(33));
+    let pending = if random.one_in(4) { 32 } else { random.byte_below(33) };
+    let flags = random.byte_below(16);
     book[..8].copy_from_slice(&[n, own, heights, flags, current, 0, pending, 1]);
     for place in book[layout.pending()].chunks_mut(16) {
         place.copy_from_slice(&any_entry(random));
@@ -113,4 +114,39 @@ pub fn garbage(random: &mut Random) -> Vec<u8> {
         book.iter_mut().zip(head).for_each(|(to, from)| *to = from);
     }
     book
+}
+
+#[cfg(test)]
+mod tests {
+    use super::*;
+    use std::collections::BTreeSet;
+
+    #[test]
+    fn strange_books_are_sound_and_of_every_size() {
+        let mut random = Random::new(1);
+        let mut seen = [const { BTreeSet::new() }; 4];
+        let mut finalized = 0;
+        for _ in 0..6000 {
+            let book = strange_book(&mut random);
+            assert!(Calls::size(&Rules::SHA256, &book).is_ok());
+            seen.iter_mut().zip([0, 1, 2, 3]).for_each(|(seen, at)| _ = seen.insert(book[at]));
+            finalized += u32::from(book[field::FINALIZED] > 0);
+        }
+        assert_eq!(seen.map(|seen| seen.len()), [16, 16, 63, 16]);
+        assert!(finalized > 600);
+    }
+
+    #[test]
+    fn damaged_books_are_of_both_sorts() {
+        let mut random = Random::new(2);
+        let mut sound = [0, 0];
+        for _ in 0..600 {
+            let mut book = strange_book(&mut random);
+            let before = book.clone();
+            damage(&mut random, &mut book);
+            let at = usize::from(Calls::size(&Rules::SHA256, &book).is_ok() && book != before);
+            sound[at] += 1;
+        }
+        assert!(sound.iter().all(|count| *count > 50), "{sound:?}");
+    }
 }

@@ -33,3 +33,24 @@ impl Guarded {
         marked(self.bytes.first_chunk()) && marked(self.bytes.last_chunk())
     }
 }
+
+#[cfg(test)]
+mod tests {
+    use super::*;
+
+    #[test]
+    fn a_write_beside_the_bytes_is_seen() {
+        for length in [0, 1, 448] {
+            let mut guarded = Guarded::default();
+            guarded.load(&vec![1; length]);
+            assert_eq!(guarded.part(), vec![1; length]);
+            guarded.part().fill(2);
+            assert!(guarded.is_intact());
+            for at in [0, MARGIN - 1, MARGIN + length, 2 * MARGIN + length - 1] {
+                let mut touched = guarded.clone();
+                touched.bytes[at] ^= 1;
+                assert!(!touched.is_intact());
+            }
+        }
+    }
+}

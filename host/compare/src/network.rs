@@ -4,7 +4,7 @@ use crate::books::any_heights;
 use crate::frames::{any_entry, byte};
 use crate::{Difference, Pair};
 use exchange::{Answer, Call};
-use types::{book_length, field, Block, Calls, Frame, Move, Random, BLOCK, FRAME};
+use types::{book_length, field, Block, Calls, Delivered, Frame, Move, Random, BLOCK, FRAME};
 
 /// The length of the longest log.
 const LONGEST: usize = 63 * 8 * 16;
@@ -24,6 +24,8 @@ pub struct Network<'a, A, B> {
     pub spoken: Vec<[u8; FRAME]>,
     /// All blocks that anyone proposed.
     pub blocks: Vec<Block>,
+    /// Which replicas had nothing to do and heard nothing since.
+    pub idle: Vec<bool>,
     /// Pairs of logs that were compared, both not empty.
     pub held_together: u64,
 }
@@ -55,6 +57,7 @@ impl<'a, A: Calls, B: Calls> Network<'a, A, B> {
             wire,
             spoken,
             blocks,
+            idle: vec![false; honest.into()],
             held_together: 0,
         };
         for own in 0..honest {
@@ -81,10 +84,14 @@ impl<'a, A: Calls, B: Calls> Network<'a, A, B> {
         call: &Call,
         buffer: &mut [u8],
     ) -> Result<Answer, Box<Difference>> {
-        match self.books.get_mut(replica) {
-            Some(book) => self.pair.make(call, book, buffer),
-            None => Ok(Answer::Done),
+        let Some(book) = self.books.get_mut(replica) else {
+            return Ok(Answer::Done);
+        };
+        let answer = self.pair.make(call, book, buffer)?;
+        if matches!(answer, Answer::Delivered(Delivered::Fresh) | Answer::Done | Answer::Moved(_)) {
+            self.idle[replica] = answer == Answer::Moved(Move::Idle);
         }
+        Ok(answer)
     }
 
     /// Something happens somewhere.
@@ -92,6 +99,7 @@ impl<'a, A: Calls, B: Calls> Network<'a, A, B> {
         let replica = self.random.index(self.books.len());
         match self.random.below(20) {
             0..=10 => self.arrive(),
+            11..=16 if self.idle[replica] && !self.random.one_in(6) => Ok(()),
             11..=16 => self.step(replica),
             17 if self.random.one_in(12) => {
                 let height = byte(&self.books[replica], field::CURRENT).into();

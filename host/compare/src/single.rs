@@ -50,7 +50,7 @@ fn from_damaged<A: Calls, B: Calls>(
     random: &mut Random,
 ) -> Result<(), Box<Difference>> {
     let sound = strange_book(random);
-    for _ in 0..random.below(20) {
+    for _ in 0..random.below(80) {
         let mut book = sound.clone();
         damage(random, &mut book);
         let count = random.below(3).saturating_add(1);
