@@ -22,6 +22,6 @@ pub use call::Call;
 pub use line::{Expected, Line};
 pub use list::{List, Problem, HEADING};
 pub use recorder::Recorder;
-pub use replay::{record, replay};
+pub use replay::{record, replay, Replayed};
 pub use stage::Stage;
 pub use tally::Tally;

@@ -3,10 +3,19 @@
 use crate::{Expected, Line, List, Problem, Stage, Tally};
 use types::Calls;
 
+/// What a list came to: the counts, and the buffers at its end.
+#[derive(Clone, Debug, Default)]
+pub struct Replayed {
+    /// How often each answer occurred.
+    pub tally: Tally,
+    /// The buffers.
+    pub stage: Stage,
+}
+
 /// Makes every call of a list and compares answers and digests; stops at the first difference.
 ///
 /// Calls of which nothing is expected are made and counted.
-pub fn replay(list: &List, calls: &impl Calls) -> Result<Tally, Problem> {
+pub fn replay(list: &List, calls: &impl Calls) -> Result<Replayed, Problem> {
     let mut stage = Stage::default();
     let mut tally = Tally::default();
     for (line, step) in (2..).zip(&list.lines) {
@@ -22,7 +31,7 @@ pub fn replay(list: &List, calls: &impl Calls) -> Result<Tally, Problem> {
             _ => {}
         }
     }
-    Ok(tally)
+    Ok(Replayed { tally, stage })
 }
 
 /// The same list with what a replica answers and leaves now in the place of what was expected.

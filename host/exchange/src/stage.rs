@@ -22,6 +22,11 @@ impl Stage {
         self.buffers.get(name).map(Vec::as_slice)
     }
 
+    /// All buffers with their names.
+    pub fn all(&self) -> impl Iterator<Item = (&str, &[u8])> {
+        self.buffers.iter().map(|(name, bytes)| (name.as_str(), bytes.as_slice()))
+    }
+
     /// Makes a call and says what came of it.
     pub fn make(
         &mut self,

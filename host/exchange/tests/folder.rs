@@ -39,14 +39,14 @@ fn folder_has_no_other_files() {
 fn all_refusals_moves_and_passes_occur() {
     let mut tally = Tally::default();
     for name in scenarios::NAMES {
-        tally.add(&replay(&list(name), &Rules::SHA256).unwrap());
+        tally.add(&replay(&list(name), &Rules::SHA256).unwrap().tally);
     }
     assert_eq!(tally.missing(), Vec::<String>::new(), "{tally}");
 }
 
 #[test]
 fn refusals_alone_cover_every_number() {
-    let tally = replay(&list("refusals"), &Rules::SHA256).unwrap();
+    let tally = replay(&list("refusals"), &Rules::SHA256).unwrap().tally;
     assert!(tally.missing().iter().all(|name| !name.starts_with("refusal")), "{tally}");
 }
 

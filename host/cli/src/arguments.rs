@@ -1,0 +1,83 @@
+//! The words behind a command: plain words, options with a value, and switches.
+
+use crate::problem::Problem;
+
+/// The words sorted; what was not asked for in the end is an error.
+#[derive(Clone, Debug, Default)]
+pub struct Arguments {
+    plain: Vec<String>,
+    options: Vec<(String, String)>,
+    switches: Vec<String>,
+}
+
+impl Arguments {
+    /// Sorts words by these names of options and switches, given without the dashes.
+    pub fn sort(
+        words: &[String],
+        options: &[&str],
+        switches: &[&str],
+    ) -> Result<Arguments, Problem> {
+        let mut sorted = Arguments::default();
+        let mut words = words.iter();
+        while let Some(word) = words.next() {
+            match word.strip_prefix("--") {
+                None => sorted.plain.push(word.clone()),
+                Some(name) if switches.contains(&name) => sorted.switches.push(name.to_string()),
+                Some(name) if options.contains(&name) => {
+                    let value = words.next();
+                    let value =
+                        value.ok_or_else(|| Problem::input(format!("{word} needs a value")))?;
+                    sorted.options.push((name.to_string(), value.clone()));
+                }
+                Some(_) => return Err(Problem::input(format!("'{word}' is not known here"))),
+            }
+        }
+        Ok(sorted)
+    }
+
+    /// The plain words, which must be so many.
+    pub fn plain<const COUNT: usize>(&self, wanted: &str) -> Result<&[String; COUNT], Problem> {
+        let plain = self.plain.as_slice().try_into();
+        plain.map_err(|_| Problem::input(format!("expected here: {wanted}")))
+    }
+
+    /// The plain words, however many.
+    pub fn words(&self) -> &[String] {
+        &self.plain
+    }
+
+    /// Whether a switch is set.
+    pub fn has(&self, name: &str) -> bool {
+        self.switches.iter().any(|switch| switch == name)
+    }
+
+    /// All values of an option.
+    pub fn values(&self, name: &str) -> impl Iterator<Item = &str> {
+        let name = name.to_string();
+        let named = self.options.iter().filter(move |(option, _)| *option == name);
+        named.map(|(_, value)| value.as_str())
+    }
+
+    /// The value of an option that may stand once.
+    pub fn value(&self, name: &str) -> Result<Option<&str>, Problem> {
+        let mut values = self.values(name);
+        let value = values.next();
+        match values.next() {
+            Some(_) => Err(Problem::input(format!("--{name} stands more than once"))),
+            None => Ok(value),
+        }
+    }
+
+    /// The value of an option that must stand once.
+    pub fn needed(&self, name: &str) -> Result<&str, Problem> {
+        self.value(name)?.ok_or_else(|| Problem::input(format!("--{name} is missing")))
+    }
+
+    /// An option that is a byte.
+    pub fn byte(&self, name: &str) -> Result<u8, Problem> {
+        let value = self.needed(name)?;
+        value
+            .parse()
+            .map_err(|_| Problem::input(format!("--{name} {value}: no number from 0 to 255")))
+    }
+}

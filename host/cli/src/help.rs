@@ -1,0 +1,106 @@
+//! The help texts.
+
+use crate::problem::Problem;
+
+/// Writes the help text of a command, the common one for no name.
+pub fn print(name: &str, output: &mut Vec<u8>) -> Result<(), Problem> {
+    let text = match name {
+        "" | "help" | "--help" | "-h" => COMMON,
+        "frame" => FRAME,
+        "show" => SHOW,
+        "open" => OPEN,
+        "replay" => REPLAY,
+        "record" => RECORD,
+        "rehearsal" => REHEARSAL,
+        _ => return Err(Problem::input(format!("'{name}' is no command; try `mavunilai help`"))),
+    };
+    output.extend_from_slice(text.as_bytes());
+    Ok(())
+}
+
+const COMMON: &str = "\
+mavunilai COMMAND ..
+
+  frame      make a frame out of words
+  show       show a frame or a book in words
+  open       write a new book
+  replay     make the calls of a list and compare answers and digests
+  record     write a list with its answers and digests
+  rehearsal  read frames from standard input, print a line for each event
+
+`mavunilai help COMMAND` tells more. The status is 0 if all is well, 1 if a list does
+not come out as expected, 2 if the input is bad; a sentence then says why.
+Lists, new books and the rehearsal use the proved replica if this program was built
+with the cargo feature `proved`, else the reference replica.
+";
+
+const FRAME: &str = "\
+mavunilai frame KIND OPTIONS [--hex]
+
+Writes the 224 bytes of a frame, or 448 hexadecimal digits with --hex.
+
+  proposal              --signer S PAGE
+  page-vote             --signer S --height H --digest HEX, or --signer S PAGE
+  blank-vote            --signer S --height H
+  finalise              --signer S --height H
+  page-certificate      SIGNERS PAGE
+  blank-certificate     SIGNERS --height H
+  finalise-certificate  SIGNERS --height H
+
+SIGNERS is --signers 0,1,2 or --mask 7. PAGE is --page HEX with the 176 bytes, or
+--height H, if it has a back page --back J --back-digest HEX, and up to eight times
+--entry, 32 hexadecimal digits or up to 16 characters. A page vote for a PAGE is for
+its digest. Nothing is checked but the form of the words: frames that a replica
+refuses can be made too.
+
+Example: mavunilai frame blank-vote --signer 0 --height 1 --hex
+";
+
+const SHOW: &str = "\
+mavunilai show frame FILE
+mavunilai show book FILE
+
+Shows a frame or a book in words; FILE may be - for standard input, and may hold the
+bytes as they are or as hexadecimal text. A book is shown as a table of heights
+(leader, held proposal, page votes, notarised page, signers of the page certificate,
+blank and finalise signers, whether it is linked and settled), with the reason why
+the current height is where it is, and the next move.
+";
+
+const OPEN: &str = "\
+mavunilai open --n N --own S --roll L,L,..
+
+Writes the bytes of a new book for station S of N, with one leader L for each height.
+
+Example: mavunilai open --n 4 --own 2 --roll 0,1,2 > book
+";
+
+const REPLAY: &str = "\
+mavunilai replay FILE .. [--counts] [--keep FOLDER]
+
+Makes the calls of each list (docs/EXCHANGE.md has the format; - is standard input)
+and compares every answer and the digest of every buffer. At the first difference it
+says the line and ends with status 1. --counts prints how often each refusal, move and
+kind of pass occurred. --keep writes the buffers, as the lists left them, to files.
+
+Example: mavunilai replay exchange/season.txt --keep kept; mavunilai show book kept/book0
+";
+
+const RECORD: &str = "\
+mavunilai record FILE
+mavunilai record --scenario NAME
+mavunilai record --folder FOLDER
+
+Prints the list of FILE (- is standard input) with the answers and digests that the
+replica gives now; the calls may stand there without any. --scenario prints a ready list:
+refusals, moves, rehearsal, season or books. --folder writes all ready lists there.
+";
+
+const REHEARSAL: &str = "\
+mavunilai rehearsal < FRAMES
+
+Station 2 of 4, three heights led by 0, 1, 2. Delivers the frames of standard input one
+by one, a short last one too, and moves until idle after each. Prints `take` or `same`
+with kind, height and signer, or `deny` and a number; then `dummy`, `final`, `pass`,
+`offer` and `vote` for the moves.
+";

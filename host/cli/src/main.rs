@@ -1,0 +1,66 @@
+//! The command `mavunilai`: makes and shows frames, shows books, replays and records lists, runs the rehearsal.
+
+#![warn(clippy::indexing_slicing, clippy::arithmetic_side_effects)]
+#![warn(clippy::unwrap_used, clippy::expect_used, clippy::panic)]
+
+mod arguments;
+mod chosen;
+mod files;
+mod frame_command;
+mod help;
+mod open_command;
+mod page_options;
+mod problem;
+mod record_command;
+mod rehearsal_command;
+mod replay_command;
+mod show_book;
+mod show_command;
+mod show_frame;
+mod table;
+mod why;
+mod words;
+
+use problem::Problem;
+use std::io::Write;
+use std::process::ExitCode;
+
+fn main() -> ExitCode {
+    let words: Vec<String> = std::env::args().skip(1).collect();
+    let mut output = Vec::new();
+    let outcome = run(&words, &mut output);
+    let printed = std::io::stdout().write_all(&output);
+    match (outcome, printed) {
+        (Err(problem), _) => {
+            eprintln!("mavunilai: {}", problem.sentence);
+            ExitCode::from(problem.status)
+        }
+        (Ok(()), Err(error)) if error.kind() != std::io::ErrorKind::BrokenPipe => {
+            eprintln!("mavunilai: the output cannot be written: {error}");
+            ExitCode::from(2)
+        }
+        _ => ExitCode::SUCCESS,
+    }
+}
+
+/// Carries out the command in the words.
+fn run(words: &[String], output: &mut Vec<u8>) -> Result<(), Problem> {
+    let (name, rest) = match words.split_first() {
+        None => return Err(Problem::input("a command is missing; try `mavunilai help`")),
+        Some((name, rest)) => (name.as_str(), rest),
+    };
+    let asked = |word: &String| word == "--help" || word == "-h";
+    if rest.iter().any(asked) {
+        return help::print(name, output);
+    }
+    match name {
+        "frame" => frame_command::run(rest, output),
+        "show" => show_command::run(rest, output),
+        "open" => open_command::run(rest, output),
+        "replay" => replay_command::run(rest, output),
+        "record" => record_command::run(rest, output),
+        "rehearsal" => rehearsal_command::run(rest, output),
+        "help" | "--help" | "-h" => help::print(rest.first().map_or("", String::as_str), output),
+        _ => Err(Problem::input(format!("'{name}' is no command; try `mavunilai help`"))),
+    }
+}

@@ -1,0 +1,49 @@
+//! The options that describe a page, shared by all frames that carry or name one.
+
+use crate::arguments::Arguments;
+use crate::problem::Problem;
+use crate::words;
+use types::{Block, BLOCK, ENTRY};
+
+/// The names of these options.
+pub const NAMES: [&str; 4] = ["page", "back", "back-digest", "entry"];
+
+/// The page that the options describe, at a height.
+pub fn page(arguments: &Arguments, height: u8) -> Result<Block, Problem> {
+    let back = match arguments.value("back")? {
+        None => 0,
+        Some(_) => arguments.byte("back")?,
+    };
+    let digest = match arguments.value("back-digest")? {
+        None if back > 0 => return Err(Problem::input("--back needs --back-digest")),
+        None => [0; 32],
+        Some(text) => words::bytes("back-digest", text)?,
+    };
+    let entries = arguments.values("entry").map(entry).collect::<Result<Vec<_>, _>>()?;
+    if entries.len() > 8 {
+        return Err(Problem::input("a page has eight entries at most"));
+    }
+    Ok(Block { height, parent: back, digest, entries })
+}
+
+/// The page of the options, or the bytes of `--page`, which then say the height.
+pub fn page_bytes(arguments: &Arguments) -> Result<[u8; BLOCK], Problem> {
+    match arguments.value("page")? {
+        Some(text) => words::bytes("page", text),
+        None => Ok(page(arguments, arguments.byte("height")?)?.bytes()),
+    }
+}
+
+/// An entry: 32 hexadecimal digits, or up to 16 characters of text, filled up with blanks.
+fn entry(text: &str) -> Result<[u8; ENTRY], Problem> {
+    if text.len() == 32 {
+        return words::bytes("entry", text);
+    }
+    if text.len() > ENTRY {
+        let sentence = format!("--entry '{text}': more than 16 characters, and not 32 digits");
+        return Err(Problem::input(sentence));
+    }
+    let mut entry = [b' '; ENTRY];
+    entry.iter_mut().zip(text.bytes()).for_each(|(to, from)| *to = from);
+    Ok(entry)
+}

@@ -1,0 +1,118 @@
+//! Why the current height of a book is where it is, and what the next move will be.
+
+use crate::words::count;
+use reference::inspect::{Height, Inspection};
+use types::{Calls, FRAME};
+
+/// The flags of the current height, in words.
+const FLAGS: [(u8, &str); 4] =
+    [(1, "timer fired"), (2, "blank vote cast"), (4, "page vote cast"), (8, "proposed")];
+
+/// The fewest stations that are a quorum of n.
+pub fn quorum(n: u8) -> u32 {
+    u32::from(n).saturating_mul(2).div_ceil(3)
+}
+
+/// The lines about the current height.
+pub fn lines(book: &Inspection, bytes: &[u8]) -> Vec<String> {
+    let mut lines = Vec::new();
+    match book.heights.get(usize::from(book.current).saturating_sub(1)) {
+        None => lines.push("All heights are passed; only settling is left.".to_string()),
+        Some(slot) => {
+            lines.push(place(book.current));
+            lines.push(flags(book.flags));
+            lines.push(page(book, slot));
+            lines.push(blank(book, slot));
+        }
+    }
+    lines.push(next_move(bytes));
+    lines
+}
+
+/// Where the station is.
+fn place(current: u8) -> String {
+    match current {
+        1 => "The current height is 1: none is passed yet.".to_string(),
+        _ => format!("The current height is {current}: those below it are passed."),
+    }
+}
+
+/// What happened at this height so far.
+fn flags(flags: u8) -> String {
+    let set = FLAGS.iter().filter(|(flag, _)| flags & flag != 0).map(|(_, name)| *name);
+    let names: Vec<&str> = set.collect();
+    match names.is_empty() {
+        true => "Done at this height so far: nothing, and the timer has not fired.".to_string(),
+        false => format!("Done at this height so far: {}.", names.join(", ")),
+    }
+}
+
+/// Whether the page lets the station pass, and if not why.
+fn page(book: &Inspection, slot: &Height) -> String {
+    let votes = slot.voters.count_ones();
+    let needed = quorum(book.n);
+    match (slot.notarized, slot.held) {
+        (Some(_), _) if slot.linked => {
+            "Its page is notarised and linked: it can be passed.".to_string()
+        }
+        (Some((back, _)), _) => {
+            format!("Its page is notarised but does not stand: {}.", gap(book, back))
+        }
+        (None, Some((back, _))) => {
+            let stands = match slot.held_extends {
+                true => "stands".to_string(),
+                false => format!("does not stand ({})", gap(book, back)),
+            };
+            format!(
+                "A proposal is held and {stands}; its page is not notarised: {} kept, and {needed} for this page are \
+                 needed.",
+                count(votes as usize, "page vote is", "page votes are")
+            )
+        }
+        (None, None) => {
+            let votes = count(votes as usize, "page vote is", "page votes are");
+            format!("No proposal is held and no page is notarised; {votes} kept.")
+        }
+    }
+}
+
+/// Why a page of the current height on this back height does not stand.
+fn gap(book: &Inspection, back: u8) -> String {
+    let slot = |height: u8| book.heights.get(usize::from(height).saturating_sub(1));
+    if back > 0 && !slot(back).is_some_and(|slot| slot.linked) {
+        return format!("its back height {back} is not linked");
+    }
+    let mut between = back.saturating_add(1)..book.current;
+    match between.find(|height| !slot(*height).is_some_and(|slot| slot.dummy)) {
+        Some(height) => {
+            format!("height {height} between it and its back height {back} is not blank")
+        }
+        None => format!("its back digest is not that of page {back}"),
+    }
+}
+
+/// Whether the blank lets the station pass, and if not why.
+fn blank(book: &Inspection, slot: &Height) -> String {
+    let [_, mask, _] = slot.masks;
+    match (slot.dummy, book.parent) {
+        (false, _) => {
+            format!("It is not blank: {} of {} blank votes.", mask.count_ones(), quorum(book.n))
+        }
+        (true, None) => {
+            "It is blank, but no chain ends just below it, so it cannot be passed yet.".to_string()
+        }
+        (true, Some(_)) => {
+            "It is blank, and a chain ends just below it: it can be passed.".to_string()
+        }
+    }
+}
+
+/// What a move would do, tried on a copy.
+fn next_move(bytes: &[u8]) -> String {
+    let mut copy = bytes.to_vec();
+    let made = Calls::make_move(&reference::Rules::SHA256, &mut copy, &mut [0; 2 * FRAME]);
+    match made {
+        Ok(made) => format!("The next move is: {made}."),
+        Err(number) => format!("A move is refused with {number}."),
+    }
+}
