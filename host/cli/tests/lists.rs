@@ -87,6 +87,8 @@ fn bad_input_gets_a_sentence() {
         b"mavunilai exchange 1\nmovve book reply\n",
         "line 2: 'movve book reply' is no call",
     );
+    let unknown = b"mavunilai exchange 1\nsize book\n";
+    refused("replay -", unknown, "line 2: no line before gives 'book'");
     refused("replay -", &[0xff, 0xfe], "is no text");
     refused("record", &[], "one file, or --scenario");
     refused("record --scenario winter", &[], "no scenario");

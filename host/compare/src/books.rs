@@ -1,8 +1,9 @@
 //! Random books: new ones, sound ones that no run makes, damaged ones and garbage.
 
 use crate::frames::{any_block, any_entry, any_mask};
+use crate::Random;
 use reference::Rules;
-use types::{book_length, field, Area, Calls, Layout, Random, MOST_HEIGHTS, MOST_REPLICAS};
+use types::{book_length, field, Area, Calls, Layout, MOST_HEIGHTS, MOST_REPLICAS};
 
 /// A number of heights: mostly small, now and then up to the most.
 pub fn any_heights(random: &mut Random) -> u8 {

@@ -2,8 +2,10 @@
 
 use crate::books::any_arguments;
 use crate::frames::{any_entry, any_frame_bytes, any_height, byte};
+use crate::Random;
 use exchange::Call;
-use types::{book_length, field, Random};
+use reference::Rules;
+use types::{book_length, field, Calls};
 
 /// Lengths around the limits of move and fetch.
 const LENGTHS: [usize; 14] = [0, 1, 223, 224, 225, 256, 446, 447, 448, 449, 450, 600, 671, 672];
@@ -20,7 +22,7 @@ pub fn any_call(random: &mut Random, book: &[u8], recent: &mut Vec<Vec<u8>>) -> 
         24 | 25 => (Call::Signal { height: signal_height(random, book) }, 0),
         26 | 27 => (Call::Submit { entry: entry(random) }, 0),
         28 => (Call::Size, 0),
-        29 => (Call::Read, reading_length(random)),
+        29 => (Call::Read, reading_length(random, book)),
         30 => {
             (Call::Fetch { kind: kind(random), height: number(random, book) }, limit(random, 224))
         }
@@ -79,10 +81,11 @@ fn entry(random: &mut Random) -> Vec<u8> {
     entry
 }
 
-/// A length around multiples of an entry.
-fn reading_length(random: &mut Random) -> usize {
-    let whole = random.index(24).saturating_mul(16);
-    whole.saturating_add(random.index(3)).saturating_sub(1)
+/// A length around that of the log.
+fn reading_length(random: &mut Random, book: &[u8]) -> usize {
+    let size = Calls::size(&Rules::SHA256, book).unwrap_or(0);
+    let more = *random.pick(&[0, 0, 1, 15, 16, 17, 18, 32, 300]).unwrap_or(&0);
+    usize::try_from(size).unwrap_or(0).saturating_add(more).saturating_sub(16)
 }
 
 /// Opening, mostly with arguments that fit the book's length.

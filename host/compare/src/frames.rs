@@ -1,7 +1,8 @@
 //! Random frames for a book: mostly ones that it takes, some that it must refuse.
 
+use crate::Random;
 use reference::sha256;
-use types::{field, Area, Block, Frame, Layout, Random, BLOCK, ENTRY, FRAME};
+use types::{field, Area, Block, Frame, Layout, BLOCK, ENTRY, FRAME};
 
 /// The byte of a book at an offset; 0 past the end.
 pub fn byte(book: &[u8], at: usize) -> u8 {

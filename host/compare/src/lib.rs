@@ -12,10 +12,12 @@ mod guarded;
 mod mischief;
 mod network;
 mod pair;
+mod random;
 mod report;
 mod run;
 mod single;
 
 pub use pair::{Difference, Pair};
+pub use random::Random;
 pub use report::Report;
 pub use run::{run, LARGE};

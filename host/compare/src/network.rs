@@ -2,9 +2,10 @@
 
 use crate::books::any_heights;
 use crate::frames::{any_entry, byte};
+use crate::Random;
 use crate::{Difference, Pair};
 use exchange::{Answer, Call};
-use types::{book_length, field, Block, Calls, Delivered, Frame, Move, Random, BLOCK, FRAME};
+use types::{book_length, field, Block, Calls, Delivered, Frame, Move, BLOCK, FRAME};
 
 /// The length of the longest log.
 const LONGEST: usize = 63 * 8 * 16;

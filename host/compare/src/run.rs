@@ -1,8 +1,9 @@
 //! A whole comparison: so many calls from a seed, half on single books and half in networks.
 
 use crate::network::Network;
+use crate::Random;
 use crate::{single, Pair, Report};
-use types::{Calls, Random};
+use types::Calls;
 
 /// From this many calls on everything must have occurred.
 pub const LARGE: u64 = 100_000;

@@ -2,9 +2,10 @@
 
 use crate::books::{any_arguments, damage, garbage, strange_book};
 use crate::choose::{any_call, any_open};
+use crate::Random;
 use crate::{Difference, Pair};
 use exchange::Call;
-use types::{book_length, Calls, Random};
+use types::{book_length, Calls};
 
 /// Runs one list of calls on one book, of whatever sort.
 pub fn list<A: Calls, B: Calls>(

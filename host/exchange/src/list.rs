@@ -1,6 +1,8 @@
 //! A whole list: its heading and its lines, read from text and written to it.
 
+use crate::stage::missing;
 use crate::Line;
+use std::collections::BTreeSet;
 use std::fmt;
 
 /// The first line of every list.
@@ -39,10 +41,28 @@ impl List {
                 return Err(Problem { line: 1, sentence });
             }
         }
-        let parsed = lines
-            .map(|(line, text)| Line::parse(text).map_err(|sentence| Problem { line, sentence }));
+        let mut given = BTreeSet::new();
+        let parsed = lines.map(|(line, text)| {
+            let parsed = Line::parse(text).and_then(|parsed| introduced(parsed, &mut given));
+            parsed.map_err(|sentence| Problem { line, sentence })
+        });
         Ok(List { lines: parsed.collect::<Result<_, _>>()? })
     }
+}
+
+/// The line, if all buffers that it names have been given; a line that gives one adds its name.
+fn introduced(line: Line, given: &mut BTreeSet<String>) -> Result<Line, String> {
+    match &line {
+        Line::Give { name, .. } => _ = given.insert(name.clone()),
+        Line::Call { book, buffer, .. } => {
+            let mut names = [book, buffer].into_iter().filter(|name| !name.is_empty());
+            if let Some(name) = names.find(|name| !given.contains(*name)) {
+                return Err(missing(name));
+            }
+        }
+        Line::Remark(_) => {}
+    }
+    Ok(line)
 }
 
 impl fmt::Display for List {

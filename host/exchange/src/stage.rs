@@ -54,6 +54,6 @@ impl Stage {
 }
 
 /// The sentence about a name that no line gave.
-fn missing(name: &str) -> String {
+pub(crate) fn missing(name: &str) -> String {
     format!("no line before gives '{name}'")
 }

@@ -5,7 +5,7 @@ use std::collections::BTreeMap;
 use std::fmt;
 use types::{Certificate, Move};
 
-/// The names of all that must occur, in order.
+/// The numbers of the table of refusals.
 const REFUSALS: std::ops::RangeInclusive<u8> = 1..=14;
 
 /// Counts of answers.

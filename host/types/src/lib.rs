@@ -13,7 +13,6 @@ mod calls;
 mod frame;
 mod layout;
 pub mod packing;
-mod random;
 pub mod refusal;
 
 pub use answer::{Certificate, Delivered, Move};
@@ -22,4 +21,3 @@ pub use book::{Book, Written};
 pub use calls::Calls;
 pub use frame::{Frame, FRAME};
 pub use layout::{book_length, field, mask_at, Area, Layout, ENTRY, MOST_HEIGHTS, MOST_REPLICAS};
-pub use random::Random;
