@@ -72,9 +72,12 @@ fn kind(random: &mut Random) -> u64 {
     }
 }
 
-/// An entry, seldom of another length.
+/// An entry, now and then one that nobody has seen, seldom of another length.
 fn entry(random: &mut Random) -> Vec<u8> {
     let mut entry = any_entry(random).to_vec();
+    if random.one_in(4) {
+        random.fill(&mut entry);
+    }
     if random.one_in(24) {
         entry.resize(*random.pick(&[0, 1, 15, 17, 32]).unwrap_or(&0), 0);
     }

@@ -3,11 +3,20 @@
 //! With the feature `proved` the static library of the proved replica is linked, and [`Proved`] makes its calls. A
 //! program that can do without it uses [`Book`] over another implementation of [`Calls`]. No input makes a call panic.
 //!
-//! ```ignore
-//! let mut book = replica::open(4, 2, &[0, 1, 2])?;
-//! let vote = replica::Frame::DummyVote { signer: 0, height: 1 };
-//! book.deliver(&vote.bytes())?;
+//! ```
+//! # fn main() -> Result<(), u8> {
+//! use replica::{Book, Frame};
+//! // With the feature: replica::open(4, 2, &[0, 1, 2])?
+//! let mut book = Book::open(reference::Rules::SHA256, 4, 2, &[0, 1, 2])?;
+//! for signer in [0, 1, 2] {
+//!     book.deliver(&Frame::DummyVote { signer, height: 1 }.bytes())?;
+//! }
 //! let (made, frames) = book.make_move()?;
+//! assert_eq!(made.to_string(), "pass 1 6 4");
+//! assert_eq!(frames[0], Frame::DummyCertificate { mask: 7, height: 1 }.bytes());
+//! assert_eq!(frames[1], Frame::Finalize { signer: 2, height: 1 }.bytes());
+//! # Ok(())
+//! # }
 //! ```
 
 #![warn(clippy::indexing_slicing, clippy::arithmetic_side_effects)]

@@ -1,12 +1,16 @@
-//! The wrapper against functions of the same names made here over the reference: pointers, lengths, numbers.
-#![cfg(not(feature = "proved"))] // with the feature the names belong to the static library
+//! The wrapper: on the static library, or without it on functions of the same names made here over the reference.
 
+#[cfg(not(feature = "proved"))]
 #[path = "foreign/exports.rs"]
 mod exports;
+#[cfg(not(feature = "proved"))]
 #[path = "../src/foreign.rs"]
 mod foreign;
 
+#[cfg(not(feature = "proved"))]
 use foreign::Proved;
+#[cfg(feature = "proved")]
+use replica::Proved;
 use types::{Book, Calls, Certificate, Delivered, Frame, Move};
 
 /// Replica 2 of 4 with three heights.

@@ -1,0 +1,13 @@
+//! The proved replica against the reference, in the short form.
+#![cfg(feature = "proved")]
+
+use compare::{run, LARGE};
+use reference::Rules;
+use replica::Proved;
+
+#[test]
+fn the_proved_replica_and_the_reference_agree() {
+    let report =
+        run(Rules::SHA256, Proved, 1, LARGE).unwrap_or_else(|sentence| panic!("{sentence}"));
+    println!("{report}");
+}
