@@ -3,7 +3,7 @@
 use crate::frames::{any_block, any_entry, any_mask};
 use crate::Random;
 use reference::Rules;
-use types::{book_length, field, Area, Calls, Layout, MOST_HEIGHTS, MOST_REPLICAS};
+use types::{book_length, field, Area, Calls, Layout, BLOCK, MOST_HEIGHTS, MOST_REPLICAS};
 
 /// A number of heights: mostly small, now and then up to the most.
 pub fn any_heights(random: &mut Random) -> u8 {
@@ -84,11 +84,9 @@ fn settle(random: &mut Random, book: &mut [u8]) {
 
 /// Changes one byte, or cuts or lengthens the book.
 pub fn damage(random: &mut Random, book: &mut Vec<u8>) {
-    let rows = 576_usize.saturating_add(usize::from(book.get(2).copied().unwrap_or(0)) * 16);
-    let bound = *random.pick(&[8, 64, rows, book.len()]).unwrap_or(&0);
-    let at = random.index(bound.min(book.len()));
+    let at = any_place(random, book);
     let bit = 1 << random.below(8);
-    let any = random.byte();
+    let any = if random.one_in(2) { random.byte() } else { random.byte_below(66) };
     match (random.below(12), book.get_mut(at)) {
         (0, _) => book.truncate(book.len().saturating_sub(random.index(3).saturating_add(1))),
         (1, _) => book.push(0),
@@ -96,6 +94,22 @@ pub fn damage(random: &mut Random, book: &mut Vec<u8>) {
         (_, Some(byte)) => *byte ^= bit,
         (_, None) => book.push(any),
     }
+}
+
+/// A place in a book: in the head's fields, the head, the contents, a body's blocks or anywhere.
+fn any_place(random: &mut Random, book: &[u8]) -> usize {
+    let heights = book.get(field::HEIGHTS).copied().unwrap_or(0);
+    let height = random.byte_below(heights).saturating_add(1);
+    let layout = Layout::new(heights);
+    let held = layout.area(height, Area::Held).start;
+    let range = match random.below(6) {
+        0 => 0..8,
+        1 => 0..64,
+        2 | 3 => layout.area(height, Area::Row),
+        4 => held..held.saturating_add(2 * BLOCK),
+        _ => 0..book.len(),
+    };
+    range.start.saturating_add(random.index(range.len())).min(book.len().saturating_sub(1))
 }
 
 /// Bytes of any length, often that of a book, sometimes with a head that looks like one.

@@ -12,23 +12,37 @@ const LENGTHS: [usize; 14] = [0, 1, 223, 224, 225, 256, 446, 447, 448, 449, 450,
 
 /// A call and the length of its reply or buffer.
 pub fn any_call(random: &mut Random, book: &[u8], recent: &mut Vec<Vec<u8>>) -> (Call, usize) {
-    let limit = |random: &mut Random, usual| match random.one_in(8) {
-        true => random.pick(&LENGTHS).copied().unwrap_or(usual),
-        false => usual,
-    };
     match random.below(32) {
         0..=15 => (Call::Deliver { frame: frame(random, book, recent) }, 0),
-        16..=23 => (Call::Move, limit(random, 448)),
+        16..=23 => (Call::Move, limited(random, 448)),
         24 | 25 => (Call::Signal { height: signal_height(random, book) }, 0),
         26 | 27 => (Call::Submit { entry: entry(random) }, 0),
         28 => (Call::Size, 0),
         29 => (Call::Read, reading_length(random, book)),
-        30 => {
-            (Call::Fetch { kind: kind(random), height: number(random, book) }, limit(random, 224))
-        }
+        30 => any_fetch(random, book),
         _ if random.one_in(8) => (any_open(random, book), 0),
         _ => (Call::Read, 63 * 8 * 16),
     }
+}
+
+/// The usual length of a reply, now and then another one.
+fn limited(random: &mut Random, usual: usize) -> usize {
+    match random.one_in(8) {
+        true => random.pick(&LENGTHS).copied().unwrap_or(usual),
+        false => usual,
+    }
+}
+
+/// A certificate to fetch; sometimes kind, height and reply are wrong together.
+fn any_fetch(random: &mut Random, book: &[u8]) -> (Call, usize) {
+    if !random.one_in(4) {
+        let (kind, height) = (kind(random), number(random, book));
+        return (Call::Fetch { kind, height }, limited(random, 224));
+    }
+    let last = u64::from(byte(book, field::HEIGHTS));
+    let kind = *random.pick(&[4, 5, 6, 7, 8]).unwrap_or(&4);
+    let height = *random.pick(&[0, 1, last, last + 1]).unwrap_or(&0);
+    (Call::Fetch { kind, height }, *random.pick(&[0, 223, 224]).unwrap_or(&0))
 }
 
 /// A new frame, or one that came before.

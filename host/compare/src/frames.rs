@@ -98,8 +98,31 @@ pub fn any_frame(random: &mut Random, book: &[u8]) -> Frame {
     }
 }
 
+/// A frame in which several things may be wrong at once, so that the order of refusals shows.
+fn odd_frame(random: &mut Random, book: &[u8]) -> [u8; FRAME] {
+    let (n, last) = (byte(book, field::N), byte(book, field::HEIGHTS));
+    let mut frame = any_frame(random, book).bytes();
+    let (signed, height) = (frame[0] < 5, frame[2]);
+    if random.one_in(2) {
+        frame[2] = *random.pick(&[0, 1, last, last.wrapping_add(1)]).unwrap_or(&0);
+        frame[48] = if frame[48] == height && !random.one_in(4) { frame[2] } else { frame[48] };
+    }
+    if signed && random.one_in(2) {
+        frame[1] = *random.pick(&[0, n.wrapping_sub(1), n, 16, 255]).unwrap_or(&0);
+    }
+    if !signed && random.one_in(2) {
+        let above = 1_u16.checked_shl(n.into()).unwrap_or(0);
+        let mask = *random.pick(&[0, 1, above, above | 1, u16::MAX]).unwrap_or(&0);
+        frame[4..6].copy_from_slice(&mask.to_le_bytes());
+    }
+    frame
+}
+
 /// The bytes of a frame, now and then with a byte changed or of another length.
 pub fn any_frame_bytes(random: &mut Random, book: &[u8]) -> Vec<u8> {
+    if random.one_in(10) {
+        return odd_frame(random, book).to_vec();
+    }
     let mut frame = any_frame(random, book).bytes().to_vec();
     if random.one_in(12) {
         let at = if random.one_in(2) { random.index(FRAME) } else { random.index(6) };
