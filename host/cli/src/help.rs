@@ -93,7 +93,8 @@ mavunilai record --folder FOLDER
 
 Prints the list of FILE (- is standard input) with the answers and digests that the
 replica gives now; the calls may stand there without any. --scenario prints a ready list:
-refusals, moves, rehearsal, season or books. --folder writes all ready lists there.
+refusals, orders, moves, corners, rehearsal, season or books. --folder writes all ready
+lists there.
 ";
 
 const REHEARSAL: &str = "\

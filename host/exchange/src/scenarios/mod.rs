@@ -1,7 +1,9 @@
 //! The lists of the folder `exchange/`, as programs that record them.
 
 mod books;
+mod corners;
 mod moves;
+mod orders;
 mod parts;
 mod refusals;
 mod rehearsal;
@@ -11,14 +13,17 @@ use crate::{List, Recorder};
 use types::Calls;
 
 /// The names of the lists; each is a file of the folder with `.txt` behind it.
-pub const NAMES: [&str; 5] = ["refusals", "moves", "rehearsal", "season", "books"];
+pub const NAMES: [&str; 7] =
+    ["refusals", "orders", "moves", "corners", "rehearsal", "season", "books"];
 
 /// Records a list by its name.
 pub fn record(name: &str, calls: impl Calls) -> Option<List> {
     let mut to = Recorder::new(calls);
     match name {
         "refusals" => refusals::run(&mut to),
+        "orders" => orders::run(&mut to),
         "moves" => moves::run(&mut to),
+        "corners" => corners::run(&mut to),
         "rehearsal" => rehearsal::run(&mut to),
         "season" => season::run(&mut to),
         "books" => books::run(&mut to),

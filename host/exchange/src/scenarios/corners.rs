@@ -1,0 +1,94 @@
+//! The list of corners: quorums of every n, chains with two ways down, tallies that complete late.
+
+use super::parts::*;
+use crate::{Call, Recorder};
+use types::{field, Calls, Frame};
+
+/// The one book of the list, opened anew in each part.
+const BOOK: &str = "book";
+
+/// Records the list.
+pub fn run<C: Calls>(to: &mut Recorder<C>) {
+    to.remark("Corners of the rules, each on the smallest book that shows it.");
+    to.give(REPLY, vec![0xaa; 448]);
+    quorums(to);
+    two_ways_down(to);
+    wrong_back_digest(to);
+    no_chain_below(to);
+    parent_chain_filters(to);
+    late_proposal(to);
+}
+
+/// The mask of the first so many replicas.
+fn first_replicas(count: u32) -> u16 {
+    (0..count).fold(0, |mask, replica| mask | 1_u16.checked_shl(replica).unwrap_or(0))
+}
+
+fn quorums<C: Calls>(to: &mut Recorder<C>) {
+    to.part("For n from 1 to 16: one signer fewer than a quorum is refused, a quorum is taken");
+    for n in 1..=16_u32 {
+        to.open(BOOK, n.into(), 0, &[0]);
+        let quorum = n.saturating_mul(2).div_ceil(3);
+        for count in [quorum.saturating_sub(1), quorum] {
+            let mask = first_replicas(count);
+            deliver(to, BOOK, &[Frame::FinalizeCertificate { mask, height: 1 }]);
+        }
+    }
+}
+
+fn two_ways_down<C: Calls>(to: &mut Recorder<C>) {
+    to.part("Height 1 is linked and blank: its page lets the station pass, and the next page stands on it");
+    to.open(BOOK, 4, 2, &[0, 2]);
+    let block = first(1, &[entry("swap A1 B2")]);
+    deliver(to, BOOK, &[Frame::DummyCertificate { mask: 7, height: 1 }]);
+    deliver(to, BOOK, &[Frame::BlockCertificate { mask: 7, block }]);
+    moves(to, BOOK);
+}
+
+fn wrong_back_digest<C: Calls>(to: &mut Recorder<C>) {
+    to.part(
+        "A certified page that names another digest for its back page does not stand, nor settle",
+    );
+    to.open(BOOK, 4, 2, &[0, 1]);
+    let one = first(1, &[]);
+    let two = child(2, &first(1, &[entry("swap A1 B2")]), &[]);
+    deliver(to, BOOK, &[Frame::BlockCertificate { mask: 7, block: one }]);
+    deliver(to, BOOK, &[Frame::BlockCertificate { mask: 7, block: two }]);
+    deliver(to, BOOK, &[Frame::FinalizeCertificate { mask: 7, height: 2 }]);
+    moves(to, BOOK);
+}
+
+fn no_chain_below<C: Calls>(to: &mut Recorder<C>) {
+    to.part("A blank height over one that is neither linked nor blank is not passed, and gets no proposal");
+    to.open(BOOK, 4, 2, &[0, 2]);
+    let mut book = to.bytes(BOOK).to_vec();
+    book.iter_mut().skip(field::CURRENT).take(1).for_each(|current| *current = 2);
+    to.give(BOOK, book);
+    deliver(to, BOOK, &[Frame::DummyCertificate { mask: 7, height: 2 }]);
+    moves(to, BOOK);
+    deliver(to, BOOK, &[Frame::DummyCertificate { mask: 7, height: 1 }]);
+    moves(to, BOOK);
+}
+
+fn parent_chain_filters<C: Calls>(to: &mut Recorder<C>) {
+    to.part("A proposal leaves out what its parent chain holds, settled or not, and carries eight at most");
+    to.open(BOOK, 4, 2, &[0, 2]);
+    for number in 1..=11 {
+        submit(to, BOOK, &format!("entry {number}"));
+    }
+    let block = first(1, &[entry("entry 2"), entry("entry 5")]);
+    deliver(to, BOOK, &[Frame::BlockCertificate { mask: 7, block }]);
+    moves(to, BOOK);
+}
+
+fn late_proposal<C: Calls>(to: &mut Recorder<C>) {
+    to.part("Votes come before their proposal, which completes the page; a second vote is refused even then");
+    to.open(BOOK, 4, 2, &[0]);
+    let (one, two) = (first(1, &[entry("swap A1 B2")]), first(1, &[]));
+    deliver(to, BOOK, &[vote(0, &one), vote(1, &one), vote(2, &two), vote(3, &one)]);
+    to.make(Call::Fetch { kind: 5, height: 1 }, BOOK, REPLY);
+    deliver(to, BOOK, &[Frame::Proposal { signer: 0, block: one.clone() }]);
+    to.make(Call::Fetch { kind: 5, height: 1 }, BOOK, REPLY);
+    deliver(to, BOOK, &[vote(1, &two), vote(2, &one), vote(3, &one)]);
+    moves(to, BOOK);
+}

@@ -1,0 +1,93 @@
+//! The list of orders: calls that are wrong in two ways, and books that break one rule of soundness each.
+
+use super::parts::*;
+use crate::{Call, Recorder};
+use types::{Area, Calls, Frame, Layout};
+
+/// The one book of the list.
+const BOOK: &str = "book";
+
+/// Records the list.
+pub fn run<C: Calls>(to: &mut Recorder<C>) {
+    to.remark("Which refusal comes first where two apply, and the rules of soundness one by one.");
+    frames(to);
+    fetches(to);
+    other_calls(to);
+    soundness(to);
+}
+
+fn frames<C: Calls>(to: &mut Recorder<C>) {
+    to.part("Deliver: 4 before 6 before 5 before 7 before 9 before 8");
+    to.open(BOOK, 4, 2, &[0]);
+    let far = types::Block { parent: 1, ..first(2, &[]) };
+    let wrong = [
+        Frame::Proposal { signer: 9, block: first(0, &[]) },
+        Frame::Proposal { signer: 9, block: far },
+        Frame::DummyVote { signer: 4, height: 2 },
+        Frame::FinalizeCertificate { mask: 0, height: 2 },
+        Frame::DummyCertificate { mask: 16, height: 2 },
+        Frame::Proposal { signer: 4, block: first(1, &[]) },
+        Frame::DummyCertificate { mask: 16, height: 1 },
+        Frame::DummyCertificate { mask: 24, height: 1 },
+    ];
+    deliver(to, BOOK, &wrong);
+    deliver(to, BOOK, &[Frame::Proposal { signer: 0, block: first(1, &[]) }]);
+    deliver(to, BOOK, &[Frame::Proposal { signer: 1, block: first(1, &[entry("other")]) }]);
+    to.remark("An entry past the count, and 9 before 10 for a certificate");
+    let mut frame = Frame::Proposal { signer: 0, block: first(1, &[entry("more")]) }.bytes();
+    frame.iter_mut().skip(52).take(1).for_each(|count| *count = 0);
+    to.deliver(BOOK, &frame);
+    let block = first(1, &[]);
+    deliver(to, BOOK, &[Frame::BlockCertificate { mask: 7, block }]);
+    let block = first(1, &[entry("other")]);
+    deliver(to, BOOK, &[Frame::BlockCertificate { mask: 3, block }]);
+}
+
+fn fetches<C: Calls>(to: &mut Recorder<C>) {
+    to.part("Fetch: 4 before 6 before 3 before 11");
+    to.give("short", vec![0xaa; 223]);
+    for (kind, height) in [(4, 0), (4, 1), (5, 0), (6, 2), (6, 1), (5, 1)] {
+        to.make(Call::Fetch { kind, height }, BOOK, "short");
+    }
+}
+
+fn other_calls<C: Calls>(to: &mut Recorder<C>) {
+    to.part("Open: 2 before 1. Submit: 4, then 13 before 12. Move: 1 before 3");
+    let leaders = vec![0, 0];
+    to.make(Call::Open { n: 4, own: 4, heights: 2, leaders: leaders.clone() }, BOOK, "");
+    to.make(Call::Open { n: 4, own: 2, heights: 2, leaders }, BOOK, "");
+    for number in 1..=32 {
+        submit(to, BOOK, &format!("entry {number}"));
+    }
+    to.make(Call::Submit { entry: vec![0; 15] }, BOOK, "");
+    submit(to, BOOK, "entry 32");
+    submit(to, BOOK, "entry 33");
+    to.give("cut", vec![0; 1455]);
+    to.make(Call::Move, "cut", "short");
+    to.make(Call::Move, BOOK, "short");
+}
+
+fn soundness<C: Calls>(to: &mut Recorder<C>) {
+    to.part("Each edit of a sound book breaks one rule: a state, masks, quorum, pages, a height that is not settled");
+    to.open(BOOK, 4, 2, &[0]);
+    let block = first(1, &[]);
+    deliver(to, BOOK, &[Frame::Proposal { signer: 0, block: block.clone() }]);
+    deliver(to, BOOK, &[Frame::BlockCertificate { mask: 7, block }]);
+    to.make(Call::Size, BOOK, "");
+    let sound = to.bytes(BOOK).to_vec();
+    let layout = Layout::new(1);
+    let [row, held, notarized] =
+        [Area::Row, Area::Held, Area::Notarized].map(|area| layout.area(1, area).start);
+    let rows =
+        [(0, 4), (1, 7), (2, 3), (2, 23), (4, 16), (6, 16), (8, 16), (9, 1), (10, 1), (15, 1)];
+    let pages = [(0, 2), (1, 1), (2, 1), (4, 9), (5, 1), (16, 1), (48, 1), (175, 1)];
+    let edits = rows.map(|(at, byte)| (row.saturating_add(at), byte)).into_iter();
+    let edits = edits.chain(pages.map(|(at, byte)| (held.saturating_add(at), byte)));
+    let edits = edits.chain(pages.map(|(at, byte)| (notarized.saturating_add(at), byte)));
+    for (at, byte) in edits.chain([(5, 1)]) {
+        let mut book = sound.clone();
+        book.iter_mut().skip(at).take(1).for_each(|place| *place = byte);
+        to.give(BOOK, book);
+        to.make(Call::Size, BOOK, "");
+    }
+}
