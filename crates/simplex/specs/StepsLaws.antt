@@ -118,8 +118,10 @@ module _ (digest : Bytes → Bytes) (s : State) where
 
   pub dummy-blocks : DummyBlocks digest s
   unfolding DummyBlocks dummyVoteStep
-  dummy-blocks = (((λ e. dummy-when (took-dummy e)), λ q. dummy-move (step-dummy (dummy-applies q))),
-      λ e. let q = step-dummy (took-dummy e) in record { answers = e; writes = ap (λ (st : Step). st .frames) q; leaves = ap (λ (st : Step). st .after) q })
+  dummy-blocks = (
+    ((λ e. dummy-when (took-dummy e)), λ q. dummy-move (step-dummy (dummy-applies q))),
+    λ e. let q = step-dummy (took-dummy e) in record { answers = e; writes = ap (λ (st : Step). st .frames) q; leaves = ap (λ (st : Step). st .after) q },
+  )
 
   -- a blockchain that ends in a block is one
   with-block : {h : ℕ} → SeenWithBlock digest (view s) h → SeenOfHeight digest (view s) h
@@ -213,9 +215,12 @@ module _ (digest : Bytes → Bytes) (s : State) where
             let q = output-seen (t .0) in
             subst (λ (g : ℕ). SeenWithBlock digest (view s) g × Finalization (view s) g ×
             ((h : ℕ) → 1 ≤ h → h ≤ last s → SeenWithBlock digest (view s) h → Finalization (view s) h → h ≤ g) ×
-            Makes digest s (output g) [] (withHead s (s .flags) (s .current) g)) (t .1)
-            (q .1, q .2, not-above,
-            record { answers = output-move (t .2); writes = ap (λ (st : Step). st .frames) (t .2); leaves = ap (λ (st : Step). st .after) (t .2) })
+            Makes digest s (output g) [] (withHead s (s .flags) (s .current) g)) (t .1) (
+              q .1,
+              q .2,
+              not-above,
+              record { answers = output-move (t .2); writes = ap (λ (st : Step). st .frames) (t .2); leaves = ap (λ (st : Step). st .after) (t .2) },
+            )
 
     -- ---- step 4
     pass-seen : passApplies digest s ≡ true → Running digest s × SeenOfHeight digest (view s) (s .current)
@@ -291,10 +296,11 @@ module _ (digest : Bytes → Bytes) (s : State) where
 
     pub next-iteration : NextIteration digest s
     unfolding NextIteration
-    next-iteration no-vote no-output =
-        (((λ q. pass-seen (took-pass (q .0) (q .1) (q .2))), λ q. (_, _, pass-move (passing (q .0) (q .1)))),
-        (λ r seen. pass-made (passing r (with-block seen)) true (linked-seen (s .current) (sound .current-low) .1 seen)),
-        λ r seen never. pass-made (passing r seen) false (not-linked never))
+    next-iteration no-vote no-output = (
+      ((λ q. pass-seen (took-pass (q .0) (q .1) (q .2))), λ q. (_, _, pass-move (passing (q .0) (q .1)))),
+      (λ r seen. pass-made (passing r (with-block seen)) true (linked-seen (s .current) (sound .current-low) .1 seen)),
+      λ r seen never. pass-made (passing r seen) false (not-linked never),
+    )
       where
         passing : Running digest s → SeenOfHeight digest (view s) (s .current) → step digest s ≡ passStep digest s
         passing r q = step-pass no-vote no-output (pass-applies r q)
@@ -341,9 +347,10 @@ module _ (digest : Bytes → Bytes) (s : State) where
 
     pub notarizing-proposals : NotarizingProposals digest s
     unfolding NotarizingProposals blockVoteStep
-    notarizing-proposals e1 e2 e3 e4 =
-        (((λ e. block-when (took-block e .0)), λ q. block-move (step-block e1 e2 e3 e4 (block-applies q))),
-        λ e. let q = took-block e .1 in record { answers = e; writes = ap (λ (st : Step). st .frames) q; leaves = ap (λ (st : Step). st .after) q })
+    notarizing-proposals e1 e2 e3 e4 = (
+      ((λ e. block-when (took-block e .0)), λ q. block-move (step-block e1 e2 e3 e4 (block-applies q))),
+      λ e. let q = took-block e .1 in record { answers = e; writes = ap (λ (st : Step). st .frames) q; leaves = ap (λ (st : Step). st .after) q },
+    )
 
     -- ---- step 1
     abbrev MayPropose : Type 0
@@ -439,11 +446,14 @@ module _ (digest : Bytes → Bytes) (s : State) where
 
       pub leader-proposal : LeaderProposal digest s
       unfolding LeaderProposal proposeStep
-      leader-proposal e1 e2 e3 =
-          (((λ e. propose-when (took-propose e .0)), λ q. propose-move (step-propose e1 e2 e3 (propose-applies q))),
-          λ e. let q = took-propose e in
-          (proposedBlock digest s (someOr 0 (parentBelow digest s)), proposed (q .0),
-          record { answers = e; writes = ap (λ (st : Step). st .frames) (q .1); leaves = ap (λ (st : Step). st .after) (q .1) }))
+      leader-proposal e1 e2 e3 = (
+        ((λ e. propose-when (took-propose e .0)), λ q. propose-move (step-propose e1 e2 e3 (propose-applies q))),
+        λ e. let q = took-propose e in (
+          proposedBlock digest s (someOr 0 (parentBelow digest s)),
+          proposed (q .0),
+          record { answers = e; writes = ap (λ (st : Step). st .frames) (q .1); leaves = ap (λ (st : Step). st .after) (q .1) },
+        ),
+      )
 
 -- the five steps, for every sound state and every digest of 32 bytes
 pub five-steps : (digest : Bytes → Bytes) → ((block : Bytes) → length (digest block) ≡ 32) → (s : State) → SoundState digest s → FiveSteps digest s
