@@ -1,29 +1,29 @@
 -- The proofs of document 01's lettered examples.
-use Prim.Native.Nat.{ℕ, zero, suc, _+_, _-_, _*_, _/_, _%_, _^_, _≤_, _<_}
+use Prim.Native.Nat.{ℕ, zero, suc, _+_, _*_, _^_, _≤_, _<_}
 use native.Mathlib.Omega.{arith}
 use native.Mathlib.Nat.{zero-div}
 use mathlib.Core.Path.{_≡_, refl, sym, ap, subst, _∙_}
 use mathlib.Core.Logic.{_≢_}
-use mathlib.Core.Bool.{Bool, true, false, _&&_, _||_, not, cond, and-false}
-use mathlib.Core.List.{List, [], _∷_, _++_, map}
+use mathlib.Core.Bool.{Bool, true, false, _&&_, not, and-false}
+use mathlib.Core.List.{List, [], _∷_}
 use mathlib.Core.Option.{Option, some, none}
-use lib.ListN.{length, take, drop}
+use lib.ListN.{length}
 use lib.Dec.{eqb, leb, ltb}
-use borrow.Author.Tests.{ltb-true, leb-true, eqb-true, lt-ltb, le-leb, lt-leb}
+use borrow.Author.Tests.{ltb-true, leb-true, eqb-true, le-leb, lt-leb}
 use Rattle.protocol.specs.Bytes.{Bytes, byteAt, word16, le16, part, zeros, join, pieces, overFront, all}
 use Rattle.protocol.specs.Tests.{allOf, inRange, firstRefusal}
 use Rattle.protocol.specs.TestsLaws.{and-true}
 use Rattle.protocol.specs.Block.{parentHeight, entryCount, newBlock, allEntries}
 use Rattle.protocol.specs.Mask.{inMask, maskOf, ones, union, belowBit}
-use Rattle.protocol.specs.State.{State, Height, at, encode, headBytes, bookSize, isNotarized, flag, pending, withHead}
-use Rattle.protocol.specs.View.{View, quorum, isDummy, linked, dummyRun, digestAt, parentOf, chain, chainWithin, logAt, extends, extendsOver}
+use Rattle.protocol.specs.State.{State, at, encode, headBytes, bookSize, flag, pending, withHead}
+use Rattle.protocol.specs.View.{View, quorum, isDummy, dummyRun, digestAt, parentOf, chain, chainWithin, logAt, extends, extendsOver}
 use Rattle.protocol.specs.Sound.{view}
-use Rattle.protocol.specs.Answer.{Outcome, Answer, Delivery, fresh, idle, voteDummy, pass, propose, onDummy, refused, accepted, Done, done, unlessRefused}
+use Rattle.protocol.specs.Answer.{Outcome, Delivery, fresh, idle, voteDummy, pass, propose, onDummy, accepted, Done, done, unlessRefused}
 use Rattle.protocol.specs.Open.{newState, newHeight, openInRange, openRows, openCall}
 use Rattle.protocol.specs.Deliver.{withMasks, deliverCall}
 use Rattle.protocol.specs.Signal.{signalCall}
-use Rattle.protocol.specs.Frame.{kind, frameBlock, frameOf, proposal, dummyVote, finalize, dummyCertificate, finalizeCertificate}
-use Rattle.protocol.specs.Move.{step, moveCall, moved, MoveOutcome, idleStep, dummyVoteStep, passStep, proposeStep, written, unused, isRunning, proposedBlock, offered, without, parentBelow, someOr, dummyVoteApplies}
+use Rattle.protocol.specs.Frame.{kind, frameBlock, frameOf, proposal, dummyVote, finalize, dummyCertificate}
+use Rattle.protocol.specs.Move.{step, moveCall, moved, MoveOutcome, idleStep, dummyVoteStep, passStep, proposeStep, written, unused, proposedBlock, offered, without, parentBelow, someOr, dummyVoteApplies}
 use Rattle.protocol.specs.Computing.{everything}
 use Rattle.protocol.specs.Examples.{Letter, claim, Start, opened, firstLeader, quorumFrom, deliverAll, signalled, afterSignal, afterDummyVotes, afterFinalizes, frameIn}
 use Rattle.protocol.specs.NewBookLaws.{power-positive, Ranges, early, firstHeight}

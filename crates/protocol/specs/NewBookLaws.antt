@@ -1,25 +1,23 @@
 -- A book at its first height, with any flags and any dummy and finalize masks there: it is sound, and what the calls do to it.
-use Prim.Native.Nat.{ℕ, zero, suc, _+_, _-_, _*_, _/_, _%_, _^_, _≤_, _<_}
+use Prim.Native.Nat.{ℕ, zero, suc, _+_, _-_, _*_, _^_, _≤_, _<_}
 use native.Mathlib.Omega.{arith}
-use native.Mathlib.Nat.{zero-div, pow-suc}
-use mathlib.Core.Path.{_≡_, refl, sym, ap, subst, _∙_}
-use mathlib.Core.Bool.{Bool, true, false, _&&_, _||_, not, cond}
-use mathlib.Core.List.{List, [], _∷_, _++_, map, append-assoc}
-use lib.ListN.{length, getD, take, drop, set, length-append, length-map}
+use native.Mathlib.Nat.{pow-suc}
+use mathlib.Core.Path.{_≡_, refl, sym, ap, _∙_}
+use mathlib.Core.Bool.{Bool, true, not}
+use mathlib.Core.List.{List, [], _∷_, _++_, map}
+use lib.ListN.{length, getD, take, drop, length-append, length-map}
 use lib.Seq.{drop-drop}
 use lib.Dec.{eqb, leb, ltb}
-use borrow.Author.Tests.{ltb-true, leb-true, eqb-true, lt-ltb, le-leb, lt-leb, eq-eqb}
+use borrow.Author.Tests.{lt-ltb, le-leb, eq-eqb}
 use Rattle.protocol.specs.Bytes.{Bytes, byteAt, part, zeros, isZero, all, join, le16}
-use Rattle.protocol.specs.Tests.{allOf, implies, inRange, everyHeight, Row, firstRefusal}
-use Rattle.protocol.specs.TestsLaws.{and-true, eqb-self}
+use Rattle.protocol.specs.Tests.{allOf, implies, inRange, everyHeight}
+use Rattle.protocol.specs.TestsLaws.{and-true}
 use Rattle.protocol.specs.EveryLaws.{Every, none, one, every-map}
-use Rattle.protocol.specs.Mask.{inMask, ones, belowBit}
-use Rattle.protocol.specs.Block.{maximumHeights, blockWellFormed}
-use Rattle.protocol.specs.State.{State, Height, at, last, encode, decode, headBytes, contentBytes, bodyBytes, bookSize, edition, noHeight, holdsProposal, isNotarized, flag, withHead, withHeight}
+use Rattle.protocol.specs.Mask.{belowBit}
+use Rattle.protocol.specs.State.{State, Height, at, encode, decode, headBytes, contentBytes, bodyBytes, bookSize, edition, noHeight, holdsProposal, isNotarized}
 use Rattle.protocol.specs.StateLaws.{Shaped, ShapedHeight, decode-encode, length-join, Sized}
-use Rattle.protocol.specs.View.{View, quorum, isDummy, linked, linkedWithin, isFinalized, largestFinalized}
-use Rattle.protocol.specs.Sound.{view, sound, masksBelow, blocksWellFormed, contentZeros}
-use Rattle.protocol.specs.Open.{newHeight, newState}
+use Rattle.protocol.specs.Sound.{sound, masksBelow, blocksWellFormed, contentZeros}
+use Rattle.protocol.specs.Open.{newHeight}
 use Rattle.protocol.specs.Deliver.{withMasks}
 
 -- ---- rows
