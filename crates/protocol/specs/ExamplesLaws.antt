@@ -25,7 +25,7 @@ use Rattle.protocol.specs.Signal.{signalCall}
 use Rattle.protocol.specs.Frame.{kind, frameBlock, frameOf, proposal, dummyVote, finalize, dummyCertificate}
 use Rattle.protocol.specs.Move.{step, moveCall, moved, MoveOutcome, idleStep, dummyVoteStep, passStep, proposeStep, written, unused, proposedBlock, offered, without, parentBelow, someOr, dummyVoteApplies}
 use Rattle.protocol.specs.Computing.{everything}
-use Rattle.protocol.specs.Examples.{Letter, claim, Start, opened, firstLeader, quorumFrom, deliverAll, signalled, afterSignal, afterDummyVotes, afterFinalizes, frameIn}
+use Rattle.protocol.specs.Examples.{Letter, claim, Start, opened, firstLeader, quorumFrom, deliverAll, signalled, afterSignal, afterDummyVotes, afterFinalizes, frameIn, passesDummy, proposesFirst}
 use Rattle.protocol.specs.NewBookLaws.{power-positive, Ranges, early, firstHeight}
 use Rattle.protocol.specs.NewBookCallsLaws.{early-move, head-only, early-not-notarized, voting, step-idle, step-vote, step-pass, step-propose, early-signal, early-vote, early-certificate, finalized-stays}
 
@@ -244,17 +244,11 @@ module _ (digest : Bytes → Bytes) (own leader : ℕ) (leaders : Bytes) (ranges
   abbrev P : ℕ → Bytes → MoveOutcome
   P flags reply = moved reply (passStep digest (early 4 own flags 7 0 leader leaders))
 
-  pass-in-time : (reply : Bytes) →
-      (P 0 reply .answer ≡ accepted (pass 1 onDummy true)) ×
-      (frameIn (P 0 reply .reply) 0 ≡ dummyCertificate 1 7) ×
-      (frameIn (P 0 reply .reply) 1 ≡ finalize own 1)
+  pass-in-time : (reply : Bytes) → passesDummy (P 0 reply) true (finalize own 1)
   unfolding everything frameIn firstHeight
   pass-in-time reply = (refl, refl, refl)
 
-  pass-late : (reply : Bytes) →
-      (P 3 reply .answer ≡ accepted (pass 1 onDummy false)) ×
-      (frameIn (P 3 reply .reply) 0 ≡ dummyCertificate 1 7) ×
-      (frameIn (P 3 reply .reply) 1 ≡ zeros 224)
+  pass-late : (reply : Bytes) → passesDummy (P 3 reply) false (zeros 224)
   unfolding everything frameIn firstHeight
   pass-late reply = (refl, refl, refl)
 
@@ -334,30 +328,20 @@ module _ (digest : Bytes → Bytes) (x : Start) where
     rw after-signal-book (voted-idle digest (x .n) (x .own) (O .leader) (O .leaders) (O .ranges) (led-by-another other) (x .reply) (x .room)),
   )
 
-  example-h : x .n ≡ 4 →
-      (afterDummyVotes digest (opened x) (x .reply) .answer ≡ accepted (pass 1 onDummy true)) ×
-      (frameIn (afterDummyVotes digest (opened x) (x .reply) .reply) 0 ≡ dummyCertificate 1 7) ×
-      (frameIn (afterDummyVotes digest (opened x) (x .reply) .reply) 1 ≡ finalize (x .own) 1)
+  example-h : x .n ≡ 4 → passesDummy (afterDummyVotes digest (opened x) (x .reply)) true (finalize (x .own) 1)
   unfolding flag
   example-h four =
       rw (four-book x O four, passes digest (x .own) (O .leader) (O .leaders) (four-ranges x O four) 0 (omega arith) refl (x .reply) (x .room))
       (pass-in-time digest (x .own) (O .leader) (O .leaders) (four-ranges x O four) (x .reply))
 
-  example-i : x .n ≡ 4 →
-      (afterDummyVotes digest (afterSignal digest x .book) (x .reply) .answer ≡ accepted (pass 1 onDummy false)) ×
-      (frameIn (afterDummyVotes digest (afterSignal digest x .book) (x .reply) .reply) 0 ≡ dummyCertificate 1 7) ×
-      (frameIn (afterDummyVotes digest (afterSignal digest x .book) (x .reply) .reply) 1 ≡ zeros 224)
+  example-i : x .n ≡ 4 → passesDummy (afterDummyVotes digest (afterSignal digest x .book) (x .reply)) false (zeros 224)
   unfolding flag
   example-i four =
       let book = after-signal-book ∙ ap (λ (n : ℕ). encode (early n (x .own) 3 0 0 (O .leader) (O .leaders))) four in
       rw (book, passes digest (x .own) (O .leader) (O .leaders) (four-ranges x O four) 3 (omega arith) refl (x .reply) (x .room))
       (pass-late digest (x .own) (O .leader) (O .leaders) (four-ranges x O four) (x .reply))
 
-  example-j : firstLeader x ≡ x .own →
-      (moveCall digest (opened x) (x .reply) .answer ≡ accepted (propose 1)) ×
-      (kind (frameIn (moveCall digest (opened x) (x .reply) .reply) 0) ≡ 1) ×
-      (parentHeight (frameBlock (frameIn (moveCall digest (opened x) (x .reply) .reply) 0)) ≡ 0) ×
-      (entryCount (frameBlock (frameIn (moveCall digest (opened x) (x .reply) .reply) 0)) ≡ 0)
+  example-j : firstLeader x ≡ x .own → proposesFirst (moveCall digest (opened x) (x .reply))
   unfolding moved proposeStep kind parentHeight entryCount frameBlock proposal frameOf newBlock le16 zeros
   example-j lead =
       rw (O .book, new-propose digest (x .n) (x .own) (O .leader) (O .leaders) (O .ranges) (sym (first-leader x O) ∙ lead) (x .reply) (x .room))
