@@ -1,4 +1,4 @@
--- A book at its first height, with any flags and any dummy and finalize masks there: it is sound, and what the calls do to it.
+-- A book at its first height, with any flags and any dummy and finalize masks there, is sound.
 use Prim.Native.Nat.{ℕ, zero, suc, _+_, _-_, _*_, _^_, _≤_, _<_}
 use native.Mathlib.Omega.{arith}
 use native.Mathlib.Nat.{pow-suc}
