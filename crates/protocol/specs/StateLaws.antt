@@ -34,7 +34,7 @@ unfolding join
 length-join k [] e = omega arith
 length-join k (x ∷ xs) (one h hs) = let r = length-join k xs hs in rw (length-append, h, r, mul-suc, add-comm)
 
-word16-le16 : (x : ℕ) → x % 256 + 256 * (x / 256) ≡ x
+pub word16-le16 : (x : ℕ) → x % 256 + 256 * (x / 256) ≡ x
 word16-le16 x = omega arith
 
 part-first : (a b c : Bytes) (k : ℕ) → length a ≡ k → part (a ++ (b ++ c)) 0 k ≡ a
@@ -67,11 +67,11 @@ decode-height x h = λ i. record {
         rw (← append-assoc (x .proposal) (x .notarized) (x .voteDigests)) (drop-at (x .proposal ++ x .notarized) (x .voteDigests) 352 (simp length-append (omega (arith, h)))) in
         rw two (take-all 512 (x .voteDigests) (omega (arith, h)))
 
-content-size : (x : Height) → Sized 16 (contentBytes x)
+pub content-size : (x : Height) → Sized 16 (contentBytes x)
 unfolding contentBytes le16 zeros
 content-size x = refl
 
-body-size : (x : Height) → ShapedHeight x → Sized 864 (bodyBytes x)
+pub body-size : (x : Height) → ShapedHeight x → Sized 864 (bodyBytes x)
 unfolding bodyBytes
 body-size x h = simp length-append (omega arith)
 
@@ -80,10 +80,10 @@ unfolding decodeHeights
 heights-zip none = refl
 heights-zip (one {x = x} h hs) = ap₂ _∷_ (decode-height x h) (heights-zip hs)
 
-contents-sized : {l : List Height} → Every ShapedHeight l → Every (Sized 16) (map contentBytes l)
+pub contents-sized : {l : List Height} → Every ShapedHeight l → Every (Sized 16) (map contentBytes l)
 contents-sized hs = every-map contentBytes (λ x h. content-size x) hs
 
-bodies-sized : {l : List Height} → Every ShapedHeight l → Every (Sized 864) (map bodyBytes l)
+pub bodies-sized : {l : List Height} → Every ShapedHeight l → Every (Sized 864) (map bodyBytes l)
 bodies-sized hs = every-map bodyBytes (λ x h. body-size x h) hs
 
 module _ (s : State) (shaped : Shaped s) where

@@ -1,0 +1,2 @@
+// Checks and writes blocks and frames where they lie, in lent byte slices.
+pub mod bytes;
