@@ -12,7 +12,7 @@ use Rattle.protocol.specs.Answer.{Answer, refused, accepted, Delivery, k
 use Rattle.protocol.specs.Deliver.{deliverCall}
 use Rattle.protocol.specs.Move.{MoveOutcome, moveCall}
 use Rattle.protocol.specs.Read.{readPart}
-use Rattle.protocol.specs.CheckCalls.{standIn, Call, opening, delivery, moving, signalling, submitting, sizing, reading, fetching, after, answers, tools}
+use Rattle.protocol.specs.CheckCalls.{standIn, Call, opening, delivery, moving, signalling, submitting, sizing, reading, after, answers, tools}
 
 -- ---- the rehearsal
 -- a line of the rehearsal's output, by its first word
