@@ -6,4 +6,5 @@ pub mod Functions
 pub mod FunctionsLaws
 pub mod Constants
 pub mod Schedule
+pub mod ScheduleLaws
 pub mod Compression
