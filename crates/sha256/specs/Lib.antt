@@ -8,3 +8,5 @@ pub mod Constants
 pub mod Schedule
 pub mod ScheduleLaws
 pub mod Compression
+pub mod CompressionLaws
+pub mod Steps

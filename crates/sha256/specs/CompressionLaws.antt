@@ -1,0 +1,17 @@
+-- A round by the sums that the code forms, and rounds in groups. Assumes nothing.
+use mathlib.Core.Path.{_≡_, refl, sym, ap, ap₂, _∙_, subst}
+use mathlib.Core.List.{List, [], _∷_}
+use Prim.Native.Nat.{ℕ, zero, suc, _+_, _%_, _^_, _≤_, _<_}
+use native.Mathlib.Omega.{arith}
+use lib.ListN.{length, getD, set}
+use Rattle.sha256.specs.Words.{add}
+use Rattle.sha256.specs.Functions.{Ch, Maj, Σ0, Σ1}
+use Rattle.sha256.specs.Compression.{variables, round}
+
+-- the sums of a round, each from the one before it
+pub variables-by : (Kt Wt d h : ℕ) {a b c e f g s₁ h₁ ch h₂ h₃ T1 s₀ mj T2 a′ e′ : ℕ}
+    → s₁ ≡ Σ1 e → h₁ ≡ (h + s₁) % 2 ^ 32 → ch ≡ Ch e f g → h₂ ≡ (h₁ + ch) % 2 ^ 32 → h₃ ≡ (h₂ + Kt) % 2 ^ 32 → T1 ≡ (h₃ + Wt) % 2 ^ 32
+    → s₀ ≡ Σ0 a → mj ≡ Maj a b c → T2 ≡ (s₀ + mj) % 2 ^ 32 → a′ ≡ (T1 + T2) % 2 ^ 32 → e′ ≡ (d + T1) % 2 ^ 32
+    → (a′ ∷ a ∷ b ∷ c ∷ e′ ∷ e ∷ f ∷ g ∷ []) ≡ variables Kt Wt a b c d e f g h
+unfolding variables add
+variables-by Kt Wt d h p₁ p₂ p₃ p₄ p₅ p₆ p₇ p₈ p₉ p₁₀ p₁₁ = cc
