@@ -15,3 +15,8 @@ pub variables-by : (Kt Wt d h : ℕ) {a b c e f g s₁ h₁ ch h₂ h₃ T1 s₀
     → (a′ ∷ a ∷ b ∷ c ∷ e′ ∷ e ∷ f ∷ g ∷ []) ≡ variables Kt Wt a b c d e f g h
 unfolding variables add
 variables-by Kt Wt d h p₁ p₂ p₃ p₄ p₅ p₆ p₇ p₈ p₉ p₁₀ p₁₁ = cc
+
+-- eight words by eight equations
+pub eight-words : {a a′ b b′ c c′ d d′ e e′ f f′ g g′ h h′ : ℕ} → a ≡ a′ → b ≡ b′ → c ≡ c′ → d ≡ d′ → e ≡ e′ → f ≡ f′ → g ≡ g′ → h ≡ h′
+    → _≡_ {A = List ℕ} (a ∷ b ∷ c ∷ d ∷ e ∷ f ∷ g ∷ h ∷ []) (a′ ∷ b′ ∷ c′ ∷ d′ ∷ e′ ∷ f′ ∷ g′ ∷ h′ ∷ [])
+eight-words p q r s t u v w = cc

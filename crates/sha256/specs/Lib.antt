@@ -10,3 +10,4 @@ pub mod ScheduleLaws
 pub mod Compression
 pub mod CompressionLaws
 pub mod Steps
+pub mod StepsLaws
