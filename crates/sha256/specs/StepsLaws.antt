@@ -12,7 +12,7 @@ use Rattle.sha256.specs.Words.{add}
 use Rattle.sha256.specs.Functions.{σ0, σ1}
 use Rattle.sha256.specs.Constants.{K}
 use Rattle.sha256.specs.Schedule.{messageWords, nextWord, scheduleTo, schedule}
-use Rattle.sha256.specs.Compression.{round, rounds}
+use Rattle.sha256.specs.Compression.{round, rounds, addWords, compression}
 use Rattle.sha256.specs.Steps.{roundsFrom, extendedFrom}
 
 -- ---- one step more
@@ -180,3 +180,11 @@ pub all-rounds : (k W s r r′ : List ℕ) → k ≡ K → r ≡ roundsFrom k W 
 all-rounds k W s r r′ e p q =
     q ∙ ap₂ (λ (c l : List ℕ). roundsFrom c W l 48 16) e (p ∙ ap (λ (c : List ℕ). roundsFrom c W s 0 48) e)
     ∙ rounds-add K W s 0 48 16 ∙ from-zero W s 64
+
+-- the parts of the compression, joined
+pub compressed : (block : Bytes) (W₀ W k hash middle s r : List ℕ) → length W₀ ≡ 64 → take 16 W₀ ≡ messageWords block 16 → k ≡ K
+    → middle ≡ roundsFrom k W hash 0 48 → W ≡ extendedFrom W₀ 0 48 → s ≡ roundsFrom k W middle 48 16 → r ≡ addWords s hash → r ≡ compression hash block
+unfolding compression
+compressed block W₀ W k hash middle s r long first constants p words q x =
+    x ∙ ap (λ (l : List ℕ). addWords l hash)
+    (all-rounds k W hash middle s constants p q ∙ ap (λ (l : List ℕ). rounds hash l 64) (words ∙ scheduled block W₀ long first))
