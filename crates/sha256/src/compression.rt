@@ -90,15 +90,13 @@ fn round_constants() -> [u32; 64]
     ROUND_CONSTANTS
 }
 
-// One round on the eight words s: a is s[0], and h is s[7].
+// One round on the eight words s: a is s[0], and h is s[7]. T1 is summed in the order in which its parts are at hand: those of e come last.
 fn one_round(s: [u32; 8], constant: u32, word: u32) -> [u32; 8]
     ensures { λ r. ⌜ r ≡ round constant word s ⌝ }
 {
-    let chosen = wrapping_add_u32(
-        wrapping_add_u32(s[7], upper_sigma_1(s[4])),
-        choose(s[4], s[5], s[6]),
-    );
-    let first = wrapping_add_u32(wrapping_add_u32(chosen, constant), word);
+    let seed = wrapping_add_u32(wrapping_add_u32(s[7], constant), word);
+    let chosen = wrapping_add_u32(seed, choose(s[4], s[5], s[6]));
+    let first = wrapping_add_u32(chosen, upper_sigma_1(s[4]));
     let second = wrapping_add_u32(upper_sigma_0(s[0]), majority(s[0], s[1], s[2]));
     [
         wrapping_add_u32(first, second),

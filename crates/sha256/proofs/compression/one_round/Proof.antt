@@ -8,14 +8,11 @@ use Rattle.sha256.proofs.compression.one_round.Tie as tie
 array-read-wrapping-add-u32 : tie.Need-array-read-wrapping-add-u32
 array-read-wrapping-add-u32 c = search needs
 
-array-read-upper-sigma-1 : tie.Need-array-read-upper-sigma-1
-array-read-upper-sigma-1 c = search needs
-
-upper-sigma-1-requires : tie.Need-upper-sigma-1-requires
-upper-sigma-1-requires c κs = search needs
-
 wrapping-add-u32-requires : tie.Need-wrapping-add-u32-requires
 wrapping-add-u32-requires c κs = search needs
+
+wrapping-add-u32-requires-2 : tie.Need-wrapping-add-u32-requires-2
+wrapping-add-u32-requires-2 c κs = search needs
 
 array-read-choose : tie.Need-array-read-choose
 array-read-choose c = search needs
@@ -29,11 +26,14 @@ array-read-choose-3 c = search needs
 choose-requires : tie.Need-choose-requires
 choose-requires c κs = search needs
 
-wrapping-add-u32-requires-2 : tie.Need-wrapping-add-u32-requires-2
-wrapping-add-u32-requires-2 c κs = search needs
-
 wrapping-add-u32-requires-3 : tie.Need-wrapping-add-u32-requires-3
 wrapping-add-u32-requires-3 c κs = search needs
+
+array-read-upper-sigma-1 : tie.Need-array-read-upper-sigma-1
+array-read-upper-sigma-1 c = search needs
+
+upper-sigma-1-requires : tie.Need-upper-sigma-1-requires
+upper-sigma-1-requires c κs = search needs
 
 wrapping-add-u32-requires-4 : tie.Need-wrapping-add-u32-requires-4
 wrapping-add-u32-requires-4 c κs = search needs
@@ -62,14 +62,14 @@ wrapping-add-u32-requires-5 c κs = search needs
 wrapping-add-u32-requires-6 : tie.Need-wrapping-add-u32-requires-6
 wrapping-add-u32-requires-6 c κs = search needs
 
-array-read-t15 : tie.Need-array-read-t15
-array-read-t15 c = search needs
+array-read-t32 : tie.Need-array-read-t32
+array-read-t32 c = search needs
 
-array-read-t16 : tie.Need-array-read-t16
-array-read-t16 c = search needs
+array-read-t29 : tie.Need-array-read-t29
+array-read-t29 c = search needs
 
-array-read-t19 : tie.Need-array-read-t19
-array-read-t19 c = search needs
+array-read-t12 : tie.Need-array-read-t12
+array-read-t12 c = search needs
 
 array-read-wrapping-add-u32-2 : tie.Need-array-read-wrapping-add-u32-2
 array-read-wrapping-add-u32-2 c = search needs
@@ -77,24 +77,24 @@ array-read-wrapping-add-u32-2 c = search needs
 wrapping-add-u32-requires-7 : tie.Need-wrapping-add-u32-requires-7
 wrapping-add-u32-requires-7 c κs = search needs
 
-array-read-t25 : tie.Need-array-read-t25
-array-read-t25 c = search needs
+array-read-t43 : tie.Need-array-read-t43
+array-read-t43 c = search needs
 
-array-read-t11 : tie.Need-array-read-t11
-array-read-t11 c = search needs
+array-read-t46 : tie.Need-array-read-t46
+array-read-t46 c = search needs
 
-array-read-t48 : tie.Need-array-read-t48
-array-read-t48 c = search needs
+array-read-t49 : tie.Need-array-read-t49
+array-read-t49 c = search needs
 
 returns : tie.Need-returns
 unfolding round
 returns c =
     variables-by _ _ _ _
-    (c .before .before .before .before .before .before .before .before .before .before .upper-sigma-1 .ensures)
-    (c .before .before .before .before .before .before .before .before .before .wrapping-add-u32 .ensures)
+    (c .before .before .before .before .before .before .before .before .before .before .wrapping-add-u32 .ensures)
+    (c .before .before .before .before .before .before .before .before .before .wrapping-add-u322 .ensures)
     (c .before .before .before .before .before .before .before .before .choose .ensures)
-    (c .before .before .before .before .before .before .before .wrapping-add-u322 .ensures)
-    (c .before .before .before .before .before .before .wrapping-add-u323 .ensures)
+    (c .before .before .before .before .before .before .before .wrapping-add-u323 .ensures)
+    (c .before .before .before .before .before .before .upper-sigma-1 .ensures)
     (c .before .before .before .before .before .wrapping-add-u324 .ensures)
     (c .before .before .before .before .upper-sigma-0 .ensures)
     (c .before .before .before .majority .ensures)
@@ -107,15 +107,15 @@ one-round-spec =
     tie.close
     (tie.spec
     array-read-wrapping-add-u32
-    array-read-upper-sigma-1
-    upper-sigma-1-requires
     wrapping-add-u32-requires
+    wrapping-add-u32-requires-2
     array-read-choose
     array-read-choose-2
     array-read-choose-3
     choose-requires
-    wrapping-add-u32-requires-2
     wrapping-add-u32-requires-3
+    array-read-upper-sigma-1
+    upper-sigma-1-requires
     wrapping-add-u32-requires-4
     array-read-upper-sigma-0
     upper-sigma-0-requires
@@ -125,12 +125,12 @@ one-round-spec =
     majority-requires
     wrapping-add-u32-requires-5
     wrapping-add-u32-requires-6
-    array-read-t15
-    array-read-t16
-    array-read-t19
+    array-read-t32
+    array-read-t29
+    array-read-t12
     array-read-wrapping-add-u32-2
     wrapping-add-u32-requires-7
-    array-read-t25
-    array-read-t11
-    array-read-t48
+    array-read-t43
+    array-read-t46
+    array-read-t49
     returns)
