@@ -5,9 +5,10 @@ use Prim.Native.Nat.{ℕ, zero, suc, _+_, _%_, _^_, _≤_, _<_}
 use native.Mathlib.Nat.{mod-add-mod}
 use native.Mathlib.Omega.{arith}
 use lib.ListN.{length, getD, set}
+use Rattle.sha256.specs.Bytes.{Bytes}
 use Rattle.sha256.specs.Words.{add}
 use Rattle.sha256.specs.Functions.{Ch, Maj, Σ0, Σ1}
-use Rattle.sha256.specs.Compression.{variables, round}
+use Rattle.sha256.specs.Compression.{variables, round, addWords, compression}
 
 -- a sum of five words in another order
 reordered : (h a b c d : ℕ) → ((((h + a) % 2 ^ 32 + b) % 2 ^ 32 + c) % 2 ^ 32 + d) % 2 ^ 32 ≡ ((((h + d) % 2 ^ 32 + c) % 2 ^ 32 + a) % 2 ^ 32 + b) % 2 ^ 32
@@ -28,3 +29,8 @@ variables-by Kt Wt d h {e = e} {f = f} {g = g} p₁ p₂ p₃ p₄ p₅ p₆ p�
 pub eight-words : {a a′ b b′ c c′ d d′ e e′ f f′ g g′ h h′ : ℕ} → a ≡ a′ → b ≡ b′ → c ≡ c′ → d ≡ d′ → e ≡ e′ → f ≡ f′ → g ≡ g′ → h ≡ h′
     → _≡_ {A = List ℕ} (a ∷ b ∷ c ∷ d ∷ e ∷ f ∷ g ∷ h ∷ []) (a′ ∷ b′ ∷ c′ ∷ d′ ∷ e′ ∷ f′ ∷ g′ ∷ h′ ∷ [])
 eight-words p q r s t u v w = cc
+
+-- a hash value has eight words
+pub compression-length : (hash : List ℕ) (block : Bytes) → length (compression hash block) ≡ 8
+unfolding compression addWords
+compression-length hash block = refl
