@@ -1,0 +1,19 @@
+-- The schedule as an array that is filled from the front. Assumes nothing.
+use mathlib.Core.Path.{_≡_, refl, sym, ap, ap₂, _∙_, subst}
+use mathlib.Core.List.{List, [], _∷_, _++_}
+use Prim.Native.Nat.{ℕ, zero, suc, _+_, _-_, _≤_, _<_}
+use native.Mathlib.Nat.{add-zero, add-suc, zero-add}
+use native.Mathlib.Numerals.{add-one}
+use native.Mathlib.Omega.{arith}
+use lib.ListN.{length, getD, take, set, length-set}
+use lib.Seq.{take-suc-set, getD-take, getD-set-other, take-all}
+use Rattle.sha256.specs.Bytes.{Bytes}
+use Rattle.sha256.specs.Words.{add}
+use Rattle.sha256.specs.Functions.{σ0, σ1}
+use Rattle.sha256.specs.Schedule.{messageWord, messageWords, nextWord, scheduleTo, schedule}
+
+-- one more word of the block
+pub words-more : (block : Bytes) (W : List ℕ) (t v : ℕ) → t < length W → take t W ≡ messageWords block t → v ≡ messageWord block t
+    → take (t + 1) (set W t v) ≡ messageWords block (t + 1)
+unfolding messageWords
+words-more block W t v h e p = rw add-one (take-suc-set W t v h ∙ ap₂ (λ (l : List ℕ) (x : ℕ). l ++ (x ∷ [])) e p)
