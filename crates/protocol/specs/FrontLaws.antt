@@ -1,9 +1,9 @@
 -- Writing from the front of a buffer on: each piece stands behind those that were written before.
 use Prim.Native.Nat.{ℕ, _+_}
 use native.Mathlib.Nat.{zero-add}
-use mathlib.Core.Path.{_≡_, refl, sym, ap, _∙_}
+use mathlib.Core.Path.{_≡_, sym, _∙_}
 use mathlib.Core.List.{_++_, append-assoc}
-use lib.ListN.{length, take, drop, length-append}
+use lib.ListN.{length, drop, length-append}
 use lib.Seq.{take-append-seam, drop-append-add, drop-drop}
 use Rattle.protocol.specs.Bytes.{Bytes, overFront}
 use Rattle.protocol.specs.BytesLaws.{put}

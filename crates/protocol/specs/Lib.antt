@@ -27,6 +27,7 @@ pub mod CodecLaws
 pub mod Linked
 pub mod LinkedLaws
 pub mod ChainLaws
+pub mod BlockLaws
 pub mod ParentLaws
 pub mod SoundLaws
 pub mod PlaceLaws

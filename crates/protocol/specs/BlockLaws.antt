@@ -1,0 +1,87 @@
+-- Blocks and frames that are built in place: an entry more, and a block put into a frame.
+use Prim.Native.Nat.{ℕ, _+_, _-_, _*_, _<_}
+use native.Mathlib.Omega.{arith}
+use native.Mathlib.Nat.{add-zero}
+use mathlib.Core.Path.{_≡_, refl, sym, ap, _∙_}
+use mathlib.Core.List.{List, [], _∷_, _++_, append-assoc, append-nil}
+use lib.ListN.{length, length-append, length-replicate, replicate-append-replicate}
+use Rattle.protocol.specs.Bytes.{Bytes, le16, zeros, join}
+use Rattle.protocol.specs.BytesLaws.{put, put-all, middle-put}
+use Rattle.protocol.specs.EveryLaws.{Every}
+use Rattle.protocol.specs.StateLaws.{Sized, length-join}
+use Rattle.protocol.specs.ChainLaws.{join-append}
+use Rattle.protocol.specs.Block.{newBlock}
+use Rattle.protocol.specs.Frame.{frameOf}
+
+pub zeros-add : (a b : ℕ) → zeros (a + b) ≡ zeros a ++ zeros b
+unfolding zeros
+zeros-add a b = sym (replicate-append-replicate a b 0)
+
+pub length-zeros : (count : ℕ) → length (zeros count) ≡ count
+unfolding zeros
+length-zeros count = length-replicate count 0
+
+-- the bytes of a block up to the end of its entries
+upTo : (h parent count : ℕ) (digest body : Bytes) → Bytes
+upTo h parent count digest body = (h ∷ 0 ∷ parent ∷ 0 ∷ count ∷ zeros 11) ++ (digest ++ body)
+
+up-to-more : (h parent count : ℕ) (digest body e rest : Bytes) → upTo h parent count digest (body ++ e) ++ rest ≡ upTo h parent count digest body ++ (e ++ rest)
+unfolding upTo
+up-to-more h parent count digest body e rest = simp append-assoc
+
+block-apart : (h parent : ℕ) (digest : Bytes) (es : List Bytes) (rest : Bytes)
+    → newBlock h parent digest es ++ rest ≡ upTo h parent (length es) digest (join es) ++ (zeros (128 - 16 * length es) ++ rest)
+unfolding newBlock upTo
+block-apart h parent digest es rest = simp append-assoc
+
+count-put : (h parent count new : ℕ) (digest body rest : Bytes) → put (upTo h parent count digest body ++ rest) 4 (new ∷ []) ≡ upTo h parent new digest body ++ rest
+unfolding upTo put
+count-put h parent count new digest body rest = refl
+
+module _ (h parent : ℕ) (digest : Bytes) (es : List Bytes) (e rest : Bytes) (digest-size : length digest ≡ 32)
+    (entries-size : Every (Sized 16) es) (entry-size : length e ≡ 16) (few : length es < 8) where
+  before-size : length (upTo h parent (length es) digest (join es)) ≡ 48 + 16 * length es
+  unfolding upTo zeros
+  before-size = simp (length-append, length-join 16 es entries-size, digest-size) (omega arith)
+
+  -- what is left behind one more entry
+  left : Bytes
+  left = zeros (128 - 16 * (length es + 1))
+
+  room : zeros (128 - 16 * length es) ≡ zeros 16 ++ left
+  unfolding left
+  room =
+      let f : 128 - 16 * length es ≡ 16 + (128 - 16 * (length es + 1)) = omega arith in
+      rw f (zeros-add 16 (128 - 16 * (length es + 1)))
+
+  -- the entry, behind those that are there
+  entry-put : put (newBlock h parent digest es ++ rest) (48 + 16 * length es) e ≡ upTo h parent (length es) digest (join es) ++ (e ++ (left ++ rest))
+  entry-put =
+      let front = upTo h parent (length es) digest (join es) in
+      let whole : newBlock h parent digest es ++ rest ≡ front ++ (zeros 16 ++ (left ++ rest)) =
+      block-apart h parent digest es rest ∙ rw room (ap (λ (l : Bytes). front ++ l) (append-assoc (zeros 16) left rest)) in
+      let written : put (front ++ (zeros 16 ++ (left ++ rest))) (48 + 16 * length es) e ≡ front ++ (put (zeros 16) 0 e ++ (left ++ rest)) =
+      rw add-zero at (middle-put front (zeros 16) (left ++ rest) (48 + 16 * length es) before-size 0 e (rw length-zeros (omega arith))) in
+      rw whole (written ∙ rw (put-all (zeros 16) e (rw length-zeros (sym entry-size))))
+
+  block-more : upTo h parent (length es + 1) digest (join es) ++ (e ++ (left ++ rest)) ≡ newBlock h parent digest (es ++ (e ∷ [])) ++ rest
+  unfolding left join
+  block-more =
+      let counted : length (es ++ (e ∷ [])) ≡ length es + 1 = length-append es (e ∷ []) in
+      let joined : join (es ++ (e ∷ [])) ≡ join es ++ e = join-append es (e ∷ []) ∙ rw append-nil in
+      rw (block-apart h parent digest (es ++ (e ∷ [])) rest, counted, joined)
+      (sym (up-to-more h parent (length es + 1) digest (join es) e (zeros (128 - 16 * (length es + 1)) ++ rest)))
+
+  -- one more entry, and the new count
+  pub entry-added : put (put (newBlock h parent digest es ++ rest) (48 + 16 * length es) e) 4 ((length es + 1) ∷ []) ≡ newBlock h parent digest (es ++ (e ∷ [])) ++ rest
+  entry-added =
+      rw entry-put (count-put h parent (length es) (length es + 1) digest (join es) (e ++ (left ++ rest)) ∙ block-more)
+
+-- a block put over the one that a frame carries
+pub frame-block : (k s h mask : ℕ) (digest old new rest : Bytes) → length digest ≡ 32 → length old ≡ length new
+    → put (frameOf k s h mask digest old ++ rest) 48 new ≡ frameOf k s h mask digest new ++ rest
+unfolding frameOf le16 zeros
+frame-block k s h mask digest old new rest size same-size =
+    let front = (k ∷ s ∷ h ∷ 0 ∷ []) ++ (le16 mask ++ (zeros 10 ++ digest)) in
+    let written : put (front ++ (old ++ rest)) 48 new ≡ front ++ (put old 0 new ++ rest) = middle-put front old rest 48 (rw size) 0 new (omega arith) in
+    rw (append-assoc digest old rest, append-assoc digest new rest) (written ∙ rw (put-all old new same-size))
