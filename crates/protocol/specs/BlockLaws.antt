@@ -1,5 +1,5 @@
 -- Blocks and frames that are built in place: an entry more, and a block put into a frame.
-use Prim.Native.Nat.{ℕ, _+_, _-_, _*_, _<_}
+use Prim.Native.Nat.{ℕ, _+_, _-_, _*_, _≤_, _<_}
 use native.Mathlib.Omega.{arith}
 use native.Mathlib.Nat.{add-zero}
 use mathlib.Core.Path.{_≡_, refl, sym, ap, _∙_}
@@ -20,6 +20,10 @@ zeros-add a b = sym (replicate-append-replicate a b 0)
 pub length-zeros : (count : ℕ) → length (zeros count) ≡ count
 unfolding zeros
 length-zeros count = length-replicate count 0
+
+pub new-block-size : (h parent : ℕ) (digest : Bytes) (es : List Bytes) → length digest ≡ 32 → Every (Sized 16) es → length es ≤ 8 → length (newBlock h parent digest es) ≡ 176
+unfolding newBlock
+new-block-size h parent digest es size sized few = simp (length-append, length-zeros, length-join 16 es sized, size) (omega arith)
 
 -- the bytes of a block up to the end of its entries
 upTo : (h parent count : ℕ) (digest body : Bytes) → Bytes

@@ -1,5 +1,6 @@
 // Frames: tests of the 224 bytes where they lie, their fields, and the writing of each kind at the front of a buffer.
 use crate::block::block_well_formed;
+use crate::block::start_block;
 use crate::bytes::byte;
 use crate::bytes::clear;
 use crate::bytes::copy_to;
@@ -9,8 +10,10 @@ use crate::bytes::put_word;
 use crate::bytes::word;
 ghost use mathlib.Core.Path.{_≡_};
 ghost use Prim.Native.Nat.{_<_, _≤_};
+ghost use mathlib.Core.List.{[]};
 ghost use lib.ListN.{length};
 ghost use Rattle.protocol.specs.Bytes.{zeros, overFront};
+ghost use Rattle.protocol.specs.Block.{newBlock};
 ghost use Rattle.protocol.specs.Frame.{kind, signer, frameHeight, signerMask, frameWellFormed, frameOf, proposal, blockVote, dummyVote, finalize, blockCertificate, dummyCertificate, finalizeCertificate};
 ghost use Rattle.wire.specs.Parts.{frameFields, frameRest, frameBlockPart, frameHead};
 
@@ -205,4 +208,16 @@ pub fn write_proposal(out: &mut [u8], signer: usize, h: usize, block: &[u8])
     ensures { λ _. ⌜ now (out .exit) ≡ overFront (proposal signer h (now (block .entry))) (now (out .entry)) ⌝ }
 {
     write_with_block(out, 1, signer, h, 0, block);
+}
+
+// Writes a proposal of a block with no entries yet, made where it lies, from byte 48 on.
+pub fn start_proposal(out: &mut [u8], signer: usize, h: usize, parent: usize, digest: &[u8])
+    requires { ⌜ 224 ≤ length (now out) ⌝ }
+    requires { ⌜ (signer < 256) × (h < 256) × (parent < 256) ⌝ }
+    requires { ⌜ length (now digest) ≡ 32 ⌝ }
+    ensures { λ _. ⌜ now (out .exit) ≡ overFront (proposal signer h (newBlock h parent (now (digest .entry)) [])) (now (out .entry)) ⌝ }
+{
+    write_head(out, 1, signer, h, 0);
+    clear(out, 16, 32);
+    start_block(&mut out[48..224], h, parent, digest);
 }
