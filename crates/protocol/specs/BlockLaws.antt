@@ -4,14 +4,14 @@ use native.Mathlib.Omega.{arith}
 use native.Mathlib.Nat.{add-zero}
 use mathlib.Core.Path.{_≡_, refl, sym, ap, _∙_}
 use mathlib.Core.List.{List, [], _∷_, _++_, append-assoc, append-nil}
-use lib.ListN.{length, length-append, length-replicate, replicate-append-replicate}
-use Rattle.protocol.specs.Bytes.{Bytes, le16, zeros, join}
-use Rattle.protocol.specs.BytesLaws.{put, put-all, middle-put}
+use lib.ListN.{length, drop, length-append, length-replicate, replicate-append-replicate}
+use Rattle.protocol.specs.Bytes.{Bytes, le16, zeros, join, overFront}
+use Rattle.protocol.specs.BytesLaws.{put, put-all, length-put, middle-put}
 use Rattle.protocol.specs.EveryLaws.{Every}
 use Rattle.protocol.specs.StateLaws.{Sized, length-join}
 use Rattle.protocol.specs.ChainLaws.{join-append}
 use Rattle.protocol.specs.Block.{newBlock}
-use Rattle.protocol.specs.Frame.{frameOf}
+use Rattle.protocol.specs.Frame.{frameOf, proposal}
 
 pub zeros-add : (a b : ℕ) → zeros (a + b) ≡ zeros a ++ zeros b
 unfolding zeros
@@ -81,11 +81,60 @@ module _ (h parent : ℕ) (digest : Bytes) (es : List Bytes) (e rest : Bytes) (d
   entry-added =
       rw entry-put (count-put h parent (length es) (length es + 1) digest (join es) (e ++ (left ++ rest)) ∙ block-more)
 
--- a block put over the one that a frame carries
-pub frame-block : (k s h mask : ℕ) (digest old new rest : Bytes) → length digest ≡ 32 → length old ≡ length new
-    → put (frameOf k s h mask digest old ++ rest) 48 new ≡ frameOf k s h mask digest new ++ rest
+-- ---- the block in a frame
+module _ (k s h mask : ℕ) (digest old rest : Bytes) (digest-size : length digest ≡ 32) where
+  -- bytes put into the block of a frame
+  pub frame-block-at : (i : ℕ) (new : Bytes) → i + length new ≤ length old → put (frameOf k s h mask digest old ++ rest) (48 + i) new ≡ frameOf k s h mask digest (put old i new) ++ rest
+  unfolding frameOf le16 zeros
+  frame-block-at i new fits =
+      let front = (k ∷ s ∷ h ∷ 0 ∷ []) ++ (le16 mask ++ (zeros 10 ++ digest)) in
+      rw (append-assoc digest old rest, append-assoc digest (put old i new) rest) (middle-put front old rest 48 (rw digest-size) i new fits)
+
+  -- another block in its place
+  pub frame-block : (new : Bytes) → length old ≡ length new → put (frameOf k s h mask digest old ++ rest) 48 new ≡ frameOf k s h mask digest new ++ rest
+  frame-block new same-size = frame-block-at 0 new (omega arith) ∙ rw (put-all old new same-size)
+
+pub frame-size : (k s h mask : ℕ) (digest block : Bytes) → length (frameOf k s h mask digest block) ≡ 16 + (length digest + length block)
 unfolding frameOf le16 zeros
-frame-block k s h mask digest old new rest size same-size =
-    let front = (k ∷ s ∷ h ∷ 0 ∷ []) ++ (le16 mask ++ (zeros 10 ++ digest)) in
-    let written : put (front ++ (old ++ rest)) 48 new ≡ front ++ (put old 0 new ++ rest) = middle-put front old rest 48 (rw size) 0 new (omega arith) in
-    rw (append-assoc digest old rest, append-assoc digest new rest) (written ∙ rw (put-all old new same-size))
+frame-size k s h mask digest block = omega (arith, length-append digest block)
+
+-- a block of the same size in the frame at a buffer's front
+front-block : (k s h mask : ℕ) (digest old new out : Bytes) → length old ≡ length new → frameOf k s h mask digest new ++ drop (length (frameOf k s h mask digest old)) out ≡ overFront (frameOf k s h mask digest new) out
+unfolding overFront
+front-block k s h mask digest old new out same-size =
+    let size : length (frameOf k s h mask digest old) ≡ length (frameOf k s h mask digest new) =
+    frame-size k s h mask digest old ∙ rw same-size (sym (frame-size k s h mask digest new)) in
+    rw size
+
+-- one more entry in the block of a proposal
+module _ (s h parent : ℕ) (digest : Bytes) (es : List Bytes) (e out : Bytes) (digest-size : length digest ≡ 32)
+    (entries-size : Every (Sized 16) es) (entry-size : length e ≡ 16) (few : length es < 8) where
+  block : Bytes
+  block = newBlock h parent digest es
+
+  more : Bytes
+  more = newBlock h parent digest (es ++ (e ∷ []))
+
+  block-size : length block ≡ 176
+  unfolding block
+  block-size = new-block-size h parent digest es digest-size entries-size (omega arith)
+
+  more-is : put (put block (48 + 16 * length es) e) 4 ((length es + 1) ∷ []) ≡ more
+  unfolding block more
+  more-is = simp append-nil at (entry-added h parent digest es e [] digest-size entries-size entry-size few)
+
+  first-size : length (put block (48 + 16 * length es) e) ≡ 176
+  first-size = length-put block (48 + 16 * length es) e (omega (arith, block-size)) ∙ block-size
+
+  more-size : length more ≡ 176
+  more-size = sym (ap length more-is) ∙ length-put (put block (48 + 16 * length es) e) 4 ((length es + 1) ∷ []) (omega (arith, first-size)) ∙ first-size
+
+  pub proposal-entry-added : put (put (overFront (proposal s h (newBlock h parent digest es)) out) (96 + 16 * length es) e) 52 ((length es + 1) ∷ [])
+      ≡ overFront (proposal s h (newBlock h parent digest (es ++ (e ∷ [])))) out
+  unfolding proposal overFront block more
+  proposal-entry-added =
+      let rest = drop (length (frameOf 1 s h 0 (zeros 32) block)) out in
+      let place : 96 + 16 * length es ≡ 48 + (48 + 16 * length es) = omega arith in
+      let first = frame-block-at 1 s h 0 (zeros 32) block rest (length-zeros 32) (48 + 16 * length es) e (omega (arith, block-size)) in
+      let second = frame-block-at 1 s h 0 (zeros 32) (put block (48 + 16 * length es) e) rest (length-zeros 32) 4 ((length es + 1) ∷ []) (omega (arith, first-size)) in
+      rw (place, first) (second ∙ rw more-is (front-block 1 s h 0 (zeros 32) block more out (block-size ∙ sym more-size)))

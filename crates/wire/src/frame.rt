@@ -1,4 +1,5 @@
 // Frames: tests of the 224 bytes where they lie, their fields, and the writing of each kind at the front of a buffer.
+use crate::block::add_entry;
 use crate::block::block_well_formed;
 use crate::block::start_block;
 use crate::bytes::byte;
@@ -9,10 +10,11 @@ use crate::bytes::put_byte;
 use crate::bytes::put_word;
 use crate::bytes::word;
 ghost use mathlib.Core.Path.{_≡_};
-ghost use Prim.Native.Nat.{_<_, _≤_};
-ghost use mathlib.Core.List.{[]};
+ghost use Prim.Native.Nat.{_+_, _*_, _<_, _≤_};
+ghost use mathlib.Core.List.{[], _∷_};
 ghost use lib.ListN.{length};
 ghost use Rattle.protocol.specs.Bytes.{zeros, overFront};
+ghost use Rattle.protocol.specs.BytesLaws.{put};
 ghost use Rattle.protocol.specs.Block.{newBlock};
 ghost use Rattle.protocol.specs.Frame.{kind, signer, frameHeight, signerMask, frameWellFormed, frameOf, proposal, blockVote, dummyVote, finalize, blockCertificate, dummyCertificate, finalizeCertificate};
 ghost use Rattle.wire.specs.Parts.{frameFields, frameRest, frameBlockPart, frameHead};
@@ -220,4 +222,14 @@ pub fn start_proposal(out: &mut [u8], signer: usize, h: usize, parent: usize, di
     write_head(out, 1, signer, h, 0);
     clear(out, 16, 32);
     start_block(&mut out[48..224], h, parent, digest);
+}
+
+// Puts one more entry into the block of a proposal, behind the `count` that it has. Writes 17 bytes.
+pub fn add_proposal_entry(out: &mut [u8], count: usize, entry: &[u8])
+    requires { ⌜ 224 ≤ length (now out) ⌝ }
+    requires { ⌜ count < 8 ⌝ }
+    requires { ⌜ length (now entry) ≡ 16 ⌝ }
+    ensures { λ _. ⌜ now (out .exit) ≡ put (put (now (out .entry)) (96 + 16 * count) (now (entry .entry))) 52 ((count + 1) ∷ []) ⌝ }
+{
+    add_entry(&mut out[48..224], count, entry);
 }
