@@ -19,6 +19,7 @@ ghost use Rattle.protocol.specs.Block.{newBlock};
 ghost use Rattle.protocol.specs.Frame.{kind, signer, frameHeight, signerMask, frameWellFormed, frameOf, proposal, blockVote, dummyVote, finalize, blockCertificate, dummyCertificate, finalizeCertificate};
 ghost use Rattle.wire.specs.Parts.{frameFields, frameRest, frameBlockPart, frameHead};
 
+// The kind of a frame, its first byte. Costs one read.
 pub fn frame_kind(frame: &[u8]) -> usize
     requires { ⌜ length (now frame) ≡ 224 ⌝ }
     ensures { λ r. ⌜ (r ≡ kind (now (frame .entry))) × (r < 256) ⌝ }
@@ -26,6 +27,7 @@ pub fn frame_kind(frame: &[u8]) -> usize
     byte(frame, 0)
 }
 
+// The signer of a frame. Costs one read.
 pub fn frame_signer(frame: &[u8]) -> usize
     requires { ⌜ length (now frame) ≡ 224 ⌝ }
     ensures { λ r. ⌜ (r ≡ signer (now (frame .entry))) × (r < 256) ⌝ }
@@ -33,6 +35,7 @@ pub fn frame_signer(frame: &[u8]) -> usize
     byte(frame, 1)
 }
 
+// The height of a frame. Costs one read.
 pub fn frame_height(frame: &[u8]) -> usize
     requires { ⌜ length (now frame) ≡ 224 ⌝ }
     ensures { λ r. ⌜ (r ≡ frameHeight (now (frame .entry))) × (r < 256) ⌝ }
@@ -40,6 +43,7 @@ pub fn frame_height(frame: &[u8]) -> usize
     byte(frame, 2)
 }
 
+// The mask of signers of a frame. Costs two reads.
 pub fn frame_mask(frame: &[u8]) -> usize
     requires { ⌜ length (now frame) ≡ 224 ⌝ }
     ensures { λ r. ⌜ (r ≡ signerMask (now (frame .entry))) × (r < 65536) ⌝ }
@@ -47,7 +51,7 @@ pub fn frame_mask(frame: &[u8]) -> usize
     word(frame, 4)
 }
 
-// Whether a frame is as its kind must be. Reads at most 224 bytes, the fields first, and copies none.
+// Whether a frame is as its kind must be. Reads each of the 224 bytes at most twice, the fields first, and copies none.
 pub fn frame_well_formed(frame: &[u8]) -> bool
     ensures { λ r. ⌜ r ≡ frameWellFormed (now (frame .entry)) ⌝ }
 {
@@ -63,6 +67,7 @@ pub fn frame_well_formed(frame: &[u8]) -> bool
 }
 
 // Whether the kind is one of the seven, and the signer and the mask are there only for the kinds that have them.
+// Costs seven reads.
 fn fields_fit(frame: &[u8]) -> bool
     requires { ⌜ length (now frame) ≡ 224 ⌝ }
     ensures { λ r. ⌜ r ≡ frameFields (now (frame .entry)) ⌝ }
@@ -77,6 +82,7 @@ fn fields_fit(frame: &[u8]) -> bool
 }
 
 // Whether the digest and the block are there only for the kinds that have them, and the block is well formed.
+// Costs a pass over the bytes from 6 on.
 fn rest_fits(frame: &[u8]) -> bool
     requires { ⌜ length (now frame) ≡ 224 ⌝ }
     ensures { λ r. ⌜ r ≡ frameRest (now (frame .entry)) ⌝ }
@@ -89,6 +95,7 @@ fn rest_fits(frame: &[u8]) -> bool
 }
 
 // Whether the last 176 bytes are a block of the frame's height, for the kinds that carry one, and zero for the others.
+// Costs a pass over them, where they lie.
 fn block_fits(frame: &[u8]) -> bool
     requires { ⌜ length (now frame) ≡ 224 ⌝ }
     ensures { λ r. ⌜ r ≡ frameBlockPart (now (frame .entry)) ⌝ }
@@ -101,7 +108,7 @@ fn block_fits(frame: &[u8]) -> bool
     }
 }
 
-// Writes the first 16 bytes of a frame.
+// Writes the first 16 bytes of a frame. Costs 16 stores.
 fn write_head(out: &mut [u8], kind: usize, signer: usize, h: usize, mask: usize)
     requires { ⌜ 224 ≤ length (now out) ⌝ }
     requires { ⌜ (kind < 256) × (signer < 256) × (h < 256) × (mask < 65536) ⌝ }
@@ -115,7 +122,7 @@ fn write_head(out: &mut [u8], kind: usize, signer: usize, h: usize, mask: usize)
     clear(out, 6, 10);
 }
 
-// Writes a frame that carries neither digest nor block to the first 224 bytes, each once.
+// Writes a frame that carries neither digest nor block to the first 224 bytes. Costs one store for each.
 pub fn write_plain(out: &mut [u8], kind: usize, signer: usize, h: usize, mask: usize)
     requires { ⌜ 224 ≤ length (now out) ⌝ }
     requires { ⌜ (kind < 256) × (signer < 256) × (h < 256) × (mask < 65536) ⌝ }
@@ -125,7 +132,7 @@ pub fn write_plain(out: &mut [u8], kind: usize, signer: usize, h: usize, mask: u
     clear(out, 16, 208);
 }
 
-// The same with a block.
+// Writes a frame that carries a block and no digest to the first 224 bytes. Costs one store for each.
 pub fn write_with_block(
     out: &mut [u8],
     kind: usize,
@@ -144,7 +151,7 @@ pub fn write_with_block(
     copy_to(out, 48, block);
 }
 
-// Writes a vote for the dummy block.
+// Writes a vote for the dummy block: 224 stores.
 pub fn write_dummy_vote(out: &mut [u8], signer: usize, h: usize)
     requires { ⌜ 224 ≤ length (now out) ⌝ }
     requires { ⌜ (signer < 256) × (h < 256) ⌝ }
@@ -153,7 +160,7 @@ pub fn write_dummy_vote(out: &mut [u8], signer: usize, h: usize)
     write_plain(out, 3, signer, h, 0);
 }
 
-// Writes a finalize statement.
+// Writes a finalize statement: 224 stores.
 pub fn write_finalize(out: &mut [u8], signer: usize, h: usize)
     requires { ⌜ 224 ≤ length (now out) ⌝ }
     requires { ⌜ (signer < 256) × (h < 256) ⌝ }
@@ -162,7 +169,7 @@ pub fn write_finalize(out: &mut [u8], signer: usize, h: usize)
     write_plain(out, 4, signer, h, 0);
 }
 
-// Writes a notarization of the dummy block.
+// Writes a notarization of the dummy block: 224 stores.
 pub fn write_dummy_certificate(out: &mut [u8], h: usize, mask: usize)
     requires { ⌜ 224 ≤ length (now out) ⌝ }
     requires { ⌜ (h < 256) × (mask < 65536) ⌝ }
@@ -171,7 +178,7 @@ pub fn write_dummy_certificate(out: &mut [u8], h: usize, mask: usize)
     write_plain(out, 6, 0, h, mask);
 }
 
-// Writes a finalization.
+// Writes a finalization: 224 stores.
 pub fn write_finalize_certificate(out: &mut [u8], h: usize, mask: usize)
     requires { ⌜ 224 ≤ length (now out) ⌝ }
     requires { ⌜ (h < 256) × (mask < 65536) ⌝ }
@@ -180,7 +187,7 @@ pub fn write_finalize_certificate(out: &mut [u8], h: usize, mask: usize)
     write_plain(out, 7, 0, h, mask);
 }
 
-// Writes a vote for a block, which names it by its digest.
+// Writes a vote for a block, which names it by its digest: 224 stores.
 pub fn write_block_vote(out: &mut [u8], signer: usize, h: usize, digest: &[u8])
     requires { ⌜ 224 ≤ length (now out) ⌝ }
     requires { ⌜ (signer < 256) × (h < 256) ⌝ }
@@ -192,7 +199,7 @@ pub fn write_block_vote(out: &mut [u8], signer: usize, h: usize, digest: &[u8])
     clear(out, 48, 176);
 }
 
-// Writes a notarization of a block.
+// Writes a notarization of a block: 224 stores.
 pub fn write_block_certificate(out: &mut [u8], h: usize, mask: usize, block: &[u8])
     requires { ⌜ 224 ≤ length (now out) ⌝ }
     requires { ⌜ (h < 256) × (mask < 65536) ⌝ }
@@ -202,7 +209,7 @@ pub fn write_block_certificate(out: &mut [u8], h: usize, mask: usize, block: &[u
     write_with_block(out, 5, 0, h, mask, block);
 }
 
-// Writes a proposal.
+// Writes a proposal: 224 stores.
 pub fn write_proposal(out: &mut [u8], signer: usize, h: usize, block: &[u8])
     requires { ⌜ 224 ≤ length (now out) ⌝ }
     requires { ⌜ (signer < 256) × (h < 256) ⌝ }
@@ -212,7 +219,7 @@ pub fn write_proposal(out: &mut [u8], signer: usize, h: usize, block: &[u8])
     write_with_block(out, 1, signer, h, 0, block);
 }
 
-// Writes a proposal of a block with no entries yet, made where it lies, from byte 48 on.
+// Writes a proposal of a block with no entries yet, made where it lies, from byte 48 on: 224 stores.
 pub fn start_proposal(out: &mut [u8], signer: usize, h: usize, parent: usize, digest: &[u8])
     requires { ⌜ 224 ≤ length (now out) ⌝ }
     requires { ⌜ (signer < 256) × (h < 256) × (parent < 256) ⌝ }
@@ -224,7 +231,7 @@ pub fn start_proposal(out: &mut [u8], signer: usize, h: usize, parent: usize, di
     start_block(&mut out[48..224], h, parent, digest);
 }
 
-// Puts one more entry into the block of a proposal, behind the `count` that it has. Writes 17 bytes.
+// Puts one more entry into the block of a proposal, behind the `count` that it has. Costs 17 stores.
 pub fn add_proposal_entry(out: &mut [u8], count: usize, entry: &[u8])
     requires { ⌜ 224 ≤ length (now out) ⌝ }
     requires { ⌜ count < 8 ⌝ }
