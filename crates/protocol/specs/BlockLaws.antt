@@ -106,6 +106,12 @@ front-block k s h mask digest old new out same-size =
     frame-size k s h mask digest old ∙ rw same-size (sym (frame-size k s h mask digest new)) in
     rw size
 
+-- another block put into the frame at a buffer's front
+pub front-frame-block : (k s h mask : ℕ) (digest old new out : Bytes) → length digest ≡ 32 → length old ≡ length new → put (overFront (frameOf k s h mask digest old) out) 48 new ≡ overFront (frameOf k s h mask digest new) out
+unfolding overFront
+front-frame-block k s h mask digest old new out digest-size same-size =
+    frame-block k s h mask digest old (drop (length (frameOf k s h mask digest old)) out) digest-size new same-size ∙ front-block k s h mask digest old new out same-size
+
 -- one more entry in the block of a proposal
 module _ (s h parent : ℕ) (digest : Bytes) (es : List Bytes) (e out : Bytes) (digest-size : length digest ≡ 32)
     (entries-size : Every (Sized 16) es) (entry-size : length e ≡ 16) (few : length es < 8) where
