@@ -27,6 +27,7 @@ pub mod CodecLaws
 pub mod Linked
 pub mod LinkedLaws
 pub mod ChainLaws
+pub mod BlockLaws
 pub mod ParentLaws
 pub mod SoundLaws
 pub mod GrantedLaws
@@ -35,7 +36,6 @@ pub mod FieldLaws
 pub mod OnesLaws
 pub mod UnionLaws
 pub mod LogLaws
-pub mod BlockLaws
 pub mod PendingLaws
 pub mod WriteLaws
 pub mod ChangeLaws
@@ -51,3 +51,4 @@ pub mod CheckCalls
 pub mod Checks
 pub mod RunChecks
 pub mod ReferenceChecks
+pub mod BuildLaws

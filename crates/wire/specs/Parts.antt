@@ -37,15 +37,18 @@ frameFields frame = allOf
     eqb (byteAt frame 3) 0 ∷
     (isCertificate (kind frame) || eqb (signerMask frame) 0) ∷ [])
 
--- the digest of a frame, where its kind has one
-unfoldable pub frameDigestPart : Bytes → Bool
-frameDigestPart frame = carriesDigest (kind frame) || isZero (frameDigest frame)
-
 -- the block of a frame, where its kind has one
 unfoldable pub frameBlockPart : Bytes → Bool
 frameBlockPart frame = allOf
     ((carriesBlock (kind frame) || isZero (frameBlock frame)) ∷
     implies (carriesBlock (kind frame)) (blockWellFormed (frameHeight frame) (frameBlock frame)) ∷ [])
+
+-- the bytes of a frame from 6 on
+unfoldable pub frameRest : Bytes → Bool
+frameRest frame = allOf
+    (isZero (part frame 6 10) ∷
+    (carriesDigest (kind frame) || isZero (frameDigest frame)) ∷
+    frameBlockPart frame ∷ [])
 
 -- the first 16 bytes of a frame
 unfoldable pub frameHead : (k s h mask : ℕ) → Bytes

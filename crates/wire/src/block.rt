@@ -13,7 +13,7 @@ ghost use Rattle.protocol.specs.BytesLaws.{put};
 ghost use Rattle.protocol.specs.Block.{blockWellFormed, newBlock};
 ghost use Rattle.wire.specs.Parts.{blockFields, blockParent, blockRest};
 
-// Whether a block is as it must be at height `h`. Reads at most 176 bytes, the fields first, and copies none.
+// Whether a block is as it must be at height `h`. Reads each of the 176 bytes at most twice, the fields first, and copies none.
 pub fn block_well_formed(block: &[u8], h: usize) -> bool
     ensures { λ r. ⌜ r ≡ blockWellFormed h (now (block .entry)) ⌝ }
 {
@@ -28,7 +28,7 @@ pub fn block_well_formed(block: &[u8], h: usize) -> bool
     }
 }
 
-// Whether the first five bytes fit height `h`.
+// Whether the first five bytes fit height `h`. Costs five reads.
 fn fields_fit(block: &[u8], h: usize) -> bool
     requires { ⌜ length (now block) ≡ 176 ⌝ }
     ensures { λ r. ⌜ r ≡ blockFields h (now (block .entry)) ⌝ }
@@ -41,7 +41,7 @@ fn fields_fit(block: &[u8], h: usize) -> bool
     height & (second & (parent & (fourth & count)))
 }
 
-// Whether a block with no parent has no digest either.
+// Whether a block with no parent has no digest either. Costs a read, or a pass over 32 bytes.
 fn parent_fits(block: &[u8]) -> bool
     requires { ⌜ length (now block) ≡ 176 ⌝ }
     ensures { λ r. ⌜ r ≡ blockParent (now (block .entry)) ⌝ }
@@ -54,7 +54,7 @@ fn parent_fits(block: &[u8]) -> bool
     }
 }
 
-// Whether the bytes that the fields leave unused are zero, those past the entries too.
+// Whether the bytes that the fields leave unused are zero, those past the entries too. Costs a pass over each unused byte.
 fn rest_fits(block: &[u8]) -> bool
     requires { ⌜ length (now block) ≡ 176 ⌝ }
     requires { ⌜ byteAt (now block) 4 ≤ 8 ⌝ }
@@ -67,7 +67,7 @@ fn rest_fits(block: &[u8]) -> bool
     reserved & (parent & unused)
 }
 
-// Makes the first 176 bytes the block of height `h` on a parent, with no entries. Writes each of them once.
+// Makes the first 176 bytes the block of height `h` on a parent, with no entries. Costs one store for each of them.
 pub fn start_block(block: &mut [u8], h: usize, parent: usize, digest: &[u8])
     requires { ⌜ 176 ≤ length (now block) ⌝ }
     requires { ⌜ (h < 256) × (parent < 256) ⌝ }
@@ -82,7 +82,7 @@ pub fn start_block(block: &mut [u8], h: usize, parent: usize, digest: &[u8])
     clear(block, 48, 128);
 }
 
-// Puts one more entry behind the `count` that the block has, and counts it. Writes 17 bytes.
+// Puts one more entry behind the `count` that the block has, and counts it. Costs 17 stores.
 pub fn add_entry(block: &mut [u8], count: usize, entry: &[u8])
     requires { ⌜ 176 ≤ length (now block) ⌝ }
     requires { ⌜ count < 8 ⌝ }

@@ -1,9 +1,9 @@
 -- `block_well_formed` meets its contract: the length, the fields and the rest are the rows of a block.
 use mathlib.Core.Path.{sym, _∙_}
-use mathlib.Core.Logic.{inl, inr}
 use lib.ListN.{length}
-use borrow.Author.Tests.{ne-eqb}
-use Rattle.wire.proofs.Rows.{block-fails, block-rests, few-entries}
+use borrow.Author.Tests.{eq-eqb, ne-eqb}
+use Rattle.wire.proofs.Rows.{stops-first, stops-second, goes-through}
+use Rattle.wire.proofs.BlockRows.{block-is, few-entries}
 use borrow.Author.Needs.{needs}
 use Rattle.wire.proofs.block.block_well_formed.Statement.{statement}
 use Rattle.wire.proofs.block.block_well_formed.Tie as tie
@@ -19,18 +19,21 @@ rest-fits-requires c κs =
 returns : tie.Need-returns
 returns c =
     let start = c .before .before .before .before .before in
-    c .rest-fits .ensures ∙ sym (block-rests (start .args .h) (start .args .block .now) (c .before .before .before .if1 .taken)
-    (sym (c .before .before .fields-fit .ensures) ∙ c .before .if2 .taken))
+    let block = start .args .block .now in
+    c .rest-fits .ensures ∙ sym (goes-through (eq-eqb (length block) 176 (c .before .before .before .if1 .taken))
+    (sym (c .before .before .fields-fit .ensures) ∙ c .before .if2 .taken) (block-is (start .args .h) block))
 
 returns-2 : tie.Need-returns-2
 returns-2 c =
     let start = c .before .before .before .before in
-    sym (block-fails (start .args .h) (start .args .block .now) (inr (sym (c .before .fields-fit .ensures) ∙ c .if2 .left)))
+    let block = start .args .block .now in
+    sym (stops-second _ (eq-eqb (length block) 176 (c .before .before .if1 .taken)) (sym (c .before .fields-fit .ensures) ∙ c .if2 .left) (block-is (start .args .h) block))
 
 returns-3 : tie.Need-returns-3
 returns-3 c =
     let start = c .before .before in
-    sym (block-fails (start .args .h) (start .args .block .now) (inl (ne-eqb (length (start .args .block .now)) 176 (c .if1 .left))))
+    let block = start .args .block .now in
+    sym (stops-first _ (ne-eqb (length block) 176 (c .if1 .left)) (block-is (start .args .h) block))
 
 pub block-well-formed-spec : {M : Type 1} → statement M
 block-well-formed-spec =

@@ -1,5 +1,5 @@
 -- `fields_fit` meets its contract: its five tests are the rows of the first five bytes.
-use Rattle.wire.proofs.Rows.{fields-are}
+use Rattle.wire.proofs.BlockRows.{fields-are}
 use borrow.Author.Needs.{needs}
 use Rattle.wire.proofs.block.fields_fit.Statement.{statement}
 use Rattle.wire.proofs.block.fields_fit.Tie as tie

@@ -1,7 +1,7 @@
 -- `parent_fits` meets its contract: the digest counts only where the parent height is 0.
 use mathlib.Core.Path.{sym, _∙_}
 use Rattle.protocol.specs.Bytes.{part}
-use Rattle.wire.proofs.Rows.{parent-none, parent-some}
+use Rattle.wire.proofs.BlockRows.{parent-none, parent-some}
 use borrow.Author.Needs.{needs}
 use Rattle.wire.proofs.block.parent_fits.Statement.{statement}
 use Rattle.wire.proofs.block.parent_fits.Tie as tie

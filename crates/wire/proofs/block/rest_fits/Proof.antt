@@ -1,7 +1,8 @@
 -- `rest_fits` meets its contract: the unused bytes are three parts of the block.
 use Prim.Native.Nat.{_+_, _*_}
 use Rattle.protocol.specs.Bytes.{byteAt, part}
-use Rattle.wire.proofs.Rows.{rest-are, part-from}
+use Rattle.wire.proofs.Rows.{part-from}
+use Rattle.wire.proofs.BlockRows.{rest-are}
 use borrow.Author.Needs.{needs}
 use Rattle.wire.proofs.block.rest_fits.Statement.{statement}
 use Rattle.wire.proofs.block.rest_fits.Tie as tie
