@@ -1,10 +1,10 @@
 -- A copy inside a byte string: one more byte is copied, and those that are still to be copied stay as they were.
-use Prim.Native.Nat.{ℕ, suc, _+_, _≤_, _<_}
+use Prim.Native.Nat.{ℕ, _+_, _≤_, _<_}
 use native.Mathlib.Omega.{arith}
 use native.Mathlib.Numerals.{add-one}
 use mathlib.Core.Path.{_≡_, sym, ap, _∙_}
 use mathlib.Core.Logic.{_⊎_, ⊎-elim}
-use lib.ListN.{length, getD, set}
+use lib.ListN.{length, set}
 use lib.Seq.{paste, paste-suc, getD-set-other}
 use Rattle.protocol.specs.Bytes.{Bytes, byteAt, part}
 use Rattle.protocol.specs.BytesLaws.{length-part, byte-part}

@@ -1,7 +1,7 @@
 -- What the writes of a function make of a whole book, in the order in which the code makes them.
 use Prim.Native.Nat.{ℕ, suc, _+_, _-_, _*_, _^_, _≤_, _<_}
 use native.Mathlib.Omega.{arith}
-use mathlib.Core.Path.{_≡_, refl, sym, ap, subst, _∙_}
+use mathlib.Core.Path.{_≡_, refl, ap, subst, _∙_}
 use mathlib.Core.List.{[], _∷_, _++_}
 use lib.ListN.{length, set}
 use Rattle.protocol.specs.Bytes.{Bytes, byteAt, le16, part, zeros, pieces}

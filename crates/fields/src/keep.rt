@@ -8,7 +8,9 @@ use wire::bytes::copy_to;
 use wire::bytes::put_word;
 ghost use mathlib.Core.Path.{_≡_};
 ghost use Prim.Native.Nat.{_+_, _^_, _<_, _≤_};
-ghost use lib.ListN.{length};
+ghost use lib.ListN.{length, set};
+ghost use Rattle.protocol.specs.Bytes.{le16};
+ghost use Rattle.protocol.specs.BytesLaws.{put};
 ghost use Rattle.protocol.specs.State.{decode, encode, at, withHeight};
 ghost use Rattle.protocol.specs.Deliver.{withProposal, withNotarized, withMasks, withVote};
 ghost use Rattle.fields.specs.Ready.{Ready, Within};
@@ -28,6 +30,17 @@ pub fn keep_proposal(book: &mut [u8], h: usize, block: &[u8])
     copy_to(book, body, block);
 }
 
+// Writes the status of a height whose block is now notarized, and the mask of its certificate.
+fn mark_notarized(book: &mut [u8], content: usize, held: usize, mask: usize)
+    requires { ⌜ content + 16 ≤ length (now book) ⌝ }
+    requires { ⌜ held ≤ 3 ⌝ }
+    requires { ⌜ mask < 65536 ⌝ }
+    ensures { λ _. ⌜ now (book .exit) ≡ put (set (now (book .entry)) (content + 1) (held + 2)) (content + 2) (le16 mask) ⌝ }
+{
+    book[content + 1] = (held + 2) as u8;
+    put_word(book, content + 2, mask);
+}
+
 // Keeps a block as the notarized block of height `h`, with the mask of its certificate.
 pub fn keep_notarized(book: &mut [u8], h: usize, mask: usize, block: &[u8])
     requires { ⌜ Ready (now book) ⌝ }
@@ -41,8 +54,7 @@ pub fn keep_notarized(book: &mut [u8], h: usize, mask: usize, block: &[u8])
     let body = body_at(book, h);
     let held = status(book, h);
     copy_to(book, body + 176, block);
-    book[content + 1] = (held + 2) as u8;
-    put_word(book, content + 2, mask);
+    mark_notarized(book, content, held, mask);
 }
 
 // Keeps the held proposal of height `h` as its notarized block, with the mask of its certificate.
@@ -57,8 +69,7 @@ pub fn notarize_held(book: &mut [u8], h: usize, mask: usize)
     let body = body_at(book, h);
     let held = status(book, h);
     copy_inside(book, body, body + 176, 176);
-    book[content + 1] = (held + 2) as u8;
-    put_word(book, content + 2, mask);
+    mark_notarized(book, content, held, mask);
 }
 
 // Sets the mask of the dummy votes of height `h`.

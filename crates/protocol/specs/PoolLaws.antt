@@ -7,7 +7,7 @@ use mathlib.Core.Path.{_≡_, refl, sym, ap, _∙_}
 use mathlib.Core.Bool.{Bool, true, false, cond}
 use mathlib.Core.List.{List, [], _∷_, _++_, append-assoc, append-nil}
 use lib.ListN.{length, getD, take, drop, set, length-append, length-take, length-drop, drop-of-length-le}
-use lib.Seq.{take-suc, take-add, take-at, drop-at, drop-drop, drop-append-add}
+use lib.Seq.{take-suc, take-add, take-at, drop-drop, drop-append-add}
 use Rattle.protocol.specs.Bytes.{Bytes, part, zeros, join, pieces, holds}
 use Rattle.protocol.specs.State.{State, at, encode, decode, last}
 use Rattle.protocol.specs.Sound.{view, log}

@@ -1,6 +1,5 @@
 -- `led_by_zero` meets its contract: the book is cleared, and five bytes of its head are set.
 use native.Mathlib.Omega.{arith}
-use mathlib.Core.Path.{_∙_}
 use lib.ListN.{length-set}
 use Rattle.fields.proofs.Leaders.{head-made}
 use borrow.Author.Needs.{needs}

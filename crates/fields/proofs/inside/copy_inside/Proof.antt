@@ -1,7 +1,7 @@
 -- `copy_inside` meets its contract: after `i` turns the first `i` bytes are copied, and the others are still where they were.
 use Prim.Native.Nat.{ℕ, _+_, _≤_, _<_, _-_}
 use native.Mathlib.Omega.{arith}
-use mathlib.Core.Path.{_≡_, refl, sym, ap, _∙_}
+use mathlib.Core.Path.{_≡_, refl, ap, _∙_}
 use lib.ListN.{length, length-set}
 use lib.Seq.{paste, paste-zero}
 use Rattle.protocol.specs.Bytes.{byteAt, part}
