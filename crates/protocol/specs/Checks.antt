@@ -20,6 +20,10 @@ entry x = replicate 16 x
 single : Bytes
 single = after (zeros 1456) (opening 4 2 1 (0 ∷ []) ∷ [])
 
+-- replica 2 of 16, one height, leader 0
+sixteen : Bytes
+sixteen = after (zeros 1456) (opening 16 2 1 (0 ∷ []) ∷ [])
+
 -- replica 2 of 4, three heights, leaders 0, 1 and 2: the rehearsal's book
 triple : Bytes
 triple = after (zeros 3216) (opening 4 2 3 (0 ∷ 1 ∷ 2 ∷ []) ∷ [])
@@ -51,7 +55,7 @@ short : Bytes
 short = take 1455 single
 
 unfoldable books : Unit {0}
-unfolding tools entry single triple one other settled submissions full short
+unfolding tools entry single sixteen triple one other settled submissions full short
 books = tt
 
 -- ---- document 01's table of refusals, row by row, by the example that stands there
@@ -84,6 +88,8 @@ refusals : allOf
     refuses 9 single (delivery (dummyCertificate 1 3)) ∷
     refuses 9 single (delivery (blockCertificate 1 3 one)) ∷
     refuses 9 single (delivery (finalizeCertificate 1 3)) ∷
+    -- 10 signers of 16 are more than half and no quorum (example c)
+    refuses 9 sixteen (delivery (dummyCertificate 1 1023)) ∷
     -- 10: a certified block with another entry
     refuses 10 (after single (delivery (blockCertificate 1 7 one) ∷ [])) (delivery (blockCertificate 1 7 other)) ∷
     -- 11: fetches on a new book
@@ -131,6 +137,11 @@ formed : answers single
     delivery (finalizeCertificate 1 7) ∷ delivery (proposal 0 1 one) ∷ delivery (blockCertificate 1 7 one) ∷ []) ≡ replicate 7 (0 ∷ 1 ∷ [])
 unfolding books
 formed = refl
+
+-- 11 signers of 16 are a quorum (example c), with a mask of two bytes
+eleven : answers sixteen (delivery (dummyCertificate 1 2047) ∷ moving (zeros 448) ∷ []) ≡ (0 ∷ 1 ∷ []) ∷ (0 ∷ 3 ∷ 1 ∷ 6 ∷ 4 ∷ []) ∷ []
+unfolding books
+eleven = refl
 
 -- ---- document 01's line of orders: inputs that are wrong in two ways
 orders : allOf
