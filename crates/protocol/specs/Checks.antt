@@ -42,20 +42,21 @@ settled =
     (delivery (proposal 0 1 one) ∷ delivery (blockCertificate 1 7 one) ∷ delivery (finalizeCertificate 1 7) ∷
     moving (zeros 448) ∷ [])
 
--- 32 different pending entries
-submissions : ℕ → List Call
-submissions zero = []
-submissions (suc count) = submissions count ++ (submitting (entry (suc count)) ∷ [])
+-- the entries from 1 on, one after the other
+entriesTo : ℕ → Bytes
+entriesTo zero = []
+entriesTo (suc count) = entriesTo count ++ entry (suc count)
 
+-- a book with 32 pending entries
 full : Bytes
-full = after single (submissions 32)
+full = splice 64 (entriesTo 32) (splice 6 (32 ∷ []) single)
 
 -- a book of one height with one byte cut off
 short : Bytes
 short = take 1455 single
 
 unfoldable books : Unit {0}
-unfolding tools entry single sixteen triple one other settled submissions full short
+unfolding tools entry single sixteen triple one other settled entriesTo full short
 books = tt
 
 -- ---- document 01's table of refusals, row by row, by the example that stands there
