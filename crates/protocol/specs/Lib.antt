@@ -49,4 +49,5 @@ pub mod ExamplesLaws
 pub mod CheckCalls
 pub mod Checks
 pub mod RunChecks
+pub mod RuleChecks
 pub mod ReferenceChecks
