@@ -22,6 +22,7 @@ pub mod QuorumLaws
 pub mod FlagLaws
 pub mod RowLaws
 pub mod BytesLaws
+pub mod FrontLaws
 pub mod CodecLaws
 pub mod Linked
 pub mod LinkedLaws

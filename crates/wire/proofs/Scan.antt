@@ -46,19 +46,23 @@ xor-is-zero a b = both-ways (eqb (bitXor a b) 0) (eqb a b)
     (λ e. eq-eqb a b (xor-zero a b (eqb-true (bitXor a b) 0 e)))
     (λ e. eq-eqb (bitXor a b) 0 (rw (eqb-true a b e) (xor-self b)))
 
-and-assoc : (a b c : Bool) → ((a && b) && c) ≡ (a && (b && c))
+pub and-assoc : (a b c : Bool) → ((a && b) && c) ≡ (a && (b && c))
 and-assoc true b c = refl
 and-assoc false b c = refl
 
-and-comm-true : (a : Bool) → (a && true) ≡ a
-and-comm-true true = refl
-and-comm-true false = refl
+pub and-right-true : (a : Bool) → (a && true) ≡ a
+and-right-true true = refl
+and-right-true false = refl
+
+pub and-right-false : (a : Bool) → (a && false) ≡ false
+and-right-false true = refl
+and-right-false false = refl
 
 -- ---- one more byte
 pub all-more : (test : ℕ → Bool) (bytes : Bytes) (i : ℕ) → i < length bytes → all test (take (suc i) bytes) ≡ (all test (take i bytes) && test (byteAt bytes i))
 unfolding all
 all-more test [] i h = absurd (omega arith)
-all-more test (x ∷ xs) zero h = and-comm-true (test x)
+all-more test (x ∷ xs) zero h = and-right-true (test x)
 all-more test (x ∷ xs) (suc i) h =
     rw (all-more test xs i (omega arith)) (sym (and-assoc (test x) (all test (take i xs)) (test (byteAt xs i))))
 
@@ -66,7 +70,7 @@ pub same-more : (a b : Bytes) (i : ℕ) → i < length a → i < length b → sa
 unfolding same
 same-more [] b i h k = absurd (omega arith)
 same-more (x ∷ xs) [] i h k = absurd (omega arith)
-same-more (x ∷ xs) (y ∷ ys) zero h k = and-comm-true (eqb x y)
+same-more (x ∷ xs) (y ∷ ys) zero h k = and-right-true (eqb x y)
 same-more (x ∷ xs) (y ∷ ys) (suc i) h k =
     rw (same-more xs ys i (omega arith) (omega arith))
     (sym (and-assoc (eqb x y) (same (take i xs) (take i ys)) (eqb (byteAt xs i) (byteAt ys i))))

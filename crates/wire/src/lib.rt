@@ -1,2 +1,3 @@
 // Checks and writes blocks and frames where they lie, in lent byte slices.
+pub mod block;
 pub mod bytes;
