@@ -43,7 +43,7 @@ pub record Result : Type 0 where
   pub book : Bytes
   pub buffer : Bytes
 
--- a refusal's number alone, or 0 and what the answer says
+-- a refusal's number alone, or 0 and what the answer says; of a reading the part that it returns
 unfoldable pub numbersOf : {A : Type 0} → (A → List ℕ) → Answer A → List ℕ
 numbersOf told (refused number) = number ∷ []
 numbersOf told (accepted x) = 0 ∷ told x
@@ -85,7 +85,7 @@ perform book (signalling h) = plain doneNumbers (signalCall standIn book h)
 perform book (submitting entry) = plain doneNumbers (submitCall standIn book entry)
 perform book sizing = record { numbers = numbersOf (λ size. size ∷ []) (sizeCall standIn book); book = book; buffer = [] }
 perform book (reading buffer) =
-    record { numbers = length (readPart standIn book buffer) ∷ []; book = book; buffer = readBuffer standIn book buffer }
+    record { numbers = readPart standIn book buffer; book = book; buffer = readBuffer standIn book buffer }
 perform book (fetching k h reply) = ofFetch book (fetchCall standIn book k h reply)
 
 -- the book after a list of calls

@@ -20,6 +20,10 @@ entry x = replicate 16 x
 single : Bytes
 single = after (zeros 1456) (opening 4 2 1 (0 ∷ []) ∷ [])
 
+-- replica 2 of 16, one height, leader 0
+sixteen : Bytes
+sixteen = after (zeros 1456) (opening 16 2 1 (0 ∷ []) ∷ [])
+
 -- replica 2 of 4, three heights, leaders 0, 1 and 2: the rehearsal's book
 triple : Bytes
 triple = after (zeros 3216) (opening 4 2 3 (0 ∷ 1 ∷ 2 ∷ []) ∷ [])
@@ -38,20 +42,21 @@ settled =
     (delivery (proposal 0 1 one) ∷ delivery (blockCertificate 1 7 one) ∷ delivery (finalizeCertificate 1 7) ∷
     moving (zeros 448) ∷ [])
 
--- 32 different pending entries
-submissions : ℕ → List Call
-submissions zero = []
-submissions (suc count) = submissions count ++ (submitting (entry (suc count)) ∷ [])
+-- the entries from 1 on, one after the other
+entriesTo : ℕ → Bytes
+entriesTo zero = []
+entriesTo (suc count) = entriesTo count ++ entry (suc count)
 
+-- a book with 32 pending entries
 full : Bytes
-full = after single (submissions 32)
+full = splice 64 (entriesTo 32) (splice 6 (32 ∷ []) single)
 
 -- a book of one height with one byte cut off
 short : Bytes
 short = take 1455 single
 
 unfoldable books : Unit {0}
-unfolding tools entry single triple one other settled submissions full short
+unfolding tools entry single sixteen triple one other settled entriesTo full short
 books = tt
 
 -- ---- document 01's table of refusals, row by row, by the example that stands there
@@ -84,6 +89,8 @@ refusals : allOf
     refuses 9 single (delivery (dummyCertificate 1 3)) ∷
     refuses 9 single (delivery (blockCertificate 1 3 one)) ∷
     refuses 9 single (delivery (finalizeCertificate 1 3)) ∷
+    -- 10 signers of 16 are more than half and no quorum (example c)
+    refuses 9 sixteen (delivery (dummyCertificate 1 1023)) ∷
     -- 10: a certified block with another entry
     refuses 10 (after single (delivery (blockCertificate 1 7 one) ∷ [])) (delivery (blockCertificate 1 7 other)) ∷
     -- 11: fetches on a new book
@@ -131,6 +138,11 @@ formed : answers single
     delivery (finalizeCertificate 1 7) ∷ delivery (proposal 0 1 one) ∷ delivery (blockCertificate 1 7 one) ∷ []) ≡ replicate 7 (0 ∷ 1 ∷ [])
 unfolding books
 formed = refl
+
+-- 11 signers of 16 are a quorum (example c), with a mask of two bytes
+eleven : answers sixteen (delivery (dummyCertificate 1 2047) ∷ moving (zeros 448) ∷ []) ≡ (0 ∷ 1 ∷ []) ∷ (0 ∷ 3 ∷ 1 ∷ 6 ∷ 4 ∷ []) ∷ []
+unfolding books
+eleven = refl
 
 -- ---- document 01's line of orders: inputs that are wrong in two ways
 orders : allOf

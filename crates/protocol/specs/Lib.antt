@@ -51,5 +51,6 @@ pub mod ExamplesLaws
 pub mod CheckCalls
 pub mod Checks
 pub mod RunChecks
+pub mod RuleChecks
 pub mod ReferenceChecks
 pub mod BuildLaws

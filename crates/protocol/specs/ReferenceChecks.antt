@@ -1,7 +1,7 @@
 -- The definitions against an independent replica in Rust: its answers, books and buffers, call by call.
 --
--- The rows are from the first, second and third scenario that `cargo run --example vectors -- stand-in` prints (host/reference,
--- written from document 01 alone, with the digest `standIn`). A row has the call, the numbers of its answer, the parts of the
+-- The rows are from the first and the third scenario that `cargo run --example vectors -- stand-in` prints (host/reference,
+-- written from document 01 alone; its stand-in digest is `standIn`). A row has the call, the numbers of its answer, the parts of the
 -- book that it changed, and the lent buffer afterwards; a check gives the number of the first row that differs, and 0 if none does.
 use Prim.Native.Nat.{ℕ, zero, suc, _+_}
 use mathlib.Core.Path.{_≡_, refl}
@@ -30,10 +30,10 @@ alone : disagreement 1 (replicate 1456 90)
     expect (moving (replicate 448 170)) (0 ∷ 2 ∷ 1 ∷ []) ((5, 1 ∷ []) ∷ []) (replicate 448 170) ∷
     expect (moving (replicate 448 170)) (0 ∷ 0 ∷ 0 ∷ []) [] (replicate 448 170) ∷
     expect sizing (0 ∷ 32 ∷ []) [] [] ∷
-    expect (reading []) (0 ∷ []) [] [] ∷
-    expect (reading (replicate 31 170)) (0 ∷ []) [] (replicate 31 170) ∷
-    expect (reading (replicate 32 170)) (32 ∷ []) [] (tagged 1 16 ++ (tagged 2 16)) ∷
-    expect (reading (replicate 40 170)) (32 ∷ []) [] (tagged 1 16 ++ (tagged 2 16 ++ (replicate 8 170))) ∷
+    expect (reading []) [] [] [] ∷
+    expect (reading (replicate 31 170)) [] [] (replicate 31 170) ∷
+    expect (reading (replicate 32 170)) (tagged 1 16 ++ (tagged 2 16)) [] (tagged 1 16 ++ (tagged 2 16)) ∷
+    expect (reading (replicate 40 170)) (tagged 1 16 ++ (tagged 2 16)) [] (tagged 1 16 ++ (tagged 2 16 ++ (replicate 8 170))) ∷
     expect (submitting (tagged 1 16)) (13 ∷ []) [] [] ∷
     expect (submitting (tagged 3 16)) (0 ∷ []) ((6, 1 ∷ []) ∷ (64, tagged 3 16 ++ (zeros 16)) ∷ []) [] ∷
     expect (fetching 5 1 (replicate 224 170)) (0 ∷ []) [] (5 ∷ 0 ∷ 1 ∷ 0 ∷ 1 ∷ (zeros 43 ++ (1 ∷ 0 ∷ 0 ∷ 0 ∷ 2 ∷ (zeros 43 ++ (tagged 1 16 ++ (tagged 2 16 ++ (zeros 96))))))) ∷
@@ -43,36 +43,7 @@ alone : disagreement 1 (replicate 1456 90)
 unfolding tools tagged
 alone = refl
 
--- four replicas and two heights: the timer, dummy votes, a proposal on no block, a dummy certificate
-timer : disagreement 1 (replicate 2336 90)
-    (expect (opening 4 3 2 (0 ∷ 3 ∷ [])) (0 ∷ []) ((0, 4 ∷ 3 ∷ 2 ∷ 0 ∷ 1 ∷ 0 ∷ 0 ∷ 1 ∷ (zeros 584 ++ (3 ∷ zeros 1743))) ∷ []) [] ∷
-    expect (moving (replicate 448 170)) (0 ∷ 0 ∷ 0 ∷ []) [] (replicate 448 170) ∷
-    expect (signalling 1) (0 ∷ []) ((3, 1 ∷ []) ∷ []) [] ∷
-    expect (signalling 1) (14 ∷ []) [] [] ∷
-    expect (moving (replicate 448 170)) (0 ∷ 1 ∷ 1 ∷ []) ((3, 3 ∷ []) ∷ []) (3 ∷ 3 ∷ 1 ∷ (zeros 221 ++ (replicate 224 170))) ∷
-    expect (moving (replicate 448 170)) (0 ∷ 0 ∷ 0 ∷ []) [] (replicate 448 170) ∷
-    expect (delivery (3 ∷ 0 ∷ 1 ∷ zeros 221)) (0 ∷ 1 ∷ []) ((580, 1 ∷ []) ∷ []) [] ∷
-    expect (delivery (3 ∷ 1 ∷ 1 ∷ zeros 221)) (0 ∷ 1 ∷ []) ((580, 3 ∷ []) ∷ []) [] ∷
-    expect (delivery (3 ∷ 2 ∷ 1 ∷ zeros 221)) (0 ∷ 1 ∷ []) ((580, 7 ∷ []) ∷ []) [] ∷
-    expect (fetching 6 1 (replicate 224 170)) (0 ∷ []) [] (6 ∷ 0 ∷ 1 ∷ 0 ∷ 7 ∷ zeros 219) ∷
-    expect (moving (replicate 448 170)) (0 ∷ 3 ∷ 1 ∷ 6 ∷ 0 ∷ []) ((3, 0 ∷ 2 ∷ []) ∷ []) (6 ∷ 0 ∷ 1 ∷ 0 ∷ 7 ∷ zeros 443) ∷
-    expect (delivery (6 ∷ 0 ∷ 1 ∷ 0 ∷ 7 ∷ zeros 219)) (0 ∷ 0 ∷ []) [] [] ∷
-    expect (moving (replicate 448 170)) (0 ∷ 4 ∷ 2 ∷ []) ((3, 8 ∷ []) ∷ []) (1 ∷ 3 ∷ 2 ∷ (zeros 45 ++ (2 ∷ (zeros 175 ++ (replicate 224 170))))) ∷
-    expect (delivery (1 ∷ 3 ∷ 2 ∷ (zeros 45 ++ (2 ∷ zeros 175)))) (0 ∷ 1 ∷ []) ((593, 1 ∷ []) ∷ (1472, 2 ∷ []) ∷ []) [] ∷
-    expect (moving (replicate 448 170)) (0 ∷ 5 ∷ 2 ∷ []) ((3, 12 ∷ []) ∷ []) (2 ∷ 3 ∷ 2 ∷ (zeros 13 ++ (countUp 2 32 ++ (zeros 176 ++ (replicate 224 170))))) ∷
-    expect (delivery (2 ∷ 3 ∷ 2 ∷ (zeros 13 ++ (countUp 2 32 ++ (zeros 176))))) (0 ∷ 1 ∷ []) ((600, 8 ∷ []) ∷ (1920, countUp 2 32) ∷ []) [] ∷
-    expect (moving (replicate 448 170)) (0 ∷ 0 ∷ 0 ∷ []) [] (replicate 448 170) ∷
-    expect (delivery (6 ∷ 0 ∷ 2 ∷ 0 ∷ 11 ∷ zeros 219)) (0 ∷ 1 ∷ []) ((596, 11 ∷ []) ∷ []) [] ∷
-    expect (moving (replicate 500 170)) (0 ∷ 3 ∷ 2 ∷ 6 ∷ 4 ∷ []) ((3, 0 ∷ 3 ∷ []) ∷ []) (6 ∷ 0 ∷ 2 ∷ 0 ∷ 11 ∷ (zeros 219 ++ (4 ∷ 3 ∷ 2 ∷ (zeros 221 ++ (replicate 52 170))))) ∷
-    expect (moving (replicate 448 170)) (0 ∷ 0 ∷ 0 ∷ []) [] (replicate 448 170) ∷
-    expect (delivery (7 ∷ 0 ∷ 1 ∷ 0 ∷ 7 ∷ zeros 219)) (0 ∷ 1 ∷ []) ((582, 7 ∷ []) ∷ []) [] ∷
-    expect (moving (replicate 448 170)) (0 ∷ 0 ∷ 0 ∷ []) [] (replicate 448 170) ∷
-    expect (signalling 2) (14 ∷ []) [] [] ∷
-    expect (signalling 3) (6 ∷ []) [] [] ∷ []) ≡ 0
-unfolding tools tagged
-timer = refl
-
--- four replicas and two heights: votes before the proposal, clashes, a block whose parent is another, a log of three entries
+-- four replicas and two heights: votes before the proposal, clashes, a block on a parent that was not notarized, a log of one entry
 votes : disagreement 1 (replicate 2336 90)
     (expect (opening 4 2 2 (0 ∷ 1 ∷ [])) (0 ∷ []) ((0, 4 ∷ 2 ∷ 2 ∷ 0 ∷ 1 ∷ 0 ∷ 0 ∷ 1 ∷ (zeros 584 ++ (1 ∷ zeros 1743))) ∷ []) [] ∷
     expect (delivery (2 ∷ 3 ∷ 1 ∷ (zeros 13 ++ (countUp 123 32 ++ (zeros 176))))) (0 ∷ 1 ∷ []) ((584, 8 ∷ []) ∷ (1056, countUp 123 32) ∷ []) [] ∷
@@ -99,6 +70,6 @@ votes : disagreement 1 (replicate 2336 90)
     expect (delivery (7 ∷ 0 ∷ 1 ∷ 0 ∷ 13 ∷ zeros 219)) (0 ∷ 1 ∷ []) ((582, 13 ∷ []) ∷ []) [] ∷
     expect (moving (replicate 448 170)) (0 ∷ 2 ∷ 1 ∷ []) ((5, 1 ∷ []) ∷ []) (replicate 448 170) ∷
     expect (moving (replicate 448 170)) (0 ∷ 0 ∷ 0 ∷ []) [] (replicate 448 170) ∷
-    expect (reading (replicate 64 170)) (16 ∷ []) [] (tagged 1 16 ++ (replicate 48 170)) ∷ []) ≡ 0
+    expect (reading (replicate 64 170)) (tagged 1 16) [] (tagged 1 16 ++ (replicate 48 170)) ∷ []) ≡ 0
 unfolding tools tagged
 votes = refl

@@ -1,17 +1,16 @@
--- The definitions on whole runs: document 01's rehearsal, a height finalized by votes and one by certificates.
+-- The definitions on whole runs: document 01's rehearsal, a height finalized by votes and one by certificates, and its list of errors.
 use Prim.Native.Nat.{ℕ, zero, suc}
 use mathlib.Core.Path.{_≡_, refl}
 use mathlib.Core.Bool.{cond}
 use mathlib.Core.List.{List, [], _∷_, _++_}
 use lib.ListN.{replicate}
 use lib.Dec.{eqb}
-use Rattle.protocol.specs.Bytes.{Bytes, zeros, join}
+use Rattle.protocol.specs.Bytes.{Bytes, zeros}
 use Rattle.protocol.specs.Block.{newBlock}
 use Rattle.protocol.specs.Frame.{kind, signer, frameHeight, proposal, blockVote, dummyVote, finalize, blockCertificate, dummyCertificate, finalizeCertificate}
 use Rattle.protocol.specs.Answer.{Answer, refused, accepted, Delivery, known, fresh, Move, idle, voteDummy, output, pass, propose, voteBlock, Outcome, certificateKind, finalizeKind, moveNumber}
 use Rattle.protocol.specs.Deliver.{deliverCall}
 use Rattle.protocol.specs.Move.{MoveOutcome, moveCall}
-use Rattle.protocol.specs.Read.{readPart}
 use Rattle.protocol.specs.CheckCalls.{standIn, Call, opening, delivery, moving, signalling, submitting, sizing, reading, after, answers, tools}
 
 -- ---- the rehearsal
@@ -102,9 +101,9 @@ first = newBlock 1 0 (zeros 32) (entry 1 ∷ [])
 second : Bytes
 second = newBlock 2 1 (standIn first) (entry 2 ∷ entry 3 ∷ [])
 
--- height 1 by single votes: the proposal, three block votes, three finalizes
-byVotes : List Call
-byVotes =
+-- height 1 by single votes (the proposal, three block votes, three finalizes), height 2 by certificates, the finalize one first
+twoHeights : List Call
+twoHeights =
     opening 4 0 2 (0 ∷ 1 ∷ []) ∷
     submitting (entry 1) ∷
     moving (zeros 448) ∷
@@ -119,31 +118,7 @@ byVotes =
     delivery (finalize 1 1) ∷
     delivery (finalize 2 1) ∷
     moving (zeros 448) ∷
-    sizing ∷ []
-
--- propose 1, vote 1, pass 1 on the block and finalize, output 1; the log has one entry
-by-votes : answers (zeros 2336) byVotes ≡
-    (0 ∷ []) ∷
-    (0 ∷ []) ∷
-    (0 ∷ 4 ∷ 1 ∷ []) ∷
-    (0 ∷ 1 ∷ []) ∷
-    (0 ∷ 5 ∷ 1 ∷ []) ∷
-    (0 ∷ 1 ∷ []) ∷
-    (0 ∷ 1 ∷ []) ∷
-    (0 ∷ 0 ∷ []) ∷
-    (0 ∷ 1 ∷ []) ∷
-    (0 ∷ 3 ∷ 1 ∷ 5 ∷ 4 ∷ []) ∷
-    (0 ∷ 1 ∷ []) ∷
-    (0 ∷ 1 ∷ []) ∷
-    (0 ∷ 1 ∷ []) ∷
-    (0 ∷ 2 ∷ 1 ∷ []) ∷
-    (0 ∷ 16 ∷ []) ∷ []
-unfolding tools entry first byVotes
-by-votes = refl
-
--- height 2 by certificates after it, the finalize certificate first
-byCertificates : List Call
-byCertificates =
+    sizing ∷
     delivery (finalizeCertificate 2 14) ∷
     moving (zeros 448) ∷
     delivery (blockCertificate 2 7 second) ∷
@@ -156,26 +131,41 @@ byCertificates =
     submitting (entry 3) ∷
     submitting (entry 4) ∷ []
 
--- idle while there is no block; then output 2, pass 2, idle after the last height; the log has 48 bytes
-by-certificates : answers (after (zeros 2336) byVotes) byCertificates ≡
+two-heights : answers (zeros 2336) twoHeights ≡
+    (0 ∷ []) ∷
+    (0 ∷ []) ∷
+    -- propose 1; the proposal is fresh; vote 1; the second vote of one signer is known
+    (0 ∷ 4 ∷ 1 ∷ []) ∷
+    (0 ∷ 1 ∷ []) ∷
+    (0 ∷ 5 ∷ 1 ∷ []) ∷
+    (0 ∷ 1 ∷ []) ∷
+    (0 ∷ 1 ∷ []) ∷
+    (0 ∷ 0 ∷ []) ∷
+    (0 ∷ 1 ∷ []) ∷
+    -- pass 1 on the block, with a finalize
+    (0 ∷ 3 ∷ 1 ∷ 5 ∷ 4 ∷ []) ∷
+    (0 ∷ 1 ∷ []) ∷
+    (0 ∷ 1 ∷ []) ∷
+    (0 ∷ 1 ∷ []) ∷
+    -- output 1; the log has one entry
+    (0 ∷ 2 ∷ 1 ∷ []) ∷
+    (0 ∷ 16 ∷ []) ∷
+    -- idle while height 2 has no block; the same block with another mask is known
     (0 ∷ 1 ∷ []) ∷
     (0 ∷ 0 ∷ 0 ∷ []) ∷
     (0 ∷ 1 ∷ []) ∷
     (0 ∷ 0 ∷ []) ∷
+    -- output 2, pass 2, idle after the last height
     (0 ∷ 2 ∷ 2 ∷ []) ∷
     (0 ∷ 3 ∷ 2 ∷ 5 ∷ 4 ∷ []) ∷
     (0 ∷ 0 ∷ 0 ∷ []) ∷
-    (0 ∷ []) ∷
-    (48 ∷ []) ∷
+    -- a buffer of 47 bytes is too short; the log, oldest block first; its entries are refused, others not
+    [] ∷
+    (entry 1 ++ (entry 2 ++ entry 3)) ∷
     (13 ∷ []) ∷
     (0 ∷ []) ∷ []
-unfolding tools entry first second byVotes byCertificates
-by-certificates = refl
-
--- the log, oldest block first
-log-back : readPart standIn (after (after (zeros 2336) byVotes) byCertificates) (zeros 50) ≡ join (entry 1 ∷ entry 2 ∷ entry 3 ∷ [])
-unfolding tools entry first second byVotes byCertificates
-log-back = refl
+unfolding tools entry first second twoHeights
+two-heights = refl
 
 -- ---- the order of the moves, and the errors that document 01 lists
 -- where the timer fired and height 1 is notarized and finalized: moves 1, 2 and 3, the last without a finalize
