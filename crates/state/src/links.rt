@@ -95,3 +95,59 @@ pub fn extends(book: &[u8], h: usize, block: &[u8], known: &mut [u8]) -> bool
     }
     false
 }
+
+// Whether height `h` is finalized (document 01: settled). The quorum is tested first, so that no walk is made in vain.
+pub fn is_finalized(book: &[u8], h: usize, known: &mut [u8]) -> bool
+    requires { ⌜ Readable (now book) ⌝ }
+    requires { ⌜ Memo (now book) (now known) ⌝ }
+    requires { ⌜ Within (now book) h ⌝ }
+    ensures answer { λ r. ⌜ r ≡ isFinalized sha (view (decode (now (book .entry)))) h ⌝ }
+    ensures memo { λ _. ⌜ Memo (now (book .entry)) (now (known .exit)) ⌝ }
+{
+    if fields::quorum::quorum(book, fields::height::finalize_mask(book, h)) {
+        linked(book, h, known)
+    } else {
+        false
+    }
+}
+
+// The largest finalized height up to `top`, and 0 where there is none: from the top down.
+pub fn largest_finalized(book: &[u8], top: usize, known: &mut [u8]) -> usize
+    requires { ⌜ Readable (now book) ⌝ }
+    requires { ⌜ Memo (now book) (now known) ⌝ }
+    requires { ⌜ top ≤ byteAt (now book) 2 ⌝ }
+    ensures answer { λ r. ⌜ r ≡ largestFinalized sha (view (decode (now (book .entry)))) top ⌝ }
+    ensures within { λ r. ⌜ r ≤ top ⌝ }
+    ensures memo { λ _. ⌜ Memo (now (book .entry)) (now (known .exit)) ⌝ }
+{
+    let mut h = top;
+    while 0 < h {
+        if is_finalized(book, h, known) {
+            return h;
+        }
+        h -= 1;
+    }
+    0
+}
+
+// The best chain of height `top`, by its last block's height: the largest linked height with dummies after it up to `top`.
+pub fn parent_of(book: &[u8], top: usize, known: &mut [u8]) -> Parent
+    requires { ⌜ Readable (now book) ⌝ }
+    requires { ⌜ Memo (now book) (now known) ⌝ }
+    requires { ⌜ top ≤ byteAt (now book) 2 ⌝ }
+    ensures answer { λ r. ⌜ parentOption r ≡ parentOf sha (view (decode (now (book .entry)))) top ⌝ }
+    ensures memo { λ _. ⌜ Memo (now (book .entry)) (now (known .exit)) ⌝ }
+{
+    let mut h = top;
+    while 0 < h {
+        if linked(book, h, known) {
+            return Parent::At(h);
+        }
+        if fields::quorum::is_dummy(book, h) {
+            h -= 1;
+        } else {
+            return Parent::Nothing;
+        }
+    }
+    Parent::At(0)
+}

@@ -1,4 +1,12 @@
 use borrow.Author.Needs.{needs}
+use native.Mathlib.Omega.{arith}
+use mathlib.Core.Path.{_∙_, sym, ap}
+use lib.ListN.{take, drop}
+use Rattle.protocol.specs.Bytes.{Bytes, same}
+use Rattle.protocol.specs.State.{decode}
+use Rattle.sha256.specs.Digest.{sha256}
+use Rattle.protocol.specs.Sound.{view}
+use Rattle.state.proofs.Walk.{names-start, names-block}
 use Rattle.state.proofs.links.names_parent.Statement.{statement}
 use Rattle.state.proofs.links.names_parent.Tie as tie
 use Rattle.state.proofs.links.names_parent.Reads as reads
@@ -54,11 +62,19 @@ same-bytes-requires c κs = search needs
 
 -- src/links.rt:23:1
 returns : tie.Need-returns
-returns c = ?
+returns c =
+    let z = c .before .before .before .before .before in
+    c .is-zero .ensures ∙ names-start (view (decode (z .args .book .now))) (z .args .block .now) (z .args .j) (z .pre .1 .0) (omega arith)
 
 -- src/links.rt:23:1
 returns-2 : tie.Need-returns-2
-returns-2 c = ?
+returns-2 c =
+    let z = c .before .before .before .before .before .before .before .before in
+    let book = z .args .book .now in
+    c .same-bytes .ensures
+    ∙ ap (λ (d : Bytes). same (take 32 (drop 16 (z .args .block .now))) d)
+    (c .before .before .before .sha256 .ensures ∙ ap sha256 (c .before .before .before .before .notarized .ensures))
+    ∙ names-block book (z .args .block .now) (z .args .j) (c .before .before .before .before .before .if1 .left)
 
 pub names-parent-spec : {M : Type 1} → statement M
 names-parent-spec =
