@@ -12,7 +12,7 @@
 
 bool sha256_into(const uint8_t *message, size_t size, uint8_t *out, size_t out_size);
 
-enum { ROUNDS = 101, DIGESTS = 4000 };
+enum { ROUNDS = 2001, DIGESTS = 200 };
 
 static uint8_t message[192], ours[32], theirs[32];
 
@@ -30,11 +30,12 @@ static void digest_theirs(size_t size) {
   SHA256_Final(theirs, &state);
 }
 
+// Processor time, so that other programs on the machine count for little.
 static double nanoseconds(void (*digest)(size_t), size_t size) {
   struct timespec start, end;
-  clock_gettime(CLOCK_MONOTONIC, &start);
+  clock_gettime(CLOCK_PROCESS_CPUTIME_ID, &start);
   for (int i = 0; i < DIGESTS; i++) digest(size);
-  clock_gettime(CLOCK_MONOTONIC, &end);
+  clock_gettime(CLOCK_PROCESS_CPUTIME_ID, &end);
   return ((end.tv_sec - start.tv_sec) * 1e9 + (end.tv_nsec - start.tv_nsec)) / DIGESTS;
 }
 
