@@ -1,12 +1,14 @@
 -- A round by the sums that the code forms, and rounds in groups. Assumes nothing.
-use mathlib.Core.Path.{_≡_, ap}
+use mathlib.Core.Path.{_≡_, refl, ap}
 use mathlib.Core.List.{List, [], _∷_}
 use Prim.Native.Nat.{ℕ, _+_, _%_, _^_}
 use native.Mathlib.Nat.{mod-add-mod}
 use native.Mathlib.Omega.{arith}
+use lib.ListN.{length}
+use Rattle.sha256.specs.Bytes.{Bytes}
 use Rattle.sha256.specs.Words.{add}
 use Rattle.sha256.specs.Functions.{Ch, Maj, Σ0, Σ1}
-use Rattle.sha256.specs.Compression.{variables}
+use Rattle.sha256.specs.Compression.{variables, addWords, compression}
 
 -- a sum of five words in another order
 reordered : (h a b c d : ℕ) → ((((h + a) % 2 ^ 32 + b) % 2 ^ 32 + c) % 2 ^ 32 + d) % 2 ^ 32 ≡ ((((h + d) % 2 ^ 32 + c) % 2 ^ 32 + a) % 2 ^ 32 + b) % 2 ^ 32
@@ -27,3 +29,8 @@ variables-by Kt Wt d h {e = e} {f = f} {g = g} p₁ p₂ p₃ p₄ p₅ p₆ p�
 pub eight-words : {a a′ b b′ c c′ d d′ e e′ f f′ g g′ h h′ : ℕ} → a ≡ a′ → b ≡ b′ → c ≡ c′ → d ≡ d′ → e ≡ e′ → f ≡ f′ → g ≡ g′ → h ≡ h′
     → _≡_ {A = List ℕ} (a ∷ b ∷ c ∷ d ∷ e ∷ f ∷ g ∷ h ∷ []) (a′ ∷ b′ ∷ c′ ∷ d′ ∷ e′ ∷ f′ ∷ g′ ∷ h′ ∷ [])
 eight-words p q r s t u v w = cc
+
+-- a hash value has eight words
+pub compression-length : (hash : List ℕ) (block : Bytes) → length (compression hash block) ≡ 8
+unfolding compression addWords
+compression-length hash block = refl

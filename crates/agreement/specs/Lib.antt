@@ -1,0 +1,16 @@
+pub mod Lists
+pub mod Grants
+pub mod Backing
+pub mod Fresh
+pub mod Keeping
+pub mod Statements
+pub mod Moving
+pub mod Run
+pub mod Opening
+pub mod Replica
+pub mod Chains
+pub mod Agreement
+pub mod ListTests
+pub mod ListTestsLaws
+pub mod Witness
+pub mod WitnessLaws

@@ -1,0 +1,108 @@
+-- The premises of demand 3 as tests, so that they compute on a closed list.
+use Prim.Native.Nat.{ℕ, zero, suc}
+use mathlib.Core.Bool.{Bool, true, false, _&&_, _||_, not}
+use mathlib.Core.List.{List, [], _∷_, _++_}
+use mathlib.Core.Option.{Option, some, none}
+use lib.Dec.{eqb, ltb}
+use Rattle.protocol.specs.Bytes.{Bytes, same, holds}
+use Rattle.protocol.specs.Tests.{implies}
+use Rattle.protocol.specs.Mask.{inMask}
+use Rattle.protocol.specs.Read.{readPart}
+use Rattle.agreement.specs.Lists.{Call, opening, delivery, moving, signalling, submitting, reading, Member, Statement, proposes, votesBlock, votesDummy, finalizes, statementOf, blockIn, opensBook, leftBy, orElse, delivers, writes}
+
+-- ---- over lists and replicas
+unfoldable pub everyIn : {A : Type 0} → (A → Bool) → List A → Bool
+everyIn test [] = true
+everyIn test (x ∷ xs) = test x && everyIn test xs
+
+unfoldable pub someIn : {A : Type 0} → (A → Bool) → List A → Bool
+someIn test [] = false
+someIn test (x ∷ xs) = test x || someIn test xs
+
+-- each replica below `n` that is not in the mask of the dishonest ones passes a test
+unfoldable pub everyHonest : ℕ → (ℕ → Bool) → ℕ → Bool
+everyHonest dishonest test zero = true
+everyHonest dishonest test (suc s) = everyHonest dishonest test s && implies (not (inMask dishonest s)) (test s)
+
+unfoldable pub isHonest : ℕ → ℕ → ℕ → Bool
+isHonest n dishonest s = ltb s n && not (inMask dishonest s)
+
+-- ---- a statement as bytes, and back
+unfoldable pub statementBytes : Statement → Bytes
+statementBytes (proposes h block) = 1 ∷ h ∷ block
+statementBytes (votesBlock h digest) = 2 ∷ h ∷ digest
+statementBytes (votesDummy h) = 3 ∷ h ∷ []
+statementBytes (finalizes h) = 4 ∷ h ∷ []
+
+-- ---- the book
+unfoldable pub opensFor : ℕ → ℕ → Call → Bool
+opensFor n s (opening n′ own heights leaders) = eqb n′ n && eqb own s
+opensFor n s (delivery frame) = false
+opensFor n s (moving reply) = false
+opensFor n s (signalling h) = false
+opensFor n s (submitting entry) = false
+opensFor n s (reading buffer) = false
+
+-- a block, if there is one, is among these
+unfoldable pub isAmong : List Bytes → Option Bytes → Bool
+isAmong blocks none = true
+isAmong blocks (some block) = holds block blocks
+
+module _ (digest : Bytes → Bytes) where
+  unfoldable pub follows : ℕ → ℕ → Member → Option Bytes → Bool
+  follows n s m none = opensFor n s (m .call) && opensBook digest (m .book) (m .call)
+  follows n s m (some book) = same (m .book) book && not (opensBook digest (m .book) (m .call))
+
+  -- the members of replica `s` keep one book, where `left` is what its last member before these left
+  unfoldable pub keepsOneBook : ℕ → ℕ → Option Bytes → List Member → Bool
+  keepsOneBook n s left [] = true
+  keepsOneBook n s left (m ∷ ms) =
+      implies (eqb (m .replica) s) (follows n s m left) && keepsOneBook n s (orElse (leftBy digest s m) left) ms
+
+  -- ---- statements
+  -- the statement that a frame makes in the name of `s`, with `s` in front, as bytes
+  unfoldable pub signed : ℕ → Option Statement → List Bytes
+  signed s none = []
+  signed s (some statement) = (s ∷ statementBytes statement) ∷ []
+
+  unfoldable pub signedIn : ℕ → List Bytes → List Bytes
+  signedIn s [] = []
+  signedIn s (frame ∷ frames) = signed s (statementOf digest frame s) ++ signedIn s frames
+
+  -- every statement that a frame makes in an honest name is among those written
+  unfoldable pub isBacked : ℕ → ℕ → List Bytes → Bytes → Bool
+  isBacked n dishonest log frame =
+      everyHonest dishonest (λ s. everyIn (λ statement. holds statement log) (signed s (statementOf digest frame s))) n
+
+  -- a member, if it is honest, delivers only frames that are backed
+  unfoldable pub deliversBacked : ℕ → ℕ → List Bytes → Member → Bool
+  deliversBacked n dishonest log m =
+      implies (isHonest n dishonest (m .replica)) (everyIn (isBacked n dishonest log) (delivers digest m))
+
+  -- nothing is forged, where `log` has the statements written before these members
+  unfoldable pub notForged : ℕ → ℕ → List Bytes → List Member → Bool
+  notForged n dishonest log [] = true
+  notForged n dishonest log (m ∷ ms) =
+      deliversBacked n dishonest log m && notForged n dishonest (signedIn (m .replica) (writes digest m) ++ log) ms
+
+  -- ---- blocks
+  -- a member shows these blocks and no others
+  unfoldable pub shows : List Bytes → Member → Bool
+  shows blocks m = everyIn (λ frame. isAmong blocks (blockIn frame)) (delivers digest m ++ writes digest m)
+
+  -- so does every honest member
+  unfoldable pub showsOnly : ℕ → ℕ → List Bytes → List Member → Bool
+  showsOnly n dishonest blocks ms = everyIn (λ m. implies (isHonest n dishonest (m .replica)) (shows blocks m)) ms
+
+  unfoldable pub noCollision : List Bytes → Bool
+  noCollision blocks =
+      everyIn (λ block. everyIn (λ other. implies (same (digest block) (digest other)) (same block other)) blocks) blocks
+
+  -- ---- readings
+  unfoldable pub readsPart : Bytes → Bytes → Call → Bool
+  readsPart part book (opening n own heights leaders) = false
+  readsPart part book (delivery frame) = false
+  readsPart part book (moving reply) = false
+  readsPart part book (signalling h) = false
+  readsPart part book (submitting entry) = false
+  readsPart part book (reading buffer) = same part (readPart digest book buffer)

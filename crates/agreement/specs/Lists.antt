@@ -1,0 +1,204 @@
+-- Lists of calls on the books of `n` replicas, and demand 3 as one claim about a whole list.
+use Prim.Native.Nat.{ℕ, _*_, _<_}
+use mathlib.Core.Path.{_≡_}
+use mathlib.Core.Logic.{_⊎_}
+use mathlib.Core.Bool.{Bool, true, false, cond}
+use mathlib.Core.List.{List, [], _∷_, _++_, List·Memᴰ}
+use mathlib.Core.Option.{Option, some, none}
+use lib.ListN.{length, take}
+use lib.Dec.{eqb}
+use Rattle.protocol.specs.Bytes.{Bytes}
+use Rattle.protocol.specs.Frame.{kind, signer, frameHeight, signerMask, frameDigest, frameBlock, carriesBlock}
+use Rattle.protocol.specs.Mask.{inMask, ones}
+use Rattle.protocol.specs.Answer.{Answer, refused, accepted}
+use Rattle.protocol.specs.Open.{openCall}
+use Rattle.protocol.specs.Deliver.{deliverCall}
+use Rattle.protocol.specs.Move.{moveCall}
+use Rattle.protocol.specs.Signal.{signalCall}
+use Rattle.protocol.specs.Submit.{submitCall}
+use Rattle.protocol.specs.Read.{readPart}
+
+-- ---- members of a list
+pub data Call : Type 0 where
+  -- n, the own number, H and the leaders
+  opening : ℕ → ℕ → ℕ → Bytes → Call
+  -- a frame
+  delivery : Bytes → Call
+  -- the lent reply
+  moving : Bytes → Call
+  -- a height
+  signalling : ℕ → Call
+  -- an entry
+  submitting : Bytes → Call
+  -- the lent buffer
+  reading : Bytes → Call
+
+-- whose call it is, the book that it gets, and the call with its arguments; a refused call is a member too
+pub record Member : Type 0 where
+  pub replica : ℕ
+  pub book : Bytes
+  pub call : Call
+
+-- ---- statements
+-- what one replica states: a kind and a height, with the block or the digest that the kind uses
+pub data Statement : Type 0 where
+  proposes : ℕ → Bytes → Statement
+  votesBlock : ℕ → Bytes → Statement
+  votesDummy : ℕ → Statement
+  finalizes : ℕ → Statement
+
+unfoldable pub when : {A : Type 0} → Bool → A → Option A
+when true a = some a
+when false a = none
+
+-- the block that a frame carries, if its kind carries one
+unfoldable pub blockIn : Bytes → Option Bytes
+blockIn frame = when (carriesBlock (kind frame)) (frameBlock frame)
+
+-- ---- beginnings, and who is honest
+-- the first bytes of `other`, as many as `part` has, are those of `part`
+unfoldable pub Begins : Bytes → Bytes → Type 0
+Begins part other = part ≡ take (length part) other
+
+-- of the replicas below `n` those are honest that the mask of the dishonest ones does not hold
+unfoldable pub HonestIn : ℕ → ℕ → ℕ → Type 0
+HonestIn n dishonest s = (s < n) × (inMask dishonest s ≡ false)
+
+unfoldable pub isAccepted : {A : Type 0} → Answer A → Bool
+isAccepted (refused number) = false
+isAccepted (accepted a) = true
+
+-- the first that there is
+unfoldable pub orElse : {A : Type 0} → Option A → Option A → Option A
+orElse (some a) other = some a
+orElse none other = other
+
+module _ (digest : Bytes → Bytes) where
+  -- the statement that a frame makes in the name of replica `s`, if it makes one; a certificate makes one for each signer
+  unfoldable pub statementOf : Bytes → ℕ → Option Statement
+  statementOf frame s =
+      let h : ℕ = frameHeight frame in
+      let k : ℕ = kind frame in
+      let signed : Bool = eqb (signer frame) s in
+      let certified : Bool = inMask (signerMask frame) s in
+      cond (eqb k 1) (when signed (proposes h (frameBlock frame)))
+      (cond (eqb k 2) (when signed (votesBlock h (frameDigest frame)))
+      (cond (eqb k 3) (when signed (votesDummy h))
+      (cond (eqb k 4) (when signed (finalizes h))
+      (cond (eqb k 5) (when certified (votesBlock h (digest (frameBlock frame))))
+      (cond (eqb k 6) (when certified (votesDummy h))
+      (cond (eqb k 7) (when certified (finalizes h)) none))))))
+
+  -- ---- what a call does to a book
+  -- the book that a call leaves
+  unfoldable pub bookAfter : Bytes → Call → Bytes
+  bookAfter book (opening n own heights leaders) = openCall book n own heights leaders .book
+  bookAfter book (delivery frame) = deliverCall digest book frame .book
+  bookAfter book (moving reply) = moveCall digest book reply .book
+  bookAfter book (signalling h) = signalCall digest book h .book
+  bookAfter book (submitting entry) = submitCall digest book entry .book
+  bookAfter book (reading buffer) = book
+
+  -- whether a call is an opening that is not refused
+  unfoldable pub opensBook : Bytes → Call → Bool
+  opensBook book (opening n own heights leaders) = isAccepted (openCall book n own heights leaders .answer)
+  opensBook book (delivery frame) = false
+  opensBook book (moving reply) = false
+  opensBook book (signalling h) = false
+  opensBook book (submitting entry) = false
+  opensBook book (reading buffer) = false
+
+  -- the frames that a call delivers: that of a delivery that is not refused
+  unfoldable pub deliveredBy : Bytes → Call → List Bytes
+  deliveredBy book (opening n own heights leaders) = []
+  deliveredBy book (delivery frame) = cond (isAccepted (deliverCall digest book frame .answer)) (frame ∷ []) []
+  deliveredBy book (moving reply) = []
+  deliveredBy book (signalling h) = []
+  deliveredBy book (submitting entry) = []
+  deliveredBy book (reading buffer) = []
+
+  -- the frames that a call writes, by its answer: what lay in the lent reply was not written
+  unfoldable pub writtenBy : Bytes → Call → List Bytes
+  writtenBy book (opening n own heights leaders) = []
+  writtenBy book (delivery frame) = []
+  writtenBy book (moving reply) = moveCall digest book reply .frames
+  writtenBy book (signalling h) = []
+  writtenBy book (submitting entry) = []
+  writtenBy book (reading buffer) = []
+
+  abbrev pub delivers : Member → List Bytes
+  delivers m = deliveredBy (m .book) (m .call)
+
+  abbrev pub writes : Member → List Bytes
+  writes m = writtenBy (m .book) (m .call)
+
+  -- ---- what is granted of an honest replica's book
+  -- the book that a member leaves, if it is a member of replica `s`
+  unfoldable pub leftBy : ℕ → Member → Option Bytes
+  leftBy s m = cond (eqb (m .replica) s) (some (bookAfter (m .book) (m .call))) none
+
+  -- the book as the last member of replica `s` left it, and none where `s` has no member yet
+  unfoldable pub lastLeft : ℕ → List Member → Option Bytes
+  lastLeft s [] = none
+  lastLeft s (m ∷ ms) = orElse (lastLeft s ms) (leftBy s m)
+
+  -- an opening for `n` replicas under the own number `s`, not refused; its book may hold any bytes
+  unfoldable pub Opens : ℕ → ℕ → Member → Type 0
+  Opens n s m = (heights : ℕ) × (leaders : Bytes) ×
+      (m .call ≡ opening n s heights leaders) × (opensBook (m .book) (m .call) ≡ true)
+
+  -- a call that gets this book, and is no opening or a refused one
+  unfoldable pub Continues : Bytes → Member → Type 0
+  Continues book m = (m .book ≡ book) × (opensBook (m .book) (m .call) ≡ false)
+
+  -- what a member of replica `s` must be, after a last one that left this book, or as the first one
+  unfoldable pub Follows : ℕ → ℕ → Member → Option Bytes → Type 0
+  Follows n s m none = Opens n s m
+  Follows n s m (some book) = Continues book m
+
+  -- replica `s` opens its book first and once, and only its own calls write to it
+  unfoldable pub KeepsOneBook : ℕ → List Member → ℕ → Type 0
+  KeepsOneBook n list s =
+      (before : List Member) (m : Member) (after : List Member) →
+      list ≡ before ++ (m ∷ after) → m .replica ≡ s → Follows n s m (lastLeft s before)
+
+  -- ---- what is granted of statements and digests
+  -- a member of replica `s` among these wrote a frame that makes this statement in its name
+  unfoldable pub Wrote : ℕ → Statement → List Member → Type 0
+  Wrote s statement before = (m : Member) × (frame : Bytes) ×
+      List·Memᴰ m before × (m .replica ≡ s) × List·Memᴰ frame (writes m) × (statementOf frame s ≡ some statement)
+
+  -- a statement in an honest name is delivered only after that replica wrote it; asked of deliveries to honest replicas alone
+  unfoldable pub NotForged : (ℕ → Type 0) → List Member → Type 0
+  NotForged honest list =
+      (before : List Member) (m : Member) (after : List Member) (frame : Bytes) (s : ℕ) (statement : Statement) →
+      list ≡ before ++ (m ∷ after) → honest (m .replica) → honest s →
+      List·Memᴰ frame (delivers m) → statementOf frame s ≡ some statement → Wrote s statement before
+
+  -- a member delivers or writes this block
+  unfoldable pub Shows : Member → Bytes → Type 0
+  Shows m block = (frame : Bytes) × List·Memᴰ frame (delivers m ++ writes m) × (blockIn frame ≡ some block)
+
+  -- no two different blocks delivered or written share a digest; asked of honest replicas' members alone
+  unfoldable pub NoCollision : (ℕ → Type 0) → List Member → Type 0
+  NoCollision honest list =
+      (m m′ : Member) (block block′ : Bytes) → List·Memᴰ m list → List·Memᴰ m′ list →
+      honest (m .replica) → honest (m′ .replica) →
+      Shows m block → Shows m′ block′ → digest block ≡ digest block′ → block ≡ block′
+
+  -- ---- the claim
+  -- a member is a reading that returns this part, an empty one too
+  unfoldable pub Reads : Member → Bytes → Type 0
+  Reads m part = (buffer : Bytes) × (m .call ≡ reading buffer) × (part ≡ readPart digest (m .book) buffer)
+
+  -- demand 3: of two logs read in the list from honest replicas, or twice from one, one is a beginning of the other
+  unfoldable pub Agreement : Type 0
+  Agreement =
+      (n dishonest : ℕ) (list : List Member) →
+      3 * ones dishonest n < n →
+      ((s : ℕ) → HonestIn n dishonest s → KeepsOneBook n list s) →
+      NotForged (HonestIn n dishonest) list →
+      NoCollision (HonestIn n dishonest) list →
+      (m m′ : Member) (part part′ : Bytes) → List·Memᴰ m list → List·Memᴰ m′ list →
+      HonestIn n dishonest (m .replica) → HonestIn n dishonest (m′ .replica) →
+      Reads m part → Reads m′ part′ → Begins part part′ ⊎ Begins part′ part

@@ -1,0 +1,195 @@
+-- Byte strings in three parts, equal pieces joined, and lists whose numbers are all bytes.
+use Prim.Native.Nat.{ℕ, zero, suc, _+_, _*_, _/_, _%_, _≤_, _<_}
+use native.Mathlib.Omega.{arith}
+use native.Mathlib.Nat.{add-assoc, add-zero, zero-add, suc-add, mul-zero, le-of-suc-le-suc, not-suc-le-zero}
+use native.Mathlib.Numerals.{add-one}
+use mathlib.Core.Path.{_≡_, refl, sym, ap, _∙_}
+use mathlib.Core.Bool.{true, false}
+use mathlib.Core.List.{List, [], _∷_, _++_, map, append-assoc, append-nil}
+use lib.Dec.{lit<}
+use lib.ListN.{length, getD, take, drop, set, length-append, length-take, length-drop, drop-of-length-le, List·getD-append}
+use lib.Seq.{paste, take-length, take-take, take-append-le, take-append-add, drop-at, drop-cons, drop-drop, drop-append-add, drop-append-le, getD-drop, getD-take, getD-append-add, set-append-left, set-split, sets-eq, length-take-le, ext-getD}
+use Rattle.protocol.specs.Bytes.{Bytes, byteAt, word16, le16, part, zeros, isZero, join, pieces}
+use Rattle.protocol.specs.RowLaws.{is-zero-zeros, bytes-are-zero, not-zero}
+
+-- every number of the list is a byte, as in a byte slice
+abbrev pub AreBytes : Bytes → Type 0
+AreBytes bytes = (i : ℕ) → byteAt bytes i < 256
+
+pub are-bytes-take : (k : ℕ) (bytes : Bytes) → AreBytes bytes → AreBytes (take k bytes)
+are-bytes-take zero bytes small i = lit< tt
+are-bytes-take (suc k) [] small i = lit< tt
+are-bytes-take (suc k) (x ∷ xs) small zero = small zero
+are-bytes-take (suc k) (x ∷ xs) small (suc i) = are-bytes-take k xs (λ j. small (suc j)) i
+
+pub are-bytes-drop : (k : ℕ) (bytes : Bytes) → AreBytes bytes → AreBytes (drop k bytes)
+are-bytes-drop k bytes small i = rw getD-drop (small (k + i))
+
+pub are-bytes-part : (bytes : Bytes) (i k : ℕ) → AreBytes bytes → AreBytes (part bytes i k)
+unfolding part
+are-bytes-part bytes i k small = are-bytes-take k (drop i bytes) (are-bytes-drop i bytes small)
+
+-- ---- 16-bit numbers
+pub low-byte : (a b : ℕ) → a < 256 → (a + 256 * b) % 256 ≡ a
+low-byte a b h = omega arith
+
+pub high-byte : (a b : ℕ) → a < 256 → (a + 256 * b) / 256 ≡ b
+high-byte a b h = omega arith
+
+pub word-low : (bytes : Bytes) (i : ℕ) → AreBytes bytes → word16 bytes i % 256 ≡ byteAt bytes i
+unfolding word16
+word-low bytes i small = low-byte (byteAt bytes i) (byteAt bytes (i + 1)) (small i)
+
+pub word-high : (bytes : Bytes) (i : ℕ) → AreBytes bytes → word16 bytes i / 256 ≡ byteAt bytes (i + 1)
+unfolding word16
+word-high bytes i small = high-byte (byteAt bytes i) (byteAt bytes (i + 1)) (small i)
+
+-- ---- parts
+pub length-part : (bytes : Bytes) (i k : ℕ) → i + k ≤ length bytes → length (part bytes i k) ≡ k
+unfolding part
+length-part bytes i k h = length-take-le k (drop i bytes) (rw length-drop (omega arith))
+
+pub byte-part : (bytes : Bytes) (i k j : ℕ) → j < k → byteAt (part bytes i k) j ≡ byteAt bytes (i + j)
+unfolding part
+byte-part bytes i k j h = rw (getD-take k (drop i bytes) j 0 h, getD-drop)
+
+pub word-part : (bytes : Bytes) (i k j : ℕ) → j + 1 < k → word16 (part bytes i k) j ≡ word16 bytes (i + j)
+unfolding word16
+word-part bytes i k j h = rw (byte-part bytes i k j (omega arith), byte-part bytes i k (j + 1) h, ← add-assoc i j 1)
+
+take-drop : (m k i : ℕ) (bytes : Bytes) → m + i ≤ k → take m (drop i (take k bytes)) ≡ take m (drop i bytes)
+take-drop m k zero bytes h = take-take m k bytes (omega arith)
+take-drop m zero (suc i) bytes h = absurd (omega arith)
+take-drop m (suc k) (suc i) [] h = refl
+take-drop m (suc k) (suc i) (x ∷ xs) h = take-drop m k i xs (omega arith)
+
+-- a part of a part
+pub part-part : (bytes : Bytes) (i k j m : ℕ) → j + m ≤ k → part (part bytes i k) j m ≡ part bytes (i + j) m
+unfolding part
+part-part bytes i k j m h = take-drop m k j (drop i bytes) (omega arith) ∙ rw drop-drop
+
+pub zero-part : (bytes : Bytes) (i k : ℕ) → i + k ≤ length bytes → isZero (part bytes i k) ≡ true → part bytes i k ≡ zeros k
+zero-part bytes i k h e = is-zero-zeros (part bytes i k) e ∙ ap zeros (length-part bytes i k h)
+
+-- the bytes of a part are zero, or one is not
+pub part-is-zero : (bytes : Bytes) (i k : ℕ) → i + k ≤ length bytes → ((j : ℕ) → j < k → byteAt bytes (i + j) ≡ 0) → isZero (part bytes i k) ≡ true
+part-is-zero bytes i k h each =
+    bytes-are-zero (part bytes i k) (λ j l. let inside : j < k = rw (length-part bytes i k h) at l in byte-part bytes i k j inside ∙ each j inside)
+
+pub part-not-zero : (bytes : Bytes) (i k j : ℕ) → j < k → (byteAt bytes (i + j) ≡ 0 → ⊥) → isZero (part bytes i k) ≡ false
+part-not-zero bytes i k j h f = not-zero (part bytes i k) j (λ e. f (sym (byte-part bytes i k j h) ∙ e))
+
+-- two parts have the same bytes
+pub parts-same : (a b : Bytes) (i j k : ℕ) → i + k ≤ length a → j + k ≤ length b → ((m : ℕ) → m < k → byteAt a (i + m) ≡ byteAt b (j + m)) → part a i k ≡ part b j k
+parts-same a b i j k p q each =
+    ext-getD 0 (part a i k) (part b j k) (length-part a i k p ∙ sym (length-part b j k q))
+    (λ m l. let inside : m < k = rw (length-part a i k p) at l in byte-part a i k m inside ∙ each m inside ∙ sym (byte-part b j k m inside))
+
+-- ---- bytes spelled out
+abbrev pub firsts : ℕ → ℕ → Bytes → Bytes
+firsts zero i bytes = []
+firsts (suc k) i bytes = byteAt bytes i ∷ firsts k (suc i) bytes
+
+pub spell : (k i : ℕ) (bytes : Bytes) → i + k ≤ length bytes → drop i bytes ≡ firsts k i bytes ++ drop (i + k) bytes
+spell zero i bytes h = rw add-zero
+spell (suc k) i bytes h =
+    let e : i + suc k ≡ suc i + k = omega arith in
+    rw (drop-cons bytes i 0 (omega arith), e) (ap (λ (l : Bytes). byteAt bytes i ∷ l) (spell k (suc i) bytes (omega arith)))
+
+-- ---- `new` in the place of as many bytes from `i` on
+unfoldable pub put : Bytes → ℕ → Bytes → Bytes
+put bytes i new = take i bytes ++ (new ++ drop (i + length new) bytes)
+
+pub length-put : (bytes : Bytes) (i : ℕ) (new : Bytes) → i + length new ≤ length bytes → length (put bytes i new) ≡ length bytes
+unfolding put
+length-put bytes i new h = simp (length-append, length-take, length-drop) (omega arith)
+
+pub put-front : (old rest new : Bytes) → length old ≡ length new → put (old ++ rest) 0 new ≡ new ++ rest
+unfolding put
+put-front old rest new e = rw (zero-add, drop-at old rest (length new) e)
+
+pub put-paste : (bytes new : Bytes) (i : ℕ) → paste bytes i new (length new) ≡ put bytes i new
+unfolding put
+put-paste bytes new i = rw take-length (append-assoc (take i bytes) new (drop (i + length new) bytes))
+
+-- all the bytes
+pub put-all : (old new : Bytes) → length old ≡ length new → put old 0 new ≡ new
+unfolding put
+put-all old new e = rw (zero-add, drop-of-length-le old {i = length new} (omega arith)) (append-nil new)
+
+-- bytes past a front part
+pub put-after : (front rest : Bytes) (k : ℕ) → length front ≡ k → (j : ℕ) (new : Bytes) → put (front ++ rest) (k + j) new ≡ front ++ put rest j new
+unfolding put
+put-after front rest k size j new =
+    rw (← size, take-append-add, add-assoc (length front) j (length new), drop-append-add) (append-assoc front (take j rest) (new ++ drop (j + length new) rest))
+
+-- one byte, and the two bytes of a number
+pub put-byte : (bytes : Bytes) (i v : ℕ) → i < length bytes → put bytes i (v ∷ []) ≡ set bytes i v
+unfolding put
+put-byte bytes i v h = rw (add-one i) (sym (set-split bytes i v h))
+
+pub put-word : (bytes : Bytes) (i v : ℕ) → i + 1 < length bytes → put bytes i (le16 v) ≡ set (set bytes i (v % 256)) (i + 1) (v / 256)
+unfolding put le16
+put-word bytes i v h =
+    rw (add-one i) (sym (sets-eq (v % 256 ∷ v / 256 ∷ []) bytes i (omega arith) ∙ append-assoc (take i bytes) (v % 256 ∷ v / 256 ∷ []) (drop (i + 2) bytes)))
+
+set-append-add : (xs ys : Bytes) (i v : ℕ) → set (xs ++ ys) (length xs + i) v ≡ xs ++ set ys i v
+set-append-add [] ys i v = rw zero-add
+set-append-add (x ∷ xs) ys i v = rw suc-add (ap (λ (l : Bytes). x ∷ l) (set-append-add xs ys i v))
+
+-- ---- a middle part is read and written where it stands
+module _ (front middle back : Bytes) (k : ℕ) (size : length front ≡ k) where
+  pub middle-byte : (j : ℕ) → j < length middle → byteAt (front ++ (middle ++ back)) (k + j) ≡ byteAt middle j
+  middle-byte j h = rw (← size, getD-append-add, List·getD-append)
+
+  pub middle-part : (j m : ℕ) → j + m ≤ length middle → part (front ++ (middle ++ back)) (k + j) m ≡ part middle j m
+  unfolding part
+  middle-part j m h =
+      let h₁ : j ≤ length middle = omega arith in
+      let h₂ : m ≤ length (drop j middle) = rw length-drop (omega arith) in
+      rw (← size, drop-append-add, drop-append-le j middle back h₁, take-append-le m (drop j middle) back h₂)
+
+  pub middle-set : (j v : ℕ) → j < length middle → set (front ++ (middle ++ back)) (k + j) v ≡ front ++ (set middle j v ++ back)
+  middle-set j v h = rw (← size, set-append-add, set-append-left)
+
+  pub middle-put : (j : ℕ) (new : Bytes) → j + length new ≤ length middle → put (front ++ (middle ++ back)) (k + j) new ≡ front ++ (put middle j new ++ back)
+  unfolding put
+  middle-put j new h =
+      let h₁ : j ≤ length middle = omega arith in
+      rw (
+        ← size,
+        take-append-add,
+        add-assoc (length front) j (length new),
+        drop-append-add,
+        take-append-le j middle back h₁,
+        drop-append-le (j + length new) middle back h,
+      )
+      (simp append-assoc)
+
+-- ---- pieces of one size, joined
+module _ {A : Type 0} (f : A → Bytes) (d : A) where
+  pub cut-join : (xs : List A) (i : ℕ) → i < length xs → join (map f xs) ≡ join (map f (take i xs)) ++ (f (getD xs i d) ++ join (map f (drop (suc i) xs)))
+  unfolding join
+  cut-join [] i h = absurd (not-suc-le-zero h)
+  cut-join (x ∷ xs) zero h = refl
+  cut-join (x ∷ xs) (suc i) h = rw append-assoc (ap (λ (l : Bytes). f x ++ l) (cut-join xs i (le-of-suc-le-suc h)))
+
+  pub cut-set : (xs : List A) (i : ℕ) (y : A) → i < length xs → join (map f (set xs i y)) ≡ join (map f (take i xs)) ++ (f y ++ join (map f (drop (suc i) xs)))
+  unfolding join
+  cut-set [] i y h = absurd (not-suc-le-zero h)
+  cut-set (x ∷ xs) zero y h = refl
+  cut-set (x ∷ xs) (suc i) y h = rw append-assoc (ap (λ (l : Bytes). f x ++ l) (cut-set xs i y (le-of-suc-le-suc h)))
+
+-- ---- pieces of a byte string, by their place
+pub length-pieces : (size count : ℕ) (bytes : Bytes) → length (pieces size count bytes) ≡ count
+unfolding pieces
+length-pieces size zero bytes = refl
+length-pieces size (suc count) bytes = ap suc (length-pieces size count (drop size bytes))
+
+pub get-pieces : (size count : ℕ) (bytes : Bytes) (i : ℕ) → i < count → getD (pieces size count bytes) i [] ≡ part bytes (size * i) size
+unfolding pieces part
+get-pieces size zero bytes i h = absurd (not-suc-le-zero h)
+get-pieces size (suc count) bytes zero h = rw mul-zero
+get-pieces size (suc count) bytes (suc i) h =
+    let e : size + size * i ≡ size * suc i = omega arith in
+    get-pieces size count (drop size bytes) i (le-of-suc-le-suc h) ∙ rw (drop-drop, e)

@@ -1,0 +1,26 @@
+-- Masks: sets of replicas as the bits of a number, and how many are in one.
+use Prim.Native.Nat.{ℕ, zero, suc, _+_, _/_, _%_, _^_}
+use mathlib.Core.Bool.{Bool, _||_, cond}
+use lib.Dec.{eqb, ltb}
+
+-- whether replica `s` is in a mask
+unfoldable pub inMask : ℕ → ℕ → Bool
+inMask mask s = eqb (mask / 2 ^ s % 2) 1
+
+-- the mask of the replicas below `n` that pass a test
+unfoldable pub maskOf : (ℕ → Bool) → ℕ → ℕ
+maskOf test zero = 0
+maskOf test (suc s) = maskOf test s + cond (test s) (2 ^ s) 0
+
+-- how many of the replicas below `n` are in a mask
+unfoldable pub ones : ℕ → ℕ → ℕ
+ones mask zero = 0
+ones mask (suc s) = ones mask s + mask / 2 ^ s % 2
+
+-- the replicas below `n` that are in either mask
+unfoldable pub union : ℕ → ℕ → ℕ → ℕ
+union n mask other = maskOf (λ s. inMask mask s || inMask other s) n
+
+-- no bit from `n` up
+unfoldable pub belowBit : ℕ → ℕ → Bool
+belowBit n mask = ltb mask (2 ^ n)

@@ -1,0 +1,174 @@
+-- The state of a replica (document 01: the book), as a record and as bytes.
+use Prim.Native.Nat.{ℕ, _+_, _-_, _*_, _/_, _%_}
+use mathlib.Core.Bool.{Bool}
+use mathlib.Core.List.{List, [], _∷_, _++_, map}
+use lib.ListN.{length, getD, set, drop}
+use lib.Dec.{eqb, leb}
+use Rattle.protocol.specs.Bytes.{Bytes, byteAt, word16, le16, part, zeros, join, pieces}
+use Rattle.protocol.specs.Block.{entrySize}
+
+-- what is kept of one height
+pub record Height : Type 0 where
+  pub leader : ℕ
+  -- 1: a proposal is held, 2: a block is notarized, 3: both
+  pub status : ℕ
+  pub certificateMask : ℕ
+  pub dummyMask : ℕ
+  pub finalizeMask : ℕ
+  pub voterMask : ℕ
+  pub proposal : Bytes
+  pub notarized : Bytes
+  pub voteDigests : Bytes
+
+pub record State : Type 0 where
+  pub n : ℕ
+  pub own : ℕ
+  -- of the current height: 1 timer fired, 2 dummy vote cast, 4 block vote cast, 8 proposed
+  pub flags : ℕ
+  -- the height that the replica is at (document 01: c)
+  pub current : ℕ
+  -- the height that its log ends at (document 01: settled height, g)
+  pub finalized : ℕ
+  pub pendingCount : ℕ
+  pub pool : Bytes
+  pub heights : List Height
+
+-- ---- sizes
+abbrev pub headSize : ℕ
+headSize = 64
+
+abbrev pub poolSize : ℕ
+poolSize = 512
+
+abbrev pub contentSize : ℕ
+contentSize = 16
+
+abbrev pub bodySize : ℕ
+bodySize = 864
+
+-- the edition of a book's layout
+abbrev pub edition : ℕ
+edition = 1
+
+-- the length of the book of `H` heights
+unfoldable pub bookSize : ℕ → ℕ
+bookSize heights = 576 + 880 * heights
+
+-- ---- a state's bytes
+unfoldable pub headBytes : State → Bytes
+headBytes s =
+    s .n ∷ s .own ∷ length (s .heights) ∷ s .flags ∷ s .current ∷ s .finalized ∷ s .pendingCount ∷ edition ∷ zeros 56
+
+unfoldable pub contentBytes : Height → Bytes
+contentBytes x =
+    (x .leader ∷ x .status ∷ []) ++
+    (le16 (x .certificateMask) ++ (le16 (x .dummyMask) ++ (le16 (x .finalizeMask) ++ (le16 (x .voterMask) ++ zeros 6))))
+
+unfoldable pub bodyBytes : Height → Bytes
+bodyBytes x = x .proposal ++ (x .notarized ++ x .voteDigests)
+
+unfoldable pub encode : State → Bytes
+encode s =
+    headBytes s ++ (s .pool ++ (join (map contentBytes (s .heights)) ++ join (map bodyBytes (s .heights))))
+
+-- ---- and back
+unfoldable pub decodeHeight : Bytes → Bytes → Height
+decodeHeight content body = record {
+  leader = byteAt content 0;
+  status = byteAt content 1;
+  certificateMask = word16 content 2;
+  dummyMask = word16 content 4;
+  finalizeMask = word16 content 6;
+  voterMask = word16 content 8;
+  proposal = part body 0 176;
+  notarized = part body 176 176;
+  voteDigests = part body 352 512;
+}
+
+unfoldable pub decodeHeights : List Bytes → List Bytes → List Height
+decodeHeights [] [] = []
+decodeHeights [] (body ∷ bodies) = []
+decodeHeights (content ∷ contents) [] = []
+decodeHeights (content ∷ contents) (body ∷ bodies) = decodeHeight content body ∷ decodeHeights contents bodies
+
+unfoldable pub decode : Bytes → State
+decode book =
+    let heights : ℕ = byteAt book 2 in
+    record {
+      n = byteAt book 0;
+      own = byteAt book 1;
+      flags = byteAt book 3;
+      current = byteAt book 4;
+      finalized = byteAt book 5;
+      pendingCount = byteAt book 6;
+      pool = part book 64 poolSize;
+      heights = decodeHeights
+          (pieces contentSize heights (drop 576 book))
+          (pieces bodySize heights (drop (576 + contentSize * heights) book));
+    }
+
+-- ---- one height
+-- H, the number of heights
+unfoldable pub last : State → ℕ
+last s = length (s .heights)
+
+-- what stands at a height that a state does not have
+unfoldable pub noHeight : Height
+noHeight = record {
+  leader = 0;
+  status = 0;
+  certificateMask = 0;
+  dummyMask = 0;
+  finalizeMask = 0;
+  voterMask = 0;
+  proposal = [];
+  notarized = [];
+  voteDigests = [];
+}
+
+-- height `h`, counted from 1
+unfoldable pub at : State → ℕ → Height
+at s h = getD (s .heights) (h - 1) noHeight
+
+unfoldable pub holdsProposal : Height → Bool
+holdsProposal x = eqb (x .status % 2) 1
+
+unfoldable pub isNotarized : Height → Bool
+isNotarized x = leb 2 (x .status)
+
+-- the digest that replica `s` voted for
+unfoldable pub voteOf : Height → ℕ → Bytes
+voteOf x s = part (x .voteDigests) (32 * s) 32
+
+-- ---- changes
+unfoldable pub withHeight : State → ℕ → Height → State
+withHeight s h x = record {
+  n = s .n;
+  own = s .own;
+  flags = s .flags;
+  current = s .current;
+  finalized = s .finalized;
+  pendingCount = s .pendingCount;
+  pool = s .pool;
+  heights = set (s .heights) (h - 1) x;
+}
+
+unfoldable pub withHead : State → ℕ → ℕ → ℕ → State
+withHead s flags current finalized = record {
+  n = s .n;
+  own = s .own;
+  flags = flags;
+  current = current;
+  finalized = finalized;
+  pendingCount = s .pendingCount;
+  pool = s .pool;
+  heights = s .heights;
+}
+
+-- whether flag `k` (1, 2, 4 or 8) is set
+unfoldable pub flag : ℕ → State → Bool
+flag k s = eqb (s .flags / k % 2) 1
+
+-- the pending entries, oldest first
+unfoldable pub pending : State → List Bytes
+pending s = pieces entrySize (s .pendingCount) (s .pool)

@@ -1,0 +1,468 @@
+-- Proofs of `Steps`: each move is taken just where its test passes and no earlier one does, and its test is the paper's condition.
+use Prim.Native.Nat.{ℕ, zero, suc, _+_, _-_, _≤_, _<_}
+use native.Mathlib.Omega.{arith}
+use mathlib.Core.Path.{_≡_, refl, sym, ap, subst, _∙_}
+use mathlib.Core.Logic.{_⊎_, inl, inr, _↔_}
+use mathlib.Core.Bool.{Bool, true, false, _&&_, _||_, not, cond, true≢false, false≢true}
+use mathlib.Core.List.{List, [], _∷_}
+use mathlib.Core.Option.{Option, some, none}
+use lib.ListN.{length, take}
+use lib.Dec.{eqb, leb, ltb}
+use borrow.Author.Tests.{eqb-true, eq-eqb, leb-true, le-leb, ltb-true, lt-ltb, not-true, not-false}
+use Rattle.protocol.specs.Bytes.{Bytes, isZero}
+use Rattle.protocol.specs.Block.{blockHeight, parentHeight, newBlock, blockWellFormed}
+use Rattle.protocol.specs.Frame.{finalize}
+use Rattle.protocol.specs.TestsLaws.{and-true, or-true}
+use Rattle.protocol.specs.RowLaws.{row, all-of, true-and, zeros-is-zero}
+use Rattle.protocol.specs.StateLaws.{Sized}
+use Rattle.protocol.specs.BlockLaws.{zeros-size, digest-back, entries-back, new-block-good}
+use Rattle.protocol.specs.PendingLaws.{offered-sized, offered-few}
+use Rattle.protocol.specs.EveryLaws.{Every}
+use Rattle.protocol.specs.State.{State, at, last, flag, withHead, holdsProposal, pending}
+use Rattle.protocol.specs.View.{quorum, logAt, digestAt, linked, isDummy, extends, isFinalized, largestFinalized, parentOf}
+use Rattle.protocol.specs.Linked.{Finalized, Largest}
+use Rattle.protocol.specs.LinkedLaws.{finalized-sound, finalized-complete}
+use Rattle.protocol.specs.ParentLaws.{parent-some, largestFinalized-is}
+use Rattle.protocol.specs.Sound.{view}
+use Rattle.protocol.specs.SoundLaws.{SoundState}
+use Rattle.protocol.specs.Answer.{Move, idle, voteDummy, output, pass, propose, voteBlock, Certificate, onBlock, onDummy}
+use Rattle.protocol.specs.Move.{Step, step, firstStep, without, offered, proposedBlock, someOr, isRunning, isSome, idleStep, dummyVoteApplies, dummyVoteStep, outputApplies, outputStep, passApplies, passStep, proposeApplies, proposeStep, blockVoteApplies, blockVoteStep, newFinalized, parentBelow, passCertificate}
+use Rattle.simplex.specs.Paper.{lastBlock, linearize, Sequence, genesis, addDummy, addBlock, height, NotarizedBlockchain, SeenOfHeight, SeenWithBlock, Finalization}
+use Rattle.simplex.specs.Blockchains.{ChainEndingAt, ParentOf, InThePapersTerms, LinkedIsSeen, ParentIsSeen, ParentIsLargest, FinalizedIsSeen, ExtendsIsFollowing}
+use Rattle.simplex.specs.BlockchainsLaws.{in-the-papers-terms}
+use Rattle.simplex.specs.Steps.{FiveSteps, Running, Makes, Offers, LeaderProposal, DummyBlocks, Sent, NextIteration, NotarizingProposals, FinalizedOutputs}
+
+module _ (digest : Bytes → Bytes) (s : State) where
+  -- which row was taken
+  data Taken : Type 0 where
+    by-dummy-vote : dummyVoteApplies s ≡ true → step digest s ≡ dummyVoteStep s → Taken
+    by-output : dummyVoteApplies s ≡ false → outputApplies digest s ≡ true → step digest s ≡ outputStep digest s → Taken
+    by-pass : dummyVoteApplies s ≡ false → outputApplies digest s ≡ false → passApplies digest s ≡ true → step digest s ≡ passStep digest s → Taken
+    by-proposal : dummyVoteApplies s ≡ false → outputApplies digest s ≡ false → passApplies digest s ≡ false → proposeApplies digest s ≡ true → step digest s ≡ proposeStep digest s → Taken
+    by-block-vote : dummyVoteApplies s ≡ false → outputApplies digest s ≡ false → passApplies digest s ≡ false → proposeApplies digest s ≡ false → blockVoteApplies digest s ≡ true →
+        step digest s ≡ blockVoteStep digest s → Taken
+    by-none : step digest s ≡ idleStep s → Taken
+
+  taken : Taken
+  unfolding step firstStep
+  taken = go (dummyVoteApplies s) refl (outputApplies digest s) refl (passApplies digest s) refl (proposeApplies digest s) refl (blockVoteApplies digest s) refl
+    where
+      go : (a : Bool) → dummyVoteApplies s ≡ a → (b : Bool) → outputApplies digest s ≡ b → (c : Bool) → passApplies digest s ≡ c →
+          (d : Bool) → proposeApplies digest s ≡ d → (e : Bool) → blockVoteApplies digest s ≡ e → Taken
+      go true ea b eb c ec d ed e ee = by-dummy-vote ea (rw ea)
+      go false ea true eb c ec d ed e ee = by-output ea eb (rw (ea, eb))
+      go false ea false eb true ec d ed e ee = by-pass ea eb ec (rw (ea, eb, ec))
+      go false ea false eb false ec true ed e ee = by-proposal ea eb ec ed (rw (ea, eb, ec, ed))
+      go false ea false eb false ec false ed true ee = by-block-vote ea eb ec ed ee (rw (ea, eb, ec, ed, ee))
+      go false ea false eb false ec false ed false ee = by-none (rw (ea, eb, ec, ed, ee))
+
+  -- the answer that each row gives
+  dummy-move : step digest s ≡ dummyVoteStep s → step digest s .move ≡ voteDummy (s .current)
+  unfolding dummyVoteStep
+  dummy-move e = ap (λ (st : Step). st .move) e
+
+  output-move : step digest s ≡ outputStep digest s → step digest s .move ≡ output (newFinalized digest s)
+  unfolding outputStep
+  output-move e = ap (λ (st : Step). st .move) e
+
+  pass-move : step digest s ≡ passStep digest s → step digest s .move ≡ pass (s .current) (cond (linked digest (view s) (s .current)) onBlock onDummy) (not (flag 1 s))
+  unfolding passStep
+  pass-move e = ap (λ (st : Step). st .move) e
+
+  propose-move : step digest s ≡ proposeStep digest s → step digest s .move ≡ propose (s .current)
+  unfolding proposeStep
+  propose-move e = ap (λ (st : Step). st .move) e
+
+  block-move : step digest s ≡ blockVoteStep digest s → step digest s .move ≡ voteBlock (s .current)
+  unfolding blockVoteStep
+  block-move e = ap (λ (st : Step). st .move) e
+
+  idle-move : step digest s ≡ idleStep s → step digest s .move ≡ idle
+  unfolding idleStep
+  idle-move e = ap (λ (st : Step). st .move) e
+
+  clash : {a b : Move} {A : Type 0} → (a ≡ b → _≡_ {A = ℕ} 0 1) → step digest s .move ≡ a → step digest s .move ≡ b → A
+  clash differ e e′ = let z = differ (sym e ∙ e′) in absurd (omega arith)
+
+  running : isRunning s ≡ true → Running digest s
+  unfolding isRunning
+  running e = leb-true (s .current) (last s) e
+
+  is-running : Running digest s → isRunning s ≡ true
+  unfolding isRunning
+  is-running e = le-leb (s .current) (last s) e
+
+  -- ---- step 2
+  dummy-applies : (Running digest s × (flag 1 s ≡ true) × (flag 2 s ≡ false)) → dummyVoteApplies s ≡ true
+  unfolding dummyVoteApplies
+  dummy-applies (r, f, g) = all-of (Every.one (is-running r) (Every.one f (Every.one (rw g) Every.none)))
+
+  dummy-when : dummyVoteApplies s ≡ true → Running digest s × (flag 1 s ≡ true) × (flag 2 s ≡ false)
+  unfolding dummyVoteApplies
+  dummy-when e = (running (row _ 0 e), row _ 1 e, not-true (flag 2 s) (row _ 2 e))
+
+  step-dummy : dummyVoteApplies s ≡ true → step digest s ≡ dummyVoteStep s
+  unfolding step firstStep
+  step-dummy e = rw e
+
+  took-dummy : step digest s .move ≡ voteDummy (s .current) → dummyVoteApplies s ≡ true
+  took-dummy e = go taken
+    where
+      go : Taken → dummyVoteApplies s ≡ true
+      go (by-dummy-vote a q) = a
+      go (by-output a b q) = clash (λ z. cc) (output-move q) e
+      go (by-pass a b c q) = clash (λ z. cc) (pass-move q) e
+      go (by-proposal a b c d q) = clash (λ z. cc) (propose-move q) e
+      go (by-block-vote a b c d f q) = clash (λ z. cc) (block-move q) e
+      go (by-none q) = clash (λ z. cc) (idle-move q) e
+
+  pub dummy-blocks : DummyBlocks digest s
+  unfolding DummyBlocks dummyVoteStep
+  dummy-blocks = (
+    ((λ e. dummy-when (took-dummy e)), λ q. dummy-move (step-dummy (dummy-applies q))),
+    λ e. let q = step-dummy (took-dummy e) in record { answers = e; writes = ap (λ (st : Step). st .frames) q; leaves = ap (λ (st : Step). st .after) q },
+  )
+
+  -- a blockchain that ends in a block is one
+  with-block : {h : ℕ} → SeenWithBlock digest (view s) h → SeenOfHeight digest (view s) h
+  unfolding height
+  with-block q = record { sequence = addBlock (q .parent) (q .block); notarized = q .notarized; its-height = q .its-height }
+
+  -- one more dummy
+  with-dummy : (h : ℕ) → isDummy (view s) (suc h) ≡ true → SeenOfHeight digest (view s) h → SeenOfHeight digest (view s) (suc h)
+  unfolding height isDummy
+  with-dummy h e q = record {
+    sequence = addDummy (q .sequence);
+    notarized = NotarizedBlockchain.dummyNext (q .notarized) (subst (λ (k : ℕ). quorum (view s) (view s .dummyMask (suc k)) ≡ true) (sym (q .its-height)) e);
+    its-height = ap suc (q .its-height);
+  }
+
+  or-right : (a : Bool) {b : Bool} → b ≡ true → (a || b) ≡ true
+  or-right true e = refl
+  or-right false e = e
+
+  -- ---- every sound state
+  module _ (sound : SoundState digest s) (terms : InThePapersTerms digest s) where
+    -- the current height is not 0
+    before : suc (s .current - 1) ≡ s .current
+    before = let low = sound .current-low in omega arith
+
+    linked-seen : (h : ℕ) → 1 ≤ h → (linked digest (view s) h ≡ true) ↔ SeenWithBlock digest (view s) h
+    linked-seen h low = unfold LinkedIsSeen in terms .linked-is h low
+
+    parent-seen : (h : ℕ) → (isSome (parentOf digest (view s) h) ≡ true) ↔ SeenOfHeight digest (view s) h
+    parent-seen h = unfold ParentIsSeen in terms .parent-is h
+
+    finalized-seen : (h : ℕ) → 1 ≤ h → (isFinalized digest (view s) h ≡ true) ↔ (SeenWithBlock digest (view s) h × Finalization (view s) h)
+    finalized-seen h low = unfold FinalizedIsSeen in terms .finalized-is h low
+
+    -- ---- step 5
+    largest : Largest digest (view s) (last s) (newFinalized digest s)
+    unfolding newFinalized
+    largest = largestFinalized-is digest (view s) (last s)
+
+    output-seen : outputApplies digest s ≡ true → (s .finalized < newFinalized digest s) × SeenWithBlock digest (view s) (newFinalized digest s) × Finalization (view s) (newFinalized digest s)
+    unfolding outputApplies
+    output-seen e = go (largest .finalized)
+      where
+        above : s .finalized < newFinalized digest s
+        above = ltb-true _ _ e
+
+        go : (newFinalized digest s ≡ 0) ⊎ Finalized digest (view s) (newFinalized digest s) → (s .finalized < newFinalized digest s) × SeenWithBlock digest (view s) (newFinalized digest s) × Finalization (view s) (newFinalized digest s)
+        go (inl z) = absurd (let a = above in omega arith)
+        go (inr f) =
+            let q = finalized-seen (newFinalized digest s) (let a = above in omega arith) .0 (finalized-complete digest (view s) (newFinalized digest s) f) in
+            (above, q .0, q .1)
+
+    not-above : (h : ℕ) → 1 ≤ h → h ≤ last s → SeenWithBlock digest (view s) h → Finalization (view s) h → h ≤ newFinalized digest s
+    not-above h low high seen final =
+        largest .most h low high (finalized-sound digest (view s) h (finalized-seen h low .1 (seen, final)))
+
+    output-applies : (h : ℕ) × (s .finalized < h) × (h ≤ last s) × SeenWithBlock digest (view s) h × Finalization (view s) h → outputApplies digest s ≡ true
+    unfolding outputApplies
+    output-applies (h, above, high, seen, final) =
+        let q = not-above h (omega arith) high seen final in
+        lt-ltb (s .finalized) (newFinalized digest s) (omega arith)
+
+    took-output : (g : ℕ) → step digest s .move ≡ output g → (outputApplies digest s ≡ true) × (newFinalized digest s ≡ g) × (step digest s ≡ outputStep digest s)
+    took-output g e = go taken
+      where
+        go : Taken → (outputApplies digest s ≡ true) × (newFinalized digest s ≡ g) × (step digest s ≡ outputStep digest s)
+        go (by-dummy-vote a q) = clash (λ z. cc) (dummy-move q) e
+        go (by-output a b q) = let z : output (newFinalized digest s) ≡ output g = sym (output-move q) ∙ e in (b, cc, q)
+        go (by-pass a b c q) = clash (λ z. cc) (pass-move q) e
+        go (by-proposal a b c d q) = clash (λ z. cc) (propose-move q) e
+        go (by-block-vote a b c d f q) = clash (λ z. cc) (block-move q) e
+        go (by-none q) = clash (λ z. cc) (idle-move q) e
+
+    step-output : dummyVoteApplies s ≡ false → outputApplies digest s ≡ true → step digest s ≡ outputStep digest s
+    unfolding step firstStep
+    step-output e e′ = rw (e, e′)
+
+    pub finalized-outputs : FinalizedOutputs digest s
+    unfolding FinalizedOutputs outputStep
+    finalized-outputs no-vote = ((forth, λ q. (newFinalized digest s, output-move (step-output no-vote (output-applies q)))), kept)
+      where
+        forth : (g : ℕ) × (step digest s .move ≡ output g) → (h : ℕ) × (s .finalized < h) × (h ≤ last s) × SeenWithBlock digest (view s) h × Finalization (view s) h
+        forth (g, e) = let q = output-seen (took-output g e .0) in (newFinalized digest s, q .0, largest .within, q .1, q .2)
+
+        kept : (g : ℕ) → step digest s .move ≡ output g →
+            SeenWithBlock digest (view s) g × Finalization (view s) g ×
+            ((h : ℕ) → 1 ≤ h → h ≤ last s → SeenWithBlock digest (view s) h → Finalization (view s) h → h ≤ g) ×
+            Makes digest s (output g) [] (withHead s (s .flags) (s .current) g)
+        kept g e =
+            let t = took-output g e in
+            let q = output-seen (t .0) in
+            subst (λ (g : ℕ). SeenWithBlock digest (view s) g × Finalization (view s) g ×
+            ((h : ℕ) → 1 ≤ h → h ≤ last s → SeenWithBlock digest (view s) h → Finalization (view s) h → h ≤ g) ×
+            Makes digest s (output g) [] (withHead s (s .flags) (s .current) g)) (t .1) (
+              q .1,
+              q .2,
+              not-above,
+              record { answers = output-move (t .2); writes = ap (λ (st : Step). st .frames) (t .2); leaves = ap (λ (st : Step). st .after) (t .2) },
+            )
+
+    -- ---- step 4
+    pass-seen : passApplies digest s ≡ true → Running digest s × SeenOfHeight digest (view s) (s .current)
+    unfolding passApplies
+    pass-seen e =
+        let q = and-true (isRunning s) (linked digest (view s) (s .current) || isDummy (view s) (s .current) && isSome (parentBelow digest s)) e in
+        (running (q .0), go (or-true (linked digest (view s) (s .current)) (isDummy (view s) (s .current) && isSome (parentBelow digest s)) (q .1)))
+      where
+        go : (linked digest (view s) (s .current) ≡ true) ⊎ ((isDummy (view s) (s .current) && isSome (parentBelow digest s)) ≡ true) → SeenOfHeight digest (view s) (s .current)
+        go (inl l) = with-block (linked-seen (s .current) (sound .current-low) .0 l)
+        go (inr d) =
+            let both = and-true (isDummy (view s) (s .current)) (isSome (parentBelow digest s)) d in
+            let below = parent-seen (s .current - 1) .0 (unfold parentBelow in both .1) in
+            subst (λ (c : ℕ). SeenOfHeight digest (view s) c) before (with-dummy (s .current - 1) (subst (λ (c : ℕ). isDummy (view s) c ≡ true) (sym before) (both .0)) below)
+
+    pass-applies : Running digest s → SeenOfHeight digest (view s) (s .current) → passApplies digest s ≡ true
+    unfolding passApplies height isDummy
+    pass-applies r q = true-and _ _ (is-running r) (go (q .notarized) (q .its-height))
+      where
+        on-dummy : {c : Sequence} → NotarizedBlockchain digest (view s) c → isDummy (view s) (suc (height c)) ≡ true → suc (height c) ≡ s .current →
+            (linked digest (view s) (s .current) || isDummy (view s) (s .current) && isSome (parentBelow digest s)) ≡ true
+        on-dummy {c} n d e =
+            let some-below : isSome (parentBelow digest s) ≡ true = unfold parentBelow in
+            parent-seen (s .current - 1) .1 (record { sequence = c; notarized = n; its-height = omega arith }) in
+            or-right (linked digest (view s) (s .current)) (true-and _ _ (subst (λ (h : ℕ). isDummy (view s) h ≡ true) e d) some-below)
+
+        go : {c : Sequence} → NotarizedBlockchain digest (view s) c → height c ≡ s .current →
+            (linked digest (view s) (s .current) || isDummy (view s) (s .current) && isSome (parentBelow digest s)) ≡ true
+        go NotarizedBlockchain.start e = absurd (let low = sound .current-low in omega arith)
+        go (NotarizedBlockchain.dummyNext n d) e = on-dummy n d e
+        go (NotarizedBlockchain.blockNext {c = c} {b = b} n f k) e =
+            let l = linked-seen (s .current) (sound .current-low) .1 (record { parent = c; block = b; notarized = NotarizedBlockchain.blockNext n f k; its-height = e }) in
+            rw l
+
+    took-pass : (certificate : Certificate) (finalized : Bool) → step digest s .move ≡ pass (s .current) certificate finalized → passApplies digest s ≡ true
+    took-pass certificate finalized e = go taken
+      where
+        go : Taken → passApplies digest s ≡ true
+        go (by-dummy-vote a q) = clash (λ z. cc) (dummy-move q) e
+        go (by-output a b q) = clash (λ z. cc) (output-move q) e
+        go (by-pass a b c q) = c
+        go (by-proposal a b c d q) = clash (λ z. cc) (propose-move q) e
+        go (by-block-vote a b c d f q) = clash (λ z. cc) (block-move q) e
+        go (by-none q) = clash (λ z. cc) (idle-move q) e
+
+    step-pass : dummyVoteApplies s ≡ false → outputApplies digest s ≡ false → passApplies digest s ≡ true → step digest s ≡ passStep digest s
+    unfolding step firstStep
+    step-pass e e′ e″ = rw (e, e′, e″)
+
+    -- a pass, by whether the height is linked
+    pass-made : step digest s ≡ passStep digest s → (l : Bool) → linked digest (view s) (s .current) ≡ l → Makes digest s
+        (pass (s .current) (cond l onBlock onDummy) (not (flag 1 s)))
+        (Sent digest s (cond l onBlock onDummy) ∷ cond (not (flag 1 s)) (finalize (s .own) (s .current) ∷ []) [])
+        (withHead s 0 (s .current + 1) (s .finalized))
+    unfolding passStep passCertificate Sent
+    pass-made q true l = record {
+      answers = pass-move q ∙ rw l;
+      writes = ap (λ (st : Step). st .frames) q ∙ rw l;
+      leaves = ap (λ (st : Step). st .after) q;
+    }
+    pass-made q false l = record {
+      answers = pass-move q ∙ rw l;
+      writes = ap (λ (st : Step). st .frames) q ∙ rw l;
+      leaves = ap (λ (st : Step). st .after) q;
+    }
+
+    not-linked : (SeenWithBlock digest (view s) (s .current) → ⊥) → linked digest (view s) (s .current) ≡ false
+    not-linked never = go (linked digest (view s) (s .current)) refl
+      where
+        go : (b : Bool) → linked digest (view s) (s .current) ≡ b → b ≡ false
+        go true e = absurd (never (linked-seen (s .current) (sound .current-low) .0 e))
+        go false e = refl
+
+    pub next-iteration : NextIteration digest s
+    unfolding NextIteration
+    next-iteration no-vote no-output = (
+      ((λ q. pass-seen (took-pass (q .0) (q .1) (q .2))), λ q. (_, _, pass-move (passing (q .0) (q .1)))),
+      (λ r seen. pass-made (passing r (with-block seen)) true (linked-seen (s .current) (sound .current-low) .1 seen)),
+      λ r seen never. pass-made (passing r seen) false (not-linked never),
+    )
+      where
+        passing : Running digest s → SeenOfHeight digest (view s) (s .current) → step digest s ≡ passStep digest s
+        passing r q = step-pass no-vote no-output (pass-applies r q)
+
+    -- ---- step 3
+    extends-seen : holdsProposal (at s (s .current)) ≡ true → Running digest s →
+        (extends digest (view s) (s .current) (at s (s .current) .proposal) ≡ true) ↔ ParentOf digest (view s) (s .current - 1) (at s (s .current) .proposal)
+    unfolding ExtendsIsFollowing blockWellFormed
+    extends-seen held r =
+        let formed = sound .each (s .current) (sound .current-low) r .proposal-formed held in
+        let its : blockHeight (at s (s .current) .proposal) ≡ suc (s .current - 1) = eqb-true _ _ (row _ 1 formed) ∙ sym before in
+        subst (λ (c : ℕ). (extends digest (view s) c (at s (s .current) .proposal) ≡ true) ↔ ParentOf digest (view s) (s .current - 1) (at s (s .current) .proposal)) before
+        (terms .extends-is (s .current - 1) (at s (s .current) .proposal) its)
+
+    abbrev MayVote : Type 0
+    MayVote = Running digest s × (flag 4 s ≡ false) × (holdsProposal (at s (s .current)) ≡ true) × ParentOf digest (view s) (s .current - 1) (at s (s .current) .proposal)
+
+    block-when : blockVoteApplies digest s ≡ true → MayVote
+    unfolding blockVoteApplies
+    block-when e =
+        let r = running (row _ 0 e) in
+        (r, not-true (flag 4 s) (row _ 1 e), row _ 2 e, extends-seen (row _ 2 e) r .0 (row _ 3 e))
+
+    block-applies : MayVote → blockVoteApplies digest s ≡ true
+    unfolding blockVoteApplies
+    block-applies (r, f, held, q) =
+        all-of (Every.one (is-running r) (Every.one (rw f) (Every.one held (Every.one (extends-seen held r .1 q) Every.none))))
+
+    took-block : step digest s .move ≡ voteBlock (s .current) → (blockVoteApplies digest s ≡ true) × (step digest s ≡ blockVoteStep digest s)
+    took-block e = go taken
+      where
+        go : Taken → (blockVoteApplies digest s ≡ true) × (step digest s ≡ blockVoteStep digest s)
+        go (by-dummy-vote a q) = clash (λ z. cc) (dummy-move q) e
+        go (by-output a b q) = clash (λ z. cc) (output-move q) e
+        go (by-pass a b c q) = clash (λ z. cc) (pass-move q) e
+        go (by-proposal a b c d q) = clash (λ z. cc) (propose-move q) e
+        go (by-block-vote a b c d f q) = (f, q)
+        go (by-none q) = clash (λ z. cc) (idle-move q) e
+
+    step-block : dummyVoteApplies s ≡ false → outputApplies digest s ≡ false → passApplies digest s ≡ false → proposeApplies digest s ≡ false → blockVoteApplies digest s ≡ true →
+        step digest s ≡ blockVoteStep digest s
+    unfolding step firstStep
+    step-block e1 e2 e3 e4 e5 = rw (e1, e2, e3, e4, e5)
+
+    pub notarizing-proposals : NotarizingProposals digest s
+    unfolding NotarizingProposals blockVoteStep
+    notarizing-proposals e1 e2 e3 e4 = (
+      ((λ e. block-when (took-block e .0)), λ q. block-move (step-block e1 e2 e3 e4 (block-applies q))),
+      λ e. let q = took-block e .1 in record { answers = e; writes = ap (λ (st : Step). st .frames) q; leaves = ap (λ (st : Step). st .after) q },
+    )
+
+    -- ---- step 1
+    abbrev MayPropose : Type 0
+    MayPropose = Running digest s × (at s (s .current) .leader ≡ s .own) × (flag 8 s ≡ false) × SeenOfHeight digest (view s) (s .current - 1)
+
+    propose-when : proposeApplies digest s ≡ true → MayPropose
+    unfolding proposeApplies parentBelow
+    propose-when e = (running (row _ 0 e), eqb-true _ _ (row _ 1 e), not-true (flag 8 s) (row _ 2 e), parent-seen (s .current - 1) .0 (row _ 3 e))
+
+    propose-applies : MayPropose → proposeApplies digest s ≡ true
+    unfolding proposeApplies parentBelow
+    propose-applies (r, l, f, q) =
+        all-of (Every.one (is-running r) (Every.one (eq-eqb _ _ l) (Every.one (rw f) (Every.one (parent-seen (s .current - 1) .1 q) Every.none))))
+
+    took-propose : step digest s .move ≡ propose (s .current) → (proposeApplies digest s ≡ true) × (step digest s ≡ proposeStep digest s)
+    took-propose e = go taken
+      where
+        go : Taken → (proposeApplies digest s ≡ true) × (step digest s ≡ proposeStep digest s)
+        go (by-dummy-vote a q) = clash (λ z. cc) (dummy-move q) e
+        go (by-output a b q) = clash (λ z. cc) (output-move q) e
+        go (by-pass a b c q) = clash (λ z. cc) (pass-move q) e
+        go (by-proposal a b c d q) = (d, q)
+        go (by-block-vote a b c d f q) = clash (λ z. cc) (block-move q) e
+        go (by-none q) = clash (λ z. cc) (idle-move q) e
+
+    step-propose : dummyVoteApplies s ≡ false → outputApplies digest s ≡ false → passApplies digest s ≡ false → proposeApplies digest s ≡ true → step digest s ≡ proposeStep digest s
+    unfolding step firstStep
+    step-propose e1 e2 e3 e4 = rw (e1, e2, e3, e4)
+
+    module _ (digest-size : (block : Bytes) → length (digest block) ≡ 32) where
+      -- the digest of a linked height has 32 bytes, and that of height 0 is zero
+      parent-digest-size : (j : ℕ) → length (digestAt digest (view s) j) ≡ 32
+      unfolding digestAt
+      parent-digest-size zero = zeros-size 32
+      parent-digest-size (suc j) = digest-size (view s .block (suc j))
+
+      zero-parent : (j : ℕ) → j ≡ 0 → isZero (digestAt digest (view s) j) ≡ true
+      unfolding digestAt
+      zero-parent zero e = zeros-is-zero 32
+      zero-parent (suc j) e = absurd (omega arith)
+
+      -- the block on the chain with the largest last block
+      offers : (j : ℕ) → parentBelow digest s ≡ some j → Offers digest s (proposedBlock digest s j)
+      unfolding parentBelow ParentIsLargest proposedBlock
+      offers j e = record {
+        parent = chain .sequence;
+        notarized = chain .notarized;
+        its-height = ap suc (chain .its-height) ∙ before;
+        longest = λ c n h. subst (λ (k : ℕ). lastBlock c ≤ k) (sym (chain .its-last)) (both .1 c n (h ∙ chain .its-height));
+        follows = record {
+          its-height = unfold blockHeight newBlock in sym before ∙ ap suc (sym (chain .its-height));
+          its-parent = unfold parentHeight newBlock in sym (chain .its-last);
+          its-digest = digest-back c j d es below (parent-digest-size j) (zero-parent j) few sized ∙ sym (chain .its-digest);
+        };
+        its-entries = entries-back c j d es below (parent-digest-size j) (zero-parent j) few sized ∙ chosen;
+        formed = new-block-good c j d es below (parent-digest-size j) (zero-parent j) few sized;
+      }
+        where
+          both : ChainEndingAt digest (view s) (s .current - 1) j × ((c : Sequence) → NotarizedBlockchain digest (view s) c → height c ≡ s .current - 1 → lastBlock c ≤ j)
+          both = terms .parent-largest (s .current - 1) j e
+
+          chain : ChainEndingAt digest (view s) (s .current - 1) j
+          chain = both .0
+
+          c : ℕ
+          c = s .current
+
+          d : Bytes
+          d = digestAt digest (view s) j
+
+          es : List Bytes
+          es = offered digest s j
+
+          few : length es ≤ 8
+          few = offered-few digest s j
+
+          sized : Every (Sized 16) es
+          sized = offered-sized digest s sound j
+
+          below : j < c
+          below = let low = sound .current-low in let within = parent-some digest (view s) (s .current - 1) j e .0 .within in omega arith
+
+          chosen : offered digest s j ≡ take 8 (without (linearize (chain .sequence)) (pending s))
+          chosen = unfold offered in ap (λ (l : List Bytes). take 8 (without l (pending s))) (sym (chain .its-log))
+
+      proposed : proposeApplies digest s ≡ true → Offers digest s (proposedBlock digest s (someOr 0 (parentBelow digest s)))
+      unfolding proposeApplies someOr
+      proposed e = go (parentBelow digest s) refl (row _ 3 e)
+        where
+          go : (o : Option ℕ) → parentBelow digest s ≡ o → isSome o ≡ true → Offers digest s (proposedBlock digest s (someOr 0 o))
+          go none q z = absurd (false≢true (unfold isSome in z))
+          go (some j) q z = offers j q
+
+      pub leader-proposal : LeaderProposal digest s
+      unfolding LeaderProposal proposeStep
+      leader-proposal e1 e2 e3 = (
+        ((λ e. propose-when (took-propose e .0)), λ q. propose-move (step-propose e1 e2 e3 (propose-applies q))),
+        λ e. let q = took-propose e in (
+          proposedBlock digest s (someOr 0 (parentBelow digest s)),
+          proposed (q .0),
+          record { answers = e; writes = ap (λ (st : Step). st .frames) (q .1); leaves = ap (λ (st : Step). st .after) (q .1) },
+        ),
+      )
+
+-- the five steps, for every sound state and every digest of 32 bytes
+pub five-steps : (digest : Bytes → Bytes) → ((block : Bytes) → length (digest block) ≡ 32) → (s : State) → SoundState digest s → FiveSteps digest s
+five-steps digest size s sound =
+    let terms = in-the-papers-terms digest s sound in
+    record {
+      leader-proposal = leader-proposal digest s sound terms size;
+      dummy-blocks = dummy-blocks digest s;
+      notarizing-proposals = notarizing-proposals digest s sound terms;
+      next-iteration = next-iteration digest s sound terms;
+      finalized-outputs = finalized-outputs digest s sound terms;
+    }

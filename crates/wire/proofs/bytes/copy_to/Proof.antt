@@ -1,0 +1,69 @@
+-- `copy_to` meets its contract: after `i` turns the first `i` bytes of the source stand in the target.
+use Prim.Native.Nat.{_≤_, _-_}
+use native.Mathlib.Omega.{arith}
+use native.Mathlib.Numerals.{add-one}
+use mathlib.Core.Path.{_≡_, refl, _∙_}
+use lib.ListN.{length, length-set}
+use lib.Seq.{paste, paste-zero, paste-suc}
+use Rattle.protocol.specs.BytesLaws.{put-paste}
+use Rattle.wire.proofs.bytes.copy_to.Statement.{statement}
+use Rattle.wire.proofs.bytes.copy_to.Tie as tie
+
+abbrev Inv-loop : tie.InvT-loop
+Inv-loop target₀ at source i₀ target i = (i ≤ length source) × (target ≡ paste target₀ at source i) × (length target ≡ length target₀)
+
+abbrev μ-loop : tie.MeasureT-loop
+μ-loop target₀ at source i₀ target i = length source - i
+
+loop-holds : tie.Need-loop-holds Inv-loop μ-loop
+loop-holds c = (omega arith, paste-zero (c .args .target .now) (c .args .at) (c .args .source .now), refl)
+
+shared-slice-read-target : tie.Need-shared-slice-read-target Inv-loop μ-loop
+shared-slice-read-target c = omega arith
+
+add-target : tie.Need-add-target Inv-loop μ-loop
+add-target c = omega arith
+
+slice-write-target : tie.Need-slice-write-target Inv-loop μ-loop
+slice-write-target c = omega arith
+
+add-i : tie.Need-add-i Inv-loop μ-loop
+add-i c = omega arith
+
+loop-less : tie.Need-loop-less Inv-loop μ-loop
+loop-less c = omega arith
+
+loop-again : tie.Need-loop-again Inv-loop μ-loop
+loop-again c =
+    let at = c .before .before .loop in
+    let args = c .before .before .before .args in (
+      omega arith,
+      rw (at .inv .1, add-one) (paste-suc (args .target .now) (args .at) (args .source .now) (at .i) 0 (omega arith) (omega arith)),
+      rw length-set (at .inv .2),
+    )
+
+same-length : tie.Need-same-length Inv-loop μ-loop
+same-length c = c .before .loop .inv .2
+
+returns : tie.Need-returns Inv-loop μ-loop
+returns c =
+    let at = c .before .loop in
+    let args = c .before .before .args in
+    let end : at .i ≡ length (args .source .now) = omega arith in
+    at .inv .1 ∙ rw end (put-paste (args .target .now) (args .source .now) (args .at))
+
+pub copy-to-spec : {M : Type 1} → statement M
+copy-to-spec =
+    tie.close
+    (tie.spec
+    Inv-loop
+    μ-loop
+    loop-holds
+    shared-slice-read-target
+    add-target
+    slice-write-target
+    add-i
+    loop-less
+    loop-again
+    same-length
+    returns)

@@ -1,0 +1,41 @@
+//! The reference replica: the rules of document 01 in plain Rust, apart from the proved replica.
+//!
+//! Every call takes the bytes that it may read or write and answers with a value or with the number
+//! of a refusal. A refused call leaves all lent bytes as they were. No input makes a call panic.
+//!
+//! The calls at the root of the crate digest blocks with SHA-256. [`Rules`] offers the same calls
+//! over any digest function, so that definitions can be compared on books with a cheaper digest.
+
+#![forbid(unsafe_code)]
+#![warn(clippy::indexing_slicing, clippy::arithmetic_side_effects)]
+#![warn(clippy::unwrap_used, clippy::expect_used, clippy::panic)]
+
+mod answer;
+mod api;
+mod block;
+mod chain;
+mod codec;
+mod deliver;
+mod fetch;
+mod frame;
+mod frame_reader;
+mod frame_writer;
+mod log;
+mod make_move;
+mod open;
+mod quorum;
+pub mod refusal;
+pub mod rehearsal;
+mod rules;
+pub mod sha256;
+mod signal;
+mod soundness;
+mod state;
+mod submit;
+
+pub use answer::{Certificate, Delivered, Move};
+pub use api::{deliver, fetch, make_move, open, read, signal, size, submit};
+pub use frame::FRAME;
+pub use quorum::is_quorum;
+pub use rules::{Digest, Rules};
+pub use state::{book_length, ENTRY};

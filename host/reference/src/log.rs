@@ -1,0 +1,46 @@
+//! The log (document 01: register): the entries of a chain, their size, and reading them.
+
+use crate::block;
+use crate::chain::Chain;
+use crate::state::{Entry, ENTRY};
+use crate::Rules;
+
+impl<'a> Chain<'a> {
+    /// The entries of the chain that ends in the block of a linked height, oldest block first.
+    pub fn log(&self, height: u8) -> Vec<&'a Entry> {
+        let Some(last) = self.notarized(height) else {
+            return Vec::new();
+        };
+        let parent = block::parent_height(last);
+        let mut entries = if parent < height { self.log(parent) } else { Vec::new() };
+        entries.extend(block::entries(last));
+        entries
+    }
+}
+
+impl Rules {
+    /// The length in bytes of the log: the entries of the chain that ends at the finalized height.
+    ///
+    /// Refuses with 1.
+    pub fn size(&self, book: &[u8]) -> Result<usize, u8> {
+        let state = self.sound(book)?;
+        Ok(self.chain(&state).log(state.finalized).len().saturating_mul(ENTRY))
+    }
+
+    /// Writes the log to the front of the buffer and returns that part. The part is empty, and
+    /// nothing is written, if the book is not sound or the log does not fit.
+    pub fn read<'a>(&self, book: &[u8], buffer: &'a mut [u8]) -> &'a mut [u8] {
+        let Ok(state) = self.sound(book) else {
+            return &mut [];
+        };
+        let entries = self.chain(&state).log(state.finalized);
+        let size = entries.len().saturating_mul(ENTRY);
+        let Some((front, _)) = buffer.split_at_mut_checked(size) else {
+            return &mut [];
+        };
+        for (place, entry) in front.as_chunks_mut::<ENTRY>().0.iter_mut().zip(entries) {
+            *place = *entry;
+        }
+        front
+    }
+}

@@ -1,0 +1,30 @@
+//! The fourteen refusals by number, as the calls return them.
+
+/// The book is not sound, or at open its length does not fit the number of heights.
+pub const UNSOUND: u8 = 1;
+/// An argument of open is out of range.
+pub const OUT_OF_RANGE: u8 = 2;
+/// The reply buffer is too short.
+pub const SHORT_REPLY: u8 = 3;
+/// The bytes of a frame or entry, or the kind to fetch, are not of the required form.
+pub const MALFORMED: u8 = 4;
+/// A signer, or a bit of a mask, names no replica.
+pub const NO_SUCH_REPLICA: u8 = 5;
+/// The height is 0 or above the last one.
+pub const NO_SUCH_HEIGHT: u8 = 6;
+/// The proposer is not the leader of the height.
+pub const NOT_LEADER: u8 = 7;
+/// Another proposal, or another vote of the same signer, is kept already.
+pub const CONFLICT: u8 = 8;
+/// Too few signers stand in a certificate.
+pub const NO_QUORUM: u8 = 9;
+/// Another block is notarized at the height.
+pub const OTHER_BLOCK: u8 = 10;
+/// There is no such certificate to fetch.
+pub const NO_CERTIFICATE: u8 = 11;
+/// No place is left among the pending entries.
+pub const FULL: u8 = 12;
+/// The entry is pending or logged already.
+pub const REPEATED: u8 = 13;
+/// The signal is not for the current height, or it came before.
+pub const STALE_SIGNAL: u8 = 14;

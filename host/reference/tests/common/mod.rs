@@ -1,0 +1,144 @@
+//! Books and frames for the tests, put together byte by byte without the library's own writers.
+#![allow(dead_code)] // each test program uses a part of this
+
+pub mod random;
+pub mod random_book;
+
+use reference::{book_length, Move};
+
+pub type Block = [u8; 176];
+pub type FrameBytes = [u8; 224];
+pub const ZERO: [u8; 32] = [0; 32];
+
+/// Where the parts of a book begin.
+pub const PENDING: usize = 64;
+pub const CONTENTS: usize = 576;
+
+/// A new book.
+pub fn new_book(n: u64, own: u64, leaders: &[u8]) -> Vec<u8> {
+    let heights = leaders.len() as u8;
+    let mut book = vec![0xee; book_length(heights)];
+    reference::open(&mut book, n, own, heights.into(), leaders).unwrap();
+    book
+}
+
+/// Where the contents row of a height begins.
+pub fn row(height: usize) -> usize {
+    CONTENTS + 16 * (height - 1)
+}
+
+/// Where the body of a height begins; its notarized block is 176 and its votes 352 further on.
+pub fn body(book: &[u8], height: usize) -> usize {
+    CONTENTS + 16 * usize::from(book[2]) + 864 * (height - 1)
+}
+
+/// An entry that differs from those with another tag.
+pub fn entry(tag: u8) -> [u8; 16] {
+    std::array::from_fn(|at| tag ^ (at as u8 * 16))
+}
+
+/// A block of these parts.
+pub fn block(height: u8, parent: u8, digest: [u8; 32], entries: &[[u8; 16]]) -> Block {
+    let mut block = [0; 176];
+    (block[0], block[2], block[4]) = (height, parent, entries.len() as u8);
+    block[16..48].copy_from_slice(&digest);
+    for (at, entry) in entries.iter().enumerate() {
+        block[48 + 16 * at..64 + 16 * at].copy_from_slice(entry);
+    }
+    block
+}
+
+/// A block on another block, with a digest that fits.
+pub fn block_on(height: u8, below: &Block, entries: &[[u8; 16]]) -> Block {
+    block(height, below[0], digest(below), entries)
+}
+
+/// The digest of a block.
+pub fn digest(block: &Block) -> [u8; 32] {
+    reference::sha256::digest(block)
+}
+
+/// A frame of these parts.
+pub fn frame(kind: u8, signer: u8, height: u8, mask: u16) -> FrameBytes {
+    let mut frame = [0; 224];
+    (frame[0], frame[1], frame[2]) = (kind, signer, height);
+    frame[4] = mask as u8;
+    frame[5] = (mask >> 8) as u8;
+    frame
+}
+
+pub fn proposal(signer: u8, block: &Block) -> FrameBytes {
+    with_block(frame(1, signer, block[0], 0), block)
+}
+
+pub fn block_vote(signer: u8, height: u8, digest: [u8; 32]) -> FrameBytes {
+    let mut frame = frame(2, signer, height, 0);
+    frame[16..48].copy_from_slice(&digest);
+    frame
+}
+
+pub fn vote_for(signer: u8, block: &Block) -> FrameBytes {
+    block_vote(signer, block[0], digest(block))
+}
+
+pub fn dummy_vote(signer: u8, height: u8) -> FrameBytes {
+    frame(3, signer, height, 0)
+}
+
+pub fn finalize(signer: u8, height: u8) -> FrameBytes {
+    frame(4, signer, height, 0)
+}
+
+pub fn block_certificate(mask: u16, block: &Block) -> FrameBytes {
+    with_block(frame(5, 0, block[0], mask), block)
+}
+
+pub fn dummy_certificate(mask: u16, height: u8) -> FrameBytes {
+    frame(6, 0, height, mask)
+}
+
+pub fn finalize_certificate(mask: u16, height: u8) -> FrameBytes {
+    frame(7, 0, height, mask)
+}
+
+fn with_block(mut frame: FrameBytes, block: &Block) -> FrameBytes {
+    frame[48..].copy_from_slice(block);
+    frame
+}
+
+/// Delivers frames that must all be fresh.
+pub fn deliver_all(book: &mut [u8], frames: &[FrameBytes]) {
+    for frame in frames {
+        assert_eq!(reference::deliver(book, frame), Ok(reference::Delivered::Fresh));
+    }
+}
+
+/// One move with a long enough reply of marked bytes.
+pub fn one_move(book: &mut [u8]) -> (Move, [u8; 448]) {
+    let mut reply = [0xaa; 448];
+    let made = reference::make_move(book, &mut reply).unwrap();
+    (made, reply)
+}
+
+/// Moves until idle, with the number of moves bounded by what a book allows.
+pub fn moves(book: &mut [u8]) -> Vec<Move> {
+    let made = std::iter::repeat_with(|| one_move(book).0);
+    made.take_while(|&made| made != Move::Idle).take(1000).collect()
+}
+
+/// Whether the book is sound, by the call that has no other refusal.
+pub fn is_sound(book: &[u8]) -> bool {
+    match reference::size(book) {
+        Ok(_) => true,
+        Err(number) => {
+            assert_eq!(number, 1);
+            false
+        }
+    }
+}
+
+/// The log of a book as bytes.
+pub fn log_of(book: &[u8]) -> Vec<u8> {
+    let mut buffer = vec![0; 63 * 8 * 16];
+    reference::read(book, &mut buffer).to_vec()
+}

@@ -1,0 +1,86 @@
+//! Random books that are nearly always sound: chains with gaps, forks in the air, free junk.
+
+use super::random::Random;
+use super::{block, body, row, Block, CONTENTS, PENDING, ZERO};
+use reference::{book_length, Digest};
+
+/// A book of a few heights. Its finalized height is 0.
+pub fn random_book(random: &mut Random, digest: Digest) -> Vec<u8> {
+    let (n, heights) = (1 + random.below(16) as u8, 1 + random.below(7) as u8);
+    let mut book = vec![0; book_length(heights)];
+    book[0] = n;
+    book[1] = random.below(n.into()) as u8;
+    book[2] = heights;
+    book[3] = random.below(16) as u8;
+    book[4] = 1 + random.below(usize::from(heights) + 1) as u8;
+    book[6] = random.below(33) as u8;
+    book[7] = 1;
+    for place in book[PENDING..CONTENTS].chunks_mut(16) {
+        place.copy_from_slice(&random_entry(random));
+    }
+    let bodies = body(&book, 1);
+    let junk = random.bytes(book.len() - bodies);
+    book[bodies..].copy_from_slice(&junk);
+    for height in 1..=heights {
+        fill_height(&mut book, random, height, digest);
+    }
+    book
+}
+
+/// One of few entries, so that repeats are common.
+pub fn random_entry(random: &mut Random) -> [u8; 16] {
+    let tag = random.below(40) as u8;
+    std::array::from_fn(|at| tag ^ (at as u8 * 16))
+}
+
+/// Contents and blocks of one height.
+fn fill_height(book: &mut [u8], random: &mut Random, height: u8, digest: Digest) {
+    let n = book[0];
+    let (row, body) = (row(height.into()), body(book, height.into()));
+    let state = random.below(4) as u8 | if random.one_in(3) { 0 } else { 2 };
+    book[row] = random.below(n.into()) as u8;
+    book[row + 1] = state;
+    for at in [2, 4, 6, 8] {
+        let mask = random_mask(random, n);
+        book[row + at..row + at + 2].copy_from_slice(&mask.to_le_bytes());
+    }
+    if state & 2 != 0 {
+        book[row + 2..row + 4].copy_from_slice(&full_mask(n).to_le_bytes());
+        let notarized = random_block(book, random, height, digest);
+        book[body + 176..body + 352].copy_from_slice(&notarized);
+    }
+    if state & 1 != 0 {
+        let held = random_block(book, random, height, digest);
+        book[body..body + 176].copy_from_slice(&held);
+    }
+}
+
+/// All replicas.
+pub fn full_mask(n: u8) -> u16 {
+    ((1u32 << n) - 1) as u16
+}
+
+/// Any replicas, often all.
+pub fn random_mask(random: &mut Random, n: u8) -> u16 {
+    let any = random.next() as u16 & full_mask(n);
+    match random.below(3) {
+        0 => any,
+        1 => full_mask(n),
+        _ => any | (random.next() >> 20) as u16 & full_mask(n),
+    }
+}
+
+/// A well-formed block whose parent is mostly a block of the book.
+pub fn random_block(book: &[u8], random: &mut Random, height: u8, digest: Digest) -> Block {
+    let near = random.below(3).min(usize::from(height) - 1) as u8;
+    let parent =
+        if random.one_in(3) { random.below(height.into()) as u8 } else { height - 1 - near };
+    let start = |parent: u8| body(book, parent.into()) + 176;
+    let named = match parent {
+        0 => ZERO,
+        _ if random.one_in(12) => [random.byte(); 32],
+        _ => digest(&book[start(parent)..start(parent) + 176]),
+    };
+    let entries: Vec<_> = (0..random.below(9)).map(|_| random_entry(random)).collect();
+    block(height, parent, named, &entries)
+}
