@@ -1,14 +1,14 @@
 -- A round by the sums that the code forms, and rounds in groups. Assumes nothing.
-use mathlib.Core.Path.{_≡_, refl, sym, ap, ap₂, _∙_, subst}
+use mathlib.Core.Path.{_≡_, refl, ap}
 use mathlib.Core.List.{List, [], _∷_}
-use Prim.Native.Nat.{ℕ, zero, suc, _+_, _%_, _^_, _≤_, _<_}
+use Prim.Native.Nat.{ℕ, _+_, _%_, _^_}
 use native.Mathlib.Nat.{mod-add-mod}
 use native.Mathlib.Omega.{arith}
-use lib.ListN.{length, getD, set}
+use lib.ListN.{length}
 use Rattle.sha256.specs.Bytes.{Bytes}
 use Rattle.sha256.specs.Words.{add}
 use Rattle.sha256.specs.Functions.{Ch, Maj, Σ0, Σ1}
-use Rattle.sha256.specs.Compression.{variables, round, addWords, compression}
+use Rattle.sha256.specs.Compression.{variables, addWords, compression}
 
 -- a sum of five words in another order
 reordered : (h a b c d : ℕ) → ((((h + a) % 2 ^ 32 + b) % 2 ^ 32 + c) % 2 ^ 32 + d) % 2 ^ 32 ≡ ((((h + d) % 2 ^ 32 + c) % 2 ^ 32 + a) % 2 ^ 32 + b) % 2 ^ 32

@@ -1,145 +1,139 @@
 -- The six functions by fewer operations, as the code computes them: laws of bits checked at each digit, and rotations nested in one another. Assumes nothing.
-use mathlib.Core.Path.{_≡_, refl, sym, ap, ap₂, _∙_, subst}
-use mathlib.Core.Logic.{_⊎_, inl, inr, ⊎-elim}
-use Prim.Native.Nat.{ℕ, zero, suc, _+_, _-_, _*_, _/_, _%_, _^_, _≤_, _<_}
-use native.Mathlib.Nat.{le-max-left, le-max-right, le-trans, le-refl, div-add-mod', mod-lt, mod-eq-of-lt}
+use mathlib.Core.Path.{_≡_, refl, sym, ap, ap₂, _∙_}
+use Prim.Native.Nat.{ℕ, zero, suc, _+_, _-_, _/_, _%_, _^_, _≤_, _<_}
+use native.Mathlib.Nat.{mod-eq-of-lt}
 use native.Mathlib.Omega.{arith}
-use lib.Arith.{half-le, le-zero}
+use lib.Arith.{half-le}
 use lib.Bits.{bitAnd, and-mask, and-comm}
 use Rattle.sha256.specs.Words.{_&_, _⊕_, complement, shr, rotr}
 use Rattle.sha256.specs.WordsLaws.{and-half, and-odd, xor-half, xor-odd, xor-word, rotr-word, rotr-xor, rotr-rotr}
 use Rattle.sha256.specs.Functions.{Ch, Maj, Σ0, Σ1, σ0, σ1}
 
--- ---- two expressions in three numbers are equal where their digits are
+-- ---- two expressions in three numbers are equal where they are at the digits 0 and 1
+
+-- an expression in three numbers
+data Form : Type 0 where
+  x y z : Form
+  both differ : Form → Form → Form
+
+abbrev value : Form → ℕ → ℕ → ℕ → ℕ
+value x a b c = a
+value y a b c = b
+value z a b c = c
+value (both f g) a b c = value f a b c & value g a b c
+value (differ f g) a b c = value f a b c ⊕ value g a b c
+
+half : (f : Form) (a b c : ℕ) → value f a b c / 2 ≡ value f (a / 2) (b / 2) (c / 2)
+half x a b c = refl
+half y a b c = refl
+half z a b c = refl
+half (both f g) a b c = and-half (value f a b c) (value g a b c) ∙ ap₂ _&_ (half f a b c) (half g a b c)
+half (differ f g) a b c = xor-half (value f a b c) (value g a b c) ∙ ap₂ _⊕_ (half f a b c) (half g a b c)
+
+odd : (f : Form) (a b c : ℕ) → value f a b c % 2 ≡ value f (a % 2) (b % 2) (c % 2)
+odd x a b c = refl
+odd y a b c = refl
+odd z a b c = refl
+odd (both f g) a b c = and-odd (value f a b c) (value g a b c) ∙ ap₂ _&_ (odd f a b c) (odd g a b c)
+odd (differ f g) a b c = xor-odd (value f a b c) (value g a b c) ∙ ap₂ _⊕_ (odd f a b c) (odd g a b c)
+
+-- what is so of each triple of digits
+abbrev Digits : (ℕ → ℕ → ℕ → Type 0) → Type 0
+Digits p = p 0 0 0 × p 0 0 1 × p 0 1 0 × p 0 1 1 × p 1 0 0 × p 1 0 1 × p 1 1 0 × p 1 1 1
+
+at-digits : (p : ℕ → ℕ → ℕ → Type 0) → Digits p → (a b c : ℕ) → a < 2 → b < 2 → c < 2 → p a b c
+at-digits p d zero zero zero ha hb hc = d .0
+at-digits p d zero zero (suc zero) ha hb hc = d .1
+at-digits p d zero (suc zero) zero ha hb hc = d .2
+at-digits p d zero (suc zero) (suc zero) ha hb hc = d .3
+at-digits p d (suc zero) zero zero ha hb hc = d .4
+at-digits p d (suc zero) zero (suc zero) ha hb hc = d .5
+at-digits p d (suc zero) (suc zero) zero ha hb hc = d .6
+at-digits p d (suc zero) (suc zero) (suc zero) ha hb hc = d .7
+at-digits p d zero zero (suc (suc c)) ha hb hc = absurd (omega arith)
+at-digits p d zero (suc zero) (suc (suc c)) ha hb hc = absurd (omega arith)
+at-digits p d zero (suc (suc b)) c ha hb hc = absurd (omega arith)
+at-digits p d (suc zero) zero (suc (suc c)) ha hb hc = absurd (omega arith)
+at-digits p d (suc zero) (suc zero) (suc (suc c)) ha hb hc = absurd (omega arith)
+at-digits p d (suc zero) (suc (suc b)) c ha hb hc = absurd (omega arith)
+at-digits p d (suc (suc a)) b c ha hb hc = absurd (omega arith)
 
 -- a number by its half and its last digit
 halves : (a b : ℕ) → a / 2 ≡ b / 2 → a % 2 ≡ b % 2 → a ≡ b
 halves a b p q = omega arith
 
--- f and g commute with halving, and agree at the digits 0 and 1
-pub record Digitwise (f g : ℕ → ℕ → ℕ → ℕ) : Type 0 where
-  pub half-f : (x y z : ℕ) → f x y z / 2 ≡ f (x / 2) (y / 2) (z / 2)
-  pub half-g : (x y z : ℕ) → g x y z / 2 ≡ g (x / 2) (y / 2) (z / 2)
-  pub odd-f : (x y z : ℕ) → f x y z % 2 ≡ f (x % 2) (y % 2) (z % 2)
-  pub odd-g : (x y z : ℕ) → g x y z % 2 ≡ g (x % 2) (y % 2) (z % 2)
-  pub digits : (f 0 0 0 ≡ g 0 0 0) × (f 0 0 1 ≡ g 0 0 1) × (f 0 1 0 ≡ g 0 1 0) × (f 0 1 1 ≡ g 0 1 1) × (f 1 0 0 ≡ g 1 0 0) × (f 1 0 1 ≡ g 1 0 1) × (f 1 1 0 ≡ g 1 1 0) × (f 1 1 1 ≡ g 1 1 1)
+module _ (f g : Form) (d : Digits (λ a b c. value f a b c ≡ value g a b c)) where
+  below : (n a b c : ℕ) → a ≤ n → b ≤ n → c ≤ n → value f a b c ≡ value g a b c
+  below zero a b c ha hb hc = at-digits (λ a b c. value f a b c ≡ value g a b c) d a b c (omega arith) (omega arith) (omega arith)
+  below (suc n) a b c ha hb hc =
+      halves (value f a b c) (value g a b c)
+      (half f a b c ∙ below n (a / 2) (b / 2) (c / 2) (half-le ha) (half-le hb) (half-le hc) ∙ sym (half g a b c))
+      (odd f a b c ∙ at-digits (λ a b c. value f a b c ≡ value g a b c) d (a % 2) (b % 2) (c % 2) (omega arith) (omega arith) (omega arith) ∙ sym (odd g a b c))
 
-module _ (f g : ℕ → ℕ → ℕ → ℕ) (d : Digitwise f g) where
-  at-digits : (x y z : ℕ) → x < 2 → y < 2 → z < 2 → f x y z ≡ g x y z
-  at-digits zero zero zero hx hy hz = d .digits .0
-  at-digits zero zero (suc zero) hx hy hz = d .digits .1
-  at-digits zero (suc zero) zero hx hy hz = d .digits .2
-  at-digits zero (suc zero) (suc zero) hx hy hz = d .digits .3
-  at-digits (suc zero) zero zero hx hy hz = d .digits .4
-  at-digits (suc zero) zero (suc zero) hx hy hz = d .digits .5
-  at-digits (suc zero) (suc zero) zero hx hy hz = d .digits .6
-  at-digits (suc zero) (suc zero) (suc zero) hx hy hz = d .digits .7
-  at-digits zero zero (suc (suc z)) hx hy hz = absurd (omega arith)
-  at-digits zero (suc zero) (suc (suc z)) hx hy hz = absurd (omega arith)
-  at-digits zero (suc (suc y)) z hx hy hz = absurd (omega arith)
-  at-digits (suc zero) zero (suc (suc z)) hx hy hz = absurd (omega arith)
-  at-digits (suc zero) (suc zero) (suc (suc z)) hx hy hz = absurd (omega arith)
-  at-digits (suc zero) (suc (suc y)) z hx hy hz = absurd (omega arith)
-  at-digits (suc (suc x)) y z hx hy hz = absurd (omega arith)
+  same : (a b c : ℕ) → value f a b c ≡ value g a b c
+  same a b c = below (a + b + c) a b c (omega arith) (omega arith) (omega arith)
 
-  below : (n x y z : ℕ) → x ≤ n → y ≤ n → z ≤ n → f x y z ≡ g x y z
-  below zero x y z hx hy hz = at-digits x y z (omega arith) (omega arith) (omega arith)
-  below (suc n) x y z hx hy hz =
-      halves (f x y z) (g x y z)
-      (d .half-f x y z ∙ below n (x / 2) (y / 2) (z / 2) (half-le hx) (half-le hy) (half-le hz) ∙ sym (d .half-g x y z))
-      (d .odd-f x y z ∙ at-digits (x % 2) (y % 2) (z % 2) (omega arith) (omega arith) (omega arith) ∙ sym (d .odd-g x y z))
+-- ---- the laws of bits
 
-  pub same : (x y z : ℕ) → f x y z ≡ g x y z
-  same x y z = below (x + y + z) x y z (omega arith) (omega arith) (omega arith)
+pub xor-assoc : (a b c : ℕ) → a ⊕ b ⊕ c ≡ a ⊕ (b ⊕ c)
+unfolding _⊕_
+xor-assoc = same (differ (differ x y) z) (differ x (differ y z)) (refl, refl, refl, refl, refl, refl, refl, refl)
 
-pub xor-assoc : (x y z : ℕ) → x ⊕ y ⊕ z ≡ x ⊕ (y ⊕ z)
-xor-assoc =
-    same (λ (x y z : ℕ). x ⊕ y ⊕ z) (λ (x y z : ℕ). x ⊕ (y ⊕ z))
-    (record {
-      half-f = λ x y z. simp xor-half;
-      half-g = λ x y z. simp xor-half;
-      odd-f = λ x y z. simp xor-odd;
-      odd-g = λ x y z. simp xor-odd;
-      digits = unfold _⊕_ in (refl, refl, refl, refl, refl, refl, refl, refl);
-    })
+pub maj-is : (a b c : ℕ) → b ⊕ ((a ⊕ b) & (b ⊕ c)) ≡ Maj a b c
+unfolding Maj _⊕_ _&_
+maj-is =
+    same (differ y (both (differ x y) (differ y z))) (differ (differ (both x y) (both x z)) (both y z))
+    (refl, refl, refl, refl, refl, refl, refl, refl)
 
-majority : (x y z : ℕ) → y ⊕ ((x ⊕ y) & (y ⊕ z)) ≡ (x & y) ⊕ (x & z) ⊕ (y & z)
-majority =
-    same (λ (x y z : ℕ). y ⊕ ((x ⊕ y) & (y ⊕ z))) (λ (x y z : ℕ). (x & y) ⊕ (x & z) ⊕ (y & z))
-    (record {
-      half-f = λ x y z. simp (xor-half, and-half);
-      half-g = λ x y z. simp (xor-half, and-half);
-      odd-f = λ x y z. simp (xor-odd, and-odd);
-      odd-g = λ x y z. simp (xor-odd, and-odd);
-      digits = unfold _⊕_ _&_ in (refl, refl, refl, refl, refl, refl, refl, refl);
-    })
+distributed : (a m c : ℕ) → (a ⊕ m) & c ≡ (a & c) ⊕ (m & c)
+unfolding _⊕_ _&_
+distributed = same (both (differ x y) z) (differ (both x z) (both y z)) (refl, refl, refl, refl, refl, refl, refl, refl)
 
-pub maj-is : (x y z : ℕ) → y ⊕ ((x ⊕ y) & (y ⊕ z)) ≡ Maj x y z
-unfolding Maj
-maj-is x y z = majority x y z
-
-distributed : (x m z : ℕ) → (x ⊕ m) & z ≡ (x & z) ⊕ (m & z)
-distributed =
-    same (λ (x m z : ℕ). (x ⊕ m) & z) (λ (x m z : ℕ). (x & z) ⊕ (m & z))
-    (record {
-      half-f = λ x y z. simp (xor-half, and-half);
-      half-g = λ x y z. simp (xor-half, and-half);
-      odd-f = λ x y z. simp (xor-odd, and-odd);
-      odd-g = λ x y z. simp (xor-odd, and-odd);
-      digits = unfold _⊕_ _&_ in (refl, refl, refl, refl, refl, refl, refl, refl);
-    })
-
-chosen : (x y z : ℕ) → z ⊕ (x & (y ⊕ z)) ≡ (x & y) ⊕ ((x & z) ⊕ z)
+chosen : (a b c : ℕ) → c ⊕ (a & (b ⊕ c)) ≡ (a & b) ⊕ ((a & c) ⊕ c)
+unfolding _⊕_ _&_
 chosen =
-    same (λ (x y z : ℕ). z ⊕ (x & (y ⊕ z))) (λ (x y z : ℕ). (x & y) ⊕ ((x & z) ⊕ z))
-    (record {
-      half-f = λ x y z. simp (xor-half, and-half);
-      half-g = λ x y z. simp (xor-half, and-half);
-      odd-f = λ x y z. simp (xor-odd, and-odd);
-      odd-g = λ x y z. simp (xor-odd, and-odd);
-      digits = unfold _⊕_ _&_ in (refl, refl, refl, refl, refl, refl, refl, refl);
-    })
+    same (differ z (both x (differ y z))) (differ (both x y) (differ (both x z) z)) (refl, refl, refl, refl, refl, refl, refl, refl)
 
 -- a word is kept by AND with 32 ones
-kept : (m z : ℕ) → m ≡ 2 ^ 32 - 1 → z < 2 ^ 32 → m & z ≡ z
+kept : (m c : ℕ) → m ≡ 2 ^ 32 - 1 → c < 2 ^ 32 → m & c ≡ c
 unfolding _&_
-kept m z e h = and-comm m z ∙ ap (bitAnd z) e ∙ and-mask z 32 ∙ mod-eq-of-lt h
+kept m c e h = and-comm m c ∙ ap (bitAnd c) e ∙ and-mask c 32 ∙ mod-eq-of-lt h
 
-flipped : (x m z : ℕ) → m ≡ 2 ^ 32 - 1 → z < 2 ^ 32 → (x ⊕ m) & z ≡ (x & z) ⊕ z
-flipped x m z e h = distributed x m z ∙ ap (λ (v : ℕ). (x & z) ⊕ v) (kept m z e h)
+flipped : (a m c : ℕ) → m ≡ 2 ^ 32 - 1 → c < 2 ^ 32 → (a ⊕ m) & c ≡ (a & c) ⊕ c
+flipped a m c e h = distributed a m c ∙ ap (λ (v : ℕ). (a & c) ⊕ v) (kept m c e h)
 
-pub ch-is : (x y z : ℕ) → z < 2 ^ 32 → z ⊕ (x & (y ⊕ z)) ≡ Ch x y z
+pub ch-is : (a b c : ℕ) → c < 2 ^ 32 → c ⊕ (a & (b ⊕ c)) ≡ Ch a b c
 unfolding Ch complement
-ch-is x y z h = chosen x y z ∙ ap (λ (v : ℕ). (x & y) ⊕ v) (sym (flipped x (2 ^ 32 - 1) z refl h))
+ch-is a b c h = chosen a b c ∙ ap (λ (v : ℕ). (a & b) ⊕ v) (sym (flipped a (2 ^ 32 - 1) c refl h))
 
 -- ---- rotations nested in one another
 
-module _ (x : ℕ) (h : x < 2 ^ 32) where
-  two-turns : (c b : ℕ) → b + c ≤ 32 → rotr c (x ⊕ rotr b x) ≡ rotr c x ⊕ rotr (b + c) x
+module _ (w : ℕ) (h : w < 2 ^ 32) where
+  two-turns : (c b : ℕ) → b + c ≤ 32 → rotr c (w ⊕ rotr b w) ≡ rotr c w ⊕ rotr (b + c) w
   two-turns c b le =
-      rotr-xor c x (rotr b x) (omega arith) h (rotr-word b x (omega arith) h)
-      ∙ ap (λ (v : ℕ). rotr c x ⊕ v) (rotr-rotr b c x le h)
+      rotr-xor c w (rotr b w) (omega arith) h (rotr-word b w (omega arith) h)
+      ∙ ap (λ (v : ℕ). rotr c w ⊕ v) (rotr-rotr b c w le h)
 
-  three-turns : (c b a : ℕ) → a + (b + c) ≤ 32 → rotr c (x ⊕ rotr b (x ⊕ rotr a x)) ≡ rotr c x ⊕ rotr (b + c) x ⊕ rotr (a + (b + c)) x
+  three-turns : (c b a : ℕ) → a + (b + c) ≤ 32 → rotr c (w ⊕ rotr b (w ⊕ rotr a w)) ≡ rotr c w ⊕ rotr (b + c) w ⊕ rotr (a + (b + c)) w
   three-turns c b a le =
-      let inner = x ⊕ rotr a x in
-      let small : inner < 2 ^ 32 = xor-word x (rotr a x) h (rotr-word a x (omega arith) h) in
-      rotr-xor c x (rotr b inner) (omega arith) h (rotr-word b inner (omega arith) small)
-      ∙ ap (λ (v : ℕ). rotr c x ⊕ v) (rotr-rotr b c inner (omega arith) small ∙ two-turns (b + c) a le)
-      ∙ sym (xor-assoc (rotr c x) (rotr (b + c) x) (rotr (a + (b + c)) x))
+      let inner = w ⊕ rotr a w in
+      let small : inner < 2 ^ 32 = xor-word w (rotr a w) h (rotr-word a w (omega arith) h) in
+      rotr-xor c w (rotr b inner) (omega arith) h (rotr-word b inner (omega arith) small)
+      ∙ ap (λ (v : ℕ). rotr c w ⊕ v) (rotr-rotr b c inner (omega arith) small ∙ two-turns (b + c) a le)
+      ∙ sym (xor-assoc (rotr c w) (rotr (b + c) w) (rotr (a + (b + c)) w))
 
-  pub Σ0-is : rotr 2 (x ⊕ rotr 11 (x ⊕ rotr 9 x)) ≡ Σ0 x
+  pub Σ0-is : rotr 2 (w ⊕ rotr 11 (w ⊕ rotr 9 w)) ≡ Σ0 w
   unfolding Σ0
   Σ0-is = three-turns 2 11 9 (omega arith)
 
-  pub Σ1-is : rotr 6 (x ⊕ rotr 5 (x ⊕ rotr 14 x)) ≡ Σ1 x
+  pub Σ1-is : rotr 6 (w ⊕ rotr 5 (w ⊕ rotr 14 w)) ≡ Σ1 w
   unfolding Σ1
   Σ1-is = three-turns 6 5 14 (omega arith)
 
-  pub σ0-is : rotr 7 (x ⊕ rotr 11 x) ⊕ shr 3 x ≡ σ0 x
+  pub σ0-is : rotr 7 (w ⊕ rotr 11 w) ⊕ shr 3 w ≡ σ0 w
   unfolding σ0
-  σ0-is = ap (λ (v : ℕ). v ⊕ shr 3 x) (two-turns 7 11 (omega arith))
+  σ0-is = ap (λ (v : ℕ). v ⊕ shr 3 w) (two-turns 7 11 (omega arith))
 
-  pub σ1-is : rotr 17 (x ⊕ rotr 2 x) ⊕ shr 10 x ≡ σ1 x
+  pub σ1-is : rotr 17 (w ⊕ rotr 2 w) ⊕ shr 10 w ≡ σ1 w
   unfolding σ1
-  σ1-is = ap (λ (v : ℕ). v ⊕ shr 10 x) (two-turns 17 2 (omega arith))
+  σ1-is = ap (λ (v : ℕ). v ⊕ shr 10 w) (two-turns 17 2 (omega arith))

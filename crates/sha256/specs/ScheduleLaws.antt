@@ -1,16 +1,12 @@
 -- The schedule as an array that is filled from the front. Assumes nothing.
-use mathlib.Core.Path.{_≡_, refl, sym, ap, ap₂, _∙_, subst}
+use mathlib.Core.Path.{_≡_, ap₂, _∙_}
 use mathlib.Core.List.{List, [], _∷_, _++_}
-use Prim.Native.Nat.{ℕ, zero, suc, _+_, _-_, _≤_, _<_}
-use native.Mathlib.Nat.{add-zero, add-suc, zero-add}
+use Prim.Native.Nat.{ℕ, _+_, _<_}
 use native.Mathlib.Numerals.{add-one}
-use native.Mathlib.Omega.{arith}
-use lib.ListN.{length, getD, take, set, length-set}
-use lib.Seq.{take-suc-set, getD-take, getD-set-other, take-all}
+use lib.ListN.{length, take, set}
+use lib.Seq.{take-suc-set}
 use Rattle.sha256.specs.Bytes.{Bytes}
-use Rattle.sha256.specs.Words.{add}
-use Rattle.sha256.specs.Functions.{σ0, σ1}
-use Rattle.sha256.specs.Schedule.{messageWord, messageWords, nextWord, scheduleTo, schedule}
+use Rattle.sha256.specs.Schedule.{messageWord, messageWords}
 
 -- one more word of the block
 pub words-more : (block : Bytes) (W : List ℕ) (t v : ℕ) → t < length W → take t W ≡ messageWords block t → v ≡ messageWord block t

@@ -1,6 +1,6 @@
 -- Rounds in groups add up to the standard's rounds, and the array that is extended beside them to its schedule. Assumes nothing.
 use mathlib.Core.Logic.{_≢_}
-use mathlib.Core.Path.{_≡_, refl, sym, ap, ap₂, _∙_, subst}
+use mathlib.Core.Path.{_≡_, refl, sym, ap, ap₂, _∙_}
 use mathlib.Core.List.{List, [], _∷_, _++_}
 use Prim.Native.Nat.{ℕ, zero, suc, _+_, _-_, _*_, _≤_, _<_}
 use native.Mathlib.Nat.{add-zero, add-suc, zero-add, add-assoc}
@@ -8,8 +8,6 @@ use native.Mathlib.Omega.{arith}
 use lib.ListN.{length, getD, take, set, length-set}
 use lib.Seq.{take-suc-set, getD-take, getD-set-other, take-all}
 use Rattle.sha256.specs.Bytes.{Bytes}
-use Rattle.sha256.specs.Words.{add}
-use Rattle.sha256.specs.Functions.{σ0, σ1}
 use Rattle.sha256.specs.Constants.{K}
 use Rattle.sha256.specs.Schedule.{messageWords, nextWord, scheduleTo, schedule}
 use Rattle.sha256.specs.Compression.{round, rounds, addWords, compression}

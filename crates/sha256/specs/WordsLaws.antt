@@ -1,12 +1,12 @@
 -- Laws of the operations on words: AND and XOR go digit by digit, and a rotation is a sum of two parts that moves along XOR and adds up. Assumes nothing.
-use mathlib.Core.Path.{_≡_, refl, sym, ap, ap₂, _∙_, subst}
-use Prim.Native.Nat.{ℕ, zero, suc, _+_, _-_, _*_, _/_, _%_, _^_, _≤_, _<_}
-use native.Mathlib.Nat.{le-refl, le-trans, add-comm, add-assoc, add-mul, mul-assoc, mul-comm, add-mul-div-right, mul-mod-left, div-add-mod', mod-lt, add-zero}
+use mathlib.Core.Path.{_≡_, sym, ap, ap₂, _∙_, subst}
+use Prim.Native.Nat.{ℕ, _+_, _-_, _*_, _/_, _%_, _^_, _≤_, _<_}
+use native.Mathlib.Nat.{add-comm, add-mul, mul-assoc, add-mul-div-right, mul-mod-left, mod-lt, add-zero}
 use native.Mathlib.Omega.{arith}
-use lib.Arith.{half-le, le-zero, digits-lt}
+use lib.Arith.{digits-lt}
 use lib.Pow.{pow-pos, pow-add, shr-lt, shl-shr, shr-shr, low, mod-pow-add, mod-mod-pow}
-use lib.Bits.{bitAnd, bitOr, bitXor, and-shr, xor-shr, and-mod, xor-mod, xor-block, xor-lt, and-lt, or-shifted-r}
-use Rattle.sha256.specs.Words.{_&_, _⊕_, add, shl, shr, rotr}
+use lib.Bits.{bitOr, bitXor, and-shr, xor-shr, and-mod, xor-mod, xor-block, xor-lt, or-shifted-r}
+use Rattle.sha256.specs.Words.{_&_, _⊕_, shl, shr, rotr}
 
 -- ---- digit by digit
 
