@@ -106,22 +106,23 @@ module _ (book : Bytes) (ready : Ready book) (h : ℕ) (within : Within book h) 
             encode (withHeight (decode book) k (withProposal (at (decode book) k) block)))
             (book-proposal book (ready .whole) (ready .size) (h - 1) inside block e))
 
-        -- `copied` is the book after the block was copied to its place
+        -- `copied` is the book after the block was copied to its place, and `marked` after status and mask were written
         pub kept-notarized : (mask : ℕ) (block : Bytes) → length block ≡ 176 → (copied : Bytes) → copied ≡ put book (body + 176) block →
-            put (set copied (content + 1) (status + 2)) (content + 2) (le16 mask) ≡ encode (withHeight (decode book) h (withNotarized (at (decode book) h) mask block))
-        kept-notarized mask block e copied copy =
-            rw (copy, content-place, body-place, status-is)
+            (marked : Bytes) → marked ≡ put (set copied (content + 1) (status + 2)) (content + 2) (le16 mask) →
+            marked ≡ encode (withHeight (decode book) h (withNotarized (at (decode book) h) mask block))
+        kept-notarized mask block e copied copy marked mark =
+            rw (mark, copy, content-place, body-place, status-is)
             (named (λ k. put (set (put book (576 + 16 * byteAt book 2 + 864 * (h - 1) + 176) block) (576 + 16 * (h - 1) + 1) (at (decode book) k .status + 2)) (576 + 16 * (h - 1) + 2) (le16 mask) ≡
             encode (withHeight (decode book) k (withNotarized (at (decode book) k) mask block)))
             (book-block book ready (h - 1) inside mask block e))
 
         -- the same with the held proposal, copied inside the book
         pub kept-held : (mask : ℕ) (copied : Bytes) → copied ≡ put book (body + 176) (part book body 176) →
-            put (set copied (content + 1) (status + 2)) (content + 2) (le16 mask) ≡
-            encode (withHeight (decode book) h (withNotarized (at (decode book) h) mask (at (decode book) h .proposal)))
-        kept-held mask copied copy =
+            (marked : Bytes) → marked ≡ put (set copied (content + 1) (status + 2)) (content + 2) (le16 mask) →
+            marked ≡ encode (withHeight (decode book) h (withNotarized (at (decode book) h) mask (at (decode book) h .proposal)))
+        kept-held mask copied copy marked mark =
             kept-notarized mask (at (decode book) h .proposal) (height-shaped book h (ready .size) within .proposal-size) copied
-            (copy ∙ ap (λ (block : Bytes). put book (body + 176) block) held-proposal)
+            (copy ∙ ap (λ (block : Bytes). put book (body + 176) block) held-proposal) marked mark
 
       -- `marked` is the book after the voter mask was written
       pub kept-vote : (r : ℕ) (digest : Bytes) → r < 16 → length digest ≡ 32 → (mask : ℕ) → mask ≡ at (decode book) h .voterMask + 2 ^ r →

@@ -1,5 +1,4 @@
 -- `keep_notarized` meets its contract: the block is copied to the notarized block's place, and status and mask are written.
-use mathlib.Core.Path.{_∙_}
 use Rattle.fields.proofs.Writes.{kept-notarized}
 use borrow.Author.Needs.{needs}
 use Rattle.fields.proofs.keep.keep_notarized.Statement.{statement}
@@ -28,10 +27,13 @@ same-length c = search needs
 
 returns : tie.Need-returns
 returns c =
-    let start = c .before .before .before .before .before .before .before .before .before .before .before .before .before .before .before in
-    c .before .before .mark-notarized .ensures ∙
-    kept-notarized (start .args .book .now) (start .pre .0) (start .args .h) (start .pre .1 .0) _ (c .before .before .before .before .before .before .before .before .before .before .before .before .content-at .ensures) _ (c .before .before .before .before .before .before .before .before .before .before .body-at .ensures) _
-    (c .before .before .before .before .before .before .before .before .status .ensures .0) (start .args .mask) (start .args .block .now) (start .pre .1 .1 .1 .0) _ (c .before .before .before .before .before .before .copy-to .ensures)
+    let copied = c .before .before .before .before .before .before in
+    let read = copied .before .before in
+    let placed = read .before .before in
+    let begun = placed .before .before in
+    let start = begun .before .before .before in
+    kept-notarized (start .args .book .now) (start .pre .0) (start .args .h) (start .pre .1 .0) _ (begun .content-at .ensures) _ (placed .body-at .ensures) _
+    (read .status .ensures .0) (start .args .mask) (start .args .block .now) (start .pre .1 .1 .1 .0) _ (copied .copy-to .ensures) _ (c .before .before .mark-notarized .ensures)
 
 pub keep-notarized-spec : {M : Type 1} → statement M
 keep-notarized-spec =

@@ -45,12 +45,16 @@ same-length c = search needs
 
 returns : tie.Need-returns
 returns c =
-    let start = c .before .before .before .before .before .before .before .before .before .before .before .before .before .before .before in
+    let marked = c .before .before .before .before .before .before in
+    let read = marked .before .before in
+    let placed = read .before .before in
+    let begun = placed .before .before in
+    let start = begun .before .before .before in
     let small = start .pre .1 .1 .0 in
     c .before .before .copy-to .ensures ∙
-    kept-vote (start .args .book .now) (start .pre .0) (start .args .h) (start .pre .1 .0) _ (c .before .before .before .before .before .before .before .before .before .before .before .before .content-at .ensures) _ (c .before .before .before .before .before .before .before .before .before .before .body-at .ensures)
-    (start .args .s) (start .args .digest .now) small (start .pre .1 .1 .1 .1) _ (omega (arith, c .before .before .before .before .before .before .before .before .voter-mask .ensures .0, one-shl (start .args .s) small)) _
-    (c .before .before .before .before .before .before .put-word .ensures)
+    kept-vote (start .args .book .now) (start .pre .0) (start .args .h) (start .pre .1 .0) _ (begun .content-at .ensures) _ (placed .body-at .ensures)
+    (start .args .s) (start .args .digest .now) small (start .pre .1 .1 .1 .1) _ (omega (arith, read .voter-mask .ensures .0, one-shl (start .args .s) small)) _
+    (marked .put-word .ensures)
 
 pub keep-vote-spec : {M : Type 1} → statement M
 keep-vote-spec =

@@ -1,6 +1,5 @@
 -- `notarize_held` meets its contract: the proposal's place is copied to the notarized block's, and status and mask are written.
 use native.Mathlib.Omega.{arith}
-use mathlib.Core.Path.{_∙_}
 use mathlib.Core.Logic.{inr}
 use Rattle.fields.proofs.Writes.{kept-held}
 use borrow.Author.Needs.{needs}
@@ -30,10 +29,13 @@ same-length c = search needs
 
 returns : tie.Need-returns
 returns c =
-    let start = c .before .before .before .before .before .before .before .before .before .before .before .before .before .before in
-    c .before .before .mark-notarized .ensures ∙
-    kept-held (start .args .book .now) (start .pre .0) (start .args .h) (start .pre .1 .0) _ (c .before .before .before .before .before .before .before .before .before .before .before .before .content-at .ensures) _ (c .before .before .before .before .before .before .before .before .before .before .body-at .ensures) _
-    (c .before .before .before .before .before .before .before .before .status .ensures .0) (start .args .mask) _ (c .before .before .before .before .before .before .copy-inside .ensures)
+    let copied = c .before .before .before .before .before .before in
+    let read = copied .before .before in
+    let placed = read .before .before in
+    let begun = placed .before .before in
+    let start = begun .before .before in
+    kept-held (start .args .book .now) (start .pre .0) (start .args .h) (start .pre .1 .0) _ (begun .content-at .ensures) _ (placed .body-at .ensures) _
+    (read .status .ensures .0) (start .args .mask) _ (copied .copy-inside .ensures) _ (c .before .before .mark-notarized .ensures)
 
 pub notarize-held-spec : {M : Type 1} → statement M
 notarize-held-spec =
