@@ -43,14 +43,9 @@ pub mod ChangeLaws
 pub mod BookLaws
 pub mod NewStateLaws
 pub mod FormedLaws
-pub mod Computing
 pub mod Examples
 pub mod NewBookLaws
 pub mod NewBookCallsLaws
+pub mod Computing
 pub mod ExamplesLaws
-pub mod CheckCalls
-pub mod Checks
-pub mod RunChecks
-pub mod RuleChecks
-pub mod ReferenceChecks
 pub mod BuildLaws

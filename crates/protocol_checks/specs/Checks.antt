@@ -4,12 +4,12 @@ use mathlib.Core.Path.{_≡_, refl}
 use mathlib.Core.Bool.{Bool, true, _&&_, not}
 use mathlib.Core.List.{List, [], _∷_, _++_}
 use lib.ListN.{replicate, take}
 use Rattle.protocol.specs.Bytes.{Bytes, zeros}
 use Rattle.protocol.specs.Tests.{allOf}
 use Rattle.protocol.specs.Block.{newBlock}
 use Rattle.protocol.specs.Frame.{frameOf, proposal, blockVote, dummyVote, finalize, blockCertificate, dummyCertificate, finalizeCertificate}
 use Rattle.protocol.specs.Sound.{sound}
-use Rattle.protocol.specs.CheckCalls.{standIn, Call, opening, delivery, moving, signalling, submitting, sizing, fetching, after, answers, refuses, splice, tools}
+use Rattle.protocol_checks.specs.CheckCalls.{standIn, Call, opening, delivery, moving, signalling, submitting, sizing, fetching, after, answers, refuses, splice, tools}
 
 -- ---- books, blocks and calls of the checks
 -- an entry of one repeated byte

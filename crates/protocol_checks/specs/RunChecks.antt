@@ -5,13 +5,13 @@ use mathlib.Core.Bool.{cond}
 use mathlib.Core.List.{List, [], _∷_, _++_}
 use lib.ListN.{replicate}
 use lib.Dec.{eqb}
 use Rattle.protocol.specs.Bytes.{Bytes, zeros}
 use Rattle.protocol.specs.Block.{newBlock}
 use Rattle.protocol.specs.Frame.{kind, signer, frameHeight, proposal, blockVote, dummyVote, finalize, blockCertificate, dummyCertificate, finalizeCertificate}
 use Rattle.protocol.specs.Answer.{Answer, refused, accepted, Delivery, known, fresh, Move, idle, voteDummy, output, pass, propose, voteBlock, Outcome, certificateKind, finalizeKind, moveNumber}
 use Rattle.protocol.specs.Deliver.{deliverCall}
 use Rattle.protocol.specs.Move.{MoveOutcome, moveCall}
-use Rattle.protocol.specs.CheckCalls.{standIn, Call, opening, delivery, moving, signalling, submitting, sizing, reading, after, answers, tools}
+use Rattle.protocol_checks.specs.CheckCalls.{standIn, Call, opening, delivery, moving, signalling, submitting, sizing, reading, after, answers, tools}
 
 -- ---- the rehearsal
 -- a line of the rehearsal's output, by its first word

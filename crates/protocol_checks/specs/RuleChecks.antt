@@ -3,10 +3,10 @@ use Prim.Native.Nat.{ℕ}
 use mathlib.Core.Path.{_≡_, refl}
 use mathlib.Core.List.{List, [], _∷_, _++_}
 use lib.ListN.{replicate}
 use Rattle.protocol.specs.Bytes.{Bytes, zeros, part, join}
 use Rattle.protocol.specs.Block.{newBlock}
 use Rattle.protocol.specs.Frame.{proposal, blockVote, finalize, blockCertificate, dummyCertificate, finalizeCertificate}
-use Rattle.protocol.specs.CheckCalls.{standIn, opening, delivery, moving, submitting, perform, after, answers, splice, tools}
+use Rattle.protocol_checks.specs.CheckCalls.{standIn, opening, delivery, moving, submitting, perform, after, answers, splice, tools}
 
 entry : ℕ → Bytes
 entry x = replicate 16 x
