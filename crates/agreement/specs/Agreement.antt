@@ -9,6 +9,7 @@ use mathlib.Core.Option.{Option, some, none}
 use lib.ListN.{length}
 use lib.Dec.{leb}
 use Rattle.protocol.specs.Bytes.{Bytes, join}
+use Rattle.protocol.specs.CodecLaws.{at-suc}
 use Rattle.protocol.specs.Mask.{inMask, ones}
 use Rattle.protocol.specs.QuorumLaws.{quorums-meet}
 use Rattle.protocol.specs.Read.{logSize, readPart}
@@ -18,10 +19,11 @@ use Rattle.protocol.specs.TestsLaws.{and-true, cond-elim, le-or-lt, member-spli
 use Rattle.protocol.specs.View.{chain, chainWithin, isDummy, isFinalized, linked, logAt, quorum}
 use Rattle.agreement.specs.Backing.{Backed}
 use Rattle.agreement.specs.Chains.{Prefix, begins, prefix-bytes, prefix-nil}
-use Rattle.agreement.specs.Granted.{Granted, at-suc, granted}
+use Rattle.agreement.specs.Grants.{Grants, grants}
 use Rattle.agreement.specs.Lists.{Agreement, Begins, Continues, Follows, HonestIn, KeepsOneBook, Member, NoCollision, NotForged, Opens, Reads, Statement, Wrote, finalizes, lastLeft, votesBlock, votesDummy}
 use Rattle.agreement.specs.Replica.{good-after}
 use Rattle.agreement.specs.Run.{Good, GoodBytes, Honest, Seen, States, wrote-more}
+use Rattle.agreement.specs.Witness.{dishonest}
 
 module _ (digest : Bytes → Bytes) (n dishonest : ℕ) (l : List Member) (third : 3 * ones dishonest n < n)
     (keeps : (s : ℕ) → HonestIn n dishonest s → KeepsOneBook digest n l s)
@@ -53,7 +55,7 @@ module _ (digest : Bytes → Bytes) (n dishonest : ℕ) (l : List Member) (third
     whole : l ≡ P ++ after
     s : ℕ
     good : Good digest n dishonest P s b
-    grants : Granted digest b
+    grants : Grants digest b
 
   module _ (b : State) (x : Had b) where
     stated : (t : ℕ) (st : Statement) → Honest digest n dishonest t → States digest n dishonest (x .P) t st → Wrote digest t st l
@@ -142,7 +144,7 @@ module _ (digest : Bytes → Bytes) (n dishonest : ℕ) (l : List Member) (third
         whole = split .2;
         s = m .replica;
         good = subst (λ (z : Bytes). Good digest n dishonest (split .0) (m .replica) (decode z)) (sym (x .0)) g;
-        grants = granted digest (m .book) ok;
+        grants = grants digest (m .book) ok;
       }
 
       had : sound digest (m .book) ≡ true → Had (decode (m .book))

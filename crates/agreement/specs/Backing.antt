@@ -1,40 +1,30 @@
 -- What is kept of a height is backed by statements and blocks that were delivered.
 use Prim.Native.Nat.{ℕ, _+_, _-_, _*_, _%_, _^_, _≤_, _<_}
 use native.Mathlib.Omega.{arith}
-use mathlib.Core.Path.{_≡_, refl, sym, ap, _∙_}
+use mathlib.Core.Path.{_≡_, sym, ap, _∙_}
 use mathlib.Core.Logic.{_⊎_, inl, inr, _≢_}
-use mathlib.Core.Bool.{true, false, _&&_, not, false≢true}
+use mathlib.Core.Bool.{true, false, _&&_, not}
 use mathlib.Core.List.{[], _∷_, _++_, append-assoc}
 use mathlib.Core.Option.{Option, some, none}
 use lib.ListN.{length, take, drop, length-append, length-drop, take-append-drop}
 use lib.Seq.{take-at, drop-at, drop-append-le, take-append-le, length-take-le, drop-append-add, drop-drop}
 use lib.Dec.{eqb, leb}
-use borrow.Author.Tests.{eqb-true, eqb-false, leb-true, le-leb}
+use borrow.Author.Tests.{eqb-false, leb-true, le-leb}
 use Rattle.protocol.specs.Bytes.{Bytes, part, same}
 use Rattle.protocol.specs.Deliver.{notarize, votersFor, withMasks, withNotarized, withProposal, withVote}
 use Rattle.protocol.specs.Mask.{inMask}
 use Rattle.protocol.specs.MaskLaws.{inMask-maskOf}
+use Rattle.protocol.specs.RowLaws.{row, same-eq}
 use Rattle.protocol.specs.State.{Height, holdsProposal, isNotarized, voteOf}
 use Rattle.protocol.specs.StateLaws.{ShapedHeight}
 use Rattle.protocol.specs.Tests.{allOf}
 use Rattle.protocol.specs.TestsLaws.{and-true, cond-elim, le-or-lt}
 use Rattle.protocol.specs.View.{View, quorum}
-use Rattle.agreement.specs.Granted.{row}
 use Rattle.agreement.specs.Lists.{Statement, finalizes, votesBlock, votesDummy}
 
 abbrev pub IfSome : {A : Type 0} → (A → Type 0) → Option A → Type 0
 IfSome P none = Unit {0}
 IfSome P (some a) = P a
-
-pub same-eq : (a b : Bytes) → same a b ≡ true → a ≡ b
-unfolding same
-same-eq [] [] e = refl
-same-eq [] (y ∷ ys) e = absurd (false≢true e)
-same-eq (x ∷ xs) [] e = absurd (false≢true e)
-same-eq (x ∷ xs) (y ∷ ys) e =
-    let p = eqb-true x y (and-true (eqb x y) (same xs ys) e .0) in
-    let q = same-eq xs ys (and-true (eqb x y) (same xs ys) e .1) in
-    cc
 
 -- ---- a vote is put among the votes
 part-front : (u r : Bytes) (i j : ℕ) → i + j ≤ length u → part (u ++ r) i j ≡ part u i j

@@ -11,9 +11,9 @@ use lib.Dec.{eqb·suc-zero}
 use borrow.Author.Tests.{eqb-true}
 use Rattle.protocol.specs.Block.{allEntries, parentHeight}
 use Rattle.protocol.specs.Bytes.{Bytes, join}
+use Rattle.protocol.specs.RowLaws.{row}
 use Rattle.protocol.specs.TestsLaws.{and-true, le-or-lt}
 use Rattle.protocol.specs.View.{View, chainWithin, dummyRun, extendsOver, isDummy, linkedWithin}
-use Rattle.agreement.specs.Granted.{row}
 use Rattle.agreement.specs.Lists.{Begins}
 
 -- every height of a run of dummy blocks has one

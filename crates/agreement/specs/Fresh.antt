@@ -1,28 +1,22 @@
 -- A delivery that is not refused: what it has tested of its frame.
-use Prim.Native.Nat.{ℕ, zero, suc, _≤_, _<_}
+use Prim.Native.Nat.{suc, _≤_, _<_}
 use native.Mathlib.Omega.{arith}
 use mathlib.Core.Path.{_≡_}
 use mathlib.Core.Logic.{_⊎_, inl, inr}
 use mathlib.Core.Bool.{true}
-use mathlib.Core.List.{List, [], _∷_}
 use mathlib.Core.Option.{none}
-use lib.ListN.{length, getD}
+use lib.ListN.{length}
 use lib.Dec.{ltb}
 use borrow.Author.Tests.{eqb-true, leb-true}
 use Rattle.protocol.specs.Bytes.{Bytes}
 use Rattle.protocol.specs.Deliver.{deliverRows, readRows}
-use Rattle.protocol.specs.EveryLaws.{Every, one}
 use Rattle.protocol.specs.Frame.{frameHeight, frameWellFormed, isCertificate, isStatement, kind, signer}
+use Rattle.protocol.specs.RowLaws.{in-range, passed, row, row-passes}
 use Rattle.protocol.specs.Sound.{sound}
 use Rattle.protocol.specs.State.{State, decode, last}
 use Rattle.protocol.specs.Tests.{firstRefusal, inRange}
 use Rattle.protocol.specs.TestsLaws.{or-true}
-use Rattle.agreement.specs.Granted.{granted, in-range, row, row-passes}
-
-pub every-at : {A : Type 0} {Q : A → Type 0} (l : List A) (d : A) (i : ℕ) → i < length l → Every Q l → Q (getD l i d)
-every-at [] d i h e = absurd (omega arith)
-every-at (x ∷ xs) d zero h (one q qs) = q
-every-at (x ∷ xs) d (suc i) h (one q qs) = every-at xs d i (omega arith) qs
+use Rattle.agreement.specs.Grants.{grants}
 
 module _ (digest : Bytes → Bytes) (book f : Bytes) (passed : firstRefusal (deliverRows digest book f) ≡ none) where
   abbrev b : State
@@ -54,7 +48,7 @@ module _ (digest : Bytes → Bytes) (book f : Bytes) (passed : firstRefusal (del
       }
     where
       small : sound digest book ≡ true → ltb (signer f) (b .n) ≡ true → signer f < 16
-      small ok e = let g = granted digest book ok .few in let q = leb-true (suc (signer f)) (b .n) e in omega arith
+      small ok e = let g = grants digest book ok .few in let q = leb-true (suc (signer f)) (b .n) e in omega arith
 
       kinds : (isStatement (kind f) ≡ true) ⊎ (isCertificate (kind f) ≡ true) → (1 ≤ kind f) × (kind f ≤ 7)
       kinds (inl e) = let q = in-range 1 4 (kind f) e in (q .0, omega arith)

@@ -1,16 +1,17 @@
 -- What a delivery keeps is backed by the frame that it reads.
-use Prim.Native.Nat.{ℕ, _+_, _*_, _^_, _≤_, _<_}
+use Prim.Native.Nat.{ℕ, _+_, _^_, _≤_, _<_}
 use native.Mathlib.Omega.{arith}
 use mathlib.Core.Path.{_≡_, refl, sym, _∙_}
 use mathlib.Core.Logic.{_⊎_, inl, inr}
 use mathlib.Core.Bool.{Bool, true, false, not, cond, true≢false}
-use mathlib.Core.List.{[], _∷_, _++_}
+use mathlib.Core.List.{[], _∷_}
 use mathlib.Core.Option.{Option, some, none}
-use lib.ListN.{length, take, drop, length-append, length-drop, length-take}
+use lib.ListN.{length, length-drop, length-take}
 use lib.Dec.{eqb}
 use borrow.Author.Tests.{eqb-true, eqb-false}
 use Rattle.protocol.specs.Answer.{known}
 use Rattle.protocol.specs.Bytes.{Bytes, part}
+use Rattle.protocol.specs.ChangeLaws.{shaped-masks, shaped-notarized, shaped-proposal, shaped-vote}
 use Rattle.protocol.specs.Deliver.{keep, keepBlockCertificate, keepBlockVote, keepDummyCertificate, keepDummyVote, keepFinalize, keepFinalizeCertificate, keepProposal, notarize, votersFor, withMasks, withNotarized, withProposal, withVote}
 use Rattle.protocol.specs.Frame.{carriesBlock, frameBlock, frameDigest, frameHeight, kind, signer, signerMask}
 use Rattle.protocol.specs.Mask.{inMask, union}
@@ -42,34 +43,11 @@ module _ {Q : ℕ → Type 0} (mask : ℕ) (old : (t : ℕ) → inMask mask t �
       go (inr q) = new t q
 
 -- ---- sizes
-module _ (x : Height) (z : ShapedHeight x) where
-  shaped-proposal : (p : Bytes) → length p ≡ 176 → ShapedHeight (withProposal x p)
-  unfolding withProposal
-  shaped-proposal p e = record { proposal-size = e; notarized-size = z .notarized-size; votes-size = z .votes-size }
-
-  shaped-notarized : (m : ℕ) (p : Bytes) → length p ≡ 176 → ShapedHeight (withNotarized x m p)
-  unfolding withNotarized
-  shaped-notarized m p e = record { proposal-size = z .proposal-size; notarized-size = e; votes-size = z .votes-size }
-
-  shaped-masks : (m k : ℕ) → ShapedHeight (withMasks x m k)
-  unfolding withMasks
-  shaped-masks m k = record { proposal-size = z .proposal-size; notarized-size = z .notarized-size; votes-size = z .votes-size }
-
-  shaped-vote : (s : ℕ) (d : Bytes) → s < 16 → length d ≡ 32 → ShapedHeight (withVote x s d)
-  unfolding withVote
-  shaped-vote s d h e = record { proposal-size = z .proposal-size; notarized-size = z .notarized-size; votes-size = size }
-    where
-      v : length (x .voteDigests) ≡ 512
-      v = z .votes-size
-
-      size : length (take (32 * s) (x .voteDigests) ++ (d ++ drop (32 * s + 32) (x .voteDigests))) ≡ 512
-      size = simp (length-append, length-take, length-drop) (let q = v in omega arith)
-
-  shaped-notarize : (digest : Bytes → Bytes) (v : View) → ShapedHeight (notarize digest v x)
-  unfolding notarize
-  shaped-notarize digest v =
-      cond-elim ShapedHeight (allOf (not (isNotarized x) ∷ holdsProposal x ∷ quorum v (votersFor x (digest (x .proposal)) (v .n)) ∷ []))
-      (λ e. shaped-notarized (votersFor x (digest (x .proposal)) (v .n)) (x .proposal) (z .proposal-size)) (λ e. z)
+shaped-notarize : (x : Height) → ShapedHeight x → (digest : Bytes → Bytes) (v : View) → ShapedHeight (notarize digest v x)
+unfolding notarize
+shaped-notarize x z digest v =
+    cond-elim ShapedHeight (allOf (not (isNotarized x) ∷ holdsProposal x ∷ quorum v (votersFor x (digest (x .proposal)) (v .n)) ∷ []))
+    (λ e. shaped-notarized x (votersFor x (digest (x .proposal)) (v .n)) (x .proposal) (z .proposal-size) z) (λ e. z)
 
 -- ---- what a frame says, by its kind
 module _ (f : Bytes) where
@@ -132,7 +110,7 @@ module _ (digest : Bytes → Bytes) {W : ℕ → Statement → Type 0} {S : Byte
   keep-1 : kind f ≡ 1 → holdsProposal x ≡ false → Good (notarize digest (view b) (withProposal x (frameBlock f)))
   keep-1 e n = (
     backed-notarize digest (backed-proposal digest k (frameBlock f) n (seen (frameBlock f) (carried-1 f e))) (view b),
-    shaped-notarize (withProposal x (frameBlock f)) (shaped-proposal x z (frameBlock f) block-size) digest (view b),
+    shaped-notarize (withProposal x (frameBlock f)) (shaped-proposal x (frameBlock f) block-size z) digest (view b),
   )
 
   keep-2 : kind f ≡ 2 → inMask (x .voterMask) (signer f) ≡ false →
@@ -140,7 +118,7 @@ module _ (digest : Bytes → Bytes) {W : ℕ → Statement → Type 0} {S : Byte
   keep-2 e n = (
     backed-notarize digest
         (backed-vote digest k (signer f) (frameDigest f) (λ t q. vote t (inMask-add (x .voterMask) (signer f) t n q))) (view b),
-    shaped-notarize (withVote x (signer f) (frameDigest f)) (shaped-vote x z (signer f) (frameDigest f) (few e) digest-size) digest
+    shaped-notarize (withVote x (signer f) (frameDigest f)) (shaped-vote x (signer f) (frameDigest f) (few e) digest-size z) digest
         (view b),
   )
     where
@@ -157,29 +135,29 @@ module _ (digest : Bytes → Bytes) {W : ℕ → Statement → Type 0} {S : Byte
       Good (withMasks x (x .dummyMask + 2 ^ signer f) (x .finalizeMask))
   keep-3 e n =
       let voted = with-one (x .dummyMask) (k .dummies) (signer f) n (said (signer f) _ (says-3 digest f e)) in
-      (backed-dummies digest k _ voted, shaped-masks x z _ _)
+      (backed-dummies digest k _ voted, shaped-masks x _ _ z)
 
   keep-4 : kind f ≡ 4 → inMask (x .finalizeMask) (signer f) ≡ false →
       Good (withMasks x (x .dummyMask) (x .finalizeMask + 2 ^ signer f))
   keep-4 e n =
       let voted = with-one (x .finalizeMask) (k .finalizations) (signer f) n (said (signer f) _ (says-4 digest f e)) in
-      (backed-finalizations digest k _ voted, shaped-masks x z _ _)
+      (backed-finalizations digest k _ voted, shaped-masks x _ _ z)
 
   keep-5 : kind f ≡ 5 → Good (withNotarized x (signerMask f) (frameBlock f))
   keep-5 e = (
     backed-notarized digest k (signerMask f) (frameBlock f) (λ t q. said t _ (says-5 digest f t e q)) (seen (frameBlock f) (carried-5 f e)),
-    shaped-notarized x z (signerMask f) (frameBlock f) block-size,
+    shaped-notarized x (signerMask f) (frameBlock f) block-size z,
   )
 
   keep-6 : kind f ≡ 6 → Good (withMasks x (union (b .n) (x .dummyMask) (signerMask f)) (x .finalizeMask))
   keep-6 e =
       let voted = with-all (x .dummyMask) (k .dummies) (b .n) (signerMask f) (λ t q. said t _ (says-6 digest f t e q)) in
-      (backed-dummies digest k _ voted, shaped-masks x z _ _)
+      (backed-dummies digest k _ voted, shaped-masks x _ _ z)
 
   keep-7 : kind f ≡ 7 → Good (withMasks x (x .dummyMask) (union (b .n) (x .finalizeMask) (signerMask f)))
   keep-7 e =
       let voted = with-all (x .finalizeMask) (k .finalizations) (b .n) (signerMask f) (λ t q. said t _ (says-7 digest f t e q)) in
-      (backed-finalizations digest k _ voted, shaped-masks x z _ _)
+      (backed-finalizations digest k _ voted, shaped-masks x _ _ z)
 
   abbrev Good? : Option Height → Type 0
   Good? o = IfSome Good o

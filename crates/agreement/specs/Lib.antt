@@ -1,5 +1,5 @@
 pub mod Lists
-pub mod Granted
+pub mod Grants
 pub mod Backing
 pub mod Fresh
 pub mod Keeping

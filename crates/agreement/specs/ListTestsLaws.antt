@@ -13,10 +13,9 @@ use borrow.Author.Tests.{eqb-true, eq-eqb, leb-true, le-leb, not-true}
 use Rattle.protocol.specs.Bytes.{Bytes, byteAt, holds, part, same}
 use Rattle.protocol.specs.Mask.{inMask}
 use Rattle.protocol.specs.Read.{readPart}
+use Rattle.protocol.specs.RowLaws.{eq-same, implies-true, same-eq}
 use Rattle.protocol.specs.Tests.{implies}
-use Rattle.protocol.specs.TestsLaws.{and-true, eqb-self, le-or-lt, or-true}
-use Rattle.agreement.specs.Backing.{same-eq}
-use Rattle.agreement.specs.Granted.{implied}
+use Rattle.protocol.specs.TestsLaws.{and-true, le-or-lt, or-true}
 use Rattle.agreement.specs.ListTests.{deliversBacked, everyHonest, everyIn, follows, isAmong, isBacked, isHonest, keepsOneBook, noCollision, notForged, opensFor, readsPart, shows, showsOnly, signed, signedIn, someIn, statementBytes}
 use Rattle.agreement.specs.Lists.{Call, Continues, Follows, HonestIn, KeepsOneBook, Member, NoCollision, NotForged, Opens, Reads, Shows, Statement, Wrote, blockIn, delivers, delivery, finalizes, lastLeft, leftBy, moving, opening, orElse, proposes, reading, signalling, statementOf, submitting, votesBlock, votesDummy, writes}
 use Rattle.agreement.specs.Run.{or-else-assoc, or-else-none, wrote-more}
@@ -55,7 +54,7 @@ every-honest dishonest test (suc k) e s (low, h) = go (le-or-lt k s) (λ l. ever
     q = and-true (everyHonest dishonest test k) _ e
 
     go : (k ≤ s) ⊎ (s < k) → (s < k → test s ≡ true) → test s ≡ true
-    go (inl l) below = let z : s ≡ k = omega arith in rw z (implied _ _ (q .1) (rw (rw z at h)))
+    go (inl l) below = let z : s ≡ k = omega arith in rw z (implies-true _ _ (q .1) (rw (rw z at h)))
     go (inr l) below = below l
 
 pub is-honest : (n dishonest s : ℕ) → HonestIn n dishonest s → isHonest n dishonest s ≡ true
@@ -68,14 +67,6 @@ honest-in n dishonest s e =
     let q = and-true (ltb s n) (not (inMask dishonest s)) e in (leb-true (suc s) n (q .0), not-true (inMask dishonest s) (q .1))
 
 -- ---- bytes
-same-self : (a : Bytes) → same a a ≡ true
-unfolding same
-same-self [] = refl
-same-self (x ∷ xs) = rw (eqb-self x, same-self xs)
-
-pub eq-same : (a b : Bytes) → a ≡ b → same a b ≡ true
-eq-same a b e = subst (λ (x : Bytes). same a x ≡ true) e (same-self a)
-
 pub holds-member : (x : Bytes) (l : List Bytes) → holds x l ≡ true → List·Memᴰ x l
 unfolding holds
 holds-member x [] e = absurd (false≢true e)
@@ -145,7 +136,7 @@ module _ (digest : Bytes → Bytes) where
       let x≡m = split-head e .0 in
       let q = and-true (implies (eqb (x .replica) s) (follows digest n s x left)) _ t .0 in
       follows-sound n s m left (subst (λ (y : Member). follows digest n s y left ≡ true) x≡m
-      (implied _ _ q (eq-eqb (x .replica) s (ap (λ (y : Member). y .replica) x≡m ∙ own))))
+      (implies-true _ _ q (eq-eqb (x .replica) s (ap (λ (y : Member). y .replica) x≡m ∙ own))))
   keeps-from n s left (x ∷ xs) t (y ∷ before) m after e own =
       let x≡y = split-head e .0 in
       let q = and-true (implies (eqb (x .replica) s) (follows digest n s x left)) _ t .1 in
@@ -211,7 +202,7 @@ module _ (digest : Bytes → Bytes) where
         (frame : Bytes) → List·Memᴰ frame (delivers digest m) → isBacked digest n dishonest log frame ≡ true
     unfolding deliversBacked
     delivers-backed log m t hm frame d =
-        every-in (isBacked digest n dishonest log) (delivers digest m) (implied _ _ t (is-honest n dishonest (m .replica) hm)) frame d
+        every-in (isBacked digest n dishonest log) (delivers digest m) (implies-true _ _ t (is-honest n dishonest (m .replica) hm)) frame d
 
     forged-from : (P : List Member) (log : List Bytes) (l : List Member) → Logged P log →
         notForged digest n dishonest log l ≡ true →
@@ -241,7 +232,7 @@ module _ (digest : Bytes → Bytes) where
     shown-among blocks l t m block i hm (frame, j, e) =
         let q = every-in _ l t m i in
         let k = every-in (λ (f : Bytes). isAmong blocks (blockIn f)) (delivers digest m ++ writes digest m)
-        (implied _ _ q (is-honest n dishonest (m .replica) hm)) frame j in
+        (implies-true _ _ q (is-honest n dishonest (m .replica) hm)) frame j in
         holds-member block blocks (rw e at k)
 
     pub collision-sound : (blocks : List Bytes) (l : List Member) → showsOnly digest n dishonest blocks l ≡ true →
@@ -251,7 +242,7 @@ module _ (digest : Bytes → Bytes) where
         let q = every-in _ blocks u p (shown-among blocks l t m p i hm w) in
         let r = every-in (λ (other : Bytes). implies (same (digest p) (digest other)) (same p other)) blocks q p′
         (shown-among blocks l t m′ p′ i′ hm′ w′) in
-        same-eq p p′ (implied _ _ r (eq-same (digest p) (digest p′) e))
+        same-eq p p′ (implies-true _ _ r (eq-same (digest p) (digest p′) e))
 
   -- ---- readings
   pub reads-sound : (m : Member) (part : Bytes) → readsPart digest part (m .book) (m .call) ≡ true → Reads digest m part

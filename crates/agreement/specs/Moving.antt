@@ -2,26 +2,27 @@
 use Prim.Native.Nat.{ℕ, suc, _+_, _-_, _*_, _/_, _%_, _≤_}
 use native.Mathlib.Omega.{arith}
 use native.Mathlib.Numerals.{add-one}
-use native.Mathlib.Nat.{div-one, div-div-eq-div-mul}
-use mathlib.Core.Path.{_≡_, refl, sym, ap, subst, _∙_}
+use mathlib.Core.Path.{_≡_, refl, subst, _∙_}
 use mathlib.Core.Logic.{_⊎_, inl, inr}
 use mathlib.Core.Bool.{Bool, true, false, not, cond}
 use mathlib.Core.List.{List, [], _∷_, List·Memᴰ, List·Memᴰ·eq-of-singleton, List·Memᴰ·cases-cons, List·Memᴰ·not-nil}
 use mathlib.Core.Option.{some}
 use lib.ListN.{getD}
 use lib.Dec.{eqb}
-use borrow.Author.Tests.{eqb-false, not-true}
+use borrow.Author.Tests.{not-true}
 use Rattle.protocol.specs.Bytes.{Bytes, le16, word16, zeros}
 use Rattle.protocol.specs.EveryLaws.{Every, none, one}
+use Rattle.protocol.specs.FlagLaws.{block-flagged, dummy-flagged, proposal-flagged}
 use Rattle.protocol.specs.Frame.{blockCertificate, blockVote, dummyCertificate, dummyVote, finalize, frameBlock, frameDigest, frameHeight, frameOf, kind, proposal, signer, signerMask}
 use Rattle.protocol.specs.Mask.{inMask}
-use Rattle.protocol.specs.Move.{Step, blockVoteApplies, blockVoteStep, dummyVoteApplies, dummyVoteStep, firstStep, idleStep, outputStep, passCertificate, passStep, proposeStep, step}
+use Rattle.protocol.specs.Move.{Step, blockVoteApplies, blockVoteStep, dummyVoteApplies, dummyVoteStep, firstStep, idleStep, outputStep, passCertificate, passStep, proposeApplies, proposeStep, step}
+use Rattle.protocol.specs.RowLaws.{row}
 use Rattle.protocol.specs.Sound.{view}
 use Rattle.protocol.specs.State.{State, at, flag, noHeight, withHead}
+use Rattle.protocol.specs.StateLaws.{word16-le16}
 use Rattle.protocol.specs.TestsLaws.{cond-elim}
 use Rattle.protocol.specs.View.{linked}
 use Rattle.agreement.specs.Backing.{Backed}
-use Rattle.agreement.specs.Granted.{row}
 use Rattle.agreement.specs.Lists.{Statement, finalizes, proposes, statementOf, votesBlock, votesDummy, when}
 use Rattle.agreement.specs.Statements.{Consistent, stated-block, stated-dummy, stated-finalize, stated-nothing}
 
@@ -36,9 +37,6 @@ when-some : {A : Type 0} (b : Bool) (a x : A) → when b a ≡ some x → (x ≡
 unfolding when
 when-some true a x e = (cc, refl)
 when-some false a x e = let z : _≡_ {A = ℕ} 0 1 = cc in absurd (omega arith)
-
-word16-le16 : (x : ℕ) → x % 256 + 256 * (x / 256) ≡ x
-word16-le16 x = omega arith
 
 -- ---- what the written frames say
 module _ (digest : Bytes → Bytes) (o c s : ℕ) (st : Statement) where
@@ -72,27 +70,6 @@ module _ (digest : Bytes → Bytes) (o c s : ℕ) (st : Statement) where
   dummyCertificate-says m e =
       let q = when-some (inMask (m % 256 + 256 * (m / 256)) s) (votesDummy c) st e in
       (q .0, rw (word16-le16 m) at (q .1))
-
--- ---- flags
-odd-eq : (x y : ℕ) → x % 2 ≡ y % 2 → eqb (x % 2) 1 ≡ true → eqb (y % 2) 1 ≡ true
-odd-eq x y p e = rw p at e
-
-flag-low : (f j : ℕ) → eqb (f / 1 % 2) 1 ≡ true → eqb ((f + 2 * j) / 1 % 2) 1 ≡ true
-flag-low f j e = odd-eq (f / 1) ((f + 2 * j) / 1) (omega (arith, div-one f, div-one (f + 2 * j))) e
-
-flag-4-after-2 : (f : ℕ) → eqb (f / 2 % 2) 1 ≡ false → eqb (f / 4 % 2) 1 ≡ true → eqb ((f + 2) / 4 % 2) 1 ≡ true
-flag-4-after-2 f n e =
-    let q = eqb-false (f / 2 % 2) 1 n in
-    let h : (f + 2) / 2 ≡ f / 2 + 1 = omega arith in
-    let d : (f / 2 + 1) / 2 ≡ f / 2 / 2 = omega arith in
-    let r : (f + 2) / 4 ≡ f / 4 = sym (div-div-eq-div-mul (f + 2) 2 2) ∙ ap (λ (x : ℕ). x / 2) h ∙ d ∙ div-div-eq-div-mul f 2 2 in
-    rw r e
-
-flag-4-after-8 : (f : ℕ) → eqb (f / 4 % 2) 1 ≡ true → eqb ((f + 8) / 4 % 2) 1 ≡ true
-flag-4-after-8 f e = odd-eq (f / 4) ((f + 8) / 4) (omega arith) e
-
-flag-4-after-4 : (f : ℕ) → eqb (f / 4 % 2) 1 ≡ false → eqb ((f + 4) / 4 % 2) 1 ≡ true
-flag-4-after-4 f n = let q = eqb-false (f / 4 % 2) 1 n in let r : (f + 4) / 4 % 2 ≡ 1 = omega arith in rw r
 
 module _ (digest : Bytes → Bytes) (U : ℕ → Statement → Type 0) (U′ : Statement → Type 0) (S : Bytes → Type 0) (s : ℕ) (b : State)
     (backed : (i : ℕ) → Backed digest U S (suc i) (getD (b .heights) i noHeight))
@@ -136,10 +113,11 @@ module _ (digest : Bytes → Bytes) (U : ℕ → Statement → Type 0) (U′ : S
   good-idle a = stated-nothing k (adds-none a) (λ e. e) (λ e. e)
 
   good-dummy : dummyVoteApplies b ≡ true → StepGood (dummyVoteStep b)
-  unfolding dummyVoteApplies dummyVoteStep withHead flag
+  unfolding dummyVoteApplies dummyVoteStep withHead
   good-dummy e a =
       let new = adds-one (λ (t : Statement). t ≡ votesDummy c) (dummyVote (b .own) c) (dummyVote-says digest (b .own) c s) a in
-      stated-dummy k new (row _ 1 e) (λ r. flag-low (b .flags) 1 r) (λ r. flag-4-after-2 (b .flags) (not-true (flag 2 b) (row _ 2 e)) r)
+      let after = dummy-flagged b c (b .finalized) (not-true (flag 2 b) (row _ 2 e)) in
+      stated-dummy k new (row _ 1 e) (λ r. after .one ∙ r) (λ r. after .four ∙ r)
 
   good-output : StepGood (outputStep digest b)
   unfolding outputStep withHead flag
@@ -177,26 +155,28 @@ module _ (digest : Bytes → Bytes) (U : ℕ → Statement → Type 0) (U′ : S
       sort t (inl u) = inl u
       sort t (inr u) = either t (List·Memᴰ·cases-cons (u .1)) (u .2)
 
-  good-propose : StepGood (proposeStep digest b)
-  unfolding proposeStep withHead flag
-  good-propose a =
+  good-propose : proposeApplies digest b ≡ true → StepGood (proposeStep digest b)
+  unfolding proposeApplies proposeStep withHead
+  good-propose e a =
       let X : Statement → Type 0 = λ (t : Statement). (h : ℕ) × (p : Bytes) × (t ≡ proposes h p) in
       let new = adds-one X _ (λ t r. proposal-says digest (b .own) c s t _ r) a in
-      stated-nothing k new (λ r. flag-low (b .flags) 4 r) (λ r. flag-4-after-8 (b .flags) r)
+      let after = proposal-flagged b c (b .finalized) (not-true (flag 8 b) (row _ 2 e)) in
+      stated-nothing k new (λ r. after .one ∙ r) (λ r. after .four ∙ r)
 
   good-block : blockVoteApplies digest b ≡ true → StepGood (blockVoteStep digest b)
-  unfolding blockVoteApplies blockVoteStep withHead flag
+  unfolding blockVoteApplies blockVoteStep withHead
   good-block e a =
       let d : Bytes = digest (at b c .proposal) in
       let vote : Bytes = blockVote (b .own) c d in
       let unset = not-true (flag 4 b) (row _ 1 e) in
       let new = adds-one (λ (t : Statement). t ≡ votesBlock c (frameDigest vote)) vote (λ t r. blockVote-says digest (b .own) c s t d r) a in
-      stated-block k (frameDigest vote) new unset (flag-4-after-4 (b .flags) unset) (λ r. flag-low (b .flags) 2 r)
+      let after = block-flagged b c (b .finalized) unset in
+      stated-block k (frameDigest vote) new unset (after .four) (λ r. after .one ∙ r)
 
   pub step-good : StepGood (step digest b)
   unfolding step
   step-good = first-step StepGood _ _
-      (one good-dummy (one (λ e. good-output) (one (λ e. good-pass) (one (λ e. good-propose) (one good-block none))))) good-idle
+      (one good-dummy (one (λ e. good-output) (one (λ e. good-pass) (one good-propose (one good-block none))))) good-idle
 
 -- a move leaves all but flags, current and finalized height
 pub record SameBody (b b′ : State) : Type 0 where

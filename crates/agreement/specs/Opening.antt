@@ -1,7 +1,7 @@
 -- A new book, and a book with one more pending entry.
 use Prim.Native.Nat.{ℕ, zero, suc, _-_, _*_, _≤_}
 use native.Mathlib.Omega.{arith}
-use mathlib.Core.Path.{_≡_, refl, sym, _∙_}
+use mathlib.Core.Path.{_≡_, refl, sym, ap, _∙_}
 use mathlib.Core.Bool.{true, true≢false, false≢true}
 use mathlib.Core.List.{List, [], _∷_, _++_, map}
 use mathlib.Core.Option.{Option, some, none}
@@ -11,19 +11,24 @@ use borrow.Author.Tests.{eqb-true, leb-true}
 use Rattle.protocol.specs.Answer.{Done, Outcome, accepted, done, unlessRefused}
 use Rattle.protocol.specs.Bytes.{Bytes, holds, join, pieces, zeros}
 use Rattle.protocol.specs.EveryLaws.{Every, none as no-more, one}
+use Rattle.protocol.specs.Frame.{finalize}
+use Rattle.protocol.specs.Mask.{inMask}
 use Rattle.protocol.specs.MaskLaws.{inMask-zero}
 use Rattle.protocol.specs.Move.{without}
+use Rattle.protocol.specs.NewStateLaws.{new-shaped}
 use Rattle.protocol.specs.Open.{newHeight, newState, openCall, openRows}
+use Rattle.protocol.specs.RowLaws.{row-passes}
 use Rattle.protocol.specs.Sound.{log}
-use Rattle.protocol.specs.State.{State, decode, encode, flag, holdsProposal, isNotarized, noHeight, pending}
-use Rattle.protocol.specs.StateLaws.{ShapedHeight, Sized, length-join}
+use Rattle.protocol.specs.State.{Height, State, decode, encode, flag, holdsProposal, isNotarized, noHeight, pending}
+use Rattle.protocol.specs.StateLaws.{Sized, length-join}
 use Rattle.protocol.specs.Submit.{stillPending, submitCall, submitRows, withPending}
 use Rattle.protocol.specs.Tests.{firstRefusal}
 use Rattle.protocol.specs.TestsLaws.{cond-elim}
 use Rattle.agreement.specs.Backing.{Backed}
-use Rattle.agreement.specs.Granted.{granted, row-passes}
+use Rattle.agreement.specs.Grants.{grants}
 use Rattle.agreement.specs.Lists.{Member, Statement, Wrote, isAccepted, writes}
 use Rattle.agreement.specs.Run.{Good, Honest, States, backed-more, encoded, nothing-new, quiet, unchanged, unless-refused-good}
+use Rattle.agreement.specs.Witness.{dishonest, entry, leaders}
 
 -- ---- entries of 16 bytes
 pub every-pieces : (k : ℕ) (p : Bytes) → 16 * k ≤ length p → Every (Sized 16) (pieces 16 k p)
@@ -70,7 +75,7 @@ module _ (digest : Bytes → Bytes) (n dishonest : ℕ) (P : List Member) (m : M
           let r2 = row-passes _ _ (r1 .1) in
           let r3 = row-passes _ _ (r2 .1) in
           let r4 = row-passes _ _ (r3 .1) in
-          let w = granted digest book (r1 .0) .pends in
+          let w = grants digest book (r1 .0) .pends in
           let ps = g .shaped .pool-size in
           let full : Every (Sized 16) es = every-append still (entry ∷ [])
           (every-without (log b) (pending b) (every-pieces (b .pendingCount) (b .pool) (omega arith)))
@@ -81,38 +86,28 @@ module _ (digest : Bytes → Bytes) (n dishonest : ℕ) (P : List Member) (m : M
           (λ i. backed-more digest n dishonest P m (g .backed i))
 
 -- ---- a new book
-module _ (digest : Bytes → Bytes) {W : ℕ → Statement → Type 0} {S : Bytes → Type 0} where
-  backed-empty : (h : ℕ) → Backed digest W S h noHeight
-  unfolding noHeight holdsProposal isNotarized
-  backed-empty h = record {
-    dummies = λ t e. absurd (true≢false (sym e ∙ inMask-zero t));
-    finalizations = λ t e. absurd (true≢false (sym e ∙ inMask-zero t));
-    ballots = λ t e. absurd (true≢false (sym e ∙ inMask-zero t));
-    certifiers = λ t e. absurd (true≢false (sym e ∙ inMask-zero t));
-    proposal-seen = λ e. absurd (false≢true e);
-    notarized-seen = λ e. absurd (false≢true e);
-  }
+nobody : {A : Type 0} (mask t : ℕ) → mask ≡ 0 → inMask mask t ≡ true → A
+nobody mask t z e = absurd (true≢false (sym e ∙ ap (λ (x : ℕ). inMask x t) z ∙ inMask-zero t))
 
-  backed-new : (h l : ℕ) → Backed digest W S h (newHeight l)
-  unfolding newHeight holdsProposal isNotarized
-  backed-new h l = record {
-    dummies = λ t e. absurd (true≢false (sym e ∙ inMask-zero t));
-    finalizations = λ t e. absurd (true≢false (sym e ∙ inMask-zero t));
-    ballots = λ t e. absurd (true≢false (sym e ∙ inMask-zero t));
-    certifiers = λ t e. absurd (true≢false (sym e ∙ inMask-zero t));
-    proposal-seen = λ e. absurd (false≢true e);
-    notarized-seen = λ e. absurd (false≢true e);
+module _ (digest : Bytes → Bytes) {W : ℕ → Statement → Type 0} {S : Bytes → Type 0} where
+  -- a height where nothing is kept
+  backed-nothing : (h : ℕ) (x : Height) → x .status ≡ 0 → x .certificateMask ≡ 0 → x .dummyMask ≡ 0 → x .finalizeMask ≡ 0 → x .voterMask ≡ 0 →
+      Backed digest W S h x
+  unfolding holdsProposal isNotarized
+  backed-nothing h x status certificate dummy finalize voters = record {
+    dummies = λ t e. nobody (x .dummyMask) t dummy e;
+    finalizations = λ t e. nobody (x .finalizeMask) t finalize e;
+    ballots = λ t e. nobody (x .voterMask) t voters e;
+    certifiers = λ t e. nobody (x .certificateMask) t certificate e;
+    proposal-seen = λ e. absurd (false≢true (rw status at e));
+    notarized-seen = λ e. absurd (false≢true (rw status at e));
   }
 
   backed-leaders : (leaders : Bytes) (i h : ℕ) → Backed digest W S h (getD (map (newHeight) leaders) i noHeight)
-  backed-leaders [] i h = backed-empty h
-  backed-leaders (l ∷ leaders) zero h = backed-new h l
+  unfolding newHeight noHeight
+  backed-leaders [] i h = backed-nothing h noHeight refl refl refl refl refl
+  backed-leaders (l ∷ leaders) zero h = backed-nothing h (newHeight l) refl refl refl refl refl
   backed-leaders (l ∷ leaders) (suc i) h = backed-leaders leaders i h
-
-shaped-leaders : (leaders : Bytes) → Every ShapedHeight (map (newHeight) leaders)
-unfolding newHeight zeros
-shaped-leaders [] = no-more
-shaped-leaders (l ∷ leaders) = one (record { proposal-size = refl; notarized-size = refl; votes-size = refl }) (shaped-leaders leaders)
 
 open-unrefused : (book : Bytes) (n own heights : ℕ) (leaders : Bytes) →
     isAccepted (openCall book n own heights leaders .answer) ≡ true →
@@ -131,10 +126,10 @@ open-unrefused book n own heights leaders = go (firstRefusal (openRows book n ow
 module _ (digest : Bytes → Bytes) (n dishonest : ℕ) (P : List Member) (m : Member) where
   new-book-good : (s : ℕ) (leaders : Bytes) → Honest digest n dishonest s → ((st : Statement) → Wrote digest s st P → ⊥) →
       writes digest m ≡ [] → Good digest n dishonest (P ++ (m ∷ [])) s (newState n s leaders)
-  unfolding newState zeros
+  unfolding newState
   new-book-good s leaders hs none-before silent = record {
     same-n = refl;
-    shaped = record { pool-size = refl′; heights = shaped-leaders leaders };
+    shaped = new-shaped n s leaders;
     backed = λ i. backed-leaders digest leaders i (suc i);
     consistent = record {
       dummy-old = λ h w. absurd (never _ w);
@@ -147,9 +142,6 @@ module _ (digest : Bytes → Bytes) (n dishonest : ℕ) (P : List Member) (m : M
     where
       never : (st : Statement) → States digest n dishonest (P ++ (m ∷ [])) s st → ⊥
       never st w = none-before st (nothing-new digest n dishonest P m s (λ e. silent) st (w hs))
-
-      refl′ : length (zeros 512) ≡ 512
-      refl′ = length-replicate {A = ℕ} 512 0
 
   pub opening-good : (s : ℕ) (book : Bytes) (heights : ℕ) (leaders : Bytes) → Honest digest n dishonest s →
       ((st : Statement) → Wrote digest s st P → ⊥) → writes digest m ≡ [] →

@@ -1,8 +1,7 @@
 -- The book of an honest replica, along a list of calls.
-use Prim.Native.Nat.{ℕ, suc, _+_, _-_, _/_, _%_, _<_}
+use Prim.Native.Nat.{ℕ, suc, _+_, _-_, _<_}
 use native.Mathlib.Omega.{arith}
-use native.Mathlib.Nat.{div-one, div-div-eq-div-mul}
-use mathlib.Core.Path.{_≡_, refl, sym, ap, subst, _∙_}
+use mathlib.Core.Path.{_≡_, refl, sym, subst, _∙_}
 use mathlib.Core.Logic.{_⊎_, inl, inr}
 use mathlib.Core.Bool.{Bool, true, false, cond, true≢false}
 use mathlib.Core.List.{List, [], _∷_, _++_, List·Memᴰ, List·Memᴰ·head, List·Memᴰ·eq-of-singleton, List·Memᴰ·append-cases, List·Memᴰ·not-nil, Memᴰ·append-left, Memᴰ·append-right}
@@ -15,9 +14,11 @@ use Rattle.protocol.specs.Answer.{Done, Outcome, accepted, done, unlessRefused}
 use Rattle.protocol.specs.Bytes.{Bytes}
 use Rattle.protocol.specs.Deliver.{deliverCall, deliverRows, keep, kept}
 use Rattle.protocol.specs.EveryLaws.{every-set}
+use Rattle.protocol.specs.FlagLaws.{timer-flagged}
 use Rattle.protocol.specs.Frame.{frameHeight}
 use Rattle.protocol.specs.Move.{Step, moveCall, moveRows, moved, step, unlessMoveRefused}
 use Rattle.protocol.specs.Open.{newState, openCall, openRows}
+use Rattle.protocol.specs.RowLaws.{every-at, passed, row-passes}
 use Rattle.protocol.specs.Signal.{signalCall, signalRows, withTimerFired}
 use Rattle.protocol.specs.Sound.{sound}
 use Rattle.protocol.specs.State.{Height, State, at, decode, encode, flag, noHeight, withHead, withHeight}
@@ -25,19 +26,13 @@ use Rattle.protocol.specs.StateLaws.{Shaped, ShapedHeight, decode-encode}
 use Rattle.protocol.specs.Tests.{firstRefusal}
 use Rattle.protocol.specs.TestsLaws.{and-true}
 use Rattle.agreement.specs.Backing.{Backed, later}
-use Rattle.agreement.specs.Fresh.{Read, every-at, read}
-use Rattle.agreement.specs.Granted.{granted, row-passes}
+use Rattle.agreement.specs.Fresh.{Read, read}
+use Rattle.agreement.specs.Grants.{grants}
 use Rattle.agreement.specs.Keeping.{keep-good}
 use Rattle.agreement.specs.Lists.{HonestIn, Member, Shows, Statement, Wrote, blockIn, delivers, isAccepted, lastLeft, leftBy, orElse, statementOf, writes}
 use Rattle.agreement.specs.Moving.{step-body, step-good}
 use Rattle.agreement.specs.Statements.{Consistent, stated-nothing}
-
-flag-4-after-1 : (f : ℕ) → eqb (f / 1 % 2) 1 ≡ false → eqb (f / 4 % 2) 1 ≡ true → eqb ((f + 1) / 4 % 2) 1 ≡ true
-flag-4-after-1 f n e =
-    let q = eqb-false (f / 1 % 2) 1 n in
-    let h : (f + 1) / 2 ≡ f / 2 = omega (arith, div-one f) in
-    let r : (f + 1) / 4 ≡ f / 4 = sym (div-div-eq-div-mul (f + 1) 2 2) ∙ ap (λ (x : ℕ). x / 2) h ∙ div-div-eq-div-mul f 2 2 in
-    rw r e
+use Rattle.agreement.specs.Witness.{dishonest, leaders}
 
 -- ---- lists
 pub or-else-assoc : {A : Type 0} (x y z : Option A) → orElse (orElse x y) z ≡ orElse x (orElse y z)
@@ -164,7 +159,7 @@ module _ (digest : Bytes → Bytes) where
 
         shaped-at : ShapedHeight (at b h)
         unfolding at
-        shaped-at = every-at (b .heights) noHeight (h - 1) inside (g .shaped .heights)
+        shaped-at = every-at (h - 1) noHeight (g .shaped .heights) inside
 
         shown : (p : Bytes) → blockIn f ≡ some p → Seen P′ p
         unfolding Shows
@@ -231,7 +226,7 @@ module _ (digest : Bytes → Bytes) where
 
       pub signal-good : (s : ℕ) (book : Bytes) (h : ℕ) → Good P s (decode book) → writes digest m ≡ [] →
           Good P′ s (decode (signalCall digest book h .book))
-      unfolding signalCall signalRows withTimerFired withHead flag
+      unfolding signalCall signalRows withTimerFired withHead
       signal-good s book h g silent =
           unless-refused-good s (firstRefusal (signalRows digest book h)) book _ (unchanged s b g (λ q. silent))
           (λ e. encoded P′ s _ (fired e))
@@ -245,8 +240,9 @@ module _ (digest : Bytes → Bytes) where
               let r2 = row-passes _ _ (r1 .1) in
               let r3 = row-passes _ _ (r2 .1) in
               let off = not-true (flag 1 b) (and-true (eqb h (b .current)) _ (r3 .0) .1) in
+              let after = timer-flagged b (b .current) (b .finalized) off in
               quiet s b (withHead b (b .flags + 1) (b .current) (b .finalized)) g (λ q. silent) refl refl
-              (λ q. absurd (true≢false (sym q ∙ off))) (λ q. flag-4-after-1 (b .flags) off q)
+              (λ q. after .one) (λ q. after .four ∙ q)
               (record { pool-size = g .shaped .pool-size; heights = g .shaped .heights }) (λ i. backed-more (g .backed i))
 
       -- ---- a move
@@ -261,7 +257,7 @@ module _ (digest : Bytes → Bytes) where
                 { pool-size = rw (body .same-pool) (g .shaped .pool-size); heights = rw (body .same-heights) (g .shaped .heights) };
             backed = λ i. rw (body .same-heights) (backed-more (g .backed i));
             consistent = step-good digest (States P) (States P′ s) (Seen P) s b (g .backed) (g .consistent)
-                (granted digest book ok .positive) (λ t w. go t (wrote-last s t P m (w hs)));
+                (grants digest book ok .positive) (λ t w. go t (wrote-last s t P m (w hs)));
           }
         where
           b : State

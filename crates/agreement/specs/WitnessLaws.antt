@@ -17,6 +17,7 @@ use Rattle.protocol.specs.Mask.{belowBit, inMask, maskOf, ones, union}
 use Rattle.protocol.specs.Move.{blockVoteApplies, blockVoteStep, dummyVoteApplies, dummyVoteStep, firstStep, idleStep, isRunning, isSome, moveCall, moveRows, moved, newFinalized, offered, outputApplies, outputStep, parentBelow, passApplies, passCertificate, passStep, proposeApplies, proposeStep, proposedBlock, someOr, step, unlessMoveRefused, unused, without, written}
 use Rattle.protocol.specs.Open.{newHeight, newState, openCall, openInRange, openRows}
 use Rattle.protocol.specs.Read.{logSize, readPart}
+use Rattle.protocol.specs.RowLaws.{row}
 use Rattle.protocol.specs.Signal.{signalCall, signalRows, withTimerFired}
 use Rattle.protocol.specs.Sound.{blocksWellFormed, contentZeros, log, masksBelow, sound, view}
 use Rattle.protocol.specs.State.{at, bodyBytes, bookSize, contentBytes, decode, decodeHeight, decodeHeights, encode, flag, headBytes, holdsProposal, isNotarized, last, noHeight, pending, voteOf, withHead, withHeight}
@@ -24,7 +25,6 @@ use Rattle.protocol.specs.Submit.{stillPending, submitCall, submitRows, withPen
 use Rattle.protocol.specs.Tests.{allOf, everyHeight, firstRefusal, implies, inRange}
 use Rattle.protocol.specs.TestsLaws.{and-true}
 use Rattle.protocol.specs.View.{chain, chainWithin, digestAt, dummyRun, extends, extendsOver, isDummy, isFinalized, largestFinalized, linked, linkedWithin, logAt, parentOf, quorum}
-use Rattle.agreement.specs.Granted.{row}
 use Rattle.agreement.specs.ListTests.{deliversBacked, everyHonest, everyIn, follows, isAmong, isBacked, isHonest, keepsOneBook, noCollision, notForged, opensFor, readsPart, shows, showsOnly, signed, signedIn, someIn, statementBytes}
 use Rattle.agreement.specs.ListTestsLaws.{collision-sound, every-honest, forged-sound, holds-member, honest-in, keeps-sound, reads-sound, some-in}
 use Rattle.agreement.specs.Lists.{HonestIn, Member, Reads, blockIn, bookAfter, deliveredBy, delivers, isAccepted, leftBy, opensBook, orElse, proposes, statementOf, when, writes, writtenBy}

@@ -70,6 +70,21 @@ quorumFrom n enough =
     (v : View) (mask : ℕ) → v .n ≡ n →
     (enough ≤ ones mask n → quorum v mask ≡ true) × (ones mask n < enough → quorum v mask ≡ false)
 
+-- a move passes height 1 on the dummy certificate of mask 7, which is its first frame; its second is `next`
+abbrev pub passesDummy : MoveOutcome → Bool → Bytes → Type 0
+passesDummy m finalized next =
+    (m .answer ≡ accepted (pass 1 onDummy finalized)) ×
+    (frameIn (m .reply) 0 ≡ dummyCertificate 1 7) ×
+    (frameIn (m .reply) 1 ≡ next)
+
+-- a move proposes at height 1, with parent height 0 and no entries
+abbrev pub proposesFirst : MoveOutcome → Type 0
+proposesFirst m =
+    (m .answer ≡ accepted (propose 1)) ×
+    (kind (frameIn (m .reply) 0) ≡ 1) ×
+    (parentHeight (frameBlock (frameIn (m .reply) 0)) ≡ 0) ×
+    (entryCount (frameBlock (frameIn (m .reply) 0)) ≡ 0)
+
 pub data Letter : Type 0 where
   a b c d e f g h i j k l : Letter
 
@@ -95,25 +110,18 @@ claim g =
     (afterSignal digest x .answer ≡ accepted (voteDummy 1)) ×
     (frameIn (afterSignal digest x .reply) 0 ≡ dummyVote (x .own) 1) ×
     (moveCall digest (afterSignal digest x .book) (x .reply) .answer ≡ accepted idle)
--- 4 replicas, no signal, dummy votes of 0, 1 and 2: height 1 is passed on the dummy certificate of mask 7, and finalized
+-- 4 replicas, no signal, dummy votes of 0, 1 and 2: a pass of height 1 on certificate 6 with mask 7, and a finalize
 claim h =
     (digest : Bytes → Bytes) (x : Start) → x .n ≡ 4 →
-    (afterDummyVotes digest (opened x) (x .reply) .answer ≡ accepted (pass 1 onDummy true)) ×
-    (frameIn (afterDummyVotes digest (opened x) (x .reply) .reply) 0 ≡ dummyCertificate 1 7) ×
-    (frameIn (afterDummyVotes digest (opened x) (x .reply) .reply) 1 ≡ finalize (x .own) 1)
+    passesDummy (afterDummyVotes digest (opened x) (x .reply)) true (finalize (x .own) 1)
 -- the same after the signal and the dummy vote: no finalize, the second frame is zero
 claim i =
     (digest : Bytes → Bytes) (x : Start) → x .n ≡ 4 →
-    (afterDummyVotes digest (afterSignal digest x .book) (x .reply) .answer ≡ accepted (pass 1 onDummy false)) ×
-    (frameIn (afterDummyVotes digest (afterSignal digest x .book) (x .reply) .reply) 0 ≡ dummyCertificate 1 7) ×
-    (frameIn (afterDummyVotes digest (afterSignal digest x .book) (x .reply) .reply) 1 ≡ zeros 224)
+    passesDummy (afterDummyVotes digest (afterSignal digest x .book) (x .reply)) false (zeros 224)
 -- a new book whose first leader is the replica: a proposal with parent height 0 and no entries
 claim j =
     (digest : Bytes → Bytes) (x : Start) → firstLeader x ≡ x .own →
-    (moveCall digest (opened x) (x .reply) .answer ≡ accepted (propose 1)) ×
-    (kind (frameIn (moveCall digest (opened x) (x .reply) .reply) 0) ≡ 1) ×
-    (parentHeight (frameBlock (frameIn (moveCall digest (opened x) (x .reply) .reply) 0)) ≡ 0) ×
-    (entryCount (frameBlock (frameIn (moveCall digest (opened x) (x .reply) .reply) 0)) ≡ 0)
+    proposesFirst (moveCall digest (opened x) (x .reply))
 -- 4 replicas, finalize mask 7 at height 1 and no block: the finalized height stays 0; in general a move leaves the
 -- finalized height alone where no block is notarized, whatever the masks
 claim k =

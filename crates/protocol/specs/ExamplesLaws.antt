@@ -1,32 +1,34 @@
 -- The proofs of document 01's lettered examples.
-use Prim.Native.Nat.{ℕ, zero, suc, _+_, _-_, _*_, _/_, _%_, _^_, _≤_, _<_}
+use Prim.Native.Nat.{ℕ, zero, suc, _+_, _*_, _^_, _≤_, _<_}
 use native.Mathlib.Omega.{arith}
 use native.Mathlib.Nat.{zero-div}
 use mathlib.Core.Path.{_≡_, refl, sym, ap, subst, _∙_}
 use mathlib.Core.Logic.{_≢_}
-use mathlib.Core.Bool.{Bool, true, false, _&&_, _||_, not, cond, and-false}
-use mathlib.Core.List.{List, [], _∷_, _++_, map}
+use mathlib.Core.Bool.{true, false, _&&_, not, and-false}
+use mathlib.Core.List.{List, [], _∷_}
 use mathlib.Core.Option.{Option, some, none}
-use lib.ListN.{length, take, drop}
-use lib.Dec.{eqb, leb, ltb}
-use borrow.Author.Tests.{ltb-true, leb-true, eqb-true, lt-ltb, le-leb, lt-leb}
+use lib.ListN.{length}
+use lib.Pow.{pow-pos}
+use lib.Dec.{eqb, ltb}
+use borrow.Author.Tests.{ltb-true, eqb-true, le-leb, lt-leb}
 use Rattle.protocol.specs.Bytes.{Bytes, byteAt, word16, le16, part, zeros, join, pieces, overFront, all}
 use Rattle.protocol.specs.Tests.{allOf, inRange, firstRefusal}
 use Rattle.protocol.specs.TestsLaws.{and-true}
+use Rattle.protocol.specs.RowLaws.{in-range, row-passes}
 use Rattle.protocol.specs.Block.{parentHeight, entryCount, newBlock, allEntries}
 use Rattle.protocol.specs.Mask.{inMask, maskOf, ones, union, belowBit}
-use Rattle.protocol.specs.State.{State, Height, at, encode, headBytes, bookSize, isNotarized, flag, pending, withHead}
-use Rattle.protocol.specs.View.{View, quorum, isDummy, linked, dummyRun, digestAt, parentOf, chain, chainWithin, logAt, extends, extendsOver}
+use Rattle.protocol.specs.State.{State, at, encode, headBytes, bookSize, flag, pending, withHead}
+use Rattle.protocol.specs.View.{View, quorum, isDummy, dummyRun, digestAt, parentOf, chain, chainWithin, logAt, extends, extendsOver}
 use Rattle.protocol.specs.Sound.{view}
-use Rattle.protocol.specs.Answer.{Outcome, Answer, Delivery, fresh, idle, voteDummy, pass, propose, onDummy, refused, accepted, Done, done, unlessRefused}
+use Rattle.protocol.specs.Answer.{Outcome, Delivery, fresh, idle, voteDummy, accepted, Done, done, unlessRefused}
 use Rattle.protocol.specs.Open.{newState, newHeight, openInRange, openRows, openCall}
 use Rattle.protocol.specs.Deliver.{withMasks, deliverCall}
 use Rattle.protocol.specs.Signal.{signalCall}
-use Rattle.protocol.specs.Frame.{kind, frameBlock, frameOf, proposal, dummyVote, finalize, dummyCertificate, finalizeCertificate}
-use Rattle.protocol.specs.Move.{step, moveCall, moved, MoveOutcome, idleStep, dummyVoteStep, passStep, proposeStep, written, unused, isRunning, proposedBlock, offered, without, parentBelow, someOr, dummyVoteApplies}
+use Rattle.protocol.specs.Frame.{kind, frameBlock, frameOf, proposal, dummyVote, finalize}
+use Rattle.protocol.specs.Move.{step, moveCall, moved, MoveOutcome, idleStep, dummyVoteStep, passStep, proposeStep, written, unused, proposedBlock, offered, without, parentBelow, someOr, dummyVoteApplies}
 use Rattle.protocol.specs.Computing.{everything}
-use Rattle.protocol.specs.Examples.{Letter, claim, Start, opened, firstLeader, quorumFrom, deliverAll, signalled, afterSignal, afterDummyVotes, afterFinalizes, frameIn}
-use Rattle.protocol.specs.NewBookLaws.{power-positive, Ranges, early, firstHeight}
+use Rattle.protocol.specs.Examples.{Letter, claim, Start, opened, firstLeader, quorumFrom, deliverAll, signalled, afterSignal, afterDummyVotes, afterFinalizes, frameIn, passesDummy, proposesFirst}
+use Rattle.protocol.specs.NewBookLaws.{Ranges, early, firstHeight}
 use Rattle.protocol.specs.NewBookCallsLaws.{early-move, head-only, early-not-notarized, voting, step-idle, step-vote, step-pass, step-propose, early-signal, early-vote, early-certificate, finalized-stays}
 
 -- ---- a to d
@@ -47,15 +49,6 @@ record Opened (x : Start) : Type 0 where
   roll : x .leaders ≡ leader ∷ leaders
   ranges : Ranges (x .n) (x .own) leader leaders
   book : opened x ≡ encode (early (x .n) (x .own) 0 0 0 leader leaders)
-
-first-passes : (t u : Bool) (p q : ℕ) → firstRefusal ((p, t) ∷ (q, u) ∷ []) ≡ none → t ≡ true
-unfolding firstRefusal
-first-passes true u p q z = refl
-first-passes false u p q z = let y : _≡_ {A = ℕ} 0 1 = cc in absurd (omega arith)
-
-range : (low high x : ℕ) → inRange low high x ≡ true → (low ≤ x) × (x ≤ high)
-unfolding inRange
-range low high x q = let w = and-true (leb low x) (leb x high) q in (leb-true low x (w .0), leb-true x high (w .1))
 
 new-early : (n own leader : ℕ) (leaders : Bytes) → newState n own (leader ∷ leaders) ≡ early n own 0 0 0 leader leaders
 unfolding newState firstHeight withMasks newHeight
@@ -86,7 +79,7 @@ ranges-of n own heights (leader ∷ rest) r1 r2 r3 r4 r5 =
         some-replica = r1 .0;
         few-replicas = r1 .1;
         own-below = r3;
-        leader-below = w .0;
+        leader-below = ltb-true leader n (w .0);
         leaders-below = w .1;
         few-heights = omega arith;
       },
@@ -101,7 +94,7 @@ open-ranges n own heights leaders q =
     let q3 = and-true (inRange 1 63 heights) _ (q2 .1) in
     let q4 = and-true (eqb (length leaders) heights) _ (q3 .1) in
     let q5 = and-true (all (λ x. ltb x n) leaders) true (q4 .1) in
-    ranges-of n own heights leaders (range 1 16 n (q1 .0)) (range 1 63 heights (q3 .0)) (ltb-true own n (q2 .0))
+    ranges-of n own heights leaders (in-range 1 16 n (q1 .0)) (in-range 1 63 heights (q3 .0)) (ltb-true own n (q2 .0))
     (eqb-true (length leaders) heights (q4 .0)) (q5 .0)
 
 opened-new : (x : Start) → opened x ≡ encode (newState (x .n) (x .own) (x .leaders))
@@ -110,7 +103,7 @@ opened-new x = rw (open-rows x, opened)
 
 range-row : (x : Start) → openInRange (x .n) (x .own) (x .heights) (x .leaders) ≡ true
 unfolding openRows
-range-row x = first-passes _ _ 2 1 (open-rows x)
+range-row x = row-passes _ _ (open-rows x) .0
 
 opening : (x : Start) → Opened x
 opening x =
@@ -135,7 +128,7 @@ module _ (digest : Bytes → Bytes) (n own leader : ℕ) (leaders : Bytes) (rang
   not-dummy flags = rw (none-signed n) (lt-leb (2 * n) (3 * 0) (omega (arith, ranges .some-replica)))
 
   zero-below : 0 < 2 ^ n
-  zero-below = power-positive n
+  zero-below = pow-pos n
 
   -- a book with no masks yet idles unless the replica leads
   idles : (flags : ℕ) → flags < 16 → dummyVoteApplies (early n own flags 0 0 leader leaders) ≡ false → leader ≢ own →
@@ -244,17 +237,11 @@ module _ (digest : Bytes → Bytes) (own leader : ℕ) (leaders : Bytes) (ranges
   abbrev P : ℕ → Bytes → MoveOutcome
   P flags reply = moved reply (passStep digest (early 4 own flags 7 0 leader leaders))
 
-  pass-in-time : (reply : Bytes) →
-      (P 0 reply .answer ≡ accepted (pass 1 onDummy true)) ×
-      (frameIn (P 0 reply .reply) 0 ≡ dummyCertificate 1 7) ×
-      (frameIn (P 0 reply .reply) 1 ≡ finalize own 1)
+  pass-in-time : (reply : Bytes) → passesDummy (P 0 reply) true (finalize own 1)
   unfolding everything frameIn firstHeight
   pass-in-time reply = (refl, refl, refl)
 
-  pass-late : (reply : Bytes) →
-      (P 3 reply .answer ≡ accepted (pass 1 onDummy false)) ×
-      (frameIn (P 3 reply .reply) 0 ≡ dummyCertificate 1 7) ×
-      (frameIn (P 3 reply .reply) 1 ≡ zeros 224)
+  pass-late : (reply : Bytes) → passesDummy (P 3 reply) false (zeros 224)
   unfolding everything frameIn firstHeight
   pass-late reply = (refl, refl, refl)
 
@@ -334,30 +321,20 @@ module _ (digest : Bytes → Bytes) (x : Start) where
     rw after-signal-book (voted-idle digest (x .n) (x .own) (O .leader) (O .leaders) (O .ranges) (led-by-another other) (x .reply) (x .room)),
   )
 
-  example-h : x .n ≡ 4 →
-      (afterDummyVotes digest (opened x) (x .reply) .answer ≡ accepted (pass 1 onDummy true)) ×
-      (frameIn (afterDummyVotes digest (opened x) (x .reply) .reply) 0 ≡ dummyCertificate 1 7) ×
-      (frameIn (afterDummyVotes digest (opened x) (x .reply) .reply) 1 ≡ finalize (x .own) 1)
+  example-h : x .n ≡ 4 → passesDummy (afterDummyVotes digest (opened x) (x .reply)) true (finalize (x .own) 1)
   unfolding flag
   example-h four =
       rw (four-book x O four, passes digest (x .own) (O .leader) (O .leaders) (four-ranges x O four) 0 (omega arith) refl (x .reply) (x .room))
       (pass-in-time digest (x .own) (O .leader) (O .leaders) (four-ranges x O four) (x .reply))
 
-  example-i : x .n ≡ 4 →
-      (afterDummyVotes digest (afterSignal digest x .book) (x .reply) .answer ≡ accepted (pass 1 onDummy false)) ×
-      (frameIn (afterDummyVotes digest (afterSignal digest x .book) (x .reply) .reply) 0 ≡ dummyCertificate 1 7) ×
-      (frameIn (afterDummyVotes digest (afterSignal digest x .book) (x .reply) .reply) 1 ≡ zeros 224)
+  example-i : x .n ≡ 4 → passesDummy (afterDummyVotes digest (afterSignal digest x .book) (x .reply)) false (zeros 224)
   unfolding flag
   example-i four =
       let book = after-signal-book ∙ ap (λ (n : ℕ). encode (early n (x .own) 3 0 0 (O .leader) (O .leaders))) four in
       rw (book, passes digest (x .own) (O .leader) (O .leaders) (four-ranges x O four) 3 (omega arith) refl (x .reply) (x .room))
       (pass-late digest (x .own) (O .leader) (O .leaders) (four-ranges x O four) (x .reply))
 
-  example-j : firstLeader x ≡ x .own →
-      (moveCall digest (opened x) (x .reply) .answer ≡ accepted (propose 1)) ×
-      (kind (frameIn (moveCall digest (opened x) (x .reply) .reply) 0) ≡ 1) ×
-      (parentHeight (frameBlock (frameIn (moveCall digest (opened x) (x .reply) .reply) 0)) ≡ 0) ×
-      (entryCount (frameBlock (frameIn (moveCall digest (opened x) (x .reply) .reply) 0)) ≡ 0)
+  example-j : firstLeader x ≡ x .own → proposesFirst (moveCall digest (opened x) (x .reply))
   unfolding moved proposeStep kind parentHeight entryCount frameBlock proposal frameOf newBlock le16 zeros
   example-j lead =
       rw (O .book, new-propose digest (x .n) (x .own) (O .leader) (O .leaders) (O .ranges) (sym (first-leader x O) ∙ lead) (x .reply) (x .room))

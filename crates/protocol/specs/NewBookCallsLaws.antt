@@ -1,20 +1,21 @@
 -- What the calls do to a book at its first height.
-use Prim.Native.Nat.{ℕ, zero, suc, _+_, _-_, _*_, _/_, _%_, _^_, _≤_, _<_}
+use Prim.Native.Nat.{ℕ, zero, suc, _+_, _^_, _≤_, _<_}
 use native.Mathlib.Omega.{arith}
-use mathlib.Core.Path.{_≡_, refl, sym, ap, subst, _∙_}
+use mathlib.Core.Path.{_≡_, refl}
 use mathlib.Core.Logic.{_≢_}
-use mathlib.Core.Bool.{Bool, true, false, _&&_, _||_, not, cond, and-true, and-false}
-use mathlib.Core.List.{List, [], _∷_, _++_, map}
-use mathlib.Core.Option.{Option, some, none}
+use mathlib.Core.Bool.{Bool, true, false, _&&_, not, and-true, and-false}
+use mathlib.Core.List.{_++_, map}
+use mathlib.Core.Option.{some, none}
 use lib.ListN.{length}
-use lib.Dec.{eqb, leb, ltb}
+use lib.Dec.{eqb}
 use borrow.Author.Tests.{lt-ltb, le-leb, lt-leb, eq-eqb, ne-eqb}
 use Rattle.protocol.specs.Bytes.{Bytes, zeros, le16, word16, part, isZero, all}
 use Rattle.protocol.specs.Tests.{allOf, inRange, implies, firstRefusal}
+use Rattle.protocol.specs.RowLaws.{range-in}
 use Rattle.protocol.specs.TestsLaws.{cond-elim}
-use Rattle.protocol.specs.State.{State, Height, at, last, encode, decode, holdsProposal, isNotarized, flag, withHead, withHeight}
-use Rattle.protocol.specs.View.{View, quorum, isDummy, linked, linkedWithin, isFinalized, largestFinalized, parentOf}
-use Rattle.protocol.specs.Sound.{view, sound}
+use Rattle.protocol.specs.State.{State, at, last, encode, holdsProposal, isNotarized, flag, withHead, withHeight}
+use Rattle.protocol.specs.View.{quorum, isDummy, linked, linkedWithin, isFinalized, largestFinalized, parentOf}
+use Rattle.protocol.specs.Sound.{view}
 use Rattle.protocol.specs.Open.{newHeight}
 use Rattle.protocol.specs.Deliver.{withMasks, readRows, clashRows, keep, kept, keepDummyVote, keepFinalizeCertificate, deliverRows, deliverCall}
 use Rattle.protocol.specs.Signal.{withTimerFired, signalRows, signalCall}
@@ -22,7 +23,7 @@ use Rattle.protocol.specs.Mask.{inMask, union, belowBit}
 use Rattle.protocol.specs.Frame.{kind, signer, frameHeight, signerMask, frameDigest, frameBlock, isStatement, isCertificate, carriesBlock, carriesDigest, frameWellFormed, frameOf, dummyVote, finalizeCertificate}
 use Rattle.protocol.specs.Answer.{accepted, done, fresh, unlessRefused}
 use Rattle.protocol.specs.Move.{Step, firstStep, isSome, isRunning, idleStep, dummyVoteApplies, dummyVoteStep, moved, unlessMoveRefused, newFinalized, outputApplies, outputStep, parentBelow, passApplies, passStep, proposeApplies, proposeStep, blockVoteApplies, blockVoteStep, step, moveRows, moveCall}
-use Rattle.protocol.specs.NewBookLaws.{in-range, Ranges, Bare, early, firstHeight, early-bare, early-back, early-sound}
+use Rattle.protocol.specs.NewBookLaws.{Ranges, early, firstHeight, early-bare, early-back, early-sound}
 
 -- ---- any state
 -- a move changes nothing past the head
@@ -132,7 +133,7 @@ module _ (n own flags dummy final leader : ℕ) (leaders : Bytes) (ranges : Rang
 
   has-first : inRange 1 (last F) 1 ≡ true
   unfolding last
-  has-first = in-range 1 (suc (length (map newHeight leaders))) 1 (omega arith) (omega arith)
+  has-first = range-in 1 (suc (length (map newHeight leaders))) 1 (omega arith) (omega arith)
 
   pub early-signal : flag 1 F ≡ false → signalCall digest (encode F) 1 ≡
       record { answer = accepted done; book = encode (early n own (flags + 1) dummy final leader leaders) }

@@ -11,6 +11,7 @@ use lib.Seq.{paste, paste-suc}
 use borrow.Author.Tests.{eq-eqb, eqb-true}
 use Rattle.protocol.specs.Bytes.{Bytes, byteAt, all, isZero, same, zeros}
 use Rattle.protocol.specs.TestsLaws.{and-true}
+use Rattle.wire.proofs.Rows.{and-assoc, and-right-true}
 use Rattle.protocol.specs.RowLaws.{true-and, not-passed}
 
 -- two tests are equal where each passes if the other does
@@ -46,19 +47,11 @@ xor-is-zero a b = both-ways (eqb (bitXor a b) 0) (eqb a b)
     (λ e. eq-eqb a b (xor-zero a b (eqb-true (bitXor a b) 0 e)))
     (λ e. eq-eqb (bitXor a b) 0 (rw (eqb-true a b e) (xor-self b)))
 
-and-assoc : (a b c : Bool) → ((a && b) && c) ≡ (a && (b && c))
-and-assoc true b c = refl
-and-assoc false b c = refl
-
-and-comm-true : (a : Bool) → (a && true) ≡ a
-and-comm-true true = refl
-and-comm-true false = refl
-
 -- ---- one more byte
 pub all-more : (test : ℕ → Bool) (bytes : Bytes) (i : ℕ) → i < length bytes → all test (take (suc i) bytes) ≡ (all test (take i bytes) && test (byteAt bytes i))
 unfolding all
 all-more test [] i h = absurd (omega arith)
-all-more test (x ∷ xs) zero h = and-comm-true (test x)
+all-more test (x ∷ xs) zero h = and-right-true (test x)
 all-more test (x ∷ xs) (suc i) h =
     rw (all-more test xs i (omega arith)) (sym (and-assoc (test x) (all test (take i xs)) (test (byteAt xs i))))
 
@@ -66,7 +59,7 @@ pub same-more : (a b : Bytes) (i : ℕ) → i < length a → i < length b → sa
 unfolding same
 same-more [] b i h k = absurd (omega arith)
 same-more (x ∷ xs) [] i h k = absurd (omega arith)
-same-more (x ∷ xs) (y ∷ ys) zero h k = and-comm-true (eqb x y)
+same-more (x ∷ xs) (y ∷ ys) zero h k = and-right-true (eqb x y)
 same-more (x ∷ xs) (y ∷ ys) (suc i) h k =
     rw (same-more xs ys i (omega arith) (omega arith))
     (sym (and-assoc (eqb x y) (same (take i xs) (take i ys)) (eqb (byteAt xs i) (byteAt ys i))))
@@ -100,10 +93,6 @@ pub different-lengths : (a b : Bytes) → (length a ≡ length b → ⊥) → sa
 different-lengths a b f = not-passed (same a b) (λ e. f (same-length a b e))
 
 -- ---- zeros that are written
-pub length-zeros : (count : ℕ) → length (zeros count) ≡ count
-unfolding zeros
-length-zeros count = length-replicate count 0
-
 pub clear-more : (target : Bytes) (at count i : ℕ) → at + i < length target → i < count → set (paste target at (zeros count) i) (at + i) 0 ≡ paste target at (zeros count) (suc i)
 unfolding zeros
 clear-more target at count i h k =

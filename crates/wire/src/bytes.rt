@@ -6,7 +6,7 @@ ghost use mathlib.Core.List.{[], _∷_};
 ghost use Rattle.protocol.specs.Bytes.{byteAt, word16, le16, zeros, isZero, same};
 ghost use Rattle.protocol.specs.BytesLaws.{put};
 
-// Whether every byte is 0. Reads each byte once, with no early end.
+// Whether every byte is 0. Costs one pass, with no early end, so that it can go many bytes at a time.
 pub fn is_zero(bytes: &[u8]) -> bool
     ensures { λ r. ⌜ r ≡ isZero (now (bytes .entry)) ⌝ }
 {
@@ -19,7 +19,7 @@ pub fn is_zero(bytes: &[u8]) -> bool
     seen == 0
 }
 
-// Whether two byte strings are equal. Strings of one length are read to their end.
+// Whether two byte strings are equal. Costs one pass over strings of one length, and nothing for others.
 pub fn same_bytes(a: &[u8], b: &[u8]) -> bool
     ensures { λ r. ⌜ r ≡ same (now (a .entry)) (now (b .entry)) ⌝ }
 {
@@ -30,7 +30,7 @@ pub fn same_bytes(a: &[u8], b: &[u8]) -> bool
     }
 }
 
-// The same for strings of one length.
+// Whether two byte strings of one length are equal. Costs one pass, with no early end.
 fn same_values(a: &[u8], b: &[u8]) -> bool
     requires { ⌜ length (now a) ≡ length (now b) ⌝ }
     ensures { λ r. ⌜ r ≡ same (now (a .entry)) (now (b .entry)) ⌝ }
@@ -44,7 +44,7 @@ fn same_values(a: &[u8], b: &[u8]) -> bool
     seen == 0
 }
 
-// The byte at `at`, as a wide number.
+// The byte at `at`, as a wide number. Costs one read.
 pub fn byte(bytes: &[u8], at: usize) -> usize
     requires { ⌜ at < length (now bytes) ⌝ }
     ensures { λ r. ⌜ (r ≡ byteAt (now (bytes .entry)) at) × (r < 256) ⌝ }
@@ -52,7 +52,7 @@ pub fn byte(bytes: &[u8], at: usize) -> usize
     bytes[at] as usize
 }
 
-// Writes a byte at `at`.
+// Writes a byte at `at`. Costs one store.
 pub fn put_byte(bytes: &mut [u8], at: usize, value: usize)
     requires { ⌜ at < length (now bytes) ⌝ }
     requires { ⌜ value < 256 ⌝ }
@@ -61,7 +61,7 @@ pub fn put_byte(bytes: &mut [u8], at: usize, value: usize)
     bytes[at] = value as u8;
 }
 
-// The 16-bit number at `at`, its low byte first.
+// The 16-bit number at `at`, its low byte first. Costs two reads.
 pub fn word(bytes: &[u8], at: usize) -> usize
     requires { ⌜ at + 1 < length (now bytes) ⌝ }
     ensures { λ r. ⌜ (r ≡ word16 (now (bytes .entry)) at) × (r < 65536) ⌝ }
@@ -71,7 +71,7 @@ pub fn word(bytes: &[u8], at: usize) -> usize
     low + 256 * high
 }
 
-// Writes a 16-bit number to the two bytes at `at`, its low byte first.
+// Writes a 16-bit number to the two bytes at `at`, its low byte first. Costs two stores.
 pub fn put_word(bytes: &mut [u8], at: usize, value: usize)
     requires { ⌜ at + 1 < length (now bytes) ⌝ }
     requires { ⌜ value < 65536 ⌝ }
@@ -81,7 +81,7 @@ pub fn put_word(bytes: &mut [u8], at: usize, value: usize)
     bytes[at + 1] = (value / 256) as u8;
 }
 
-// Copies `source` into `target`, from `at` on.
+// Copies `source` into `target`, from `at` on. Costs a read and a store for each byte of the source.
 pub fn copy_to(target: &mut [u8], at: usize, source: &[u8])
     requires { ⌜ at + length (now source) ≤ length (now target) ⌝ }
     ensures { λ _. ⌜ now (target .exit) ≡ put (now (target .entry)) at (now (source .entry)) ⌝ }
@@ -93,7 +93,7 @@ pub fn copy_to(target: &mut [u8], at: usize, source: &[u8])
     }
 }
 
-// Makes `count` bytes zero, from `at` on.
+// Makes `count` bytes zero, from `at` on. Costs a store for each.
 pub fn clear(target: &mut [u8], at: usize, count: usize)
     requires { ⌜ at + count ≤ length (now target) ⌝ }
     ensures { λ _. ⌜ now (target .exit) ≡ put (now (target .entry)) at (zeros count) ⌝ }

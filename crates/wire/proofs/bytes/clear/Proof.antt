@@ -7,7 +7,8 @@ use lib.ListN.{length, length-set}
 use lib.Seq.{paste, paste-zero}
 use Rattle.protocol.specs.Bytes.{zeros}
 use Rattle.protocol.specs.BytesLaws.{put-paste}
-use Rattle.wire.proofs.Scan.{length-zeros, clear-more}
+use Rattle.protocol.specs.BuildLaws.{length-zeros}
+use Rattle.wire.proofs.Scan.{clear-more}
 use Rattle.wire.proofs.bytes.clear.Statement.{statement}
 use Rattle.wire.proofs.bytes.clear.Tie as tie
 

@@ -1,0 +1,62 @@
+-- Where the fields of height `h` stand in a book, for the readers and the writers of one height.
+use Prim.Native.Nat.{ℕ, suc, _+_, _-_, _*_, _<_}
+use native.Mathlib.Omega.{arith}
+use mathlib.Core.Path.{_≡_, ap, subst, _∙_}
+use lib.ListN.{length, take, drop}
+use Rattle.protocol.specs.Bytes.{Bytes, byteAt, word16, part}
+use Rattle.protocol.specs.State.{Height, at, last, decode, voteOf}
+use Rattle.protocol.specs.StateLaws.{ShapedHeight}
+use Rattle.protocol.specs.CodecLaws.{Exact, last-decode, decode-shaped}
+use Rattle.protocol.specs.PlaceLaws.{suc-pred, shaped-at}
+use Rattle.protocol.specs.FieldLaws.{read-leader, read-status, read-certificate-mask, read-dummy-mask, read-finalize-mask, read-voter-mask, read-proposal, read-notarized, read-vote}
+use Rattle.fields.specs.Ready.{Within}
+
+-- a lent part, as its place and its size
+pub cut-part : (bytes : Bytes) (from size : ℕ) → take (from + size - from) (drop from bytes) ≡ part bytes from size
+unfolding part
+cut-part bytes from size = let e : from + size - from ≡ size = omega arith in rw e
+
+pub height-shaped : (book : Bytes) (h : ℕ) → Exact book → Within book h → ShapedHeight (at (decode book) h)
+height-shaped book h exact within =
+    let inside : h - 1 < last (decode book) = rw last-decode (omega arith) in
+    subst (λ (k : ℕ). ShapedHeight (at (decode book) k)) (suc-pred h (within .low)) (shaped-at (decode book) (h - 1) (decode-shaped book exact) inside)
+
+pub notarized-size : (book : Bytes) (h : ℕ) → Exact book → Within book h → length (at (decode book) h .notarized) ≡ 176
+notarized-size book h exact within = height-shaped book h exact within .notarized-size
+
+module _ (book : Bytes) (h : ℕ) (within : Within book h) where
+  inside : h - 1 < byteAt book 2
+  inside = omega arith
+
+  -- height `h` is the next after `h - 1`
+  named : {A : Type 0} (field : Height → A) {value : A} → value ≡ field (at (decode book) (suc (h - 1))) → value ≡ field (at (decode book) h)
+  named field e = e ∙ ap (λ (k : ℕ). field (at (decode book) k)) (suc-pred h (within .low))
+
+  module _ (from : ℕ) (place : from ≡ 576 + 16 * (h - 1)) where
+    pub leader-at : byteAt book from ≡ at (decode book) h .leader
+    leader-at = rw place (named (λ x. x .leader) (read-leader book (h - 1) inside))
+
+    pub status-at : byteAt book (from + 1) ≡ at (decode book) h .status
+    status-at = rw place (named (λ x. x .status) (read-status book (h - 1) inside))
+
+    pub certificate-mask-at : word16 book (from + 2) ≡ at (decode book) h .certificateMask
+    certificate-mask-at = rw place (named (λ x. x .certificateMask) (read-certificate-mask book (h - 1) inside))
+
+    pub dummy-mask-at : word16 book (from + 4) ≡ at (decode book) h .dummyMask
+    dummy-mask-at = rw place (named (λ x. x .dummyMask) (read-dummy-mask book (h - 1) inside))
+
+    pub finalize-mask-at : word16 book (from + 6) ≡ at (decode book) h .finalizeMask
+    finalize-mask-at = rw place (named (λ x. x .finalizeMask) (read-finalize-mask book (h - 1) inside))
+
+    pub voter-mask-at : word16 book (from + 8) ≡ at (decode book) h .voterMask
+    voter-mask-at = rw place (named (λ x. x .voterMask) (read-voter-mask book (h - 1) inside))
+
+  module _ (from : ℕ) (place : from ≡ 576 + 16 * byteAt book 2 + 864 * (h - 1)) where
+    pub proposal-at : take (from + 176 - from) (drop from book) ≡ at (decode book) h .proposal
+    proposal-at = cut-part book from 176 ∙ rw place (named (λ x. x .proposal) (read-proposal book (h - 1) inside))
+
+    pub notarized-at : take (from + 176 + 176 - (from + 176)) (drop (from + 176) book) ≡ at (decode book) h .notarized
+    notarized-at = cut-part book (from + 176) 176 ∙ rw place (named (λ x. x .notarized) (read-notarized book (h - 1) inside))
+
+    pub vote-at : (s : ℕ) → s < 16 → take (from + 352 + 32 * s + 32 - (from + 352 + 32 * s)) (drop (from + 352 + 32 * s) book) ≡ voteOf (at (decode book) h) s
+    vote-at s small = cut-part book (from + 352 + 32 * s) 32 ∙ rw place (named (λ x. voteOf x s) (read-vote book (h - 1) inside s small))

@@ -1,0 +1,40 @@
+-- `notarized` meets its contract: the part that it lends stands at the place of that block.
+use Rattle.fields.proofs.Places.{notarized-at}
+use borrow.Author.Needs.{needs}
+use Rattle.fields.proofs.height.notarized.Statement.{statement}
+use Rattle.fields.proofs.height.notarized.Tie as tie
+
+body-at-requires : tie.Need-body-at-requires
+body-at-requires c κs = search needs
+
+add-from : tie.Need-add-from
+add-from c = search needs
+
+add-result : tie.Need-add-result
+add-result c = search needs
+
+sub-result : tie.Need-sub-result
+sub-result c = search needs
+
+part-result-start : tie.Need-part-result-start
+part-result-start c = search needs
+
+part-result-end : tie.Need-part-result-end
+part-result-end c = search needs
+
+returns : tie.Need-returns
+returns c =
+    let start = c .before .before .before in
+    notarized-at (start .args .book .now) (start .args .h) (start .pre .1) _ (c .before .body-at .ensures)
+
+pub notarized-spec : {M : Type 1} → statement M
+notarized-spec =
+    tie.close
+    (tie.spec
+    body-at-requires
+    add-from
+    add-result
+    sub-result
+    part-result-start
+    part-result-end
+    returns)

@@ -1,0 +1,23 @@
+-- `status` meets its contract: the byte that it reads stands at the place of that field.
+use mathlib.Core.Path.{_∙_}
+use Rattle.fields.proofs.Places.{status-at}
+use borrow.Author.Needs.{needs}
+use Rattle.fields.proofs.height.status.Statement.{statement}
+use Rattle.fields.proofs.height.status.Tie as tie
+
+content-at-requires : tie.Need-content-at-requires
+content-at-requires c κs = search needs
+
+add-byte : tie.Need-add-byte
+add-byte c = search needs
+
+byte-requires : tie.Need-byte-requires
+byte-requires c κs = search needs
+
+returns : tie.Need-returns
+returns c =
+    let start = c .before .before .before in
+    (c .byte .ensures .0 ∙ status-at (start .args .book .now) (start .args .h) (start .pre .1) _ (c .before .content-at .ensures), c .byte .ensures .1)
+
+pub status-spec : {M : Type 1} → statement M
+status-spec = tie.close (tie.spec content-at-requires add-byte byte-requires returns)

@@ -1,0 +1,25 @@
+-- `quorum` meets its contract: it counts the mask and compares as the definition does.
+use Rattle.protocol.specs.View.{quorum}
+use Rattle.protocol.specs.Sound.{view}
+use borrow.Author.Needs.{needs}
+use Rattle.fields.proofs.quorum.quorum.Statement.{statement}
+use Rattle.fields.proofs.quorum.quorum.Tie as tie
+
+replicas-requires : tie.Need-replicas-requires
+replicas-requires c κs = search needs
+
+mul-result : tie.Need-mul-result
+mul-result c = search needs
+
+count-requires : tie.Need-count-requires
+count-requires c κs = search needs
+
+mul-result-2 : tie.Need-mul-result-2
+mul-result-2 c = search needs
+
+returns : tie.Need-returns
+unfolding quorum view
+returns c = rw (c .count .ensures .0, c .before .replicas .ensures .0)
+
+pub quorum-spec : {M : Type 1} → statement M
+quorum-spec = tie.close (tie.spec replicas-requires mul-result count-requires mul-result-2 returns)

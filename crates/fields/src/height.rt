@@ -1,0 +1,136 @@
+// One height of a book: leader, status, masks, blocks and vote digests, read where they lie.
+ghost use mathlib.Core.Path.{_≡_};
+ghost use Prim.Native.Nat.{_+_, _-_, _*_, _<_, _≤_};
+ghost use Rattle.protocol.specs.Bytes.{byteAt};
+ghost use Rattle.protocol.specs.State.{decode, at, holdsProposal, isNotarized, voteOf};
+ghost use Rattle.protocol.specs.Block.{parentHeight};
+ghost use Rattle.fields.specs.Ready.{Sized, Within};
+
+// Where the contents of height `h` start.
+pub fn content_at(h: usize) -> usize
+    requires { ⌜ (1 ≤ h) × (h < 64) ⌝ }
+    ensures { λ r. ⌜ r ≡ 576 + 16 * (h - 1) ⌝ }
+{
+    576 + 16 * (h - 1)
+}
+
+// Where the body of height `h` starts, after the contents of all heights.
+pub fn body_at(book: &[u8], h: usize) -> usize
+    requires { ⌜ Sized (now book) ⌝ }
+    requires { ⌜ Within (now book) h ⌝ }
+    ensures { λ r. ⌜ r ≡ 576 + 16 * byteAt (now (book .entry)) 2 + 864 * (h - 1) ⌝ }
+{
+    let heights = wire::bytes::byte(book, 2);
+    576 + 16 * heights + 864 * (h - 1)
+}
+
+pub fn leader(book: &[u8], h: usize) -> usize
+    requires { ⌜ Sized (now book) ⌝ }
+    requires { ⌜ Within (now book) h ⌝ }
+    ensures { λ r. ⌜ (r ≡ at (decode (now (book .entry))) h .leader) × (r < 256) ⌝ }
+{
+    let from = content_at(h);
+    wire::bytes::byte(book, from)
+}
+
+pub fn status(book: &[u8], h: usize) -> usize
+    requires { ⌜ Sized (now book) ⌝ }
+    requires { ⌜ Within (now book) h ⌝ }
+    ensures { λ r. ⌜ (r ≡ at (decode (now (book .entry))) h .status) × (r < 256) ⌝ }
+{
+    let from = content_at(h);
+    wire::bytes::byte(book, from + 1)
+}
+
+pub fn holds_proposal(book: &[u8], h: usize) -> bool
+    requires { ⌜ Sized (now book) ⌝ }
+    requires { ⌜ Within (now book) h ⌝ }
+    ensures { λ r. ⌜ r ≡ holdsProposal (at (decode (now (book .entry))) h) ⌝ }
+{
+    status(book, h) % 2 == 1
+}
+
+pub fn is_notarized(book: &[u8], h: usize) -> bool
+    requires { ⌜ Sized (now book) ⌝ }
+    requires { ⌜ Within (now book) h ⌝ }
+    ensures { λ r. ⌜ r ≡ isNotarized (at (decode (now (book .entry))) h) ⌝ }
+{
+    2 <= status(book, h)
+}
+
+pub fn certificate_mask(book: &[u8], h: usize) -> usize
+    requires { ⌜ Sized (now book) ⌝ }
+    requires { ⌜ Within (now book) h ⌝ }
+    ensures { λ r. ⌜ (r ≡ at (decode (now (book .entry))) h .certificateMask) × (r < 65536) ⌝ }
+{
+    let from = content_at(h);
+    wire::bytes::word(book, from + 2)
+}
+
+pub fn dummy_mask(book: &[u8], h: usize) -> usize
+    requires { ⌜ Sized (now book) ⌝ }
+    requires { ⌜ Within (now book) h ⌝ }
+    ensures { λ r. ⌜ (r ≡ at (decode (now (book .entry))) h .dummyMask) × (r < 65536) ⌝ }
+{
+    let from = content_at(h);
+    wire::bytes::word(book, from + 4)
+}
+
+pub fn finalize_mask(book: &[u8], h: usize) -> usize
+    requires { ⌜ Sized (now book) ⌝ }
+    requires { ⌜ Within (now book) h ⌝ }
+    ensures { λ r. ⌜ (r ≡ at (decode (now (book .entry))) h .finalizeMask) × (r < 65536) ⌝ }
+{
+    let from = content_at(h);
+    wire::bytes::word(book, from + 6)
+}
+
+pub fn voter_mask(book: &[u8], h: usize) -> usize
+    requires { ⌜ Sized (now book) ⌝ }
+    requires { ⌜ Within (now book) h ⌝ }
+    ensures { λ r. ⌜ (r ≡ at (decode (now (book .entry))) h .voterMask) × (r < 65536) ⌝ }
+{
+    let from = content_at(h);
+    wire::bytes::word(book, from + 8)
+}
+
+// The held proposal's place, 176 bytes.
+pub fn proposal(book: &[u8], h: usize) -> &[u8]
+    requires { ⌜ Sized (now book) ⌝ }
+    requires { ⌜ Within (now book) h ⌝ }
+    ensures { λ r. ⌜ now r ≡ at (decode (now (book .entry))) h .proposal ⌝ }
+{
+    let from = body_at(book, h);
+    &book[from..from + 176]
+}
+
+// The notarized block's place, 176 bytes.
+pub fn notarized(book: &[u8], h: usize) -> &[u8]
+    requires { ⌜ Sized (now book) ⌝ }
+    requires { ⌜ Within (now book) h ⌝ }
+    ensures { λ r. ⌜ now r ≡ at (decode (now (book .entry))) h .notarized ⌝ }
+{
+    let from = body_at(book, h) + 176;
+    &book[from..from + 176]
+}
+
+// The digest that replica `s` voted for, 32 bytes.
+pub fn vote_digest(book: &[u8], h: usize, s: usize) -> &[u8]
+    requires { ⌜ Sized (now book) ⌝ }
+    requires { ⌜ Within (now book) h ⌝ }
+    requires { ⌜ s < 16 ⌝ }
+    ensures { λ r. ⌜ now r ≡ voteOf (at (decode (now (book .entry))) h) s ⌝ }
+{
+    let from = body_at(book, h) + 352 + 32 * s;
+    &book[from..from + 32]
+}
+
+// The parent height of the notarized block of height `h`.
+pub fn notarized_parent(book: &[u8], h: usize) -> usize
+    requires { ⌜ Sized (now book) ⌝ }
+    requires { ⌜ Within (now book) h ⌝ }
+    ensures { λ r. ⌜ (r ≡ parentHeight (at (decode (now (book .entry))) h .notarized)) × (r < 256) ⌝ }
+{
+    let block = notarized(book, h);
+    wire::bytes::byte(block, 2)
+}

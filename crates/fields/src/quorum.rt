@@ -1,0 +1,64 @@
+// Quorums of masks, and the dummy blocks that they notarize.
+ghost use mathlib.Core.Path.{_≡_};
+ghost use Prim.Native.Nat.{_+_, _*_, _<_, _≤_};
+ghost use Rattle.protocol.specs.Bytes.{byteAt};
+ghost use Rattle.protocol.specs.Mask.{ones};
+ghost use Rattle.protocol.specs.View.{quorum as isQuorum, isDummy, dummyRun};
+ghost use Rattle.protocol.specs.State.{decode, at};
+ghost use Rattle.protocol.specs.Sound.{view};
+ghost use Rattle.fields.specs.Ready.{Sized, Within};
+
+// How many of the replicas below `n` are in a mask: one pass over its bits.
+fn count(n: usize, mask: usize) -> usize
+    requires { ⌜ (n < 17) × (mask < 65536) ⌝ }
+    ensures { λ r. ⌜ (r ≡ ones mask n) × (r ≤ n) ⌝ }
+{
+    let mut rest = mask;
+    let mut s = 0;
+    let mut sum = 0;
+    while s < n {
+        sum += rest % 2;
+        rest = rest / 2;
+        s += 1;
+    }
+    sum
+}
+
+// Whether a mask holds two thirds of the book's replicas.
+pub fn quorum(book: &[u8], mask: usize) -> bool
+    requires { ⌜ Sized (now book) ⌝ }
+    requires { ⌜ decode (now book) .n ≤ 16 ⌝ }
+    requires { ⌜ mask < 65536 ⌝ }
+    ensures { λ r. ⌜ r ≡ isQuorum (view (decode (now (book .entry)))) mask ⌝ }
+{
+    let n = crate::head::replicas(book);
+    2 * n <= 3 * count(n, mask)
+}
+
+// Whether the dummy block of height `h` is notarized.
+pub fn is_dummy(book: &[u8], h: usize) -> bool
+    requires { ⌜ Sized (now book) ⌝ }
+    requires { ⌜ decode (now book) .n ≤ 16 ⌝ }
+    requires { ⌜ Within (now book) h ⌝ }
+    ensures { λ r. ⌜ r ≡ isDummy (view (decode (now (book .entry)))) h ⌝ }
+{
+    quorum(book, crate::height::dummy_mask(book, h))
+}
+
+// Whether the dummy blocks of the `count` heights after `j` are notarized.
+pub fn dummy_run(book: &[u8], j: usize, count: usize) -> bool
+    requires { ⌜ Sized (now book) ⌝ }
+    requires { ⌜ decode (now book) .n ≤ 16 ⌝ }
+    requires { ⌜ j + count ≤ byteAt (now book) 2 ⌝ }
+    ensures { λ r. ⌜ r ≡ dummyRun (view (decode (now (book .entry)))) j count ⌝ }
+{
+    let mut k = 0;
+    while k < count {
+        if is_dummy(book, j + k + 1) {
+            k += 1;
+        } else {
+            return false;
+        }
+    }
+    true
+}

@@ -1,0 +1,5 @@
+pub mod CheckCalls
+pub mod Checks
+pub mod RunChecks
+pub mod ReferenceChecks
+pub mod RuleChecks

@@ -1,0 +1,41 @@
+-- `compress` meets its contract: the words of the block, the rounds with the schedule beside them, the last rounds, and the sum. Assumes nothing.
+use denote.Ref.{now}
+use Rattle.sha256.specs.StepsLaws.{compressed}
+use borrow.Author.Needs.{needs}
+use Rattle.sha256.proofs.compression.compress.Statement.{statement}
+use Rattle.sha256.proofs.compression.compress.Tie as tie
+
+message-words-requires : tie.Need-message-words-requires
+message-words-requires c κs = search needs
+
+round-constants-requires : tie.Need-round-constants-requires
+round-constants-requires c κs = search needs
+
+first-rounds-requires : tie.Need-first-rounds-requires
+first-rounds-requires c κs = search needs
+
+last-rounds-requires : tie.Need-last-rounds-requires
+last-rounds-requires c κs = search needs
+
+add-words-requires : tie.Need-add-words-requires
+add-words-requires c κs = search needs
+
+returns : tie.Need-returns
+returns c =
+    let start = c .before .before .before .before .before .before .before .before .before .before in
+    let words = c .before .before .before .before .before .before .before .before .message-words in
+    let constants = c .before .before .before .before .before .before .before .round-constants in
+    let first = c .before .before .before .before .first-rounds in
+    let last = c .before .last-rounds in
+    compressed (now (start .args .block)) (words .result) (first .last .1 .1 .0) (constants .result) (start .args .hash) (first .result) (last .result) (c .add-words .result) (search needs) (words .ensures) (constants .ensures) (first .ensures .0) (first .ensures .1) (last .ensures) (c .add-words .ensures)
+
+pub compress-spec : {M : Type 1} → statement M
+compress-spec =
+    tie.close
+    (tie.spec
+    message-words-requires
+    round-constants-requires
+    first-rounds-requires
+    last-rounds-requires
+    add-words-requires
+    returns)

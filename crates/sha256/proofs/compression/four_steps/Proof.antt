@@ -1,0 +1,51 @@
+-- `four_steps` meets its contract, by that of `step` at each of the four calls. Assumes nothing.
+use Rattle.sha256.specs.StepsLaws.{four-steps}
+use denote.Ref.{now}
+use borrow.Author.Needs.{needs}
+use Rattle.sha256.proofs.compression.four_steps.Statement.{statement}
+use Rattle.sha256.proofs.compression.four_steps.Tie as tie
+
+step-requires : tie.Need-step-requires
+step-requires c κs = search needs
+
+add-step : tie.Need-add-step
+add-step c = search needs
+
+step-requires-2 : tie.Need-step-requires-2
+step-requires-2 c κs = search needs
+
+add-step-2 : tie.Need-add-step-2
+add-step-2 c = search needs
+
+step-requires-3 : tie.Need-step-requires-3
+step-requires-3 c κs = search needs
+
+add-step-3 : tie.Need-add-step-3
+add-step-3 c = search needs
+
+step-requires-4 : tie.Need-step-requires-4
+step-requires-4 c κs = search needs
+
+returns : tie.Need-returns
+returns c =
+    let start = c .before .before .before .before .before .before .before .before in
+    let one = c .before .before .before .before .before .before .step in
+    let two = c .before .before .before .before .step2 in
+    let three = c .before .before .step3 in
+    let four = c .step4 in
+    let all =
+    four-steps (now (start .args .k)) (now (start .args .w)) (start .args .s) (start .args .t) (one .last .1 .1 .0) (two .last .1 .1 .0) (three .last .1 .1 .0) (four .last .1 .1 .0) (one .result) (two .result) (three .result) (four .result) (one .ensures .0) (one .ensures .1) (two .ensures .0) (two .ensures .1) (three .ensures .0) (three .ensures .1) (four .ensures .0) (four .ensures .1) in
+    (all .state, all .words)
+
+pub four-steps-spec : {M : Type 1} → statement M
+four-steps-spec =
+    tie.close
+    (tie.spec
+    step-requires
+    add-step
+    step-requires-2
+    add-step-2
+    step-requires-3
+    add-step-3
+    step-requires-4
+    returns)

@@ -1,0 +1,68 @@
+-- digest::hash_blocks meets its contract. The invariant: the hash is that of the blocks passed.
+-- Assumes nothing.
+use Prim.Native.Nat.{_-_, _/_, _%_, _≤_}
+use mathlib.Core.Path.{_≡_, refl, ap, _∙_}
+use native.Mathlib.Omega.{arith}
+use borrow.Author.Needs.{needs}
+use lib.ListN.{length}
+use Rattle.sha256.specs.Digest.{hashBlocks}
+use lib.ListN.{length-take, length-drop}
+use Rattle.sha256.specs.Digest.{hashAll}
+use Rattle.sha256.specs.DigestLaws.{hashBlocks-next}
+use Rattle.sha256.proofs.digest.hash_blocks.Statement.{statement}
+use Rattle.sha256.proofs.digest.hash_blocks.Tie as tie
+
+abbrev Inv-loop : tie.InvT-loop
+Inv-loop bytes hash₀ at₀ hash at = (at ≤ length bytes) × (at % 64 ≡ 0) × (hash ≡ hashBlocks hash₀ bytes (at / 64))
+
+abbrev μ-loop : tie.MeasureT-loop
+μ-loop bytes hash₀ at₀ hash at = length bytes - at
+
+loop-holds : tie.Need-loop-holds Inv-loop μ-loop
+unfolding hashBlocks
+loop-holds c = (search needs, refl, refl)
+
+sub-loop : tie.Need-sub-loop Inv-loop μ-loop
+sub-loop c = search needs
+
+add-end : tie.Need-add-end Inv-loop μ-loop
+add-end c = search needs
+
+sub-compress : tie.Need-sub-compress Inv-loop μ-loop
+sub-compress c = search needs
+
+part-compress-start : tie.Need-part-compress-start Inv-loop μ-loop
+part-compress-start c = search needs
+
+part-compress-end : tie.Need-part-compress-end Inv-loop μ-loop
+part-compress-end c = search needs
+
+compress-requires : tie.Need-compress-requires Inv-loop μ-loop
+compress-requires c κs = simp (length-take, length-drop) (omega arith)
+
+loop-less : tie.Need-loop-less Inv-loop μ-loop
+loop-less c = search needs
+
+loop-again : tie.Need-loop-again Inv-loop μ-loop
+loop-again c = (search needs, omega arith, c .compress .ensures ∙ rw (c .before .before .before .loop .inv .2) (hashBlocks-next _ _ (c .before .before .before .loop .at) (c .before .before .before .loop .inv .1)))
+
+returns : tie.Need-returns Inv-loop μ-loop
+unfolding hashAll
+returns c = c .before .loop .inv .2 ∙ ap (hashBlocks (c .before .before .before .args .start) (c .before .before .before .args .bytes .now)) (omega arith)
+
+pub hash-blocks-spec : {M : Type 1} → statement M
+hash-blocks-spec =
+    tie.close
+    (tie.spec
+    Inv-loop
+    μ-loop
+    loop-holds
+    sub-loop
+    add-end
+    sub-compress
+    part-compress-start
+    part-compress-end
+    compress-requires
+    loop-less
+    loop-again
+    returns)

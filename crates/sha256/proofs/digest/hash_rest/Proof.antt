@@ -1,0 +1,78 @@
+-- digest::hash_rest meets its contract: the padding ends in the same block, or in one more.
+-- Assumes nothing.
+use mathlib.Core.Path.{_≡_, refl, _∙_}
+use native.Mathlib.Omega.{arith}
+use lib.ListN.{length}
+use Rattle.sha256.specs.Padding.{zeros}
+use Rattle.sha256.specs.Ending.{opened}
+use Rattle.sha256.specs.EndingLaws.{opened-length, ends-here, ends-later}
+use Rattle.sha256.specs.DigestLaws.{hashAll-block}
+use borrow.Author.Needs.{needs}
+use Rattle.sha256.proofs.digest.hash_rest.Statement.{statement}
+use Rattle.sha256.proofs.digest.hash_rest.Tie as tie
+
+begin-requires : tie.Need-begin-requires
+unfolding zeros
+begin-requires c κs = (refl, omega arith)
+
+put-length-requires : tie.Need-put-length-requires
+put-length-requires c κs = search needs
+
+slice-aggregate-hash-blocks : tie.Need-slice-aggregate-hash-blocks
+slice-aggregate-hash-blocks c = search needs
+
+hash-blocks-requires : tie.Need-hash-blocks-requires
+hash-blocks-requires c κs = search needs
+
+slice-aggregate-hash-blocks-2 : tie.Need-slice-aggregate-hash-blocks-2
+slice-aggregate-hash-blocks-2 c = search needs
+
+hash-blocks-requires-2 : tie.Need-hash-blocks-requires-2
+hash-blocks-requires-2 c κs = search needs
+
+put-length-requires-2 : tie.Need-put-length-requires-2
+put-length-requires-2 c κs = search needs
+
+slice-aggregate-hash-blocks-3 : tie.Need-slice-aggregate-hash-blocks-3
+slice-aggregate-hash-blocks-3 c = search needs
+
+hash-blocks-requires-3 : tie.Need-hash-blocks-requires-3
+hash-blocks-requires-3 c κs = search needs
+
+returns : tie.Need-returns
+returns c =
+    let start = c .before .before .before .before .before .before .before .before in
+    let asked = start .args in
+    c .hash-blocks .ensures
+    ∙ rw (ends-here (asked .rest .now) (asked .size) (start .pre) (c .before .before .before .before .if1 .taken), c .before .before .put-length .ensures .0, c .before .before .before .before .before .begin .ensures .0)
+
+returns-2 : tie.Need-returns-2
+unfolding zeros
+returns-2 c =
+    let start = c .before .before .before .before .before .before .before .before .before .before in
+    let asked = start .args in
+    let whole : length (opened (asked .rest .now)) ≡ 64 = opened-length (asked .rest .now) (omega arith) in
+    c .hash-blocks3 .ensures
+    ∙ rw (
+      ends-later (asked .rest .now) (asked .size) (start .pre) (c .before .before .before .before .before .before .if1 .left),
+      hashAll-block (asked .hash) (opened (asked .rest .now)) _ whole,
+      c .before .before .before .before .hash-blocks2 .ensures,
+      c .before .before .put-length2 .ensures .0,
+      c .before .before .before .before .before .before .before .begin .ensures .0,
+    )
+
+pub hash-rest-spec : {M : Type 1} → statement M
+hash-rest-spec =
+    tie.close
+    (tie.spec
+    begin-requires
+    put-length-requires
+    slice-aggregate-hash-blocks
+    hash-blocks-requires
+    slice-aggregate-hash-blocks-2
+    hash-blocks-requires-2
+    put-length-requires-2
+    slice-aggregate-hash-blocks-3
+    hash-blocks-requires-3
+    returns
+    returns-2)

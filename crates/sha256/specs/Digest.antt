@@ -1,0 +1,26 @@
+-- FIPS 180-4, section 6.2.2: the hash value over all blocks of the padded message, and the digest. Assumes nothing.
+use Prim.Native.Nat.{ℕ, zero, suc, _/_}
+use mathlib.Core.List.{List, [], _∷_, _++_}
+use lib.ListN.{length}
+use Rattle.sha256.specs.Bytes.{Bytes}
+use Rattle.sha256.specs.Constants.{initialHash}
+use Rattle.sha256.specs.Compression.{compression}
+use Rattle.sha256.specs.Padding.{bigEndian, padded, block}
+
+-- the hash value after the first `count` blocks, which the standard writes H(count), where `hash` is H(0)
+unfoldable pub hashBlocks : List ℕ → Bytes → ℕ → List ℕ
+hashBlocks hash bytes zero = hash
+hashBlocks hash bytes (suc count) = compression (hashBlocks hash bytes count) (block bytes count)
+
+-- the hash value after all N blocks; bytes behind the last whole block count for nothing
+unfoldable pub hashAll : List ℕ → Bytes → List ℕ
+hashAll hash bytes = hashBlocks hash bytes (length bytes / 64)
+
+-- words as bytes, four each, the most significant first
+unfoldable pub wordsBytes : List ℕ → Bytes
+wordsBytes [] = []
+wordsBytes (word ∷ words) = bigEndian 4 word ++ wordsBytes words
+
+-- SHA-256 of a message: the last hash value's eight words, from the first to the last
+unfoldable pub sha256 : Bytes → Bytes
+sha256 message = wordsBytes (hashAll initialHash (padded message))

@@ -1,0 +1,95 @@
+-- `sha256_into` meets its contract. The loop's invariant: the bytes passed are the digest's, and the others are as they were.
+-- Assumes nothing.
+use Prim.Native.Nat.{ℕ, _+_, _-_, _≤_, _<_}
+use mathlib.Core.Path.{_≡_, refl, sym, _∙_}
+use mathlib.Core.Bool.{true}
+use mathlib.Core.List.{List, _++_}
+use native.Mathlib.Numerals.{add-one}
+use native.Mathlib.Omega.{arith}
+use borrow.Author.Needs.{needs}
+use borrow.Author.Tests.{le-leb, lt-leb}
+use lib.Dec.{leb}
+use lib.ListN.{length, getD, take, drop, set, length-set}
+use lib.Seq.{set-at, take-suc, drop-cons, append-snoc, length-take-le, take-all}
+use Rattle.sha256_c.specs.Written.{written}
+use Rattle.sha256_c.proofs.sha256_into.Statement.{statement}
+use Rattle.sha256_c.proofs.sha256_into.Tie as tie
+
+-- one more byte copied over the front of a list
+copied : (from onto : List ℕ) (i : ℕ) → i < length from → i < length onto
+    → set (take i from ++ drop i onto) i (getD from i 0) ≡ take (i + 1) from ++ drop (i + 1) onto
+copied from onto i inside fits =
+    rw (add-one, take-suc from i 0 inside, drop-cons onto i 0 fits, append-snoc)
+    (set-at (take i from) (getD onto i 0) _ (getD from i 0) i (length-take-le i from (omega arith)))
+
+abbrev Inv-loop : tie.InvT-loop
+Inv-loop message out₀ digest i₀ out i = (i ≤ 32) × (length out ≡ length out₀) × (out ≡ take i digest ++ drop i out₀)
+
+abbrev μ-loop : tie.MeasureT-loop
+μ-loop message out₀ digest i₀ out i = 32 - i
+
+returns : tie.Need-returns Inv-loop μ-loop
+unfolding written
+returns c = (sym (lt-leb 32 _ (c .if1 .taken)), rw (lt-leb 32 (length (c .before .before .before .args .out .now)) (c .if1 .taken)))
+
+sha256-requires : tie.Need-sha256-requires Inv-loop μ-loop
+sha256-requires c κs = search needs
+
+loop-holds : tie.Need-loop-holds Inv-loop μ-loop
+loop-holds c = (search needs, refl, refl)
+
+array-read-out : tie.Need-array-read-out Inv-loop μ-loop
+array-read-out c = search needs
+
+slice-write-out : tie.Need-slice-write-out Inv-loop μ-loop
+slice-write-out c = search needs
+
+add-i : tie.Need-add-i Inv-loop μ-loop
+add-i c = search needs
+
+loop-less : tie.Need-loop-less Inv-loop μ-loop
+loop-less c = search needs
+
+loop-again : tie.Need-loop-again Inv-loop μ-loop
+loop-again c =
+    let digest = c .before .before .sha256 .result in
+    let out = c .before .before .before .before .before .before .args .out .now in
+    let whole : length digest ≡ 32 = search needs in
+    let i = c .before .loop .i in
+    let inv = c .before .loop .inv in (
+      search needs,
+      length-set (c .before .loop .out) i _ ∙ inv .1,
+      rw (inv .2) (copied digest out i (omega arith) (omega arith)),
+    )
+
+same-length : tie.Need-same-length Inv-loop μ-loop
+same-length c = c .before .loop .inv .1
+
+returns-2 : tie.Need-returns-2 Inv-loop μ-loop
+unfolding written
+returns-2 c =
+    let out = c .before .before .before .before .before .before .args .out .now in
+    let digest = c .before .before .sha256 .result in
+    let room : leb 32 (length out) ≡ true = le-leb 32 (length out) (omega arith) in
+    let done : c .before .loop .i ≡ 32 = omega arith in
+    let whole : length digest ≡ 32 = search needs in
+    let ended : c .before .loop .out ≡ digest ++ drop 32 out
+    = c .before .loop .inv .2 ∙ rw (done, take-all 32 digest (omega arith)) in
+    (sym room, rw (room, ← c .before .before .sha256 .ensures) ended)
+
+pub sha256-into-spec : {M : Type 1} → statement M
+sha256-into-spec =
+    tie.close
+    (tie.spec
+    Inv-loop
+    μ-loop
+    returns
+    sha256-requires
+    loop-holds
+    array-read-out
+    slice-write-out
+    add-i
+    loop-less
+    loop-again
+    same-length
+    returns-2)

@@ -1,0 +1,423 @@
+use Prim.Native.Nat.{ℕ, _+_, _*_, _<_}
+use borrow.Author.Needs.{needs}
+use native.Mathlib.Omega.{arith}
+use mathlib.Core.Path.{_≡_, sym, ap, _∙_}
+use lib.ListN.{length, getD}
+use borrow.Author.Tests.{lt-ltb, le-ltb}
+use Rattle.sha256.specs.Digest.{sha256}
+use Rattle.protocol.specs.Bytes.{Bytes}
+use Rattle.protocol.specs.View.{extends as extends-test}
+use Rattle.protocol.specs.State.{decode}
+use Rattle.protocol.specs.Sound.{view}
+use Rattle.state.proofs.Walk.{names-parent-height, extends-by-digest, extends-not-run, extends-not-linked, extends-not-below, linked-start, linked-by-block, not-linked-without, remember-linked, remember-unlinked, notarized-size}
+use borrow.Fn.Kinds.{In}
+use borrow.Fn.PlainCycle.{Measures, is, falls, and}
+use Rattle.state.proofs.links.extends.Reads as extends
+use Rattle.state.proofs.links.extends.Kinds as extends-kinds
+use Rattle.state.proofs.links.+extends+linked+links_back.Lts-extends as extends-lts
+use Rattle.state.proofs.links.linked.Reads as linked
+use Rattle.state.proofs.links.linked.Kinds as linked-kinds
+use Rattle.state.proofs.links.+extends+linked+links_back.Lts-linked as linked-lts
+use Rattle.state.proofs.links.links_back.Reads as links-back
+use Rattle.state.proofs.links.links_back.Kinds as links-back-kinds
+use Rattle.state.proofs.links.+extends+linked+links_back.Lts-links_back as links-back-lts
+use Rattle.fields.proofs.height.is_notarized.Reads as is-notarized-reads
+use Rattle.fields.proofs.height.notarized.Reads as notarized-reads
+use Rattle.fields.proofs.quorum.dummy_run.Reads as dummy-run-reads
+use Rattle.state.proofs.links.names_parent.Reads as names-parent-reads
+use Rattle.state.proofs.links.+extends+linked+links_back.{statement}
+use Rattle.state.proofs.links.+extends+linked+links_back.Tie.{close}
+
+abbrev μ-extends : Measures 3 extends-kinds.ps ℕ
+μ-extends κs a = 3 * a .1 .0
+
+abbrev μ-linked : Measures 2 linked-kinds.ps ℕ
+μ-linked κs a = 3 * a .1 .0 + 2
+
+abbrev μ-links-back : Measures 2 links-back-kinds.ps ℕ
+μ-links-back κs a = 3 * a .1 .0 + 1
+
+abbrev extends-at : ℕ → In 3 extends-kinds.ps
+extends-at t = and 3 extends-kinds.ps (is 3 extends-kinds.ps μ-extends t) extends.Pre
+
+abbrev extends-below : ℕ → In 3 extends-kinds.ps
+extends-below t = and 3 extends-kinds.ps (falls 3 extends-kinds.ps _<_ μ-extends t) extends.Pre
+
+abbrev linked-at : ℕ → In 2 linked-kinds.ps
+linked-at t = and 2 linked-kinds.ps (is 2 linked-kinds.ps μ-linked t) linked.Pre
+
+abbrev linked-below : ℕ → In 2 linked-kinds.ps
+linked-below t = and 2 linked-kinds.ps (falls 2 linked-kinds.ps _<_ μ-linked t) linked.Pre
+
+abbrev links-back-at : ℕ → In 2 links-back-kinds.ps
+links-back-at t =
+    and 2 links-back-kinds.ps (is 2 links-back-kinds.ps μ-links-back t) links-back.Pre
+
+abbrev links-back-below : ℕ → In 2 links-back-kinds.ps
+links-back-below t =
+    and 2 links-back-kinds.ps (falls 2 links-back-kinds.ps _<_ μ-links-back t) links-back.Pre
+
+extends-shared-slice-read-j : (t : ℕ) → extends-lts.Need-shared-slice-read-j (
+  linked-below t,
+  linked.Post,
+  dummy-run-reads.Asked,
+  dummy-run-reads.Learnt,
+  names-parent-reads.Asked,
+  names-parent-reads.Learnt,
+) (extends-at t) extends.Post
+extends-shared-slice-read-j t c = search needs
+
+extends-cast-j : (t : ℕ) → extends-lts.Need-cast-j (
+  linked-below t,
+  linked.Post,
+  dummy-run-reads.Asked,
+  dummy-run-reads.Learnt,
+  names-parent-reads.Asked,
+  names-parent-reads.Learnt,
+) (extends-at t) extends.Post
+extends-cast-j t c = omega (arith, c .shared-slice-known3 .given 2)
+
+extends-linked-requires : (t : ℕ) → extends-lts.Need-linked-requires (
+  linked-below t,
+  linked.Post,
+  dummy-run-reads.Asked,
+  dummy-run-reads.Learnt,
+  names-parent-reads.Asked,
+  names-parent-reads.Learnt,
+) (extends-at t) extends.Post
+extends-linked-requires t c κs =
+    let z = c .before .before .before .before .before .before in
+    (omega arith, (z .pre .1 .0, (z .pre .1 .1 .0, omega arith)))
+
+extends-sub-dummy-run : (t : ℕ) → extends-lts.Need-sub-dummy-run (
+  linked-below t,
+  linked.Post,
+  dummy-run-reads.Asked,
+  dummy-run-reads.Learnt,
+  names-parent-reads.Asked,
+  names-parent-reads.Learnt,
+) (extends-at t) extends.Post
+extends-sub-dummy-run t c = search needs
+
+extends-sub-dummy-run-2 : (t : ℕ) → extends-lts.Need-sub-dummy-run-2 (
+  linked-below t,
+  linked.Post,
+  dummy-run-reads.Asked,
+  dummy-run-reads.Learnt,
+  names-parent-reads.Asked,
+  names-parent-reads.Learnt,
+) (extends-at t) extends.Post
+extends-sub-dummy-run-2 t c = search needs
+
+extends-dummy-run-requires : (t : ℕ) → extends-lts.Need-dummy-run-requires (
+  linked-below t,
+  linked.Post,
+  dummy-run-reads.Asked,
+  dummy-run-reads.Learnt,
+  names-parent-reads.Asked,
+  names-parent-reads.Learnt,
+) (extends-at t) extends.Post
+extends-dummy-run-requires t c κs =
+    let z = c .before .before .before .before .before .before .before .before .before .before in
+    (z .pre .1 .0 .sized, (z .pre .1 .0 .replicas, omega arith))
+
+extends-names-parent-requires : (t : ℕ) → extends-lts.Need-names-parent-requires (
+  linked-below t,
+  linked.Post,
+  dummy-run-reads.Asked,
+  dummy-run-reads.Learnt,
+  names-parent-reads.Asked,
+  names-parent-reads.Learnt,
+) (extends-at t) extends.Post
+extends-names-parent-requires t c κs =
+    let z = c .before .before .before .before .before .before .before .before .before .before .before .before in
+    (z .pre .1 .0, (z .pre .1 .1 .1 .1, omega arith))
+
+extends-same-length : (t : ℕ) → extends-lts.Need-same-length (
+  linked-below t,
+  linked.Post,
+  dummy-run-reads.Asked,
+  dummy-run-reads.Learnt,
+  names-parent-reads.Asked,
+  names-parent-reads.Learnt,
+) (extends-at t) extends.Post
+extends-same-length t c = search needs
+
+extends-returns : (t : ℕ) → extends-lts.Need-returns (
+  linked-below t,
+  linked.Post,
+  dummy-run-reads.Asked,
+  dummy-run-reads.Learnt,
+  names-parent-reads.Asked,
+  names-parent-reads.Learnt,
+) (extends-at t) extends.Post
+extends-returns t c =
+    let z = c .before .before .before .before .before .before .before .before .before .before .before .before .before in
+    let v = view (decode (z .args .book .now)) in
+    let j = getD (z .args .block .now) 2 0 in
+    (c .names-parent .ensures ∙ sym (extends-by-digest v (z .args .h) j (z .args .block .now) (names-parent-height (z .args .block .now)) (lt-ltb j (z .args .h) (omega arith)) (sym (c .before .before .before .before .before .before .linked .ensures .0) ∙ c .before .before .before .if2 .taken) (sym (c .before .before .dummy-run .ensures) ∙ c .before .if3 .taken)), c .before .before .before .before .before .before .linked .ensures .1)
+
+extends-same-length-2 : (t : ℕ) → extends-lts.Need-same-length-2 (
+  linked-below t,
+  linked.Post,
+  dummy-run-reads.Asked,
+  dummy-run-reads.Learnt,
+  names-parent-reads.Asked,
+  names-parent-reads.Learnt,
+) (extends-at t) extends.Post
+extends-same-length-2 t c = search needs
+
+extends-returns-2 : (t : ℕ) → extends-lts.Need-returns-2 (
+  linked-below t,
+  linked.Post,
+  dummy-run-reads.Asked,
+  dummy-run-reads.Learnt,
+  names-parent-reads.Asked,
+  names-parent-reads.Learnt,
+) (extends-at t) extends.Post
+extends-returns-2 t c =
+    let z = c .before .before .before .before .before .before .before .before .before .before .before .before in
+    let v = view (decode (z .args .book .now)) in
+    let j = getD (z .args .block .now) 2 0 in
+    (sym (extends-not-run v (z .args .h) j (z .args .block .now) (names-parent-height (z .args .block .now)) (sym (c .before .dummy-run .ensures) ∙ c .if3 .left)), c .before .before .before .before .before .linked .ensures .1)
+
+extends-same-length-3 : (t : ℕ) → extends-lts.Need-same-length-3 (
+  linked-below t,
+  linked.Post,
+  dummy-run-reads.Asked,
+  dummy-run-reads.Learnt,
+  names-parent-reads.Asked,
+  names-parent-reads.Learnt,
+) (extends-at t) extends.Post
+extends-same-length-3 t c = search needs
+
+extends-returns-3 : (t : ℕ) → extends-lts.Need-returns-3 (
+  linked-below t,
+  linked.Post,
+  dummy-run-reads.Asked,
+  dummy-run-reads.Learnt,
+  names-parent-reads.Asked,
+  names-parent-reads.Learnt,
+) (extends-at t) extends.Post
+extends-returns-3 t c =
+    let z = c .before .before .before .before .before .before .before .before .before .before in
+    let v = view (decode (z .args .book .now)) in
+    let j = getD (z .args .block .now) 2 0 in
+    (sym (extends-not-linked v (z .args .h) j (z .args .block .now) (names-parent-height (z .args .block .now)) (sym (c .before .before .before .linked .ensures .0) ∙ c .if2 .left)), c .before .before .before .linked .ensures .1)
+
+extends-returns-4 : (t : ℕ) → extends-lts.Need-returns-4 (
+  linked-below t,
+  linked.Post,
+  dummy-run-reads.Asked,
+  dummy-run-reads.Learnt,
+  names-parent-reads.Asked,
+  names-parent-reads.Learnt,
+) (extends-at t) extends.Post
+extends-returns-4 t c =
+    let z = c .before .before .before .before .before in
+    let v = view (decode (z .args .book .now)) in
+    let j = getD (z .args .block .now) 2 0 in
+    (sym (extends-not-below v (z .args .h) j (z .args .block .now) (names-parent-height (z .args .block .now)) (le-ltb j (z .args .h) (omega arith))), z .pre .1 .1 .0)
+
+linked-returns :
+    (t : ℕ) →
+    linked-lts.Need-returns (links-back-below t, links-back.Post) (linked-at t) linked.Post
+linked-returns t c =
+    let z = c .before .before .before in
+    (sym (linked-start (z .args .book .now) (z .args .h) (c .if1 .taken)), z .pre .1 .1 .0)
+
+linked-slice-read-seen : (t : ℕ) → linked-lts.Need-slice-read-seen (
+  links-back-below t,
+  links-back.Post,
+) (linked-at t) linked.Post
+linked-slice-read-seen t c = search needs
+
+linked-returns-2 :
+    (t : ℕ) →
+    linked-lts.Need-returns-2 (links-back-below t, links-back.Post) (linked-at t) linked.Post
+linked-returns-2 t c =
+    let z = c .before .before .before .before .before in
+    (sym (z .pre .1 .1 .0 .is-linked (z .args .h) (c .if2 .taken)), z .pre .1 .1 .0)
+
+linked-returns-3 :
+    (t : ℕ) →
+    linked-lts.Need-returns-3 (links-back-below t, links-back.Post) (linked-at t) linked.Post
+linked-returns-3 t c =
+    let z = c .before .before .before .before .before .before in
+    (sym (z .pre .1 .1 .0 .not-linked (z .args .h) (c .if3 .taken)), z .pre .1 .1 .0)
+
+linked-links-back-requires : (t : ℕ) → linked-lts.Need-links-back-requires (
+  links-back-below t,
+  links-back.Post,
+) (linked-at t) linked.Post
+linked-links-back-requires t c κs =
+    let z = c .before .before .before .before .before .before .before in
+    (omega arith, (z .pre .1 .0, (z .pre .1 .1 .0, record { low = omega arith; high = z .pre .1 .1 .1 })))
+
+linked-slice-write-known : (t : ℕ) → linked-lts.Need-slice-write-known (
+  links-back-below t,
+  links-back.Post,
+) (linked-at t) linked.Post
+linked-slice-write-known t c = search needs
+
+linked-slice-write-known-2 : (t : ℕ) → linked-lts.Need-slice-write-known-2 (
+  links-back-below t,
+  links-back.Post,
+) (linked-at t) linked.Post
+linked-slice-write-known-2 t c = search needs
+
+linked-same-length :
+    (t : ℕ) →
+    linked-lts.Need-same-length (links-back-below t, links-back.Post) (linked-at t) linked.Post
+linked-same-length t c = search needs
+
+linked-returns-4 :
+    (t : ℕ) →
+    linked-lts.Need-returns-4 (links-back-below t, links-back.Post) (linked-at t) linked.Post
+linked-returns-4 t c =
+    let z = c .before .before .before .before .before .before .before .before .before .before .before in
+    let back = c .before .before .before .links-back in
+    (back .ensures .0, remember-linked (z .args .book .now) (back .last .1 .1 .0) (back .ensures .1) (z .args .h) (omega arith) (sym (back .ensures .0) ∙ c .if4 .taken))
+
+linked-same-length-2 : (t : ℕ) → linked-lts.Need-same-length-2 (
+  links-back-below t,
+  links-back.Post,
+) (linked-at t) linked.Post
+linked-same-length-2 t c = search needs
+
+linked-returns-5 :
+    (t : ℕ) →
+    linked-lts.Need-returns-5 (links-back-below t, links-back.Post) (linked-at t) linked.Post
+linked-returns-5 t c =
+    let z = c .before .before .before .before .before .before .before .before .before .before .before in
+    let back = c .before .before .before .links-back in
+    (back .ensures .0, remember-unlinked (z .args .book .now) (back .last .1 .1 .0) (back .ensures .1) (z .args .h) (omega arith) (sym (back .ensures .0) ∙ c .if4 .left))
+
+links-back-is-notarized-requires : (t : ℕ) → links-back-lts.Need-is-notarized-requires (
+  is-notarized-reads.Asked,
+  is-notarized-reads.Learnt,
+  notarized-reads.Asked,
+  notarized-reads.Learnt,
+  extends-below t,
+  extends.Post,
+) (links-back-at t) links-back.Post
+links-back-is-notarized-requires t c κs = search needs
+
+links-back-notarized-requires : (t : ℕ) → links-back-lts.Need-notarized-requires (
+  is-notarized-reads.Asked,
+  is-notarized-reads.Learnt,
+  notarized-reads.Asked,
+  notarized-reads.Learnt,
+  extends-below t,
+  extends.Post,
+) (links-back-at t) links-back.Post
+links-back-notarized-requires t c κs = search needs
+
+links-back-extends-requires : (t : ℕ) → links-back-lts.Need-extends-requires (
+  is-notarized-reads.Asked,
+  is-notarized-reads.Learnt,
+  notarized-reads.Asked,
+  notarized-reads.Learnt,
+  extends-below t,
+  extends.Post,
+) (links-back-at t) links-back.Post
+links-back-extends-requires t c κs =
+    let z = c .before .before .before .before .before .before in
+    (omega arith, (z .pre .1 .0, (z .pre .1 .1 .0, (z .pre .1 .1 .1, ap length (c .before .notarized .ensures) ∙ notarized-size (z .args .book .now) (z .args .h) (z .pre .1 .0) (z .pre .1 .1 .1)))))
+
+links-back-same-length : (t : ℕ) → links-back-lts.Need-same-length (
+  is-notarized-reads.Asked,
+  is-notarized-reads.Learnt,
+  notarized-reads.Asked,
+  notarized-reads.Learnt,
+  extends-below t,
+  extends.Post,
+) (links-back-at t) links-back.Post
+links-back-same-length t c = search needs
+
+links-back-returns : (t : ℕ) → links-back-lts.Need-returns (
+  is-notarized-reads.Asked,
+  is-notarized-reads.Learnt,
+  notarized-reads.Asked,
+  notarized-reads.Learnt,
+  extends-below t,
+  extends.Post,
+) (links-back-at t) links-back.Post
+links-back-returns t c =
+    let z = c .before .before .before .before .before .before .before .before .before in
+    let book = z .args .book .now in
+    let h = z .args .h in (
+      c .before .before .extends .ensures .0
+          ∙ ap (λ (b : Bytes). extends-test sha256 (view (decode book)) h b) (c .before .before .before .before .notarized .ensures)
+          ∙ sym (linked-by-block book h (z .pre .1 .1 .1 .low) (sym (c .before .before .before .before .before .before .is-notarized .ensures) ∙ c .before .before .before .before .before .if1 .taken)),
+      c .before .before .extends .ensures .1,
+    )
+
+links-back-returns-2 : (t : ℕ) → links-back-lts.Need-returns-2 (
+  is-notarized-reads.Asked,
+  is-notarized-reads.Learnt,
+  notarized-reads.Asked,
+  notarized-reads.Learnt,
+  extends-below t,
+  extends.Post,
+) (links-back-at t) links-back.Post
+links-back-returns-2 t c =
+    let z = c .before .before .before .before in
+    (sym (not-linked-without (z .args .book .now) (z .args .h) (z .pre .1 .1 .1 .low) (sym (c .before .is-notarized .ensures) ∙ c .if1 .left)), z .pre .1 .1 .0)
+
+pub +extends+linked+links-back-spec : {M : Type 1} → statement M
++extends+linked+links-back-spec = close μ-extends μ-linked μ-links-back (λ t. extends-lts.spec (
+  linked-below t,
+  linked.Post,
+  dummy-run-reads.Asked,
+  dummy-run-reads.Learnt,
+  names-parent-reads.Asked,
+  names-parent-reads.Learnt,
+)
+    (extends-at t)
+    extends.Post
+    (extends-shared-slice-read-j t)
+    (extends-cast-j t)
+    (extends-linked-requires t)
+    (extends-sub-dummy-run t)
+    (extends-sub-dummy-run-2 t)
+    (extends-dummy-run-requires t)
+    (extends-names-parent-requires t)
+    (extends-same-length t)
+    (extends-returns t)
+    (extends-same-length-2 t)
+    (extends-returns-2 t)
+    (extends-same-length-3 t)
+    (extends-returns-3 t)
+    (extends-returns-4 t))
+    (λ t. linked-lts.spec
+    (links-back-below t, links-back.Post)
+    (linked-at t)
+    linked.Post
+    (linked-returns t)
+    (linked-slice-read-seen t)
+    (linked-returns-2 t)
+    (linked-returns-3 t)
+    (linked-links-back-requires t)
+    (linked-slice-write-known t)
+    (linked-slice-write-known-2 t)
+    (linked-same-length t)
+    (linked-returns-4 t)
+    (linked-same-length-2 t)
+    (linked-returns-5 t))
+    λ t. links-back-lts.spec (
+      is-notarized-reads.Asked,
+      is-notarized-reads.Learnt,
+      notarized-reads.Asked,
+      notarized-reads.Learnt,
+      extends-below t,
+      extends.Post,
+    )
+    (links-back-at t)
+    links-back.Post
+    (links-back-is-notarized-requires t)
+    (links-back-notarized-requires t)
+    (links-back-extends-requires t)
+    (links-back-same-length t)
+    (links-back-returns t)
+    (links-back-returns-2 t)

@@ -1,0 +1,49 @@
+-- `is_finalized` meets its contract: where the finalize mask is a quorum, a height is finalized if it is linked, and else it is not.
+use Prim.Native.Nat.{ℕ}
+use mathlib.Core.Path.{sym, ap, _∙_}
+use Rattle.protocol.specs.State.{decode}
+use Rattle.protocol.specs.Sound.{view}
+use Rattle.protocol.specs.View.{quorum}
+use Rattle.state.proofs.Walk.{finalized-by-link, not-finalized-without}
+use borrow.Author.Needs.{needs}
+use Rattle.state.proofs.links.is_finalized.Statement.{statement}
+use Rattle.state.proofs.links.is_finalized.Tie as tie
+use Rattle.state.proofs.links.is_finalized.Reads as reads
+use Rattle.state.proofs.links.is_finalized.Lts as lts
+use Rattle.fields.proofs.height.finalize_mask.Reads as finalize-mask-reads
+use Rattle.fields.proofs.quorum.quorum.Reads as quorum-reads
+use Rattle.state.proofs.links.linked.Reads as linked-reads
+
+finalize-mask-requires : tie.Need-finalize-mask-requires
+finalize-mask-requires c κs = search needs
+
+quorum-requires : tie.Need-quorum-requires
+quorum-requires c κs = search needs
+
+linked-requires : tie.Need-linked-requires
+linked-requires c κs = search needs
+
+same-length : tie.Need-same-length
+same-length c = search needs
+
+returns : tie.Need-returns
+returns c =
+    let z = c .before .before .before .before .before .before .before .before .before in
+    let mask = c .before .before .before .before .before .before .finalize-mask in
+    let v = view (decode (z .args .book .now)) in (
+      c .before .before .linked .ensures .0
+          ∙ finalized-by-link (z .args .book .now) (z .args .h) (ap (λ (m : ℕ). quorum v m) (sym (mask .ensures .0)) ∙ sym (c .before .before .before .before .before .quorum .ensures) ∙ c .before .before .before .before .if1 .taken),
+      c .before .before .linked .ensures .1,
+    )
+
+returns-2 : tie.Need-returns-2
+returns-2 c =
+    let z = c .before .before .before .before .before in
+    let mask = c .before .before .finalize-mask in
+    let v = view (decode (z .args .book .now)) in
+    (sym (not-finalized-without (z .args .book .now) (z .args .h) (ap (λ (m : ℕ). quorum v m) (sym (mask .ensures .0)) ∙ sym (c .before .quorum .ensures) ∙ c .if1 .left)), z .pre .1 .0)
+
+pub is-finalized-spec : {M : Type 1} → statement M
+is-finalized-spec =
+    tie.close
+    (tie.spec finalize-mask-requires quorum-requires linked-requires same-length returns returns-2)

@@ -1,0 +1,68 @@
+-- `masks_sound` meets its contract: its four tests are those of the four masks.
+use Rattle.state.proofs.SoundTests.{masks-are}
+use Rattle.protocol.specs.State.{at, decode}
+use borrow.Author.Needs.{needs}
+use Rattle.state.proofs.sound.masks_sound.Statement.{statement}
+use Rattle.state.proofs.sound.masks_sound.Tie as tie
+
+replicas-requires : tie.Need-replicas-requires
+replicas-requires c κs = search needs
+
+certificate-mask-requires : tie.Need-certificate-mask-requires
+certificate-mask-requires c κs = search needs
+
+below-requires : tie.Need-below-requires
+below-requires c κs = search needs
+
+dummy-mask-requires : tie.Need-dummy-mask-requires
+dummy-mask-requires c κs = search needs
+
+below-requires-2 : tie.Need-below-requires-2
+below-requires-2 c κs = search needs
+
+finalize-mask-requires : tie.Need-finalize-mask-requires
+finalize-mask-requires c κs = search needs
+
+below-requires-3 : tie.Need-below-requires-3
+below-requires-3 c κs = search needs
+
+voter-mask-requires : tie.Need-voter-mask-requires
+voter-mask-requires c κs = search needs
+
+below-requires-4 : tie.Need-below-requires-4
+below-requires-4 c κs = search needs
+
+returns : tie.Need-returns
+returns c =
+    let voters = c .before in
+    let finalize = voters .before .before in
+    let dummy = finalize .before .before in
+    let certificate = dummy .before .before in
+    let start = certificate .before .before .before in
+    rw (
+      c .below4 .ensures,
+      voters .voter-mask .ensures .0,
+      voters .before .below3 .ensures,
+      finalize .finalize-mask .ensures .0,
+      finalize .before .below2 .ensures,
+      dummy .dummy-mask .ensures .0,
+      dummy .before .below .ensures,
+      certificate .certificate-mask .ensures .0,
+      certificate .before .replicas .ensures .0,
+    )
+    (masks-are (decode (start .args .book .now) .n) (at (decode (start .args .book .now)) (start .args .h)))
+
+pub masks-sound-spec : {M : Type 1} → statement M
+masks-sound-spec =
+    tie.close
+    (tie.spec
+    replicas-requires
+    certificate-mask-requires
+    below-requires
+    dummy-mask-requires
+    below-requires-2
+    finalize-mask-requires
+    below-requires-3
+    voter-mask-requires
+    below-requires-4
+    returns)

@@ -1,0 +1,4 @@
+pub mod Memo
+pub mod Parent
+pub mod SoundRows
+pub mod SoundRowsLaws

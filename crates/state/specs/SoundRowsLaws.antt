@@ -1,0 +1,103 @@
+-- The groups of rows make soundness; a sound head can be read; a memory of zeros knows nothing.
+use Prim.Native.Nat.{ℕ, _+_, _*_, _≤_}
+use native.Mathlib.Omega.{arith}
+use mathlib.Core.Path.{_≡_, refl, sym}
+use mathlib.Core.Bool.{Bool, true, false, _&&_}
+use lib.ListN.{length, getD}
+use borrow.Author.Tests.{eqb-true}
+use Rattle.protocol.specs.Bytes.{Bytes, byteAt, zeros}
+use Rattle.protocol.specs.Tests.{allOf, everyHeight}
+use Rattle.protocol.specs.State.{bookSize}
+use Rattle.protocol.specs.Sound.{sound}
+use Rattle.protocol.specs.EveryLaws.{none, one}
+use Rattle.protocol.specs.TestsLaws.{and-true}
+use Rattle.protocol.specs.RowLaws.{row, all-of, true-and, every-height-at, every-height, in-range, is-zero-byte, zeros-is-zero}
+use Rattle.protocol.specs.BlockLaws.{zeros-size}
+use Rattle.fields.specs.ReadyLaws.{sized}
+use Rattle.state.specs.Memo.{Readable, Memo}
+use Rattle.state.specs.SoundRows.{numberRows, headRows, heightRows, finalRow}
+
+-- two tests are equal where each passes if the other does
+both-ways : (a b : Bool) → (a ≡ true → b ≡ true) → (b ≡ true → a ≡ true) → a ≡ b
+both-ways true b f g = sym (f refl)
+both-ways false true f g = g refl
+both-ways false false f g = refl
+
+module _ (digest : Bytes → Bytes) (book : Bytes) where
+  -- the rows of every height
+  abbrev every : Bool
+  every = everyHeight (λ h. allOf (heightRows book h)) (byteAt book 2)
+
+  module _ (e : sound digest book ≡ true) where
+    head-passes : allOf (headRows book) ≡ true
+    unfolding sound headRows numberRows
+    head-passes =
+        let numbers = all-of
+        (one (row _ 1 e) (one (row _ 2 e) (one (row _ 3 e) (one (row _ 4 e) (one (row _ 5 e) (one (row _ 6 e) (one (row _ 7 e) none))))))) in
+        all-of (one (row _ 0 e) (one numbers (one (row _ 13 e) none)))
+
+    height-passes : (h : ℕ) → 1 ≤ h → h ≤ byteAt book 2 → allOf (heightRows book h) ≡ true
+    unfolding sound heightRows
+    height-passes h low high = all-of
+        (one (every-height-at _ _ h (row _ 8 e) low high) (one (every-height-at _ _ h (row _ 9 e) low high)
+        (one (every-height-at _ _ h (row _ 10 e) low high) (one (every-height-at _ _ h (row _ 11 e) low high)
+        (one (every-height-at _ _ h (row _ 12 e) low high) (one (every-height-at _ _ h (row _ 14 e) low high) none))))))
+
+    final-passes : finalRow digest book ≡ true
+    unfolding sound finalRow
+    final-passes = row _ 15 e
+
+  module _ (head : allOf (headRows book) ≡ true) (heights : every ≡ true) (final : finalRow digest book ≡ true) where
+    number : (i : ℕ) → getD (numberRows book) i true ≡ true
+    unfolding headRows
+    number i = row (numberRows book) i (row _ 1 head)
+
+    at-height : (h : ℕ) → 1 ≤ h → h ≤ byteAt book 2 → allOf (heightRows book h) ≡ true
+    at-height h low high = every-height-at _ (byteAt book 2) h heights low high
+
+    sound-passes : sound digest book ≡ true
+    unfolding sound headRows numberRows heightRows finalRow
+    sound-passes = all-of
+        (one (row _ 0 head)
+        (one (number 0) (one (number 1) (one (number 2) (one (number 3) (one (number 4) (one (number 5) (one (number 6)
+        (one (every-height _ _ (λ h low high. row _ 0 (at-height h low high)))
+        (one (every-height _ _ (λ h low high. row _ 1 (at-height h low high)))
+        (one (every-height _ _ (λ h low high. row _ 2 (at-height h low high)))
+        (one (every-height _ _ (λ h low high. row _ 3 (at-height h low high)))
+        (one (every-height _ _ (λ h low high. row _ 4 (at-height h low high)))
+        (one (row _ 2 head)
+        (one (every-height _ _ (λ h low high. row _ 5 (at-height h low high)))
+        (one final none))))))))))))))))
+
+  -- soundness, group by group
+  pub sound-is : sound digest book ≡ (allOf (headRows book) && (every && finalRow digest book))
+  sound-is = both-ways (sound digest book) (allOf (headRows book) && (every && finalRow digest book))
+      (λ e. true-and _ _ (head-passes e) (true-and _ _ (every-height _ _ (height-passes e)) (final-passes e)))
+      (λ e.
+      let t = and-true (allOf (headRows book)) (every && finalRow digest book) e in
+      let u = and-true every (finalRow digest book) (t .1) in
+      sound-passes (t .0) (u .0) (u .1))
+
+-- the head's rows are all that reading asks
+pub readable : (book : Bytes) → allOf (headRows book) ≡ true → Readable book
+unfolding headRows numberRows bookSize
+readable book e =
+    let numbers : allOf (numberRows book) ≡ true = row _ 1 e in
+    let size : length book ≡ 576 + 880 * byteAt book 2 = eqb-true _ _ (row _ 0 e) in
+    let few : byteAt book 2 ≤ 63 = in-range _ _ _ (row _ 2 numbers) .1 in
+    record {
+      sized = sized book size few;
+      replicas = in-range _ _ _ (row _ 0 numbers) .1;
+      heights = few;
+    }
+
+-- zeros say of no height that it is linked or not
+pub zero-memo : (book known : Bytes) → known ≡ zeros 64 → Memo book known
+zero-memo book known e = record {
+  size = rw e (zeros-size 64);
+  is-linked = λ h seen. let none-seen = unseen h in absurd (omega arith);
+  not-linked = λ h seen. let none-seen = unseen h in absurd (omega arith);
+}
+  where
+    unseen : (h : ℕ) → byteAt known h ≡ 0
+    unseen h = rw e (is-zero-byte (zeros 64) h (zeros-is-zero 64))

@@ -1,0 +1,193 @@
+// Soundness of a book: one pass over its bytes, and one digest for each block of the finalized chain.
+use wire::bytes::byte;
+use wire::bytes::is_zero;
+ghost use mathlib.Core.Path.{_≡_};
+ghost use mathlib.Core.Bool.{true};
+ghost use Prim.Native.Nat.{_≤_};
+ghost use lib.ListN.{length};
+ghost use Rattle.sha256.specs.Digest.{sha256 as sha};
+ghost use Rattle.protocol.specs.Bytes.{byteAt, zeros, isZero};
+ghost use Rattle.protocol.specs.Tests.{allOf, implies, everyHeight};
+ghost use Rattle.protocol.specs.Block.{blockWellFormed};
+ghost use Rattle.protocol.specs.Mask.{belowBit};
+ghost use Rattle.protocol.specs.State.{decode, at, holdsProposal, isNotarized};
+ghost use Rattle.protocol.specs.View.{quorum};
+ghost use Rattle.protocol.specs.Sound.{view, masksBelow, contentZeros, sound as isSound};
+ghost use Rattle.fields.specs.Ready.{Within};
+ghost use Rattle.state.specs.Memo.{Readable, Memo};
+ghost use Rattle.state.specs.SoundRows.{numberRows, headRows, heightRows, finalRow};
+
+// Whether the numbers of the head are in their ranges.
+fn numbers_sound(book: &[u8]) -> bool
+    requires { ⌜ 576 ≤ length (now book) ⌝ }
+    ensures { λ r. ⌜ r ≡ allOf (numberRows (now (book .entry))) ⌝ }
+{
+    let n = byte(book, 0);
+    let own = byte(book, 1);
+    let heights = byte(book, 2);
+    let flags = byte(book, 3);
+    let current = byte(book, 4);
+    let pending = byte(book, 6);
+    let edition = byte(book, 7);
+    let replicas = (1 <= n) & (n <= 16);
+    let length = (1 <= heights) & (heights <= 63);
+    let place = (1 <= current) & (current <= heights + 1);
+    replicas
+        & ((own < n) & (length & ((edition == 1) & (place & ((flags < 16) & (pending <= 32))))))
+}
+
+// Whether the length is that of the heights, and the head as it must be.
+fn head_sound(book: &[u8]) -> bool
+    ensures { λ r. ⌜ r ≡ allOf (headRows (now (book .entry))) ⌝ }
+{
+    if 576 <= book.len() {
+        let size = book.len() == 576 + 880 * byte(book, 2);
+        let numbers = numbers_sound(book);
+        let unused = is_zero(&book[8..64]);
+        size & (numbers & unused)
+    } else {
+        false
+    }
+}
+
+// Whether a mask has no bit from `n` up.
+fn below(n: usize, mask: usize) -> bool
+    requires { ⌜ n ≤ 16 ⌝ }
+    ensures { λ r. ⌜ r ≡ belowBit n mask ⌝ }
+{
+    mask >> n == 0
+}
+
+// Whether the four masks of height `h` hold none but the book's replicas.
+fn masks_sound(book: &[u8], h: usize) -> bool
+    requires { ⌜ Readable (now book) ⌝ }
+    requires { ⌜ Within (now book) h ⌝ }
+    ensures { λ r. ⌜ r ≡ masksBelow (decode (now (book .entry)) .n) (at (decode (now (book .entry))) h) ⌝ }
+{
+    let n = fields::head::replicas(book);
+    let certificate = below(n, fields::height::certificate_mask(book, h));
+    let dummy = below(n, fields::height::dummy_mask(book, h));
+    let finalize = below(n, fields::height::finalize_mask(book, h));
+    let voters = below(n, fields::height::voter_mask(book, h));
+    certificate & (dummy & (finalize & voters))
+}
+
+// Whether the proposal that is held at height `h`, if one is, is well formed.
+fn proposal_sound(book: &[u8], h: usize) -> bool
+    requires { ⌜ Readable (now book) ⌝ }
+    requires { ⌜ Within (now book) h ⌝ }
+    ensures { λ r. ⌜ r ≡ implies (holdsProposal (at (decode (now (book .entry))) h)) (blockWellFormed h (at (decode (now (book .entry))) h .proposal)) ⌝ }
+{
+    if fields::height::holds_proposal(book, h) {
+        wire::block::block_well_formed(fields::height::proposal(book, h), h)
+    } else {
+        true
+    }
+}
+
+// Whether the notarized block of height `h`, if there is one, is well formed.
+fn notarized_sound(book: &[u8], h: usize) -> bool
+    requires { ⌜ Readable (now book) ⌝ }
+    requires { ⌜ Within (now book) h ⌝ }
+    ensures { λ r. ⌜ r ≡ implies (isNotarized (at (decode (now (book .entry))) h)) (blockWellFormed h (at (decode (now (book .entry))) h .notarized)) ⌝ }
+{
+    if fields::height::is_notarized(book, h) {
+        wire::block::block_well_formed(fields::height::notarized(book, h), h)
+    } else {
+        true
+    }
+}
+
+// Whether the notarized block of height `h`, if there is one, has the certificate of a quorum.
+fn certificate_sound(book: &[u8], h: usize) -> bool
+    requires { ⌜ Readable (now book) ⌝ }
+    requires { ⌜ Within (now book) h ⌝ }
+    ensures { λ r. ⌜ r ≡ implies (isNotarized (at (decode (now (book .entry))) h)) (quorum (view (decode (now (book .entry)))) (at (decode (now (book .entry))) h .certificateMask)) ⌝ }
+{
+    if fields::height::is_notarized(book, h) {
+        fields::quorum::quorum(book, fields::height::certificate_mask(book, h))
+    } else {
+        true
+    }
+}
+
+// Whether the six bytes after the masks of height `h` are zero.
+fn unused_sound(book: &[u8], h: usize) -> bool
+    requires { ⌜ Readable (now book) ⌝ }
+    requires { ⌜ Within (now book) h ⌝ }
+    ensures { λ r. ⌜ r ≡ isZero (contentZeros (now (book .entry)) h) ⌝ }
+{
+    let from = fields::height::content_at(h) + 10;
+    is_zero(&book[from..from + 6])
+}
+
+// Whether height `h` is as it must be.
+fn height_sound(book: &[u8], h: usize) -> bool
+    requires { ⌜ Readable (now book) ⌝ }
+    requires { ⌜ Within (now book) h ⌝ }
+    ensures { λ r. ⌜ r ≡ allOf (heightRows (now (book .entry)) h) ⌝ }
+{
+    let leader = fields::height::leader(book, h) < fields::head::replicas(book);
+    let masks = masks_sound(book, h);
+    let status = fields::height::status(book, h) <= 3;
+    let proposal = proposal_sound(book, h);
+    let notarized = notarized_sound(book, h);
+    let certificate = certificate_sound(book, h);
+    let unused = unused_sound(book, h);
+    leader & (masks & (status & ((proposal & notarized) & (certificate & unused))))
+}
+
+// Whether every height is as it must be. Looks at each once, and ends at the first that is not.
+fn heights_sound(book: &[u8]) -> bool
+    requires { ⌜ Readable (now book) ⌝ }
+    ensures { λ r. ⌜ r ≡ everyHeight (λ h. allOf (heightRows (now (book .entry)) h)) (byteAt (now (book .entry)) 2) ⌝ }
+{
+    let last = fields::head::heights(book);
+    let mut h = 0;
+    while h < last {
+        if height_sound(book, h + 1) {
+            h += 1;
+        } else {
+            return false;
+        }
+    }
+    true
+}
+
+// Whether the finalized height is 0, or finalized. One digest for each block of its chain.
+fn finalized_sound(book: &[u8], known: &mut [u8]) -> bool
+    requires { ⌜ Readable (now book) ⌝ }
+    requires { ⌜ Memo (now book) (now known) ⌝ }
+    ensures answer { λ r. ⌜ r ≡ finalRow sha (now (book .entry)) ⌝ }
+    ensures memo { λ _. ⌜ Memo (now (book .entry)) (now (known .exit)) ⌝ }
+{
+    let g = fields::head::finalized(book);
+    if g == 0 {
+        true
+    } else {
+        if g <= fields::head::heights(book) {
+            crate::links::is_finalized(book, g, known)
+        } else {
+            false
+        }
+    }
+}
+
+// Whether a book is sound. Reads it once, and computes one digest for each block of the finalized chain;
+// what it finds of linked heights stays in the memory of zeros that it is lent.
+pub fn sound(book: &[u8], known: &mut [u8]) -> bool
+    requires { ⌜ now known ≡ zeros 64 ⌝ }
+    ensures answer { λ r. ⌜ r ≡ isSound sha (now (book .entry)) ⌝ }
+    ensures memo { λ r. ⌜ (r ≡ true → Memo (now (book .entry)) (now (known .exit))) ⌝ }
+    ensures size { λ _. ⌜ length (now (known .exit)) ≡ 64 ⌝ }
+{
+    if head_sound(book) {
+        if heights_sound(book) {
+            finalized_sound(book, known)
+        } else {
+            false
+        }
+    } else {
+        false
+    }
+}

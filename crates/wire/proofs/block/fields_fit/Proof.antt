@@ -1,0 +1,43 @@
+-- `fields_fit` meets its contract: its five tests are the rows of the first five bytes.
+use Rattle.wire.proofs.BlockRows.{fields-are}
+use borrow.Author.Needs.{needs}
+use Rattle.wire.proofs.block.fields_fit.Statement.{statement}
+use Rattle.wire.proofs.block.fields_fit.Tie as tie
+
+byte-requires : tie.Need-byte-requires
+byte-requires c κs = search needs
+
+byte-requires-2 : tie.Need-byte-requires-2
+byte-requires-2 c κs = search needs
+
+byte-requires-3 : tie.Need-byte-requires-3
+byte-requires-3 c κs = search needs
+
+byte-requires-4 : tie.Need-byte-requires-4
+byte-requires-4 c κs = search needs
+
+byte-requires-5 : tie.Need-byte-requires-5
+byte-requires-5 c κs = search needs
+
+returns : tie.Need-returns
+returns c =
+    let start = c .before .before .before .before .before .before in
+    rw (
+      c .byte5 .ensures .0,
+      c .before .byte4 .ensures .0,
+      c .before .before .byte3 .ensures .0,
+      c .before .before .before .byte2 .ensures .0,
+      c .before .before .before .before .byte .ensures .0,
+    )
+    (fields-are (start .args .h) (start .args .block .now))
+
+pub fields-fit-spec : {M : Type 1} → statement M
+fields-fit-spec =
+    tie.close
+    (tie.spec
+    byte-requires
+    byte-requires-2
+    byte-requires-3
+    byte-requires-4
+    byte-requires-5
+    returns)

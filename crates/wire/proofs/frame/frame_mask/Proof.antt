@@ -1,0 +1,15 @@
+-- `frame_mask` meets its contract: it reads the field where it stands.
+use Rattle.protocol.specs.Frame.{signerMask}
+use borrow.Author.Needs.{needs}
+use Rattle.wire.proofs.frame.frame_mask.Statement.{statement}
+use Rattle.wire.proofs.frame.frame_mask.Tie as tie
+
+word-requires : tie.Need-word-requires
+word-requires c κs = search needs
+
+returns : tie.Need-returns
+unfolding signerMask
+returns c = c .word .ensures
+
+pub frame-mask-spec : {M : Type 1} → statement M
+frame-mask-spec = tie.close (tie.spec word-requires returns)

@@ -1,0 +1,34 @@
+-- `write_block_vote` meets its contract: the digest and no block follow the head.
+use Rattle.protocol.specs.Bytes.{zeros}
+use Rattle.protocol.specs.Frame.{blockVote}
+use Rattle.wire.proofs.Writes.{frame-follows}
+use borrow.Author.Needs.{needs}
+use Rattle.wire.proofs.frame.write_block_vote.Statement.{statement}
+use Rattle.wire.proofs.frame.write_block_vote.Tie as tie
+
+write-head-requires : tie.Need-write-head-requires
+write-head-requires c κs = search needs
+
+copy-to-requires : tie.Need-copy-to-requires
+copy-to-requires c κs = search needs
+
+clear-requires : tie.Need-clear-requires
+clear-requires c κs = search needs
+
+same-length : tie.Need-same-length
+same-length c = search needs
+
+returns : tie.Need-returns
+unfolding blockVote
+returns c =
+    let third = c .before .before in
+    let second = third .before .before .before .before in
+    let first = second .before .before .before .before in
+    let start = first .before .before .before .before in
+    let args = start .args in
+    frame-follows (args .out .now) (first .write-head .last .0) (second .copy-to .last .0) (third .clear .last .0) (args .digest .now) (zeros 176)
+    2 (args .signer) (args .h) 0 (start .pre .1 .1) (first .write-head .ensures) (second .copy-to .ensures) (third .clear .ensures)
+
+pub write-block-vote-spec : {M : Type 1} → statement M
+write-block-vote-spec =
+    tie.close (tie.spec write-head-requires copy-to-requires clear-requires same-length returns)

@@ -1,0 +1,94 @@
+// Blocks: tests of the 176 bytes where they lie, and their making in place.
+use crate::bytes::byte;
+use crate::bytes::clear;
+use crate::bytes::copy_to;
+use crate::bytes::is_zero;
+use crate::bytes::put_byte;
+ghost use mathlib.Core.Path.{_≡_};
+ghost use mathlib.Core.List.{[], _∷_};
+ghost use Prim.Native.Nat.{_+_, _*_, _<_, _≤_};
+ghost use lib.ListN.{length};
+ghost use Rattle.protocol.specs.Bytes.{byteAt, overFront};
+ghost use Rattle.protocol.specs.BytesLaws.{put};
+ghost use Rattle.protocol.specs.Block.{blockWellFormed, newBlock};
+ghost use Rattle.wire.specs.Parts.{blockFields, blockParent, blockRest};
+
+// Whether a block is as it must be at height `h`. Reads each of the 176 bytes at most twice, the fields first, and copies none.
+pub fn block_well_formed(block: &[u8], h: usize) -> bool
+    ensures { λ r. ⌜ r ≡ blockWellFormed h (now (block .entry)) ⌝ }
+{
+    if block.len() == 176 {
+        if fields_fit(block, h) {
+            rest_fits(block)
+        } else {
+            false
+        }
+    } else {
+        false
+    }
+}
+
+// Whether the first five bytes fit height `h`. Costs five reads.
+fn fields_fit(block: &[u8], h: usize) -> bool
+    requires { ⌜ length (now block) ≡ 176 ⌝ }
+    ensures { λ r. ⌜ r ≡ blockFields h (now (block .entry)) ⌝ }
+{
+    let height = byte(block, 0) == h;
+    let second = byte(block, 1) == 0;
+    let parent = byte(block, 2) < h;
+    let fourth = byte(block, 3) == 0;
+    let count = byte(block, 4) <= 8;
+    height & (second & (parent & (fourth & count)))
+}
+
+// Whether a block with no parent has no digest either. Costs a read, or a pass over 32 bytes.
+fn parent_fits(block: &[u8]) -> bool
+    requires { ⌜ length (now block) ≡ 176 ⌝ }
+    ensures { λ r. ⌜ r ≡ blockParent (now (block .entry)) ⌝ }
+{
+    let parent = byte(block, 2);
+    if parent == 0 {
+        is_zero(&block[16..48])
+    } else {
+        true
+    }
+}
+
+// Whether the bytes that the fields leave unused are zero, those past the entries too. Costs a pass over each unused byte.
+fn rest_fits(block: &[u8]) -> bool
+    requires { ⌜ length (now block) ≡ 176 ⌝ }
+    requires { ⌜ byteAt (now block) 4 ≤ 8 ⌝ }
+    ensures { λ r. ⌜ r ≡ blockRest (now (block .entry)) ⌝ }
+{
+    let reserved = is_zero(&block[5..16]);
+    let parent = parent_fits(block);
+    let used = 48 + 16 * byte(block, 4);
+    let unused = is_zero(&block[used..]);
+    reserved & (parent & unused)
+}
+
+// Makes the first 176 bytes the block of height `h` on a parent, with no entries. Costs one store for each of them.
+pub fn start_block(block: &mut [u8], h: usize, parent: usize, digest: &[u8])
+    requires { ⌜ 176 ≤ length (now block) ⌝ }
+    requires { ⌜ (h < 256) × (parent < 256) ⌝ }
+    requires { ⌜ length (now digest) ≡ 32 ⌝ }
+    ensures { λ _. ⌜ now (block .exit) ≡ overFront (newBlock h parent (now (digest .entry)) []) (now (block .entry)) ⌝ }
+{
+    put_byte(block, 0, h);
+    put_byte(block, 1, 0);
+    put_byte(block, 2, parent);
+    clear(block, 3, 13);
+    copy_to(block, 16, digest);
+    clear(block, 48, 128);
+}
+
+// Puts one more entry behind the `count` that the block has, and counts it. Costs 17 stores.
+pub fn add_entry(block: &mut [u8], count: usize, entry: &[u8])
+    requires { ⌜ 176 ≤ length (now block) ⌝ }
+    requires { ⌜ count < 8 ⌝ }
+    requires { ⌜ length (now entry) ≡ 16 ⌝ }
+    ensures { λ _. ⌜ now (block .exit) ≡ put (put (now (block .entry)) (48 + 16 * count) (now (entry .entry))) 4 ((count + 1) ∷ []) ⌝ }
+{
+    copy_to(block, 48 + 16 * count, entry);
+    put_byte(block, 4, count + 1);
+}
