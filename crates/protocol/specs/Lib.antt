@@ -37,6 +37,7 @@ pub mod UnionLaws
 pub mod LogLaws
 pub mod BlockLaws
 pub mod PendingLaws
+pub mod EntriesLaws
 pub mod WriteLaws
 pub mod ChangeLaws
 pub mod BookLaws

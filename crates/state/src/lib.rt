@@ -1,2 +1,4 @@
 // What a book says: linked and finalized heights, the entries of a chain, soundness, and the tally of votes.
 pub mod links;
+pub mod entries;
+pub mod tally;
