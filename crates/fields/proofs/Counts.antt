@@ -1,10 +1,11 @@
 -- Turns of the two loops that count: one more bit of a mask, and one more dummy block of a run.
-use Prim.Native.Nat.{ℕ, suc, _+_, _/_, _%_, _^_, _<_}
+use Prim.Native.Nat.{ℕ, suc, _+_, _*_, _/_, _%_, _^_, _<_}
 use native.Mathlib.Omega.{arith}
-use native.Mathlib.Nat.{div-div-eq-div-mul, div-one, pow-suc}
+use native.Mathlib.Nat.{div-div-eq-div-mul, div-one, pow-suc, mod-eq-of-lt, one-mul}
 use native.Mathlib.Numerals.{add-one}
-use mathlib.Core.Path.{_≡_, refl, sym, _∙_}
+use mathlib.Core.Path.{_≡_, sym, _∙_}
 use mathlib.Core.Bool.{true, false, false≢true}
+use lib.Pow.{pow-lt}
 use Rattle.protocol.specs.Mask.{ones}
 use Rattle.protocol.specs.View.{View, isDummy, dummyRun}
 use Rattle.protocol.specs.RowLaws.{true-and, not-passed}
@@ -32,3 +33,8 @@ module _ (v : View) (j k : ℕ) where
 
   pub run-ends : (count : ℕ) → k < count → isDummy v (j + k + 1) ≡ false → dummyRun v j count ≡ false
   run-ends count h none = not-passed (dummyRun v j count) (λ run. false≢true (sym none ∙ run-sound v j count run (j + k + 1) (omega arith) (omega arith)))
+
+-- ---- the bit of a replica
+-- `1 << s` of a usize
+pub one-shl : (s : ℕ) → s < 16 → (1 * 2 ^ s) % 18446744073709551616 ≡ 2 ^ s
+one-shl s h = rw one-mul (mod-eq-of-lt (pow-lt {j = 64} (omega arith)))

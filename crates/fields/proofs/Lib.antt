@@ -1,3 +1,5 @@
 pub mod Places
 pub mod Counts
+pub mod Copies
 pub mod Writes
+pub mod Leaders

@@ -1,10 +1,26 @@
 -- What the writes of a function make of a whole book, in the order in which the code makes them.
-use Prim.Native.Nat.{ℕ}
-use mathlib.Core.Path.{_≡_, refl}
-use lib.ListN.{set}
-use Rattle.protocol.specs.Bytes.{Bytes}
-use Rattle.protocol.specs.State.{State, headBytes, encode, decode, withHead}
+use Prim.Native.Nat.{ℕ, suc, _+_, _-_, _*_, _^_, _≤_, _<_}
+use native.Mathlib.Omega.{arith}
+use mathlib.Core.Path.{_≡_, refl, ap, subst, _∙_}
+use mathlib.Core.List.{[], _∷_, _++_}
+use lib.ListN.{length, set}
+use Rattle.protocol.specs.Bytes.{Bytes, byteAt, le16, part, zeros, pieces}
+use Rattle.protocol.specs.State.{State, Height, headBytes, encode, decode, at, last, withHead, withHeight}
+use Rattle.protocol.specs.Deliver.{withProposal, withNotarized, withMasks, withVote}
+use Rattle.protocol.specs.Submit.{withPending}
+use Rattle.protocol.specs.BytesLaws.{put, length-part}
+use Rattle.protocol.specs.StateLaws.{Shaped, ShapedHeight}
+use Rattle.protocol.specs.CodecLaws.{last-decode, decode-shaped}
+use Rattle.protocol.specs.PlaceLaws.{suc-pred, shaped-at}
+use Rattle.protocol.specs.FieldLaws.{read-proposal, read-entry}
+use Rattle.protocol.specs.WriteLaws.{withPool, withStatus, withCertificateMask, withNotarizedBytes, write-status, write-certificate-mask, write-notarized}
+use Rattle.protocol.specs.ChangeLaws.{named-height}
+use Rattle.protocol.specs.BookLaws.{book-pool, book-proposal, book-dummy-mask, book-finalize-mask, book-vote}
+use Rattle.protocol.specs.PoolLaws.{book-finish}
+use Rattle.fields.specs.Ready.{Ready, Within}
+use Rattle.fields.proofs.Places.{height-shaped}
 
+-- ---- the head
 write-head : (s : State) (flags current finalized : ℕ) → set (set (set (encode s) 3 flags) 4 current) 5 finalized ≡ encode (withHead s flags current finalized)
 unfolding encode headBytes withHead
 write-head s flags current finalized = refl
@@ -12,3 +28,107 @@ write-head s flags current finalized = refl
 pub book-head : (book : Bytes) → encode (decode book) ≡ book → (flags current finalized : ℕ) →
     set (set (set book 3 flags) 4 current) 5 finalized ≡ encode (withHead (decode book) flags current finalized)
 book-head book whole flags current finalized = rw whole at (write-head (decode book) flags current finalized)
+
+-- ---- a notarized block: the block first, then status and mask
+notarized-last : (x : Height) (mask : ℕ) (block : Bytes) →
+    withCertificateMask (withStatus (withNotarizedBytes x block) (x .status + 2)) mask ≡ withNotarized x mask block
+unfolding withNotarized withNotarizedBytes withCertificateMask withStatus
+notarized-last x mask block = refl
+
+write-block : (s : State) (shaped : Shaped s) (i : ℕ) (inside : i < last s) (x : Height) (fits : ShapedHeight x) (mask : ℕ) (block : Bytes) → length block ≡ 176 →
+    put (set (put (encode (withHeight s (suc i) x)) (576 + 16 * last s + 864 * i + 176) block) (576 + 16 * i + 1) (x .status + 2)) (576 + 16 * i + 2) (le16 mask) ≡
+    encode (withHeight s (suc i) (withNotarized x mask block))
+write-block s shaped i inside x fits mask block e =
+    rw (write-notarized s shaped i inside x fits block e, write-status s shaped i inside (withNotarizedBytes x block) (x .status + 2), ← notarized-last x mask block)
+    (write-certificate-mask s shaped i inside (withStatus (withNotarizedBytes x block) (x .status + 2)) mask)
+
+book-block : (book : Bytes) → Ready book → (i : ℕ) → i < byteAt book 2 → (mask : ℕ) (block : Bytes) → length block ≡ 176 →
+    put (set (put book (576 + 16 * byteAt book 2 + 864 * i + 176) block) (576 + 16 * i + 1) (at (decode book) (suc i) .status + 2)) (576 + 16 * i + 2) (le16 mask) ≡
+    encode (withHeight (decode book) (suc i) (withNotarized (at (decode book) (suc i)) mask block))
+book-block book ready i inside mask block e =
+    let within : i < last (decode book) = rw (last-decode book) inside in
+    let shaped : Shaped (decode book) = decode-shaped book (ready .size) in
+    rw (named-height book i (ready .whole), last-decode book) at
+    (write-block (decode book) shaped i within (at (decode book) (suc i)) (shaped-at (decode book) i shaped within) mask block e)
+
+-- ---- the pool
+module _ (book : Bytes) (ready : Ready book) where
+  pub moved-place : (from to : ℕ) → to ≤ from → from < 32 →
+      put book (64 + 16 * to) (part book (64 + 16 * from) 16) ≡
+      encode (withPool (decode book) (decode book .pendingCount) (put (decode book .pool) (16 * to) (part (decode book .pool) (16 * from) 16)))
+  moved-place from to down small =
+      let size : length (part (decode book .pool) (16 * from) 16) ≡ 16 = length-part (decode book .pool) (16 * from) 16 (omega (arith, decode-shaped book (ready .size) .pool-size)) in
+      ap (λ (entry : Bytes). put book (64 + 16 * to) entry) (read-entry book from small) ∙
+      book-pool book (ready .whole) (ready .size) (16 * to) (part (decode book .pool) (16 * from) 16) (omega arith)
+
+  -- `copied` is the book after the entry was copied, and `cleared` after the places past it were cleared
+  pub finished-pool : (count : ℕ) (entry : Bytes) → count < 32 → length entry ≡ 16 → (copied cleared : Bytes) →
+      copied ≡ put book (64 + 16 * count) entry → cleared ≡ put copied (64 + 16 * (count + 1)) (zeros (512 - 16 * (count + 1))) →
+      set cleared 6 (count + 1) ≡ encode (withPending (decode book) (pieces 16 count (decode book .pool) ++ (entry ∷ [])))
+  finished-pool count entry few e copied cleared copy clear = rw (clear, copy) (book-finish book (ready .whole) (ready .size) count entry few e)
+
+-- ---- height `h`, where the code has computed its places
+module _ (book : Bytes) (ready : Ready book) (h : ℕ) (within : Within book h) where
+  inside : h - 1 < byteAt book 2
+  inside = omega arith
+
+  -- height `h` is the next after `h - 1`
+  named : (claim : ℕ → Type 0) → claim (suc (h - 1)) → claim h
+  named claim p = subst claim (suc-pred h (within .low)) p
+
+  module _ (content : ℕ) (content-place : content ≡ 576 + 16 * (h - 1)) where
+    pub kept-dummy-mask : (mask : ℕ) →
+        put book (content + 4) (le16 mask) ≡ encode (withHeight (decode book) h (withMasks (at (decode book) h) mask (at (decode book) h .finalizeMask)))
+    kept-dummy-mask mask =
+        rw content-place
+        (named (λ k. put book (576 + 16 * (h - 1) + 4) (le16 mask) ≡ encode (withHeight (decode book) k (withMasks (at (decode book) k) mask (at (decode book) k .finalizeMask))))
+        (book-dummy-mask book (ready .whole) (ready .size) (h - 1) inside mask))
+
+    pub kept-finalize-mask : (mask : ℕ) →
+        put book (content + 6) (le16 mask) ≡ encode (withHeight (decode book) h (withMasks (at (decode book) h) (at (decode book) h .dummyMask) mask))
+    kept-finalize-mask mask =
+        rw content-place
+        (named (λ k. put book (576 + 16 * (h - 1) + 6) (le16 mask) ≡ encode (withHeight (decode book) k (withMasks (at (decode book) k) (at (decode book) k .dummyMask) mask)))
+        (book-finalize-mask book (ready .whole) (ready .size) (h - 1) inside mask))
+
+    module _ (body : ℕ) (body-place : body ≡ 576 + 16 * byteAt book 2 + 864 * (h - 1)) where
+      pub held-proposal : part book body 176 ≡ at (decode book) h .proposal
+      held-proposal =
+          rw body-place
+          (named (λ k. part book (576 + 16 * byteAt book 2 + 864 * (h - 1)) 176 ≡ at (decode book) k .proposal) (read-proposal book (h - 1) inside))
+
+      module _ (status : ℕ) (status-is : status ≡ at (decode book) h .status) where
+        pub kept-proposal : (block : Bytes) → length block ≡ 176 →
+            put (set book (content + 1) (status + 1)) body block ≡ encode (withHeight (decode book) h (withProposal (at (decode book) h) block))
+        kept-proposal block e =
+            rw (content-place, body-place, status-is)
+            (named (λ k. put (set book (576 + 16 * (h - 1) + 1) (at (decode book) k .status + 1)) (576 + 16 * byteAt book 2 + 864 * (h - 1)) block ≡
+            encode (withHeight (decode book) k (withProposal (at (decode book) k) block)))
+            (book-proposal book (ready .whole) (ready .size) (h - 1) inside block e))
+
+        -- `copied` is the book after the block was copied to its place
+        pub kept-notarized : (mask : ℕ) (block : Bytes) → length block ≡ 176 → (copied : Bytes) → copied ≡ put book (body + 176) block →
+            put (set copied (content + 1) (status + 2)) (content + 2) (le16 mask) ≡ encode (withHeight (decode book) h (withNotarized (at (decode book) h) mask block))
+        kept-notarized mask block e copied copy =
+            rw (copy, content-place, body-place, status-is)
+            (named (λ k. put (set (put book (576 + 16 * byteAt book 2 + 864 * (h - 1) + 176) block) (576 + 16 * (h - 1) + 1) (at (decode book) k .status + 2)) (576 + 16 * (h - 1) + 2) (le16 mask) ≡
+            encode (withHeight (decode book) k (withNotarized (at (decode book) k) mask block)))
+            (book-block book ready (h - 1) inside mask block e))
+
+        -- the same with the held proposal, copied inside the book
+        pub kept-held : (mask : ℕ) (copied : Bytes) → copied ≡ put book (body + 176) (part book body 176) →
+            put (set copied (content + 1) (status + 2)) (content + 2) (le16 mask) ≡
+            encode (withHeight (decode book) h (withNotarized (at (decode book) h) mask (at (decode book) h .proposal)))
+        kept-held mask copied copy =
+            kept-notarized mask (at (decode book) h .proposal) (height-shaped book h (ready .size) within .proposal-size) copied
+            (copy ∙ ap (λ (block : Bytes). put book (body + 176) block) held-proposal)
+
+      -- `marked` is the book after the voter mask was written
+      pub kept-vote : (r : ℕ) (digest : Bytes) → r < 16 → length digest ≡ 32 → (mask : ℕ) → mask ≡ at (decode book) h .voterMask + 2 ^ r →
+          (marked : Bytes) → marked ≡ put book (content + 8) (le16 mask) →
+          put marked (body + (352 + 32 * r)) digest ≡ encode (withHeight (decode book) h (withVote (at (decode book) h) r digest))
+      kept-vote r digest small e mask mask-is marked mark =
+          rw (mark, content-place, body-place, mask-is)
+          (named (λ k. put (put book (576 + 16 * (h - 1) + 8) (le16 (at (decode book) k .voterMask + 2 ^ r))) (576 + 16 * byteAt book 2 + 864 * (h - 1) + (352 + 32 * r)) digest ≡
+          encode (withHeight (decode book) k (withVote (at (decode book) k) r digest)))
+          (book-vote book (ready .whole) (ready .size) (h - 1) inside r digest small e))

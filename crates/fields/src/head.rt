@@ -1,7 +1,6 @@
 // The head of a book: its numbers, and the three that a move changes.
 ghost use mathlib.Core.Path.{_≡_};
-ghost use Prim.Native.Nat.{_+_, _<_};
-ghost use lib.ListN.{length};
+ghost use Prim.Native.Nat.{_<_};
 ghost use Rattle.protocol.specs.Bytes.{byteAt};
 ghost use Rattle.protocol.specs.State.{decode, encode, withHead};
 ghost use Rattle.fields.specs.Ready.{Sized, Ready};

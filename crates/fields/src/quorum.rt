@@ -1,7 +1,6 @@
 // Quorums of masks, and the dummy blocks that they notarize.
 ghost use mathlib.Core.Path.{_≡_};
 ghost use Prim.Native.Nat.{_+_, _*_, _<_, _≤_};
-ghost use lib.Dec.{leb};
 ghost use Rattle.protocol.specs.Bytes.{byteAt};
 ghost use Rattle.protocol.specs.Mask.{ones};
 ghost use Rattle.protocol.specs.View.{quorum as isQuorum, isDummy, dummyRun};

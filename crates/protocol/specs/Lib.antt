@@ -31,6 +31,7 @@ pub mod ParentLaws
 pub mod SoundLaws
 pub mod GrantedLaws
 pub mod PlaceLaws
+pub mod PoolLaws
 pub mod FieldLaws
 pub mod OnesLaws
 pub mod UnionLaws

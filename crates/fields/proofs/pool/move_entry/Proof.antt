@@ -1,0 +1,44 @@
+-- `move_entry` meets its contract: a place of the pool that is not after the other is written.
+use native.Mathlib.Omega.{arith}
+use mathlib.Core.Path.{_∙_}
+use mathlib.Core.Logic.{inl}
+use Rattle.fields.proofs.Writes.{moved-place}
+use borrow.Author.Needs.{needs}
+use Rattle.fields.proofs.pool.move_entry.Statement.{statement}
+use Rattle.fields.proofs.pool.move_entry.Tie as tie
+
+mul-copy-inside : tie.Need-mul-copy-inside
+mul-copy-inside c = search needs
+
+add-copy-inside : tie.Need-add-copy-inside
+add-copy-inside c = search needs
+
+mul-copy-inside-2 : tie.Need-mul-copy-inside-2
+mul-copy-inside-2 c = search needs
+
+add-copy-inside-2 : tie.Need-add-copy-inside-2
+add-copy-inside-2 c = search needs
+
+copy-inside-requires : tie.Need-copy-inside-requires
+copy-inside-requires c κs = (search needs, (search needs, inl (omega arith)))
+
+same-length : tie.Need-same-length
+same-length c = search needs
+
+returns : tie.Need-returns
+returns c =
+    let start = c .before .before .before .before .before in
+    c .before .before .copy-inside .ensures ∙
+    moved-place (start .args .book .now) (start .pre .0) (start .args .from) (start .args .to) (start .pre .1 .0) (start .pre .1 .1)
+
+pub move-entry-spec : {M : Type 1} → statement M
+move-entry-spec =
+    tie.close
+    (tie.spec
+    mul-copy-inside
+    add-copy-inside
+    mul-copy-inside-2
+    add-copy-inside-2
+    copy-inside-requires
+    same-length
+    returns)

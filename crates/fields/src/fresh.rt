@@ -1,0 +1,38 @@
+// A new book: nothing is held or pending, and the replica is at height 1.
+use wire::bytes::clear;
+ghost use mathlib.Core.Path.{_≡_};
+ghost use Prim.Native.Nat.{_+_, _*_, _<_, _≤_};
+ghost use lib.ListN.{length};
+ghost use Rattle.protocol.specs.Bytes.{zeros};
+ghost use Rattle.protocol.specs.State.{encode};
+ghost use Rattle.protocol.specs.Open.{newState};
+
+// Writes the book of `n` replicas and the replica's own number, with replica 0 as the leader of every height.
+fn led_by_zero(book: &mut [u8], n: usize, own: usize, heights: usize)
+    requires { ⌜ length (now book) ≡ 576 + 880 * heights ⌝ }
+    requires { ⌜ (n < 256) × (own < 256) × (heights < 256) ⌝ }
+    ensures { λ _. ⌜ now (book .exit) ≡ encode (newState n own (zeros heights)) ⌝ }
+{
+    let size = book.len();
+    clear(book, 0, size);
+    book[0] = n as u8;
+    book[1] = own as u8;
+    book[2] = heights as u8;
+    book[4] = 1;
+    book[7] = 1;
+}
+
+// Writes the book of `n` replicas, the replica's own number, and the leader of each height.
+pub fn new_book(book: &mut [u8], n: usize, own: usize, leaders: &[u8])
+    requires { ⌜ length (now book) ≡ 576 + 880 * length (now leaders) ⌝ }
+    requires { ⌜ length (now leaders) ≤ 63 ⌝ }
+    requires { ⌜ (n < 256) × (own < 256) ⌝ }
+    ensures { λ _. ⌜ now (book .exit) ≡ encode (newState n own (now (leaders .entry))) ⌝ }
+{
+    led_by_zero(book, n, own, leaders.len());
+    let mut i = 0;
+    while i < leaders.len() {
+        book[576 + 16 * i] = leaders[i];
+        i += 1;
+    }
+}

@@ -1,0 +1,111 @@
+// Changes of one height, in place: each is two or three writes that together make the changed state's bytes.
+use crate::height::body_at;
+use crate::height::content_at;
+use crate::height::status;
+use crate::height::voter_mask;
+use crate::inside::copy_inside;
+use wire::bytes::copy_to;
+use wire::bytes::put_word;
+ghost use mathlib.Core.Path.{_≡_};
+ghost use Prim.Native.Nat.{_+_, _^_, _<_, _≤_};
+ghost use lib.ListN.{length, set};
+ghost use Rattle.protocol.specs.Bytes.{le16};
+ghost use Rattle.protocol.specs.BytesLaws.{put};
+ghost use Rattle.protocol.specs.State.{decode, encode, at, withHeight};
+ghost use Rattle.protocol.specs.Deliver.{withProposal, withNotarized, withMasks, withVote};
+ghost use Rattle.fields.specs.Ready.{Ready, Within};
+
+// Keeps a block as the held proposal of height `h`.
+pub fn keep_proposal(book: &mut [u8], h: usize, block: &[u8])
+    requires { ⌜ Ready (now book) ⌝ }
+    requires { ⌜ Within (now book) h ⌝ }
+    requires { ⌜ at (decode (now book)) h .status ≤ 3 ⌝ }
+    requires { ⌜ length (now block) ≡ 176 ⌝ }
+    ensures { λ _. ⌜ now (book .exit) ≡ encode (withHeight (decode (now (book .entry))) h (withProposal (at (decode (now (book .entry))) h) (now (block .entry)))) ⌝ }
+{
+    let content = content_at(h);
+    let body = body_at(book, h);
+    let held = status(book, h);
+    book[content + 1] = (held + 1) as u8;
+    copy_to(book, body, block);
+}
+
+// Writes the status of a height whose block is now notarized, and the mask of its certificate.
+fn mark_notarized(book: &mut [u8], content: usize, held: usize, mask: usize)
+    requires { ⌜ content + 16 ≤ length (now book) ⌝ }
+    requires { ⌜ held ≤ 3 ⌝ }
+    requires { ⌜ mask < 65536 ⌝ }
+    ensures { λ _. ⌜ now (book .exit) ≡ put (set (now (book .entry)) (content + 1) (held + 2)) (content + 2) (le16 mask) ⌝ }
+{
+    book[content + 1] = (held + 2) as u8;
+    put_word(book, content + 2, mask);
+}
+
+// Keeps a block as the notarized block of height `h`, with the mask of its certificate.
+pub fn keep_notarized(book: &mut [u8], h: usize, mask: usize, block: &[u8])
+    requires { ⌜ Ready (now book) ⌝ }
+    requires { ⌜ Within (now book) h ⌝ }
+    requires { ⌜ at (decode (now book)) h .status ≤ 3 ⌝ }
+    requires { ⌜ length (now block) ≡ 176 ⌝ }
+    requires { ⌜ mask < 65536 ⌝ }
+    ensures { λ _. ⌜ now (book .exit) ≡ encode (withHeight (decode (now (book .entry))) h (withNotarized (at (decode (now (book .entry))) h) mask (now (block .entry)))) ⌝ }
+{
+    let content = content_at(h);
+    let body = body_at(book, h);
+    let held = status(book, h);
+    copy_to(book, body + 176, block);
+    mark_notarized(book, content, held, mask);
+}
+
+// Keeps the held proposal of height `h` as its notarized block, with the mask of its certificate.
+pub fn notarize_held(book: &mut [u8], h: usize, mask: usize)
+    requires { ⌜ Ready (now book) ⌝ }
+    requires { ⌜ Within (now book) h ⌝ }
+    requires { ⌜ at (decode (now book)) h .status ≤ 3 ⌝ }
+    requires { ⌜ mask < 65536 ⌝ }
+    ensures { λ _. ⌜ now (book .exit) ≡ encode (withHeight (decode (now (book .entry))) h (withNotarized (at (decode (now (book .entry))) h) mask (at (decode (now (book .entry))) h .proposal))) ⌝ }
+{
+    let content = content_at(h);
+    let body = body_at(book, h);
+    let held = status(book, h);
+    copy_inside(book, body, body + 176, 176);
+    mark_notarized(book, content, held, mask);
+}
+
+// Sets the mask of the dummy votes of height `h`.
+pub fn keep_dummy_mask(book: &mut [u8], h: usize, mask: usize)
+    requires { ⌜ Ready (now book) ⌝ }
+    requires { ⌜ Within (now book) h ⌝ }
+    requires { ⌜ mask < 65536 ⌝ }
+    ensures { λ _. ⌜ now (book .exit) ≡ encode (withHeight (decode (now (book .entry))) h (withMasks (at (decode (now (book .entry))) h) mask (at (decode (now (book .entry))) h .finalizeMask))) ⌝ }
+{
+    let content = content_at(h);
+    put_word(book, content + 4, mask);
+}
+
+// Sets the mask of the finalize votes of height `h`.
+pub fn keep_finalize_mask(book: &mut [u8], h: usize, mask: usize)
+    requires { ⌜ Ready (now book) ⌝ }
+    requires { ⌜ Within (now book) h ⌝ }
+    requires { ⌜ mask < 65536 ⌝ }
+    ensures { λ _. ⌜ now (book .exit) ≡ encode (withHeight (decode (now (book .entry))) h (withMasks (at (decode (now (book .entry))) h) (at (decode (now (book .entry))) h .dummyMask) mask)) ⌝ }
+{
+    let content = content_at(h);
+    put_word(book, content + 6, mask);
+}
+
+// Keeps the digest that replica `s` voted for, which had no vote yet.
+pub fn keep_vote(book: &mut [u8], h: usize, s: usize, digest: &[u8])
+    requires { ⌜ Ready (now book) ⌝ }
+    requires { ⌜ Within (now book) h ⌝ }
+    requires { ⌜ s < 16 ⌝ }
+    requires { ⌜ at (decode (now book)) h .voterMask + 2 ^ s < 65536 ⌝ }
+    requires { ⌜ length (now digest) ≡ 32 ⌝ }
+    ensures { λ _. ⌜ now (book .exit) ≡ encode (withHeight (decode (now (book .entry))) h (withVote (at (decode (now (book .entry))) h) s (now (digest .entry)))) ⌝ }
+{
+    let content = content_at(h);
+    let body = body_at(book, h);
+    let mask = voter_mask(book, h);
+    put_word(book, content + 8, mask + (1 << s));
+    copy_to(book, body + (352 + 32 * s), digest);
+}
