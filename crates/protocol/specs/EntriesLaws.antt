@@ -1,21 +1,23 @@
 -- Entries one after the other: in pieces of a byte string, in the parts of a log, among those that a list lacks, and in a new block.
-use Prim.Native.Nat.{ℕ, zero, suc, _+_, _-_, _*_, _≤_, _<_}
+use Prim.Native.Nat.{ℕ, suc, _+_, _-_, _*_, _≤_, _<_}
 use native.Mathlib.Omega.{arith}
-use native.Mathlib.Nat.{le-refl, mul-zero, mul-suc, add-comm}
-use native.Mathlib.Numerals.{add-one}
 use mathlib.Core.Path.{_≡_, refl, sym, ap, _∙_}
 use mathlib.Core.Bool.{Bool, true, false, _||_, cond}
 use mathlib.Core.List.{List, [], _∷_, _++_, append-assoc, append-nil}
-use lib.ListN.{length, getD, take, drop, length-append, length-drop, drop-of-length-le}
-use lib.Seq.{drop-cons, drop-at, take-add, take-all, take-suc, take-append-seam, drop-append-add, drop-drop, getD-drop, length-take-le}
+use lib.ListN.{length, getD, take, drop, length-append, take-append-drop, drop-of-length-le}
+use lib.Seq.{drop-cons, drop-at, take-at, take-all, take-append-seam, drop-append-seam, drop-append-add, drop-drop, length-take-le}
 use Rattle.protocol.specs.Bytes.{Bytes, byteAt, part, zeros, same, join, pieces, holds, overFront}
 use Rattle.protocol.specs.BytesLaws.{put, length-pieces, get-pieces}
 use Rattle.protocol.specs.Block.{entryCount, entries, newBlock}
+use Rattle.protocol.specs.State.{State, pending}
 use Rattle.protocol.specs.View.{View, logAt}
 use Rattle.protocol.specs.Move.{without}
 use Rattle.protocol.specs.EveryLaws.{Every, none, one}
+use Rattle.protocol.specs.RowLaws.{every-take}
 use Rattle.protocol.specs.StateLaws.{Sized, length-join}
-use Rattle.protocol.specs.ChainLaws.{every-append, join-append, log-zero}
+use Rattle.protocol.specs.ChainLaws.{every-append, pieces-sized, join-append, log-zero}
+use Rattle.protocol.specs.PendingLaws.{every-without}
+use Rattle.protocol.specs.PoolLaws.{join-pieces, without-append, entry-stays, entry-leaves}
 use Rattle.protocol.specs.NewStateLaws.{zeros-add, zeros-length}
 
 -- ---- pieces one after the other
@@ -25,13 +27,6 @@ pieces-next size count bytes k h =
 
 pub pieces-done : (size count : ℕ) (bytes : Bytes) (k : ℕ) → count ≤ k → drop k (pieces size count bytes) ≡ []
 pieces-done size count bytes k h = drop-of-length-le (pieces size count bytes) {i = k} (rw length-pieces h)
-
-pub join-pieces : (size count : ℕ) (bytes : Bytes) → join (pieces size count bytes) ≡ take (size * count) bytes
-unfolding join pieces
-join-pieces size zero bytes = rw mul-zero
-join-pieces size (suc count) bytes =
-    let sum : size * suc count ≡ size + size * count = omega arith in
-    rw (sum, take-add, join-pieces size count (drop size bytes))
 
 -- ---- the entries of a block
 pub entries-next : (block : Bytes) (k : ℕ) → k < byteAt block 4 → drop k (entries block) ≡ part block (48 + 16 * k) 16 ∷ drop (suc k) (entries block)
@@ -87,42 +82,58 @@ holds-back x xs ys e = holds-append x xs ys ∙ or-right (holds x xs) (holds x y
 pub holds-front : (x : Bytes) (xs ys : List Bytes) → holds x ys ≡ false → holds x (xs ++ ys) ≡ holds x xs
 holds-front x xs ys e = holds-append x xs ys ∙ or-left (holds x xs) (holds x ys) e
 
--- ---- the entries that a list lacks
-pub without-held : (taken : List Bytes) (e : Bytes) (es : List Bytes) → holds e taken ≡ true → without taken (e ∷ es) ≡ without taken es
-unfolding without
-without-held taken e es h = rw h
+-- ---- pending entries, one by one
+module _ (s : State) where
+  pub pending-length : length (pending s) ≡ s .pendingCount
+  unfolding pending
+  pending-length = length-pieces 16 (s .pendingCount) (s .pool)
 
-pub without-kept : (taken : List Bytes) (e : Bytes) (es : List Bytes) → holds e taken ≡ false → without taken (e ∷ es) ≡ e ∷ without taken es
-unfolding without
-without-kept taken e es h = rw h
+  pub pending-at : (k : ℕ) → k < s .pendingCount → getD (pending s) k [] ≡ part (s .pool) (16 * k) 16
+  unfolding pending
+  pending-at k h = get-pieces 16 (s .pendingCount) (s .pool) k h
 
-pub without-none : (taken : List Bytes) → without taken [] ≡ []
-unfolding without
-without-none taken = refl
+  pub pending-next : (k : ℕ) → k < s .pendingCount → drop k (pending s) ≡ part (s .pool) (16 * k) 16 ∷ drop (suc k) (pending s)
+  unfolding pending
+  pending-next k h = pieces-next 16 (s .pendingCount) (s .pool) k h
 
--- ---- a list that is taken from its front, one after the other
-module _ {A : Type 0} (d : A) (list : List A) (k : ℕ) (x : A) (rest : List A) (left : drop k list ≡ x ∷ rest) where
-  more-left : k < length list
-  more-left =
-      let e : length list - k ≡ suc (length rest) = sym (length-drop k list) ∙ ap length left in
-      omega arith
+  pub pending-done : (k : ℕ) → s .pendingCount ≤ k → drop k (pending s) ≡ []
+  unfolding pending
+  pending-done k h = pieces-done 16 (s .pendingCount) (s .pool) k h
 
-  first-left : x ∷ rest ≡ getD list k d ∷ drop (suc k) list
-  first-left = sym left ∙ drop-cons list k d more-left
+  pub pending-all : (k : ℕ) → s .pendingCount ≤ k → take k (pending s) ≡ pending s
+  pending-all k h = take-all k (pending s) (rw pending-length h)
 
-  pub next-left : drop (suc k) list ≡ rest
-  next-left = sym (ap (drop 1) first-left)
+  -- those of the first `k` places that a list lacks
+  pub lacked-sized : (log : List Bytes) (k : ℕ) → length (s .pool) ≡ 512 → s .pendingCount ≤ 32 → Every (Sized 16) (without log (take k (pending s)))
+  unfolding pending
+  lacked-sized log k size few = every-without log (every-take k (pieces-sized 16 (s .pendingCount) (s .pool) (omega arith)))
 
-  pub take-one : take (suc k) list ≡ take k list ++ (x ∷ [])
-  take-one = take-suc list k d more-left ∙ ap (λ (l : List A). take k list ++ take 1 l) (sym first-left)
+  -- place `k` is looked at: its entry leaves if the list holds it, and stays if not
+  module _ (log : List Bytes) (k : ℕ) (inside : k < s .pendingCount) {held : Bool} {entry : Bytes} (read : entry ≡ part (s .pool) (16 * k) 16) (test : held ≡ holds entry log) where
+    within : k < length (pending s)
+    within = rw pending-length inside
 
-  pub room-left : k < length list
-  room-left = more-left
+    tested : holds (getD (pending s) k []) log ≡ held
+    tested = ap (λ (e : Bytes). holds e log) (pending-at k inside ∙ sym read) ∙ sym test
 
-pub all-taken : {A : Type 0} (list : List A) (k : ℕ) → drop k list ≡ [] → length list ≤ k
-all-taken list k e =
-    let n : length list - k ≡ 0 = sym (length-drop k list) ∙ ap length e in
-    omega arith
+    pub place-leaves : held ≡ true → without log (take (k + 1) (pending s)) ≡ without log (take k (pending s))
+    place-leaves e = entry-leaves log (pending s) k within (tested ∙ e)
+
+    pub place-stays : held ≡ false → without log (take (k + 1) (pending s)) ≡ without log (take k (pending s)) ++ (entry ∷ [])
+    place-stays e =
+        entry-stays log (pending s) k within (tested ∙ e) ∙
+        ap (λ (x : Bytes). without log (take k (pending s)) ++ (x ∷ [])) (pending-at k inside ∙ sym read)
+
+-- ---- those that a block takes are at hand once eight are, or all places are looked at
+pub eight-taken : (log es : List Bytes) (k : ℕ) → length (without log (take k es)) ≡ 8 → take 8 (without log es) ≡ without log (take k es)
+eight-taken log es k size =
+    let cut : without log es ≡ without log (take k es) ++ without log (drop k es) =
+    ap (without log) (sym (take-append-drop k es)) ∙ without-append log (take k es) (drop k es) in
+    ap (take 8) cut ∙ take-at (without log (take k es)) (without log (drop k es)) 8 size
+
+pub few-taken : (log es : List Bytes) (k : ℕ) → length (without log (take k es)) ≤ 8 → take k es ≡ es → take 8 (without log es) ≡ without log (take k es)
+few-taken log es k few all =
+    ap (λ (l : List Bytes). take 8 (without log l)) (sym all) ∙ take-all 8 (without log (take k es)) few
 
 -- ---- a log
 pub log-start : (v : View) (h : ℕ) → h ≤ 0 → logAt v h ≡ []
@@ -134,6 +145,11 @@ unfolding overFront put
 front-join a b buffer k size fits =
     rw (length-append, size, drop-at (take k buffer) (b ++ drop (k + length b) buffer) k (length-take-le k buffer fits))
     (sym (append-assoc a b (drop (k + length b) buffer)))
+
+-- writing over what is written
+pub front-again : (new old buffer : Bytes) → length new ≡ length old → overFront new (overFront old buffer) ≡ overFront new buffer
+unfolding overFront
+front-again new old buffer e = rw (e, drop-append-seam)
 
 -- nothing to write
 pub front-none : (buffer : Bytes) → overFront [] buffer ≡ buffer
@@ -171,7 +187,7 @@ unfolding join
 join-one es entry = join-append es (entry ∷ []) ∙ rw (append-nil entry)
 
 module _ (h parent : ℕ) (digest : Bytes) (digest-size : length digest ≡ 32) (buffer : Bytes) where
-  block-length : (es : List Bytes) → Every (Sized 16) es → length es ≤ 8 → length (newBlock h parent digest es) ≡ 176
+  pub block-length : (es : List Bytes) → Every (Sized 16) es → length es ≤ 8 → length (newBlock h parent digest es) ≡ 176
   unfolding newBlock
   block-length es sized few = simp (length-append, length-join 16 es sized, zeros-length) (omega arith)
 
