@@ -38,6 +38,7 @@ pub mod OnesLaws
 pub mod UnionLaws
 pub mod LogLaws
 pub mod PendingLaws
+pub mod EntriesLaws
 pub mod WriteLaws
 pub mod ChangeLaws
 pub mod BookLaws

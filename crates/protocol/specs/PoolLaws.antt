@@ -166,7 +166,7 @@ cond-append : (b : Bool) (e : Bytes) (xs others : List Bytes) → cond b (xs ++ 
 cond-append true e xs others = refl
 cond-append false e xs others = refl
 
-without-append : (taken es others : List Bytes) → without taken (es ++ others) ≡ without taken es ++ without taken others
+pub without-append : (taken es others : List Bytes) → without taken (es ++ others) ≡ without taken es ++ without taken others
 unfolding without
 without-append taken [] others = refl
 without-append taken (e ∷ es) others = rw (without-append taken es others) (cond-append (holds e taken) e (without taken es) (without taken others))

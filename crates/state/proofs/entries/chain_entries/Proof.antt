@@ -1,0 +1,81 @@
+-- `chain_entries` meets its contract: what is counted and the log that is left make the whole log.
+use Prim.Native.Nat.{_+_}
+use native.Mathlib.Omega.{arith}
+use mathlib.Core.Path.{_≡_, ap}
+use borrow.Author.Needs.{needs}
+use lib.ListN.{length}
+use Rattle.protocol.specs.State.{decode}
+use Rattle.protocol.specs.Sound.{view}
+use Rattle.protocol.specs.View.{logAt}
+use Rattle.state.specs.Walkable.{Walkable}
+use Rattle.protocol.specs.EntriesLaws.{log-start}
+use Rattle.state.proofs.ChainWalk.{walk-step, walk-few, walk-parent, walk-count}
+use Rattle.state.proofs.entries.chain_entries.Statement.{statement}
+use Rattle.state.proofs.entries.chain_entries.Tie as tie
+
+abbrev Inv-loop : tie.InvT-loop
+Inv-loop book h sum₀ at₀ sum at = Walkable book at × (sum + length (logAt (view (decode book)) at) ≡ length (logAt (view (decode book)) h))
+
+abbrev μ-loop : tie.MeasureT-loop
+μ-loop book h sum₀ at₀ sum at = at
+
+loop-holds : tie.Need-loop-holds Inv-loop μ-loop
+loop-holds c = (c .before .pre, omega arith)
+
+notarized-requires : tie.Need-notarized-requires Inv-loop μ-loop
+notarized-requires c κs =
+    let w = c .before .loop .inv .0 in
+    let high = w .high in
+    (w .readable .sized, record { low = omega arith; high = high })
+
+byte-requires : tie.Need-byte-requires Inv-loop μ-loop
+byte-requires c κs =
+    let step = walk-step (c .before .before .loop .inv .0) (c .before .loop-test .taken) (c .notarized .ensures) in
+    omega arith
+
+add-sum : tie.Need-add-sum Inv-loop μ-loop
+add-sum c =
+    let at = c .before .before .before in
+    let step = walk-step (at .loop .inv .0) (c .before .before .loop-test .taken) (c .before .notarized .ensures) in
+    let few = walk-few (at .before .before .pre) in
+    omega arith
+
+byte-requires-2 : tie.Need-byte-requires-2 Inv-loop μ-loop
+byte-requires-2 c κs =
+    let step = walk-step (c .before .before .before .loop .inv .0) (c .before .before .loop-test .taken) (c .before .notarized .ensures) in
+    omega arith
+
+loop-less : tie.Need-loop-less Inv-loop μ-loop
+loop-less c =
+    let turn = c .before .before in
+    let step = walk-step (turn .before .before .loop .inv .0) (turn .before .loop-test .taken) (turn .notarized .ensures) in
+    omega arith
+
+loop-again : tie.Need-loop-again Inv-loop μ-loop
+loop-again c =
+    let turn = c .before .before in
+    let step = walk-step (turn .before .before .loop .inv .0) (turn .before .loop-test .taken) (turn .notarized .ensures) in
+    let count = walk-count step (c .byte2 .ensures .0) (c .before .byte .ensures .0) in
+    (walk-parent step (c .byte2 .ensures .0), omega arith)
+
+returns : tie.Need-returns Inv-loop μ-loop
+returns c =
+    let book = c .before .before .before .args .book .now in
+    let none = ap length (log-start (view (decode book)) (c .before .loop .at) (c .loop-test .left)) in
+    let few = walk-few (c .before .before .before .pre) in
+    omega arith
+
+pub chain-entries-spec : {M : Type 1} → statement M
+chain-entries-spec =
+    tie.close
+    (tie.spec
+    Inv-loop
+    μ-loop
+    loop-holds
+    notarized-requires
+    byte-requires
+    add-sum
+    byte-requires-2
+    loop-less
+    loop-again
+    returns)

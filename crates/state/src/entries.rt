@@ -1,0 +1,149 @@
+// The entries of a chain: counting them, looking for one, and copying them out. Each walks back through parent heights once
+// and computes no digest.
+ghost use mathlib.Core.Path.{_≡_};
+ghost use Prim.Native.Nat.{_*_, _<_, _≤_};
+ghost use lib.ListN.{length};
+ghost use Rattle.protocol.specs.Bytes.{byteAt, join, holds, overFront};
+ghost use Rattle.protocol.specs.Block.{entries, newBlock};
+ghost use Rattle.protocol.specs.State.{decode, pending};
+ghost use Rattle.protocol.specs.Sound.{view};
+ghost use Rattle.protocol.specs.View.{logAt};
+ghost use Rattle.protocol.specs.Move.{offered};
+ghost use Rattle.protocol.specs.Submit.{stillPending};
+ghost use Rattle.sha256.specs.Digest.{sha256};
+ghost use Rattle.fields.specs.Ready.{Sized};
+ghost use Rattle.state.specs.Walkable.{Walkable};
+
+// How many entries the chain that ends in height `h` has. Reads two bytes of each of its blocks, 63 at most.
+pub fn chain_entries(book: &[u8], h: usize) -> usize
+    requires { ⌜ Walkable (now book) h ⌝ }
+    ensures { λ r. ⌜ (r ≡ length (logAt (view (decode (now (book .entry)))) h)) × (r ≤ 504) ⌝ }
+{
+    let mut sum = 0;
+    let mut at = h;
+    while 0 < at {
+        let block = fields::height::notarized(book, at);
+        sum += wire::bytes::byte(block, 4);
+        at = wire::bytes::byte(block, 2);
+    }
+    sum
+}
+
+// Whether a block has this entry. Compares at most eight entries.
+fn block_holds(block: &[u8], entry: &[u8]) -> bool
+    requires { ⌜ (length (now block) ≡ 176) × (byteAt (now block) 4 ≤ 8) ⌝ }
+    ensures { λ r. ⌜ r ≡ holds (now (entry .entry)) (entries (now (block .entry))) ⌝ }
+{
+    let count = wire::bytes::byte(block, 4);
+    let mut k = 0;
+    while k < count {
+        let from = 48 + 16 * k;
+        if wire::bytes::same_bytes(entry, &block[from..from + 16]) {
+            return true;
+        } else {
+            k += 1;
+        }
+    }
+    false
+}
+
+// Whether the chain that ends in height `h` has this entry. Looks at each of its blocks, 63 at most, newest first.
+pub fn chain_holds(book: &[u8], h: usize, entry: &[u8]) -> bool
+    requires { ⌜ Walkable (now book) h ⌝ }
+    ensures { λ r. ⌜ r ≡ holds (now (entry .entry)) (logAt (view (decode (now (book .entry)))) h) ⌝ }
+{
+    let mut at = h;
+    while 0 < at {
+        let block = fields::height::notarized(book, at);
+        if block_holds(block, entry) {
+            return true;
+        } else {
+            at = wire::bytes::byte(block, 2);
+        }
+    }
+    false
+}
+
+// Copies the `count` entries of the chain that ends in height `h` to the front of the buffer, oldest first. Walks back from
+// the newest block, 63 blocks at most, and copies the entries of each at once to their place.
+pub fn copy_chain(book: &[u8], h: usize, count: usize, buffer: &mut [u8])
+    requires { ⌜ Walkable (now book) h ⌝ }
+    requires { ⌜ count ≡ length (logAt (view (decode (now book))) h) ⌝ }
+    requires { ⌜ 16 * count ≤ length (now buffer) ⌝ }
+    ensures { λ _. ⌜ now (buffer .exit) ≡ overFront (join (logAt (view (decode (now (book .entry)))) h)) (now (buffer .entry)) ⌝ }
+{
+    let mut end = count;
+    let mut at = h;
+    while 0 < at {
+        let block = fields::height::notarized(book, at);
+        let size = wire::bytes::byte(block, 4);
+        end -= size;
+        wire::bytes::copy_to(buffer, 16 * end, &block[48..48 + 16 * size]);
+        at = wire::bytes::byte(block, 2);
+    }
+}
+
+// Makes the block of height `c` on the block of height `j`, with the first eight pending entries that the chain ending in
+// height `j` lacks, at the front of `block`. Walks that chain once for each pending entry, 32 times at most.
+pub fn offer(book: &[u8], c: usize, j: usize, digest: &[u8], block: &mut [u8])
+    requires { ⌜ Walkable (now book) j ⌝ }
+    requires { ⌜ decode (now book) .pendingCount ≤ 32 ⌝ }
+    requires { ⌜ (c < 256) × (length (now digest) ≡ 32) × (176 ≤ length (now block)) ⌝ }
+    ensures { λ _. ⌜ now (block .exit) ≡ overFront (newBlock c j (now (digest .entry)) (offered sha256 (decode (now (book .entry))) j)) (now (block .entry)) ⌝ }
+{
+    wire::block::start_block(block, c, j, digest);
+    let count = fields::head::pending_count(book);
+    let mut taken = 0;
+    let mut k = 0;
+    while k < count {
+        let entry = fields::pool::pending_entry(book, k);
+        if taken == 8 {
+            return;
+        } else if chain_holds(book, j, entry) {
+            k += 1;
+        } else {
+            wire::block::add_entry(block, taken, entry);
+            taken += 1;
+            k += 1;
+        }
+    }
+}
+
+// How many pending entries the log does not hold. Walks the log once for each of them, 32 times at most.
+pub fn unlogged_count(book: &[u8]) -> usize
+    requires { ⌜ Walkable (now book) (decode (now book) .finalized) ⌝ }
+    requires { ⌜ decode (now book) .pendingCount ≤ 32 ⌝ }
+    ensures { λ r. ⌜ (r ≡ length (stillPending (decode (now (book .entry))))) × (r ≤ 32) ⌝ }
+{
+    let finalized = fields::head::finalized(book);
+    let count = fields::head::pending_count(book);
+    let mut kept = 0;
+    let mut k = 0;
+    while k < count {
+        if chain_holds(book, finalized, fields::pool::pending_entry(book, k)) {
+            k += 1;
+        } else {
+            kept += 1;
+            k += 1;
+        }
+    }
+    kept
+}
+
+// Whether this entry is pending. Compares at most 32 entries.
+pub fn is_pending(book: &[u8], entry: &[u8]) -> bool
+    requires { ⌜ Sized (now book) ⌝ }
+    requires { ⌜ decode (now book) .pendingCount ≤ 32 ⌝ }
+    ensures { λ r. ⌜ r ≡ holds (now (entry .entry)) (pending (decode (now (book .entry)))) ⌝ }
+{
+    let count = fields::head::pending_count(book);
+    let mut k = 0;
+    while k < count {
+        if wire::bytes::same_bytes(entry, fields::pool::pending_entry(book, k)) {
+            return true;
+        } else {
+            k += 1;
+        }
+    }
+    false
+}

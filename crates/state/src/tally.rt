@@ -1,0 +1,48 @@
+// The tally of the votes that a height keeps.
+ghost use mathlib.Core.Path.{_≡_};
+ghost use mathlib.Core.Bool.{_&&_};
+ghost use Prim.Native.Nat.{_<_};
+ghost use Rattle.protocol.specs.Bytes.{same};
+ghost use Rattle.protocol.specs.Mask.{inMask};
+ghost use Rattle.protocol.specs.State.{decode, at, voteOf};
+ghost use Rattle.protocol.specs.Deliver.{votersFor};
+ghost use Rattle.fields.specs.Ready.{Sized, Within};
+ghost use Rattle.state.specs.Memo.{Readable};
+
+// Whether replica `s` is one of the voters and its kept vote is for this digest. Compares at most 32 bytes.
+fn votes_for(book: &[u8], h: usize, s: usize, voters: usize, digest: &[u8]) -> bool
+    requires { ⌜ Sized (now book) ⌝ }
+    requires { ⌜ Within (now book) h ⌝ }
+    requires { ⌜ s < 16 ⌝ }
+    ensures { λ r. ⌜ r ≡ (inMask voters s && same (voteOf (at (decode (now (book .entry))) h) s) (now (digest .entry))) ⌝ }
+{
+    if (voters >> s) % 2 == 1 {
+        wire::bytes::same_bytes(fields::height::vote_digest(book, h, s), digest)
+    } else {
+        false
+    }
+}
+
+// The mask of the replicas whose kept vote at height `h` is for this digest. One pass over the replicas, 16 at most.
+pub fn voters_for(book: &[u8], h: usize, digest: &[u8]) -> usize
+    requires { ⌜ Readable (now book) ⌝ }
+    requires { ⌜ Within (now book) h ⌝ }
+    ensures { λ r. ⌜ (r ≡ votersFor (at (decode (now (book .entry))) h) (now (digest .entry)) (decode (now (book .entry)) .n)) × (r < 65536) ⌝ }
+{
+    let n = fields::head::replicas(book);
+    let voters = fields::height::voter_mask(book, h);
+    let mut mask = 0;
+    let mut bit = 1;
+    let mut s = 0;
+    while s < n {
+        if votes_for(book, h, s, voters, digest) {
+            mask += bit;
+            bit = bit * 2;
+            s += 1;
+        } else {
+            bit = bit * 2;
+            s += 1;
+        }
+    }
+    mask
+}
