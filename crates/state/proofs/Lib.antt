@@ -1,3 +1,4 @@
 pub mod Walk
 pub mod Votes
 pub mod Pending
+pub mod Closing
