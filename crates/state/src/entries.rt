@@ -1,17 +1,18 @@
 // The entries of a chain: counting them, looking for one, and copying them out. Each walks back through parent heights once
 // and computes no digest.
 ghost use mathlib.Core.Path.{_≡_};
+ghost use mathlib.Core.List.{[], _∷_, _++_};
 ghost use Prim.Native.Nat.{_*_, _<_, _≤_};
 ghost use lib.ListN.{length};
 ghost use Rattle.protocol.specs.Bytes.{byteAt, join, holds, overFront};
 ghost use Rattle.protocol.specs.Block.{entries, newBlock};
-ghost use Rattle.protocol.specs.State.{decode, pending};
+ghost use Rattle.protocol.specs.State.{decode, encode, pending};
 ghost use Rattle.protocol.specs.Sound.{view};
 ghost use Rattle.protocol.specs.View.{logAt};
 ghost use Rattle.protocol.specs.Move.{offered};
-ghost use Rattle.protocol.specs.Submit.{stillPending};
+ghost use Rattle.protocol.specs.Submit.{stillPending, withPending};
 ghost use Rattle.sha256.specs.Digest.{sha256};
-ghost use Rattle.fields.specs.Ready.{Sized};
+ghost use Rattle.fields.specs.Ready.{Sized, Ready};
 ghost use Rattle.state.specs.Walkable.{Walkable};
 
 // How many entries the chain that ends in height `h` has. Reads two bytes of each of its blocks, 63 at most.
@@ -146,4 +147,29 @@ pub fn is_pending(book: &[u8], entry: &[u8]) -> bool
         }
     }
     false
+}
+
+// Makes the pending entries that the log does not hold, and `entry` after them, all that is pending. Closes the pool up in
+// place and walks the log once for each pending entry, 32 times at most.
+pub fn keep_unlogged(book: &mut [u8], entry: &[u8])
+    requires { ⌜ Ready (now book) ⌝ }
+    requires { ⌜ Walkable (now book) (decode (now book) .finalized) ⌝ }
+    requires { ⌜ (decode (now book) .pendingCount ≤ 32) × (length (stillPending (decode (now book))) < 32) ⌝ }
+    requires { ⌜ length (now entry) ≡ 16 ⌝ }
+    ensures { λ _. ⌜ now (book .exit) ≡ encode (withPending (decode (now (book .entry))) (stillPending (decode (now (book .entry))) ++ (now (entry .entry) ∷ []))) ⌝ }
+{
+    let finalized = fields::head::finalized(book);
+    let count = fields::head::pending_count(book);
+    let mut kept = 0;
+    let mut k = 0;
+    while k < count {
+        if chain_holds(book, finalized, fields::pool::pending_entry(book, k)) {
+            k += 1;
+        } else {
+            fields::pool::move_entry(book, k, kept);
+            kept += 1;
+            k += 1;
+        }
+    }
+    fields::pool::finish_pool(book, kept, entry);
 }
