@@ -18,7 +18,7 @@ use Rattle.protocol.specs.Tests.{implies}
 use Rattle.protocol.specs.TestsLaws.{and-true, le-or-lt, or-true}
 use Rattle.agreement.specs.ListTests.{deliversBacked, everyHonest, everyIn, follows, isAmong, isBacked, isHonest, keepsOneBook, noCollision, notForged, opensFor, readsPart, shows, showsOnly, signed, signedIn, someIn, statementBytes}
 use Rattle.agreement.specs.Lists.{Call, Continues, Follows, HonestIn, KeepsOneBook, Member, NoCollision, NotForged, Opens, Reads, Shows, Statement, Wrote, blockIn, delivers, delivery, finalizes, lastLeft, leftBy, moving, opening, orElse, proposes, reading, signalling, statementOf, submitting, votesBlock, votesDummy, writes}
-use Rattle.agreement.specs.Run.{or-else-assoc, or-else-none, wrote-more}
+use Rattle.agreement.specs.RunLaws.{or-else-assoc, or-else-none, wrote-more}
 use Rattle.agreement.specs.Witness.{dishonest, entry, leaders}
 
 -- ---- over lists and replicas

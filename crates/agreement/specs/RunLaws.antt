@@ -25,13 +25,13 @@ use Rattle.protocol.specs.State.{Height, State, at, decode, encode, flag, noHei
 use Rattle.protocol.specs.StateLaws.{Shaped, ShapedHeight, decode-encode}
 use Rattle.protocol.specs.Tests.{firstRefusal}
 use Rattle.protocol.specs.TestsLaws.{and-true}
-use Rattle.agreement.specs.Backing.{Backed, later}
-use Rattle.agreement.specs.Fresh.{Read, read}
-use Rattle.agreement.specs.Grants.{grants}
-use Rattle.agreement.specs.Keeping.{keep-good}
+use Rattle.agreement.specs.BackingLaws.{Backed, later}
+use Rattle.agreement.specs.FreshLaws.{Read, read}
+use Rattle.agreement.specs.GrantsLaws.{grants}
+use Rattle.agreement.specs.KeepingLaws.{keep-good}
 use Rattle.agreement.specs.Lists.{HonestIn, Member, Shows, Statement, Wrote, blockIn, delivers, isAccepted, lastLeft, leftBy, orElse, statementOf, writes}
-use Rattle.agreement.specs.Moving.{step-body, step-good}
-use Rattle.agreement.specs.Statements.{Consistent, stated-nothing}
+use Rattle.agreement.specs.MovingLaws.{step-body, step-good}
+use Rattle.agreement.specs.StatementsLaws.{Consistent, stated-nothing}
 use Rattle.agreement.specs.Witness.{dishonest, leaders}
 
 -- ---- lists

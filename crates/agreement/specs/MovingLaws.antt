@@ -22,9 +22,9 @@ use Rattle.protocol.specs.State.{State, at, flag, noHeight, withHead}
 use Rattle.protocol.specs.StateLaws.{word16-le16}
 use Rattle.protocol.specs.TestsLaws.{cond-elim}
 use Rattle.protocol.specs.View.{linked}
-use Rattle.agreement.specs.Backing.{Backed}
+use Rattle.agreement.specs.BackingLaws.{Backed}
 use Rattle.agreement.specs.Lists.{Statement, finalizes, proposes, statementOf, votesBlock, votesDummy, when}
-use Rattle.agreement.specs.Statements.{Consistent, stated-block, stated-dummy, stated-finalize, stated-nothing}
+use Rattle.agreement.specs.StatementsLaws.{Consistent, stated-block, stated-dummy, stated-finalize, stated-nothing}
 
 -- to prove something of the first step that applies, prove it of each
 first-step : (Q : Step → Type 0) (rows : List (Bool × Step)) (otherwise : Step) →

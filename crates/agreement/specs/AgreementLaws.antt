@@ -17,12 +17,12 @@ use Rattle.protocol.specs.Sound.{log, sound, view}
 use Rattle.protocol.specs.State.{State, at, decode, isNotarized}
 use Rattle.protocol.specs.TestsLaws.{and-true, cond-elim, le-or-lt, member-split}
 use Rattle.protocol.specs.View.{chain, chainWithin, isDummy, isFinalized, linked, logAt, quorum}
-use Rattle.agreement.specs.Backing.{Backed}
-use Rattle.agreement.specs.Chains.{Prefix, begins, prefix-bytes, prefix-nil}
-use Rattle.agreement.specs.Grants.{Grants, grants}
+use Rattle.agreement.specs.BackingLaws.{Backed}
+use Rattle.agreement.specs.ChainsLaws.{Prefix, begins, prefix-bytes, prefix-nil}
+use Rattle.agreement.specs.GrantsLaws.{Grants, grants}
 use Rattle.agreement.specs.Lists.{Agreement, Begins, Continues, Follows, HonestIn, KeepsOneBook, Member, NoCollision, NotForged, Opens, Reads, Statement, Wrote, finalizes, lastLeft, votesBlock, votesDummy}
-use Rattle.agreement.specs.Replica.{good-after}
-use Rattle.agreement.specs.Run.{Good, GoodBytes, Honest, Seen, States, wrote-more}
+use Rattle.agreement.specs.ReplicaLaws.{good-after}
+use Rattle.agreement.specs.RunLaws.{Good, GoodBytes, Honest, Seen, States, wrote-more}
 use Rattle.agreement.specs.Witness.{dishonest}
 
 module _ (digest : Bytes → Bytes) (n dishonest : ℕ) (l : List Member) (third : 3 * ones dishonest n < n)

@@ -22,7 +22,7 @@ use Rattle.protocol.specs.StateLaws.{ShapedHeight}
 use Rattle.protocol.specs.Tests.{allOf}
 use Rattle.protocol.specs.TestsLaws.{cond-elim, eqb-self, or-true}
 use Rattle.protocol.specs.View.{View, quorum}
-use Rattle.agreement.specs.Backing.{Backed, IfSome, backed-dummies, backed-finalizations, backed-notarize, backed-notarized, backed-proposal, backed-vote, vote-other, vote-same}
+use Rattle.agreement.specs.BackingLaws.{Backed, IfSome, backed-dummies, backed-finalizations, backed-notarize, backed-notarized, backed-proposal, backed-vote, vote-other, vote-same}
 use Rattle.agreement.specs.Lists.{Statement, blockIn, finalizes, statementOf, votesBlock, votesDummy, when}
 
 -- ---- what holds of every replica in a mask holds where the mask grows

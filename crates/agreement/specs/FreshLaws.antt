@@ -16,7 +16,7 @@ use Rattle.protocol.specs.Sound.{sound}
 use Rattle.protocol.specs.State.{State, decode, last}
 use Rattle.protocol.specs.Tests.{firstRefusal, inRange}
 use Rattle.protocol.specs.TestsLaws.{or-true}
-use Rattle.agreement.specs.Grants.{grants}
+use Rattle.agreement.specs.GrantsLaws.{grants}
 
 module _ (digest : Bytes → Bytes) (book f : Bytes) (passed : firstRefusal (deliverRows digest book f) ≡ none) where
   abbrev b : State

@@ -24,10 +24,10 @@ use Rattle.protocol.specs.StateLaws.{Sized, length-join}
 use Rattle.protocol.specs.Submit.{stillPending, submitCall, submitRows, withPending}
 use Rattle.protocol.specs.Tests.{firstRefusal}
 use Rattle.protocol.specs.TestsLaws.{cond-elim}
-use Rattle.agreement.specs.Backing.{Backed}
-use Rattle.agreement.specs.Grants.{grants}
+use Rattle.agreement.specs.BackingLaws.{Backed}
+use Rattle.agreement.specs.GrantsLaws.{grants}
 use Rattle.agreement.specs.Lists.{Member, Statement, Wrote, isAccepted, writes}
-use Rattle.agreement.specs.Run.{Good, Honest, States, backed-more, encoded, nothing-new, quiet, unchanged, unless-refused-good}
+use Rattle.agreement.specs.RunLaws.{Good, Honest, States, backed-more, encoded, nothing-new, quiet, unchanged, unless-refused-good}
 use Rattle.agreement.specs.Witness.{dishonest, entry, leaders}
 
 -- ---- entries of 16 bytes
