@@ -158,12 +158,12 @@ pub fn keep_unlogged(book: &mut [u8], entry: &[u8])
     requires { ⌜ length (now entry) ≡ 16 ⌝ }
     ensures { λ _. ⌜ now (book .exit) ≡ encode (withPending (decode (now (book .entry))) (stillPending (decode (now (book .entry))) ++ (now (entry .entry) ∷ []))) ⌝ }
 {
-    let finalized = fields::head::finalized(book);
+    let log_height = fields::head::finalized(book);
     let count = fields::head::pending_count(book);
     let mut kept = 0;
     let mut k = 0;
     while k < count {
-        if chain_holds(book, finalized, fields::pool::pending_entry(book, k)) {
+        if chain_holds(book, log_height, fields::pool::pending_entry(book, k)) {
             k += 1;
         } else {
             fields::pool::move_entry(book, k, kept);
