@@ -1,0 +1,2 @@
+// What the calls of a replica answer.
+pub mod answer;

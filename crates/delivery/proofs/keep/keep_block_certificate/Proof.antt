@@ -1,0 +1,53 @@
+-- `keep_block_certificate` meets its contract: the block and its signers are written where none is notarized.
+use Prim.Native.Nat.{ℕ}
+use mathlib.Core.Path.{sym, ap₂, _∙_}
+use Rattle.protocol.specs.Bytes.{Bytes}
+use Rattle.protocol.specs.State.{decode, encode, at, withHeight}
+use Rattle.protocol.specs.Deliver.{withNotarized, keepBlockCertificate}
+use Rattle.delivery.specs.KeepLaws.{known-frame, new-frame}
+use borrow.Author.Needs.{needs}
+use Rattle.delivery.proofs.keep.keep_block_certificate.Statement.{statement}
+use Rattle.delivery.proofs.keep.keep_block_certificate.Tie as tie
+
+is-notarized-requires : tie.Need-is-notarized-requires
+is-notarized-requires c κs = search needs
+
+frame-mask-requires : tie.Need-frame-mask-requires
+frame-mask-requires c κs = search needs
+
+frame-block-requires : tie.Need-frame-block-requires
+frame-block-requires c κs = search needs
+
+keep-notarized-requires : tie.Need-keep-notarized-requires
+keep-notarized-requires c κs =
+    let start = c .before .before .before .before .before .before .before .before in
+    let given = start .pre in
+    (given .spot .ready, (given .spot .within, (given .spot .status-small, (c .frame-block .ensures .1, c .before .frame-mask .ensures .1))))
+
+same-length : tie.Need-same-length
+same-length c = search needs
+
+returns : tie.Need-returns
+unfolding keepBlockCertificate
+returns c =
+    let start = c .before .before .before .before .before in
+    let book = start .args .book .now in
+    let h = start .args .h in
+    known-frame book h _ _ (sym (c .before .is-notarized .ensures) ∙ c .if1 .taken)
+
+same-length-2 : tie.Need-same-length-2
+same-length-2 c = search needs
+
+returns-2 : tie.Need-returns-2
+unfolding keepBlockCertificate
+returns-2 c =
+    let branch = c .before .before .before .before .before .before in
+    let start = branch .before .before .before .before .before in
+    let book = start .args .book .now in
+    let h = start .args .h in
+    let x = at (decode book) h in
+    new-frame book h _ _ _ (sym (branch .before .is-notarized .ensures) ∙ branch .if1 .left)
+    (c .before .before .keep-notarized .ensures ∙ ap₂ (λ (mask : ℕ) (block : Bytes). encode (withHeight (decode book) h (withNotarized x mask block))) (c .before .before .before .before .frame-mask .ensures .0) (c .before .before .before .frame-block .ensures .0))
+
+pub keep-block-certificate-spec : {M : Type 1} → statement M
+keep-block-certificate-spec = tie.close (tie.spec is-notarized-requires frame-mask-requires frame-block-requires keep-notarized-requires same-length returns same-length-2 returns-2)

@@ -1,0 +1,94 @@
+-- `keep_block_vote` meets its contract: a vote is written where the signer has none, and then the votes are counted.
+use Prim.Native.Nat.{ℕ}
+use native.Mathlib.Omega.{arith}
+use mathlib.Core.Path.{sym, ap, ap₂, _∙_}
+use Rattle.sha256.specs.Digest.{sha256}
+use Rattle.protocol.specs.Bytes.{Bytes}
+use Rattle.protocol.specs.Mask.{inMask}
+use Rattle.protocol.specs.State.{decode, encode, at, withHeight}
+use Rattle.protocol.specs.Sound.{view}
+use Rattle.protocol.specs.ChangeLaws.{shaped-vote}
+use Rattle.protocol.specs.Deliver.{withVote, notarize, keepBlockVote}
+use Rattle.delivery.specs.KeepLaws.{known-frame, new-frame, room, same-bit, shaped-here, vote-status, spot-after, notarized-after}
+use borrow.Author.Needs.{needs}
+use Rattle.delivery.proofs.keep.keep_block_vote.Statement.{statement}
+use Rattle.delivery.proofs.keep.keep_block_vote.Tie as tie
+
+frame-signer-requires : tie.Need-frame-signer-requires
+frame-signer-requires c κs = search needs
+
+voter-mask-requires : tie.Need-voter-mask-requires
+voter-mask-requires c κs = search needs
+
+in-mask-requires : tie.Need-in-mask-requires
+in-mask-requires c κs =
+    let start = c .before .before .before .before .before in
+    let given = start .pre .0 in
+    let signed = c .before .before .frame-signer .ensures .0 in
+    omega (arith, signed, start .pre .1, given .spot .readable .replicas)
+
+frame-digest-requires : tie.Need-frame-digest-requires
+frame-digest-requires c κs = search needs
+
+keep-vote-requires : tie.Need-keep-vote-requires
+keep-vote-requires c κs =
+    let start = c .before .before .before .before .before .before .before .before .before in
+    let book = start .args .book .now in
+    let h = start .args .h in
+    let given = start .pre .0 in
+    let x = at (decode book) h in
+    let held = c .before .before .before .before .voter-mask .ensures .0 in
+    let signed = c .before .before .before .before .before .before .frame-signer .ensures .0 in
+    let here = c .before .before .before .before .before .before .frame-signer .result in
+    let missing = sym (ap (λ (m : ℕ). inMask m here) held) ∙ sym (c .before .before .before .in-mask .ensures) ∙ c .before .before .if1 .left in
+    let fits = room (decode book .n) (x .voterMask) here (omega (arith, signed, start .pre .1)) (given .range .voter-below) (given .range .mask-bound) missing in
+    (given .spot .ready, (given .spot .within, (omega (arith, signed, start .pre .1, given .spot .readable .replicas), (fits, c .frame-digest .ensures .1))))
+
+notarize-requires : tie.Need-notarize-requires
+notarize-requires c κs =
+    let start = c .before .before .before .before .before .before .before .before .before .before .before .before .before in
+    let book = start .args .book .now in
+    let h = start .args .h in
+    let given = start .pre .0 in
+    let x = at (decode book) h in
+    let signed = c .before .before .before .before .before .before .before .before .before .before .frame-signer .ensures .0 in
+    let fits = shaped-vote x (c .before .before .before .before .before .before .before .before .before .before .frame-signer .result) _ (omega (arith, signed, start .pre .1, given .spot .readable .replicas)) (c .before .before .before .before .frame-digest .ensures .1) (shaped-here book h (given .spot)) in
+    spot-after book h (given .spot) _ fits _ (c .before .before .before .keep-vote .ensures) (vote-status x _ _ (given .spot .status-small))
+
+same-length : tie.Need-same-length
+same-length c = search needs
+
+returns : tie.Need-returns
+unfolding keepBlockVote
+returns c =
+    let start = c .before .before .before .before .before .before .before in
+    let book = start .args .book .now in
+    let h = start .args .h in
+    let held = c .before .before .voter-mask .ensures .0 in
+    let signed = c .before .before .before .before .frame-signer .ensures .0 in
+    let there = same-bit held signed (c .before .in-mask .ensures) ∙ c .if1 .taken in
+    known-frame book h _ _ there
+
+same-length-2 : tie.Need-same-length-2
+same-length-2 c = search needs
+
+returns-2 : tie.Need-returns-2
+unfolding keepBlockVote
+returns-2 c =
+    let branch = c .before .before .before .before .before .before .before .before .before in
+    let start = branch .before .before .before .before .before .before .before in
+    let book = start .args .book .now in
+    let h = start .args .h in
+    let given = start .pre .0 in
+    let x = at (decode book) h in
+    let held = branch .before .before .voter-mask .ensures .0 in
+    let signed = branch .before .before .before .before .frame-signer .ensures .0 in
+    let missing = same-bit held signed (branch .before .in-mask .ensures) ∙ branch .if1 .left in
+    let named = c .before .before .before .before .before .before .before .frame-digest .ensures in
+    let fits = shaped-vote x (branch .before .before .before .before .frame-signer .result) _ (omega (arith, signed, start .pre .1, given .spot .readable .replicas)) (named .1) (shaped-here book h (given .spot)) in
+    let counted = notarized-after book h (given .spot) _ fits sha256 _ _ (c .before .before .before .before .before .before .keep-vote .ensures) (c .before .before .notarize .ensures) in
+    new-frame book h _ _ _ missing
+    (counted ∙ ap₂ (λ (k : ℕ) (digest : Bytes). encode (withHeight (decode book) h (notarize sha256 (view (decode book)) (withVote x k digest)))) signed (named .0))
+
+pub keep-block-vote-spec : {M : Type 1} → statement M
+keep-block-vote-spec = tie.close (tie.spec frame-signer-requires voter-mask-requires in-mask-requires frame-digest-requires keep-vote-requires notarize-requires same-length returns same-length-2 returns-2)

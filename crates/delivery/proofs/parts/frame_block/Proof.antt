@@ -1,0 +1,20 @@
+-- `frame_block` meets its contract: the last 176 bytes of 224 are all that follow byte 48.
+use Rattle.delivery.specs.PartLaws.{block-lent}
+use borrow.Author.Needs.{needs}
+use Rattle.delivery.proofs.parts.frame_block.Statement.{statement}
+use Rattle.delivery.proofs.parts.frame_block.Tie as tie
+
+sub-result : tie.Need-sub-result
+sub-result c = search needs
+
+part-result-start : tie.Need-part-result-start
+part-result-start c = search needs
+
+part-result-end : tie.Need-part-result-end
+part-result-end c = search needs
+
+returns : tie.Need-returns
+returns c = block-lent _ (c .before .pre)
+
+pub frame-block-spec : {M : Type 1} → statement M
+frame-block-spec = tie.close (tie.spec sub-result part-result-start part-result-end returns)

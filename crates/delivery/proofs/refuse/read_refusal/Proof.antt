@@ -1,0 +1,78 @@
+-- `read_refusal` meets its contract: a frame must be well formed, its height one of the book's, and then its signers are asked.
+use native.Mathlib.Omega.{arith}
+use mathlib.Core.Path.{sym, _∙_}
+use Rattle.protocol.specs.State.{decode, last}
+use Rattle.protocol.specs.Frame.{frameHeight}
+use Rattle.protocol.specs.RowLaws.{in-range, range-in, not-passed}
+use Rattle.delivery.specs.Refusal.{refusalOf}
+use Rattle.delivery.specs.RefusalLaws.{read-malformed, read-outside, read-inside}
+use Rattle.delivery.specs.FrameReadLaws.{formed-size}
+use borrow.Author.Needs.{needs}
+use Rattle.delivery.proofs.refuse.read_refusal.Statement.{statement}
+use Rattle.delivery.proofs.refuse.read_refusal.Tie as tie
+
+frame-well-formed-requires : tie.Need-frame-well-formed-requires
+frame-well-formed-requires c κs = search needs
+
+frame-height-requires : tie.Need-frame-height-requires
+frame-height-requires c κs = formed-size (c .before .before .before .before .args .frame .now) (sym (c .before .frame-well-formed .ensures) ∙ c .if1 .taken)
+
+heights-requires : tie.Need-heights-requires
+heights-requires c κs = search needs
+
+member-refusal-requires : tie.Need-member-refusal-requires
+member-refusal-requires c κs =
+    let branch = c .before .before .before .before in
+    let start = branch .before .before .before .before in
+    let formed = sym (branch .before .frame-well-formed .ensures) ∙ branch .if1 .taken in
+    (start .pre, (record { low = omega arith; high = omega (arith, c .before .heights .ensures .0) }, formed-size (start .args .frame .now) formed))
+
+returns : tie.Need-returns
+returns c =
+    let inner = c .before .before .before in
+    let outer = inner .before .before in
+    let start = outer .before .before .before .before in
+    let book = start .args .book .now in
+    let frame = start .args .frame .now in
+    let formed = sym (outer .before .frame-well-formed .ensures) ∙ outer .if1 .taken in
+    let height = inner .before .frame-height .ensures .0 in
+    let count = start .pre .sized .count in
+    let bound = c .before .before .heights .ensures .0 in
+    let inside = range-in 1 (last (decode book)) (frameHeight frame) (omega (arith, height, inner .if2 .taken)) (omega (arith, height, count, bound, c .before .if3 .taken)) in
+    c .member-refusal .ensures ∙ sym (read-inside (decode book) frame formed inside _ height)
+
+returns-2 : tie.Need-returns-2
+unfolding refusalOf
+returns-2 c =
+    let branch = c .before .before .before .before in
+    let start = branch .before .before .before .before in
+    let book = start .args .book .now in
+    let frame = start .args .frame .now in
+    let formed = sym (branch .before .frame-well-formed .ensures) ∙ branch .if1 .taken in
+    let height = c .before .before .before .frame-height .ensures .0 in
+    let count = start .pre .sized .count in
+    let bound = c .before .heights .ensures .0 in
+    let outside = not-passed _ (λ e. omega (arith, in-range 1 (last (decode book)) (frameHeight frame) e, height, count, bound, c .if3 .left)) in
+    sym (read-outside (decode book) frame formed outside)
+
+returns-3 : tie.Need-returns-3
+unfolding refusalOf
+returns-3 c =
+    let start = c .before .before .before .before .before .before in
+    let book = start .args .book .now in
+    let frame = start .args .frame .now in
+    let formed = sym (c .before .before .before .frame-well-formed .ensures) ∙ c .before .before .if1 .taken in
+    let height = c .before .frame-height .ensures .0 in
+    let outside = not-passed _ (λ e. omega (arith, in-range 1 (last (decode book)) (frameHeight frame) e, height, c .if2 .left)) in
+    sym (read-outside (decode book) frame formed outside)
+
+returns-4 : tie.Need-returns-4
+unfolding refusalOf
+returns-4 c =
+    let start = c .before .before .before .before in
+    let book = start .args .book .now in
+    let frame = start .args .frame .now in
+    sym (read-malformed (decode book) frame (sym (c .before .frame-well-formed .ensures) ∙ c .if1 .left))
+
+pub read-refusal-spec : {M : Type 1} → statement M
+read-refusal-spec = tie.close (tie.spec frame-well-formed-requires frame-height-requires heights-requires member-refusal-requires returns returns-2 returns-3 returns-4)

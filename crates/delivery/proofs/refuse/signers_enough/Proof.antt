@@ -1,0 +1,32 @@
+-- `signers_enough` meets its contract: a statement has one signer, and a certificate a quorum.
+use Prim.Native.Nat.{ℕ}
+use mathlib.Core.Path.{sym, ap, _∙_}
+use Rattle.protocol.specs.State.{decode}
+use Rattle.protocol.specs.Sound.{view}
+use Rattle.protocol.specs.View.{quorum}
+use Rattle.delivery.specs.Refusal.{signersEnough}
+use borrow.Author.Needs.{needs}
+use Rattle.delivery.proofs.refuse.signers_enough.Statement.{statement}
+use Rattle.delivery.proofs.refuse.signers_enough.Tie as tie
+
+is-statement-requires : tie.Need-is-statement-requires
+is-statement-requires c κs = search needs
+
+frame-mask-requires : tie.Need-frame-mask-requires
+frame-mask-requires c κs = search needs
+
+quorum-requires : tie.Need-quorum-requires
+quorum-requires c κs = search needs
+
+returns : tie.Need-returns
+unfolding signersEnough
+returns c = rw (sym (c .before .is-statement .ensures) ∙ c .if1 .taken)
+
+returns-2 : tie.Need-returns-2
+unfolding signersEnough
+returns-2 c =
+    rw (sym (c .before .before .before .is-statement .ensures) ∙ c .before .before .if1 .left)
+    (c .quorum .ensures ∙ ap (λ (mask : ℕ). quorum (view (decode (c .before .before .before .before .before .before .args .book .now))) mask) (c .before .frame-mask .ensures .0))
+
+pub signers-enough-spec : {M : Type 1} → statement M
+signers-enough-spec = tie.close (tie.spec is-statement-requires frame-mask-requires quorum-requires returns returns-2)

@@ -1,0 +1,27 @@
+-- What the inner functions of Deliver ask of the book, of a height, and of a frame that is read.
+use Prim.Native.Nat.{ℕ, _^_, _≤_, _<_}
+use mathlib.Core.Path.{_≡_}
+use lib.ListN.{length}
+use Rattle.protocol.specs.Bytes.{Bytes}
+use Rattle.protocol.specs.Frame.{kind, signer, frameHeight, signerMask}
+use Rattle.protocol.specs.State.{decode, at}
+use Rattle.protocol.specs.GrantedLaws.{HeightRange}
+use Rattle.fields.specs.Ready.{Ready, Within}
+use Rattle.state.specs.Memo.{Readable}
+
+-- a height of a book that can be read and written
+pub record Spot (book : Bytes) (h : ℕ) : Type 0 where
+  pub ready : Ready book
+  pub readable : Readable book
+  pub within : Within book h
+  pub status-small : at (decode book) h .status ≤ 3
+
+-- a frame that passes the rows of reading, and its height
+pub record Read (book : Bytes) (h : ℕ) (frame : Bytes) : Type 0 where
+  pub spot : Spot book h
+  pub range : HeightRange (decode book .n) (at (decode book) h)
+  pub size : length frame ≡ 224
+  pub height : h ≡ frameHeight frame
+  pub kind-low : 1 ≤ kind frame
+  pub signer-small : kind frame ≤ 4 → signer frame < decode book .n
+  pub mask-small : 5 ≤ kind frame → signerMask frame < 2 ^ decode book .n

@@ -1,0 +1,7 @@
+pub mod FrameReadLaws
+pub mod Given
+pub mod KeepLaws
+pub mod NotarizeLaws
+pub mod PartLaws
+pub mod Refusal
+pub mod RefusalLaws

@@ -1,0 +1,59 @@
+-- Refusals as numbers, the rows of reading and of contradiction one by one, and what a kept frame leaves.
+use Prim.Native.Nat.{ℕ, zero, suc}
+use mathlib.Core.Bool.{Bool, true, false, _&&_, _||_, cond}
+use mathlib.Core.List.{List, [], _∷_}
+use mathlib.Core.Option.{Option, some, none}
+use lib.Dec.{eqb, ltb}
+use Rattle.protocol.specs.Bytes.{Bytes, same}
+use Rattle.protocol.specs.Tests.{implies, Row, firstRefusal}
+use Rattle.protocol.specs.Frame.{kind, signer, signerMask, frameDigest, frameBlock, isStatement}
+use Rattle.protocol.specs.Mask.{inMask, belowBit}
+use Rattle.protocol.specs.State.{State, Height, at, withHeight, encode, decode, holdsProposal, isNotarized, voteOf}
+use Rattle.protocol.specs.View.{quorum}
+use Rattle.protocol.specs.Sound.{view}
+use Rattle.protocol.specs.Answer.{Outcome, Delivery, unlessRefused}
+use Rattle.protocol.specs.Deliver.{clashRows, keep, kept}
+
+-- 0 stands for no refusal
+unfoldable pub refusalOf : ℕ → Option ℕ
+refusalOf zero = none
+refusalOf (suc number) = some (suc number)
+
+-- ---- the rows about a frame's signers
+unfoldable pub membersFit : State → Bytes → Bool
+membersFit s frame = cond (isStatement (kind frame)) (ltb (signer frame) (s .n)) (belowBit (s .n) (signerMask frame))
+
+unfoldable pub leaderSigned : State → ℕ → Bytes → Bool
+leaderSigned s h frame = implies (eqb (kind frame) 1) (eqb (signer frame) (at s h .leader))
+
+unfoldable pub signersEnough : State → Bytes → Bool
+signersEnough s frame = isStatement (kind frame) || quorum (view s) (signerMask frame)
+
+unfoldable pub memberRows : State → ℕ → Bytes → List Row
+memberRows s h frame = (5, membersFit s frame) ∷ (7, leaderSigned s h frame) ∷ (9, signersEnough s frame) ∷ []
+
+-- ---- the rows about what the frame's height keeps
+unfoldable pub proposalAgrees : Height → Bytes → Bool
+proposalAgrees x frame = implies (eqb (kind frame) 1 && holdsProposal x) (same (x .proposal) (frameBlock frame))
+
+unfoldable pub voteAgrees : Height → Bytes → Bool
+voteAgrees x frame = implies (eqb (kind frame) 2 && inMask (x .voterMask) (signer frame)) (same (voteOf x (signer frame)) (frameDigest frame))
+
+unfoldable pub blockAgrees : Height → Bytes → Bool
+blockAgrees x frame = implies (eqb (kind frame) 5 && isNotarized x) (same (x .notarized) (frameBlock frame))
+
+-- ---- what is kept
+-- whether a frame changes its height
+unfoldable pub isKept : Option Height → Bool
+isKept none = false
+isKept (some x) = true
+
+-- the book after a frame of height `h`
+unfoldable pub keptBook : Bytes → ℕ → Option Height → Bytes
+keptBook book h none = book
+keptBook book h (some x) = encode (withHeight (decode book) h x)
+
+-- Deliver's outcome for a sound book and a frame that is read
+unfoldable pub readOutcome : (Bytes → Bytes) → Bytes → Bytes → Outcome Delivery
+readOutcome digest book frame =
+    unlessRefused (firstRefusal (clashRows (decode book) frame)) book (kept digest book frame (keep digest (decode book) frame))

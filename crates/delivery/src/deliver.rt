@@ -1,0 +1,59 @@
+// Deliver: reads a frame over the book, and keeps what it states.
+use answers::answer::Delivered;
+use crate::clash::clash_refusal;
+use crate::keep::keep;
+use crate::refuse::read_refusal;
+use wire::frame::frame_height;
+ghost use mathlib.Core.Path.{_≡_};
+ghost use mathlib.Core.Bool.{true};
+ghost use Rattle.sha256.specs.Digest.{sha256};
+ghost use Rattle.protocol.specs.Sound.{sound};
+ghost use Rattle.protocol.specs.Deliver.{deliverCall};
+ghost use Rattle.answers.specs.Answers.{deliveredAnswer};
+ghost use Rattle.delivery.specs.Refusal.{readOutcome};
+ghost use Rattle.delivery.specs.Given.{Read};
+
+// Keeps a frame that is read and contradicts nothing.
+fn deliver_read(book: &mut [u8], h: usize, frame: &[u8]) -> Delivered
+    requires { ⌜ Read (now book) h (now frame) ⌝ }
+    ensures answer { λ r. ⌜ deliveredAnswer r ≡ readOutcome sha256 (now (book .entry)) (now (frame .entry)) .answer ⌝ }
+    ensures book { λ _. ⌜ now (book .exit) ≡ readOutcome sha256 (now (book .entry)) (now (frame .entry)) .book ⌝ }
+{
+    let clash = clash_refusal(book, h, frame);
+    if clash == 0 {
+        if keep(book, h, frame) {
+            Delivered::Fresh
+        } else {
+            Delivered::Known
+        }
+    } else {
+        Delivered::Refused(clash)
+    }
+}
+
+// Delivers a frame to a sound book.
+fn deliver_sound(book: &mut [u8], frame: &[u8]) -> Delivered
+    requires { ⌜ sound sha256 (now book) ≡ true ⌝ }
+    ensures answer { λ r. ⌜ deliveredAnswer r ≡ deliverCall sha256 (now (book .entry)) (now (frame .entry)) .answer ⌝ }
+    ensures book { λ _. ⌜ now (book .exit) ≡ deliverCall sha256 (now (book .entry)) (now (frame .entry)) .book ⌝ }
+{
+    let number = read_refusal(book, frame);
+    if number == 0 {
+        deliver_read(book, frame_height(frame), frame)
+    } else {
+        Delivered::Refused(number)
+    }
+}
+
+// Reads a frame and keeps what it states. The book is first tested for soundness; a refused call changes nothing.
+pub fn deliver(book: &mut [u8], frame: &[u8]) -> Delivered
+    ensures answer { λ r. ⌜ deliveredAnswer r ≡ deliverCall sha256 (now (book .entry)) (now (frame .entry)) .answer ⌝ }
+    ensures book { λ _. ⌜ now (book .exit) ≡ deliverCall sha256 (now (book .entry)) (now (frame .entry)) .book ⌝ }
+{
+    let mut known = [0u8; 64];
+    if state::sound::sound(book, &mut known) {
+        deliver_sound(book, frame)
+    } else {
+        Delivered::Refused(1)
+    }
+}

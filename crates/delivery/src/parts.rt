@@ -1,0 +1,29 @@
+// Parts of a frame, lent where they lie, and whether it is one replica's statement.
+ghost use mathlib.Core.Path.{_≡_};
+ghost use lib.ListN.{length};
+ghost use Rattle.protocol.specs.Frame.{kind, frameDigest, frameBlock, isStatement};
+
+// The digest's place in a frame, 32 bytes.
+pub fn frame_digest(frame: &[u8]) -> &[u8]
+    requires { ⌜ length (now frame) ≡ 224 ⌝ }
+    ensures { λ r. ⌜ (now r ≡ frameDigest (now (frame .entry))) × (length (now r) ≡ 32) ⌝ }
+{
+    &frame[16..48]
+}
+
+// The block's place in a frame, 176 bytes.
+pub fn frame_block(frame: &[u8]) -> &[u8]
+    requires { ⌜ length (now frame) ≡ 224 ⌝ }
+    ensures { λ r. ⌜ (now r ≡ frameBlock (now (frame .entry))) × (length (now r) ≡ 176) ⌝ }
+{
+    &frame[48..224]
+}
+
+// Whether a frame is one replica's statement, kinds 1 to 4.
+pub fn is_statement(frame: &[u8]) -> bool
+    requires { ⌜ length (now frame) ≡ 224 ⌝ }
+    ensures { λ r. ⌜ r ≡ isStatement (kind (now (frame .entry))) ⌝ }
+{
+    let kind = wire::frame::frame_kind(frame);
+    (1 <= kind) & (kind <= 4)
+}

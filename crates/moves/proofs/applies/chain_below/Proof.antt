@@ -1,0 +1,30 @@
+-- `chain_below` meets its contract: it asks for the chain of the height below the current one.
+use mathlib.Core.Path.{_∙_}
+use Rattle.sha256.specs.Digest.{sha256}
+use Rattle.protocol.specs.State.{decode}
+use Rattle.moves.specs.AppliesLaws.{below-is}
+use borrow.Author.Needs.{needs}
+use Rattle.moves.proofs.applies.chain_below.Statement.{statement}
+use Rattle.moves.proofs.applies.chain_below.Tie as tie
+
+current-requires : tie.Need-current-requires
+current-requires c κs = search needs
+
+sub-parent-of : tie.Need-sub-parent-of
+sub-parent-of c = search needs
+
+parent-of-requires : tie.Need-parent-of-requires
+parent-of-requires c κs = search needs
+
+same-length : tie.Need-same-length
+same-length c = search needs
+
+returns : tie.Need-returns
+returns c =
+    let found = c .before .before .parent-of in
+    let height = c .before .before .before .before .current in
+    (found .ensures .0 ∙ below-is sha256 (decode (c .before .before .before .before .before .before .before .args .book .now)) (height .result) (height .ensures .0), found .ensures .1)
+
+pub chain-below-spec : {M : Type 1} → statement M
+chain-below-spec =
+    tie.close (tie.spec current-requires sub-parent-of parent-of-requires same-length returns)

@@ -1,0 +1,47 @@
+-- `has_chain_below` meets its contract: a parent was found or not.
+use mathlib.Core.Path.{sym, ap, _∙_}
+use Rattle.protocol.specs.Move.{isSome}
+use Rattle.state.specs.Parent.{parentOption}
+use Rattle.state.specs.declared.links.Parent.{Parent}
+use borrow.Author.Needs.{needs}
+use Rattle.moves.proofs.applies.has_chain_below.Statement.{statement}
+use Rattle.moves.proofs.applies.has_chain_below.Tie as tie
+
+chain-below-requires : tie.Need-chain-below-requires
+chain-below-requires c κs = search needs
+
+enum-told : tie.Need-enum-told
+enum-told c = search needs
+
+enum-told-2 : tie.Need-enum-told-2
+enum-told-2 c = search needs
+
+same-length : tie.Need-same-length
+same-length c = search needs
+
+returns : tie.Need-returns
+unfolding isSome parentOption
+returns c =
+    let found = c .before .before .before .before .chain-below in
+    (ap (λ (p : Parent). isSome (parentOption p)) (sym (c .enum-told .given .1)) ∙ ap isSome (found .ensures .0), found .ensures .1)
+
+same-length-2 : tie.Need-same-length-2
+same-length-2 c = search needs
+
+returns-2 : tie.Need-returns-2
+unfolding isSome parentOption
+returns-2 c =
+    let found = c .before .before .before .before .chain-below in
+    (ap (λ (p : Parent). isSome (parentOption p)) (sym (c .enum-told2 .given .1)) ∙ ap isSome (found .ensures .0), found .ensures .1)
+
+pub has-chain-below-spec : {M : Type 1} → statement M
+has-chain-below-spec =
+    tie.close
+    (tie.spec
+    chain-below-requires
+    enum-told
+    enum-told-2
+    same-length
+    returns
+    same-length-2
+    returns-2)

@@ -1,0 +1,56 @@
+-- `proposal_extends` meets its contract: where a proposal is held, it is put to the test.
+use mathlib.Core.Path.{sym, ap, _∙_}
+use lib.ListN.{length}
+use Rattle.sha256.specs.Digest.{sha256}
+use Rattle.protocol.specs.State.{decode}
+use Rattle.fields.specs.Ready.{Within}
+use Rattle.moves.specs.AppliesLaws.{held-extends, held-none}
+use Rattle.moves.specs.MovableLaws.{within-current, proposal-size}
+use borrow.Author.Needs.{needs}
+use Rattle.moves.proofs.applies.proposal_extends.Statement.{statement}
+use Rattle.moves.proofs.applies.proposal_extends.Tie as tie
+
+current-requires : tie.Need-current-requires
+current-requires c κs = search needs
+
+holds-proposal-requires : tie.Need-holds-proposal-requires
+holds-proposal-requires c κs = search needs
+
+proposal-requires : tie.Need-proposal-requires
+proposal-requires c κs = search needs
+
+extends-requires : tie.Need-extends-requires
+extends-requires c κs =
+    let start = c .before .before .before .before .before .before .before in
+    let book = start .args .book .now in
+    let height = c .before .before .before .before .current in
+    let inside : Within book (height .result) = within-current book (start .pre .0) (start .pre .1 .1) (height .result) (height .ensures .0) in
+    (start .pre .0 .readable, (start .pre .1 .0, (inside, ap length (c .before .proposal .ensures) ∙ proposal-size book (start .pre .0 .readable) (height .result) inside)))
+
+same-length : tie.Need-same-length
+same-length c = search needs
+
+returns : tie.Need-returns
+returns c =
+    let start = c .before .before .before .before .before .before .before .before .before .before in
+    let height = c .before .before .before .before .before .before .before .current in
+    let found = c .before .before .extends in
+    (found .ensures .0 ∙ held-extends sha256 (decode (start .args .book .now)) (height .result) (height .ensures .0) (c .before .before .before .before .proposal .result .now) (sym (c .before .before .before .before .before .before .holds-proposal .ensures) ∙ c .before .before .before .before .before .if1 .taken) (c .before .before .before .before .proposal .ensures), found .ensures .1)
+
+returns-2 : tie.Need-returns-2
+returns-2 c =
+    let start = c .before .before .before .before .before in
+    let height = c .before .before .current in
+    (sym (held-none sha256 (decode (start .args .book .now)) (height .result) (height .ensures .0) (sym (c .before .holds-proposal .ensures) ∙ c .if1 .left)), start .pre .1 .0)
+
+pub proposal-extends-spec : {M : Type 1} → statement M
+proposal-extends-spec =
+    tie.close
+    (tie.spec
+    current-requires
+    holds-proposal-requires
+    proposal-requires
+    extends-requires
+    same-length
+    returns
+    returns-2)

@@ -1,0 +1,59 @@
+-- `cast_dummy_vote` meets its contract: the frame and the head are those of move 1.
+use Rattle.protocol.specs.State.{decode}
+use Rattle.moves.specs.StepsLaws.{took-dummy-vote}
+use borrow.Author.Needs.{needs}
+use Rattle.moves.proofs.steps.cast_dummy_vote.Statement.{statement}
+use Rattle.moves.proofs.steps.cast_dummy_vote.Tie as tie
+
+current-requires : tie.Need-current-requires
+current-requires c κs = search needs
+
+flags-requires : tie.Need-flags-requires
+flags-requires c κs = search needs
+
+finalized-requires : tie.Need-finalized-requires
+finalized-requires c κs = search needs
+
+own-requires : tie.Need-own-requires
+own-requires c κs = search needs
+
+write-dummy-vote-requires : tie.Need-write-dummy-vote-requires
+write-dummy-vote-requires c κs = search needs
+
+add-set-head : tie.Need-add-set-head
+add-set-head c = search needs
+
+set-head-requires : tie.Need-set-head-requires
+set-head-requires c κs = search needs
+
+same-length : tie.Need-same-length
+same-length c = search needs
+
+same-length-2 : tie.Need-same-length-2
+same-length-2 c = search needs
+
+returns : tie.Need-returns
+returns c =
+    let start = c .before .before .before .before .before .before .before .before .before .before .before .before .before .before .before .before .before .before in
+    let height = c .before .before .before .before .before .before .before .before .before .before .before .before .before .before .current in
+    let seen = c .before .before .before .before .before .before .before .before .before .before .before .before .flags in
+    let settled = c .before .before .before .before .before .before .before .before .before .before .finalized in
+    let signer = c .before .before .before .before .before .before .before .own in
+    took-dummy-vote (decode (start .args .book .now)) (start .args .reply .now) (c .before .before .set-head .last .0) (c .before .before .before .before .before .before .write-dummy-vote .last .0)
+    (height .result) (signer .result) (seen .result) (settled .result) (height .ensures .0) (signer .ensures .0) (seen .ensures .0) (settled .ensures .0)
+    (c .before .before .set-head .ensures) (c .before .before .before .before .before .before .write-dummy-vote .ensures)
+
+pub cast-dummy-vote-spec : {M : Type 1} → statement M
+cast-dummy-vote-spec =
+    tie.close
+    (tie.spec
+    current-requires
+    flags-requires
+    finalized-requires
+    own-requires
+    write-dummy-vote-requires
+    add-set-head
+    set-head-requires
+    same-length
+    same-length-2
+    returns)

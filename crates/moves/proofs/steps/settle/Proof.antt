@@ -1,0 +1,30 @@
+-- `settle` meets its contract: it writes the head of the state after move 2.
+use Rattle.protocol.specs.State.{decode}
+use Rattle.moves.specs.StepsLaws.{settled-answer, settled-book}
+use borrow.Author.Needs.{needs}
+use Rattle.moves.proofs.steps.settle.Statement.{statement}
+use Rattle.moves.proofs.steps.settle.Tie as tie
+
+current-requires : tie.Need-current-requires
+current-requires c κs = search needs
+
+flags-requires : tie.Need-flags-requires
+flags-requires c κs = search needs
+
+set-head-requires : tie.Need-set-head-requires
+set-head-requires c κs = search needs
+
+same-length : tie.Need-same-length
+same-length c = search needs
+
+returns : tie.Need-returns
+returns c =
+    let start = c .before .before .before .before .before .before .before .before .before in
+    let s = decode (start .args .book .now) in
+    let height = c .before .before .before .before .before .before .current in
+    let seen = c .before .before .before .before .flags in
+    (settled-answer s (start .args .g) (start .pre .1 .0), settled-book s (start .args .g) (start .pre .1 .0) (c .before .before .set-head .last .0) (height .result) (seen .result) (height .ensures .0) (seen .ensures .0) (c .before .before .set-head .ensures))
+
+pub settle-spec : {M : Type 1} → statement M
+settle-spec =
+    tie.close (tie.spec current-requires flags-requires set-head-requires same-length returns)

@@ -1,0 +1,77 @@
+-- `write_proposal` meets its contract: the new block takes the place of the zero bytes of a frame without one.
+use native.Mathlib.Omega.{arith}
+use mathlib.Core.Path.{_≡_}
+use lib.ListN.{length}
+use Rattle.sha256.specs.Digest.{sha256}
+use Rattle.protocol.specs.Block.{newBlock}
+use Rattle.protocol.specs.State.{decode}
+use Rattle.protocol.specs.Move.{offered}
+use Rattle.protocol.specs.FrontLaws.{front-in-part}
+use Rattle.moves.specs.ProposeLaws.{wrote-proposal, proposed-size}
+use borrow.Author.Needs.{needs}
+use Rattle.moves.proofs.steps.write_proposal.Statement.{statement}
+use Rattle.moves.proofs.steps.write_proposal.Tie as tie
+
+current-requires : tie.Need-current-requires
+current-requires c κs = search needs
+
+own-requires : tie.Need-own-requires
+own-requires c κs = search needs
+
+parent-digest-requires : tie.Need-parent-digest-requires
+parent-digest-requires c κs = search needs
+
+write-plain-requires : tie.Need-write-plain-requires
+write-plain-requires c κs = search needs
+
+slice-aggregate-offer : tie.Need-slice-aggregate-offer
+slice-aggregate-offer c = search needs
+
+sub-offer : tie.Need-sub-offer
+sub-offer c = search needs
+
+part-offer-start : tie.Need-part-offer-start
+part-offer-start c = search needs
+
+part-offer-end : tie.Need-part-offer-end
+part-offer-end c = search needs
+
+offer-requires : tie.Need-offer-requires
+offer-requires c κs = search needs
+
+same-length : tie.Need-same-length
+same-length c = search needs
+
+returns : tie.Need-returns
+returns c =
+    let start = c .before .before .before .before .before .before .before .before .before .before .before .before .before .before in
+    let book = start .args .book .now in
+    let j = start .args .j in
+    let height = c .before .before .before .before .before .before .before .before .before .before .before .current in
+    let signer = c .before .before .before .before .before .before .before .before .before .before .own in
+    let digest = c .before .before .before .before .before .before .before .before .before .parent-digest in
+    let plain = c .before .before .before .before .before .before .before .write-plain in
+    let room = start .pre .1 .1 in
+    let kept = plain .kept .0 in
+    let size : length (digest .result) ≡ 32 = search needs in
+    wrote-proposal book (start .pre .0) (start .args .reply .now) (plain .last .0) _ (digest .result) (height .result) (signer .result) j
+    (height .ensures .0) (signer .ensures .0) size (digest .ensures) (plain .ensures)
+    (rw (c .before .before .offer .ensures)
+    (front-in-part (plain .last .0) (newBlock (height .result) j (digest .result) (offered sha256 (decode book) j)) 48 176 (omega arith)
+    (omega (arith, proposed-size book (start .pre .0) (digest .result) (height .result) j size))))
+
+pub write-proposal-spec : {M : Type 1} → statement M
+write-proposal-spec =
+    tie.close
+    (tie.spec
+    current-requires
+    own-requires
+    parent-digest-requires
+    write-plain-requires
+    slice-aggregate-offer
+    sub-offer
+    part-offer-start
+    part-offer-end
+    offer-requires
+    same-length
+    returns)

@@ -1,0 +1,171 @@
+// The steps that the moves take: each writes its frames to the front of the reply and the new head to the book.
+use answers::answer::Certificate;
+use answers::answer::Moved;
+use crate::applies::flag;
+use crate::applies::parent_below;
+use fields::head::current;
+use fields::head::finalized;
+use fields::head::flags;
+use fields::head::own;
+use fields::head::set_head;
+ghost use mathlib.Core.Path.{_≡_};
+ghost use mathlib.Core.Bool.{true, not, cond};
+ghost use Prim.Native.Nat.{_≤_, _<_};
+ghost use lib.ListN.{length};
+ghost use Rattle.sha256.specs.Digest.{sha256 as sha};
+ghost use Rattle.protocol.specs.Bytes.{byteAt, zeros, overFront};
+ghost use Rattle.protocol.specs.BytesLaws.{put};
+ghost use Rattle.protocol.specs.Frame.{finalize, proposal as proposalFrame};
+ghost use Rattle.protocol.specs.State.{decode, encode, flag as isFlagged};
+ghost use Rattle.protocol.specs.Sound.{view};
+ghost use Rattle.protocol.specs.View.{linked, digestAt};
+ghost use Rattle.protocol.specs.Answer.{accepted, output, onBlock, onDummy};
+ghost use Rattle.protocol.specs.Move.{dummyVoteStep, outputStep, passCertificate, passStep, proposedBlock, proposeStep, blockVoteStep, isRunning, newFinalized, parentBelow, isSome, someOr};
+ghost use Rattle.state.specs.Memo.{Memo};
+ghost use Rattle.state.specs.Walkable.{Walkable};
+ghost use Rattle.answers.specs.Answers.{movedAnswer, certificateOf};
+ghost use Rattle.moves.specs.Movable.{Movable, Took};
+
+// Move 1: casts the dummy vote.
+pub fn cast_dummy_vote(book: &mut [u8], reply: &mut [u8]) -> Moved
+    requires { ⌜ Movable (now book) ⌝ }
+    requires { ⌜ 448 ≤ length (now reply) ⌝ }
+    ensures { λ r. ⌜ Took (dummyVoteStep (decode (now (book .entry)))) (now (reply .entry)) r (now (book .exit)) (now (reply .exit)) ⌝ }
+{
+    let c = current(book);
+    let seen = flags(book);
+    let settled = finalized(book);
+    wire::frame::write_dummy_vote(reply, own(book), c);
+    set_head(book, seen + 2, c, settled);
+    Moved::Dummy(c)
+}
+
+// Move 2: makes `g` the finalized height. It writes no frame.
+pub fn settle(book: &mut [u8], g: usize) -> Moved
+    requires { ⌜ Movable (now book) ⌝ }
+    requires { ⌜ g ≡ newFinalized sha (decode (now book)) ⌝ }
+    requires { ⌜ g < 64 ⌝ }
+    ensures answer { λ r. ⌜ movedAnswer r ≡ accepted (outputStep sha (decode (now (book .entry))) .move) ⌝ }
+    ensures book { λ _. ⌜ now (book .exit) ≡ encode (outputStep sha (decode (now (book .entry))) .after) ⌝ }
+{
+    let c = current(book);
+    let seen = flags(book);
+    set_head(book, seen, c, g);
+    Moved::Final(g)
+}
+
+// Writes the certificate that a pass goes by: the block's where the current height is linked, else the dummy block's.
+fn write_pass_certificate(book: &[u8], reply: &mut [u8], known: &mut [u8]) -> Certificate
+    requires { ⌜ Movable (now book) ⌝ }
+    requires { ⌜ Memo (now book) (now known) ⌝ }
+    requires { ⌜ decode (now book) .current ≤ byteAt (now book) 2 ⌝ }
+    requires { ⌜ 448 ≤ length (now reply) ⌝ }
+    ensures answer { λ r. ⌜ certificateOf r ≡ cond (linked sha (view (decode (now (book .entry)))) (decode (now (book .entry)) .current)) onBlock onDummy ⌝ }
+    ensures reply { λ _. ⌜ now (reply .exit) ≡ overFront (passCertificate sha (decode (now (book .entry)))) (now (reply .entry)) ⌝ }
+{
+    let c = current(book);
+    if state::links::linked(book, c, known) {
+        let mask = fields::height::certificate_mask(book, c);
+        wire::frame::write_block_certificate(reply, c, mask, fields::height::notarized(book, c));
+        Certificate::Page
+    } else {
+        wire::frame::write_dummy_certificate(reply, c, fields::height::dummy_mask(book, c));
+        Certificate::Blank
+    }
+}
+
+// Writes a pass's second frame, from byte 224 on: a finalize statement where the timer has not fired, else zero bytes.
+fn write_pass_finalize(book: &[u8], reply: &mut [u8]) -> bool
+    requires { ⌜ Movable (now book) ⌝ }
+    requires { ⌜ 448 ≤ length (now reply) ⌝ }
+    ensures answer { λ r. ⌜ r ≡ not (isFlagged 1 (decode (now (book .entry)))) ⌝ }
+    ensures reply { λ r. ⌜ now (reply .exit) ≡ put (now (reply .entry)) 224 (cond r (finalize (decode (now (book .entry)) .own) (decode (now (book .entry)) .current)) (zeros 224)) ⌝ }
+{
+    if flag(book, 1) {
+        wire::bytes::clear(reply, 224, 224);
+        false
+    } else {
+        let c = current(book);
+        let signer = own(book);
+        wire::frame::write_finalize(&mut reply[224..], signer, c);
+        true
+    }
+}
+
+// Move 3: passes to the next height, with the timer and the flags anew.
+pub fn pass(book: &mut [u8], reply: &mut [u8], known: &mut [u8]) -> Moved
+    requires { ⌜ Movable (now book) ⌝ }
+    requires { ⌜ Memo (now book) (now known) ⌝ }
+    requires { ⌜ decode (now book) .current ≤ byteAt (now book) 2 ⌝ }
+    requires { ⌜ 448 ≤ length (now reply) ⌝ }
+    ensures { λ r. ⌜ Took (passStep sha (decode (now (book .entry)))) (now (reply .entry)) r (now (book .exit)) (now (reply .exit)) ⌝ }
+{
+    let c = current(book);
+    let settled = finalized(book);
+    let certificate = write_pass_certificate(book, reply, known);
+    let finalised = write_pass_finalize(book, reply);
+    set_head(book, 0, c + 1, settled);
+    Moved::Pass(c, certificate, finalised)
+}
+
+// The digest that a block on the block of height `j` names: zeros for height 0.
+fn parent_digest(book: &[u8], j: usize) -> [u8; 32]
+    requires { ⌜ Movable (now book) ⌝ }
+    requires { ⌜ j ≤ byteAt (now book) 2 ⌝ }
+    ensures { λ r. ⌜ r ≡ digestAt sha (view (decode (now (book .entry)))) j ⌝ }
+{
+    if j == 0 {
+        [0u8; 32]
+    } else {
+        sha256::sha256(fields::height::notarized(book, j))
+    }
+}
+
+// Writes a proposal of a block on the block of height `j`: the frame first, and the block, with its entries, in its place.
+fn write_proposal(book: &[u8], reply: &mut [u8], j: usize)
+    requires { ⌜ Movable (now book) ⌝ }
+    requires { ⌜ Walkable (now book) j ⌝ }
+    requires { ⌜ 448 ≤ length (now reply) ⌝ }
+    ensures { λ _. ⌜ now (reply .exit) ≡ overFront (proposalFrame (decode (now (book .entry)) .own) (decode (now (book .entry)) .current) (proposedBlock sha (decode (now (book .entry))) j)) (now (reply .entry)) ⌝ }
+{
+    let c = current(book);
+    let signer = own(book);
+    let digest = parent_digest(book, j);
+    wire::frame::write_plain(reply, 1, signer, c, 0);
+    state::entries::offer(book, c, j, &digest, &mut reply[48..224]);
+}
+
+// Move 4: proposes a block on the best chain below the current height.
+pub fn propose(book: &mut [u8], reply: &mut [u8], known: &mut [u8]) -> Moved
+    requires { ⌜ Movable (now book) ⌝ }
+    requires { ⌜ Memo (now book) (now known) ⌝ }
+    requires { ⌜ decode (now book) .current ≤ byteAt (now book) 2 ⌝ }
+    requires { ⌜ isSome (parentBelow sha (decode (now book))) ≡ true ⌝ }
+    requires { ⌜ 448 ≤ length (now reply) ⌝ }
+    ensures { λ r. ⌜ Took (proposeStep sha (decode (now (book .entry)))) (now (reply .entry)) r (now (book .exit)) (now (reply .exit)) ⌝ }
+{
+    let c = current(book);
+    let seen = flags(book);
+    let settled = finalized(book);
+    let j = parent_below(book, known);
+    write_proposal(book, reply, j);
+    set_head(book, seen + 8, c, settled);
+    Moved::Offer(c)
+}
+
+// Move 5: votes for the held proposal by its digest.
+pub fn cast_block_vote(book: &mut [u8], reply: &mut [u8]) -> Moved
+    requires { ⌜ Movable (now book) ⌝ }
+    requires { ⌜ decode (now book) .current ≤ byteAt (now book) 2 ⌝ }
+    requires { ⌜ 448 ≤ length (now reply) ⌝ }
+    ensures { λ r. ⌜ Took (blockVoteStep sha (decode (now (book .entry)))) (now (reply .entry)) r (now (book .exit)) (now (reply .exit)) ⌝ }
+{
+    let c = current(book);
+    let seen = flags(book);
+    let settled = finalized(book);
+    let signer = own(book);
+    let digest = sha256::sha256(fields::height::proposal(book, c));
+    wire::frame::write_block_vote(reply, signer, c, &digest);
+    set_head(book, seen + 4, c, settled);
+    Moved::Vote(c)
+}

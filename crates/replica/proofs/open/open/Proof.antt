@@ -1,0 +1,66 @@
+-- `open` meets its contract: the ranges first, then the length.
+use native.Mathlib.Omega.{arith}
+use Prim.Native.Nat.{_+_, _*_, _≤_}
+use mathlib.Core.Path.{_≡_, sym, _∙_}
+use lib.ListN.{length}
+use Rattle.replica.specs.AnswerLaws.{outcome-done, outcome-refused}
+use Rattle.replica.specs.CallLaws.{open-unfit, open-short, open-done}
+use Rattle.replica.proofs.Numbers.{fitting, long-enough, not-long-enough}
+use borrow.Author.Needs.{needs}
+use Rattle.replica.proofs.open.open.Statement.{statement}
+use Rattle.replica.proofs.open.open.Tie as tie
+
+numbers-fit-requires : tie.Need-numbers-fit-requires
+numbers-fit-requires c κs = search needs
+
+mul-if2 : tie.Need-mul-if2
+mul-if2 c =
+    let z = c .before .before .before .before in
+    let fits = fitting (z .args .n) (z .args .own) (z .args .heights) (z .args .leaders .now) (sym (c .before .numbers-fit .ensures) ∙ c .if1 .taken) in
+    omega arith
+
+add-if2 : tie.Need-add-if2
+add-if2 c =
+    let z = c .before .before .before .before in
+    let fits = fitting (z .args .n) (z .args .own) (z .args .heights) (z .args .leaders .now) (sym (c .before .numbers-fit .ensures) ∙ c .if1 .taken) in
+    omega arith
+
+new-book-requires : tie.Need-new-book-requires
+new-book-requires c κs =
+    let z = c .before .before .before .before .before .before in
+    let fits = fitting (z .args .n) (z .args .own) (z .args .heights) (z .args .leaders .now) (sym (c .before .before .before .numbers-fit .ensures) ∙ c .before .before .if1 .taken) in
+    let size : length (z .args .book .now) ≡ 576 + 880 * length (z .args .leaders .now) = omega arith in
+    let few : length (z .args .leaders .now) ≤ 63 = omega arith in
+    (size, (few, (omega arith, omega arith)))
+
+same-length : tie.Need-same-length
+same-length c = search needs
+
+returns : tie.Need-returns
+returns c =
+    let z = c .before .before .before .before .before .before .before .before .before in
+    outcome-done (open-done (z .args .book .now) (z .args .n) (z .args .own) (z .args .heights) (z .args .leaders .now) (sym (c .before .before .before .before .before .before .numbers-fit .ensures) ∙ c .before .before .before .before .before .if1 .taken) (long-enough (z .args .book .now) (z .args .heights) (c .before .before .before .before .if2 .taken)))
+    (c .before .before .new-book .ensures)
+
+returns-2 : tie.Need-returns-2
+returns-2 c =
+    let z = c .before .before .before .before .before in
+    outcome-refused (open-short (z .args .book .now) (z .args .n) (z .args .own) (z .args .heights) (z .args .leaders .now) (sym (c .before .before .numbers-fit .ensures) ∙ c .before .if1 .taken) (not-long-enough (z .args .book .now) (z .args .heights) (c .if2 .left)))
+
+returns-3 : tie.Need-returns-3
+returns-3 c =
+    let z = c .before .before .before .before in
+    outcome-refused (open-unfit (z .args .book .now) (z .args .n) (z .args .own) (z .args .heights) (z .args .leaders .now) (sym (c .before .numbers-fit .ensures) ∙ c .if1 .left))
+
+pub open-spec : {M : Type 1} → statement M
+open-spec =
+    tie.close
+    (tie.spec
+    numbers-fit-requires
+    mul-if2
+    add-if2
+    new-book-requires
+    same-length
+    returns
+    returns-2
+    returns-3)

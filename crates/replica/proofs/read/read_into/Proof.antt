@@ -1,0 +1,48 @@
+-- `read_into` meets its contract: of a book that is not sound nothing is read.
+use native.Mathlib.Omega.{arith}
+use mathlib.Core.Path.{_≡_, refl}
+use mathlib.Core.Bool.{true, false}
+use Rattle.sha256.specs.Digest.{sha256}
+use Rattle.protocol.specs.Bytes.{zeros}
+use Rattle.protocol.specs.Sound.{sound}
+use Rattle.replica.specs.SoundBookLaws.{sound-book}
+use Rattle.replica.specs.ReadLaws.{read-unsound}
+use borrow.Author.Needs.{needs}
+use Rattle.replica.proofs.read.read_into.Statement.{statement}
+use Rattle.replica.proofs.read.read_into.Tie as tie
+
+slice-aggregate-sound : tie.Need-slice-aggregate-sound
+slice-aggregate-sound c = search needs
+
+sound-requires : tie.Need-sound-requires
+unfolding zeros
+sound-requires c κs = refl
+
+read-sound-requires : tie.Need-read-sound-requires
+read-sound-requires c κs =
+    let z = c .before .before .before .before .before .before .before in
+    let e : sound sha256 (z .args .book .now) ≡ true = cc in
+    sound-book (z .args .book .now) (λ i. omega (arith, c .before .before .before .before .before .before .shared-slice-known .given i)) e
+
+same-length : tie.Need-same-length
+same-length c = search needs
+
+returns : tie.Need-returns
+returns c = search needs
+
+returns-2 : tie.Need-returns-2
+returns-2 c =
+    let z = c .before .before .before .before .before .before in
+    let e : sound sha256 (z .args .book .now) ≡ false = cc in
+    read-unsound (z .args .book .now) (z .args .buffer .now) e
+
+pub read-into-spec : {M : Type 1} → statement M
+read-into-spec =
+    tie.close
+    (tie.spec
+    slice-aggregate-sound
+    sound-requires
+    read-sound-requires
+    same-length
+    returns
+    returns-2)

@@ -1,0 +1,22 @@
+-- What a call goes by once it has found its book sound.
+use Prim.Native.Nat.{_≤_, _<_}
+use mathlib.Core.Path.{_≡_}
+use mathlib.Core.Bool.{true}
+use Rattle.sha256.specs.Digest.{sha256}
+use Rattle.protocol.specs.Bytes.{Bytes, byteAt}
+use Rattle.protocol.specs.State.{decode}
+use Rattle.protocol.specs.Sound.{sound}
+use Rattle.fields.specs.Ready.{Sized, Ready}
+use Rattle.state.specs.Memo.{Readable}
+
+pub record SoundBook (book : Bytes) : Type 0 where
+  pub is-sound : sound sha256 book ≡ true
+  pub ready : Ready book
+  pub sized : Sized book
+  pub readable : Readable book
+  -- the numbers of the head
+  pub replicas : decode book .n ≤ 16
+  pub flags : decode book .flags < 16
+  pub current : decode book .current ≤ 64
+  pub finalized : decode book .finalized ≤ byteAt book 2
+  pub pending : decode book .pendingCount ≤ 32

@@ -1,0 +1,71 @@
+// Register size and Read: the log of a sound book, by length and by bytes.
+use answers::answer::Size;
+ghost use mathlib.Core.Path.{_≡_};
+ghost use Prim.Native.Nat.{_*_, _≤_};
+ghost use lib.ListN.{length};
+ghost use Rattle.sha256.specs.Digest.{sha256 as sha};
+ghost use Rattle.protocol.specs.State.{decode};
+ghost use Rattle.protocol.specs.Sound.{log};
+ghost use Rattle.protocol.specs.Read.{sizeCall, readPart, readBuffer};
+ghost use Rattle.answers.specs.Answers.{sizeAnswer};
+ghost use Rattle.replica.specs.SoundBook.{SoundBook};
+
+// How many entries the log of a sound book has. Reads two bytes of each of its blocks, 63 at most.
+fn log_count(book: &[u8]) -> usize
+    requires { ⌜ SoundBook (now book) ⌝ }
+    ensures { λ r. ⌜ (r ≡ length (log (decode (now (book .entry))))) × (r ≤ 504) ⌝ }
+{
+    let finalized = fields::head::finalized(book);
+    state::entries::chain_entries(book, finalized)
+}
+
+// The length of the log in bytes. Reads the book once to see that it is sound.
+pub fn size(book: &[u8]) -> Size
+    ensures { λ r. ⌜ sizeAnswer r ≡ sizeCall sha (now (book .entry)) ⌝ }
+{
+    let mut known = [0u8; 64];
+    if state::sound::sound(book, &mut known) {
+        let count = log_count(book);
+        Size::Bytes(16 * count)
+    } else {
+        Size::Refused(1)
+    }
+}
+
+// Copies the log of a sound book to the front of the buffer, if the buffer is long enough, and says how many bytes it wrote.
+fn read_sound(book: &[u8], buffer: &mut [u8]) -> usize
+    requires { ⌜ SoundBook (now book) ⌝ }
+    ensures length { λ r. ⌜ r ≡ length (readPart sha (now (book .entry)) (now (buffer .entry))) ⌝ }
+    ensures buffer { λ _. ⌜ now (buffer .exit) ≡ readBuffer sha (now (book .entry)) (now (buffer .entry)) ⌝ }
+{
+    let finalized = fields::head::finalized(book);
+    let count = log_count(book);
+    if 16 * count <= buffer.len() {
+        state::entries::copy_chain(book, finalized, count, buffer);
+        16 * count
+    } else {
+        0
+    }
+}
+
+// Copies the log to the front of the buffer and says how many bytes it wrote: none where the book is not sound or the
+// buffer is too short. Reads the book once to see that it is sound.
+pub fn read_into(book: &[u8], buffer: &mut [u8]) -> usize
+    ensures length { λ r. ⌜ r ≡ length (readPart sha (now (book .entry)) (now (buffer .entry))) ⌝ }
+    ensures buffer { λ _. ⌜ now (buffer .exit) ≡ readBuffer sha (now (book .entry)) (now (buffer .entry)) ⌝ }
+{
+    let mut known = [0u8; 64];
+    if state::sound::sound(book, &mut known) {
+        read_sound(book, buffer)
+    } else {
+        0
+    }
+}
+
+// The log in the front part of the lent buffer, or an empty part where the book is not sound or the buffer is too short.
+pub fn read<'a>(book: &[u8], buffer: &'a mut [u8]) -> &'a mut [u8]
+    ensures { λ r. ⌜ now r ≡ readPart sha (now (book .entry)) (now (buffer .entry)) ⌝ }
+{
+    let count = read_into(book, buffer);
+    &mut buffer[..count]
+}

@@ -1,0 +1,64 @@
+// Signal: the timer of the current height has fired.
+use answers::answer::Answer;
+use crate::range::in_book;
+ghost use mathlib.Core.Path.{_≡_};
+ghost use mathlib.Core.Bool.{_&&_, not};
+ghost use lib.Dec.{eqb};
+ghost use Rattle.sha256.specs.Digest.{sha256 as sha};
+ghost use Rattle.protocol.specs.State.{decode, encode, flag};
+ghost use Rattle.protocol.specs.Signal.{withTimerFired, signalCall};
+ghost use Rattle.fields.specs.Ready.{Sized};
+ghost use Rattle.answers.specs.Answers.{doneAnswer};
+ghost use Rattle.replica.specs.SoundBook.{SoundBook};
+
+// Whether the height is the current one and its timer has not fired yet.
+fn timer_runs(book: &[u8], height: usize) -> bool
+    requires { ⌜ Sized (now book) ⌝ }
+    ensures { λ r. ⌜ r ≡ (eqb height (decode (now (book .entry)) .current) && not (flag 1 (decode (now (book .entry))))) ⌝ }
+{
+    let current = fields::head::current(book);
+    let flags = fields::head::flags(book);
+    (height == current) & (flags % 2 != 1)
+}
+
+// Sets the timer's flag of a sound book.
+fn fire(book: &mut [u8])
+    requires { ⌜ SoundBook (now book) ⌝ }
+    ensures { λ _. ⌜ now (book .exit) ≡ encode (withTimerFired (decode (now (book .entry)))) ⌝ }
+{
+    let flags = fields::head::flags(book);
+    let current = fields::head::current(book);
+    let finalized = fields::head::finalized(book);
+    fields::head::set_head(book, flags + 1, current, finalized);
+}
+
+// The signal to a sound book.
+fn signal_sound(book: &mut [u8], height: usize) -> Answer
+    requires { ⌜ SoundBook (now book) ⌝ }
+    ensures answer { λ r. ⌜ doneAnswer r ≡ signalCall sha (now (book .entry)) height .answer ⌝ }
+    ensures book { λ _. ⌜ now (book .exit) ≡ signalCall sha (now (book .entry)) height .book ⌝ }
+{
+    if in_book(book, height) {
+        if timer_runs(book, height) {
+            fire(book);
+            Answer::Done
+        } else {
+            Answer::Refused(14)
+        }
+    } else {
+        Answer::Refused(6)
+    }
+}
+
+// The timer of the current height has fired. Reads the book once to see that it is sound, and stores three bytes.
+pub fn signal(book: &mut [u8], height: usize) -> Answer
+    ensures answer { λ r. ⌜ doneAnswer r ≡ signalCall sha (now (book .entry)) height .answer ⌝ }
+    ensures book { λ _. ⌜ now (book .exit) ≡ signalCall sha (now (book .entry)) height .book ⌝ }
+{
+    let mut known = [0u8; 64];
+    if state::sound::sound(book, &mut known) {
+        signal_sound(book, height)
+    } else {
+        Answer::Refused(1)
+    }
+}

@@ -1,0 +1,72 @@
+// Submit: one more pending entry, after those that the log holds are dropped.
+use answers::answer::Answer;
+ghost use mathlib.Core.Path.{_≡_};
+ghost use mathlib.Core.Bool.{false, _||_};
+ghost use lib.ListN.{length};
+ghost use Rattle.sha256.specs.Digest.{sha256 as sha};
+ghost use Rattle.protocol.specs.Bytes.{holds};
+ghost use Rattle.protocol.specs.State.{decode, pending};
+ghost use Rattle.protocol.specs.Sound.{log};
+ghost use Rattle.protocol.specs.Submit.{submitCall};
+ghost use Rattle.answers.specs.Answers.{doneAnswer};
+ghost use Rattle.replica.specs.SoundBook.{SoundBook};
+
+// Whether an entry is pending or in the log. Compares it with those pending, 32 at most, and with the log.
+fn is_known(book: &[u8], entry: &[u8]) -> bool
+    requires { ⌜ SoundBook (now book) ⌝ }
+    ensures { λ r. ⌜ r ≡ (holds (now (entry .entry)) (pending (decode (now (book .entry)))) || holds (now (entry .entry)) (log (decode (now (book .entry))))) ⌝ }
+{
+    if state::entries::is_pending(book, entry) {
+        true
+    } else {
+        let finalized = fields::head::finalized(book);
+        state::entries::chain_holds(book, finalized, entry)
+    }
+}
+
+// Keeps an entry that is new to a sound book, if there is a place for it.
+fn submit_new(book: &mut [u8], entry: &[u8]) -> Answer
+    requires { ⌜ SoundBook (now book) ⌝ }
+    requires { ⌜ length (now entry) ≡ 16 ⌝ }
+    requires { ⌜ (holds (now entry) (pending (decode (now book))) || holds (now entry) (log (decode (now book)))) ≡ false ⌝ }
+    ensures answer { λ r. ⌜ doneAnswer r ≡ submitCall sha (now (book .entry)) (now (entry .entry)) .answer ⌝ }
+    ensures book { λ _. ⌜ now (book .exit) ≡ submitCall sha (now (book .entry)) (now (entry .entry)) .book ⌝ }
+{
+    let count = state::entries::unlogged_count(book);
+    if count < 32 {
+        state::entries::keep_unlogged(book, entry);
+        Answer::Done
+    } else {
+        Answer::Refused(12)
+    }
+}
+
+// An entry for a sound book.
+fn submit_sound(book: &mut [u8], entry: &[u8]) -> Answer
+    requires { ⌜ SoundBook (now book) ⌝ }
+    ensures answer { λ r. ⌜ doneAnswer r ≡ submitCall sha (now (book .entry)) (now (entry .entry)) .answer ⌝ }
+    ensures book { λ _. ⌜ now (book .exit) ≡ submitCall sha (now (book .entry)) (now (entry .entry)) .book ⌝ }
+{
+    if entry.len() == 16 {
+        if is_known(book, entry) {
+            Answer::Refused(13)
+        } else {
+            submit_new(book, entry)
+        }
+    } else {
+        Answer::Refused(4)
+    }
+}
+
+// One more pending entry. Reads the book once to see that it is sound, and walks the log twice for each pending entry.
+pub fn submit(book: &mut [u8], entry: &[u8]) -> Answer
+    ensures answer { λ r. ⌜ doneAnswer r ≡ submitCall sha (now (book .entry)) (now (entry .entry)) .answer ⌝ }
+    ensures book { λ _. ⌜ now (book .exit) ≡ submitCall sha (now (book .entry)) (now (entry .entry)) .book ⌝ }
+{
+    let mut known = [0u8; 64];
+    if state::sound::sound(book, &mut known) {
+        submit_sound(book, entry)
+    } else {
+        Answer::Refused(1)
+    }
+}
