@@ -1,8 +1,8 @@
 // Deliver: reads a frame over the book, and keeps what it states.
-use answers::answer::Delivered;
 use crate::clash::clash_refusal;
 use crate::keep::keep;
 use crate::refuse::read_refusal;
+use answers::answer::Delivered;
 use wire::frame::frame_height;
 ghost use mathlib.Core.Path.{_≡_};
 ghost use mathlib.Core.Bool.{true};

@@ -31,7 +31,7 @@ pub fn flag(book: &[u8], k: usize) -> bool
     fields::head::flags(book) / k % 2 == 1
 }
 
-// The best chain of the height below the current one.
+// The best chain of the height below the current one. The memory keeps each height from a second digest.
 fn chain_below(book: &[u8], known: &mut [u8]) -> Parent
     requires { ⌜ Movable (now book) ⌝ }
     requires { ⌜ Memo (now book) (now known) ⌝ }

@@ -1,5 +1,4 @@
 // Move: the first of the five moves that applies is made, and the call says which.
-use answers::answer::Moved;
 use crate::applies::block_vote_applies;
 use crate::applies::dummy_vote_applies;
 use crate::applies::new_finalized;
@@ -10,6 +9,7 @@ use crate::steps::cast_dummy_vote;
 use crate::steps::pass;
 use crate::steps::propose;
 use crate::steps::settle;
+use answers::answer::Moved;
 ghost use mathlib.Core.Path.{_≡_};
 ghost use Prim.Native.Nat.{_≤_};
 ghost use lib.ListN.{length};
@@ -58,6 +58,7 @@ fn step(book: &mut [u8], reply: &mut [u8], known: &mut [u8]) -> Moved
 }
 
 // Move. Refuses with 1 a book that is not sound, and with 3 a reply of less than 448 bytes; a refused call changes nothing.
+// Costs one pass over the book, at most one digest for each height, and one for a proposal or a vote.
 pub fn make_move(book: &mut [u8], reply: &mut [u8]) -> Moved
     ensures answer { λ r. ⌜ movedAnswer r ≡ moveCall sha (now (book .entry)) (now (reply .entry)) .answer ⌝ }
     ensures book { λ _. ⌜ now (book .exit) ≡ moveCall sha (now (book .entry)) (now (reply .entry)) .book ⌝ }

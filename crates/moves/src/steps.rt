@@ -1,8 +1,8 @@
 // The steps that the moves take: each writes its frames to the front of the reply and the new head to the book.
-use answers::answer::Certificate;
-use answers::answer::Moved;
 use crate::applies::flag;
 use crate::applies::parent_below;
+use answers::answer::Certificate;
+use answers::answer::Moved;
 use fields::head::current;
 use fields::head::finalized;
 use fields::head::flags;
@@ -26,7 +26,7 @@ ghost use Rattle.state.specs.Walkable.{Walkable};
 ghost use Rattle.answers.specs.Answers.{movedAnswer, certificateOf};
 ghost use Rattle.moves.specs.Movable.{Movable, Took};
 
-// Move 1: casts the dummy vote.
+// Move 1: casts the dummy vote. Costs 224 stores to the reply and three to the book.
 pub fn cast_dummy_vote(book: &mut [u8], reply: &mut [u8]) -> Moved
     requires { ⌜ Movable (now book) ⌝ }
     requires { ⌜ 448 ≤ length (now reply) ⌝ }
@@ -40,7 +40,7 @@ pub fn cast_dummy_vote(book: &mut [u8], reply: &mut [u8]) -> Moved
     Moved::Dummy(c)
 }
 
-// Move 2: makes `g` the finalized height. It writes no frame.
+// Move 2: makes `g` the finalized height. It writes no frame. Costs three stores.
 pub fn settle(book: &mut [u8], g: usize) -> Moved
     requires { ⌜ Movable (now book) ⌝ }
     requires { ⌜ g ≡ newFinalized sha (decode (now book)) ⌝ }
@@ -55,6 +55,7 @@ pub fn settle(book: &mut [u8], g: usize) -> Moved
 }
 
 // Writes the certificate that a pass goes by: the block's where the current height is linked, else the dummy block's.
+// Costs 224 stores; the memory spares a second walk.
 fn write_pass_certificate(book: &[u8], reply: &mut [u8], known: &mut [u8]) -> Certificate
     requires { ⌜ Movable (now book) ⌝ }
     requires { ⌜ Memo (now book) (now known) ⌝ }
@@ -75,6 +76,7 @@ fn write_pass_certificate(book: &[u8], reply: &mut [u8], known: &mut [u8]) -> Ce
 }
 
 // Writes a pass's second frame, from byte 224 on: a finalize statement where the timer has not fired, else zero bytes.
+// Costs 224 stores.
 fn write_pass_finalize(book: &[u8], reply: &mut [u8]) -> bool
     requires { ⌜ Movable (now book) ⌝ }
     requires { ⌜ 448 ≤ length (now reply) ⌝ }
@@ -92,7 +94,7 @@ fn write_pass_finalize(book: &[u8], reply: &mut [u8]) -> bool
     }
 }
 
-// Move 3: passes to the next height, with the timer and the flags anew.
+// Move 3: passes to the next height, with the timer and the flags anew. Costs 448 stores to the reply and three to the book.
 pub fn pass(book: &mut [u8], reply: &mut [u8], known: &mut [u8]) -> Moved
     requires { ⌜ Movable (now book) ⌝ }
     requires { ⌜ Memo (now book) (now known) ⌝ }
@@ -108,7 +110,7 @@ pub fn pass(book: &mut [u8], reply: &mut [u8], known: &mut [u8]) -> Moved
     Moved::Pass(c, certificate, finalised)
 }
 
-// The digest that a block on the block of height `j` names: zeros for height 0.
+// The digest that a block on the block of height `j` names: zeros for height 0. One digest.
 fn parent_digest(book: &[u8], j: usize) -> [u8; 32]
     requires { ⌜ Movable (now book) ⌝ }
     requires { ⌜ j ≤ byteAt (now book) 2 ⌝ }
@@ -122,6 +124,7 @@ fn parent_digest(book: &[u8], j: usize) -> [u8; 32]
 }
 
 // Writes a proposal of a block on the block of height `j`: the frame first, and the block, with its entries, in its place.
+// Costs one digest, and a walk of the chain for each pending entry, 32 at most.
 fn write_proposal(book: &[u8], reply: &mut [u8], j: usize)
     requires { ⌜ Movable (now book) ⌝ }
     requires { ⌜ Walkable (now book) j ⌝ }
@@ -153,7 +156,7 @@ pub fn propose(book: &mut [u8], reply: &mut [u8], known: &mut [u8]) -> Moved
     Moved::Offer(c)
 }
 
-// Move 5: votes for the held proposal by its digest.
+// Move 5: votes for the held proposal by its digest. Costs one digest and 224 stores.
 pub fn cast_block_vote(book: &mut [u8], reply: &mut [u8]) -> Moved
     requires { ⌜ Movable (now book) ⌝ }
     requires { ⌜ decode (now book) .current ≤ byteAt (now book) 2 ⌝ }

@@ -1,10 +1,10 @@
 // The lines: the call, what is tried in quotes, what it answered, and whether a lent buffer changed.
-use libc::STDOUT_FILENO;
 use answers::answer::Answer;
 use answers::answer::Certificate;
 use answers::answer::Delivered;
 use answers::answer::Moved;
 use answers::answer::Size;
+use libc::STDOUT_FILENO;
 
 fn wide(x: usize) -> u64 {
     x as u64

@@ -1,8 +1,8 @@
 // The lines of the rehearsal: what a delivery or a move answered.
-use libc::STDOUT_FILENO;
 use answers::answer::Certificate;
 use answers::answer::Delivered;
 use answers::answer::Moved;
+use libc::STDOUT_FILENO;
 
 fn wide(x: usize) -> u64 {
     x as u64

@@ -1,6 +1,6 @@
 // Fetch: the certificate of a kind and a height, for sending.
-use answers::answer::Answer;
 use crate::range::in_book;
+use answers::answer::Answer;
 ghost use mathlib.Core.Path.{_≡_};
 ghost use mathlib.Core.Bool.{true};
 ghost use Prim.Native.Nat.{_≤_};

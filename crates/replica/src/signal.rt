@@ -1,6 +1,6 @@
 // Signal: the timer of the current height has fired.
-use answers::answer::Answer;
 use crate::range::in_book;
+use answers::answer::Answer;
 ghost use mathlib.Core.Path.{_≡_};
 ghost use mathlib.Core.Bool.{_&&_, not};
 ghost use lib.Dec.{eqb};

@@ -1,9 +1,9 @@
 // What the season prints: numbers, words, what a call answered, digests and entries.
-use libc::STDOUT_FILENO;
 use answers::answer::Answer;
 use answers::answer::Certificate;
 use answers::answer::Delivered;
 use answers::answer::Moved;
+use libc::STDOUT_FILENO;
 
 fn wide(x: usize) -> u64 {
     x as u64

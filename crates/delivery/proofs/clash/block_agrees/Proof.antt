@@ -41,4 +41,14 @@ unfolding blockAgrees implies
 returns-3 c = rw (ne-eqb (kind (c .before .before .before .before .args .frame .now)) 5 (λ e. c .if1 .left (c .before .frame-kind .ensures .0 ∙ e)))
 
 pub block-agrees-spec : {M : Type 1} → statement M
-block-agrees-spec = tie.close (tie.spec frame-kind-requires is-notarized-requires notarized-requires frame-block-requires same-bytes-requires returns returns-2 returns-3)
+block-agrees-spec =
+    tie.close
+    (tie.spec
+    frame-kind-requires
+    is-notarized-requires
+    notarized-requires
+    frame-block-requires
+    same-bytes-requires
+    returns
+    returns-2
+    returns-3)

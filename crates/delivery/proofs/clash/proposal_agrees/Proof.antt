@@ -41,4 +41,14 @@ unfolding proposalAgrees implies
 returns-3 c = rw (ne-eqb (kind (c .before .before .before .before .args .frame .now)) 1 (λ e. c .if1 .left (c .before .frame-kind .ensures .0 ∙ e)))
 
 pub proposal-agrees-spec : {M : Type 1} → statement M
-proposal-agrees-spec = tie.close (tie.spec frame-kind-requires holds-proposal-requires proposal-requires frame-block-requires same-bytes-requires returns returns-2 returns-3)
+proposal-agrees-spec =
+    tie.close
+    (tie.spec
+    frame-kind-requires
+    holds-proposal-requires
+    proposal-requires
+    frame-block-requires
+    same-bytes-requires
+    returns
+    returns-2
+    returns-3)

@@ -68,4 +68,16 @@ unfolding voteAgrees implies
 returns-3 c = rw (ne-eqb (kind (c .before .before .before .before .args .frame .now)) 2 (λ e. c .if1 .left (c .before .frame-kind .ensures .0 ∙ e)))
 
 pub vote-agrees-spec : {M : Type 1} → statement M
-vote-agrees-spec = tie.close (tie.spec frame-kind-requires frame-signer-requires voter-mask-requires in-mask-requires vote-digest-requires frame-digest-requires same-bytes-requires returns returns-2 returns-3)
+vote-agrees-spec =
+    tie.close
+    (tie.spec
+    frame-kind-requires
+    frame-signer-requires
+    voter-mask-requires
+    in-mask-requires
+    vote-digest-requires
+    frame-digest-requires
+    same-bytes-requires
+    returns
+    returns-2
+    returns-3)

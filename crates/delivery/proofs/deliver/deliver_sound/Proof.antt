@@ -19,14 +19,16 @@ frame-height-requires c κs =
     let start = c .before .before .before .before .before .before in
     let book = start .args .book .now in
     let frame = start .args .frame .now in
-    frame-size sha256 book frame (λ i. omega (arith, c .before .before .before .before .before .slice-known .given i)) (start .pre) (zero-passes _ _ (c .before .before .read-refusal .ensures) (c .before .if1 .taken))
+    let passes = zero-passes _ _ (c .before .before .read-refusal .ensures) (c .before .if1 .taken) in
+    frame-size sha256 book frame (λ i. omega (arith, c .before .before .before .before .before .slice-known .given i)) (start .pre) passes
 
 deliver-read-requires : tie.Need-deliver-read-requires
 deliver-read-requires c κs =
     let start = c .before .before .before .before .before .before .before in
     let book = start .args .book .now in
     let frame = start .args .frame .now in
-    frame-read sha256 book frame (λ i. omega (arith, c .before .before .before .before .before .before .slice-known .given i)) (start .pre) (zero-passes _ _ (c .before .before .before .read-refusal .ensures) (c .before .before .if1 .taken)) _ (c .frame-height .ensures .0)
+    let passes = zero-passes _ _ (c .before .before .before .read-refusal .ensures) (c .before .before .if1 .taken) in
+    frame-read sha256 book frame (λ i. omega (arith, c .before .before .before .before .before .before .slice-known .given i)) (start .pre) passes _ (c .frame-height .ensures .0)
 
 same-length : tie.Need-same-length
 same-length c = search needs
@@ -51,4 +53,13 @@ returns-2 c =
     rw (call-refused sha256 book frame _ (start .pre) (number-refuses _ _ (c .before .read-refusal .ensures) (c .if1 .left))) (refl, refl)
 
 pub deliver-sound-spec : {M : Type 1} → statement M
-deliver-sound-spec = tie.close (tie.spec read-refusal-requires frame-height-requires deliver-read-requires same-length returns same-length-2 returns-2)
+deliver-sound-spec =
+    tie.close
+    (tie.spec
+    read-refusal-requires
+    frame-height-requires
+    deliver-read-requires
+    same-length
+    returns
+    same-length-2
+    returns-2)

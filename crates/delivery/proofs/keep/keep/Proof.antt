@@ -128,8 +128,33 @@ returns-7 c =
     let start = c .before .before .before .before .before .before .before .before .before .before .before .before .before in
     let book = start .args .book .now in
     let h = start .args .h in
-    let decides = kind-other sha256 (decode book) h (start .args .frame .now) (start .pre .height) (omega (arith, c .before .before .before .before .before .before .before .before .before .before .frame-kind .ensures .0, start .pre .kind-low)) in
+    let kind = c .before .before .before .before .before .before .before .before .before .before .frame-kind .ensures .0 in
+    let decides = kind-other sha256 (decode book) h (start .args .frame .now) (start .pre .height) (omega (arith, kind, start .pre .kind-low)) in
     same-kept book h _ _ _ _ decides (c .before .before .keep-finalize-certificate .ensures)
 
 pub keep-spec : {M : Type 1} → statement M
-keep-spec = tie.close (tie.spec frame-kind-requires keep-proposal-requires same-length returns keep-block-vote-requires same-length-2 returns-2 keep-dummy-vote-requires same-length-3 returns-3 keep-finalize-requires same-length-4 returns-4 keep-block-certificate-requires same-length-5 returns-5 keep-dummy-certificate-requires same-length-6 returns-6 keep-finalize-certificate-requires same-length-7 returns-7)
+keep-spec =
+    tie.close
+    (tie.spec
+    frame-kind-requires
+    keep-proposal-requires
+    same-length
+    returns
+    keep-block-vote-requires
+    same-length-2
+    returns-2
+    keep-dummy-vote-requires
+    same-length-3
+    returns-3
+    keep-finalize-requires
+    same-length-4
+    returns-4
+    keep-block-certificate-requires
+    same-length-5
+    returns-5
+    keep-dummy-certificate-requires
+    same-length-6
+    returns-6
+    keep-finalize-certificate-requires
+    same-length-7
+    returns-7)

@@ -46,8 +46,20 @@ returns-2 c =
     let book = start .args .book .now in
     let h = start .args .h in
     let x = at (decode book) h in
-    new-frame book h _ _ _ (sym (branch .before .is-notarized .ensures) ∙ branch .if1 .left)
-    (c .before .before .keep-notarized .ensures ∙ ap₂ (λ (mask : ℕ) (block : Bytes). encode (withHeight (decode book) h (withNotarized x mask block))) (c .before .before .before .before .frame-mask .ensures .0) (c .before .before .before .frame-block .ensures .0))
+    let free = sym (branch .before .is-notarized .ensures) ∙ branch .if1 .left in
+    let signed = c .before .before .before .before .frame-mask .ensures .0 in
+    let carried = c .before .before .before .frame-block .ensures .0 in
+    new-frame book h _ _ _ free (c .before .before .keep-notarized .ensures ∙ ap₂ (λ (mask : ℕ) (block : Bytes). encode (withHeight (decode book) h (withNotarized x mask block))) signed carried)
 
 pub keep-block-certificate-spec : {M : Type 1} → statement M
-keep-block-certificate-spec = tie.close (tie.spec is-notarized-requires frame-mask-requires frame-block-requires keep-notarized-requires same-length returns same-length-2 returns-2)
+keep-block-certificate-spec =
+    tie.close
+    (tie.spec
+    is-notarized-requires
+    frame-mask-requires
+    frame-block-requires
+    keep-notarized-requires
+    same-length
+    returns
+    same-length-2
+    returns-2)

@@ -52,7 +52,8 @@ notarize-requires c κs =
     let given = start .pre .0 in
     let x = at (decode book) h in
     let signed = c .before .before .before .before .before .before .before .before .before .before .frame-signer .ensures .0 in
-    let fits = shaped-vote x (c .before .before .before .before .before .before .before .before .before .before .frame-signer .result) _ (omega (arith, signed, start .pre .1, given .spot .readable .replicas)) (c .before .before .before .before .frame-digest .ensures .1) (shaped-here book h (given .spot)) in
+    let here = c .before .before .before .before .before .before .before .before .before .before .frame-signer .result in
+    let fits = shaped-vote x here _ (omega (arith, signed, start .pre .1, given .spot .readable .replicas)) (c .before .before .before .before .frame-digest .ensures .1) (shaped-here book h (given .spot)) in
     spot-after book h (given .spot) _ fits _ (c .before .before .before .keep-vote .ensures) (vote-status x _ _ (given .spot .status-small))
 
 same-length : tie.Need-same-length
@@ -85,10 +86,23 @@ returns-2 c =
     let signed = branch .before .before .before .before .frame-signer .ensures .0 in
     let missing = same-bit held signed (branch .before .in-mask .ensures) ∙ branch .if1 .left in
     let named = c .before .before .before .before .before .before .before .frame-digest .ensures in
-    let fits = shaped-vote x (branch .before .before .before .before .frame-signer .result) _ (omega (arith, signed, start .pre .1, given .spot .readable .replicas)) (named .1) (shaped-here book h (given .spot)) in
+    let here = branch .before .before .before .before .frame-signer .result in
+    let fits = shaped-vote x here _ (omega (arith, signed, start .pre .1, given .spot .readable .replicas)) (named .1) (shaped-here book h (given .spot)) in
     let counted = notarized-after book h (given .spot) _ fits sha256 _ _ (c .before .before .before .before .before .before .keep-vote .ensures) (c .before .before .notarize .ensures) in
     new-frame book h _ _ _ missing
     (counted ∙ ap₂ (λ (k : ℕ) (digest : Bytes). encode (withHeight (decode book) h (notarize sha256 (view (decode book)) (withVote x k digest)))) signed (named .0))
 
 pub keep-block-vote-spec : {M : Type 1} → statement M
-keep-block-vote-spec = tie.close (tie.spec frame-signer-requires voter-mask-requires in-mask-requires frame-digest-requires keep-vote-requires notarize-requires same-length returns same-length-2 returns-2)
+keep-block-vote-spec =
+    tie.close
+    (tie.spec
+    frame-signer-requires
+    voter-mask-requires
+    in-mask-requires
+    frame-digest-requires
+    keep-vote-requires
+    notarize-requires
+    same-length
+    returns
+    same-length-2
+    returns-2)

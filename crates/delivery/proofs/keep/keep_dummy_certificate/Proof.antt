@@ -54,4 +54,13 @@ returns-2 c =
     new-frame book h _ _ _ more (c .before .before .keep-dummy-mask .ensures ∙ ap (λ (mask : ℕ). encode (withHeight (decode book) h (withMasks x mask (x .finalizeMask)))) joined)
 
 pub keep-dummy-certificate-spec : {M : Type 1} → statement M
-keep-dummy-certificate-spec = tie.close (tie.spec dummy-mask-requires frame-mask-requires keep-dummy-mask-requires same-length returns same-length-2 returns-2)
+keep-dummy-certificate-spec =
+    tie.close
+    (tie.spec
+    dummy-mask-requires
+    frame-mask-requires
+    keep-dummy-mask-requires
+    same-length
+    returns
+    same-length-2
+    returns-2)

@@ -79,4 +79,16 @@ returns-2 c =
     new-frame book h _ _ _ missing (c .before .before .keep-dummy-mask .ensures ∙ ap (λ (mask : ℕ). encode (withHeight (decode book) h (withMasks x mask (x .finalizeMask)))) sum)
 
 pub keep-dummy-vote-spec : {M : Type 1} → statement M
-keep-dummy-vote-spec = tie.close (tie.spec dummy-mask-requires frame-signer-requires in-mask-requires bit-requires add-keep-dummy-mask keep-dummy-mask-requires same-length returns same-length-2 returns-2)
+keep-dummy-vote-spec =
+    tie.close
+    (tie.spec
+    dummy-mask-requires
+    frame-signer-requires
+    in-mask-requires
+    bit-requires
+    add-keep-dummy-mask
+    keep-dummy-mask-requires
+    same-length
+    returns
+    same-length-2
+    returns-2)

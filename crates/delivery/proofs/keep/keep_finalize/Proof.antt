@@ -79,4 +79,16 @@ returns-2 c =
     new-frame book h _ _ _ missing (c .before .before .keep-finalize-mask .ensures ∙ ap (λ (mask : ℕ). encode (withHeight (decode book) h (withMasks x (x .dummyMask) mask))) sum)
 
 pub keep-finalize-spec : {M : Type 1} → statement M
-keep-finalize-spec = tie.close (tie.spec finalize-mask-requires frame-signer-requires in-mask-requires bit-requires add-keep-finalize-mask keep-finalize-mask-requires same-length returns same-length-2 returns-2)
+keep-finalize-spec =
+    tie.close
+    (tie.spec
+    finalize-mask-requires
+    frame-signer-requires
+    in-mask-requires
+    bit-requires
+    add-keep-finalize-mask
+    keep-finalize-mask-requires
+    same-length
+    returns
+    same-length-2
+    returns-2)

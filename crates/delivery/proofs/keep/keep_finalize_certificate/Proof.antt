@@ -54,4 +54,13 @@ returns-2 c =
     new-frame book h _ _ _ more (c .before .before .keep-finalize-mask .ensures ∙ ap (λ (mask : ℕ). encode (withHeight (decode book) h (withMasks x (x .dummyMask) mask))) joined)
 
 pub keep-finalize-certificate-spec : {M : Type 1} → statement M
-keep-finalize-certificate-spec = tie.close (tie.spec finalize-mask-requires frame-mask-requires keep-finalize-mask-requires same-length returns same-length-2 returns-2)
+keep-finalize-certificate-spec =
+    tie.close
+    (tie.spec
+    finalize-mask-requires
+    frame-mask-requires
+    keep-finalize-mask-requires
+    same-length
+    returns
+    same-length-2
+    returns-2)

@@ -62,4 +62,14 @@ returns-2 c =
     new-frame book h _ _ _ free (counted ∙ ap (λ (block : Bytes). encode (withHeight (decode book) h (notarize sha256 (view (decode book)) (withProposal x block)))) (carried .0))
 
 pub keep-proposal-spec : {M : Type 1} → statement M
-keep-proposal-spec = tie.close (tie.spec holds-proposal-requires frame-block-requires keep-proposal-requires notarize-requires same-length returns same-length-2 returns-2)
+keep-proposal-spec =
+    tie.close
+    (tie.spec
+    holds-proposal-requires
+    frame-block-requires
+    keep-proposal-requires
+    notarize-requires
+    same-length
+    returns
+    same-length-2
+    returns-2)

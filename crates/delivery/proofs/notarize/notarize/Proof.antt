@@ -59,4 +59,16 @@ returns-3 c =
     sym (ap (λ (y : Height). encode (withHeight (decode book) h y)) stays ∙ same-book book h (start .pre))
 
 pub notarize-spec : {M : Type 1} → statement M
-notarize-spec = tie.close (tie.spec awaits-votes-requires proposal-voters-requires quorum-requires notarize-held-requires same-length returns same-length-2 returns-2 same-length-3 returns-3)
+notarize-spec =
+    tie.close
+    (tie.spec
+    awaits-votes-requires
+    proposal-voters-requires
+    quorum-requires
+    notarize-held-requires
+    same-length
+    returns
+    same-length-2
+    returns-2
+    same-length-3
+    returns-3)

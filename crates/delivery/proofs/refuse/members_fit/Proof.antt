@@ -33,4 +33,13 @@ returns-2 c =
     (c .below .ensures ∙ ap₂ (λ (n mask : ℕ). belowBit n mask) (c .before .before .before .before .replicas .ensures .0) (c .before .frame-mask .ensures .0))
 
 pub members-fit-spec : {M : Type 1} → statement M
-members-fit-spec = tie.close (tie.spec replicas-requires is-statement-requires frame-signer-requires frame-mask-requires below-requires returns returns-2)
+members-fit-spec =
+    tie.close
+    (tie.spec
+    replicas-requires
+    is-statement-requires
+    frame-signer-requires
+    frame-mask-requires
+    below-requires
+    returns
+    returns-2)

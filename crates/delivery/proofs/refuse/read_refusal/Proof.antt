@@ -75,4 +75,14 @@ returns-4 c =
     sym (read-malformed (decode book) frame (sym (c .before .frame-well-formed .ensures) ∙ c .if1 .left))
 
 pub read-refusal-spec : {M : Type 1} → statement M
-read-refusal-spec = tie.close (tie.spec frame-well-formed-requires frame-height-requires heights-requires member-refusal-requires returns returns-2 returns-3 returns-4)
+read-refusal-spec =
+    tie.close
+    (tie.spec
+    frame-well-formed-requires
+    frame-height-requires
+    heights-requires
+    member-refusal-requires
+    returns
+    returns-2
+    returns-3
+    returns-4)
