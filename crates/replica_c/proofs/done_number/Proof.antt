@@ -1,0 +1,27 @@
+-- `done_number` meets its contract: each case of the answer is packed as the definition says.
+use mathlib.Core.Path.{sym, ap}
+use Rattle.answers.specs.Answers.{doneAnswer}
+use Rattle.answers.specs.declared.answer.Answer.{Answer}
+use Rattle.replica_c.specs.Packing.{packedDone}
+use borrow.Author.Needs.{needs}
+use Rattle.replica_c.proofs.done_number.Statement.{statement}
+use Rattle.replica_c.proofs.done_number.Tie as tie
+use Rattle.replica_c.proofs.done_number.Reads as reads
+use Rattle.replica_c.proofs.done_number.Lts as lts
+
+enum-told : tie.Need-enum-told
+enum-told c = search needs
+
+enum-known-answer : tie.Need-enum-known-answer
+enum-known-answer c = search needs
+
+returns : tie.Need-returns
+unfolding packedDone doneAnswer
+returns c = ap (λ (a : Answer). packedDone (doneAnswer a)) (sym (c .enum-told .given .1))
+
+returns-2 : tie.Need-returns-2
+unfolding packedDone doneAnswer
+returns-2 c = ap (λ (a : Answer). packedDone (doneAnswer a)) (sym (c .before .answer .given .1))
+
+pub done-number-spec : {M : Type 1} → statement M
+done-number-spec = tie.close (tie.spec enum-told enum-known-answer returns returns-2)

@@ -1,0 +1,28 @@
+-- `mavunilai_deliver` meets its contract: it packs what the call answers.
+use mathlib.Core.Path.{ap, _∙_}
+use Rattle.replica_c.specs.Packing.{packedDelivery}
+use borrow.Author.Needs.{needs}
+use Rattle.replica_c.proofs.mavunilai_deliver.Statement.{statement}
+use Rattle.replica_c.proofs.mavunilai_deliver.Tie as tie
+use Rattle.replica_c.proofs.mavunilai_deliver.Reads as reads
+use Rattle.replica_c.proofs.mavunilai_deliver.Lts as lts
+use Rattle.replica.proofs.deliver.deliver.Reads as deliver-reads
+use Rattle.replica_c.proofs.delivered_number.Reads as delivered-number-reads
+
+deliver-requires : tie.Need-deliver-requires
+deliver-requires c κs = search needs
+
+delivered-number-requires : tie.Need-delivered-number-requires
+delivered-number-requires c κs = search needs
+
+same-length : tie.Need-same-length
+same-length c = search needs
+
+returns : tie.Need-returns
+returns c =
+    let told = c .before .before .before .deliver in
+    (c .delivered-number .ensures ∙ ap packedDelivery (told .ensures .0), told .ensures .1)
+
+pub mavunilai-deliver-spec : {M : Type 1} → statement M
+mavunilai-deliver-spec =
+    tie.close (tie.spec deliver-requires delivered-number-requires same-length returns)

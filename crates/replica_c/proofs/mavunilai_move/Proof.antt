@@ -1,0 +1,31 @@
+-- `mavunilai_move` meets its contract: it packs what the call answers.
+use mathlib.Core.Path.{ap, _∙_}
+use Rattle.replica_c.specs.Packing.{packedMove}
+use borrow.Author.Needs.{needs}
+use Rattle.replica_c.proofs.mavunilai_move.Statement.{statement}
+use Rattle.replica_c.proofs.mavunilai_move.Tie as tie
+use Rattle.replica_c.proofs.mavunilai_move.Reads as reads
+use Rattle.replica_c.proofs.mavunilai_move.Lts as lts
+use Rattle.replica.proofs.make_move.make_move.Reads as make-move-reads
+use Rattle.replica_c.proofs.moved_number.Reads as moved-number-reads
+
+make-move-requires : tie.Need-make-move-requires
+make-move-requires c κs = search needs
+
+moved-number-requires : tie.Need-moved-number-requires
+moved-number-requires c κs = search needs
+
+same-length : tie.Need-same-length
+same-length c = search needs
+
+same-length-2 : tie.Need-same-length-2
+same-length-2 c = search needs
+
+returns : tie.Need-returns
+returns c =
+    let told = c .before .before .before .before .before .make-move in
+    (c .moved-number .ensures ∙ ap packedMove (told .ensures .0), (told .ensures .1 .0, told .ensures .1 .1))
+
+pub mavunilai-move-spec : {M : Type 1} → statement M
+mavunilai-move-spec =
+    tie.close (tie.spec make-move-requires moved-number-requires same-length same-length-2 returns)

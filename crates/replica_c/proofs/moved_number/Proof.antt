@@ -1,0 +1,123 @@
+-- `moved_number` meets its contract: each move is packed as the definition says.
+use Prim.Native.Nat.{ℕ, _+_, _*_, _%_}
+use mathlib.Core.Path.{sym, ap, ap₂, _∙_}
+use Rattle.protocol.specs.Answer.{moveNumber, moveHeight}
+use Rattle.answers.specs.Answers.{movedAnswer, certificateOf}
+use Rattle.answers.specs.declared.answer.Moved.{Moved}
+use Rattle.replica_c.specs.Packing.{packedMove, passKinds}
+use borrow.Author.Needs.{needs}
+use Rattle.replica_c.proofs.moved_number.Statement.{statement}
+use Rattle.replica_c.proofs.moved_number.Tie as tie
+use Rattle.replica_c.proofs.moved_number.Reads as reads
+use Rattle.replica_c.proofs.moved_number.Lts as lts
+use Rattle.replica_c.proofs.certificate_number.Reads as certificate-number-reads
+use Rattle.replica_c.proofs.finalized_number.Reads as finalized-number-reads
+use Rattle.replica_c.proofs.move_number.Reads as move-number-reads
+
+enum-told : tie.Need-enum-told
+enum-told c = search needs
+
+enum-known-answer : tie.Need-enum-known-answer
+enum-known-answer c = search needs
+
+move-number-requires : tie.Need-move-number-requires
+move-number-requires c κs = search needs
+
+enum-known-answer-2 : tie.Need-enum-known-answer-2
+enum-known-answer-2 c = search needs
+
+move-number-requires-2 : tie.Need-move-number-requires-2
+move-number-requires-2 c κs = search needs
+
+enum-known-answer-3 : tie.Need-enum-known-answer-3
+enum-known-answer-3 c = search needs
+
+certificate-number-requires : tie.Need-certificate-number-requires
+certificate-number-requires c κs = search needs
+
+finalized-number-requires : tie.Need-finalized-number-requires
+finalized-number-requires c κs = search needs
+
+mul-kinds : tie.Need-mul-kinds
+mul-kinds c = search needs
+
+add-kinds : tie.Need-add-kinds
+add-kinds c = search needs
+
+move-number-requires-3 : tie.Need-move-number-requires-3
+move-number-requires-3 c κs = search needs
+
+enum-known-answer-4 : tie.Need-enum-known-answer-4
+enum-known-answer-4 c = search needs
+
+move-number-requires-4 : tie.Need-move-number-requires-4
+move-number-requires-4 c κs = search needs
+
+enum-known-answer-5 : tie.Need-enum-known-answer-5
+enum-known-answer-5 c = search needs
+
+move-number-requires-5 : tie.Need-move-number-requires-5
+move-number-requires-5 c κs = search needs
+
+enum-known-answer-6 : tie.Need-enum-known-answer-6
+enum-known-answer-6 c = search needs
+
+returns : tie.Need-returns
+unfolding packedMove passKinds moveNumber moveHeight movedAnswer
+returns c = ap (λ (a : Moved). packedMove (movedAnswer a)) (sym (c .enum-told .given .1))
+
+returns-2 : tie.Need-returns-2
+unfolding packedMove passKinds moveNumber moveHeight movedAnswer
+returns-2 c = c .move-number .ensures ∙ ap (λ (a : Moved). packedMove (movedAnswer a)) (sym (c .before .before .answer .given .1))
+
+returns-3 : tie.Need-returns-3
+unfolding packedMove passKinds moveNumber moveHeight movedAnswer
+returns-3 c = c .move-number2 .ensures ∙ ap (λ (a : Moved). packedMove (movedAnswer a)) (sym (c .before .before .answer2 .given .1))
+
+returns-4 : tie.Need-returns-4
+unfolding packedMove passKinds moveNumber moveHeight movedAnswer
+returns-4 c =
+    let h = c .before .before .before .before .answer3 .given .0 .0 in
+    c .move-number3 .ensures
+    ∙ ap₂ (λ (a b : ℕ). 256 * 3 + 65536 * (h % 256) + 16777216 * (a + 256 * b)) (c .before .before .certificate-number .ensures .0) (c .before .finalized-number .ensures .0)
+    ∙ ap (λ (a : Moved). packedMove (movedAnswer a)) (sym (c .before .before .before .before .answer3 .given .1))
+
+returns-5 : tie.Need-returns-5
+unfolding packedMove passKinds moveNumber moveHeight movedAnswer
+returns-5 c = c .move-number4 .ensures ∙ ap (λ (a : Moved). packedMove (movedAnswer a)) (sym (c .before .before .answer4 .given .1))
+
+returns-6 : tie.Need-returns-6
+unfolding packedMove passKinds moveNumber moveHeight movedAnswer
+returns-6 c = c .move-number5 .ensures ∙ ap (λ (a : Moved). packedMove (movedAnswer a)) (sym (c .before .before .answer5 .given .1))
+
+returns-7 : tie.Need-returns-7
+unfolding packedMove passKinds moveNumber moveHeight movedAnswer
+returns-7 c = ap (λ (a : Moved). packedMove (movedAnswer a)) (sym (c .before .answer6 .given .1))
+
+pub moved-number-spec : {M : Type 1} → statement M
+moved-number-spec =
+    tie.close
+    (tie.spec
+    enum-told
+    enum-known-answer
+    move-number-requires
+    enum-known-answer-2
+    move-number-requires-2
+    enum-known-answer-3
+    certificate-number-requires
+    finalized-number-requires
+    mul-kinds
+    add-kinds
+    move-number-requires-3
+    enum-known-answer-4
+    move-number-requires-4
+    enum-known-answer-5
+    move-number-requires-5
+    enum-known-answer-6
+    returns
+    returns-2
+    returns-3
+    returns-4
+    returns-5
+    returns-6
+    returns-7)

@@ -1,0 +1,31 @@
+-- `size_number` meets its contract: a size or a refusal, packed as the definition says.
+use mathlib.Core.Path.{sym, ap}
+use Rattle.answers.specs.Answers.{sizeAnswer}
+use Rattle.answers.specs.declared.answer.Size.{Size}
+use Rattle.replica_c.specs.Packing.{packedSize}
+use borrow.Author.Needs.{needs}
+use Rattle.replica_c.proofs.size_number.Statement.{statement}
+use Rattle.replica_c.proofs.size_number.Tie as tie
+use Rattle.replica_c.proofs.size_number.Reads as reads
+use Rattle.replica_c.proofs.size_number.Lts as lts
+
+enum-known-answer : tie.Need-enum-known-answer
+enum-known-answer c = search needs
+
+mul-result : tie.Need-mul-result
+mul-result c = search needs
+
+enum-known-answer-2 : tie.Need-enum-known-answer-2
+enum-known-answer-2 c = search needs
+
+returns : tie.Need-returns
+unfolding packedSize sizeAnswer
+returns c = ap (λ (a : Size). packedSize (sizeAnswer a)) (sym (c .before .answer .given .1))
+
+returns-2 : tie.Need-returns-2
+unfolding packedSize sizeAnswer
+returns-2 c = ap (λ (a : Size). packedSize (sizeAnswer a)) (sym (c .before .answer2 .given .1))
+
+pub size-number-spec : {M : Type 1} → statement M
+size-number-spec =
+    tie.close (tie.spec enum-known-answer mul-result enum-known-answer-2 returns returns-2)

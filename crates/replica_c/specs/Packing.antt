@@ -1,0 +1,34 @@
+-- An answer as one number for C: its low byte is the refusal's number, 0 where the call is not refused; the values stand in the bytes above.
+use Prim.Native.Nat.{ℕ, _+_, _*_, _%_}
+use mathlib.Core.Bool.{Bool}
+use Rattle.protocol.specs.Answer.{Answer, refused, accepted, Done, Delivery, known, fresh, Move, idle, voteDummy, output, pass, propose, voteBlock, Certificate, certificateKind, finalizeKind, moveNumber, moveHeight}
+
+-- Open, Signal, Submit, Fetch: 0 where the call is done
+unfoldable pub packedDone : Answer Done → ℕ
+packedDone (refused number) = number
+packedDone (accepted answer) = 0
+
+-- Deliver: byte 1 is 1 where the book changed
+unfoldable pub packedDelivery : Answer Delivery → ℕ
+packedDelivery (refused number) = number
+packedDelivery (accepted known) = 0
+packedDelivery (accepted fresh) = 256
+
+-- the certificate's kind and the finalize's kind of a pass, and 0 for other moves
+unfoldable pub passKinds : Move → ℕ
+passKinds idle = 0
+passKinds (voteDummy h) = 0
+passKinds (output g) = 0
+passKinds (pass h certificate finalized) = certificateKind certificate + 256 * finalizeKind finalized
+passKinds (propose h) = 0
+passKinds (voteBlock h) = 0
+
+-- Move: byte 1 is the move's number, byte 2 its height (at most 64), byte 3 the certificate's kind, byte 4 the finalize's kind
+unfoldable pub packedMove : Answer Move → ℕ
+packedMove (refused number) = number
+packedMove (accepted move) = 256 * moveNumber move + 65536 * (moveHeight move % 256) + 16777216 * passKinds move
+
+-- Register size: the bytes above the lowest are the size (at most 8,064)
+unfoldable pub packedSize : Answer ℕ → ℕ
+packedSize (refused number) = number
+packedSize (accepted size) = 256 * (size % 65536)
