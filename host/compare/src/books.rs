@@ -2,8 +2,8 @@
 
 use crate::frames::{any_block, any_entry, any_mask};
 use crate::Random;
-use reference::Rules;
-use types::{book_length, field, Area, Calls, Layout, BLOCK, MOST_HEIGHTS, MOST_REPLICAS};
+use reference::{is_quorum, sha256, Rules};
+use types::{book_length, field, mask_at, Area, Calls, Layout, BLOCK, MOST_HEIGHTS, MOST_REPLICAS};
 
 /// A number of heights: mostly small, now and then up to the most.
 pub fn any_heights(random: &mut Random) -> u8 {
@@ -21,17 +21,22 @@ pub fn any_replicas(random: &mut Random) -> u8 {
     random.byte_below(bound).saturating_add(1)
 }
 
-/// Bytes of a book's length to open a book on: the arguments are n, own, heights, leaders.
+/// Arguments to open a book with: n, own number and leaders.
 pub fn any_arguments(random: &mut Random) -> (u8, u8, Vec<u8>) {
-    let (n, heights) = (any_replicas(random), any_heights(random));
+    let heights = any_heights(random);
+    arguments_for(random, heights)
+}
+
+/// The same for a number of heights.
+pub fn arguments_for(random: &mut Random, heights: u8) -> (u8, u8, Vec<u8>) {
+    let n = any_replicas(random);
     let leaders = (0..heights).map(|_| random.byte_below(n)).collect();
     (n, random.byte_below(n), leaders)
 }
 
 /// A sound book with any flags, any current height, junk in every free byte, and blocks that may not fit together.
-pub fn strange_book(random: &mut Random) -> Vec<u8> {
-    let (n, own, leaders) = any_arguments(random);
-    let heights = u8::try_from(leaders.len()).unwrap_or(1);
+pub fn strange_book(random: &mut Random, heights: u8) -> Vec<u8> {
+    let (n, own, leaders) = arguments_for(random, heights);
     let mut book = vec![0; book_length(heights)];
     let layout = Layout::new(heights);
     random.fill(&mut book[layout.area(1, Area::Held).start..]);
@@ -60,15 +65,27 @@ fn fill_height(random: &mut Random, book: &mut [u8], height: u8, leader: u8) {
         mask.copy_from_slice(&(any_mask(random, n) & all).to_le_bytes());
     }
     if state & 2 != 0 {
-        row[2..4].copy_from_slice(&all.to_le_bytes());
+        let mask = if is_quorum(mask_at(&row, 2), n) { mask_at(&row, 2) } else { all };
+        row[2..4].copy_from_slice(&mask.to_le_bytes());
         let block = any_block(random, book, height).bytes();
         book[layout.area(height, Area::Notarized)].copy_from_slice(&block);
     }
     if state & 1 != 0 {
         let block = any_block(random, book, height).bytes();
         book[layout.area(height, Area::Held)].copy_from_slice(&block);
+        some_votes(random, &mut book[layout.area(height, Area::Votes)], &sha256::digest(&block));
     }
     book[layout.area(height, Area::Row)].copy_from_slice(&row);
+}
+
+/// Makes some of the vote digests of a height those of its held block.
+fn some_votes(random: &mut Random, votes: &mut [u8], digest: &[u8; 32]) {
+    let few = random.below(4).saturating_add(1);
+    for vote in votes.chunks_exact_mut(32) {
+        if !random.one_in(few) {
+            vote.copy_from_slice(digest);
+        }
+    }
 }
 
 /// Makes some settled height the finalized one, if a few tries find one.
@@ -115,9 +132,10 @@ fn any_place(random: &mut Random, book: &[u8]) -> usize {
 /// Bytes of any length, often that of a book, sometimes with a head that looks like one.
 pub fn garbage(random: &mut Random) -> Vec<u8> {
     let heights = any_heights(random);
-    let length = match random.below(3) {
-        0 => random.index(4000),
-        1 => random.index(600),
+    let length = match random.below(6) {
+        0 => random.index(60_000),
+        1 | 2 => random.index(4000),
+        3 => random.index(600),
         _ => book_length(heights),
     };
     let mut book = vec![0; length];
@@ -142,7 +160,8 @@ mod tests {
         let mut seen = [const { BTreeSet::new() }; 4];
         let mut finalized = 0;
         for _ in 0..6000 {
-            let book = strange_book(&mut random);
+            let heights = any_heights(&mut random);
+            let book = strange_book(&mut random, heights);
             assert!(Calls::size(&Rules::SHA256, &book).is_ok());
             seen.iter_mut().zip([0, 1, 2, 3]).for_each(|(seen, at)| _ = seen.insert(book[at]));
             finalized += u32::from(book[field::FINALIZED] > 0);
@@ -156,7 +175,7 @@ mod tests {
         let mut random = Random::new(2);
         let mut sound = [0, 0];
         for _ in 0..600 {
-            let mut book = strange_book(&mut random);
+            let mut book = strange_book(&mut random, 3);
             let before = book.clone();
             damage(&mut random, &mut book);
             let at = usize::from(Calls::size(&Rules::SHA256, &book).is_ok() && book != before);

@@ -7,11 +7,19 @@ use exchange::Call;
 use reference::Rules;
 use types::{book_length, field, Calls};
 
-/// Lengths around the limits of move and fetch.
-const LENGTHS: [usize; 14] = [0, 1, 223, 224, 225, 256, 446, 447, 448, 449, 450, 600, 671, 672];
+/// Lengths of replies far from the limits of move and fetch.
+const LENGTHS: [usize; 8] = [0, 1, 32, 256, 400, 600, 671, 672];
+
+/// Frames that came before, and how often one came again.
+#[derive(Default)]
+pub struct Recent {
+    frames: Vec<Vec<u8>>,
+    /// How often a frame came again.
+    pub repeats: u64,
+}
 
 /// A call and the length of its reply or buffer.
-pub fn any_call(random: &mut Random, book: &[u8], recent: &mut Vec<Vec<u8>>) -> (Call, usize) {
+pub fn any_call(random: &mut Random, book: &[u8], recent: &mut Recent) -> (Call, usize) {
     match random.below(32) {
         0..=15 => (Call::Deliver { frame: frame(random, book, recent) }, 0),
         16..=23 => (Call::Move, limited(random, 448)),
@@ -25,11 +33,14 @@ pub fn any_call(random: &mut Random, book: &[u8], recent: &mut Vec<Vec<u8>>) -> 
     }
 }
 
-/// The usual length of a reply, now and then another one.
-fn limited(random: &mut Random, usual: usize) -> usize {
-    match random.one_in(8) {
-        true => random.pick(&LENGTHS).copied().unwrap_or(usual),
-        false => usual,
+/// The least length of a reply mostly, now and then any one near it or near the other call's, or one far off.
+fn limited(random: &mut Random, least: usize) -> usize {
+    match random.below(16) {
+        0 => least.saturating_add(random.index(17)).saturating_sub(8),
+        1 => least.saturating_add(random.index(3)).saturating_sub(1),
+        2 => random.pick(&LENGTHS).copied().unwrap_or(least),
+        3 if random.one_in(2) => 672_usize.saturating_sub(least),
+        _ => least,
     }
 }
 
@@ -46,18 +57,19 @@ fn any_fetch(random: &mut Random, book: &[u8]) -> (Call, usize) {
 }
 
 /// A new frame, or one that came before.
-fn frame(random: &mut Random, book: &[u8], recent: &mut Vec<Vec<u8>>) -> Vec<u8> {
+fn frame(random: &mut Random, book: &[u8], recent: &mut Recent) -> Vec<u8> {
     if random.one_in(6) {
-        if let Some(frame) = random.pick(recent) {
+        if let Some(frame) = random.pick(&recent.frames) {
+            recent.repeats = recent.repeats.saturating_add(1);
             return frame.clone();
         }
     }
     let frame = any_frame_bytes(random, book);
-    if recent.len() < 8 {
-        recent.push(frame.clone());
+    if recent.frames.len() < 8 {
+        recent.frames.push(frame.clone());
     } else {
-        let at = random.index(recent.len());
-        recent[at].clone_from(&frame);
+        let at = random.index(recent.frames.len());
+        recent.frames[at].clone_from(&frame);
     }
     frame
 }

@@ -9,6 +9,7 @@ mod books;
 mod choose;
 mod frames;
 mod guarded;
+mod kinds;
 mod mischief;
 mod network;
 mod pair;
@@ -16,7 +17,9 @@ mod random;
 mod report;
 mod run;
 mod single;
+mod traits;
 
+pub use kinds::Kinds;
 pub use pair::{Difference, Pair};
 pub use random::Random;
 pub use report::Report;

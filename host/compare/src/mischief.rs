@@ -16,8 +16,14 @@ impl<A: Calls, B: Calls> Network<'_, A, B> {
         match self.random.below(6) {
             0 => self.equivocate(height),
             1 | 2 => self.vote_for_all(signer, height),
-            3 => self.whisper(&Frame::DummyVote { signer, height }),
-            4 => self.whisper(&Frame::Finalize { signer, height }),
+            3 => {
+                self.saw("a dishonest blank vote");
+                self.whisper(&Frame::DummyVote { signer, height });
+            }
+            4 => {
+                self.saw("a dishonest finalise");
+                self.whisper(&Frame::Finalize { signer, height });
+            }
             _ => self.certify(height),
         }
     }
@@ -28,6 +34,7 @@ impl<A: Calls, B: Calls> Network<'_, A, B> {
         if leader < self.honest {
             return;
         }
+        self.saw("two proposals for one height");
         let below: Vec<Block> =
             self.blocks.iter().filter(|block| block.height < height).cloned().collect();
         let recent = below.len().saturating_sub(6);
@@ -48,6 +55,7 @@ impl<A: Calls, B: Calls> Network<'_, A, B> {
     fn vote_for_all(&mut self, signer: u8, height: u8) {
         for block in self.blocks_at(height) {
             let digest = sha256::digest(&block.bytes());
+            self.saw("a dishonest vote for each page of a height");
             self.whisper(&Frame::BlockVote { signer, height, digest });
         }
     }
@@ -83,6 +91,7 @@ impl<A: Calls, B: Calls> Network<'_, A, B> {
     /// Sends a certificate to some, if its mask is a quorum.
     fn whisper_if_quorum(&mut self, mask: u16, frame: Frame) {
         if is_quorum(mask, self.n) {
+            self.saw("a certificate sent to some only");
             self.whisper(&frame);
         }
     }

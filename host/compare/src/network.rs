@@ -1,6 +1,6 @@
 //! A network of replicas: what the honest ones do and say, and the check that their logs never fork.
 
-use crate::books::any_heights;
+use crate::books::{any_heights, any_replicas};
 use crate::frames::{any_entry, byte};
 use crate::Random;
 use crate::{Difference, Pair};
@@ -40,8 +40,9 @@ impl<'a, A: Calls, B: Calls> Network<'a, A, B> {
         pair: &'a mut Pair<A, B>,
         random: &'a mut Random,
     ) -> Result<Network<'a, A, B>, Box<Difference>> {
-        let n: u8 = *random.pick(&[1, 2, 3, 4, 4, 4, 5, 7, 10, 13, 16]).unwrap_or(&4);
-        let dishonest = random.byte_below(n.saturating_sub(1) / 3 + 1);
+        let n = if random.one_in(3) { 4 } else { any_replicas(random) };
+        let bound = n.saturating_sub(1) / 3 + 1;
+        let dishonest = random.byte_below(bound).max(random.byte_below(bound));
         let honest = n.saturating_sub(dishonest);
         let heights = any_heights(random).max(3);
         let leaders: Vec<u8> = (0..heights).map(|_| random.byte_below(n)).collect();
@@ -64,7 +65,15 @@ impl<'a, A: Calls, B: Calls> Network<'a, A, B> {
         for own in 0..honest {
             network.open_book(own, heights)?;
         }
+        if dishonest > 0 {
+            network.saw("with dishonest stations");
+        }
         Ok(network)
+    }
+
+    /// Counts something that happened in the network.
+    pub fn saw(&mut self, name: &str) {
+        self.pair.kinds.saw(&format!("network: {name}"));
     }
 
     /// Opens the book of one replica.
@@ -104,11 +113,11 @@ impl<'a, A: Calls, B: Calls> Network<'a, A, B> {
             11..=16 => self.step(replica),
             17 if self.random.one_in(12) => {
                 let height = byte(&self.books[replica], field::CURRENT).into();
-                self.call(replica, &Call::Signal { height }, &mut []).map(|_| ())
+                self.told(replica, &Call::Signal { height }, "the timer of a station fires")
             }
             18 => {
                 let entry = any_entry(self.random).to_vec();
-                self.call(replica, &Call::Submit { entry }, &mut []).map(|_| ())
+                self.told(replica, &Call::Submit { entry }, "an entry is submitted")
             }
             19 if self.honest < self.n => {
                 self.mischief();
@@ -118,6 +127,14 @@ impl<'a, A: Calls, B: Calls> Network<'a, A, B> {
         }
     }
 
+    /// A call that the host makes of its own, counted by this name if it is not refused.
+    fn told(&mut self, replica: usize, call: &Call, name: &str) -> Outcome {
+        if self.call(replica, call, &mut [])? == Answer::Done {
+            self.saw(name);
+        }
+        Ok(())
+    }
+
     /// One frame arrives, in no order; some are lost and some come twice.
     fn arrive(&mut self) -> Outcome {
         if self.wire.is_empty() {
@@ -125,10 +142,14 @@ impl<'a, A: Calls, B: Calls> Network<'a, A, B> {
         }
         let at = self.random.index(self.wire.len());
         let (replica, frame) = match self.random.one_in(20) {
-            true => self.wire[at],
+            true => {
+                self.saw("frame comes again");
+                self.wire[at]
+            }
             false => self.wire.swap_remove(at),
         };
-        if self.random.one_in(200) {
+        if self.random.one_in(100) {
+            self.saw("frame lost");
             return Ok(());
         }
         self.call(replica, &Call::Deliver { frame: frame.to_vec() }, &mut []).map(|_| ())
@@ -156,6 +177,7 @@ impl<'a, A: Calls, B: Calls> Network<'a, A, B> {
                 let mut frame = [0; FRAME];
                 let answer = self.call(replica, &Call::Fetch { kind, height }, &mut frame)?;
                 if answer == Answer::Done {
+                    self.saw("a certificate fetched and sent");
                     self.say(frame);
                 }
             }

@@ -1,16 +1,19 @@
 //! One call made on two replicas, and everything about it compared.
 
 use crate::guarded::Guarded;
+use crate::Kinds;
 use exchange::{Answer, Call, Line, List, Tally};
 use std::fmt;
 use types::Calls;
 
-/// Two replicas, the count of what they answered, and room for copies.
+/// Two replicas, the counts of what they were given and answered, and room for copies.
 #[derive(Clone, Debug)]
 pub struct Pair<A, B> {
     one: A,
     two: B,
     tally: Tally,
+    /// How often each kind of input occurred.
+    pub kinds: Kinds,
     before: [Vec<u8>; 2],
     other: [Guarded; 2],
 }
@@ -33,8 +36,8 @@ impl fmt::Display for Difference {
 impl<A: Calls, B: Calls> Pair<A, B> {
     /// Two replicas that have not been called yet.
     pub fn new(one: A, two: B) -> Pair<A, B> {
-        let (tally, before, other) = Default::default();
-        Pair { one, two, tally, before, other }
+        let (tally, kinds, before, other) = Default::default();
+        Pair { one, two, tally, kinds, before, other }
     }
 
     /// The counts so far.
@@ -59,6 +62,8 @@ impl<A: Calls, B: Calls> Pair<A, B> {
         let answer = call.make(&self.one, book, buffer);
         let other = call.make(&self.two, other_book.part(), other_buffer.part());
         self.tally.count(&answer);
+        let [book_before, buffer_before] = &self.before;
+        self.kinds.see(call, book_before, buffer_before.len(), answer);
         if answer != other {
             return Err(self.difference(call, format!("the answers are '{answer}' and '{other}'")));
         }

@@ -1,5 +1,6 @@
 //! What a comparison did, in numbers, and what it should have done but did not.
 
+use crate::Kinds;
 use exchange::Tally;
 use std::fmt;
 
@@ -10,6 +11,8 @@ pub struct Report {
     pub seed: u64,
     /// The answers.
     pub tally: Tally,
+    /// The kinds of input.
+    pub kinds: Kinds,
     /// Lists of calls on single books.
     pub lists: u64,
     /// Networks that were run.
@@ -24,6 +27,7 @@ impl Report {
     /// What never occurred, in words.
     pub fn missing(&self) -> Vec<String> {
         let mut missing = self.tally.missing();
+        missing.extend(self.kinds.missing());
         if self.with_log == 0 {
             missing.push("a network with a log that is not empty".to_string());
         }
@@ -41,6 +45,7 @@ impl fmt::Display for Report {
         writeln!(to, "{:>10}  lists on single books", self.lists)?;
         writeln!(to, "{:>10}  networks", self.networks)?;
         writeln!(to, "{:>10}  networks with a log that is not empty", self.with_log)?;
-        writeln!(to, "{:>10}  pairs of logs, both not empty, neither forks", self.held_together)
+        writeln!(to, "{:>10}  pairs of logs, both not empty, neither forks", self.held_together)?;
+        write!(to, "{}", self.kinds)
     }
 }

@@ -31,6 +31,7 @@ pub fn run<A: Calls, B: Calls>(one: A, two: B, seed: u64, count: u64) -> Result<
         outcome.map_err(|sentence| format!("{}: {sentence}", place()))?;
     }
     report.tally = pair.tally().clone();
+    report.kinds = pair.kinds.clone();
     match report.missing() {
         missing if count >= LARGE && !missing.is_empty() => {
             Err(format!("seed {seed}: never occurred: {}\n{report}", missing.join(", ")))

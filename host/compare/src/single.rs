@@ -1,37 +1,56 @@
 //! Lists of calls on single books.
 
-use crate::books::{any_arguments, damage, garbage, strange_book};
-use crate::choose::{any_call, any_open};
+use crate::books::{any_heights, arguments_for, damage, garbage, strange_book};
+use crate::choose::{any_call, any_open, Recent};
+use crate::frames::byte;
 use crate::Random;
-use crate::{Difference, Pair};
+use crate::{traits, Difference, Pair};
 use exchange::Call;
-use types::{book_length, Calls};
+use reference::Rules;
+use types::{book_length, field, Calls, MOST_HEIGHTS};
 
-/// Runs one list of calls on one book, of whatever sort.
-pub fn list<A: Calls, B: Calls>(
-    pair: &mut Pair<A, B>,
-    random: &mut Random,
-) -> Result<(), Box<Difference>> {
-    match random.below(8) {
-        0..=2 => from_new(pair, random),
-        3..=5 => from_strange(pair, random),
-        6 => from_damaged(pair, random),
+/// Nothing, or what the two replicas differ in.
+type Outcome = Result<(), Box<Difference>>;
+
+/// Runs one list of calls on one book, of whatever sort; now and then a short list for every number of heights.
+pub fn list<A: Calls, B: Calls>(pair: &mut Pair<A, B>, random: &mut Random) -> Outcome {
+    let heights = any_heights(random);
+    match random.below(40) {
+        0 => every_size(pair, random),
+        1..=14 => {
+            let count = random.below(400);
+            from_new(pair, random, heights, count)
+        }
+        15..=29 => {
+            let count = random.below(60);
+            from_strange(pair, random, heights, count)
+        }
+        30..=34 => from_damaged(pair, random, heights),
         _ => from_garbage(pair, random),
     }
+}
+
+/// A few calls on a new book and on a strange one for every number of heights.
+fn every_size<A: Calls, B: Calls>(pair: &mut Pair<A, B>, random: &mut Random) -> Outcome {
+    (1..=MOST_HEIGHTS).try_for_each(|heights| {
+        from_new(pair, random, heights, 1)?;
+        from_strange(pair, random, heights, 2)
+    })
 }
 
 /// Opens a book over junk and goes on from there.
 fn from_new<A: Calls, B: Calls>(
     pair: &mut Pair<A, B>,
     random: &mut Random,
-) -> Result<(), Box<Difference>> {
-    let (n, own, leaders) = any_arguments(random);
-    let heights = u8::try_from(leaders.len()).unwrap_or(1);
+    heights: u8,
+    count: u64,
+) -> Outcome {
+    let (n, own, leaders) = arguments_for(random, heights);
     let mut book = vec![0; book_length(heights)];
     random.fill(&mut book);
     let open = Call::Open { n: n.into(), own: own.into(), heights: heights.into(), leaders };
     pair.make(&open, &mut book, &mut [])?;
-    let count = random.below(400);
+    pair.kinds.saw("book: new, opened over junk");
     calls(pair, random, &mut book, count)
 }
 
@@ -39,9 +58,16 @@ fn from_new<A: Calls, B: Calls>(
 fn from_strange<A: Calls, B: Calls>(
     pair: &mut Pair<A, B>,
     random: &mut Random,
-) -> Result<(), Box<Difference>> {
-    let mut book = strange_book(random);
-    let count = random.below(60);
+    heights: u8,
+    count: u64,
+) -> Outcome {
+    let mut book = strange_book(random, heights);
+    pair.kinds.saw("book: sound, that no run makes");
+    traits::kinds(&book).into_iter().for_each(|name| pair.kinds.saw(name));
+    if random.one_in(4) {
+        let height = byte(&book, field::CURRENT).into();
+        pair.make(&Call::Signal { height }, &mut book, &mut [])?;
+    }
     calls(pair, random, &mut book, count)
 }
 
@@ -49,11 +75,19 @@ fn from_strange<A: Calls, B: Calls>(
 fn from_damaged<A: Calls, B: Calls>(
     pair: &mut Pair<A, B>,
     random: &mut Random,
-) -> Result<(), Box<Difference>> {
-    let sound = strange_book(random);
+    heights: u8,
+) -> Outcome {
+    let sound = strange_book(random, heights);
     for _ in 0..random.below(80) {
         let mut book = sound.clone();
         damage(random, &mut book);
+        let name = match Calls::size(&Rules::SHA256, &book) {
+            _ if book == sound => continue,
+            _ if book.len() != sound.len() => "book: cut or lengthened",
+            Ok(_) => "book: damaged at one byte, still sound",
+            Err(_) => "book: damaged at one byte, no longer sound",
+        };
+        pair.kinds.saw(name);
         let count = random.below(3).saturating_add(1);
         calls(pair, random, &mut book, count)?;
     }
@@ -61,11 +95,12 @@ fn from_damaged<A: Calls, B: Calls>(
 }
 
 /// Begins with bytes of any kind; opening may make a book of them.
-fn from_garbage<A: Calls, B: Calls>(
-    pair: &mut Pair<A, B>,
-    random: &mut Random,
-) -> Result<(), Box<Difference>> {
+fn from_garbage<A: Calls, B: Calls>(pair: &mut Pair<A, B>, random: &mut Random) -> Outcome {
     let mut book = garbage(random);
+    pair.kinds.saw(match (1..=MOST_HEIGHTS).any(|heights| book_length(heights) == book.len()) {
+        true => "book: garbage of a book's length",
+        false => "book: garbage of another length",
+    });
     calls(pair, random, &mut book, 4)?;
     let open = any_open(random, &book);
     pair.make(&open, &mut book, &mut [])?;
@@ -78,8 +113,8 @@ fn calls<A: Calls, B: Calls>(
     random: &mut Random,
     book: &mut [u8],
     count: u64,
-) -> Result<(), Box<Difference>> {
-    let mut recent = Vec::new();
+) -> Outcome {
+    let mut recent = Recent::default();
     let mut buffer = Vec::new();
     for _ in 0..count {
         let (call, length) = any_call(random, book, &mut recent);
@@ -87,5 +122,6 @@ fn calls<A: Calls, B: Calls>(
         random.fill(&mut buffer);
         pair.make(&call, book, &mut buffer)?;
     }
+    (0..recent.repeats).for_each(|_| pair.kinds.saw("frame: sent again to one book"));
     Ok(())
 }
