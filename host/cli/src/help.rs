@@ -9,6 +9,7 @@ pub fn print(name: &str, output: &mut Vec<u8>) -> Result<(), Problem> {
         "frame" => FRAME,
         "show" => SHOW,
         "open" => OPEN,
+        "call" => CALL,
         "replay" => REPLAY,
         "record" => RECORD,
         "rehearsal" => REHEARSAL,
@@ -24,13 +25,14 @@ mavunilai COMMAND ..
   frame      make a frame out of words
   show       show a frame or a book in words
   open       write a new book
+  call       make one call on a book that is kept in a file
   replay     make the calls of a list and compare answers and digests
   record     write a list with its answers and digests
   rehearsal  read frames from standard input, print a line for each event
 
 `mavunilai help COMMAND` tells more. The status is 0 if all is well, 1 if a list does
 not come out as expected, 2 if the input is bad; a sentence then says why.
-Lists, new books and the rehearsal use the proved replica if this program was built
+Calls, lists, new books and the rehearsal use the proved replica if this program was built
 with the cargo feature `proved`, else the reference replica.
 ";
 
@@ -73,6 +75,25 @@ mavunilai open --n N --own S --roll L,L,..
 Writes the bytes of a new book for station S of N, with one leader L for each height.
 
 Example: mavunilai open --n 4 --own 2 --roll 0,1,2 > book
+";
+
+const CALL: &str = "\
+mavunilai call BOOK deliver FRAME
+mavunilai call BOOK move
+mavunilai call BOOK signal HEIGHT
+mavunilai call BOOK submit ENTRY
+mavunilai call BOOK size
+mavunilai call BOOK read
+mavunilai call BOOK fetch KIND HEIGHT
+
+Makes one call on the book in the file BOOK, prints the answer in the words of a list
+(docs/EXCHANGE.md), and keeps the book in its file if it changed. The frames that move
+and fetch write follow as hexadecimal digits, one to a line; read prints the entries.
+FRAME is a file, or - for standard input, with the bytes or the digits of a frame;
+ENTRY is 32 hexadecimal digits or up to 16 characters. A call that is refused changes
+nothing, says the number and ends with status 2.
+
+Example: mavunilai frame blank-vote --signer 0 --height 1 | mavunilai call book deliver -
 ";
 
 const REPLAY: &str = "\

@@ -1,9 +1,10 @@
-//! The command `mavunilai`: makes and shows frames, shows books, replays and records lists, runs the rehearsal.
+//! The command `mavunilai`: makes and shows frames and books, makes calls, replays and records lists, runs the rehearsal.
 
 #![warn(clippy::indexing_slicing, clippy::arithmetic_side_effects)]
 #![warn(clippy::unwrap_used, clippy::expect_used, clippy::panic)]
 
 mod arguments;
+mod call_command;
 mod chosen;
 mod files;
 mod frame_command;
@@ -57,6 +58,7 @@ fn run(words: &[String], output: &mut Vec<u8>) -> Result<(), Problem> {
         "frame" => frame_command::run(rest, output),
         "show" => show_command::run(rest, output),
         "open" => open_command::run(rest, output),
+        "call" => call_command::run(rest, output),
         "replay" => replay_command::run(rest, output),
         "record" => record_command::run(rest, output),
         "rehearsal" => rehearsal_command::run(rest, output),

@@ -35,7 +35,7 @@ pub fn page_bytes(arguments: &Arguments) -> Result<[u8; BLOCK], Problem> {
 }
 
 /// An entry: 32 hexadecimal digits, or up to 16 characters of text, filled up with blanks.
-fn entry(text: &str) -> Result<[u8; ENTRY], Problem> {
+pub fn entry(text: &str) -> Result<[u8; ENTRY], Problem> {
     if text.len() == 32 {
         return words::bytes("entry", text);
     }

@@ -34,7 +34,7 @@ fn the_rehearsal_is_that_of_the_reference() {
 fn every_command_has_a_help_text() {
     let common = String::from_utf8(fine("help", &[])).unwrap();
     assert_eq!(fine("--help", &[]), common.as_bytes());
-    for name in ["frame", "show", "open", "replay", "record", "rehearsal"] {
+    for name in ["frame", "show", "open", "call", "replay", "record", "rehearsal"] {
         assert!(common.contains(&format!("\n  {name} ")), "{name}");
         let text = fine(&format!("help {name}"), &[]);
         assert_eq!(fine(&format!("{name} --help"), &[]), text);

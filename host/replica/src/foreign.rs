@@ -35,8 +35,8 @@ unsafe extern "C" {
 /// The proved replica behind the C interface.
 ///
 /// Every call lends slices for its duration: the pointers are valid for their lengths, those written through come
-/// from exclusive borrows, and the library keeps none of them. An answer that the packing does not know becomes the
-/// error [`types::packing::UNKNOWN`].
+/// from exclusive borrows, none is null (that of an empty slice is not either), and the library keeps none of them. An
+/// answer that the packing does not know becomes the error [`types::packing::UNKNOWN`].
 #[derive(Clone, Copy, Debug, Default)]
 pub struct Proved;
 
