@@ -27,9 +27,8 @@ use std::io::Write;
 use std::process::ExitCode;
 
 fn main() -> ExitCode {
-    let words: Vec<String> = std::env::args().skip(1).collect();
     let mut output = Vec::new();
-    let outcome = run(&words, &mut output);
+    let outcome = words().and_then(|words| run(&words, &mut output));
     let printed = std::io::stdout().write_all(&output);
     match (outcome, printed) {
         (Err(problem), _) => {
@@ -42,6 +41,13 @@ fn main() -> ExitCode {
         }
         _ => ExitCode::SUCCESS,
     }
+}
+
+/// The words behind the program's name, which must be text.
+fn words() -> Result<Vec<String>, Problem> {
+    let text = |word: std::ffi::OsString| word.into_string();
+    let words: Result<_, _> = std::env::args_os().skip(1).map(text).collect();
+    words.map_err(|word| Problem::input(format!("{word:?} is no text")))
 }
 
 /// Carries out the command in the words.

@@ -18,9 +18,3 @@ impl Problem {
         Problem { status: 1, sentence: sentence.into() }
     }
 }
-
-impl From<std::io::Error> for Problem {
-    fn from(error: std::io::Error) -> Problem {
-        Problem::input(error.to_string())
-    }
-}

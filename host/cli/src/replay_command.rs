@@ -36,12 +36,14 @@ pub fn run(words: &[String], output: &mut Vec<u8>) -> Result<(), Problem> {
 /// Writes each buffer, as the list left it, to a file of its name.
 fn keep(folder: &Path, stage: &Stage) -> Result<(), Problem> {
     let plain = |c: char| c.is_ascii_alphanumeric() || c == '_';
-    std::fs::create_dir_all(folder)?;
+    let shown = folder.display();
+    let wrong = |error| Problem::input(format!("{shown} cannot be written: {error}"));
+    std::fs::create_dir_all(folder).map_err(wrong)?;
     for (name, bytes) in stage.all() {
         if !name.chars().all(plain) {
             return Err(Problem::input(format!("'{name}' cannot be the name of a file")));
         }
-        std::fs::write(folder.join(name), bytes)?;
+        std::fs::write(folder.join(name), bytes).map_err(wrong)?;
     }
     Ok(())
 }

@@ -43,6 +43,16 @@ fn every_command_has_a_help_text() {
 }
 
 #[test]
+fn words_that_are_no_text_get_a_sentence() {
+    use std::os::unix::ffi::OsStrExt;
+    let word = std::ffi::OsStr::from_bytes(&[0xff]);
+    let ended = std::process::Command::new(env!("CARGO_BIN_EXE_mavunilai")).arg(word).output();
+    let ended = ended.unwrap();
+    assert_eq!(ended.status.code(), Some(2));
+    assert_eq!(String::from_utf8(ended.stderr).unwrap(), "mavunilai: \"\\xFF\" is no text\n");
+}
+
+#[test]
 fn other_words_get_a_sentence() {
     refused("", &[], "a command is missing");
     refused("dance", &[], "'dance' is no command");
