@@ -64,6 +64,12 @@ extern "C" {
 #define MAVUNILAI_PROPOSAL 4u   /* one frame of kind 1 */
 #define MAVUNILAI_PAGE_VOTE 5u  /* one frame of kind 2 */
 
+/* How many frames a move wrote to the front of the reply: 0, 1 or 2. */
+#define MAVUNILAI_FRAMES(answer)                                                                  \
+    (MAVUNILAI_MOVE(answer) == MAVUNILAI_IDLE || MAVUNILAI_MOVE(answer) == MAVUNILAI_SETTLE ? 0u  \
+     : MAVUNILAI_FINALISE(answer) != 0 ? 2u                                                       \
+                                       : 1u)
+
 /* Makes a new book for station `own` of `n`, with `heights` heights; byte h - 1 of `leaders` leads height h, so
  * `leaders_len` must equal `heights`, and `book_len` MAVUNILAI_BOOK(heights). The book's old bytes do not matter.
  * Refusals: 2, 1. After 0 the book is new: n, own number, heights, current height 1, edition 1 and the leaders stand in
