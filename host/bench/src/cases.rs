@@ -69,6 +69,7 @@ impl Start {
         let passing = held.clone().almost_notarized()?.deliver(&[open.vote(0)])?;
         let leading = self.leading(height)?;
         let idle = self.closed()?;
+        let forked = Station::forked(self.size, self.fill)?;
         let fired = open.signal()?;
         let behind = self.behind()?;
         let last = behind.next().saturating_sub(1);
@@ -79,6 +80,7 @@ impl Start {
             make_move("Move 4, proposal of eight entries", leading, format!("offer {height}")),
             make_move("Move 5, page vote", held, format!("vote {height}")),
             make_move("Move, idle", idle, "idle".to_string()),
+            make_move("Move, idle, every page on page 1", forked, "idle".to_string()),
         ])
     }
 

@@ -15,6 +15,6 @@ mod table;
 
 pub use case::Case;
 pub use cases::cases;
-pub use measure::{measure, Times};
+pub use measure::{measure, Measured};
 pub use run::{run, Options};
 pub use station::{Fill, Size};

@@ -8,11 +8,12 @@ const HELP: &str = "\
 bench [--rounds N] [--only TEXT]
 
 Makes every call on the proved replica and on the reference in N rounds that
-alternate (501 if not said), on empty and on full books of 8 and of 63 heights with
-4 and with 16 replicas, and prints tables in Markdown. A cell has the ratio of the
-medians, above 1 where the proved replica is faster, and the proved replica's time
-in microseconds. Growth is the time at 63 heights over that at 8, the reference's
-in brackets. With --only, cases whose name has TEXT in it.
+alternate (1001 if not said), on empty and on full books of 8 and of 63 heights with
+4 and with 16 replicas, and prints tables in Markdown. A cell has how many times as
+fast the proved replica is, above 1 where it is faster, and its microseconds for a
+call in brackets. Growth is the time at 63 heights over that at 8, the reference's
+in brackets. All are medians over the rounds. With --only, cases whose name has
+TEXT in it.
 
 Both replicas must answer as the case expects and leave the same bytes; otherwise
 the status is 1. The cargo feature `proved` links the proved replica; without it
@@ -35,7 +36,7 @@ fn main() -> ExitCode {
 
 /// What the words ask for.
 fn arguments(words: &[String]) -> Result<Options, String> {
-    let mut options = Options { rounds: 501, only: String::new() };
+    let mut options = Options { rounds: 1001, only: String::new() };
     for pair in words.chunks(2) {
         match pair {
             [name, text] if name == "--only" => options.only.clone_from(text),

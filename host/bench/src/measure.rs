@@ -1,4 +1,4 @@
-//! Times a case on two replicas, in rounds that alternate.
+//! Times a case on two replicas and at two sizes, in rounds that alternate.
 
 use crate::median::median;
 use crate::Case;
@@ -9,57 +9,92 @@ use types::Calls;
 /// All copies of a book together have at most so many bytes, so that they stay in the processor's cache.
 const ROOM: usize = 8 * 56_016;
 
-/// The medians of a case, in nanoseconds a call.
+/// A batch takes about so many nanoseconds at most, so that a busy machine interrupts few of them.
+const BATCH: f64 = 100_000.0;
+
+/// Calls that are timed to find the size of a batch.
+const TRIES: usize = 9;
+
+/// What one round says of one size, in nanoseconds a call.
 #[derive(Clone, Copy, Debug)]
-pub struct Times {
-    /// Of the first replica.
-    pub ours: f64,
-    /// Of the second.
-    pub reference: f64,
+struct Times {
+    ours: f64,
+    reference: f64,
 }
 
-impl Times {
-    /// How many times as fast the first is.
-    pub fn ratio(self) -> f64 {
-        self.reference / self.ours
-    }
+/// Medians over all rounds, at the small size and at the large one.
+#[derive(Clone, Copy, Debug)]
+pub struct Measured {
+    /// How many times as fast the first replica is, at each size.
+    pub ratios: [f64; 2],
+    /// Nanoseconds of a call of the first replica, at each size.
+    pub times: [f64; 2],
+    /// How many times as long the large size takes, for each replica.
+    pub growth: [f64; 2],
 }
 
-/// Times so many rounds of both replicas; every second round begins with the other one.
+/// Times so many rounds. Every figure is the median of what the rounds say, so that a slow minute moves none of them.
 pub fn measure<A: Calls, B: Calls>(
     ours: &A,
     reference: &B,
-    case: &Case,
+    sizes: &[Case; 2],
     rounds: usize,
-) -> Result<Times, String> {
-    case.check(ours, reference)?;
-    let mut copies = Copies::new(case);
-    let mut times = [Vec::new(), Vec::new()];
-    for round in 0..rounds {
-        if round % 2 == 0 {
-            times[0].push(copies.batch(ours));
-            times[1].push(copies.batch(reference));
-        } else {
-            times[1].push(copies.batch(reference));
-            times[0].push(copies.batch(ours));
-        }
+) -> Result<Measured, String> {
+    for case in sizes {
+        case.check(ours, reference)?;
     }
-    let [ours, reference] = times.map(|mut times| median(&mut times));
-    let both = ours.zip(reference).ok_or("no round was measured")?;
-    Ok(Times { ours: both.0, reference: both.1 })
+    let mut copies = sizes.each_ref().map(|case| Copies::of(case, ours, reference));
+    let mut round = |number: usize| {
+        copies.each_mut().map(|copies| copies.round(ours, reference, number.is_multiple_of(2)))
+    };
+    let rounds: Vec<[Times; 2]> = (0..rounds).map(&mut round).collect();
+    let of = |figure: &dyn Fn(&[Times; 2]) -> f64| {
+        let mut figures: Vec<f64> = rounds.iter().map(figure).collect();
+        median(&mut figures).ok_or("no round was measured")
+    };
+    Ok(Measured {
+        ratios: [
+            of(&|[few, _]| few.reference / few.ours)?,
+            of(&|[_, many]| many.reference / many.ours)?,
+        ],
+        times: [of(&|[few, _]| few.ours)?, of(&|[_, many]| many.ours)?],
+        growth: [
+            of(&|[few, many]| many.ours / few.ours)?,
+            of(&|[few, many]| many.reference / few.reference)?,
+        ],
+    })
 }
 
-/// The case with as many copies of its book and buffer as a batch has calls.
+/// A case with as many copies of its book and buffer as a batch has calls.
 struct Copies<'a> {
     case: &'a Case,
     lent: Vec<[Vec<u8>; 2]>,
 }
 
 impl<'a> Copies<'a> {
-    /// As many copies as there is room for.
-    fn new(case: &'a Case) -> Copies<'a> {
-        let count = ROOM.checked_div(case.book.len()).unwrap_or(1).max(1);
+    /// As many copies as there is room and, by the slower replica, time for.
+    fn of<A: Calls, B: Calls>(case: &'a Case, ours: &A, reference: &B) -> Copies<'a> {
+        let mut one = Copies::new(case, 1);
+        let tries = (0..TRIES).map(|_| one.round(ours, reference, true));
+        let slower = tries.map(|times| times.ours.max(times.reference)).fold(BATCH, f64::min);
+        let room = ROOM.checked_div(case.book.len()).unwrap_or(1);
+        Copies::new(case, room.min((BATCH / slower) as usize).max(1))
+    }
+
+    /// So many copies.
+    fn new(case: &'a Case, count: usize) -> Copies<'a> {
         Copies { case, lent: vec![[case.book.clone(), vec![0xaa; case.lent]]; count] }
+    }
+
+    /// One batch of each replica; which one begins changes from round to round.
+    fn round<A: Calls, B: Calls>(&mut self, ours: &A, reference: &B, ours_first: bool) -> Times {
+        if ours_first {
+            let ours = self.batch(ours);
+            Times { ours, reference: self.batch(reference) }
+        } else {
+            let reference = self.batch(reference);
+            Times { ours: self.batch(ours), reference }
+        }
     }
 
     /// The nanoseconds of one call, from one call on each copy. The books are restored before the clock starts.

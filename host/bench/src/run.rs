@@ -1,7 +1,7 @@
 //! The whole measurement, printed as tables for docs/PERFORMANCE.md.
 
 use crate::table::markdown;
-use crate::{cases, measure, Case, Fill, Size, Times};
+use crate::{cases, measure, Case, Fill, Measured, Size};
 use types::{Calls, MOST_HEIGHTS, MOST_REPLICAS};
 
 /// The heights of the small and of the large book.
@@ -26,50 +26,31 @@ pub struct Options {
 /// Measures all cases that the options name and prints a table for each number of replicas.
 pub fn run<A: Calls, B: Calls>(ours: &A, reference: &B, options: &Options) -> Result<(), String> {
     for n in REPLICAS {
-        let mut rows = Vec::new();
-        let parts = [
-            halves(ours, reference, options, n, Fill::Empty)?,
-            halves(ours, reference, options, n, Fill::Full)?,
-        ];
-        let [empty, full] = parts;
-        for ((name, mut cells), (_, more)) in empty.into_iter().zip(full) {
-            cells.insert(0, name.to_string());
-            cells.extend(more);
-            rows.push(cells);
+        let mut rows: Vec<Vec<String>> = Vec::new();
+        for fill in [Fill::Empty, Fill::Full] {
+            for (row, sizes) in at_both_sizes(n, fill, &options.only)?.iter().enumerate() {
+                let measured = measure(ours, reference, sizes, options.rounds)?;
+                if fill == Fill::Empty {
+                    rows.push(vec![sizes[0].name.to_string()]);
+                }
+                rows[row].extend(cells(&measured));
+            }
         }
         println!("n {n}:\n\n{}", markdown(&HEADING, &rows));
     }
     Ok(())
 }
 
-/// Names of the cases for one filling, each with its cells: the ratio at few and at many heights, and the growth.
-fn halves<A: Calls, B: Calls>(
-    ours: &A,
-    reference: &B,
-    options: &Options,
-    n: u8,
-    fill: Fill,
-) -> Result<Vec<(&'static str, Vec<String>)>, String> {
-    let wanted = |heights| -> Result<Vec<Case>, String> {
-        let mut cases = cases(Size { n, heights }, fill)?;
-        cases.retain(|case| case.name.contains(&options.only));
-        Ok(cases)
-    };
-    let both = wanted(HEIGHTS[0])?.into_iter().zip(wanted(HEIGHTS[1])?);
-    both.map(|(few, many)| {
-        let few_times = measure(ours, reference, &few, options.rounds)?;
-        let many_times = measure(ours, reference, &many, options.rounds)?;
-        Ok((few.name, vec![cell(few_times), cell(many_times), growth(few_times, many_times)]))
-    })
-    .collect()
+/// Each wanted case, on the small book and on the large one.
+fn at_both_sizes(n: u8, fill: Fill, only: &str) -> Result<Vec<[Case; 2]>, String> {
+    let [few, many] = HEIGHTS.map(|heights| cases(Size { n, heights }, fill));
+    let both = few?.into_iter().zip(many?).map(|(few, many)| [few, many]);
+    Ok(both.filter(|[case, _]| case.name.contains(only)).collect())
 }
 
-/// The ratio, and our time in microseconds.
-fn cell(times: Times) -> String {
-    format!("{:.2} ({:.2})", times.ratio(), times.ours / 1000.0)
-}
-
-/// How many times as long the larger book takes, ours and the reference.
-fn growth(few: Times, many: Times) -> String {
-    format!("{:.1} ({:.1})", many.ours / few.ours, many.reference / few.reference)
+/// The ratios, each with our time in microseconds, and the growth, with the reference's.
+fn cells(measured: &Measured) -> [String; 3] {
+    let Measured { ratios, times, growth } = measured;
+    let cell = |size: usize| format!("{:.2} ({:.2})", ratios[size], times[size] / 1000.0);
+    [cell(0), cell(1), format!("{:.1} ({:.1})", growth[0], growth[1])]
 }

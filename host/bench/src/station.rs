@@ -50,12 +50,30 @@ impl Station {
         let mut station = Station::open(size, led)?;
         for _ in 0..count {
             station.settle_next()?;
-            station.move_until_idle()?;
+            station.pass_chain()?;
         }
         match count {
             0 => Ok(station),
             _ => station.with_pool(31),
         }
+    }
+
+    /// A book where every page but the first names page 1 with a wrong digest, so that none of them stands. Every height
+    /// has all finalizes, and all dummy votes too if the book is full. No move is left.
+    pub fn forked(size: Size, fill: Fill) -> Result<Station, String> {
+        let mut station = Station::open(size, None)?;
+        let mask = station.everyone();
+        for height in 1..=size.heights {
+            let (parent, digest) = if height == 1 { (0, [0; 32]) } else { (1, [1; 32]) };
+            let block = Block { height, parent, digest, entries: Vec::new() };
+            station.take(&Frame::BlockCertificate { mask, block })?;
+            station.take(&Frame::FinalizeCertificate { mask, height })?;
+            if fill == Fill::Full {
+                station.take(&Frame::DummyCertificate { mask, height })?;
+            }
+        }
+        while station.make_move()? != Move::Idle {}
+        Ok(station)
     }
 
     /// All replicas.
@@ -137,16 +155,20 @@ impl Station {
         answer.map(|_| ()).map_err(refused)
     }
 
-    /// Moves until no move applies or the height of the chain is passed.
-    fn move_until_idle(&mut self) -> Result<(), String> {
-        let mut reply = [0; 2 * FRAME];
+    /// Moves until the chain's last height is passed.
+    fn pass_chain(&mut self) -> Result<(), String> {
         while self.book[field::CURRENT] <= self.chain {
-            let made = Calls::make_move(&Rules::SHA256, &mut self.book, &mut reply);
-            if made.map_err(refused)? == Move::Idle {
-                return Err(format!("the run is stuck at height {}", self.next()));
+            if self.make_move()? == Move::Idle {
+                return Err(format!("the run is stuck at height {}", self.chain));
             }
         }
         Ok(())
+    }
+
+    /// Makes one move.
+    fn make_move(&mut self) -> Result<Move, String> {
+        let mut reply = [0; 2 * FRAME];
+        Calls::make_move(&Rules::SHA256, &mut self.book, &mut reply).map_err(refused)
     }
 }
 
