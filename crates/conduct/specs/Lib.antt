@@ -1,5 +1,7 @@
 pub mod SoundKept
 pub mod WrittenRead
+pub mod Keeping
+pub mod KeepingLaws
 pub mod Fields
 pub mod Readable
 pub mod Named
