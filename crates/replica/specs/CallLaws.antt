@@ -1,14 +1,14 @@
 -- What each call answers, row by row: the first test that fails decides.
 use Prim.Native.Nat.{ℕ}
 use mathlib.Core.Path.{_≡_}
-use mathlib.Core.Bool.{true, false, _&&_, not}
+use mathlib.Core.Bool.{true, false}
 use mathlib.Core.List.{[], _∷_}
 use lib.ListN.{length}
 use lib.Dec.{eqb, leb}
 use Rattle.sha256.specs.Digest.{sha256}
 use Rattle.protocol.specs.Bytes.{Bytes, overFront}
 use Rattle.protocol.specs.Tests.{inRange, firstRefusal}
-use Rattle.protocol.specs.State.{State, decode, encode, last, flag, bookSize}
+use Rattle.protocol.specs.State.{State, decode, encode, last, bookSize}
 use Rattle.protocol.specs.Sound.{sound}
 use Rattle.protocol.specs.Frame.{isCertificate}
 use Rattle.protocol.specs.Answer.{Outcome, Done, done, refused, accepted, unlessRefused}
