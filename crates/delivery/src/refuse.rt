@@ -67,12 +67,11 @@ fn member_refusal(book: &[u8], h: usize, frame: &[u8]) -> usize
     requires { ⌜ length (now frame) ≡ 224 ⌝ }
     ensures { λ r. ⌜ refusalOf r ≡ firstRefusal (memberRows (decode (now (book .entry))) h (now (frame .entry))) ⌝ }
 {
-    if members_fit(book, frame) {
-        if leader_signed(book, h, frame) {
-            if signers_enough(book, frame) { 0 } else { 9 }
-        } else {
-            7
-        }
+    let members = members_fit(book, frame);
+    let leads = leader_signed(book, h, frame);
+    let enough = signers_enough(book, frame);
+    if members {
+        if leads { if enough { 0 } else { 9 } } else { 7 }
     } else {
         5
     }

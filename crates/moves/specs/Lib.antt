@@ -4,5 +4,6 @@ pub mod Later
 pub mod Movable
 pub mod MovableLaws
 pub mod OrderLaws
+pub mod Pass
 pub mod ProposeLaws
 pub mod StepsLaws

@@ -22,10 +22,10 @@ use Rattle.state.specs.Memo.{Readable}
 use Rattle.fields.specs.Ready.{Within}
 use Rattle.answers.specs.declared.answer.Moved.the-variants as Moved
 use Rattle.answers.specs.declared.answer.Certificate as code
-use Rattle.answers.specs.declared.answer.Certificate.the-variants as kind
 use Rattle.answers.specs.Answers.{movedAnswer, certificateOf}
 use Rattle.moves.specs.Movable.{Took}
 use Rattle.moves.specs.MovableLaws.{notarized-size}
+use Rattle.moves.specs.Pass.{certificateOn}
 
 -- ---- sizes
 pub finalize-size : (s h : ℕ) → length (finalize s h) ≡ 224
@@ -49,32 +49,20 @@ pass-certificate-size book r w =
     (λ _. dummy-certificate-size (s .current) (at s (s .current) .dummyMask))
 
 -- ---- the certificate of a pass
-module _ (s : State) (c : ℕ) (is : c ≡ s .current) where
-  module _ (e : linked sha256 (view s) c ≡ true) where
-    here : linked sha256 (view s) (s .current) ≡ true
-    here = rw is at e
+pass-certificate : (s : State) → certificateOn (linked sha256 (view s) (s .current)) s ≡ passCertificate sha256 s
+unfolding certificateOn passCertificate
+pass-certificate s = refl
 
-    pub kind-block : certificateOf kind.Page ≡ cond (linked sha256 (view s) (s .current)) onBlock onDummy
-    unfolding certificateOf
-    kind-block = rw here
+module _ (s : State) (reply replyAfter : Bytes) (chosen : Bool) (c mask : ℕ) (c-is : c ≡ s .current) where
+  pub wrote-block : (block : Bytes) → chosen ≡ true → mask ≡ at s c .certificateMask → block ≡ at s c .notarized →
+      replyAfter ≡ overFront (blockCertificate c mask block) reply → replyAfter ≡ overFront (certificateOn chosen s) reply
+  unfolding certificateOn
+  wrote-block block e m b r = r ∙ rw (e, m, b, c-is)
 
-    pub wrote-block : (reply replyAfter : Bytes) (mask : ℕ) (block : Bytes) → mask ≡ at s c .certificateMask → block ≡ at s c .notarized →
-        replyAfter ≡ overFront (blockCertificate c mask block) reply → replyAfter ≡ overFront (passCertificate sha256 s) reply
-    unfolding passCertificate
-    wrote-block reply replyAfter mask block m b r = r ∙ rw (here, m, b, is)
-
-  module _ (e : linked sha256 (view s) c ≡ false) where
-    nowhere : linked sha256 (view s) (s .current) ≡ false
-    nowhere = rw is at e
-
-    pub kind-dummy : certificateOf kind.Blank ≡ cond (linked sha256 (view s) (s .current)) onBlock onDummy
-    unfolding certificateOf
-    kind-dummy = rw nowhere
-
-    pub wrote-dummy : (reply replyAfter : Bytes) (mask : ℕ) → mask ≡ at s c .dummyMask →
-        replyAfter ≡ overFront (dummyCertificate c mask) reply → replyAfter ≡ overFront (passCertificate sha256 s) reply
-    unfolding passCertificate
-    wrote-dummy reply replyAfter mask m r = r ∙ rw (nowhere, m, is)
+  pub wrote-dummy : chosen ≡ false → mask ≡ at s c .dummyMask →
+      replyAfter ≡ overFront (dummyCertificate c mask) reply → replyAfter ≡ overFront (certificateOn chosen s) reply
+  unfolding certificateOn
+  wrote-dummy e m r = r ∙ rw (e, m, c-is)
 
 -- ---- the digest that a block names
 pub no-digest : (book : Bytes) (j : ℕ) → j ≡ 0 → zeros 32 ≡ digestAt sha256 (view (decode book)) j
@@ -146,17 +134,19 @@ module _ (book : Bytes) (m : Readable book) (w : Within book (decode book .curre
   abbrev s : State
   s = decode book
 
-  pub took-pass : (reply bookAfter middle replyAfter : Bytes) (c settled : ℕ) (chosen : code.Certificate) (inTime : Bool) → c ≡ s .current → settled ≡ s .finalized →
-      certificateOf chosen ≡ cond (linked sha256 (view s) (s .current)) onBlock onDummy → inTime ≡ not (flag 1 s) →
-      middle ≡ overFront (passCertificate sha256 s) reply →
+  pub took-pass : (reply bookAfter middle replyAfter : Bytes) (c settled : ℕ) (isLinked : Bool) (chosen : code.Certificate) (inTime : Bool) →
+      c ≡ s .current → settled ≡ s .finalized → isLinked ≡ linked sha256 (view s) c → inTime ≡ not (flag 1 s) →
+      certificateOf chosen ≡ cond isLinked onBlock onDummy →
+      middle ≡ overFront (certificateOn isLinked s) reply →
       replyAfter ≡ put middle 224 (cond inTime (finalize (s .own) (s .current)) (zeros 224)) →
       bookAfter ≡ encode (withHead s 0 (c + 1) settled) →
       Took (passStep sha256 s) reply (Moved.Pass c chosen inTime) bookAfter replyAfter
   unfolding passStep movedAnswer
-  took-pass reply bookAfter middle replyAfter c settled chosen inTime c-is settled-is kind-is in-time-is first second b = record {
-    answer = rw (c-is, kind-is, in-time-is);
+  took-pass reply bookAfter middle replyAfter c settled isLinked chosen inTime c-is settled-is linked-is in-time-is kind-is first second b = record {
+    answer = rw (kind-is, linked-is, c-is, in-time-is);
     book = b ∙ rw (c-is, settled-is);
     reply-is =
-        goes-on (passCertificate sha256 s) reply middle (cond inTime (finalize (s .own) (s .current)) (zeros 224)) replyAfter 224 first (pass-certificate-size book m w) second
+        goes-on (passCertificate sha256 s) reply middle (cond inTime (finalize (s .own) (s .current)) (zeros 224)) replyAfter 224
+        (first ∙ rw (linked-is, c-is, pass-certificate s)) (pass-certificate-size book m w) second
         ∙ rw (in-time-is, pass-written s);
   }

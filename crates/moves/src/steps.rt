@@ -18,13 +18,14 @@ ghost use Rattle.protocol.specs.BytesLaws.{put};
 ghost use Rattle.protocol.specs.Frame.{finalize, proposal as proposalFrame};
 ghost use Rattle.protocol.specs.State.{decode, encode, flag as isFlagged};
 ghost use Rattle.protocol.specs.Sound.{view};
-ghost use Rattle.protocol.specs.View.{linked, digestAt};
+ghost use Rattle.protocol.specs.View.{digestAt};
 ghost use Rattle.protocol.specs.Answer.{accepted, output, onBlock, onDummy};
-ghost use Rattle.protocol.specs.Move.{dummyVoteStep, outputStep, passCertificate, passStep, proposedBlock, proposeStep, blockVoteStep, isRunning, newFinalized, parentBelow, isSome, someOr};
+ghost use Rattle.protocol.specs.Move.{dummyVoteStep, outputStep, passStep, proposedBlock, proposeStep, blockVoteStep, isRunning, newFinalized, parentBelow, isSome, someOr};
 ghost use Rattle.state.specs.Memo.{Memo};
 ghost use Rattle.state.specs.Walkable.{Walkable};
 ghost use Rattle.answers.specs.Answers.{movedAnswer, certificateOf};
 ghost use Rattle.moves.specs.Movable.{Movable, Took};
+ghost use Rattle.moves.specs.Pass.{certificateOn};
 
 // Move 1: casts the dummy vote. Costs 224 stores to the reply and three to the book.
 pub fn cast_dummy_vote(book: &mut [u8], reply: &mut [u8]) -> Moved
@@ -54,18 +55,25 @@ pub fn settle(book: &mut [u8], g: usize) -> Moved
     Moved::Final(g)
 }
 
-// Writes the certificate that a pass goes by: the block's where the current height is linked, else the dummy block's.
-// Costs 224 stores; the memory spares a second walk.
-fn write_pass_certificate(book: &[u8], reply: &mut [u8], known: &mut [u8]) -> Certificate
+// Whether the timer of the current height has not fired.
+fn in_time(book: &[u8]) -> bool
     requires { ⌜ Movable (now book) ⌝ }
-    requires { ⌜ Memo (now book) (now known) ⌝ }
+    ensures { λ r. ⌜ r ≡ not (isFlagged 1 (decode (now (book .entry)))) ⌝ }
+{
+    !flag(book, 1)
+}
+
+// Writes a pass's first frame: the certificate of the current height's block where that is linked, else of its dummy block.
+// Costs 224 stores.
+fn write_pass_certificate(book: &[u8], reply: &mut [u8], linked: bool) -> Certificate
+    requires { ⌜ Movable (now book) ⌝ }
     requires { ⌜ decode (now book) .current ≤ byteAt (now book) 2 ⌝ }
     requires { ⌜ 448 ≤ length (now reply) ⌝ }
-    ensures answer { λ r. ⌜ certificateOf r ≡ cond (linked sha (view (decode (now (book .entry)))) (decode (now (book .entry)) .current)) onBlock onDummy ⌝ }
-    ensures reply { λ _. ⌜ now (reply .exit) ≡ overFront (passCertificate sha (decode (now (book .entry)))) (now (reply .entry)) ⌝ }
+    ensures answer { λ r. ⌜ certificateOf r ≡ cond linked onBlock onDummy ⌝ }
+    ensures reply { λ _. ⌜ now (reply .exit) ≡ overFront (certificateOn linked (decode (now (book .entry)))) (now (reply .entry)) ⌝ }
 {
     let c = current(book);
-    if state::links::linked(book, c, known) {
+    if linked {
         let mask = fields::height::certificate_mask(book, c);
         wire::frame::write_block_certificate(reply, c, mask, fields::height::notarized(book, c));
         Certificate::Page
@@ -75,26 +83,23 @@ fn write_pass_certificate(book: &[u8], reply: &mut [u8], known: &mut [u8]) -> Ce
     }
 }
 
-// Writes a pass's second frame, from byte 224 on: a finalize statement where the timer has not fired, else zero bytes.
-// Costs 224 stores.
-fn write_pass_finalize(book: &[u8], reply: &mut [u8]) -> bool
+// Writes a pass's second frame, from byte 224 on: a finalize statement, or zero bytes. Costs 224 stores.
+fn write_pass_finalize(book: &[u8], reply: &mut [u8], finalizes: bool)
     requires { ⌜ Movable (now book) ⌝ }
     requires { ⌜ 448 ≤ length (now reply) ⌝ }
-    ensures answer { λ r. ⌜ r ≡ not (isFlagged 1 (decode (now (book .entry)))) ⌝ }
-    ensures reply { λ r. ⌜ now (reply .exit) ≡ put (now (reply .entry)) 224 (cond r (finalize (decode (now (book .entry)) .own) (decode (now (book .entry)) .current)) (zeros 224)) ⌝ }
+    ensures { λ _. ⌜ now (reply .exit) ≡ put (now (reply .entry)) 224 (cond finalizes (finalize (decode (now (book .entry)) .own) (decode (now (book .entry)) .current)) (zeros 224)) ⌝ }
 {
-    if flag(book, 1) {
-        wire::bytes::clear(reply, 224, 224);
-        false
-    } else {
+    if finalizes {
         let c = current(book);
         let signer = own(book);
         wire::frame::write_finalize(&mut reply[224..], signer, c);
-        true
+    } else {
+        wire::bytes::clear(reply, 224, 224);
     }
 }
 
-// Move 3: passes to the next height, with the timer and the flags anew. Costs 448 stores to the reply and three to the book.
+// Move 3: passes to the next height, on the block where the current height is linked, and else on the dummy block. It
+// finalizes on either, by the timer alone. Costs 448 stores to the reply and three to the book; the memory spares a second walk.
 pub fn pass(book: &mut [u8], reply: &mut [u8], known: &mut [u8]) -> Moved
     requires { ⌜ Movable (now book) ⌝ }
     requires { ⌜ Memo (now book) (now known) ⌝ }
@@ -104,10 +109,12 @@ pub fn pass(book: &mut [u8], reply: &mut [u8], known: &mut [u8]) -> Moved
 {
     let c = current(book);
     let settled = finalized(book);
-    let certificate = write_pass_certificate(book, reply, known);
-    let finalised = write_pass_finalize(book, reply);
+    let linked = state::links::linked(book, c, known);
+    let finalizes = in_time(book);
+    let certificate = write_pass_certificate(book, reply, linked);
+    write_pass_finalize(book, reply, finalizes);
     set_head(book, 0, c + 1, settled);
-    Moved::Pass(c, certificate, finalised)
+    Moved::Pass(c, certificate, finalizes)
 }
 
 // The digest that a block on the block of height `j` names: zeros for height 0. One digest.

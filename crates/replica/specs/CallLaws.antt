@@ -1,19 +1,19 @@
 -- What each call answers, row by row: the first test that fails decides.
 use Prim.Native.Nat.{ℕ}
 use mathlib.Core.Path.{_≡_}
-use mathlib.Core.Bool.{true, false, _&&_, not}
+use mathlib.Core.Bool.{true, false}
 use mathlib.Core.List.{[], _∷_}
 use lib.ListN.{length}
 use lib.Dec.{eqb, leb}
 use Rattle.sha256.specs.Digest.{sha256}
 use Rattle.protocol.specs.Bytes.{Bytes, overFront}
 use Rattle.protocol.specs.Tests.{inRange, firstRefusal}
-use Rattle.protocol.specs.State.{State, decode, encode, last, flag, bookSize}
+use Rattle.protocol.specs.State.{State, decode, encode, last, bookSize}
 use Rattle.protocol.specs.Sound.{sound}
 use Rattle.protocol.specs.Frame.{isCertificate}
 use Rattle.protocol.specs.Answer.{Outcome, Done, done, refused, accepted, unlessRefused}
 use Rattle.protocol.specs.Open.{newState, openInRange, openRows, openCall}
-use Rattle.protocol.specs.Signal.{withTimerFired, signalRows, signalCall}
+use Rattle.protocol.specs.Signal.{signalRows, signalCall}
 use Rattle.protocol.specs.Fetch.{FetchOutcome, certificateFrame, hasCertificate, unlessFetchRefused, fetchRows, fetchCall}
 
 -- a call that refuses: its number, and the book as it was
@@ -45,21 +45,6 @@ module _ (book : Bytes) (h : ℕ) where
   pub signal-unsound : sound sha256 book ≡ false → signalCall sha256 book h ≡ refusal book 1
   unfolding signalCall signalRows firstRefusal unlessRefused
   signal-unsound e = rw e
-
-  module _ (e : sound sha256 book ≡ true) where
-    pub signal-outside : inRange 1 (last (decode book)) h ≡ false → signalCall sha256 book h ≡ refusal book 6
-    unfolding signalCall signalRows firstRefusal unlessRefused
-    signal-outside f = rw (e, f)
-
-    pub signal-late : inRange 1 (last (decode book)) h ≡ true → (eqb h (decode book .current) && not (flag 1 (decode book))) ≡ false →
-        signalCall sha256 book h ≡ refusal book 14
-    unfolding signalCall signalRows firstRefusal unlessRefused
-    signal-late f g = rw (e, f, g)
-
-    pub signal-done : inRange 1 (last (decode book)) h ≡ true → (eqb h (decode book .current) && not (flag 1 (decode book))) ≡ true →
-        signalCall sha256 book h ≡ doing (withTimerFired (decode book))
-    unfolding signalCall signalRows firstRefusal unlessRefused
-    signal-done f g = rw (e, f, g)
 
 -- ---- Fetch
 -- a fetch that refuses: its number, and the reply as it was

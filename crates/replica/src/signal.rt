@@ -38,8 +38,10 @@ fn signal_sound(book: &mut [u8], height: usize) -> Answer
     ensures answer { λ r. ⌜ doneAnswer r ≡ signalCall sha (now (book .entry)) height .answer ⌝ }
     ensures book { λ _. ⌜ now (book .exit) ≡ signalCall sha (now (book .entry)) height .book ⌝ }
 {
-    if in_book(book, height) {
-        if timer_runs(book, height) {
+    let inside = in_book(book, height);
+    let runs = timer_runs(book, height);
+    if inside {
+        if runs {
             fire(book);
             Answer::Done
         } else {

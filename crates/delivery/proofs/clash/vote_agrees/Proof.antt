@@ -1,7 +1,7 @@
 -- `vote_agrees` meets its contract: a vote is compared where the signer has one.
 use Prim.Native.Nat.{ℕ}
 use native.Mathlib.Omega.{arith}
-use mathlib.Core.Path.{sym, ap, ap₂, _∙_}
+use mathlib.Core.Path.{_≡_, sym, ap, ap₂, _∙_}
 use borrow.Author.Tests.{ne-eqb}
 use Rattle.protocol.specs.Bytes.{Bytes, same}
 use Rattle.protocol.specs.Tests.{implies}
@@ -46,7 +46,8 @@ returns c =
     let start = outer .before .before .before .before in
     let book = start .args .book .now in
     let x = at (decode book) (start .args .h) in
-    let held = inner .before .before .voter-mask .ensures .0 in
+    let mask = inner .before .before .voter-mask in
+    let held : mask .result ≡ x .voterMask = mask .ensures .0 in
     let signed = inner .before .before .before .frame-signer .ensures .0 in
     let is-vote = sym (outer .before .frame-kind .ensures .0) ∙ outer .if1 .taken in
     let there = same-bit held signed (inner .before .in-mask .ensures) ∙ inner .if2 .taken in

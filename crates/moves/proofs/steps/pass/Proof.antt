@@ -1,4 +1,5 @@
 -- `pass` meets its contract: the second frame follows the first, and the head is that of the next height.
+use native.Mathlib.Omega.{arith}
 use mathlib.Core.Path.{refl}
 use Rattle.protocol.specs.State.{decode}
 use Rattle.moves.specs.StepsLaws.{took-pass}
@@ -12,6 +13,15 @@ current-requires c κs = search needs
 
 finalized-requires : tie.Need-finalized-requires
 finalized-requires c κs = search needs
+
+linked-requires : tie.Need-linked-requires
+linked-requires c κs =
+    let height = c .before .before .before .before in
+    let start = height .before .before .before .before .before in
+    (start .pre .0 .readable, (start .pre .1 .0, omega (arith, height .current .ensures .0, start .pre .1 .1 .0)))
+
+in-time-requires : tie.Need-in-time-requires
+in-time-requires c κs = search needs
 
 write-pass-certificate-requires : tie.Need-write-pass-certificate-requires
 write-pass-certificate-requires c κs = search needs
@@ -36,15 +46,20 @@ same-length-3 c = search needs
 
 returns : tie.Need-returns
 returns c =
-    let start = c .before .before .before .before .before .before .before .before .before .before .before .before .before .before .before .before .before .before .before .before .before .before .before .before in
+    let head = c .before .before in
+    let finalize = head .before .before .before .before in
+    let certificate = finalize .before .before .before .before .before in
+    let timer = certificate .before .before .before in
+    let link = timer .before .before .before .before in
+    let settled = link .before .before .before in
+    let height = settled .before .before in
+    let start = height .before .before .before .before .before in
     let book = start .args .book .now in
-    let height = c .before .before .before .before .before .before .before .before .before .before .before .before .before .before .before .before .before .before .before .current in
-    let settled = c .before .before .before .before .before .before .before .before .before .before .before .before .before .before .before .before .before .finalized in
-    let first = c .before .before .before .before .before .before .before .before .before .before .before .before .before .write-pass-certificate in
-    let second = c .before .before .before .before .before .before .write-pass-finalize in
     took-pass book (start .pre .0 .readable) (within-current book (start .pre .0) (start .pre .1 .1 .0) (decode book .current) refl)
-    (start .args .reply .now) (c .before .before .set-head .last .0) (first .last .1 .0) (second .last .1 .0) (height .result) (settled .result) (first .result) (second .result)
-    (height .ensures .0) (settled .ensures .0) (first .ensures .0) (second .ensures .0) (first .ensures .1) (second .ensures .1) (c .before .before .set-head .ensures)
+    (start .args .reply .now) (head .set-head .last .0) (certificate .write-pass-certificate .last .1 .0) (finalize .write-pass-finalize .last .1 .0)
+    (height .current .result) (settled .finalized .result) (link .linked .result) (certificate .write-pass-certificate .result) (timer .in-time .result)
+    (height .current .ensures .0) (settled .finalized .ensures .0) (link .linked .ensures .0) (timer .in-time .ensures)
+    (certificate .write-pass-certificate .ensures .0) (certificate .write-pass-certificate .ensures .1) (finalize .write-pass-finalize .ensures) (head .set-head .ensures)
 
 pub pass-spec : {M : Type 1} → statement M
 pass-spec =
@@ -52,6 +67,8 @@ pass-spec =
     (tie.spec
     current-requires
     finalized-requires
+    linked-requires
+    in-time-requires
     write-pass-certificate-requires
     write-pass-finalize-requires
     add-set-head

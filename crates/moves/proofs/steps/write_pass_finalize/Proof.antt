@@ -1,8 +1,7 @@
 -- `write_pass_finalize` meets its contract: the part from byte 224 on is written, and the rest of the reply stays.
 use Prim.Native.Nat.{_-_}
 use native.Mathlib.Omega.{arith}
-use mathlib.Core.Path.{sym, ap, _∙_}
-use mathlib.Core.Bool.{not}
+use mathlib.Core.Path.{_∙_}
 use lib.ListN.{length}
 use Rattle.protocol.specs.State.{decode}
 use Rattle.protocol.specs.Frame.{finalize}
@@ -11,12 +10,6 @@ use Rattle.moves.specs.StepsLaws.{finalize-size}
 use borrow.Author.Needs.{needs}
 use Rattle.moves.proofs.steps.write_pass_finalize.Statement.{statement}
 use Rattle.moves.proofs.steps.write_pass_finalize.Tie as tie
-
-flag-requires : tie.Need-flag-requires
-flag-requires c κs = search needs
-
-clear-requires : tie.Need-clear-requires
-clear-requires c κs = search needs
 
 current-requires : tie.Need-current-requires
 current-requires c κs = search needs
@@ -36,39 +29,44 @@ part-write-finalize-end c = search needs
 write-finalize-requires : tie.Need-write-finalize-requires
 write-finalize-requires c κs = search needs
 
+clear-requires : tie.Need-clear-requires
+clear-requires c κs = search needs
+
 same-length : tie.Need-same-length
 same-length c = search needs
 
 returns : tie.Need-returns
 returns c =
-    (sym (ap not (sym (c .before .before .before .before .before .flag .ensures) ∙ c .before .before .before .before .if1 .taken)), c .before .before .clear .ensures)
+    let wrote = c .before .before in
+    let signer = wrote .before .before in
+    let height = signer .before in
+    let choice = height .before in
+    let start = choice .before .before .before in
+    let s = decode (start .args .book .now) in
+    let reply = start .args .reply .now in
+    let room = start .pre .1 in
+    rw (choice .if1 .taken, wrote .write-finalize .ensures, signer .own .ensures .0, height .current .ensures .0)
+    (front-in-part reply (finalize (s .own) (s .current)) 224 (length reply - 224) (omega (arith, room)) (omega (arith, room, finalize-size (s .own) (s .current))))
 
 same-length-2 : tie.Need-same-length-2
 same-length-2 c = search needs
 
 returns-2 : tie.Need-returns-2
 returns-2 c =
-    let start = c .before .before .before .before .before .before .before .before .before .before in
-    let s = decode (start .args .book .now) in
-    let reply = start .args .reply .now in
-    let room = start .pre .1 in (
-      sym (ap not (sym (c .before .before .before .before .before .before .before .flag .ensures) ∙ c .before .before .before .before .before .before .if1 .left)),
-      rw (c .before .before .write-finalize .ensures, c .before .before .before .before .own .ensures .0, c .before .before .before .before .before .current .ensures .0)
-          (front-in-part reply (finalize (s .own) (s .current)) 224 (length reply - 224) (omega (arith, room)) (omega (arith, room, finalize-size (s .own) (s .current)))),
-    )
+    let wrote = c .before .before in
+    wrote .clear .ensures ∙ rw (wrote .before .before .if1 .left)
 
 pub write-pass-finalize-spec : {M : Type 1} → statement M
 write-pass-finalize-spec =
     tie.close
     (tie.spec
-    flag-requires
-    clear-requires
     current-requires
     own-requires
     sub-write-finalize
     part-write-finalize-start
     part-write-finalize-end
     write-finalize-requires
+    clear-requires
     same-length
     returns
     same-length-2

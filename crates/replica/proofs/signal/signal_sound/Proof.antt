@@ -1,7 +1,9 @@
 -- `signal_sound` meets its contract: the height's row first, then the timer's.
-use mathlib.Core.Path.{sym, _∙_}
-use Rattle.replica.specs.AnswerLaws.{outcome-done, outcome-refused}
-use Rattle.replica.specs.CallLaws.{signal-outside, signal-late, signal-done}
+use mathlib.Core.Path.{refl}
+use Rattle.protocol.specs.Tests.{firstRefusal}
+use Rattle.protocol.specs.Answer.{unlessRefused}
+use Rattle.protocol.specs.Signal.{signalRows, signalCall}
+use Rattle.answers.specs.Answers.{doneAnswer}
 use borrow.Author.Needs.{needs}
 use Rattle.replica.proofs.signal.signal_sound.Statement.{statement}
 use Rattle.replica.proofs.signal.signal_sound.Tie as tie
@@ -19,28 +21,34 @@ same-length : tie.Need-same-length
 same-length c = search needs
 
 returns : tie.Need-returns
+unfolding signalCall signalRows firstRefusal unlessRefused doneAnswer
 returns c =
-    let z = c .before .before .before .before .before .before .before .before .before .before .before in
-    let inside = sym (c .before .before .before .before .before .before .before .before .in-book .ensures) ∙ c .before .before .before .before .before .before .before .if1 .taken in
-    let runs = sym (c .before .before .before .before .before .timer-runs .ensures) ∙ c .before .before .before .before .if2 .taken in
-    outcome-done (signal-done (z .args .book .now) (z .args .height) (z .pre .is-sound) inside runs) (c .before .before .fire .ensures)
+    let timer = c .before .before .before .before .before .before in
+    let height = timer .before .before in
+    let start = height .before .before .before in
+    rw (start .pre .is-sound, ← height .in-book .ensures, ← timer .timer-runs .ensures, c .before .before .before .before .before .if1 .taken, c .before .before .before .before .if2 .taken) (refl, c .before .before .fire .ensures)
 
 same-length-2 : tie.Need-same-length-2
 same-length-2 c = search needs
 
 returns-2 : tie.Need-returns-2
+unfolding signalCall signalRows firstRefusal unlessRefused doneAnswer
 returns-2 c =
-    let z = c .before .before .before .before .before .before .before in
-    let inside = sym (c .before .before .before .before .in-book .ensures) ∙ c .before .before .before .if1 .taken in
-    outcome-refused (signal-late (z .args .book .now) (z .args .height) (z .pre .is-sound) inside (sym (c .before .timer-runs .ensures) ∙ c .if2 .left))
+    let timer = c .before .before in
+    let height = timer .before .before in
+    let start = height .before .before .before in
+    rw (start .pre .is-sound, ← height .in-book .ensures, ← timer .timer-runs .ensures, c .before .if1 .taken, c .if2 .left) (refl, refl)
 
 same-length-3 : tie.Need-same-length-3
 same-length-3 c = search needs
 
 returns-3 : tie.Need-returns-3
+unfolding signalCall signalRows firstRefusal unlessRefused doneAnswer
 returns-3 c =
-    let z = c .before .before .before .before in
-    outcome-refused (signal-outside (z .args .book .now) (z .args .height) (z .pre .is-sound) (sym (c .before .in-book .ensures) ∙ c .if1 .left))
+    let timer = c .before in
+    let height = timer .before .before in
+    let start = height .before .before .before in
+    rw (start .pre .is-sound, ← height .in-book .ensures, ← timer .timer-runs .ensures, c .if1 .left) (refl, refl)
 
 pub signal-sound-spec : {M : Type 1} → statement M
 signal-sound-spec =
