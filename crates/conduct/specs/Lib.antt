@@ -9,7 +9,6 @@ pub mod GrowsLaws
 pub mod HeadKeptLaws
 pub mod HeightKeptLaws
 pub mod KeepLaws
-pub mod StepLaws
 pub mod OpenKeptLaws
 pub mod DeliverKeptLaws
 pub mod MoveKeptLaws

@@ -14,9 +14,9 @@ use Rattle.protocol.specs.State.{State, Height, noHeight, at, last, holdsPropos
 use Rattle.protocol.specs.View.{View}
 use Rattle.protocol.specs.Sound.{view}
 use Rattle.protocol.specs.Open.{newHeight, newState, openInRange}
-use Rattle.protocol.specs.EveryLaws.{Every, one, none, every-map}
+use Rattle.protocol.specs.EveryLaws.{Every, one, none, every-map, every-at}
 use Rattle.protocol.specs.TestsLaws.{and-true}
-use Rattle.protocol.specs.RowLaws.{row, in-range, every-at}
+use Rattle.protocol.specs.RowLaws.{row, in-range}
 use Rattle.protocol.specs.CodecLaws.{at-suc}
 use Rattle.protocol.specs.NewStateLaws.{new-shaped}
 use Rattle.protocol.specs.SoundLaws.{SoundState, SoundHeight}

@@ -9,7 +9,7 @@ use Rattle.protocol.specs.State.{State, Height, last, decode, encode, withHead,
 use Rattle.protocol.specs.Sound.{sound}
 use Rattle.protocol.specs.BytesLaws.{AreBytes}
 use Rattle.protocol.specs.StateLaws.{Shaped, ShapedHeight, decode-encode}
-use Rattle.protocol.specs.StateLaws.{Sized as SizedBytes}
+use Rattle.protocol.specs.PiecesLaws.{Sized as SizedBytes}
 use Rattle.protocol.specs.EveryLaws.{Every, every-set}
 use Rattle.protocol.specs.CodecLaws.{last-decode, decode-shaped}
 use Rattle.protocol.specs.PlaceLaws.{length-encode, count-encode}

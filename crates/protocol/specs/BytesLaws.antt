@@ -7,8 +7,8 @@ use mathlib.Core.Path.{_≡_, refl, sym, ap, _∙_}
 use mathlib.Core.Bool.{true, false}
 use mathlib.Core.List.{List, [], _∷_, _++_, map, append-assoc, append-nil}
 use lib.Dec.{lit<}
-use lib.ListN.{length, getD, take, drop, set, length-append, length-take, length-drop, drop-of-length-le, List·getD-append}
-use lib.Seq.{paste, take-length, take-take, take-append-le, take-append-add, drop-at, drop-cons, drop-drop, drop-append-add, drop-append-le, getD-drop, getD-take, getD-append-add, set-append-left, set-split, sets-eq, length-take-le, ext-getD}
+use lib.ListN.{length, getD, take, drop, set, length-append, length-take, length-drop, length-replicate, drop-of-length-le, List·getD-append, replicate-append-replicate}
+use lib.Seq.{paste, take-length, take-take, take-append-le, take-append-add, take-append-seam, drop-at, drop-cons, drop-drop, drop-append-add, drop-append-le, getD-drop, getD-take, getD-append-add, set-append-left, set-split, sets-eq, length-take-le, ext-getD}
 use Rattle.protocol.specs.Bytes.{Bytes, byteAt, word16, le16, part, zeros, isZero, join, pieces}
 use Rattle.protocol.specs.RowLaws.{is-zero-zeros, bytes-are-zero, not-zero}
 
@@ -43,6 +43,15 @@ word-low bytes i small = low-byte (byteAt bytes i) (byteAt bytes (i + 1)) (small
 pub word-high : (bytes : Bytes) (i : ℕ) → AreBytes bytes → word16 bytes i / 256 ≡ byteAt bytes (i + 1)
 unfolding word16
 word-high bytes i small = high-byte (byteAt bytes i) (byteAt bytes (i + 1)) (small i)
+
+-- ---- zero bytes
+pub length-zeros : (count : ℕ) → length (zeros count) ≡ count
+unfolding zeros
+length-zeros count = length-replicate count 0
+
+pub zeros-add : (a b : ℕ) → zeros a ++ zeros b ≡ zeros (a + b)
+unfolding zeros
+zeros-add a b = replicate-append-replicate a b 0
 
 -- ---- parts
 pub length-part : (bytes : Bytes) (i k : ℕ) → i + k ≤ length bytes → length (part bytes i k) ≡ k
@@ -108,6 +117,11 @@ pub put-front : (old rest new : Bytes) → length old ≡ length new → put (ol
 unfolding put
 put-front old rest new e = rw (zero-add, drop-at old rest (length new) e)
 
+-- bytes after a front part
+pub put-at : (front rest new : Bytes) (k : ℕ) → length front ≡ k → put (front ++ rest) k new ≡ front ++ (new ++ drop (length new) rest)
+unfolding put
+put-at front rest new k size = rw (← size, take-append-seam, drop-append-add)
+
 pub put-paste : (bytes new : Bytes) (i : ℕ) → paste bytes i new (length new) ≡ put bytes i new
 unfolding put
 put-paste bytes new i = rw take-length (append-assoc (take i bytes) new (drop (i + length new) bytes))
@@ -165,31 +179,3 @@ module _ (front middle back : Bytes) (k : ℕ) (size : length front ≡ k) where
         drop-append-le (j + length new) middle back h,
       )
       (simp append-assoc)
-
--- ---- pieces of one size, joined
-module _ {A : Type 0} (f : A → Bytes) (d : A) where
-  pub cut-join : (xs : List A) (i : ℕ) → i < length xs → join (map f xs) ≡ join (map f (take i xs)) ++ (f (getD xs i d) ++ join (map f (drop (suc i) xs)))
-  unfolding join
-  cut-join [] i h = absurd (not-suc-le-zero h)
-  cut-join (x ∷ xs) zero h = refl
-  cut-join (x ∷ xs) (suc i) h = rw append-assoc (ap (λ (l : Bytes). f x ++ l) (cut-join xs i (le-of-suc-le-suc h)))
-
-  pub cut-set : (xs : List A) (i : ℕ) (y : A) → i < length xs → join (map f (set xs i y)) ≡ join (map f (take i xs)) ++ (f y ++ join (map f (drop (suc i) xs)))
-  unfolding join
-  cut-set [] i y h = absurd (not-suc-le-zero h)
-  cut-set (x ∷ xs) zero y h = refl
-  cut-set (x ∷ xs) (suc i) y h = rw append-assoc (ap (λ (l : Bytes). f x ++ l) (cut-set xs i y (le-of-suc-le-suc h)))
-
--- ---- pieces of a byte string, by their place
-pub length-pieces : (size count : ℕ) (bytes : Bytes) → length (pieces size count bytes) ≡ count
-unfolding pieces
-length-pieces size zero bytes = refl
-length-pieces size (suc count) bytes = ap suc (length-pieces size count (drop size bytes))
-
-pub get-pieces : (size count : ℕ) (bytes : Bytes) (i : ℕ) → i < count → getD (pieces size count bytes) i [] ≡ part bytes (size * i) size
-unfolding pieces part
-get-pieces size zero bytes i h = absurd (not-suc-le-zero h)
-get-pieces size (suc count) bytes zero h = rw mul-zero
-get-pieces size (suc count) bytes (suc i) h =
-    let e : size + size * i ≡ size * suc i = omega arith in
-    get-pieces size count (drop size bytes) i (le-of-suc-le-suc h) ∙ rw (drop-drop, e)

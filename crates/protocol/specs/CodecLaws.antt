@@ -8,7 +8,7 @@ use lib.ListN.{length, getD, take, drop, length-drop, take-append-drop}
 use lib.Seq.{take-all, take-add, drop-drop, length-take-le}
 use Rattle.protocol.specs.Bytes.{Bytes, byteAt, le16, part, zeros, join, pieces}
 use Rattle.protocol.specs.State.{State, noHeight, at, last, encode, decode, headBytes, contentBytes, bodyBytes, decodeHeight, decodeHeights}
-use Rattle.protocol.specs.RowLaws.{every-from}
+use Rattle.protocol.specs.EveryLaws.{every-from}
 use Rattle.protocol.specs.BytesLaws.{AreBytes, are-bytes-take, are-bytes-drop, word-low, word-high, length-part, part-part, firsts, spell}
 use Rattle.protocol.specs.StateLaws.{Shaped, ShapedHeight}
 

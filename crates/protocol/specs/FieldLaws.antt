@@ -7,7 +7,8 @@ use mathlib.Core.List.{[]}
 use lib.ListN.{getD}
 use Rattle.protocol.specs.Bytes.{Bytes, byteAt, word16, part}
 use Rattle.protocol.specs.State.{at, decode, decodeHeight, voteOf, pending}
-use Rattle.protocol.specs.BytesLaws.{byte-part, word-part, part-part, get-pieces}
+use Rattle.protocol.specs.BytesLaws.{byte-part, word-part, part-part}
+use Rattle.protocol.specs.PiecesLaws.{get-pieces}
 use Rattle.protocol.specs.CodecLaws.{at-decode}
 
 -- ---- the head

@@ -20,10 +20,13 @@ pub mod MaskLaws
 pub mod StateLaws
 pub mod QuorumLaws
 pub mod FlagLaws
+pub mod MoveLaws
 pub mod RowLaws
 pub mod BytesLaws
+pub mod PiecesLaws
 pub mod FrontLaws
 pub mod CodecLaws
+pub mod ViewLaws
 pub mod Linked
 pub mod LinkedLaws
 pub mod ChainLaws

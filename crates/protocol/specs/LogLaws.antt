@@ -12,7 +12,7 @@ use Rattle.protocol.specs.View.{linked, isFinalized, quorum, logAt}
 use Rattle.protocol.specs.Sound.{view, log}
 use Rattle.protocol.specs.TestsLaws.{and-true}
 use Rattle.protocol.specs.EveryLaws.{Every}
-use Rattle.protocol.specs.StateLaws.{Sized}
+use Rattle.protocol.specs.PiecesLaws.{Sized}
 use Rattle.protocol.specs.SoundLaws.{SoundState, notarized-in, linked-in}
 use Rattle.protocol.specs.LinkedLaws.{linked-zero}
 use Rattle.protocol.specs.ChainLaws.{log-sized, log-length, log-bound}

@@ -56,6 +56,11 @@ dummyVoteStep s = record {
   frames = dummyVote (s .own) (s .current) ∷ [];
 }
 
+-- ---- the entries of a proposal
+-- the pending entries that the chain ending in height `j` lacks, as many as a block takes
+unfoldable pub offered : State → ℕ → List Bytes
+offered s j = take blockEntries (without (logAt (view s) j) (pending s))
+
 -- ---- what the call leaves
 -- how many zero bytes follow the frames: the place of a finalize that a pass does not cast
 unfoldable pub unused : Move → ℕ
@@ -137,10 +142,6 @@ module _ (digest : Bytes → Bytes) where
   unfoldable pub proposeApplies : State → Bool
   proposeApplies s = allOf
       (isRunning s ∷ eqb (at s (s .current) .leader) (s .own) ∷ not (flag 8 s) ∷ isSome (parentBelow s) ∷ [])
-
-  -- the pending entries that the chain ending in height `j` lacks, as many as a block takes
-  unfoldable pub offered : State → ℕ → List Bytes
-  offered s j = take blockEntries (without (logAt (view s) j) (pending s))
 
   unfoldable pub proposedBlock : State → ℕ → Bytes
   proposedBlock s j = newBlock (s .current) j (digestAt digest (view s) j) (offered s j)

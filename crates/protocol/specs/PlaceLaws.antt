@@ -7,10 +7,10 @@ use lib.ListN.{length, take, drop, set, length-append, length-map, length-set, l
 use lib.Seq.{set-getD, set-set, getD-set-same, getD-set-other, length-take-le}
 use Rattle.protocol.specs.Bytes.{Bytes, byteAt, le16, part, zeros, join}
 use Rattle.protocol.specs.State.{State, Height, noHeight, at, last, withHeight, encode, headBytes, contentBytes, bodyBytes}
-use Rattle.protocol.specs.EveryLaws.{Every, every-set}
-use Rattle.protocol.specs.RowLaws.{every-at, every-take}
-use Rattle.protocol.specs.BytesLaws.{put, middle-byte, middle-part, middle-set, middle-put, cut-set}
-use Rattle.protocol.specs.StateLaws.{Shaped, ShapedHeight, Sized, length-join, content-size, body-size, bodies-sized}
+use Rattle.protocol.specs.EveryLaws.{Every, every-set, every-at, every-take}
+use Rattle.protocol.specs.BytesLaws.{put, middle-byte, middle-part, middle-set, middle-put}
+use Rattle.protocol.specs.StateLaws.{Shaped, ShapedHeight, content-size, body-size, contents-sized, bodies-sized}
+use Rattle.protocol.specs.PiecesLaws.{Sized, length-join, cut-set}
 use Rattle.protocol.specs.CodecLaws.{Clean, at-suc}
 
 pub head-size : (s : State) → length (headBytes s) ≡ 64
@@ -18,11 +18,7 @@ unfolding headBytes zeros
 head-size s = refl
 
 contents-length : (l : List Height) → length (join (map contentBytes l)) ≡ 16 * length l
-contents-length l = length-join 16 (map contentBytes l) (every-contents l) ∙ rw length-map
-  where
-    every-contents : (l : List Height) → Every (Sized 16) (map contentBytes l)
-    every-contents [] = Every.none
-    every-contents (x ∷ xs) = Every.one (content-size x) (every-contents xs)
+contents-length l = length-join 16 (map contentBytes l) (contents-sized l) ∙ rw length-map
 
 bodies-length : {l : List Height} → Every ShapedHeight l → length (join (map bodyBytes l)) ≡ 864 * length l
 bodies-length {l} hs = length-join 864 (map bodyBytes l) (bodies-sized hs) ∙ rw length-map
@@ -128,7 +124,7 @@ module _ (s : State) (shaped : Shaped s) (i : ℕ) (inside : i < last s) where
   cut : (x : Height) → encode (withHeight s (suc i) x) ≡ front s i ++ (contentBytes x ++ (between s i ++ (bodyBytes x ++ back s i)))
   unfolding encode withHeight front between back last
   cut x =
-      rw (head-with x, suc-minus s i, cut-set contentBytes noHeight (s .heights) i x inside, cut-set bodyBytes noHeight (s .heights) i x inside)
+      rw (head-with x, suc-minus s i, cut-set contentBytes (s .heights) i x inside, cut-set bodyBytes (s .heights) i x inside)
       (simp append-assoc)
 
   body-cut : (x : Height) → encode (withHeight s (suc i) x) ≡ (front s i ++ (contentBytes x ++ between s i)) ++ (bodyBytes x ++ back s i)

@@ -192,18 +192,3 @@ not-same a b f = not-passed (same a b) (λ e. f (same-eq a b e))
 
 pub differ-at : (a b : Bytes) (i : ℕ) → (getD a i 0 ≡ getD b i 0 → ⊥) → same a b ≡ false
 differ-at a b i f = not-same a b (λ e. f (ap (λ (l : Bytes). getD l i 0) e))
-
--- ---- every element of a list, by its place
-pub every-at : {A : Type 0} {P : A → Type 0} {l : List A} (i : ℕ) (d : A) → Every P l → i < length l → P (getD l i d)
-every-at i d Every.none h = absurd (omega arith)
-every-at zero d (one p ps) h = p
-every-at (suc i) d (one p ps) h = every-at i d ps (omega arith)
-
-pub every-from : {A : Type 0} (P : A → Type 0) (d : A) (l : List A) → ((i : ℕ) → i < length l → P (getD l i d)) → Every P l
-every-from P d [] each = Every.none
-every-from P d (x ∷ xs) each = one (each 0 (omega arith)) (every-from P d xs (λ i h. each (suc i) (omega arith)))
-
-pub every-take : {A : Type 0} {P : A → Type 0} {l : List A} (k : ℕ) → Every P l → Every P (take k l)
-every-take zero ps = Every.none
-every-take (suc k) Every.none = Every.none
-every-take (suc k) (one p ps) = one p (every-take k ps)

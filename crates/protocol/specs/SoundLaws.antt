@@ -15,7 +15,7 @@ use Rattle.protocol.specs.State.{State, Height, noHeight, at, last, deco
 use Rattle.protocol.specs.View.{View, quorum, extendsOver, linkedWithin, linked, isFinalized}
 use Rattle.protocol.specs.Sound.{view, masksBelow, blocksWellFormed, contentZeros, sound}
 use Rattle.protocol.specs.EveryLaws.{none, one}
-use Rattle.protocol.specs.TestsLaws.{and-true, or-true, le-or-lt}
+use Rattle.protocol.specs.TestsLaws.{and-true, or-true, or-right, le-or-lt}
 use Rattle.protocol.specs.RowLaws.{not-passed, row, all-of, true-and, every-height-at, every-height, implies-true, true-implies, in-range, range-in, zeros-is-zero}
 use Rattle.protocol.specs.StateLaws.{Shaped, decode-encode}
 use Rattle.protocol.specs.BytesLaws.{AreBytes, zero-part}
@@ -226,11 +226,7 @@ module _ (digest : Bytes → Bytes) where
     final-or : (D .finalized ≡ 0) ⊎ (isFinalized digest (view D) (D .finalized) ≡ true) →
         (eqb (D .finalized) 0 || isFinalized digest (view D) (D .finalized)) ≡ true
     final-or (inl z) = rw (eq-eqb (D .finalized) 0 z)
-    final-or (inr z) = rw z (or-last (eqb (D .finalized) 0))
-      where
-        or-last : (b : Bool) → (b || true) ≡ true
-        or-last true = refl
-        or-last false = refl
+    final-or (inr z) = or-right (eqb (D .finalized) 0) z
 
     pub sound-of : sound digest book ≡ true
     unfolding sound view

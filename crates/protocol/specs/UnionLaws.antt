@@ -9,7 +9,7 @@ use lib.Dec.{eqb}
 use lib.Bits.{bitOr, or-step, or-shr, or-lt}
 use Rattle.protocol.specs.Mask.{inMask, union, belowBit}
 use Rattle.protocol.specs.View.{View, quorum}
-use Rattle.protocol.specs.TestsLaws.{or-true}
+use Rattle.protocol.specs.TestsLaws.{or-true, or-right}
 use Rattle.protocol.specs.OnesLaws.{quorum-mono}
 use Rattle.protocol.specs.MaskLaws.{Within, lt-below, inMask-maskOf, maskOf-bit, maskOf-below, maskOf-same, maskOf-bits}
 
@@ -28,11 +28,7 @@ pub union-left : (n a b t : ℕ) → t < n → inMask a t ≡ true → inMask (u
 union-left n a b t l e = union-bit n a b t l ∙ rw e
 
 pub union-right : (n a b t : ℕ) → t < n → inMask b t ≡ true → inMask (union n a b) t ≡ true
-union-right n a b t l e = union-bit n a b t l ∙ either (inMask a t) e
-  where
-    either : (x : Bool) → inMask b t ≡ true → (x || inMask b t) ≡ true
-    either true e = refl
-    either false e = e
+union-right n a b t l e = union-bit n a b t l ∙ or-right (inMask a t) e
 
 pub union-lt : (n a b : ℕ) → union n a b < 2 ^ n
 unfolding union

@@ -20,7 +20,8 @@ use Rattle.protocol.specs.Move.{isSome}
 use Rattle.protocol.specs.TestsLaws.{le-or-lt}
 use Rattle.protocol.specs.Linked.{Linked, start, link, OnParent, Extends, Finalized, ChainOf}
 use Rattle.protocol.specs.LinkedLaws.{linked-sound, linked-complete, extends-sound, extends-complete, finalized-sound, finalized-complete}
-use Rattle.protocol.specs.ChainLaws.{log-zero, log-suc}
+use Rattle.protocol.specs.ChainLaws.{log-suc}
+use Rattle.protocol.specs.ViewLaws.{log-zero}
 use Rattle.protocol.specs.ParentLaws.{parent-some, parent-isSome, isSome-parent}
 use Rattle.simplex.specs.Paper as Paper
 use Rattle.simplex.specs.Paper.{Sequence, genesis, addDummy, addBlock, height, linearize, lastBlock, lastDigest, Follows, NotarizedBlock, NotarizedBlockchain, FinalizedBlockchain, Finalization, SeenOfHeight, SeenWithBlock}

@@ -12,7 +12,7 @@ use Rattle.protocol.specs.Sound.{sound}
 use Rattle.protocol.specs.EveryLaws.{none, one}
 use Rattle.protocol.specs.TestsLaws.{and-true}
 use Rattle.protocol.specs.RowLaws.{row, all-of, true-and, every-height-at, every-height, in-range, is-zero-byte, zeros-is-zero}
-use Rattle.protocol.specs.BlockLaws.{zeros-size}
+use Rattle.protocol.specs.BytesLaws.{length-zeros}
 use Rattle.fields.specs.ReadyLaws.{sized}
 use Rattle.state.specs.Memo.{Readable, Memo}
 use Rattle.state.specs.SoundRows.{numberRows, headRows, heightRows, finalRow}
@@ -94,7 +94,7 @@ readable book e =
 -- zeros say of no height that it is linked or not
 pub zero-memo : (book known : Bytes) → known ≡ zeros 64 → Memo book known
 zero-memo book known e = record {
-  size = rw e (zeros-size 64);
+  size = rw e (length-zeros 64);
   is-linked = λ h seen. let none-seen = unseen h in absurd (omega arith);
   not-linked = λ h seen. let none-seen = unseen h in absurd (omega arith);
 }
