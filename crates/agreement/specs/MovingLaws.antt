@@ -11,12 +11,11 @@ use lib.ListN.{getD}
 use lib.Dec.{eqb}
 use borrow.Author.Tests.{not-true}
 use Rattle.protocol.specs.Bytes.{Bytes, le16, word16, zeros}
-use Rattle.protocol.specs.EveryLaws.{Every, none, one}
 use Rattle.protocol.specs.MoveLaws.{step-cases}
 use Rattle.protocol.specs.FlagLaws.{flag-set, flag-kept}
 use Rattle.protocol.specs.Frame.{blockCertificate, blockVote, dummyCertificate, dummyVote, finalize, frameBlock, frameDigest, frameHeight, frameOf, kind, proposal, signer, signerMask}
 use Rattle.protocol.specs.Mask.{inMask}
-use Rattle.protocol.specs.Move.{Step, blockVoteApplies, blockVoteStep, dummyVoteApplies, dummyVoteStep, firstStep, idleStep, outputStep, passCertificate, passStep, proposeApplies, proposeStep, step}
+use Rattle.protocol.specs.Move.{Step, blockVoteApplies, blockVoteStep, dummyVoteApplies, dummyVoteStep, idleStep, outputStep, passCertificate, passStep, proposeApplies, proposeStep, step}
 use Rattle.protocol.specs.RowLaws.{row}
 use Rattle.protocol.specs.Sound.{view}
 use Rattle.protocol.specs.State.{State, at, flag, noHeight, withHead}

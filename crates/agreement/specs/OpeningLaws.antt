@@ -1,5 +1,5 @@
 -- A new book, and a book with one more pending entry.
-use Prim.Native.Nat.{ℕ, zero, suc, _-_, _*_, _≤_}
+use Prim.Native.Nat.{ℕ, zero, suc}
 use native.Mathlib.Omega.{arith}
 use mathlib.Core.Path.{_≡_, refl, sym, ap, _∙_}
 use mathlib.Core.Bool.{true, true≢false, false≢true}
@@ -8,7 +8,7 @@ use mathlib.Core.Option.{Option, some, none}
 use lib.ListN.{length, getD, length-append}
 use borrow.Author.Tests.{eqb-true, leb-true}
 use Rattle.protocol.specs.Answer.{Done, Outcome, accepted, done, unlessRefused}
-use Rattle.protocol.specs.Bytes.{Bytes, holds, join, pieces, zeros}
+use Rattle.protocol.specs.Bytes.{Bytes}
 use Rattle.protocol.specs.EveryLaws.{Every, none as no-more, one, every-append}
 use Rattle.protocol.specs.Frame.{finalize}
 use Rattle.protocol.specs.Mask.{inMask}
@@ -23,14 +23,12 @@ use Rattle.protocol.specs.PiecesLaws.{Sized, pieces-sized}
 use Rattle.protocol.specs.PoolLaws.{every-without, pending-pool-size}
 use Rattle.protocol.specs.Submit.{stillPending, submitCall, submitRows, withPending}
 use Rattle.protocol.specs.Tests.{firstRefusal}
-use Rattle.protocol.specs.TestsLaws.{cond-elim}
 use Rattle.agreement.specs.BackingLaws.{Backed}
 use Rattle.agreement.specs.GrantsLaws.{grants}
 use Rattle.agreement.specs.Lists.{Member, Statement, Wrote, isAccepted, writes}
 use Rattle.agreement.specs.RunLaws.{Good, Honest, States, backed-more, encoded, nothing-new, quiet, unchanged, unless-refused-good}
 
 -- ---- one more pending entry
-
 module _ (digest : Bytes → Bytes) (n dishonest : ℕ) (P : List Member) (m : Member) where
   pub submit-good : (s : ℕ) (book entry : Bytes) → Good digest n dishonest P s (decode book) → writes digest m ≡ [] →
       Good digest n dishonest (P ++ (m ∷ [])) s (decode (submitCall digest book entry .book))

@@ -18,7 +18,7 @@ use Rattle.protocol.specs.FlagLaws.{flag-set, flag-kept}
 use Rattle.protocol.specs.Frame.{frameHeight}
 use Rattle.protocol.specs.Move.{Step, moveCall, moveRows, moved, step, unlessMoveRefused}
 use Rattle.protocol.specs.Open.{newState, openCall, openRows}
-use Rattle.protocol.specs.RowLaws.{passed, row-passes}
+use Rattle.protocol.specs.RowLaws.{row-passes}
 use Rattle.protocol.specs.Signal.{signalCall, signalRows, withTimerFired}
 use Rattle.protocol.specs.Sound.{sound}
 use Rattle.protocol.specs.State.{Height, State, at, decode, encode, flag, noHeight, withHead, withHeight}
@@ -32,7 +32,6 @@ use Rattle.agreement.specs.KeepingLaws.{keep-good}
 use Rattle.agreement.specs.Lists.{HonestIn, Member, Shows, Statement, Wrote, blockIn, delivers, isAccepted, lastLeft, leftBy, orElse, statementOf, writes}
 use Rattle.agreement.specs.MovingLaws.{step-body, step-good}
 use Rattle.agreement.specs.StatementsLaws.{Consistent, stated-nothing}
-use Rattle.agreement.specs.Witness.{dishonest, leaders}
 
 -- ---- lists
 pub or-else-assoc : {A : Type 0} (x y z : Option A) → orElse (orElse x y) z ≡ orElse x (orElse y z)

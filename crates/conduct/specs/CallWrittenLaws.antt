@@ -1,20 +1,20 @@
 -- Move and Fetch, refused or not: the frames that they write are those that their answers name, are read, and stand in the reply.
 use Prim.Native.Nat.{ℕ, _+_, _*_, _≤_}
 use native.Mathlib.Omega.{arith}
-use mathlib.Core.Path.{_≡_, refl, subst}
+use mathlib.Core.Path.{_≡_, refl}
 use mathlib.Core.Bool.{Bool, true, false, not, cond}
-use mathlib.Core.List.{[], _∷_, _++_}
+use mathlib.Core.List.{[], _∷_}
 use mathlib.Core.Option.{Option, some, none}
 use lib.ListN.{length}
 use lib.Dec.{eqb}
 use borrow.Author.Tests.{leb-true}
-use Rattle.protocol.specs.Bytes.{Bytes, zeros, join, overFront}
+use Rattle.protocol.specs.Bytes.{Bytes}
 use Rattle.protocol.specs.Tests.{firstRefusal}
 use Rattle.protocol.specs.Frame.{finalize, blockCertificate, dummyCertificate, finalizeCertificate}
 use Rattle.protocol.specs.State.{State, at, last, decode, flag, isNotarized}
 use Rattle.protocol.specs.View.{linked, quorum, isDummy}
 use Rattle.protocol.specs.Sound.{view, sound}
-use Rattle.protocol.specs.Answer.{Move, idle, voteDummy, output, propose, voteBlock, pass, onBlock, onDummy}
+use Rattle.protocol.specs.Answer.{pass, onBlock, onDummy}
 use Rattle.protocol.specs.Move.{Step, unused, written, moved, unlessMoveRefused, passCertificate, step, dummyVoteStep, outputStep, passStep, proposeStep, blockVoteStep, idleStep, moveRows, moveCall}
 use Rattle.protocol.specs.Fetch.{certificateFrame, hasCertificate, unlessFetchRefused, fetchRows, fetchCall}
 use Rattle.protocol.specs.RowLaws.{row-passes, in-range}

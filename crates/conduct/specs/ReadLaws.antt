@@ -64,35 +64,6 @@ module _ (t : State) (k s h mask : ℕ) (digest block : Bytes) (digest-size : le
           (one (ap (λ (m : ℕ). isStatement k || quorum (view t) m) (mask-back k s h mask digest block digest-size) ∙ quorum-row)
           Every.none)))))
 
--- ---- the fields of each kind
-pub proposal-fields : (s h : ℕ) (block : Bytes) → fields (proposal s h block) ≡ proposalFields s h block
-unfolding proposal proposalFields
-proposal-fields s h block = fields-back 1 s h 0 (zeros 32) block (length-zeros 32)
-
-pub block-vote-fields : (s h : ℕ) (digest : Bytes) → length digest ≡ 32 → fields (blockVote s h digest) ≡ blockVoteFields s h digest
-unfolding blockVote blockVoteFields
-block-vote-fields s h digest e = fields-back 2 s h 0 digest (zeros 176) e
-
-pub dummy-vote-fields : (s h : ℕ) → fields (dummyVote s h) ≡ dummyVoteFields s h
-unfolding dummyVote dummyVoteFields
-dummy-vote-fields s h = fields-back 3 s h 0 (zeros 32) (zeros 176) (length-zeros 32)
-
-pub finalize-fields : (s h : ℕ) → fields (finalize s h) ≡ finalizeFields s h
-unfolding finalize finalizeFields
-finalize-fields s h = fields-back 4 s h 0 (zeros 32) (zeros 176) (length-zeros 32)
-
-pub block-certificate-fields : (h mask : ℕ) (block : Bytes) → fields (blockCertificate h mask block) ≡ blockCertificateFields h mask block
-unfolding blockCertificate blockCertificateFields
-block-certificate-fields h mask block = fields-back 5 0 h mask (zeros 32) block (length-zeros 32)
-
-pub dummy-certificate-fields : (h mask : ℕ) → fields (dummyCertificate h mask) ≡ dummyCertificateFields h mask
-unfolding dummyCertificate dummyCertificateFields
-dummy-certificate-fields h mask = fields-back 6 0 h mask (zeros 32) (zeros 176) (length-zeros 32)
-
-pub finalize-certificate-fields : (h mask : ℕ) → fields (finalizeCertificate h mask) ≡ finalizeCertificateFields h mask
-unfolding finalizeCertificate finalizeCertificateFields
-finalize-certificate-fields h mask = fields-back 7 0 h mask (zeros 32) (zeros 176) (length-zeros 32)
-
 -- ---- what a kind asks of the other fields
 -- where it carries no digest and no block
 bare : (k s h mask : ℕ) → (isStatement k || isCertificate k) ≡ true → (isStatement k || eqb s 0) ≡ true → (isCertificate k || eqb mask 0) ≡ true →

@@ -1,16 +1,15 @@
 -- Each frame that Move or Fetch writes is read over a state of the same replicas, heights and leaders.
-use Prim.Native.Nat.{ℕ, zero, suc, _-_, _^_, _≤_, _<_}
+use Prim.Native.Nat.{ℕ, _-_, _^_, _≤_, _<_}
 use native.Mathlib.Omega.{arith}
 use mathlib.Core.Path.{_≡_, refl, sym, _∙_}
 use mathlib.Core.Bool.{Bool, true, false, _&&_, _||_, not, cond, false≢true}
 use mathlib.Core.List.{[], _∷_}
 use mathlib.Core.Option.{Option, some, none}
-use lib.ListN.{length}
 use borrow.Author.Tests.{lt-ltb, leb-true, eqb-true}
-use Rattle.protocol.specs.Bytes.{Bytes, isZero}
+use Rattle.protocol.specs.Bytes.{Bytes}
 use Rattle.protocol.specs.Mask.{belowBit}
 use Rattle.protocol.specs.Block.{blockWellFormed}
-use Rattle.protocol.specs.Frame.{proposal, finalize, blockCertificate, dummyCertificate, finalizeCertificate}
+use Rattle.protocol.specs.Frame.{finalize, blockCertificate, dummyCertificate, finalizeCertificate}
 use Rattle.protocol.specs.State.{State, at, last, flag, isNotarized}
 use Rattle.protocol.specs.View.{View, quorum, isDummy, linked, digestAt}
 use Rattle.protocol.specs.Sound.{view}
@@ -21,7 +20,7 @@ use Rattle.protocol.specs.Linked.{Linked, start, link}
 use Rattle.protocol.specs.LinkedLaws.{linked-sound}
 use Rattle.protocol.specs.ParentLaws.{parent-some}
 use Rattle.protocol.specs.TestsLaws.{and-true}
-use Rattle.protocol.specs.RowLaws.{row, zeros-is-zero}
+use Rattle.protocol.specs.RowLaws.{row}
 use Rattle.protocol.specs.BlockLaws.{new-block-good}
 use Rattle.protocol.specs.ViewLaws.{digest-at-size, digest-at-start}
 use Rattle.protocol.specs.PendingLaws.{offered-few, offered-sized}

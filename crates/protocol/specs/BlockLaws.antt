@@ -1,15 +1,14 @@
 -- A block that is put together of a parent and entries: it is well formed, and its fields are those that it was made of.
-use Prim.Native.Nat.{ℕ, zero, suc, _+_, _-_, _*_, _≤_, _<_}
+use Prim.Native.Nat.{ℕ, _+_, _-_, _*_, _≤_, _<_}
 use native.Mathlib.Omega.{arith}
 use mathlib.Core.Path.{_≡_, refl, sym, ap, _∙_}
-use mathlib.Core.Bool.{Bool, true, false}
-use mathlib.Core.List.{List, [], _∷_, _++_}
-use lib.ListN.{length, take, drop, length-append, length-replicate}
+use mathlib.Core.Bool.{true}
+use mathlib.Core.List.{List, _++_}
+use lib.ListN.{length, drop, length-append}
 use lib.Seq.{take-at, drop-at, drop-drop}
 use lib.Dec.{eqb}
 use borrow.Author.Tests.{eq-eqb, lt-ltb, le-leb, eqb-true}
 use Rattle.protocol.specs.Bytes.{Bytes, part, zeros, isZero, all, join, pieces}
-use Rattle.protocol.specs.Tests.{allOf, implies}
 use Rattle.protocol.specs.Block.{blockHeight, parentHeight, entryCount, parentDigest, entries, blockWellFormed, newBlock}
 use Rattle.protocol.specs.EveryLaws.{Every, one, none}
 use Rattle.protocol.specs.TestsLaws.{eqb-self}

@@ -1,14 +1,12 @@
 -- The chain and the log of a linked height, built from those of its parent, and the sizes of a log.
 use Prim.Native.Nat.{ℕ, zero, suc, _*_, _≤_}
 use native.Mathlib.Omega.{arith}
-use native.Mathlib.Nat.{mul-suc}
-use mathlib.Core.Path.{_≡_, refl, sym, ap, _∙_}
+use mathlib.Core.Path.{_≡_, sym, ap, _∙_}
 use mathlib.Core.Bool.{true}
-use mathlib.Core.List.{List, [], _∷_, _++_, append-assoc, append-nil}
-use lib.Dec.{eqb·suc-zero}
-use lib.ListN.{length, take, drop, length-append, length-take, length-drop}
+use mathlib.Core.List.{List, [], _∷_, _++_}
+use lib.ListN.{length, drop, length-append, length-drop}
 use borrow.Author.Tests.{eqb-true, leb-true}
-use Rattle.protocol.specs.Bytes.{Bytes, join, pieces}
+use Rattle.protocol.specs.Bytes.{Bytes, join}
 use Rattle.protocol.specs.RowLaws.{row}
 use Rattle.protocol.specs.EveryLaws.{Every, none, every-append}
 use Rattle.protocol.specs.PiecesLaws.{Sized, length-join, length-pieces, pieces-sized}

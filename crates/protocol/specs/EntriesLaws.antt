@@ -1,14 +1,14 @@
 -- Entries one by one: those of a block, whether a list has one, and the pending ones that a list lacks.
-use Prim.Native.Nat.{ℕ, suc, _+_, _-_, _*_, _≤_, _<_}
+use Prim.Native.Nat.{ℕ, suc, _+_, _*_, _≤_, _<_}
 use native.Mathlib.Omega.{arith}
 use mathlib.Core.Path.{_≡_, refl, sym, ap, _∙_}
 use mathlib.Core.Bool.{Bool, true, false, _||_, cond}
-use mathlib.Core.List.{List, [], _∷_, _++_, append-assoc, append-nil}
-use lib.ListN.{length, getD, take, drop, length-append, take-append-drop, drop-of-length-le}
-use lib.Seq.{drop-cons, drop-at, take-at, take-all, take-append-seam, drop-append-seam, drop-append-add, drop-drop, length-take-le}
-use Rattle.protocol.specs.Bytes.{Bytes, byteAt, part, zeros, same, join, pieces, holds, overFront}
+use mathlib.Core.List.{List, [], _∷_, _++_}
+use lib.ListN.{length, getD, take, drop, take-append-drop}
+use lib.Seq.{take-at, take-all, drop-drop}
+use Rattle.protocol.specs.Bytes.{Bytes, byteAt, part, same, join, holds}
 use Rattle.protocol.specs.TestsLaws.{or-right}
-use Rattle.protocol.specs.Block.{entryCount, entries, newBlock}
+use Rattle.protocol.specs.Block.{entryCount, entries}
 use Rattle.protocol.specs.State.{State, pending}
 use Rattle.protocol.specs.View.{View, logAt}
 use Rattle.protocol.specs.Move.{without}

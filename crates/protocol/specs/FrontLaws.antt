@@ -3,8 +3,8 @@ use Prim.Native.Nat.{ℕ, _+_, _≤_}
 use native.Mathlib.Omega.{arith}
 use native.Mathlib.Nat.{zero-add, add-zero}
 use mathlib.Core.Path.{_≡_, refl, sym, _∙_}
-use mathlib.Core.List.{[], _++_, append-assoc, append-nil}
-use lib.ListN.{length, take, drop, length-append, length-drop, take-append-drop, drop-of-length-le}
+use mathlib.Core.List.{[], _++_, append-assoc}
+use lib.ListN.{length, take, drop, length-append, length-drop, take-append-drop}
 use lib.Seq.{take-append-seam, drop-at, drop-append-add, drop-append-seam, drop-drop, length-take-le}
 use Rattle.protocol.specs.Bytes.{Bytes, overFront}
 use Rattle.protocol.specs.BytesLaws.{put, length-put, middle-put}
@@ -72,8 +72,3 @@ pub front-in-part : (bytes new : Bytes) (start count : ℕ) → start + count �
 front-in-part bytes new start count fits inside =
     let e : start + 0 ≡ start = add-zero start in
     rw (← put-start (take count (drop start bytes)) new) (rw e at (put-in-part bytes new start count 0 fits (omega arith)))
-
--- a buffer that is written over whole
-pub over-all : (bytes new : Bytes) → length bytes ≤ length new → overFront new bytes ≡ new
-unfolding overFront
-over-all bytes new h = rw (drop-of-length-le bytes {i = length new} h) (append-nil new)

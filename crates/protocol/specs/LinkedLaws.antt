@@ -1,8 +1,7 @@
 -- The tests of linked, extending and finalized hold exactly where the facts do, and need no fuel.
-use Prim.Native.Nat.{ℕ, zero, suc, _+_, _-_, _≤_, _<_}
+use Prim.Native.Nat.{ℕ, zero, suc, _-_, _≤_, _<_}
 use native.Mathlib.Omega.{arith}
 use mathlib.Core.Path.{_≡_, refl, sym, ap, _∙_}
-use mathlib.Core.Logic.{_⊎_, inl, inr}
 use mathlib.Core.Bool.{Bool, true, false, _&&_, _||_}
 use mathlib.Core.List.{[], _∷_}
 use lib.Dec.{eqb, ltb, eqb·suc-zero}
@@ -10,9 +9,9 @@ use borrow.Author.Tests.{ltb-true, lt-ltb}
 use Rattle.protocol.specs.Bytes.{Bytes, same}
 use Rattle.protocol.specs.Tests.{allOf}
 use Rattle.protocol.specs.Block.{parentHeight, parentDigest}
-use Rattle.protocol.specs.View.{View, quorum, isDummy, dummyRun, digestAt, extendsOver, linkedWithin, linked, extends, isFinalized}
+use Rattle.protocol.specs.View.{View, quorum, dummyRun, digestAt, extendsOver, linkedWithin, linked, extends, isFinalized}
 use Rattle.protocol.specs.Linked.{OnParent, Linked, start, link, Extends, Finalized}
-use Rattle.protocol.specs.TestsLaws.{and-true, le-or-lt}
+use Rattle.protocol.specs.TestsLaws.{and-true}
 use Rattle.protocol.specs.ViewLaws.{run-sound, run-complete}
 use Rattle.protocol.specs.RowLaws.{row, same-eq, same-self}
 

@@ -3,13 +3,13 @@ use Prim.Native.Nat.{ℕ, zero, suc, _+_, _*_, _/_, _%_, _^_, _≤_, _<_}
 use native.Mathlib.Omega.{arith}
 use native.Mathlib.Decide.{ℕ-discrete}
 use native.Mathlib.Numerals.{one-add}
-use native.Mathlib.Nat.{div-one, div-div-eq-div-mul, mul-comm, pow-suc, zero-div, mod-lt, add-mul-div-right, add-div-right, div-eq-of-lt, mod-eq-of-lt, mod-one, le-trans, add-zero}
+use native.Mathlib.Nat.{div-one, div-div-eq-div-mul, mul-comm, pow-suc, zero-div, mod-lt, add-mul-div-right, add-div-right, div-eq-of-lt, mod-one, le-trans, add-zero}
 use mathlib.Core.Path.{_≡_, refl, sym, ap, ap₂, _∙_}
 use mathlib.Core.Logic.{_⊎_, inl, inr, _≢_}
 use mathlib.Core.Bool.{Bool, true, false, cond, true≢false}
 use lib.Dec.{eqb}
 use lib.Pow.{pow-pos, pow-mono, mod-pow-add}
-use borrow.Author.Tests.{eqb-true, eqb-false, eq-eqb, ltb-true, lt-ltb}
+use borrow.Author.Tests.{eqb-true, eqb-false, eq-eqb, ltb-true}
 use Rattle.protocol.specs.Mask.{inMask, maskOf, belowBit}
 use Rattle.protocol.specs.TestsLaws.{cond-elim, le-or-lt}
 
@@ -53,10 +53,6 @@ inMask-high n m t h l = false-bit m t (rw (div-eq-of-lt (le-trans h (pow-mono l)
 pub below-lt : (n m : ℕ) → belowBit n m ≡ true → m < 2 ^ n
 unfolding belowBit
 below-lt n m e = ltb-true m (2 ^ n) e
-
-pub lt-below : (n m : ℕ) → m < 2 ^ n → belowBit n m ≡ true
-unfolding belowBit
-lt-below n m h = lt-ltb m (2 ^ n) h
 
 -- ---- a bit more
 half-add : (m s : ℕ) → (m + 2 ^ suc s) / 2 ≡ m / 2 + 2 ^ s
@@ -132,9 +128,6 @@ maskOf-bit p (suc n) t l = pick (p n) refl (ℕ-discrete t n) (λ z. maskOf-bit 
     pick true e (yes q) below = rw q (inMask-add-self (maskOf p n) n absent ∙ sym e)
     pick true e (no q) below = inMask-add-other (maskOf p n) n t absent q ∙ below (omega arith)
 
-pub maskOf-inMask : (p : ℕ → Bool) (n t : ℕ) → t < n → p t ≡ true → inMask (maskOf p n) t ≡ true
-maskOf-inMask p n t l e = maskOf-bit p n t l ∙ e
-
 pub inMask-maskOf : (p : ℕ → Bool) (k t : ℕ) → inMask (maskOf p k) t ≡ true → (t < k) × (p t ≡ true)
 inMask-maskOf p k t e = pick (le-or-lt k t)
   where
@@ -164,8 +157,3 @@ maskOf-bits m (suc n) =
     let value = bit-value (m / 2 ^ n % 2) (2 ^ n) above in
     let lower = maskOf-bits m n in
     omega arith
-
--- masks below `2 ^ n` with the same bits are equal
-pub mask-same : (n a b : ℕ) → a < 2 ^ n → b < 2 ^ n → ((t : ℕ) → t < n → inMask a t ≡ inMask b t) → a ≡ b
-mask-same n a b h k e =
-    sym (maskOf-bits a n ∙ mod-eq-of-lt h) ∙ maskOf-same (λ s. inMask a s) (λ s. inMask b s) n e ∙ maskOf-bits b n ∙ mod-eq-of-lt k

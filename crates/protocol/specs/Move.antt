@@ -12,7 +12,7 @@ use Rattle.protocol.specs.Frame.{frameSize, proposal, blockVote, dummyVo
 use Rattle.protocol.specs.State.{State, at, last, encode, decode, holdsProposal, flag, withHead, pending}
 use Rattle.protocol.specs.View.{linked, isDummy, extends, largestFinalized, parentOf, digestAt, logAt}
 use Rattle.protocol.specs.Sound.{view, sound}
-use Rattle.protocol.specs.Answer.{Answer, refused, accepted, Move, idle, voteDummy, output, pass, propose, voteBlock, Certificate, onBlock, onDummy}
+use Rattle.protocol.specs.Answer.{Answer, refused, accepted, Move, idle, voteDummy, output, pass, propose, voteBlock, onBlock, onDummy}
 
 -- one move: its name, the state after it and the frames that it writes
 pub record Step : Type 0 where

@@ -4,7 +4,7 @@ use native.Mathlib.Omega.{arith}
 use native.Mathlib.Nat.{mul-zero}
 use mathlib.Core.Path.{_≡_, refl, sym, ap, _∙_}
 use mathlib.Core.List.{List, [], _∷_, _++_, map}
-use lib.ListN.{length, getD, set, length-map, length-replicate, replicate-append-replicate}
+use lib.ListN.{length, getD, set, length-map}
 use Rattle.protocol.specs.Bytes.{Bytes, le16, zeros, join}
 use Rattle.protocol.specs.State.{State, Height, at, last, noHeight, withHeight, encode, headBytes, contentBytes, bodyBytes}
 use Rattle.protocol.specs.Open.{newHeight, newState}

@@ -1,13 +1,11 @@
 -- Pending entries of a sound state, those that a list lacks, and those that a block takes: 16 bytes each, eight at most.
-use Prim.Native.Nat.{ℕ, _*_, _≤_}
+use Prim.Native.Nat.{ℕ, _≤_}
 use native.Mathlib.Omega.{arith}
-use mathlib.Core.List.{List, [], _∷_}
-use lib.ListN.{length, take, length-take}
-use Rattle.protocol.specs.Bytes.{Bytes, holds}
+use lib.ListN.{length, length-take}
+use Rattle.protocol.specs.Bytes.{Bytes}
 use Rattle.protocol.specs.State.{State, pending}
-use Rattle.protocol.specs.Move.{without, offered}
-use Rattle.protocol.specs.EveryLaws.{Every, none, one, every-take}
-use Rattle.protocol.specs.TestsLaws.{cond-elim}
+use Rattle.protocol.specs.Move.{offered}
+use Rattle.protocol.specs.EveryLaws.{Every, every-take}
 use Rattle.protocol.specs.PiecesLaws.{Sized, pieces-sized}
 use Rattle.protocol.specs.PoolLaws.{every-without}
 use Rattle.protocol.specs.SoundLaws.{SoundState}

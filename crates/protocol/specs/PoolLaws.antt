@@ -1,16 +1,15 @@
 -- The pool while its entries are closed up in place: those that stay move to the front one by one, and then a new one follows them.
-use Prim.Native.Nat.{ℕ, zero, suc, _+_, _-_, _*_, _≤_, _<_}
+use Prim.Native.Nat.{ℕ, suc, _+_, _-_, _*_, _≤_, _<_}
 use native.Mathlib.Omega.{arith}
-use native.Mathlib.Nat.{mul-zero}
 use native.Mathlib.Numerals.{add-one}
 use mathlib.Core.Path.{_≡_, refl, sym, ap, _∙_}
 use mathlib.Core.Bool.{Bool, true, false, cond}
 use mathlib.Core.List.{List, [], _∷_, _++_, append-assoc, append-nil}
 use lib.ListN.{length, getD, take, drop, set, length-append, length-take, length-drop, drop-of-length-le}
-use lib.Seq.{take-suc, take-add, take-at, drop-drop, drop-append-add}
+use lib.Seq.{take-suc, drop-drop, drop-append-add}
 use Rattle.protocol.specs.Bytes.{Bytes, part, zeros, join, pieces, holds}
 use Rattle.protocol.specs.State.{State, at, encode, decode, last}
-use Rattle.protocol.specs.Sound.{view, log}
+use Rattle.protocol.specs.Sound.{view}
 use Rattle.protocol.specs.Submit.{withPending}
 use Rattle.protocol.specs.Move.{without}
 use Rattle.protocol.specs.EveryLaws.{Every, none, one}
@@ -88,17 +87,9 @@ module _ (s : State) (es : List Bytes) where
   unfolding moved withPool view at
   moved-view = refl
 
-  pub moved-log : log (moved s es) ≡ log s
-  unfolding moved withPool log view at
-  moved-log = refl
-
   pub moved-last : last (moved s es) ≡ last s
   unfolding moved withPool last
   moved-last = refl
-
-  pub moved-count : moved s es .pendingCount ≡ s .pendingCount
-  unfolding moved withPool
-  moved-count = refl
 
   pub moved-pending : (entries : List Bytes) → withPending (moved s es) entries ≡ withPending s entries
   unfolding moved withPool withPending

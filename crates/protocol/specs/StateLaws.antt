@@ -1,10 +1,9 @@
 -- A book of the right shape is read back from its bytes as it is.
-use Prim.Native.Nat.{ℕ, zero, suc, _+_, _*_, _/_, _%_}
+use Prim.Native.Nat.{ℕ, _+_, _*_, _/_, _%_}
 use native.Mathlib.Omega.{arith}
-use native.Mathlib.Nat.{mul-suc, add-comm}
 use mathlib.Core.Path.{_≡_, refl, sym, ap₂, subst, _∙_}
 use mathlib.Core.List.{List, [], _∷_, _++_, map, append-assoc, append-nil}
-use lib.ListN.{length, take, drop, set, length-append, length-map}
+use lib.ListN.{length, take, drop, length-append, length-map}
 use lib.Seq.{take-at, drop-at, take-all, drop-drop}
 use Rattle.protocol.specs.Bytes.{Bytes, word16, le16, part, zeros, join, pieces}
 use Rattle.protocol.specs.EveryLaws.{Every, none, one, every-map}

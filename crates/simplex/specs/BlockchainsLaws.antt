@@ -4,27 +4,26 @@ use native.Mathlib.Omega.{arith}
 use native.Mathlib.Nat.{add-suc}
 use mathlib.Core.Path.{_≡_, refl, sym, ap, ap₂, subst, _∙_}
 use mathlib.Core.Logic.{_⊎_, inl, inr, _↔_}
-use mathlib.Core.Bool.{true, false, false≢true}
-use mathlib.Core.List.{List, [], _++_}
-use mathlib.Core.Option.{some, none}
+use mathlib.Core.Bool.{true, false≢true}
+use mathlib.Core.List.{List, _++_}
 use lib.ListN.{length, List·getD-eq-default}
 use borrow.Author.Tests.{eqb-true}
 use Rattle.protocol.specs.Bytes.{Bytes}
 use Rattle.protocol.specs.Block.{parentHeight, parentDigest, entries, blockWellFormed}
 use Rattle.protocol.specs.RowLaws.{row}
 use Rattle.protocol.specs.State.{State, last, at, isNotarized, noHeight}
-use Rattle.protocol.specs.View.{View, linked, isDummy, extends, isFinalized, parentOf, digestAt, logAt, quorum}
+use Rattle.protocol.specs.View.{View, linked, isDummy, extends, isFinalized, parentOf, digestAt, logAt}
 use Rattle.protocol.specs.Sound.{view, log}
 use Rattle.protocol.specs.SoundLaws.{SoundState}
 use Rattle.protocol.specs.Move.{isSome}
 use Rattle.protocol.specs.TestsLaws.{le-or-lt}
-use Rattle.protocol.specs.Linked.{Linked, start, link, OnParent, Extends, Finalized, ChainOf}
+use Rattle.protocol.specs.Linked.{Linked, start, link, OnParent, ChainOf}
 use Rattle.protocol.specs.LinkedLaws.{linked-sound, linked-complete, extends-sound, extends-complete, finalized-sound, finalized-complete}
 use Rattle.protocol.specs.ChainLaws.{log-suc}
 use Rattle.protocol.specs.ViewLaws.{log-zero}
 use Rattle.protocol.specs.ParentLaws.{parent-some, parent-isSome, isSome-parent}
 use Rattle.simplex.specs.Paper as Paper
-use Rattle.simplex.specs.Paper.{Sequence, genesis, addDummy, addBlock, height, linearize, lastBlock, lastDigest, Follows, NotarizedBlock, NotarizedBlockchain, FinalizedBlockchain, Finalization, SeenOfHeight, SeenWithBlock}
+use Rattle.simplex.specs.Paper.{Sequence, genesis, addDummy, addBlock, height, linearize, lastBlock, lastDigest, Follows, NotarizedBlock, NotarizedBlockchain, Finalization, SeenOfHeight, SeenWithBlock}
 use Rattle.simplex.specs.Blockchains.{Proper, ChainEndingAt, ParentOf, LinkedIsSeen, ParentIsSeen, ParentIsLargest, ExtendsIsFollowing, FinalizedIsSeen, LogIsLinearized, InThePapersTerms}
 
 module _ (digest : Bytes → Bytes) (v : View) where

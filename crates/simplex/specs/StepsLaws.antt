@@ -1,36 +1,34 @@
 -- Proofs of `Steps`: each move is taken just where its test passes and no earlier one does, and its test is the paper's condition.
-use Prim.Native.Nat.{ℕ, zero, suc, _+_, _-_, _≤_, _<_}
+use Prim.Native.Nat.{ℕ, suc, _+_, _-_, _≤_, _<_}
 use native.Mathlib.Omega.{arith}
 use mathlib.Core.Path.{_≡_, refl, sym, ap, subst, _∙_}
 use mathlib.Core.Logic.{_⊎_, inl, inr, _↔_}
-use mathlib.Core.Bool.{Bool, true, false, _&&_, _||_, not, cond, true≢false, false≢true}
+use mathlib.Core.Bool.{Bool, true, false, _&&_, _||_, not, cond, false≢true}
 use mathlib.Core.List.{List, [], _∷_}
 use mathlib.Core.Option.{Option, some, none}
 use lib.ListN.{length, take}
-use lib.Dec.{eqb, leb, ltb}
-use borrow.Author.Tests.{eqb-true, eq-eqb, leb-true, le-leb, ltb-true, lt-ltb, not-true, not-false}
-use Rattle.protocol.specs.Bytes.{Bytes, isZero}
+use borrow.Author.Tests.{eqb-true, eq-eqb, leb-true, le-leb, ltb-true, lt-ltb, not-true}
+use Rattle.protocol.specs.Bytes.{Bytes}
 use Rattle.protocol.specs.Block.{blockHeight, parentHeight, newBlock, blockWellFormed}
 use Rattle.protocol.specs.Frame.{finalize}
 use Rattle.protocol.specs.TestsLaws.{and-true, or-true, or-right}
-use Rattle.protocol.specs.RowLaws.{row, all-of, true-and, zeros-is-zero}
+use Rattle.protocol.specs.RowLaws.{row, all-of, true-and}
 use Rattle.protocol.specs.PiecesLaws.{Sized}
 use Rattle.protocol.specs.BlockLaws.{digest-back, entries-back, new-block-good}
-use Rattle.protocol.specs.BytesLaws.{length-zeros}
 use Rattle.protocol.specs.MoveLaws.{step-cases}
 use Rattle.protocol.specs.ViewLaws.{digest-at-size, digest-at-start}
 use Rattle.protocol.specs.PendingLaws.{offered-sized, offered-few}
 use Rattle.protocol.specs.EveryLaws.{Every}
 use Rattle.protocol.specs.State.{State, at, last, flag, withHead, holdsProposal, pending}
-use Rattle.protocol.specs.View.{quorum, logAt, digestAt, linked, isDummy, extends, isFinalized, largestFinalized, parentOf}
+use Rattle.protocol.specs.View.{quorum, digestAt, linked, isDummy, extends, isFinalized, parentOf}
 use Rattle.protocol.specs.Linked.{Finalized, Largest}
 use Rattle.protocol.specs.LinkedLaws.{finalized-sound, finalized-complete}
 use Rattle.protocol.specs.ParentLaws.{parent-some, largestFinalized-is}
 use Rattle.protocol.specs.Sound.{view}
 use Rattle.protocol.specs.SoundLaws.{SoundState}
-use Rattle.protocol.specs.Answer.{Move, idle, voteDummy, output, pass, propose, voteBlock, Certificate, onBlock, onDummy}
+use Rattle.protocol.specs.Answer.{Move, idle, voteDummy, output, pass, propose, voteBlock, onBlock, onDummy}
 use Rattle.protocol.specs.Move.{Step, step, firstStep, without, offered, proposedBlock, someOr, isRunning, isSome, idleStep, dummyVoteApplies, dummyVoteStep, outputApplies, outputStep, passApplies, passStep, proposeApplies, proposeStep, blockVoteApplies, blockVoteStep, newFinalized, parentBelow, passCertificate}
-use Rattle.simplex.specs.Paper.{lastBlock, linearize, Sequence, genesis, addDummy, addBlock, height, NotarizedBlockchain, SeenOfHeight, SeenWithBlock, Finalization}
+use Rattle.simplex.specs.Paper.{lastBlock, linearize, Sequence, addDummy, addBlock, height, NotarizedBlockchain, SeenOfHeight, SeenWithBlock, Finalization}
 use Rattle.simplex.specs.Blockchains.{ChainEndingAt, ParentOf, InThePapersTerms, LinkedIsSeen, ParentIsSeen, ParentIsLargest, FinalizedIsSeen, ExtendsIsFollowing}
 use Rattle.simplex.specs.BlockchainsLaws.{in-the-papers-terms}
 use Rattle.simplex.specs.Steps.{FiveSteps, Running, Makes, Offers, LeaderProposal, DummyBlocks, Sent, NextIteration, NotarizingProposals, FinalizedOutputs}
