@@ -2,7 +2,7 @@
 use Prim.Native.Nat.{ℕ, suc, _+_, _-_, _*_, _/_, _%_, _≤_}
 use native.Mathlib.Omega.{arith}
 use native.Mathlib.Numerals.{add-one}
-use mathlib.Core.Path.{_≡_, refl, subst, _∙_}
+use mathlib.Core.Path.{_≡_, refl, sym, subst, _∙_}
 use mathlib.Core.Logic.{_⊎_, inl, inr}
 use mathlib.Core.Bool.{Bool, true, false, not, cond}
 use mathlib.Core.List.{List, [], _∷_, List·Memᴰ, List·Memᴰ·eq-of-singleton, List·Memᴰ·cases-cons, List·Memᴰ·not-nil}
@@ -11,7 +11,7 @@ use lib.ListN.{getD}
 use lib.Dec.{eqb}
 use borrow.Author.Tests.{not-true}
 use Rattle.protocol.specs.Bytes.{Bytes, le16, word16, zeros}
-use Rattle.protocol.specs.MoveLaws.{step-cases}
+use Rattle.protocol.specs.MoveLaws.{step-cases, head-only}
 use Rattle.protocol.specs.FlagLaws.{flag-set, flag-kept}
 use Rattle.protocol.specs.Frame.{blockCertificate, blockVote, dummyCertificate, dummyVote, finalize, frameBlock, frameDigest, frameHeight, frameOf, kind, proposal, signer, signerMask}
 use Rattle.protocol.specs.Mask.{inMask}
@@ -181,8 +181,4 @@ with-head-same b f c g = record { same-n = refl; same-pool = refl; same-heights 
 
 module _ (digest : Bytes → Bytes) (b : State) where
   pub step-body : SameBody b (step digest b .after)
-  unfolding dummyVoteStep outputStep passStep proposeStep blockVoteStep idleStep
-  step-body = step-cases digest b (λ (st : Step). SameBody b (st .after))
-      (λ _. with-head-same b _ _ _) (λ _ _. with-head-same b _ _ _) (λ _ _ _. with-head-same b _ _ _)
-      (λ _ _ _ _. with-head-same b _ _ _) (λ _ _ _ _ _. with-head-same b _ _ _)
-      (λ _ _ _ _ _. record { same-n = refl; same-pool = refl; same-heights = refl })
+  step-body = let (flags, current, finalized, e) = head-only digest b in subst (SameBody b) (sym e) (with-head-same b flags current finalized)

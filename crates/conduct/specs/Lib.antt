@@ -1,3 +1,4 @@
+-- What calls keep: sound books stay sound, and what is written is read.
 pub mod SoundKept
 pub mod WrittenRead
 pub mod Fields

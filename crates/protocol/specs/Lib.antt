@@ -1,3 +1,4 @@
+-- Every rule of document 01 as a definition, and then the laws of these definitions.
 pub mod Bytes
 pub mod Tests
 pub mod Block
@@ -14,6 +15,9 @@ pub mod Signal
 pub mod Submit
 pub mod Read
 pub mod Fetch
+pub mod Linked
+pub mod Examples
+pub mod Computing
 pub mod EveryLaws
 pub mod TestsLaws
 pub mod MaskLaws
@@ -27,7 +31,6 @@ pub mod PiecesLaws
 pub mod FrontLaws
 pub mod CodecLaws
 pub mod ViewLaws
-pub mod Linked
 pub mod LinkedLaws
 pub mod ChainLaws
 pub mod BlockLaws
@@ -47,9 +50,7 @@ pub mod ChangeLaws
 pub mod BookLaws
 pub mod NewStateLaws
 pub mod FormedLaws
-pub mod Examples
 pub mod NewBookLaws
 pub mod NewBookCallsLaws
-pub mod Computing
 pub mod ExamplesLaws
 pub mod BuildLaws

@@ -1,9 +1,11 @@
 -- Move takes one of six steps: what holds of each of them where it applies and no earlier one does holds of the step taken.
-use mathlib.Core.Path.{_≡_}
+-- It changes nothing past the head.
+use Prim.Native.Nat.{ℕ, _+_}
+use mathlib.Core.Path.{_≡_, refl}
 use mathlib.Core.Bool.{true, false}
 use Rattle.protocol.specs.Bytes.{Bytes}
-use Rattle.protocol.specs.State.{State}
-use Rattle.protocol.specs.Move.{Step, firstStep, step, dummyVoteApplies, dummyVoteStep, outputApplies, outputStep, passApplies, passStep, proposeApplies, proposeStep, blockVoteApplies, blockVoteStep, idleStep}
+use Rattle.protocol.specs.State.{State, withHead}
+use Rattle.protocol.specs.Move.{Step, firstStep, step, newFinalized, dummyVoteApplies, dummyVoteStep, outputApplies, outputStep, passApplies, passStep, proposeApplies, proposeStep, blockVoteApplies, blockVoteStep, idleStep}
 use Rattle.protocol.specs.TestsLaws.{cond-elim}
 
 module _ (digest : Bytes → Bytes) (s : State) (P : Step → Type 0) where
@@ -25,3 +27,17 @@ module _ (digest : Bytes → Bytes) (s : State) (P : Step → Type 0) where
       cond-elim P (passApplies digest s) (three a b) λ c.
       cond-elim P (proposeApplies digest s) (four a b c) λ d.
       cond-elim P (blockVoteApplies digest s) (five a b c d) λ e. otherwise a b c d e
+
+module _ (digest : Bytes → Bytes) (s : State) where
+  abbrev pub HeadOnly : Step → Type 0
+  HeadOnly st = (flags current finalized : ℕ) × (st .after ≡ withHead s flags current finalized)
+
+  pub head-only : HeadOnly (step digest s)
+  unfolding dummyVoteStep outputStep passStep proposeStep blockVoteStep idleStep withHead
+  head-only = step-cases digest s HeadOnly
+      (λ _. (s .flags + 2, s .current, s .finalized, refl))
+      (λ _ _. (s .flags, s .current, newFinalized digest s, refl))
+      (λ _ _ _. (0, s .current + 1, s .finalized, refl))
+      (λ _ _ _ _. (s .flags + 8, s .current, s .finalized, refl))
+      (λ _ _ _ _ _. (s .flags + 4, s .current, s .finalized, refl))
+      (λ _ _ _ _ _. (s .flags, s .current, s .finalized, refl))
