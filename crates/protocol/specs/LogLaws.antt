@@ -11,7 +11,8 @@ use Rattle.protocol.specs.State.{State}
 use Rattle.protocol.specs.View.{linked, isFinalized, quorum, logAt}
 use Rattle.protocol.specs.Sound.{view, log}
 use Rattle.protocol.specs.TestsLaws.{and-true}
-use Rattle.protocol.specs.SoundLaws.{SoundState, notarized-in, linked-in}
+use Rattle.protocol.specs.SoundLaws.{SoundState, linked-in}
+use Rattle.protocol.specs.CodecLaws.{notarized-in}
 use Rattle.protocol.specs.LinkedLaws.{linked-zero}
 use Rattle.protocol.specs.ChainLaws.{log-length, log-bound}
 
