@@ -21,7 +21,8 @@ use Rattle.protocol.specs.StateLaws.{ShapedHeight}
 use Rattle.protocol.specs.Tests.{allOf}
 use Rattle.protocol.specs.TestsLaws.{cond-elim, eqb-self, or-true}
 use Rattle.protocol.specs.View.{View, quorum}
-use Rattle.agreement.specs.BackingLaws.{Backed, IfSome, backed-dummies, backed-finalizations, backed-notarize, backed-notarized, backed-proposal, backed-vote, vote-other, vote-same}
+use Rattle.protocol.specs.VoteLaws.{vote-same, vote-other}
+use Rattle.agreement.specs.BackingLaws.{Backed, IfSome, backed-dummies, backed-finalizations, backed-notarize, backed-notarized, backed-proposal, backed-vote}
 use Rattle.agreement.specs.Lists.{Statement, blockIn, finalizes, statementOf, votesBlock, votesDummy, when}
 
 -- ---- what holds of every replica in a mask holds where the mask grows

@@ -68,7 +68,7 @@ module _ (digest : Bytes → Bytes) (s : State) (is : SoundState digest s) (fram
   here : SoundHeight v h x
   here = is .each h (facts .low) (facts .high)
 
-  shaped : ShapedHeight x
+  pub shaped : ShapedHeight x
   shaped = go h (facts .low) (facts .high)
     where
       go : (k : ℕ) → 1 ≤ k → k ≤ last s → ShapedHeight (at s k)
@@ -80,15 +80,15 @@ module _ (digest : Bytes → Bytes) (s : State) (is : SoundState digest s) (fram
   unfolding frameWellFormed
   frame-size = eqb-true _ _ (row _ 0 (facts .formed))
 
-  digest-size : length (frameDigest frame) ≡ 32
+  pub digest-size : length (frameDigest frame) ≡ 32
   unfolding frameDigest
   digest-size = length-part frame 16 32 (omega (arith, frame-size))
 
-  signer-small : (k : ℕ) → kind frame ≡ k → isStatement k ≡ true → signer frame < v .n
+  pub signer-small : (k : ℕ) → kind frame ≡ k → isStatement k ≡ true → signer frame < v .n
   unfolding view
   signer-small k e statement = ltb-true _ _ (subst (λ (b : Bool). cond b (ltb (signer frame) (s .n)) (belowBit (s .n) (signerMask frame)) ≡ true) (ap isStatement e ∙ statement) (facts .members))
 
-  mask-small : (k : ℕ) → kind frame ≡ k → isStatement k ≡ false → signerMask frame < 2 ^ v .n
+  pub mask-small : (k : ℕ) → kind frame ≡ k → isStatement k ≡ false → signerMask frame < 2 ^ v .n
   unfolding view
   mask-small k e statement = below-lt _ _ (subst (λ (b : Bool). cond b (ltb (signer frame) (s .n)) (belowBit (s .n) (signerMask frame)) ≡ true) (ap isStatement e ∙ statement) (facts .members))
 

@@ -1,6 +1,8 @@
 -- What calls keep: sound books stay sound, and what is written is read.
 pub mod SoundKept
 pub mod WrittenRead
+pub mod Keeping
+pub mod KeepingLaws
 pub mod Fields
 pub mod Readable
 pub mod Named

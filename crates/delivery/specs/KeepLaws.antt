@@ -104,6 +104,10 @@ pub same-book : (book : Bytes) (h : ℕ) → Spot book h → encode (withHeight 
 same-book book zero spot = absurd (omega (arith, spot .within))
 same-book book (suc i) spot = named-height book i (spot .ready .whole)
 
+pub kept-proposal : (x : Height) (block : Bytes) → withProposal x block .proposal ≡ block
+unfolding withProposal
+kept-proposal x block = refl
+
 pub proposal-status : (x : Height) (block : Bytes) → x .status ≤ 3 → holdsProposal x ≡ false → withProposal x block .status ≤ 3
 unfolding withProposal holdsProposal
 proposal-status x block small e =
@@ -161,6 +165,9 @@ module _ (book : Bytes) (h : ℕ) (spot : Spot book h) (y : Height) (fits : Shap
 
   pub spot-after : (after : Bytes) → after ≡ encode (withHeight (decode book) h y) → y .status ≤ 3 → Spot after h
   spot-after after e small = rw e (spot-written small)
+
+  pub height-after : (after : Bytes) → after ≡ encode (withHeight (decode book) h y) → at (decode after) h ≡ y
+  height-after after e = ap (λ (s : State). at s h) (ap decode e ∙ decoded) ∙ at-written (decode book) h y (spot .within .low) in-state
 
   pub notarized-after : (digest : Bytes → Bytes) (after final : Bytes) → after ≡ encode (withHeight (decode book) h y) →
       final ≡ encode (withHeight (decode after) h (notarize digest (view (decode after)) (at (decode after) h))) →

@@ -1,6 +1,8 @@
 // What each kind of frame changes at its height. Each function answers whether the book changed.
 use crate::notarize::notarize;
+use crate::notarize::notarize_with;
 use crate::parts::frame_block;
+use crate::parts::frame_block_digest;
 use crate::parts::frame_digest;
 use crate::signers::bit;
 use crate::signers::in_mask;
@@ -35,8 +37,9 @@ fn keep_proposal(book: &mut [u8], h: usize, frame: &[u8]) -> bool
     if holds_proposal(book, h) {
         false
     } else {
+        let digest = frame_block_digest(frame);
         fields::keep::keep_proposal(book, h, frame_block(frame));
-        notarize(book, h);
+        notarize_with(book, h, &digest);
         true
     }
 }

@@ -7,11 +7,10 @@ use fields::quorum::quorum;
 use state::tally::voters_for;
 ghost use mathlib.Core.Path.{_≡_};
 ghost use mathlib.Core.Bool.{_&&_, not};
-ghost use Prim.Native.Nat.{_<_};
 ghost use Rattle.sha256.specs.Digest.{sha256 as sha};
 ghost use Rattle.protocol.specs.State.{decode, encode, at, withHeight, holdsProposal, isNotarized};
 ghost use Rattle.protocol.specs.Sound.{view};
-ghost use Rattle.protocol.specs.Deliver.{votersFor, notarize as notarized};
+ghost use Rattle.protocol.specs.Deliver.{notarize as notarized};
 ghost use Rattle.delivery.specs.Given.{Spot};
 
 // Whether height `h` holds a proposal and has no notarized block yet.
@@ -26,24 +25,27 @@ fn awaits_votes(book: &[u8], h: usize) -> bool
     }
 }
 
-// The mask of the replicas whose kept vote is for the held proposal. One digest.
-fn proposal_voters(book: &[u8], h: usize) -> usize
+// Notarizes the held proposal of height `h`, whose digest this is, if it awaits votes and has a quorum of them.
+pub fn notarize_with(book: &mut [u8], h: usize, digest: &[u8])
     requires { ⌜ Spot (now book) h ⌝ }
-    ensures { λ r. ⌜ (r ≡ votersFor (at (decode (now (book .entry))) h) (sha (at (decode (now (book .entry))) h .proposal)) (decode (now (book .entry)) .n)) × (r < 65536) ⌝ }
+    requires { ⌜ now digest ≡ sha (at (decode (now book)) h .proposal) ⌝ }
+    ensures { λ _. ⌜ now (book .exit) ≡ encode (withHeight (decode (now (book .entry))) h (notarized sha (view (decode (now (book .entry)))) (at (decode (now (book .entry))) h))) ⌝ }
 {
-    let digest = sha256::sha256(proposal(book, h));
-    voters_for(book, h, &digest)
+    if awaits_votes(book, h) {
+        let voters = voters_for(book, h, digest);
+        if quorum(book, voters) {
+            notarize_held(book, h, voters);
+        }
+    }
 }
 
-// Notarizes the held proposal of height `h`, if it awaits votes and has a quorum of them.
+// The same for a proposal that the book holds already: its digest is taken where it lies, and only if it awaits votes.
 pub fn notarize(book: &mut [u8], h: usize)
     requires { ⌜ Spot (now book) h ⌝ }
     ensures { λ _. ⌜ now (book .exit) ≡ encode (withHeight (decode (now (book .entry))) h (notarized sha (view (decode (now (book .entry)))) (at (decode (now (book .entry))) h))) ⌝ }
 {
     if awaits_votes(book, h) {
-        let voters = proposal_voters(book, h);
-        if quorum(book, voters) {
-            notarize_held(book, h, voters);
-        }
+        let digest = sha256::sha256(proposal(book, h));
+        notarize_with(book, h, &digest);
     }
 }

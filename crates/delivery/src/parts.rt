@@ -1,6 +1,7 @@
 // Parts of a frame, lent where they lie, and whether it is one replica's statement.
 ghost use mathlib.Core.Path.{_≡_};
 ghost use lib.ListN.{length};
+ghost use Rattle.sha256.specs.Digest.{sha256 as sha};
 ghost use Rattle.protocol.specs.Frame.{kind, frameDigest, frameBlock, isStatement};
 
 // The digest's place in a frame, 32 bytes.
@@ -17,6 +18,14 @@ pub fn frame_block(frame: &[u8]) -> &[u8]
     ensures { λ r. ⌜ (now r ≡ frameBlock (now (frame .entry))) × (length (now r) ≡ 176) ⌝ }
 {
     &frame[48..224]
+}
+
+// The digest of a frame's block, taken over the frame's own bytes. One digest.
+pub fn frame_block_digest(frame: &[u8]) -> [u8; 32]
+    requires { ⌜ length (now frame) ≡ 224 ⌝ }
+    ensures { λ r. ⌜ r ≡ sha (frameBlock (now (frame .entry))) ⌝ }
+{
+    sha256::sha256(frame_block(frame))
 }
 
 // Whether a frame is one replica's statement, kinds 1 to 4.

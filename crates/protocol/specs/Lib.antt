@@ -47,6 +47,7 @@ pub mod PendingLaws
 pub mod EntriesLaws
 pub mod WriteLaws
 pub mod ChangeLaws
+pub mod VoteLaws
 pub mod BookLaws
 pub mod NewStateLaws
 pub mod FormedLaws

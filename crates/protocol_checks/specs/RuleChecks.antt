@@ -5,7 +5,7 @@ use mathlib.Core.List.{List, [], _∷_, _++_}
 use lib.ListN.{replicate}
 use Rattle.protocol.specs.Bytes.{Bytes, zeros, part, join}
 use Rattle.protocol.specs.Block.{newBlock}
-use Rattle.protocol.specs.Frame.{proposal, blockVote, finalize, blockCertificate, dummyCertificate, finalizeCertificate}
+use Rattle.protocol.specs.Frame.{proposal, blockVote, dummyVote, finalize, blockCertificate, dummyCertificate, finalizeCertificate}
 use Rattle.protocol_checks.specs.CheckCalls.{standIn, opening, delivery, moving, submitting, perform, after, answers, splice, tools}
 
 entry : ℕ → Bytes
@@ -65,6 +65,14 @@ voters-only : part
     576 10 ≡ 1 ∷ 3 ∷ 11 ∷ 0 ∷ 0 ∷ 0 ∷ 0 ∷ 0 ∷ 15 ∷ 0 ∷ []
 unfolding tools entry first
 voters-only = refl
+
+-- votes: a replica's dummy vote and block vote are both kept, in either order
+both-votes : answers (zeros 1456)
+    (opening 4 0 1 (1 ∷ []) ∷ delivery (dummyVote 2 1) ∷ delivery (blockVote 2 1 (standIn first)) ∷
+    delivery (blockVote 3 1 (standIn first)) ∷ delivery (dummyVote 3 1) ∷ []) ≡
+    (0 ∷ []) ∷ (0 ∷ 1 ∷ []) ∷ (0 ∷ 1 ∷ []) ∷ (0 ∷ 1 ∷ []) ∷ (0 ∷ 1 ∷ []) ∷ []
+unfolding tools entry first
+both-votes = refl
 
 -- certificates: dummy and finalize masks are or-ed in
 masks-grow : part

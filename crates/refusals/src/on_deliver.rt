@@ -4,6 +4,7 @@ use crate::books::blank;
 use crate::books::certified;
 use crate::books::held;
 use crate::books::new;
+use crate::books::two_votes;
 use crate::books::unsound;
 use crate::books::voted;
 use crate::calls::deliver;
@@ -152,6 +153,7 @@ fn taken() {
     deliver(b"the same digest", voted(), page_vote(1));
     deliver(b"a zero digest", new(), page_vote(0));
     deliver(b"a blank vote after a page vote", voted(), blank_vote());
+    deliver(b"a page vote after a blank vote", two_votes(), page_vote(1));
     deliver(b"a vote after the certificate", certified(), page_vote(1));
     deliver(
         b"another proposal after the certificate",

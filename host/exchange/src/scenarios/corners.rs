@@ -17,6 +17,11 @@ pub fn run<C: Calls>(to: &mut Recorder<C>) {
     no_chain_below(to);
     parent_chain_filters(to);
     late_proposal(to);
+    both_votes(to);
+    joined_certificates(to);
+    unlinked_certificate(to);
+    single_bytes(to);
+    one_byte_more(to);
 }
 
 /// The mask of the first so many replicas.
@@ -91,4 +96,69 @@ fn late_proposal<C: Calls>(to: &mut Recorder<C>) {
     to.make(Call::Fetch { kind: 5, height: 1 }, BOOK, REPLY);
     deliver(to, BOOK, &[vote(1, &two), vote(2, &one), vote(3, &one)]);
     moves(to, BOOK);
+}
+
+fn both_votes<C: Calls>(to: &mut Recorder<C>) {
+    to.part("A page vote after the same station's blank vote is fresh, and the other way round");
+    to.open(BOOK, 4, 2, &[0]);
+    let block = first(1, &[]);
+    let blank = |signer| Frame::DummyVote { signer, height: 1 };
+    deliver(to, BOOK, &[blank(1), vote(1, &block), vote(3, &block), blank(3)]);
+}
+
+fn joined_certificates<C: Calls>(to: &mut Recorder<C>) {
+    to.part("Certificates of one height join their signers, and the joined mask is fetched");
+    to.open(BOOK, 4, 2, &[0]);
+    for mask in [7, 14, 11] {
+        deliver(to, BOOK, &[Frame::DummyCertificate { mask, height: 1 }]);
+    }
+    for mask in [11, 13, 14] {
+        deliver(to, BOOK, &[Frame::FinalizeCertificate { mask, height: 1 }]);
+    }
+    for kind in [6, 7] {
+        to.make(Call::Fetch { kind, height: 1 }, BOOK, REPLY);
+    }
+}
+
+fn unlinked_certificate<C: Calls>(to: &mut Recorder<C>) {
+    to.part("The certificate of a page that does not stand is fetched; two of four signers are no certificate");
+    to.open(BOOK, 4, 2, &[0, 1]);
+    let two = child(2, &first(1, &[]), &[]);
+    deliver(to, BOOK, &[Frame::BlockCertificate { mask: 7, block: two }]);
+    to.make(Call::Fetch { kind: 5, height: 2 }, BOOK, REPLY);
+    for signer in [0, 3] {
+        deliver(to, BOOK, &[Frame::DummyVote { signer, height: 1 }]);
+        deliver(to, BOOK, &[Frame::Finalize { signer, height: 1 }]);
+    }
+    for kind in [6, 7] {
+        to.make(Call::Fetch { kind, height: 1 }, BOOK, REPLY);
+    }
+}
+
+fn single_bytes<C: Calls>(to: &mut Recorder<C>) {
+    to.part(
+        "A byte that a frame does not use is 4: the last zero byte, and a signer of a certificate",
+    );
+    to.open(BOOK, 4, 2, &[0]);
+    let certificates = [
+        Frame::BlockCertificate { mask: 7, block: first(1, &[]) },
+        Frame::DummyCertificate { mask: 7, height: 1 },
+        Frame::FinalizeCertificate { mask: 7, height: 1 },
+    ];
+    for (frame, at) in certificates.iter().flat_map(|frame| [(frame, 15), (frame, 1)]) {
+        let mut bytes = frame.bytes();
+        bytes.iter_mut().skip(at).take(1).for_each(|byte| *byte = 1);
+        to.deliver(BOOK, &bytes);
+    }
+}
+
+fn one_byte_more<C: Calls>(to: &mut Recorder<C>) {
+    to.part(
+        "A sound book with one more byte is not sound, and no length but the exact one is opened",
+    );
+    let mut longer = to.bytes(BOOK).to_vec();
+    longer.push(0);
+    to.give(BOOK, longer);
+    to.make(Call::Size, BOOK, "");
+    to.make(Call::Open { n: 4, own: 2, heights: 1, leaders: vec![0] }, BOOK, "");
 }

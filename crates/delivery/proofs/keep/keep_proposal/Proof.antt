@@ -2,11 +2,11 @@
 use mathlib.Core.Path.{sym, ap, _∙_}
 use Rattle.sha256.specs.Digest.{sha256}
 use Rattle.protocol.specs.Bytes.{Bytes}
-use Rattle.protocol.specs.State.{decode, encode, at, withHeight}
+use Rattle.protocol.specs.State.{Height, decode, encode, at, withHeight}
 use Rattle.protocol.specs.Sound.{view}
 use Rattle.protocol.specs.ChangeLaws.{shaped-proposal}
 use Rattle.protocol.specs.Deliver.{withProposal, notarize, keepProposal}
-use Rattle.delivery.specs.KeepLaws.{known-frame, new-frame, shaped-here, proposal-status, spot-after, notarized-after}
+use Rattle.delivery.specs.KeepLaws.{known-frame, new-frame, shaped-here, kept-proposal, proposal-status, spot-after, height-after, notarized-after}
 use borrow.Author.Needs.{needs}
 use Rattle.delivery.proofs.keep.keep_proposal.Statement.{statement}
 use Rattle.delivery.proofs.keep.keep_proposal.Tie as tie
@@ -14,23 +14,34 @@ use Rattle.delivery.proofs.keep.keep_proposal.Tie as tie
 holds-proposal-requires : tie.Need-holds-proposal-requires
 holds-proposal-requires c κs = search needs
 
+frame-block-digest-requires : tie.Need-frame-block-digest-requires
+frame-block-digest-requires c κs = search needs
+
 frame-block-requires : tie.Need-frame-block-requires
 frame-block-requires c κs = search needs
 
 keep-proposal-requires : tie.Need-keep-proposal-requires
 keep-proposal-requires c κs = search needs
 
-notarize-requires : tie.Need-notarize-requires
-notarize-requires c κs =
-    let branch = c .before .before .before .before .before .before in
+slice-aggregate-notarize-with : tie.Need-slice-aggregate-notarize-with
+slice-aggregate-notarize-with c = search needs
+
+notarize-with-requires : tie.Need-notarize-with-requires
+notarize-with-requires c κs =
+    let branch = c .before .before .before .before .before .before .before .before in
     let start = branch .before .before .before .before .before in
     let book = start .args .book .now in
     let h = start .args .h in
-    let given = start .pre in
+    let spot = start .pre .spot in
     let x = at (decode book) h in
     let free = sym (branch .before .holds-proposal .ensures) ∙ branch .if1 .left in
-    let fits = shaped-proposal x _ (c .before .before .before .before .frame-block .ensures .1) (shaped-here book h (given .spot)) in
-    spot-after book h (given .spot) _ fits _ (c .before .before .before .keep-proposal .ensures) (proposal-status x _ (given .spot .status-small) free)
+    let carried = c .before .before .before .before .before .frame-block .ensures in
+    let fits = shaped-proposal x _ (carried .1) (shaped-here book h spot) in
+    let kept = c .before .before .before .before .keep-proposal .ensures in
+    let held = ap (λ (y : Height). y .proposal) (height-after book h spot _ fits _ kept) ∙ kept-proposal x _ ∙ carried .0 in (
+      spot-after book h spot _ fits _ kept (proposal-status x _ (spot .status-small) free),
+      c .before .before .before .before .before .before .before .frame-block-digest .ensures ∙ sym (ap sha256 held),
+    )
 
 same-length : tie.Need-same-length
 same-length c = search needs
@@ -49,16 +60,16 @@ same-length-2 c = search needs
 returns-2 : tie.Need-returns-2
 unfolding keepProposal
 returns-2 c =
-    let branch = c .before .before .before .before .before .before .before .before .before in
+    let branch = c .before .before .before .before .before .before .before .before .before .before .before in
     let start = branch .before .before .before .before .before in
     let book = start .args .book .now in
     let h = start .args .h in
     let given = start .pre in
     let x = at (decode book) h in
     let free = sym (branch .before .holds-proposal .ensures) ∙ branch .if1 .left in
-    let carried = c .before .before .before .before .before .before .before .frame-block .ensures in
+    let carried = c .before .before .before .before .before .before .before .before .frame-block .ensures in
     let fits = shaped-proposal x _ (carried .1) (shaped-here book h (given .spot)) in
-    let counted = notarized-after book h (given .spot) _ fits sha256 _ _ (c .before .before .before .before .before .before .keep-proposal .ensures) (c .before .before .notarize .ensures) in
+    let counted = notarized-after book h (given .spot) _ fits sha256 _ _ (c .before .before .before .before .before .before .before .keep-proposal .ensures) (c .before .before .notarize-with .ensures) in
     new-frame book h _ _ _ free (counted ∙ ap (λ (block : Bytes). encode (withHeight (decode book) h (notarize sha256 (view (decode book)) (withProposal x block)))) (carried .0))
 
 pub keep-proposal-spec : {M : Type 1} → statement M
@@ -66,9 +77,11 @@ keep-proposal-spec =
     tie.close
     (tie.spec
     holds-proposal-requires
+    frame-block-digest-requires
     frame-block-requires
     keep-proposal-requires
-    notarize-requires
+    slice-aggregate-notarize-with
+    notarize-with-requires
     same-length
     returns
     same-length-2

@@ -1,9 +1,9 @@
--- `notarize` meets its contract: the block is written where the three tests pass, and else the height stays as it is.
+-- `notarize` meets its contract: a proposal that awaits votes is notarized by its digest, and else the height stays as it is.
 use mathlib.Core.Path.{sym, ap, _∙_}
 use Rattle.sha256.specs.Digest.{sha256}
 use Rattle.protocol.specs.State.{Height, decode, encode, at, withHeight}
 use Rattle.delivery.specs.KeepLaws.{same-book}
-use Rattle.delivery.specs.NotarizeLaws.{notarizes, too-few, awaits-none}
+use Rattle.delivery.specs.NotarizeLaws.{awaits-none}
 use borrow.Author.Needs.{needs}
 use Rattle.delivery.proofs.notarize.notarize.Statement.{statement}
 use Rattle.delivery.proofs.notarize.notarize.Tie as tie
@@ -11,47 +11,32 @@ use Rattle.delivery.proofs.notarize.notarize.Tie as tie
 awaits-votes-requires : tie.Need-awaits-votes-requires
 awaits-votes-requires c κs = search needs
 
-proposal-voters-requires : tie.Need-proposal-voters-requires
-proposal-voters-requires c κs = search needs
+proposal-requires : tie.Need-proposal-requires
+proposal-requires c κs = search needs
 
-quorum-requires : tie.Need-quorum-requires
-quorum-requires c κs = search needs
+sha256-requires : tie.Need-sha256-requires
+sha256-requires c κs = search needs
 
-notarize-held-requires : tie.Need-notarize-held-requires
-notarize-held-requires c κs = search needs
+slice-aggregate-notarize-with : tie.Need-slice-aggregate-notarize-with
+slice-aggregate-notarize-with c = search needs
+
+notarize-with-requires : tie.Need-notarize-with-requires
+notarize-with-requires c κs =
+    let start = c .before .before .before .before .before .before .before .before .before in
+    let hashed = c .before .before .sha256 .ensures ∙ ap sha256 (c .before .before .before .proposal .ensures) in
+    (start .pre, hashed)
 
 same-length : tie.Need-same-length
 same-length c = search needs
 
 returns : tie.Need-returns
-returns c =
-    let inner = c .before .before .before .before in
-    let outer = inner .before .before .before .before .before in
-    let start = outer .before .before .before .before in
-    let book = start .args .book .now in
-    let h = start .args .h in
-    let awaits = sym (outer .before .awaits-votes .ensures) ∙ outer .if1 .taken in
-    let enough = sym (inner .before .quorum .ensures) ∙ inner .if2 .taken in
-    let becomes = notarizes sha256 (decode book) (at (decode book) h) _ (inner .before .before .before .proposal-voters .ensures .0) awaits enough in
-    c .before .before .notarize-held .ensures ∙ sym (ap (λ (y : Height). encode (withHeight (decode book) h y)) becomes)
+returns c = c .before .before .notarize-with .ensures
 
 same-length-2 : tie.Need-same-length-2
 same-length-2 c = search needs
 
 returns-2 : tie.Need-returns-2
 returns-2 c =
-    let start = c .before .before .before .before .before .before .before .before .before in
-    let book = start .args .book .now in
-    let h = start .args .h in
-    let few = sym (c .before .quorum .ensures) ∙ c .if2 .left in
-    let stays = too-few sha256 (decode book) (at (decode book) h) _ (c .before .before .before .proposal-voters .ensures .0) few in
-    sym (ap (λ (y : Height). encode (withHeight (decode book) h y)) stays ∙ same-book book h (start .pre))
-
-same-length-3 : tie.Need-same-length-3
-same-length-3 c = search needs
-
-returns-3 : tie.Need-returns-3
-returns-3 c =
     let start = c .before .before .before .before in
     let book = start .args .book .now in
     let h = start .args .h in
@@ -63,12 +48,11 @@ notarize-spec =
     tie.close
     (tie.spec
     awaits-votes-requires
-    proposal-voters-requires
-    quorum-requires
-    notarize-held-requires
+    proposal-requires
+    sha256-requires
+    slice-aggregate-notarize-with
+    notarize-with-requires
     same-length
     returns
     same-length-2
-    returns-2
-    same-length-3
-    returns-3)
+    returns-2)

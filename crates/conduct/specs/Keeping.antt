@@ -1,0 +1,73 @@
+-- What a delivery that is not refused keeps: the statements that its frame makes, all that was kept before, and nothing else;
+-- and a block is notarized if a certificate says so or the kept votes for the held proposal are a quorum.
+use Prim.Native.Nat.{ℕ, _<_}
+use mathlib.Core.Path.{_≡_}
+use mathlib.Core.Logic.{_⊎_}
+use mathlib.Core.Bool.{Bool, true, _&&_, _||_, cond}
+use lib.Dec.{eqb}
+use Rattle.protocol.specs.Bytes.{Bytes}
+use Rattle.protocol.specs.Mask.{inMask}
+use Rattle.protocol.specs.Frame.{kind, signer, frameHeight, signerMask, frameDigest, frameBlock}
+use Rattle.protocol.specs.State.{State, Height, at, withHeight, holdsProposal, isNotarized, voteOf}
+use Rattle.protocol.specs.View.{View, quorum}
+use Rattle.protocol.specs.Sound.{view}
+use Rattle.protocol.specs.Deliver.{votersFor}
+
+-- a frame of kind `k` makes a statement in the name of replica `t`: one of its own, or one that a certificate says it made
+unfoldable pub says : (k statement certificate : ℕ) → Bytes → ℕ → Bool
+says k statement certificate frame t =
+    cond (eqb k statement) (eqb (signer frame) t) (eqb k certificate && inMask (signerMask frame) t)
+
+-- ---- one height, `x` before and `y` after a frame of kind `k`
+module _ (n k : ℕ) (frame : Bytes) (x y : Height) where
+  -- who voted for the dummy block, and who finalizes: those known before, and those that the frame names
+  pub record KeepsMasks : Type 0 where
+    pub dummies : (t : ℕ) → t < n → inMask (y .dummyMask) t ≡ (inMask (x .dummyMask) t || says k 3 6 frame t)
+    pub finalizes : (t : ℕ) → t < n → inMask (y .finalizeMask) t ≡ (inMask (x .finalizeMask) t || says k 4 7 frame t)
+
+  -- votes for blocks: a replica's first one stays
+  pub record KeepsVotes : Type 0 where
+    pub voters : (t : ℕ) → t < n → inMask (y .voterMask) t ≡ (inMask (x .voterMask) t || (eqb k 2 && eqb (signer frame) t))
+    pub first-vote : (t : ℕ) → inMask (x .voterMask) t ≡ true → voteOf y t ≡ voteOf x t
+    pub this-vote : k ≡ 2 → voteOf y (signer frame) ≡ frameDigest frame
+
+  -- proposals: the first one stays
+  pub record KeepsProposal : Type 0 where
+    pub holds : holdsProposal y ≡ (holdsProposal x || eqb k 1)
+    pub first-proposal : holdsProposal x ≡ true → y .proposal ≡ x .proposal
+    pub this-proposal : k ≡ 1 → y .proposal ≡ frameBlock frame
+
+module _ (digest : Bytes → Bytes) (v : View) where
+  abbrev pub voters : Height → ℕ
+  voters x = votersFor x (digest (x .proposal)) (v .n)
+
+  -- the replicas whose kept vote is for the held proposal are a quorum
+  unfoldable pub Voted : Height → Type 0
+  Voted x = (holdsProposal x ≡ true) × (quorum v (voters x) ≡ true)
+
+  -- no such quorum is overlooked, as where no proposal is held
+  unfoldable pub Tallied : Height → Type 0
+  Tallied x = Voted x → isNotarized x ≡ true
+
+  -- the notarized block is the held proposal, and its certificate is signed by all who voted for it
+  unfoldable pub ByVotes : Height → Type 0
+  ByVotes y = Voted y × (y .notarized ≡ y .proposal) × (y .certificateMask ≡ voters y)
+
+  -- the notarized block: the first one stays, with its certificate
+  pub record KeepsBlock (k : ℕ) (frame : Bytes) (x y : Height) : Type 0 where
+    pub first-block : isNotarized x ≡ true → (isNotarized y ≡ true) × (y .notarized ≡ x .notarized) × (y .certificateMask ≡ x .certificateMask)
+    pub this-block : k ≡ 5 → (isNotarized y ≡ true) × (y .notarized ≡ frameBlock frame)
+    pub tallied : Tallied x → Tallied y
+    pub only-so : isNotarized y ≡ true → (isNotarized x ≡ true) ⊎ ((k ≡ 5) ⊎ ByVotes y)
+
+  pub record KeepsAt (k : ℕ) (frame : Bytes) (x y : Height) : Type 0 where
+    pub leader : y .leader ≡ x .leader
+    pub masks : KeepsMasks (v .n) k frame x y
+    pub votes : KeepsVotes (v .n) k frame x y
+    pub proposal : KeepsProposal (v .n) k frame x y
+    pub block : KeepsBlock k frame x y
+
+-- ---- the whole state: only the frame's height has changed, and there what the frame states is kept
+pub record Keeps (digest : Bytes → Bytes) (s after : State) (frame : Bytes) : Type 0 where
+  pub elsewhere : after ≡ withHeight s (frameHeight frame) (at after (frameHeight frame))
+  pub here : KeepsAt digest (view s) (kind frame) frame (at s (frameHeight frame)) (at after (frameHeight frame))

@@ -1,0 +1,80 @@
+-- `notarize_with` meets its contract: the block is written where the three tests pass, and else the height stays as it is.
+use mathlib.Core.Path.{sym, ap, _∙_}
+use Rattle.sha256.specs.Digest.{sha256}
+use Rattle.protocol.specs.Bytes.{Bytes}
+use Rattle.protocol.specs.State.{Height, decode, encode, at, withHeight}
+use Rattle.protocol.specs.Deliver.{votersFor}
+use Rattle.delivery.specs.KeepLaws.{same-book}
+use Rattle.delivery.specs.NotarizeLaws.{notarizes, too-few, awaits-none}
+use borrow.Author.Needs.{needs}
+use Rattle.delivery.proofs.notarize.notarize_with.Statement.{statement}
+use Rattle.delivery.proofs.notarize.notarize_with.Tie as tie
+
+awaits-votes-requires : tie.Need-awaits-votes-requires
+awaits-votes-requires c κs = search needs
+
+voters-for-requires : tie.Need-voters-for-requires
+voters-for-requires c κs = search needs
+
+quorum-requires : tie.Need-quorum-requires
+quorum-requires c κs = search needs
+
+notarize-held-requires : tie.Need-notarize-held-requires
+notarize-held-requires c κs = search needs
+
+same-length : tie.Need-same-length
+same-length c = search needs
+
+returns : tie.Need-returns
+returns c =
+    let inner = c .before .before .before .before in
+    let outer = inner .before .before .before .before .before in
+    let start = outer .before .before .before .before .before in
+    let book = start .args .book .now in
+    let h = start .args .h in
+    let x = at (decode book) h in
+    let awaits = sym (outer .before .awaits-votes .ensures) ∙ outer .if1 .taken in
+    let enough = sym (inner .before .quorum .ensures) ∙ inner .if2 .taken in
+    let tally = inner .before .before .before .voters-for .ensures .0 ∙ ap (λ (digest : Bytes). votersFor x digest (decode book .n)) (start .pre .1) in
+    let becomes = notarizes sha256 (decode book) x _ tally awaits enough in
+    c .before .before .notarize-held .ensures ∙ sym (ap (λ (y : Height). encode (withHeight (decode book) h y)) becomes)
+
+same-length-2 : tie.Need-same-length-2
+same-length-2 c = search needs
+
+returns-2 : tie.Need-returns-2
+returns-2 c =
+    let start = c .before .before .before .before .before .before .before .before .before .before in
+    let book = start .args .book .now in
+    let h = start .args .h in
+    let x = at (decode book) h in
+    let few = sym (c .before .quorum .ensures) ∙ c .if2 .left in
+    let tally = c .before .before .before .voters-for .ensures .0 ∙ ap (λ (digest : Bytes). votersFor x digest (decode book .n)) (start .pre .1) in
+    let stays = too-few sha256 (decode book) x _ tally few in
+    sym (ap (λ (y : Height). encode (withHeight (decode book) h y)) stays ∙ same-book book h (start .pre .0))
+
+same-length-3 : tie.Need-same-length-3
+same-length-3 c = search needs
+
+returns-3 : tie.Need-returns-3
+returns-3 c =
+    let start = c .before .before .before .before .before in
+    let book = start .args .book .now in
+    let h = start .args .h in
+    let stays = awaits-none sha256 (decode book) (at (decode book) h) (sym (c .before .awaits-votes .ensures) ∙ c .if1 .left) in
+    sym (ap (λ (y : Height). encode (withHeight (decode book) h y)) stays ∙ same-book book h (start .pre .0))
+
+pub notarize-with-spec : {M : Type 1} → statement M
+notarize-with-spec =
+    tie.close
+    (tie.spec
+    awaits-votes-requires
+    voters-for-requires
+    quorum-requires
+    notarize-held-requires
+    same-length
+    returns
+    same-length-2
+    returns-2
+    same-length-3
+    returns-3)

@@ -1,0 +1,51 @@
+-- The demands at SHA-256, over the bytes of books: nothing is asked of the digest here, and nothing is left open.
+use Prim.Native.Nat.{ℕ, _≤_}
+use mathlib.Core.Path.{_≡_}
+use mathlib.Core.Bool.{true}
+use lib.ListN.{length}
+use borrow.Author.Tests.{le-leb}
+use Rattle.sha256.specs.Digest.{sha256}
+use Rattle.sha256.specs.DigestLaws.{sha256-length}
+use Rattle.protocol.specs.Bytes.{Bytes}
+use Rattle.protocol.specs.Tests.{firstRefusal}
+use Rattle.protocol.specs.State.{decode}
+use Rattle.protocol.specs.Sound.{sound}
+use Rattle.protocol.specs.SoundLaws.{sound-decode}
+use Rattle.protocol.specs.Answer.{Delivery, accepted}
+use Rattle.protocol.specs.Deliver.{deliverCall}
+use Rattle.protocol.specs.Move.{step, moved, moveRows, moveCall, unlessMoveRefused}
+use Rattle.agreement.specs.Lists.{Agreement}
+use Rattle.agreement.specs.AgreementLaws.{agreement}
+use Rattle.conduct.specs.Keeping.{Keeps}
+use Rattle.conduct.specs.KeepingLaws.{deliver-keeps}
+use Rattle.conduct.specs.Readable.{SameSetting}
+use Rattle.conduct.specs.WrittenRead.{MoveWritten, move-written-read, FetchWritten, fetch-written-read}
+use Rattle.simplex.specs.Steps.{FiveSteps}
+use Rattle.simplex.specs.StepsLaws.{five-steps}
+
+-- demand 2: on a sound book and a reply that is long enough Move does the step of the state that the book says ..
+pub move-is-the-step : (book reply : Bytes) → sound sha256 book ≡ true → 448 ≤ length reply →
+    moveCall sha256 book reply ≡ moved reply (step sha256 (decode book))
+unfolding moveCall moveRows firstRefusal unlessMoveRefused
+move-is-the-step book reply ok room = rw (ok, le-leb 448 (length reply) room)
+
+-- .. and that step is what the paper's five steps ask
+pub the-five-steps : (book : Bytes) → sound sha256 book ≡ true → FiveSteps sha256 (decode book)
+the-five-steps book ok = five-steps sha256 sha256-length (decode book) (sound-decode sha256 book ok)
+
+-- demand 2: a delivery that is not refused keeps what its frame states, all that was kept before, and nothing else
+pub deliveries-keep : (book frame : Bytes) (news : Delivery) → deliverCall sha256 book frame .answer ≡ accepted news →
+    Keeps sha256 (decode book) (decode (deliverCall sha256 book frame .book)) frame
+deliveries-keep = deliver-keeps sha256
+
+-- demand 2: each frame written is read over every book of the same n, H and leaders as the same statement
+pub moves-are-read : (book reply other : Bytes) → SameSetting (decode book) (decode other) → MoveWritten sha256 book reply other
+moves-are-read = move-written-read sha256 sha256-length
+
+pub fetches-are-read : (book : Bytes) (k h : ℕ) (reply other : Bytes) → SameSetting (decode book) (decode other) →
+    FetchWritten sha256 book k h reply other
+fetches-are-read = fetch-written-read sha256
+
+-- demand 3: of two logs read in any list of calls from honest replicas one is a beginning of the other
+pub no-fork : Agreement sha256
+no-fork = agreement sha256
