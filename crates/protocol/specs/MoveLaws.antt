@@ -1,11 +1,11 @@
 -- Move takes one of six steps: what holds of each of them where it applies and no earlier one does holds of the step taken.
 -- It changes nothing past the head.
-use Prim.Native.Nat.{ℕ, _+_}
+use Prim.Native.Nat.{ℕ}
 use mathlib.Core.Path.{_≡_, refl}
 use mathlib.Core.Bool.{true, false}
 use Rattle.protocol.specs.Bytes.{Bytes}
 use Rattle.protocol.specs.State.{State, withHead}
-use Rattle.protocol.specs.Move.{Step, firstStep, step, newFinalized, dummyVoteApplies, dummyVoteStep, outputApplies, outputStep, passApplies, passStep, proposeApplies, proposeStep, blockVoteApplies, blockVoteStep, idleStep}
+use Rattle.protocol.specs.Move.{Step, firstStep, step, dummyVoteApplies, dummyVoteStep, outputApplies, outputStep, passApplies, passStep, proposeApplies, proposeStep, blockVoteApplies, blockVoteStep, idleStep}
 use Rattle.protocol.specs.TestsLaws.{cond-elim}
 
 module _ (digest : Bytes → Bytes) (s : State) (P : Step → Type 0) where
@@ -33,11 +33,7 @@ module _ (digest : Bytes → Bytes) (s : State) where
   HeadOnly st = (flags current finalized : ℕ) × (st .after ≡ withHead s flags current finalized)
 
   pub head-only : HeadOnly (step digest s)
-  unfolding dummyVoteStep outputStep passStep proposeStep blockVoteStep idleStep withHead
+  unfolding dummyVoteStep outputStep passStep proposeStep blockVoteStep idleStep
   head-only = step-cases digest s HeadOnly
-      (λ _. (s .flags + 2, s .current, s .finalized, refl))
-      (λ _ _. (s .flags, s .current, newFinalized digest s, refl))
-      (λ _ _ _. (0, s .current + 1, s .finalized, refl))
-      (λ _ _ _ _. (s .flags + 8, s .current, s .finalized, refl))
-      (λ _ _ _ _ _. (s .flags + 4, s .current, s .finalized, refl))
-      (λ _ _ _ _ _. (s .flags, s .current, s .finalized, refl))
+      (λ _. (_, _, _, refl)) (λ _ _. (_, _, _, refl)) (λ _ _ _. (_, _, _, refl)) (λ _ _ _ _. (_, _, _, refl)) (λ _ _ _ _ _. (_, _, _, refl))
+      (λ _ _ _ _ _. (s .flags, s .current, s .finalized, unfold withHead in refl))
