@@ -9,7 +9,11 @@ use lib.Dec.{eqb, leb, ltb}
 use borrow.Author.Tests.{lt-ltb, le-ltb, ltb-true, eqb-true, eq-eqb, ne-eqb}
 use Rattle.protocol.specs.Bytes.{Bytes, byteAt, all}
 use Rattle.protocol.specs.Tests.{allOf, inRange}
-use Rattle.protocol.specs.State.{decode, encode, last, flag, withHead, bookSize}
+use Rattle.protocol.specs.State.{State, decode, encode, last, flag, pending, withHead, bookSize}
+use Rattle.protocol.specs.Sound.{log}
+use Rattle.protocol.specs.Submit.{stillPending}
+use Rattle.protocol.specs.EntriesLaws.{pending-length}
+use Rattle.protocol.specs.PoolLaws.{without-short}
 use Rattle.protocol.specs.Signal.{withTimerFired}
 use Rattle.protocol.specs.Open.{openInRange}
 use Rattle.protocol.specs.Frame.{isCertificate}
@@ -74,6 +78,11 @@ unfolding withTimerFired
 fired book flags current finalized after e p q r = e ∙ rw (p, q, r)
 
 -- ---- Submit
+pub few-stay : (s : State) (count : ℕ) → count ≡ s .pendingCount → count < 32 → true ≡ ltb (length (stillPending s)) 32
+unfolding stillPending
+few-stay s count e few =
+    sym (lt-ltb (length (stillPending s)) 32 (omega (arith, without-short (log s) (pending s), pending-length s, e, few)))
+
 pub first-holds : (a b : Bool) → a ≡ true → true ≡ (a || b)
 first-holds a b e = rw e
 

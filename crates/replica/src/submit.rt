@@ -3,11 +3,12 @@ use answers::answer::Answer;
 ghost use mathlib.Core.Path.{_≡_};
 ghost use mathlib.Core.Bool.{false, _||_};
 ghost use lib.ListN.{length};
+ghost use lib.Dec.{ltb};
 ghost use Rattle.sha256.specs.Digest.{sha256 as sha};
 ghost use Rattle.protocol.specs.Bytes.{holds};
 ghost use Rattle.protocol.specs.State.{decode, pending};
 ghost use Rattle.protocol.specs.Sound.{log};
-ghost use Rattle.protocol.specs.Submit.{submitCall};
+ghost use Rattle.protocol.specs.Submit.{stillPending, submitCall};
 ghost use Rattle.answers.specs.Answers.{doneAnswer};
 ghost use Rattle.replica.specs.SoundBook.{SoundBook};
 
@@ -24,6 +25,19 @@ fn is_known(book: &[u8], entry: &[u8]) -> bool
     }
 }
 
+// Whether a place is left once the entries that the log holds are dropped. Walks the log for each of them only where all 32 places are taken.
+fn leaves_room(book: &[u8]) -> bool
+    requires { ⌜ SoundBook (now book) ⌝ }
+    ensures { λ r. ⌜ r ≡ ltb (length (stillPending (decode (now (book .entry))))) 32 ⌝ }
+{
+    let count = fields::head::pending_count(book);
+    if count < 32 {
+        true
+    } else {
+        state::entries::unlogged_count(book) < 32
+    }
+}
+
 // Keeps an entry that is new to a sound book, if there is a place for it.
 fn submit_new(book: &mut [u8], entry: &[u8]) -> Answer
     requires { ⌜ SoundBook (now book) ⌝ }
@@ -32,8 +46,7 @@ fn submit_new(book: &mut [u8], entry: &[u8]) -> Answer
     ensures answer { λ r. ⌜ doneAnswer r ≡ submitCall sha (now (book .entry)) (now (entry .entry)) .answer ⌝ }
     ensures book { λ _. ⌜ now (book .exit) ≡ submitCall sha (now (book .entry)) (now (entry .entry)) .book ⌝ }
 {
-    let count = state::entries::unlogged_count(book);
-    if count < 32 {
+    if leaves_room(book) {
         state::entries::keep_unlogged(book, entry);
         Answer::Done
     } else {
@@ -58,7 +71,7 @@ fn submit_sound(book: &mut [u8], entry: &[u8]) -> Answer
     }
 }
 
-// One more pending entry. Reads the book once to see that it is sound, and walks the log twice for each pending entry.
+// One more pending entry. Reads the book once to see that it is sound, and walks the log once for each pending entry, twice where 32 are pending.
 pub fn submit(book: &mut [u8], entry: &[u8]) -> Answer
     ensures answer { λ r. ⌜ doneAnswer r ≡ submitCall sha (now (book .entry)) (now (entry .entry)) .answer ⌝ }
     ensures book { λ _. ⌜ now (book .exit) ≡ submitCall sha (now (book .entry)) (now (entry .entry)) .book ⌝ }

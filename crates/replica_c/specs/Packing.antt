@@ -1,7 +1,6 @@
 -- An answer as one number for C: its low byte is the refusal's number, 0 where the call is not refused; the values stand in the bytes above.
-use Prim.Native.Nat.{ℕ, _+_, _*_, _%_}
-use mathlib.Core.Bool.{Bool}
-use Rattle.protocol.specs.Answer.{Answer, refused, accepted, Done, Delivery, known, fresh, Move, idle, voteDummy, output, pass, propose, voteBlock, Certificate, certificateKind, finalizeKind, moveNumber, moveHeight}
+use Prim.Native.Nat.{ℕ, _+_, _*_}
+use Rattle.protocol.specs.Answer.{Answer, refused, accepted, Done, Delivery, known, fresh, Move, idle, voteDummy, output, pass, propose, voteBlock, certificateKind, finalizeKind, moveNumber, moveHeight}
 
 -- Open, Signal, Submit, Fetch: 0 where the call is done
 unfoldable pub packedDone : Answer Done → ℕ
@@ -23,12 +22,22 @@ passKinds (pass h certificate finalized) = certificateKind certificate + 256 * f
 passKinds (propose h) = 0
 passKinds (voteBlock h) = 0
 
--- Move: byte 1 is the move's number, byte 2 its height (at most 64), byte 3 the certificate's kind, byte 4 the finalize's kind
+-- Move: byte 1 is the move's number, byte 2 its height (at most 63), byte 3 the certificate's kind, byte 4 the finalize's kind
 unfoldable pub packedMove : Answer Move → ℕ
 packedMove (refused number) = number
-packedMove (accepted move) = 256 * moveNumber move + 65536 * (moveHeight move % 256) + 16777216 * passKinds move
+packedMove (accepted move) = 256 * moveNumber move + 65536 * moveHeight move + 16777216 * passKinds move
+
+-- the height that an answer of Move names, and 0 for a refusal; at most 63 (PackingLaws)
+unfoldable pub answeredHeight : Answer Move → ℕ
+answeredHeight (refused number) = 0
+answeredHeight (accepted move) = moveHeight move
 
 -- Register size: the bytes above the lowest are the size (at most 8,064)
 unfoldable pub packedSize : Answer ℕ → ℕ
 packedSize (refused number) = number
-packedSize (accepted size) = 256 * (size % 65536)
+packedSize (accepted size) = 256 * size
+
+-- the size that an answer of Register size names, and 0 for a refusal; at most 8,064 (PackingLaws)
+unfoldable pub answeredSize : Answer ℕ → ℕ
+answeredSize (refused number) = 0
+answeredSize (accepted size) = size

@@ -1,11 +1,13 @@
 // The calls for programs in C: on byte slices, each a pointer and a length, and numbers. host/include/mavunilai.h declares them.
+// An answer is one number. Its lowest byte is the refusal's number, 0 where the call is not refused; specs/Packing says what stands above.
+// Each contract equates the number with the packing of what the protocol's definition of the call answers, and the lent bytes with what it leaves.
 use answers::answer::Answer;
 use answers::answer::Certificate;
 use answers::answer::Delivered;
 use answers::answer::Moved;
 use answers::answer::Size;
 ghost use mathlib.Core.Path.{_≡_};
-ghost use Prim.Native.Nat.{_+_, _*_, _<_};
+ghost use Prim.Native.Nat.{_+_, _*_, _<_, _≤_};
 ghost use lib.ListN.{length};
 ghost use Rattle.protocol.specs.Answer.{certificateKind, finalizeKind};
 ghost use Rattle.sha256.specs.Digest.{sha256};
@@ -17,8 +19,9 @@ ghost use Rattle.protocol.specs.Submit.{submitCall};
 ghost use Rattle.protocol.specs.Fetch.{fetchCall};
 ghost use Rattle.protocol.specs.Read.{readPart, readBuffer, sizeCall};
 ghost use Rattle.answers.specs.Answers.{doneAnswer, deliveredAnswer, certificateOf, movedAnswer, sizeAnswer};
-ghost use Rattle.replica_c.specs.Packing.{packedDone, packedDelivery, packedMove, packedSize};
+ghost use Rattle.replica_c.specs.Packing.{packedDone, packedDelivery, packedMove, packedSize, answeredHeight, answeredSize};
 
+// The number for an answer that says no more than done or refused.
 fn done_number(answer: Answer) -> usize
     ensures { λ r. ⌜ r ≡ packedDone (doneAnswer answer) ⌝ }
 {
@@ -28,6 +31,7 @@ fn done_number(answer: Answer) -> usize
     }
 }
 
+// The number for the answer of Deliver.
 fn delivered_number(answer: Delivered) -> usize
     ensures { λ r. ⌜ r ≡ packedDelivery (deliveredAnswer answer) ⌝ }
 {
@@ -38,6 +42,8 @@ fn delivered_number(answer: Delivered) -> usize
     }
 }
 
+// Open: makes a new book for replica `own` of `n`; byte h - 1 of `leaders` is the leader of height h. The book's old bytes do not matter.
+// Returns 0 where it is made. Refusals, the first that applies: 2, 1 (`openCall`).
 #[no_mangle]
 pub extern "C" fn mavunilai_open(
     book: &mut [u8],
@@ -52,6 +58,8 @@ pub extern "C" fn mavunilai_open(
     done_number(replica::open::open(book, n, own, heights, leaders))
 }
 
+// Deliver: keeps what a frame says, whose signatures the caller has checked.
+// Returns 256 where the frame was fresh, so that the book changed, and 0 where it was known. Refusals: 1, 4, 6, 5, 7, 9, 8, 10 (`deliverCall`).
 #[no_mangle]
 pub extern "C" fn mavunilai_deliver(book: &mut [u8], frame: &[u8]) -> usize
     ensures answer { λ r. ⌜ r ≡ packedDelivery (deliverCall sha256 (now (book .entry)) (now (frame .entry)) .answer) ⌝ }
@@ -60,6 +68,8 @@ pub extern "C" fn mavunilai_deliver(book: &mut [u8], frame: &[u8]) -> usize
     delivered_number(replica::deliver::deliver(book, frame))
 }
 
+// Signal: sets the timer flag of the current height, which the caller names.
+// Returns 0 where it is set. Refusals: 1, 6, 14 (`signalCall`).
 #[no_mangle]
 pub extern "C" fn mavunilai_signal(book: &mut [u8], height: usize) -> usize
     ensures answer { λ r. ⌜ r ≡ packedDone (signalCall sha256 (now (book .entry)) height .answer) ⌝ }
@@ -68,6 +78,8 @@ pub extern "C" fn mavunilai_signal(book: &mut [u8], height: usize) -> usize
     done_number(replica::signal::signal(book, height))
 }
 
+// Submit: makes an entry of 16 bytes the last pending one, and drops pending ones that the log has.
+// Returns 0 where it is pending. Refusals: 1, 4, 13, 12 (`submitCall`).
 #[no_mangle]
 pub extern "C" fn mavunilai_submit(book: &mut [u8], entry: &[u8]) -> usize
     ensures answer { λ r. ⌜ r ≡ packedDone (submitCall sha256 (now (book .entry)) (now (entry .entry)) .answer) ⌝ }
@@ -76,6 +88,8 @@ pub extern "C" fn mavunilai_submit(book: &mut [u8], entry: &[u8]) -> usize
     done_number(replica::submit::submit(book, entry))
 }
 
+// Fetch: writes a height's certificate of kind 5, 6 or 7 to the first 224 bytes of the reply.
+// Returns 0 where it is written. Refusals: 1, 4, 6, 3, 11 (`fetchCall`).
 #[no_mangle]
 pub extern "C" fn mavunilai_fetch(
     book: &[u8],
@@ -89,7 +103,8 @@ pub extern "C" fn mavunilai_fetch(
     done_number(replica::fetch::fetch(book, kind, height, reply))
 }
 
-// The number of bytes of the part read, which is the buffer's front.
+// Read: copies the log to the front of the buffer.
+// Returns how many bytes it wrote, not a packed answer: 0 where the book is not sound, the buffer is too short or the log is empty (`readPart`).
 #[no_mangle]
 pub extern "C" fn mavunilai_read(book: &[u8], buffer: &mut [u8]) -> usize
     ensures length { λ r. ⌜ r ≡ length (readPart sha256 (now (book .entry)) (now (buffer .entry))) ⌝ }
@@ -98,6 +113,7 @@ pub extern "C" fn mavunilai_read(book: &[u8], buffer: &mut [u8]) -> usize
     replica::read::read_into(book, buffer)
 }
 
+// The kind of a pass's first frame.
 fn certificate_number(certificate: Certificate) -> usize
     ensures { λ r. ⌜ (r ≡ certificateKind (certificateOf certificate)) × (r < 8) ⌝ }
 {
@@ -107,46 +123,54 @@ fn certificate_number(certificate: Certificate) -> usize
     }
 }
 
+// The kind of a pass's second frame, and 0 where the pass finalises nothing.
 fn finalized_number(finalised: bool) -> usize
     ensures { λ r. ⌜ (r ≡ finalizeKind finalised) × (r < 8) ⌝ }
 {
     if finalised { 4 } else { 0 }
 }
 
-// A move by its number and height, which is a byte's: heights are below 64.
+// A move's place in document 01's list, its height and the kinds of a pass's frames, each at its byte of the answer.
 fn move_number(number: usize, height: usize, kinds: usize) -> usize
-    requires { ⌜ (number < 8) × (height < 256) × (kinds < 65536) ⌝ }
+    requires { ⌜ (number < 8) × (height ≤ 63) × (kinds < 65536) ⌝ }
     ensures { λ r. ⌜ r ≡ 256 * number + 65536 * height + 16777216 * kinds ⌝ }
 {
     256 * number + 65536 * height + 16777216 * kinds
 }
 
+// The number for the answer of Move. No answer of Move names a height above 63 (specs/PackingLaws), so the sum fits.
 fn moved_number(answer: Moved) -> usize
+    requires { ⌜ answeredHeight (movedAnswer answer) ≤ 63 ⌝ }
     ensures { λ r. ⌜ r ≡ packedMove (movedAnswer answer) ⌝ }
 {
     match answer {
         Moved::Idle => 0,
-        Moved::Dummy(h) => move_number(1, h % 256, 0),
-        Moved::Final(g) => move_number(2, g % 256, 0),
+        Moved::Dummy(h) => move_number(1, h, 0),
+        Moved::Final(g) => move_number(2, g, 0),
         Moved::Pass(h, certificate, finalised) => {
             let kinds = certificate_number(certificate) + 256 * finalized_number(finalised);
-            move_number(3, h % 256, kinds)
+            move_number(3, h, kinds)
         }
-        Moved::Offer(h) => move_number(4, h % 256, 0),
-        Moved::Vote(h) => move_number(5, h % 256, 0),
+        Moved::Offer(h) => move_number(4, h, 0),
+        Moved::Vote(h) => move_number(5, h, 0),
         Moved::Refused(number) => number,
     }
 }
 
+// The number for the answer of Register size, which is at most 8,064 (specs/PackingLaws), so the product fits.
 fn size_number(answer: Size) -> usize
+    requires { ⌜ answeredSize (sizeAnswer answer) ≤ 8064 ⌝ }
     ensures { λ r. ⌜ r ≡ packedSize (sizeAnswer answer) ⌝ }
 {
     match answer {
-        Size::Bytes(size) => 256 * (size % 65536),
+        Size::Bytes(size) => 256 * size,
         Size::Refused(number) => number,
     }
 }
 
+// Move: makes the first move that applies, and writes its frames to the front of the reply.
+// Returns in byte 1 the move's number, in byte 2 its height, in bytes 3 and 4 the kinds of a pass's frames; 0 where it is idle (`packedMove`).
+// Refusals: 1, 3 (`moveCall`). Test for a refusal first: the bytes above it are 0, and 0 is idle's number too.
 #[no_mangle]
 pub extern "C" fn mavunilai_move(book: &mut [u8], reply: &mut [u8]) -> usize
     ensures answer { λ r. ⌜ r ≡ packedMove (moveCall sha256 (now (book .entry)) (now (reply .entry)) .answer) ⌝ }
@@ -156,6 +180,8 @@ pub extern "C" fn mavunilai_move(book: &mut [u8], reply: &mut [u8]) -> usize
     moved_number(replica::make_move::make_move(book, reply))
 }
 
+// Register size: the length of the log in bytes.
+// Returns 256 times the length (`packedSize`). Refusals: 1 (`sizeCall`).
 #[no_mangle]
 pub extern "C" fn mavunilai_size(book: &[u8]) -> usize
     ensures { λ r. ⌜ r ≡ packedSize (sizeCall sha256 (now (book .entry))) ⌝ }

@@ -1,6 +1,10 @@
 -- `mavunilai_move` meets its contract: it packs what the call answers.
-use mathlib.Core.Path.{ap, _∙_}
-use Rattle.replica_c.specs.Packing.{packedMove}
+use Prim.Native.Nat.{_≤_}
+use mathlib.Core.Path.{sym, ap, subst, _∙_}
+use Rattle.protocol.specs.Answer.{Answer, Move}
+use Rattle.sha256.specs.Digest.{sha256}
+use Rattle.replica_c.specs.Packing.{packedMove, answeredHeight}
+use Rattle.replica_c.specs.PackingLaws.{move-height-low}
 use borrow.Author.Needs.{needs}
 use Rattle.replica_c.proofs.mavunilai_move.Statement.{statement}
 use Rattle.replica_c.proofs.mavunilai_move.Tie as tie
@@ -13,7 +17,9 @@ make-move-requires : tie.Need-make-move-requires
 make-move-requires c κs = search needs
 
 moved-number-requires : tie.Need-moved-number-requires
-moved-number-requires c κs = search needs
+moved-number-requires c κs =
+    let told = c .before .before .before .before .make-move in
+    subst (λ (a : Answer Move). answeredHeight a ≤ 63) (sym (told .ensures .0)) (move-height-low sha256 _ _)
 
 same-length : tie.Need-same-length
 same-length c = search needs

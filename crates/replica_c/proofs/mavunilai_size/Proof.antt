@@ -1,6 +1,10 @@
 -- `mavunilai_size` meets its contract: it packs what the call answers.
-use mathlib.Core.Path.{ap, _∙_}
-use Rattle.replica_c.specs.Packing.{packedSize}
+use Prim.Native.Nat.{ℕ, _≤_}
+use mathlib.Core.Path.{sym, ap, subst, _∙_}
+use Rattle.protocol.specs.Answer.{Answer}
+use Rattle.sha256.specs.Digest.{sha256}
+use Rattle.replica_c.specs.Packing.{packedSize, answeredSize}
+use Rattle.replica_c.specs.PackingLaws.{size-low}
 use borrow.Author.Needs.{needs}
 use Rattle.replica_c.proofs.mavunilai_size.Statement.{statement}
 use Rattle.replica_c.proofs.mavunilai_size.Tie as tie
@@ -13,7 +17,8 @@ size-requires : tie.Need-size-requires
 size-requires c κs = search needs
 
 size-number-requires : tie.Need-size-number-requires
-size-number-requires c κs = search needs
+size-number-requires c κs =
+    subst (λ (a : Answer ℕ). answeredSize a ≤ 8064) (sym (c .size .ensures)) (size-low sha256 _)
 
 returns : tie.Need-returns
 returns c = c .size-number .ensures ∙ ap packedSize (c .before .size .ensures)

@@ -1,10 +1,10 @@
 -- `moved_number` meets its contract: each move is packed as the definition says.
-use Prim.Native.Nat.{ℕ, _+_, _*_, _%_}
-use mathlib.Core.Path.{sym, ap, ap₂, _∙_}
+use Prim.Native.Nat.{ℕ, _+_, _*_, _≤_}
+use mathlib.Core.Path.{_≡_, sym, ap, ap₂, subst, _∙_}
 use Rattle.protocol.specs.Answer.{moveNumber, moveHeight}
 use Rattle.answers.specs.Answers.{movedAnswer, certificateOf}
 use Rattle.answers.specs.declared.answer.Moved.{Moved}
-use Rattle.replica_c.specs.Packing.{packedMove, passKinds}
+use Rattle.replica_c.specs.Packing.{packedMove, passKinds, answeredHeight}
 use borrow.Author.Needs.{needs}
 use Rattle.replica_c.proofs.moved_number.Statement.{statement}
 use Rattle.replica_c.proofs.moved_number.Tie as tie
@@ -14,6 +14,10 @@ use Rattle.replica_c.proofs.certificate_number.Reads as certificate-num
 use Rattle.replica_c.proofs.finalized_number.Reads as finalized-number-reads
 use Rattle.replica_c.proofs.move_number.Reads as move-number-reads
 
+-- the height that the required bound speaks of is the one that the case names
+low : {answer given : Moved} → answer ≡ given → answeredHeight (movedAnswer answer) ≤ 63 → answeredHeight (movedAnswer given) ≤ 63
+low e = subst (λ (a : Moved). answeredHeight (movedAnswer a) ≤ 63) e
+
 enum-told : tie.Need-enum-told
 enum-told c = search needs
 
@@ -21,13 +25,15 @@ enum-known-answer : tie.Need-enum-known-answer
 enum-known-answer c = search needs
 
 move-number-requires : tie.Need-move-number-requires
-move-number-requires c κs = search needs
+unfolding answeredHeight moveHeight movedAnswer
+move-number-requires c κs = (search needs, low (c .before .answer .given .1) (c .before .before .before .pre), search needs)
 
 enum-known-answer-2 : tie.Need-enum-known-answer-2
 enum-known-answer-2 c = search needs
 
 move-number-requires-2 : tie.Need-move-number-requires-2
-move-number-requires-2 c κs = search needs
+unfolding answeredHeight moveHeight movedAnswer
+move-number-requires-2 c κs = (search needs, low (c .before .answer2 .given .1) (c .before .before .before .pre), search needs)
 
 enum-known-answer-3 : tie.Need-enum-known-answer-3
 enum-known-answer-3 c = search needs
@@ -45,19 +51,22 @@ add-kinds : tie.Need-add-kinds
 add-kinds c = search needs
 
 move-number-requires-3 : tie.Need-move-number-requires-3
-move-number-requires-3 c κs = search needs
+unfolding answeredHeight moveHeight movedAnswer
+move-number-requires-3 c κs = (search needs, low (c .before .before .before .answer3 .given .1) (c .before .before .before .before .before .pre), search needs)
 
 enum-known-answer-4 : tie.Need-enum-known-answer-4
 enum-known-answer-4 c = search needs
 
 move-number-requires-4 : tie.Need-move-number-requires-4
-move-number-requires-4 c κs = search needs
+unfolding answeredHeight moveHeight movedAnswer
+move-number-requires-4 c κs = (search needs, low (c .before .answer4 .given .1) (c .before .before .before .pre), search needs)
 
 enum-known-answer-5 : tie.Need-enum-known-answer-5
 enum-known-answer-5 c = search needs
 
 move-number-requires-5 : tie.Need-move-number-requires-5
-move-number-requires-5 c κs = search needs
+unfolding answeredHeight moveHeight movedAnswer
+move-number-requires-5 c κs = (search needs, low (c .before .answer5 .given .1) (c .before .before .before .pre), search needs)
 
 enum-known-answer-6 : tie.Need-enum-known-answer-6
 enum-known-answer-6 c = search needs
@@ -79,7 +88,7 @@ unfolding packedMove passKinds moveNumber moveHeight movedAnswer
 returns-4 c =
     let h = c .before .before .before .before .answer3 .given .0 .0 in
     c .move-number3 .ensures
-    ∙ ap₂ (λ (a b : ℕ). 256 * 3 + 65536 * (h % 256) + 16777216 * (a + 256 * b)) (c .before .before .certificate-number .ensures .0) (c .before .finalized-number .ensures .0)
+    ∙ ap₂ (λ (a b : ℕ). 256 * 3 + 65536 * h + 16777216 * (a + 256 * b)) (c .before .before .certificate-number .ensures .0) (c .before .finalized-number .ensures .0)
     ∙ ap (λ (a : Moved). packedMove (movedAnswer a)) (sym (c .before .before .before .before .answer3 .given .1))
 
 returns-5 : tie.Need-returns-5

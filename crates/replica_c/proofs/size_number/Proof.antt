@@ -1,8 +1,9 @@
 -- `size_number` meets its contract: a size or a refusal, packed as the definition says.
+use native.Mathlib.Omega.{arith}
 use mathlib.Core.Path.{sym, ap}
 use Rattle.answers.specs.Answers.{sizeAnswer}
 use Rattle.answers.specs.declared.answer.Size.{Size}
-use Rattle.replica_c.specs.Packing.{packedSize}
+use Rattle.replica_c.specs.Packing.{packedSize, answeredSize}
 use borrow.Author.Needs.{needs}
 use Rattle.replica_c.proofs.size_number.Statement.{statement}
 use Rattle.replica_c.proofs.size_number.Tie as tie
@@ -13,7 +14,8 @@ enum-known-answer : tie.Need-enum-known-answer
 enum-known-answer c = search needs
 
 mul-result : tie.Need-mul-result
-mul-result c = search needs
+unfolding answeredSize sizeAnswer
+mul-result c = omega (arith, c .before .before .before .pre, ap (λ (a : Size). answeredSize (sizeAnswer a)) (c .before .answer .given .1))
 
 enum-known-answer-2 : tie.Need-enum-known-answer-2
 enum-known-answer-2 c = search needs

@@ -1,0 +1,20 @@
+//! Measures two replicas side by side: every call, on empty and on full books, at few and at many heights.
+//!
+//! Both replicas make the same call on copies of the same book, in rounds that alternate. What counts is the ratio of the
+//! medians, so that a busy machine disturbs both alike.
+
+#![warn(clippy::unwrap_used, clippy::expect_used, clippy::panic)]
+
+mod case;
+mod cases;
+mod measure;
+mod median;
+mod run;
+mod station;
+mod table;
+
+pub use case::Case;
+pub use cases::cases;
+pub use measure::{measure, Measured};
+pub use run::{run, Options};
+pub use station::{Fill, Size};

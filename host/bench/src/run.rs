@@ -1,0 +1,70 @@
+//! The whole measurement, printed as tables for docs/PERFORMANCE.md.
+
+use crate::table::markdown;
+use crate::{cases, measure, Case, Fill, Measured, Size};
+use types::{Calls, MOST_HEIGHTS, MOST_REPLICAS};
+
+/// The heights of the small and of the large book.
+const HEIGHTS: [u8; 2] = [8, MOST_HEIGHTS];
+
+/// The numbers of replicas, a table each.
+const REPLICAS: [u8; 2] = [4, MOST_REPLICAS];
+
+/// The heading of a table.
+const HEADING: [&str; 7] =
+    ["call", "empty, H 8", "empty, H 63", "growth", "full, H 8", "full, H 63", "growth"];
+
+/// What to measure, and how long.
+#[derive(Clone, Debug)]
+pub struct Options {
+    /// Rounds of each case.
+    pub rounds: usize,
+    /// Only cases whose name has this in it.
+    pub only: String,
+}
+
+/// Measures all cases that the options name and prints a table for each number of replicas.
+pub fn run<A: Calls, B: Calls>(ours: &A, reference: &B, options: &Options) -> Result<(), String> {
+    for n in REPLICAS {
+        let empty = half(ours, reference, options, n, Fill::Empty)?;
+        let full = half(ours, reference, options, n, Fill::Full)?;
+        let rows: Vec<_> = empty.into_iter().zip(full).map(joined).collect();
+        println!("n {n}:\n\n{}", markdown(&HEADING, &rows));
+    }
+    Ok(())
+}
+
+/// The cases for one filling: of each the name, the ratios at few and at many heights, and the growth.
+fn half<A: Calls, B: Calls>(
+    ours: &A,
+    reference: &B,
+    options: &Options,
+    n: u8,
+    fill: Fill,
+) -> Result<Vec<[String; 4]>, String> {
+    let cases = at_both_sizes(n, fill, &options.only)?;
+    let rows = cases.iter().map(|sizes| {
+        let measured = measure(ours, reference, sizes, options.rounds)?;
+        Ok(row(sizes[0].name, &measured))
+    });
+    rows.collect()
+}
+
+/// Each wanted case, on the small book and on the large one.
+fn at_both_sizes(n: u8, fill: Fill, only: &str) -> Result<Vec<[Case; 2]>, String> {
+    let [few, many] = HEIGHTS.map(|heights| cases(Size { n, heights }, fill));
+    let both = few?.into_iter().zip(many?).map(|(few, many)| [few, many]);
+    Ok(both.filter(|[case, _]| case.name.contains(only)).collect())
+}
+
+/// The name, the ratios, each with our time in microseconds, and the growth, with the reference's.
+fn row(name: &str, measured: &Measured) -> [String; 4] {
+    let Measured { ratios, times, growth } = measured;
+    let cell = |size: usize| format!("{:.2} ({:.2})", ratios[size], times[size] / 1000.0);
+    [name.to_string(), cell(0), cell(1), format!("{:.1} ({:.1})", growth[0], growth[1])]
+}
+
+/// A whole row out of its halves, with the name once.
+fn joined((empty, full): ([String; 4], [String; 4])) -> Vec<String> {
+    empty.into_iter().chain(full.into_iter().skip(1)).collect()
+}

@@ -1,0 +1,38 @@
+//! The cases do what their names say, by the reference's answers.
+
+use bench::{cases, measure, Case, Fill, Size};
+use reference::Rules;
+
+/// All cases of the measured sizes.
+fn all() -> Vec<Case> {
+    let sizes = [4, 16].into_iter().flat_map(|n| [8, 63].map(|heights| Size { n, heights }));
+    let both = sizes.flat_map(|size| [(size, Fill::Empty), (size, Fill::Full)]);
+    both.flat_map(|(size, fill)| cases(size, fill).unwrap()).collect()
+}
+
+#[test]
+fn every_case_gets_the_answer_it_is_named_for() {
+    let all = all();
+    assert_eq!(all.len(), 8 * 22);
+    for case in &all {
+        case.check(&Rules::SHA256, &Rules::SHA256).unwrap();
+    }
+}
+
+#[test]
+fn a_replica_that_answers_otherwise_is_not_measured() {
+    let other = Rules::new(|_| [1; 32]);
+    let differs =
+        |case: &Case| measure(&other, &Rules::SHA256, &[case.clone(), case.clone()], 1).is_err();
+    let cases = cases(Size { n: 4, heights: 8 }, Fill::Full).unwrap();
+    let names: Vec<_> = cases.into_iter().filter(differs).map(|case| case.name).collect();
+    assert!(names.contains(&"Register size") && !names.contains(&"Open"), "{names:?}");
+}
+
+#[test]
+fn figures_are_of_both_sizes() {
+    let case = |heights| cases(Size { n: 4, heights }, Fill::Full).unwrap().remove(0);
+    let measured = measure(&Rules::SHA256, &Rules::SHA256, &[case(1), case(63)], 9).unwrap();
+    assert!(measured.times[0] > 0.0 && measured.times[1] > measured.times[0], "{measured:?}");
+    assert!(measured.growth.into_iter().all(|growth| growth > 1.0), "{measured:?}");
+}
