@@ -3,7 +3,7 @@ use Prim.Native.Nat.{ℕ, zero, suc, _+_, _*_, _/_, _%_, _^_, _≤_, _<_}
 use native.Mathlib.Omega.{arith}
 use native.Mathlib.Decide.{ℕ-discrete}
 use native.Mathlib.Numerals.{one-add}
-use native.Mathlib.Nat.{div-one, div-div-eq-div-mul, mul-comm, pow-suc, zero-div, mod-lt, add-mul-div-right, add-div-right, div-eq-of-lt, mod-one, le-trans, add-zero}
+use native.Mathlib.Nat.{div-one, div-div-eq-div-mul, mul-comm, pow-suc, zero-div, mod-lt, add-mul-div-right, add-div-right, div-eq-of-lt, mod-eq-of-lt, mod-one, le-trans, add-zero}
 use mathlib.Core.Path.{_≡_, refl, sym, ap, ap₂, _∙_}
 use mathlib.Core.Logic.{_⊎_, inl, inr, _≢_}
 use mathlib.Core.Bool.{Bool, true, false, cond, true≢false}
@@ -157,3 +157,8 @@ maskOf-bits m (suc n) =
     let value = bit-value (m / 2 ^ n % 2) (2 ^ n) above in
     let lower = maskOf-bits m n in
     omega arith
+
+-- masks below `2 ^ n` with the same bits are equal
+pub mask-same : (n a b : ℕ) → a < 2 ^ n → b < 2 ^ n → ((t : ℕ) → t < n → inMask a t ≡ inMask b t) → a ≡ b
+mask-same n a b h k e =
+    sym (maskOf-bits a n ∙ mod-eq-of-lt h) ∙ maskOf-same (λ s. inMask a s) (λ s. inMask b s) n e ∙ maskOf-bits b n ∙ mod-eq-of-lt k
