@@ -23,7 +23,6 @@ use Rattle.agreement.specs.GrantsLaws.{Grants, grants}
 use Rattle.agreement.specs.Lists.{Agreement, Begins, Continues, Follows, HonestIn, KeepsOneBook, Member, NoCollision, NotForged, Opens, Reads, Statement, Wrote, finalizes, lastLeft, votesBlock, votesDummy}
 use Rattle.agreement.specs.ReplicaLaws.{good-after}
 use Rattle.agreement.specs.RunLaws.{Good, GoodBytes, Honest, Seen, States, wrote-more}
-use Rattle.agreement.specs.Witness.{dishonest}
 
 module _ (digest : Bytes → Bytes) (n dishonest : ℕ) (l : List Member) (third : 3 * ones dishonest n < n)
     (keeps : (s : ℕ) → HonestIn n dishonest s → KeepsOneBook digest n l s)

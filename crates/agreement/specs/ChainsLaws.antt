@@ -1,6 +1,6 @@
 -- Two views that agree on notarized blocks, and of which none has a dummy block where the other is finalized, have chains
 -- of which one begins the other.
-use Prim.Native.Nat.{ℕ, zero, suc, _+_, _-_, _≤_, _<_}
+use Prim.Native.Nat.{ℕ, zero, suc, _-_, _≤_, _<_}
 use native.Mathlib.Omega.{arith}
 use mathlib.Core.Path.{_≡_, refl, sym, ap, ap₂, _∙_}
 use mathlib.Core.Logic.{_⊎_, inl, inr}
@@ -13,37 +13,17 @@ use Rattle.protocol.specs.Block.{allEntries, parentHeight}
 use Rattle.protocol.specs.Bytes.{Bytes, join}
 use Rattle.protocol.specs.RowLaws.{row}
 use Rattle.protocol.specs.TestsLaws.{and-true, le-or-lt}
+use Rattle.protocol.specs.PiecesLaws.{join-append}
+use Rattle.protocol.specs.ViewLaws.{run-sound, chain-none, chain-step, allEntries-append}
 use Rattle.protocol.specs.View.{View, chainWithin, dummyRun, extendsOver, isDummy, linkedWithin}
 use Rattle.agreement.specs.Lists.{Begins}
-
--- every height of a run of dummy blocks has one
-dummy-in-run : (v : View) (j k h : ℕ) → dummyRun v j k ≡ true → j < h → h ≤ j + k → isDummy v h ≡ true
-unfolding dummyRun
-dummy-in-run v j zero h e lo hi = absurd (omega arith)
-dummy-in-run v j (suc k) h e lo hi = go (λ z. dummy-in-run v j k h (q .0) lo z) (le-or-lt h (j + k))
-  where
-    q : (dummyRun v j k ≡ true) × (isDummy v (j + suc k) ≡ true)
-    q = and-true (dummyRun v j k) (isDummy v (j + suc k)) e
-
-    go : (h ≤ j + k → isDummy v h ≡ true) → (h ≤ j + k) ⊎ (j + k < h) → isDummy v h ≡ true
-    go below (inl z) = below z
-    go below (inr z) = let n : h ≡ j + suc k = omega arith in rw n (q .1)
 
 unfoldable pub Prefix : {A : Type 0} → List A → List A → Type 0
 Prefix {A} xs ys = (zs : List A) × (ys ≡ xs ++ zs)
 
 -- ---- one link of a chain
-back : View → ℕ → ℕ
+abbrev back : View → ℕ → ℕ
 back v h = parentHeight (v .block h)
-
-chain-link : (f : ℕ) (v : View) (i : ℕ) → chainWithin (suc f) v (suc i) ≡ chainWithin f v (back v (suc i)) ++ (v .block (suc i) ∷ [])
-unfolding chainWithin back
-chain-link f v i = rw eqb·suc-zero
-
-chain-zero : (f : ℕ) (v : View) → chainWithin f v 0 ≡ []
-unfolding chainWithin
-chain-zero zero v = refl
-chain-zero (suc f) v = refl
 
 module _ (digest : Bytes → Bytes) where
   -- what it takes to be linked, where the parent is linked going back at most `f` times
@@ -53,7 +33,7 @@ module _ (digest : Bytes → Bytes) where
     run : dummyRun v (back v h) (h - 1 - back v h) ≡ true
 
   link : (f : ℕ) (v : View) (i : ℕ) → linkedWithin digest (suc f) v (suc i) ≡ true → Link f v (suc i)
-  unfolding linkedWithin extendsOver back
+  unfolding linkedWithin extendsOver
   link f v i e =
       let q = and-true (v .hasBlock (suc i)) _ (rw eqb·suc-zero at e) in
       record { present = q .0; below = row _ 1 (q .1); run = row _ 3 (q .1) }
@@ -65,25 +45,25 @@ module _ (digest : Bytes → Bytes) where
   module _ (v v′ : View)
       (equal : (i : ℕ) → v .hasBlock (suc i) ≡ true → v′ .hasBlock (suc i) ≡ true → v .block (suc i) ≡ v′ .block (suc i)) where
     same-chain : (f f′ h : ℕ) → linkedWithin digest f v h ≡ true → linkedWithin digest f′ v′ h ≡ true → chainWithin f v h ≡ chainWithin f′ v′ h
-    same-chain zero f′ h e e′ = rw (no-fuel v h e, chain-zero f′ v′, chain-zero zero v)
-    same-chain (suc f) zero h e e′ = rw (no-fuel v′ h e′, chain-zero (suc f) v, chain-zero zero v′)
-    same-chain (suc f) (suc f′) zero e e′ = chain-zero (suc f) v ∙ sym (chain-zero (suc f′) v′)
+    same-chain zero f′ h e e′ = rw (no-fuel v h e, chain-none f′ v′, chain-none zero v)
+    same-chain (suc f) zero h e e′ = rw (no-fuel v′ h e′, chain-none (suc f) v, chain-none zero v′)
+    same-chain (suc f) (suc f′) zero e e′ = chain-none (suc f) v ∙ sym (chain-none (suc f′) v′)
     same-chain (suc f) (suc f′) (suc i) e e′ =
         let l = link f v i e in
         let l′ = link f′ v′ i e′ in
         let p = equal i (l .present) (l′ .present) in
-        let q : back v (suc i) ≡ back v′ (suc i) = unfold back in ap parentHeight p in
+        let q : back v (suc i) ≡ back v′ (suc i) = ap parentHeight p in
         let lower = same-chain f f′ (back v (suc i)) (l .below) (rw q (l′ .below)) ∙ ap (chainWithin f′ v′) q in
-        chain-link f v i ∙ ap₂ (λ (x : List Bytes) (y : Bytes). x ++ (y ∷ [])) lower p ∙ sym (chain-link f′ v′ i)
+        chain-step f v i ∙ ap₂ (λ (x : List Bytes) (y : Bytes). x ++ (y ∷ [])) lower p ∙ sym (chain-step f′ v′ i)
 
     -- the chain of a height that has no dummy block in the other view begins each longer chain of that view
     pub begins : (f f′ g g′ : ℕ) → linkedWithin digest f v g ≡ true → linkedWithin digest f′ v′ g′ ≡ true →
         (isDummy v′ g ≡ true → ⊥) → g ≤ g′ → Prefix (chainWithin f v g) (chainWithin f′ v′ g′)
     unfolding Prefix
     begins f zero g g′ e e′ final le =
-        let z = no-fuel v′ g′ e′ in let z′ : g ≡ 0 = omega arith in (chainWithin zero v′ g′, rw (z′, chain-zero f v))
+        let z = no-fuel v′ g′ e′ in let z′ : g ≡ 0 = omega arith in (chainWithin zero v′ g′, rw (z′, chain-none f v))
     begins f (suc f′) g zero e e′ final le =
-        let z′ : g ≡ 0 = omega arith in (chainWithin (suc f′) v′ 0, rw (z′, chain-zero f v))
+        let z′ : g ≡ 0 = omega arith in (chainWithin (suc f′) v′ 0, rw (z′, chain-none f v))
     begins f (suc f′) g (suc i) e e′ final le =
         go (λ h. begins f f′ g (back v′ (suc i)) e (l .below) final h) (le-or-lt (suc i) g)
       where
@@ -99,11 +79,11 @@ module _ (digest : Bytes → Bytes) where
         longer : Shorter → Longer
         longer (zs, z) =
             let top : List Bytes = v′ .block (suc i) ∷ [] in
-            (zs ++ top, chain-link f′ v′ i ∙ rw z (append-assoc (chainWithin f v g) zs top))
+            (zs ++ top, chain-step f′ v′ i ∙ rw z (append-assoc (chainWithin f v g) zs top))
 
         behind : (g ≤ back v′ (suc i) → Shorter) → g < suc i → (g ≤ back v′ (suc i)) ⊎ (back v′ (suc i) < g) → Longer
         behind below h (inl z) = longer (below z)
-        behind below h (inr z) = absurd (final (dummy-in-run v′ (back v′ (suc i)) (suc i - 1 - back v′ (suc i)) g (l .run) z (omega arith)))
+        behind below h (inr z) = absurd (final (run-sound v′ (back v′ (suc i)) (suc i - 1 - back v′ (suc i)) (l .run) g z (omega arith)))
 
         go : (g ≤ back v′ (suc i) → Shorter) → (suc i ≤ g) ⊎ (g < suc i) → Longer
         go below (inl h) =
@@ -113,20 +93,10 @@ module _ (digest : Bytes → Bytes) where
         go below (inr h) = behind below h (le-or-lt g (back v′ (suc i)))
 
 -- ---- from chains to bytes
-entries-append : (xs ys : List Bytes) → allEntries (xs ++ ys) ≡ allEntries xs ++ allEntries ys
-unfolding allEntries
-entries-append [] ys = refl
-entries-append (x ∷ xs) ys = rw (entries-append xs ys, append-assoc)
-
-join-append : (xs ys : List Bytes) → join (xs ++ ys) ≡ join xs ++ join ys
-unfolding join
-join-append [] ys = refl
-join-append (x ∷ xs) ys = rw (join-append xs ys, append-assoc)
-
 pub prefix-bytes : (xs ys : List Bytes) → Prefix xs ys → Begins (join (allEntries xs)) (join (allEntries ys))
 unfolding Begins Prefix
 prefix-bytes xs ys (zs, e) =
-    rw (e, entries-append xs zs, join-append (allEntries xs) (allEntries zs))
+    rw (e, allEntries-append xs zs, join-append (allEntries xs) (allEntries zs))
     (sym (take-append-seam (join (allEntries xs)) (join (allEntries zs))))
 
 pub prefix-nil : {A : Type 0} (ys : List A) → Prefix [] ys

@@ -11,7 +11,7 @@ use borrow.Author.Tests.{eqb-true, leb-true}
 use Rattle.protocol.specs.Bytes.{Bytes}
 use Rattle.protocol.specs.Deliver.{deliverRows, readRows}
 use Rattle.protocol.specs.Frame.{frameHeight, frameWellFormed, isCertificate, isStatement, kind, signer}
-use Rattle.protocol.specs.RowLaws.{in-range, passed, row, row-passes}
+use Rattle.protocol.specs.RowLaws.{in-range, row, row-passes}
 use Rattle.protocol.specs.Sound.{sound}
 use Rattle.protocol.specs.State.{State, decode, last}
 use Rattle.protocol.specs.Tests.{firstRefusal, inRange}

@@ -3,16 +3,15 @@ use Prim.Native.Nat.{ℕ, suc, _+_, _≤_, _<_}
 use native.Mathlib.Omega.{arith}
 use mathlib.Core.Path.{_≡_}
 use mathlib.Core.Logic.{_⊎_, inl, inr}
-use mathlib.Core.Bool.{true, false, false≢true}
-use lib.ListN.{List·getD-eq-default}
+use mathlib.Core.Bool.{true}
 use lib.Dec.{eqb}
 use borrow.Author.Tests.{eqb-true, leb-true}
 use Rattle.protocol.specs.Bytes.{Bytes, byteAt}
-use Rattle.protocol.specs.CodecLaws.{at-suc, last-decode}
+use Rattle.protocol.specs.CodecLaws.{last-decode, notarized-in}
 use Rattle.protocol.specs.RowLaws.{every-height-at, implies-true, in-range, row}
 use Rattle.protocol.specs.Sound.{sound, view}
-use Rattle.protocol.specs.State.{State, at, decode, isNotarized, last, noHeight}
-use Rattle.protocol.specs.TestsLaws.{le-or-lt, or-true}
+use Rattle.protocol.specs.State.{State, at, decode, isNotarized}
+use Rattle.protocol.specs.TestsLaws.{or-true}
 use Rattle.protocol.specs.View.{isFinalized, quorum}
 
 pub record Grants (digest : Bytes → Bytes) (s : State) : Type 0 where
@@ -26,28 +25,20 @@ module _ (digest : Bytes → Bytes) (book : Bytes) where
   abbrev b : State
   b = decode book
 
-  -- past the last height nothing is notarized
-  past-end : (i : ℕ) → byteAt book 2 ≤ i → isNotarized (at b (suc i)) ≡ true → ⊥
-  unfolding isNotarized last noHeight
-  past-end i h e =
-      let n = last-decode book in
-      let none′ = List·getD-eq-default (b .heights) noHeight {n = i} (omega arith) in
-      false≢true (rw (at-suc b i, none′) at e)
-
   pub grants : sound digest book ≡ true → Grants digest b
   unfolding sound
   grants e = record {
     few = in-range 1 16 (b .n) (row _ 1 e) .1;
     positive = in-range 1 (byteAt book 2 + 1) (b .current) (row _ 5 e) .0;
     pends = leb-true (b .pendingCount) 32 (row _ 7 e);
-    certificates = λ i q. certified i (le-or-lt (byteAt book 2) i) q;
+    certificates = certified;
     finalizes = settled (or-true (eqb (b .finalized) 0) _ (row _ 15 e));
   }
     where
-      certified : (i : ℕ) → (byteAt book 2 ≤ i) ⊎ (i < byteAt book 2) → isNotarized (at b (suc i)) ≡ true →
-          quorum (view b) (at b (suc i) .certificateMask) ≡ true
-      certified i (inl h) q = absurd (past-end i h q)
-      certified i (inr h) q = implies-true _ _ (every-height-at _ (byteAt book 2) (suc i) (row _ 12 e) (omega arith) h) q
+      certified : (i : ℕ) → isNotarized (at b (suc i)) ≡ true → quorum (view b) (at b (suc i) .certificateMask) ≡ true
+      certified i q =
+          let inside : i < byteAt book 2 = rw (last-decode book) at (notarized-in b i q) in
+          implies-true _ _ (every-height-at _ (byteAt book 2) (suc i) (row _ 12 e) (omega arith) inside) q
 
       settled : (eqb (b .finalized) 0 ≡ true) ⊎ (isFinalized digest (view b) (b .finalized) ≡ true) →
           (b .finalized ≡ 0) ⊎ (isFinalized digest (view b) (b .finalized) ≡ true)

@@ -9,7 +9,6 @@ use mathlib.Core.Option.{Option, some, none}
 use lib.ListN.{length, length-drop, length-take}
 use lib.Dec.{eqb}
 use borrow.Author.Tests.{eqb-true, eqb-false}
-use Rattle.protocol.specs.Answer.{known}
 use Rattle.protocol.specs.Bytes.{Bytes, part}
 use Rattle.protocol.specs.ChangeLaws.{shaped-masks, shaped-notarized, shaped-proposal, shaped-vote}
 use Rattle.protocol.specs.Deliver.{keep, keepBlockCertificate, keepBlockVote, keepDummyCertificate, keepDummyVote, keepFinalize, keepFinalizeCertificate, keepProposal, notarize, votersFor, withMasks, withNotarized, withProposal, withVote}

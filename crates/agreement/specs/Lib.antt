@@ -1,3 +1,4 @@
+-- Demand 3: the claim over lists of calls, its proof, and a list that meets every premise.
 pub mod Lists
 pub mod GrantsLaws
 pub mod BackingLaws

@@ -10,7 +10,7 @@ use lib.ListN.{drop}
 use lib.Seq.{append-snoc}
 use lib.Dec.{eqb, ltb}
 use borrow.Author.Tests.{eqb-true, eq-eqb, leb-true, le-leb, not-true}
-use Rattle.protocol.specs.Bytes.{Bytes, byteAt, holds, part, same}
+use Rattle.protocol.specs.Bytes.{Bytes, byteAt, holds, same}
 use Rattle.protocol.specs.Mask.{inMask}
 use Rattle.protocol.specs.Read.{readPart}
 use Rattle.protocol.specs.RowLaws.{eq-same, implies-true, same-eq}
@@ -19,7 +19,7 @@ use Rattle.protocol.specs.TestsLaws.{and-true, le-or-lt, or-true}
 use Rattle.agreement.specs.ListTests.{deliversBacked, everyHonest, everyIn, follows, isAmong, isBacked, isHonest, keepsOneBook, noCollision, notForged, opensFor, readsPart, shows, showsOnly, signed, signedIn, someIn, statementBytes}
 use Rattle.agreement.specs.Lists.{Call, Continues, Follows, HonestIn, KeepsOneBook, Member, NoCollision, NotForged, Opens, Reads, Shows, Statement, Wrote, blockIn, delivers, delivery, finalizes, lastLeft, leftBy, moving, opening, orElse, proposes, reading, signalling, statementOf, submitting, votesBlock, votesDummy, writes}
 use Rattle.agreement.specs.RunLaws.{or-else-assoc, or-else-none, wrote-more}
-use Rattle.agreement.specs.Witness.{dishonest, entry, leaders}
+use Rattle.agreement.specs.Witness.{entry}
 
 -- ---- over lists and replicas
 pub every-in : {A : Type 0} (test : A → Bool) (l : List A) → everyIn test l ≡ true → (x : A) → List·Memᴰ x l → test x ≡ true

@@ -2,7 +2,7 @@
 use Prim.Native.Nat.{ℕ, suc, _+_, _-_, _*_, _/_, _%_, _≤_}
 use native.Mathlib.Omega.{arith}
 use native.Mathlib.Numerals.{add-one}
-use mathlib.Core.Path.{_≡_, refl, subst, _∙_}
+use mathlib.Core.Path.{_≡_, refl, sym, subst, _∙_}
 use mathlib.Core.Logic.{_⊎_, inl, inr}
 use mathlib.Core.Bool.{Bool, true, false, not, cond}
 use mathlib.Core.List.{List, [], _∷_, List·Memᴰ, List·Memᴰ·eq-of-singleton, List·Memᴰ·cases-cons, List·Memᴰ·not-nil}
@@ -11,11 +11,11 @@ use lib.ListN.{getD}
 use lib.Dec.{eqb}
 use borrow.Author.Tests.{not-true}
 use Rattle.protocol.specs.Bytes.{Bytes, le16, word16, zeros}
-use Rattle.protocol.specs.EveryLaws.{Every, none, one}
-use Rattle.protocol.specs.FlagLaws.{block-flagged, dummy-flagged, proposal-flagged}
+use Rattle.protocol.specs.MoveLaws.{step-cases, head-only}
+use Rattle.protocol.specs.FlagLaws.{flag-set, flag-kept}
 use Rattle.protocol.specs.Frame.{blockCertificate, blockVote, dummyCertificate, dummyVote, finalize, frameBlock, frameDigest, frameHeight, frameOf, kind, proposal, signer, signerMask}
 use Rattle.protocol.specs.Mask.{inMask}
-use Rattle.protocol.specs.Move.{Step, blockVoteApplies, blockVoteStep, dummyVoteApplies, dummyVoteStep, firstStep, idleStep, outputStep, passCertificate, passStep, proposeApplies, proposeStep, step}
+use Rattle.protocol.specs.Move.{Step, blockVoteApplies, blockVoteStep, dummyVoteApplies, dummyVoteStep, idleStep, outputStep, passCertificate, passStep, proposeApplies, proposeStep, step}
 use Rattle.protocol.specs.RowLaws.{row}
 use Rattle.protocol.specs.Sound.{view}
 use Rattle.protocol.specs.State.{State, at, flag, noHeight, withHead}
@@ -25,13 +25,6 @@ use Rattle.protocol.specs.View.{linked}
 use Rattle.agreement.specs.BackingLaws.{Backed}
 use Rattle.agreement.specs.Lists.{Statement, finalizes, proposes, statementOf, votesBlock, votesDummy, when}
 use Rattle.agreement.specs.StatementsLaws.{Consistent, stated-block, stated-dummy, stated-finalize, stated-nothing}
-
--- to prove something of the first step that applies, prove it of each
-first-step : (Q : Step → Type 0) (rows : List (Bool × Step)) (otherwise : Step) →
-    Every (λ (r : Bool × Step). r .0 ≡ true → Q (r .1)) rows → Q otherwise → Q (firstStep rows otherwise)
-unfolding firstStep
-first-step Q [] otherwise none q = q
-first-step Q (r ∷ rows) otherwise (one p ps) q = cond-elim Q (r .0) p (λ e. first-step Q rows otherwise ps q)
 
 when-some : {A : Type 0} (b : Bool) (a x : A) → when b a ≡ some x → (x ≡ a) × (b ≡ true)
 unfolding when
@@ -116,8 +109,8 @@ module _ (digest : Bytes → Bytes) (U : ℕ → Statement → Type 0) (U′ : S
   unfolding dummyVoteApplies dummyVoteStep withHead
   good-dummy e a =
       let new = adds-one (λ (t : Statement). t ≡ votesDummy c) (dummyVote (b .own) c) (dummyVote-says digest (b .own) c s) a in
-      let after = dummy-flagged b c (b .finalized) (not-true (flag 2 b) (row _ 2 e)) in
-      stated-dummy k new (row _ 1 e) (λ r. after .one ∙ r) (λ r. after .four ∙ r)
+      let kept = flag-kept b c (b .finalized) 1 (not-true (flag 2 b) (row _ 2 e)) in
+      stated-dummy k new (row _ 1 e) (λ r. kept 0 (omega arith) ∙ r) (λ r. kept 2 (omega arith) ∙ r)
 
   good-output : StepGood (outputStep digest b)
   unfolding outputStep withHead flag
@@ -160,8 +153,8 @@ module _ (digest : Bytes → Bytes) (U : ℕ → Statement → Type 0) (U′ : S
   good-propose e a =
       let X : Statement → Type 0 = λ (t : Statement). (h : ℕ) × (p : Bytes) × (t ≡ proposes h p) in
       let new = adds-one X _ (λ t r. proposal-says digest (b .own) c s t _ r) a in
-      let after = proposal-flagged b c (b .finalized) (not-true (flag 8 b) (row _ 2 e)) in
-      stated-nothing k new (λ r. after .one ∙ r) (λ r. after .four ∙ r)
+      let kept = flag-kept b c (b .finalized) 3 (not-true (flag 8 b) (row _ 2 e)) in
+      stated-nothing k new (λ r. kept 0 (omega arith) ∙ r) (λ r. kept 2 (omega arith) ∙ r)
 
   good-block : blockVoteApplies digest b ≡ true → StepGood (blockVoteStep digest b)
   unfolding blockVoteApplies blockVoteStep withHead
@@ -170,13 +163,11 @@ module _ (digest : Bytes → Bytes) (U : ℕ → Statement → Type 0) (U′ : S
       let vote : Bytes = blockVote (b .own) c d in
       let unset = not-true (flag 4 b) (row _ 1 e) in
       let new = adds-one (λ (t : Statement). t ≡ votesBlock c (frameDigest vote)) vote (λ t r. blockVote-says digest (b .own) c s t d r) a in
-      let after = block-flagged b c (b .finalized) unset in
-      stated-block k (frameDigest vote) new unset (after .four) (λ r. after .one ∙ r)
+      stated-block k (frameDigest vote) new unset (flag-set b c (b .finalized) 2 unset) (λ r. flag-kept b c (b .finalized) 2 unset 0 (omega arith) ∙ r)
 
   pub step-good : StepGood (step digest b)
-  unfolding step
-  step-good = first-step StepGood _ _
-      (one good-dummy (one (λ e. good-output) (one (λ e. good-pass) (one good-propose (one good-block none))))) good-idle
+  step-good = step-cases digest b StepGood
+      good-dummy (λ _ _. good-output) (λ _ _ _. good-pass) (λ _ _ _. good-propose) (λ _ _ _ _. good-block) (λ _ _ _ _ _. good-idle)
 
 -- a move leaves all but flags, current and finalized height
 pub record SameBody (b b′ : State) : Type 0 where
@@ -190,8 +181,4 @@ with-head-same b f c g = record { same-n = refl; same-pool = refl; same-heights 
 
 module _ (digest : Bytes → Bytes) (b : State) where
   pub step-body : SameBody b (step digest b .after)
-  unfolding step dummyVoteStep outputStep passStep proposeStep blockVoteStep idleStep
-  step-body = first-step (λ (st : Step). SameBody b (st .after)) _ _
-      (one (λ e. with-head-same b _ _ _) (one (λ e. with-head-same b _ _ _) (one (λ e. with-head-same b _ _ _)
-      (one (λ e. with-head-same b _ _ _) (one (λ e. with-head-same b _ _ _) none)))))
-      (record { same-n = refl; same-pool = refl; same-heights = refl })
+  step-body = let (flags, current, finalized, e) = head-only digest b in subst (SameBody b) (sym e) (with-head-same b flags current finalized)

@@ -1,16 +1,15 @@
 -- A new book, and a book with one more pending entry.
-use Prim.Native.Nat.{ℕ, zero, suc, _-_, _*_, _≤_}
+use Prim.Native.Nat.{ℕ, zero, suc}
 use native.Mathlib.Omega.{arith}
 use mathlib.Core.Path.{_≡_, refl, sym, ap, _∙_}
 use mathlib.Core.Bool.{true, true≢false, false≢true}
 use mathlib.Core.List.{List, [], _∷_, _++_, map}
 use mathlib.Core.Option.{Option, some, none}
-use lib.ListN.{length, getD, drop, length-append, length-replicate, length-drop, replicate}
-use lib.Seq.{length-take-le}
+use lib.ListN.{length, getD, length-append}
 use borrow.Author.Tests.{eqb-true, leb-true}
 use Rattle.protocol.specs.Answer.{Done, Outcome, accepted, done, unlessRefused}
-use Rattle.protocol.specs.Bytes.{Bytes, holds, join, pieces, zeros}
-use Rattle.protocol.specs.EveryLaws.{Every, none as no-more, one}
+use Rattle.protocol.specs.Bytes.{Bytes}
+use Rattle.protocol.specs.EveryLaws.{Every, none as no-more, one, every-append}
 use Rattle.protocol.specs.Frame.{finalize}
 use Rattle.protocol.specs.Mask.{inMask}
 use Rattle.protocol.specs.MaskLaws.{inMask-zero}
@@ -20,38 +19,16 @@ use Rattle.protocol.specs.Open.{newHeight, newState, openCall, openRows}
 use Rattle.protocol.specs.RowLaws.{row-passes}
 use Rattle.protocol.specs.Sound.{log}
 use Rattle.protocol.specs.State.{Height, State, decode, encode, flag, holdsProposal, isNotarized, noHeight, pending}
-use Rattle.protocol.specs.StateLaws.{Sized, length-join}
+use Rattle.protocol.specs.PiecesLaws.{Sized, pieces-sized}
+use Rattle.protocol.specs.PoolLaws.{every-without, pending-pool-size}
 use Rattle.protocol.specs.Submit.{stillPending, submitCall, submitRows, withPending}
 use Rattle.protocol.specs.Tests.{firstRefusal}
-use Rattle.protocol.specs.TestsLaws.{cond-elim}
 use Rattle.agreement.specs.BackingLaws.{Backed}
 use Rattle.agreement.specs.GrantsLaws.{grants}
 use Rattle.agreement.specs.Lists.{Member, Statement, Wrote, isAccepted, writes}
 use Rattle.agreement.specs.RunLaws.{Good, Honest, States, backed-more, encoded, nothing-new, quiet, unchanged, unless-refused-good}
-use Rattle.agreement.specs.Witness.{dishonest, entry, leaders}
 
--- ---- entries of 16 bytes
-pub every-pieces : (k : ℕ) (p : Bytes) → 16 * k ≤ length p → Every (Sized 16) (pieces 16 k p)
-unfolding pieces
-every-pieces zero p h = no-more
-every-pieces (suc k) p h = one (length-take-le 16 p (omega arith)) (every-pieces k (drop 16 p) (rw length-drop (omega arith)))
-
-pub every-without : (ys : List Bytes) {Q : Bytes → Type 0} (xs : List Bytes) → Every Q xs → Every Q (without ys xs)
-unfolding without
-every-without ys [] no-more = no-more
-every-without ys {Q} (x ∷ xs) (one q qs) =
-    cond-elim (λ (l : List Bytes). Every Q l) (holds x ys) (λ e. every-without ys xs qs) (λ e. one q (every-without ys xs qs))
-
-every-append : {A : Type 0} {Q : A → Type 0} (xs ys : List A) → Every Q xs → Every Q ys → Every Q (xs ++ ys)
-every-append [] ys no-more h = h
-every-append (x ∷ xs) ys (one q qs) h = one q (every-append xs ys qs h)
-
-pool-size : (es : List Bytes) → Every (Sized 16) es → length es ≤ 32 → length (join es ++ zeros (512 - 16 * length es)) ≡ 512
-unfolding zeros
-pool-size es h few =
-    let e = length-join 16 es h in
-    rw (length-append (join es) (replicate (512 - 16 * length es) 0), e, length-replicate) (omega arith)
-
+-- ---- one more pending entry
 module _ (digest : Bytes → Bytes) (n dishonest : ℕ) (P : List Member) (m : Member) where
   pub submit-good : (s : ℕ) (book entry : Bytes) → Good digest n dishonest P s (decode book) → writes digest m ≡ [] →
       Good digest n dishonest (P ++ (m ∷ [])) s (decode (submitCall digest book entry .book))
@@ -77,12 +54,12 @@ module _ (digest : Bytes → Bytes) (n dishonest : ℕ) (P : List Member) (m : M
           let r4 = row-passes _ _ (r3 .1) in
           let w = grants digest book (r1 .0) .pends in
           let ps = g .shaped .pool-size in
-          let full : Every (Sized 16) es = every-append still (entry ∷ [])
-          (every-without (log b) (pending b) (every-pieces (b .pendingCount) (b .pool) (omega arith)))
+          let full : Every (Sized 16) es = every-append
+          (every-without (log b) (pieces-sized 16 (b .pendingCount) (b .pool) (omega arith)))
           (one (eqb-true (length entry) 16 (r2 .0)) no-more) in
           let room = leb-true (suc (length still)) 32 (r4 .0) in
           quiet digest n dishonest P m s b (withPending b es) g (λ q. silent) refl refl (λ q. q) (λ q. q)
-          (record { pool-size = pool-size es full (rw length-append (omega arith)); heights = g .shaped .heights })
+          (record { pool-size = pending-pool-size es full (rw length-append (omega arith)); heights = g .shaped .heights })
           (λ i. backed-more digest n dishonest P m (g .backed i))
 
 -- ---- a new book

@@ -13,12 +13,12 @@ use borrow.Author.Tests.{eqb-true, eqb-false, not-true}
 use Rattle.protocol.specs.Answer.{Done, Outcome, accepted, done, unlessRefused}
 use Rattle.protocol.specs.Bytes.{Bytes}
 use Rattle.protocol.specs.Deliver.{deliverCall, deliverRows, keep, kept}
-use Rattle.protocol.specs.EveryLaws.{every-set}
-use Rattle.protocol.specs.FlagLaws.{timer-flagged}
+use Rattle.protocol.specs.EveryLaws.{every-set, every-at}
+use Rattle.protocol.specs.FlagLaws.{flag-set, flag-kept}
 use Rattle.protocol.specs.Frame.{frameHeight}
 use Rattle.protocol.specs.Move.{Step, moveCall, moveRows, moved, step, unlessMoveRefused}
 use Rattle.protocol.specs.Open.{newState, openCall, openRows}
-use Rattle.protocol.specs.RowLaws.{every-at, passed, row-passes}
+use Rattle.protocol.specs.RowLaws.{row-passes}
 use Rattle.protocol.specs.Signal.{signalCall, signalRows, withTimerFired}
 use Rattle.protocol.specs.Sound.{sound}
 use Rattle.protocol.specs.State.{Height, State, at, decode, encode, flag, noHeight, withHead, withHeight}
@@ -32,7 +32,6 @@ use Rattle.agreement.specs.KeepingLaws.{keep-good}
 use Rattle.agreement.specs.Lists.{HonestIn, Member, Shows, Statement, Wrote, blockIn, delivers, isAccepted, lastLeft, leftBy, orElse, statementOf, writes}
 use Rattle.agreement.specs.MovingLaws.{step-body, step-good}
 use Rattle.agreement.specs.StatementsLaws.{Consistent, stated-nothing}
-use Rattle.agreement.specs.Witness.{dishonest, leaders}
 
 -- ---- lists
 pub or-else-assoc : {A : Type 0} (x y z : Option A) → orElse (orElse x y) z ≡ orElse x (orElse y z)
@@ -240,9 +239,8 @@ module _ (digest : Bytes → Bytes) where
               let r2 = row-passes _ _ (r1 .1) in
               let r3 = row-passes _ _ (r2 .1) in
               let off = not-true (flag 1 b) (and-true (eqb h (b .current)) _ (r3 .0) .1) in
-              let after = timer-flagged b (b .current) (b .finalized) off in
               quiet s b (withHead b (b .flags + 1) (b .current) (b .finalized)) g (λ q. silent) refl refl
-              (λ q. after .one) (λ q. after .four ∙ q)
+              (λ q. flag-set b (b .current) (b .finalized) 0 off) (λ q. flag-kept b (b .current) (b .finalized) 0 off 2 (omega arith) ∙ q)
               (record { pool-size = g .shaped .pool-size; heights = g .shaped .heights }) (λ i. backed-more (g .backed i))
 
       -- ---- a move

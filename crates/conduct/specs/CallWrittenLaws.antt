@@ -1,20 +1,20 @@
 -- Move and Fetch, refused or not: the frames that they write are those that their answers name, are read, and stand in the reply.
 use Prim.Native.Nat.{ℕ, _+_, _*_, _≤_}
 use native.Mathlib.Omega.{arith}
-use mathlib.Core.Path.{_≡_, refl, subst}
+use mathlib.Core.Path.{_≡_, refl}
 use mathlib.Core.Bool.{Bool, true, false, not, cond}
-use mathlib.Core.List.{[], _∷_, _++_}
+use mathlib.Core.List.{[], _∷_}
 use mathlib.Core.Option.{Option, some, none}
 use lib.ListN.{length}
 use lib.Dec.{eqb}
 use borrow.Author.Tests.{leb-true}
-use Rattle.protocol.specs.Bytes.{Bytes, zeros, join, overFront}
+use Rattle.protocol.specs.Bytes.{Bytes}
 use Rattle.protocol.specs.Tests.{firstRefusal}
 use Rattle.protocol.specs.Frame.{finalize, blockCertificate, dummyCertificate, finalizeCertificate}
 use Rattle.protocol.specs.State.{State, at, last, decode, flag, isNotarized}
 use Rattle.protocol.specs.View.{linked, quorum, isDummy}
 use Rattle.protocol.specs.Sound.{view, sound}
-use Rattle.protocol.specs.Answer.{Move, idle, voteDummy, output, propose, voteBlock, pass, onBlock, onDummy}
+use Rattle.protocol.specs.Answer.{pass, onBlock, onDummy}
 use Rattle.protocol.specs.Move.{Step, unused, written, moved, unlessMoveRefused, passCertificate, step, dummyVoteStep, outputStep, passStep, proposeStep, blockVoteStep, idleStep, moveRows, moveCall}
 use Rattle.protocol.specs.Fetch.{certificateFrame, hasCertificate, unlessFetchRefused, fetchRows, fetchCall}
 use Rattle.protocol.specs.RowLaws.{row-passes, in-range}
@@ -22,10 +22,10 @@ use Rattle.protocol.specs.SoundLaws.{SoundState, sound-decode}
 use Rattle.conduct.specs.Fields.{blockCertificateFields, dummyCertificateFields, finalizeCertificateFields}
 use Rattle.conduct.specs.Readable.{Said, SameSetting, DigestSized}
 use Rattle.conduct.specs.Named.{passFrame, offeredBlock, moveFrames, moveAnswerFrames, moveAnswerFields, fetchFields, fetchAnswerFrames, fetchAnswerFields}
-use Rattle.conduct.specs.Reply.{Wrote, blankAfterMove, blankAfter}
+use Rattle.conduct.specs.Reply.{Wrote, blankAfter}
 use Rattle.conduct.specs.ReplyLaws.{front-wrote, one-wrote, nothing-wrote}
 use Rattle.conduct.specs.ReadLaws.{Written, said-none, said-more}
-use Rattle.conduct.specs.StepLaws.{step-cases}
+use Rattle.protocol.specs.MoveLaws.{step-cases}
 use Rattle.conduct.specs.WrittenReadLaws.{step-said, block-certificate, dummy-certificate, finalize-certificate}
 
 pub same-setting : (s : State) → SameSetting s s
@@ -50,7 +50,8 @@ module _ (digest : Bytes → Bytes) (s : State) where
 
   step-named : Named (step digest s)
   unfolding moveFrames dummyVoteStep outputStep proposeStep blockVoteStep idleStep offeredBlock
-  step-named = step-cases digest s Named (λ _. refl) (λ _. refl) (λ _. pass-named) (λ _. refl) (λ _. refl) refl
+  step-named = step-cases digest s Named
+      (λ _. refl) (λ _ _. refl) (λ _ _ _. pass-named) (λ _ _ _ _. refl) (λ _ _ _ _ _. refl) (λ _ _ _ _ _. refl)
 
   -- ---- a step writes at most 448 bytes
   abbrev Fits : Step → Type 0
@@ -67,18 +68,8 @@ module _ (digest : Bytes → Bytes) (s : State) where
 
   step-fits : Fits (step digest s)
   unfolding unused dummyVoteStep outputStep proposeStep blockVoteStep idleStep
-  step-fits = step-cases digest s Fits (λ _. omega arith) (λ _. omega arith) (λ _. pass-fits) (λ _. omega arith) (λ _. omega arith) (omega arith)
-
--- the zero bytes after a move's frames
-blank-same : (move : Move) → unused move ≡ blankAfterMove move
-unfolding unused blankAfterMove
-blank-same idle = refl
-blank-same (voteDummy h) = refl
-blank-same (output g) = refl
-blank-same (pass h certificate true) = refl
-blank-same (pass h certificate false) = refl
-blank-same (propose h) = refl
-blank-same (voteBlock h) = refl
+  step-fits = step-cases digest s Fits
+      (λ _. omega arith) (λ _ _. omega arith) (λ _ _ _. pass-fits) (λ _ _ _ _. omega arith) (λ _ _ _ _ _. omega arith) (λ _ _ _ _ _. omega arith)
 
 -- ---- Move
 module _ (digest : Bytes → Bytes) (book reply : Bytes) where
@@ -115,9 +106,8 @@ module _ (digest : Bytes → Bytes) (book reply : Bytes) where
         go : (r : Option ℕ) → (r ≡ none → (sound digest book ≡ true) × (448 ≤ length reply)) →
             Wrote (unlessMoveRefused r book reply (step digest state) .frames) (blankAfter (unlessMoveRefused r book reply (step digest state) .answer)) reply (unlessMoveRefused r book reply (step digest state) .reply)
         go none facts = unfold unlessMoveRefused moved blankAfter written in
-            subst (λ (blank : ℕ). Wrote (step digest state .frames) blank reply (overFront (join (step digest state .frames) ++ zeros (unused (step digest state .move))) reply)) (blank-same (step digest state .move))
-            (front-wrote (step digest state .frames) (step-said digest state (sound-decode digest book (facts refl .0)) state (same-setting state) sized .sized)
-            (unused (step digest state .move)) reply (omega (arith, step-fits digest state, facts refl .1)))
+            front-wrote (step digest state .frames) (step-said digest state (sound-decode digest book (facts refl .0)) state (same-setting state) sized .sized)
+            (unused (step digest state .move)) reply (omega (arith, step-fits digest state, facts refl .1))
         go (some number) facts = unfold unlessMoveRefused blankAfter in nothing-wrote reply
 
 -- ---- Fetch

@@ -5,9 +5,9 @@ use mathlib.Core.Path.{_≡_, refl, sym, ap, _∙_}
 use mathlib.Core.Bool.{true}
 use Rattle.protocol.specs.Bytes.{Bytes}
 use Rattle.protocol.specs.Block.{parentHeight, parentDigest}
-use Rattle.protocol.specs.View.{View, quorum, isDummy, digestAt, linked, isFinalized}
+use Rattle.protocol.specs.View.{View, quorum, isDummy, digestAt, isFinalized}
 use Rattle.protocol.specs.Linked.{OnParent, Linked, start, link}
-use Rattle.protocol.specs.LinkedLaws.{linked-sound, linked-complete, finalized-sound, finalized-complete}
+use Rattle.protocol.specs.LinkedLaws.{finalized-sound, finalized-complete}
 use Rattle.protocol.specs.MaskLaws.{Within}
 use Rattle.protocol.specs.OnesLaws.{quorum-mono}
 use Rattle.conduct.specs.Grows.{Grows}
@@ -48,9 +48,6 @@ module _ (v v′ : View) (grows : Grows v v′) where
     stays-linked (link {h = h} has parent on) =
         let positive : 1 ≤ h = omega (arith, on .below) in
         link (grows .keeps-block h positive has .0) (stays-linked parent) (parent-kept positive has parent on)
-
-    pub linked-grows : (h : ℕ) → linked digest v h ≡ true → linked digest v′ h ≡ true
-    linked-grows h e = linked-complete digest v′ (stays-linked (linked-sound digest v h e))
 
     pub finalized-grows : (h : ℕ) → 1 ≤ h → isFinalized digest v h ≡ true → isFinalized digest v′ h ≡ true
     finalized-grows h low e =

@@ -1,3 +1,4 @@
+-- What calls keep: sound books stay sound, and what is written is read.
 pub mod SoundKept
 pub mod WrittenRead
 pub mod Keeping
@@ -11,7 +12,6 @@ pub mod GrowsLaws
 pub mod HeadKeptLaws
 pub mod HeightKeptLaws
 pub mod KeepLaws
-pub mod StepLaws
 pub mod OpenKeptLaws
 pub mod DeliverKeptLaws
 pub mod MoveKeptLaws

@@ -1,45 +1,21 @@
 -- Open makes a sound state.
-use Prim.Native.Nat.{ℕ, zero, suc, _≤_, _<_}
+use Prim.Native.Nat.{ℕ, zero, suc, _≤_}
 use native.Mathlib.Omega.{arith}
 use mathlib.Core.Path.{_≡_, refl}
 use mathlib.Core.Logic.{inl}
-use mathlib.Core.Bool.{true, false≢true}
-use mathlib.Core.List.{[], _∷_}
+use mathlib.Core.Bool.{true}
 use lib.ListN.{length, length-map}
-use lib.Dec.{ltb}
-use lib.Pow.{pow-pos}
 use borrow.Author.Tests.{eqb-true, ltb-true}
-use Rattle.protocol.specs.Bytes.{Bytes, all}
-use Rattle.protocol.specs.State.{State, Height, noHeight, at, last, holdsProposal, isNotarized}
-use Rattle.protocol.specs.View.{View}
+use Rattle.protocol.specs.Bytes.{Bytes}
+use Rattle.protocol.specs.State.{State, noHeight, at, last}
 use Rattle.protocol.specs.Sound.{view}
-use Rattle.protocol.specs.Open.{newHeight, newState, openInRange}
-use Rattle.protocol.specs.EveryLaws.{Every, one, none, every-map}
-use Rattle.protocol.specs.TestsLaws.{and-true}
-use Rattle.protocol.specs.RowLaws.{row, in-range, every-at}
+use Rattle.protocol.specs.Open.{newState, openInRange}
+use Rattle.protocol.specs.EveryLaws.{Every, every-at}
+use Rattle.protocol.specs.RowLaws.{row, in-range}
 use Rattle.protocol.specs.CodecLaws.{at-suc}
+use Rattle.protocol.specs.NewBookLaws.{Bare, all-bare, bare-sound}
 use Rattle.protocol.specs.NewStateLaws.{new-shaped}
 use Rattle.protocol.specs.SoundLaws.{SoundState, SoundHeight}
-
-leaders-below : (n : ℕ) (leaders : Bytes) → all (λ leader. ltb leader n) leaders ≡ true → Every (λ (leader : ℕ). leader < n) leaders
-unfolding all
-leaders-below n [] e = none
-leaders-below n (x ∷ xs) e = let both = and-true (ltb x n) _ e in one (ltb-true x n (both .0)) (leaders-below n xs (both .1))
-
--- a new height is sound at each height
-new-sound : (v : View) (leader : ℕ) → leader < v .n → (h : ℕ) → SoundHeight v h (newHeight leader)
-unfolding newHeight holdsProposal isNotarized
-new-sound v leader small h = record {
-  leader-below = small;
-  status-small = omega arith;
-  certificate-below = pow-pos (v .n);
-  dummy-below = pow-pos (v .n);
-  finalize-below = pow-pos (v .n);
-  voter-below = pow-pos (v .n);
-  proposal-formed = λ held. absurd (false≢true held);
-  notarized-formed = λ has. absurd (false≢true has);
-  certified = λ has. absurd (false≢true has);
-}
 
 module _ (digest : Bytes → Bytes) (n own heights : ℕ) (leaders : Bytes) (ranges : openInRange n own heights leaders ≡ true) where
   abbrev s : State
@@ -56,13 +32,13 @@ module _ (digest : Bytes → Bytes) (n own heights : ℕ) (leaders : Bytes) (ran
       let exact : length leaders ≡ heights = eqb-true _ _ (row _ 3 ranges) in
       rw (length-map, exact) many
 
-  all-sound : Every (λ (x : Height). (h : ℕ) → SoundHeight (view s) h x) (s .heights)
-  unfolding openInRange newState view
-  all-sound = every-map newHeight (λ leader small. new-sound (view s) leader small) (leaders-below n leaders (row _ 4 ranges))
+  all-new : Every (Bare (s .n)) (s .heights)
+  unfolding openInRange newState
+  all-new = all-bare n leaders (row _ 4 ranges)
 
   each-sound : (h : ℕ) → 1 ≤ h → h ≤ last s → SoundHeight (view s) h (at s h)
   each-sound zero low high = absurd (omega arith)
-  each-sound (suc i) low high = rw at-suc (every-at i noHeight all-sound (unfold last in high) (suc i))
+  each-sound (suc i) low high = bare-sound (view s) (suc i) (at s (suc i)) (unfold view in rw at-suc (every-at i noHeight all-new (unfold last in high)))
 
   pub open-sound : SoundState digest s
   unfolding newState

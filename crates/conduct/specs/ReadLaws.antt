@@ -21,7 +21,7 @@ use Rattle.protocol.specs.FormedLaws.{formed}
 use Rattle.protocol.specs.RowLaws.{refuse-row, zeros-is-zero, range-in}
 use Rattle.conduct.specs.Fields.{Fields, fields, proposalFields, blockVoteFields, dummyVoteFields, finalizeFields, blockCertificateFields, dummyCertificateFields, finalizeCertificateFields}
 use Rattle.conduct.specs.Readable.{IsRead, Said}
-use Rattle.protocol.specs.BlockLaws.{zeros-size}
+use Rattle.protocol.specs.BytesLaws.{length-zeros}
 use Rattle.conduct.specs.FrameLaws.{Fitting, fields-back, frame-size, well-formed, mask-back}
 
 -- rows that all pass refuse nothing
@@ -64,42 +64,13 @@ module _ (t : State) (k s h mask : ℕ) (digest block : Bytes) (digest-size : le
           (one (ap (λ (m : ℕ). isStatement k || quorum (view t) m) (mask-back k s h mask digest block digest-size) ∙ quorum-row)
           Every.none)))))
 
--- ---- the fields of each kind
-pub proposal-fields : (s h : ℕ) (block : Bytes) → fields (proposal s h block) ≡ proposalFields s h block
-unfolding proposal proposalFields
-proposal-fields s h block = fields-back 1 s h 0 (zeros 32) block (zeros-size 32)
-
-pub block-vote-fields : (s h : ℕ) (digest : Bytes) → length digest ≡ 32 → fields (blockVote s h digest) ≡ blockVoteFields s h digest
-unfolding blockVote blockVoteFields
-block-vote-fields s h digest e = fields-back 2 s h 0 digest (zeros 176) e
-
-pub dummy-vote-fields : (s h : ℕ) → fields (dummyVote s h) ≡ dummyVoteFields s h
-unfolding dummyVote dummyVoteFields
-dummy-vote-fields s h = fields-back 3 s h 0 (zeros 32) (zeros 176) (zeros-size 32)
-
-pub finalize-fields : (s h : ℕ) → fields (finalize s h) ≡ finalizeFields s h
-unfolding finalize finalizeFields
-finalize-fields s h = fields-back 4 s h 0 (zeros 32) (zeros 176) (zeros-size 32)
-
-pub block-certificate-fields : (h mask : ℕ) (block : Bytes) → fields (blockCertificate h mask block) ≡ blockCertificateFields h mask block
-unfolding blockCertificate blockCertificateFields
-block-certificate-fields h mask block = fields-back 5 0 h mask (zeros 32) block (zeros-size 32)
-
-pub dummy-certificate-fields : (h mask : ℕ) → fields (dummyCertificate h mask) ≡ dummyCertificateFields h mask
-unfolding dummyCertificate dummyCertificateFields
-dummy-certificate-fields h mask = fields-back 6 0 h mask (zeros 32) (zeros 176) (zeros-size 32)
-
-pub finalize-certificate-fields : (h mask : ℕ) → fields (finalizeCertificate h mask) ≡ finalizeCertificateFields h mask
-unfolding finalizeCertificate finalizeCertificateFields
-finalize-certificate-fields h mask = fields-back 7 0 h mask (zeros 32) (zeros 176) (zeros-size 32)
-
 -- ---- what a kind asks of the other fields
 -- where it carries no digest and no block
 bare : (k s h mask : ℕ) → (isStatement k || isCertificate k) ≡ true → (isStatement k || eqb s 0) ≡ true → (isCertificate k || eqb mask 0) ≡ true →
-    carriesDigest k ≡ false → carriesBlock k ≡ false → Fitting k s h mask (zeros 32) (zeros 176) (zeros-size 32)
+    carriesDigest k ≡ false → carriesBlock k ≡ false → Fitting k s h mask (zeros 32) (zeros 176) (length-zeros 32)
 unfolding implies
 bare k s h mask a b c d e = record {
-  block-size = zeros-size 176;
+  block-size = length-zeros 176;
   a-kind = a;
   a-signer = b;
   a-mask = c;
@@ -110,7 +81,7 @@ bare k s h mask a b c d e = record {
 
 -- where it carries a block
 carrying : (k s h mask : ℕ) (block : Bytes) → (isStatement k || isCertificate k) ≡ true → (isStatement k || eqb s 0) ≡ true → (isCertificate k || eqb mask 0) ≡ true →
-    carriesDigest k ≡ false → carriesBlock k ≡ true → blockWellFormed h block ≡ true → Fitting k s h mask (zeros 32) block (zeros-size 32)
+    carriesDigest k ≡ false → carriesBlock k ≡ true → blockWellFormed h block ≡ true → Fitting k s h mask (zeros 32) block (length-zeros 32)
 unfolding implies
 carrying k s h mask block a b c d e good = record {
   block-size = formed h block good .size;
@@ -128,41 +99,41 @@ module _ (t : State) (h : ℕ) (low : 1 ≤ h) (high : h ≤ last t) where
     pub proposal-read : (block : Bytes) → blockWellFormed h block ≡ true → s ≡ at t h .leader → Written t (proposalFields s h block) (proposal s h block)
     unfolding proposal proposalFields isStatement isCertificate carriesBlock carriesDigest inRange implies
     proposal-read block good leads =
-        read-over t 1 s h 0 (zeros 32) block (zeros-size 32) (carrying 1 s h 0 block refl refl refl refl refl good) low high
+        read-over t 1 s h 0 (zeros 32) block (length-zeros 32) (carrying 1 s h 0 block refl refl refl refl refl good) low high
         (lt-ltb s (t .n) small) (eq-eqb s (at t h .leader) leads) refl
 
     pub block-vote-read : (digest : Bytes) → length digest ≡ 32 → Written t (blockVoteFields s h digest) (blockVote s h digest)
     unfolding blockVote blockVoteFields isStatement isCertificate carriesBlock carriesDigest inRange implies
     block-vote-read digest sized =
         read-over t 2 s h 0 digest (zeros 176) sized
-        (record { block-size = zeros-size 176; a-kind = refl; a-signer = refl; a-mask = refl; a-digest = refl; a-block = zeros-is-zero 176; good-block = refl })
+        (record { block-size = length-zeros 176; a-kind = refl; a-signer = refl; a-mask = refl; a-digest = refl; a-block = zeros-is-zero 176; good-block = refl })
         low high (lt-ltb s (t .n) small) refl refl
 
     pub dummy-vote-read : Written t (dummyVoteFields s h) (dummyVote s h)
     unfolding dummyVote dummyVoteFields isStatement isCertificate carriesBlock carriesDigest inRange implies
     dummy-vote-read =
-        read-over t 3 s h 0 (zeros 32) (zeros 176) (zeros-size 32) (bare 3 s h 0 refl refl refl refl refl) low high (lt-ltb s (t .n) small) refl refl
+        read-over t 3 s h 0 (zeros 32) (zeros 176) (length-zeros 32) (bare 3 s h 0 refl refl refl refl refl) low high (lt-ltb s (t .n) small) refl refl
 
     pub finalize-read : Written t (finalizeFields s h) (finalize s h)
     unfolding finalize finalizeFields isStatement isCertificate carriesBlock carriesDigest inRange implies
     finalize-read =
-        read-over t 4 s h 0 (zeros 32) (zeros 176) (zeros-size 32) (bare 4 s h 0 refl refl refl refl refl) low high (lt-ltb s (t .n) small) refl refl
+        read-over t 4 s h 0 (zeros 32) (zeros 176) (length-zeros 32) (bare 4 s h 0 refl refl refl refl refl) low high (lt-ltb s (t .n) small) refl refl
 
   module _ (mask : ℕ) (small : belowBit (t .n) mask ≡ true) (enough : quorum (view t) mask ≡ true) where
     pub block-certificate-read : (block : Bytes) → blockWellFormed h block ≡ true → Written t (blockCertificateFields h mask block) (blockCertificate h mask block)
     unfolding blockCertificate blockCertificateFields isStatement isCertificate carriesBlock carriesDigest inRange implies
     block-certificate-read block good =
-        read-over t 5 0 h mask (zeros 32) block (zeros-size 32) (carrying 5 0 h mask block refl refl refl refl refl good) low high small refl enough
+        read-over t 5 0 h mask (zeros 32) block (length-zeros 32) (carrying 5 0 h mask block refl refl refl refl refl good) low high small refl enough
 
     pub dummy-certificate-read : Written t (dummyCertificateFields h mask) (dummyCertificate h mask)
     unfolding dummyCertificate dummyCertificateFields isStatement isCertificate carriesBlock carriesDigest inRange implies
     dummy-certificate-read =
-        read-over t 6 0 h mask (zeros 32) (zeros 176) (zeros-size 32) (bare 6 0 h mask refl refl refl refl refl) low high small refl enough
+        read-over t 6 0 h mask (zeros 32) (zeros 176) (length-zeros 32) (bare 6 0 h mask refl refl refl refl refl) low high small refl enough
 
     pub finalize-certificate-read : Written t (finalizeCertificateFields h mask) (finalizeCertificate h mask)
     unfolding finalizeCertificate finalizeCertificateFields isStatement isCertificate carriesBlock carriesDigest inRange implies
     finalize-certificate-read =
-        read-over t 7 0 h mask (zeros 32) (zeros 176) (zeros-size 32) (bare 7 0 h mask refl refl refl refl refl) low high small refl enough
+        read-over t 7 0 h mask (zeros 32) (zeros 176) (length-zeros 32) (bare 7 0 h mask refl refl refl refl refl) low high small refl enough
 
 -- ---- 224 zero bytes
 zeros-unformed : frameWellFormed (zeros 224) ≡ false

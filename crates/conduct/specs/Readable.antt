@@ -8,7 +8,7 @@ use Rattle.protocol.specs.Bytes.{Bytes}
 use Rattle.protocol.specs.Tests.{firstRefusal}
 use Rattle.protocol.specs.Block.{digestSize}
 use Rattle.protocol.specs.EveryLaws.{Every}
-use Rattle.protocol.specs.StateLaws.{Sized}
+use Rattle.protocol.specs.PiecesLaws.{Sized}
 use Rattle.protocol.specs.Frame.{frameSize}
 use Rattle.protocol.specs.State.{State, at, last}
 use Rattle.protocol.specs.Deliver.{readRows}

@@ -1,12 +1,12 @@
 -- Where the frames that a call writes stand in the lent reply.
-use mathlib.Core.Bool.{true, false}
 use Prim.Native.Nat.{ℕ, _+_, _*_, _<_}
 use mathlib.Core.Path.{_≡_}
 use mathlib.Core.List.{List, []}
 use lib.ListN.{length, getD, drop}
 use Rattle.protocol.specs.Bytes.{Bytes, part, zeros}
 use Rattle.protocol.specs.Frame.{frameSize}
-use Rattle.protocol.specs.Answer.{Answer, refused, accepted, Move, idle, voteDummy, output, pass, propose, voteBlock}
+use Rattle.protocol.specs.Answer.{Answer, refused, accepted, Move}
+use Rattle.protocol.specs.Move.{unused}
 
 -- a reply before and after a call that wrote these frames, and then `blank` zero bytes, to its front
 pub record Wrote (frames : List Bytes) (blank : ℕ) (before after : Bytes) : Type 0 where
@@ -17,16 +17,7 @@ pub record Wrote (frames : List Bytes) (blank : ℕ) (before after : Bytes) : Ty
   pub rest-kept : drop (frameSize * length frames + blank) after ≡ drop (frameSize * length frames + blank) before
   pub same-length : length after ≡ length before
 
--- how many zero bytes a move leaves after its frames: 224 where a pass does not finalize
-unfoldable pub blankAfterMove : Move → ℕ
-blankAfterMove idle = 0
-blankAfterMove (voteDummy h) = 0
-blankAfterMove (output g) = 0
-blankAfterMove (pass h certificate true) = 0
-blankAfterMove (pass h certificate false) = frameSize
-blankAfterMove (propose h) = 0
-blankAfterMove (voteBlock h) = 0
-
+-- how many zero bytes a call of Move leaves after its frames
 unfoldable pub blankAfter : Answer Move → ℕ
 blankAfter (refused number) = 0
-blankAfter (accepted move) = blankAfterMove move
+blankAfter (accepted move) = unused move

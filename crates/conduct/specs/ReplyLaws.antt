@@ -8,9 +8,9 @@ use lib.ListN.{length, getD, drop, length-append, length-drop}
 use lib.Seq.{take-at, drop-at, drop-drop}
 use Rattle.protocol.specs.Bytes.{Bytes, part, zeros, join, overFront}
 use Rattle.protocol.specs.EveryLaws.{Every, one, none}
-use Rattle.protocol.specs.StateLaws.{Sized, length-join}
+use Rattle.protocol.specs.PiecesLaws.{Sized, length-join}
 use Rattle.conduct.specs.Reply.{Wrote}
-use Rattle.protocol.specs.BlockLaws.{zeros-size}
+use Rattle.protocol.specs.BytesLaws.{length-zeros}
 
 -- a piece of pieces that are joined
 piece-at : (k : ℕ) (xs : List Bytes) (rest : Bytes) → Every (Sized k) xs → (i : ℕ) → i < length xs → part (join xs ++ rest) (k * i) k ≡ getD xs i []
@@ -35,7 +35,7 @@ module _ (frames : List Bytes) (sized : Every (Sized 224) frames) (blank : ℕ) 
   joined = length-join 224 frames sized
 
   new-size : length new ≡ 224 * length frames + blank
-  new-size = simp (length-append, joined, zeros-size) refl
+  new-size = simp (length-append, joined, length-zeros) refl
 
   pub front-wrote : Wrote frames blank before (overFront new before)
   unfolding overFront
@@ -43,13 +43,13 @@ module _ (frames : List Bytes) (sized : Every (Sized 224) frames) (blank : ℕ) 
     frame-at = λ i l. rw (append-assoc (join frames) (zeros blank) rest) (piece-at 224 frames (zeros blank ++ rest) sized i l);
     blank-after = blanks;
     rest-kept = drop-at new rest (224 * length frames + blank) new-size ∙ rw new-size refl;
-    same-length = simp (length-append, length-drop, joined, zeros-size) (omega arith);
+    same-length = simp (length-append, length-drop, joined, length-zeros) (omega arith);
   }
     where
       blanks : part (new ++ rest) (224 * length frames) blank ≡ zeros blank
       blanks = unfold part in
           rw (append-assoc (join frames) (zeros blank) rest, drop-at (join frames) (zeros blank ++ rest) (224 * length frames) joined)
-          (take-at (zeros blank) rest blank (zeros-size blank))
+          (take-at (zeros blank) rest blank (length-zeros blank))
 
 single : (frame : Bytes) → join (frame ∷ []) ++ zeros 0 ≡ frame
 unfolding join zeros

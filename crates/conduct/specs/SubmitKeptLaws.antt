@@ -8,23 +8,19 @@ use Rattle.protocol.specs.Bytes.{Bytes, zeros, join}
 use Rattle.protocol.specs.State.{State}
 use Rattle.protocol.specs.Sound.{log}
 use Rattle.protocol.specs.Submit.{withPending, stillPending}
-use Rattle.protocol.specs.EveryLaws.{Every, one, none}
-use Rattle.protocol.specs.StateLaws.{Sized, length-join}
-use Rattle.protocol.specs.ChainLaws.{every-append}
-use Rattle.protocol.specs.PendingLaws.{every-without, pending-sized}
+use Rattle.protocol.specs.EveryLaws.{Every, one, none, every-append}
+use Rattle.protocol.specs.PiecesLaws.{Sized}
+use Rattle.protocol.specs.PendingLaws.{pending-sized}
+use Rattle.protocol.specs.PoolLaws.{every-without, pending-pool-size}
 use Rattle.protocol.specs.SoundLaws.{SoundState}
 use Rattle.conduct.specs.HeadKeptLaws.{head-sound}
-use Rattle.protocol.specs.BlockLaws.{zeros-size}
 
 module _ (digest : Bytes → Bytes) (s : State) (is : SoundState digest s) where
-  pool-size : (es : List Bytes) → Every (Sized 16) es → length es ≤ 32 → length (join es ++ zeros (512 - 16 * length es)) ≡ 512
-  pool-size es sized few = simp (length-append, length-join 16 es sized, zeros-size) (omega arith)
-
   with-pending-sound : (es : List Bytes) → Every (Sized 16) es → length es ≤ 32 → SoundState digest (withPending s es)
   unfolding withPending
   with-pending-sound es sized few =
       head-sound digest s is (s .flags) (s .current) (s .finalized) (length es) (join es ++ zeros (512 - 16 * length es))
-      (is .flags-small) (is .current-low) (is .current-high) (is .final) few (pool-size es sized few)
+      (is .flags-small) (is .current-low) (is .current-high) (is .final) few (pending-pool-size es sized few)
 
   pub submit-sound : (entry : Bytes) → length entry ≡ 16 → length (stillPending s) < 32 → SoundState digest (withPending s (stillPending s ++ (entry ∷ [])))
   submit-sound entry sized room =

@@ -1,16 +1,15 @@
 -- Each frame that Move or Fetch writes is read over a state of the same replicas, heights and leaders.
-use Prim.Native.Nat.{ℕ, zero, suc, _-_, _^_, _≤_, _<_}
+use Prim.Native.Nat.{ℕ, _-_, _^_, _≤_, _<_}
 use native.Mathlib.Omega.{arith}
 use mathlib.Core.Path.{_≡_, refl, sym, _∙_}
 use mathlib.Core.Bool.{Bool, true, false, _&&_, _||_, not, cond, false≢true}
 use mathlib.Core.List.{[], _∷_}
 use mathlib.Core.Option.{Option, some, none}
-use lib.ListN.{length}
 use borrow.Author.Tests.{lt-ltb, leb-true, eqb-true}
-use Rattle.protocol.specs.Bytes.{Bytes, isZero}
+use Rattle.protocol.specs.Bytes.{Bytes}
 use Rattle.protocol.specs.Mask.{belowBit}
 use Rattle.protocol.specs.Block.{blockWellFormed}
-use Rattle.protocol.specs.Frame.{proposal, finalize, blockCertificate, dummyCertificate, finalizeCertificate}
+use Rattle.protocol.specs.Frame.{finalize, blockCertificate, dummyCertificate, finalizeCertificate}
 use Rattle.protocol.specs.State.{State, at, last, flag, isNotarized}
 use Rattle.protocol.specs.View.{View, quorum, isDummy, linked, digestAt}
 use Rattle.protocol.specs.Sound.{view}
@@ -21,17 +20,17 @@ use Rattle.protocol.specs.Linked.{Linked, start, link}
 use Rattle.protocol.specs.LinkedLaws.{linked-sound}
 use Rattle.protocol.specs.ParentLaws.{parent-some}
 use Rattle.protocol.specs.TestsLaws.{and-true}
-use Rattle.protocol.specs.RowLaws.{row, zeros-is-zero}
+use Rattle.protocol.specs.RowLaws.{row}
 use Rattle.protocol.specs.BlockLaws.{new-block-good}
+use Rattle.protocol.specs.ViewLaws.{digest-at-size, digest-at-start}
 use Rattle.protocol.specs.PendingLaws.{offered-few, offered-sized}
 use Rattle.protocol.specs.SoundLaws.{SoundState, SoundHeight}
 use Rattle.conduct.specs.Fields.{blockCertificateFields, dummyCertificateFields, finalizeCertificateFields}
 use Rattle.conduct.specs.Readable.{Said, SameSetting, DigestSized}
 use Rattle.conduct.specs.Named.{offeredBlock, moveFields, passFields}
-use Rattle.protocol.specs.BlockLaws.{zeros-size}
 use Rattle.conduct.specs.ReadLaws.{Written, said-none, said-more, proposal-read, block-vote-read, dummy-vote-read, finalize-read, block-certificate-read, dummy-certificate-read, finalize-certificate-read}
 use Rattle.conduct.specs.GrowsLaws.{same-quorum}
-use Rattle.conduct.specs.StepLaws.{step-cases}
+use Rattle.protocol.specs.MoveLaws.{step-cases}
 
 -- a linked height from 1 on has a block
 has-block : {digest : Bytes → Bytes} {v : View} {h : ℕ} → Linked digest v h → 1 ≤ h → v .hasBlock h ≡ true
@@ -117,16 +116,6 @@ module _ (digest : Bytes → Bytes) (s : State) (is : SoundState digest s) (t : 
 
   -- ---- statements with a digest
   module _ (sized : DigestSized digest) where
-    digest-size : (j : ℕ) → length (digestAt digest (view s) j) ≡ 32
-    unfolding digestAt
-    digest-size zero = zeros-size 32
-    digest-size (suc j) = sized _
-
-    start-digest : (j : ℕ) → j ≡ 0 → isZero (digestAt digest (view s) j) ≡ true
-    unfolding digestAt
-    start-digest zero e = zeros-is-zero 32
-    start-digest (suc j) e = absurd (omega arith)
-
     below-current : (j : ℕ) → parentBelow digest s ≡ some j → j < c
     unfolding parentBelow
     below-current j p = let chain = parent-some digest (view s) (c - 1) j p .0 in omega (arith, is .current-low, chain .within)
@@ -134,7 +123,7 @@ module _ (digest : Bytes → Bytes) (s : State) (is : SoundState digest s) (t : 
     proposed-good : (parent : Option ℕ) → parentBelow digest s ≡ parent → isSome parent ≡ true → blockWellFormed c (proposedBlock digest s (someOr 0 parent)) ≡ true
     unfolding isSome someOr proposedBlock
     proposed-good none p e = absurd (false≢true e)
-    proposed-good (some j) p e = new-block-good c j (digestAt digest (view s) j) (offered digest s j) (below-current j p) (digest-size j) (start-digest j) (offered-few digest s j) (offered-sized digest s is j)
+    proposed-good (some j) p e = new-block-good c j (digestAt digest (view s) j) (offered s j) (below-current j p) (digest-at-size digest (view s) sized j) (digest-at-start digest (view s) j) (offered-few s j) (offered-sized digest s is j)
 
     propose-good : proposeApplies digest s ≡ true → Good (proposeStep digest s)
     unfolding proposeApplies proposeStep moveFields offeredBlock
@@ -157,4 +146,5 @@ module _ (digest : Bytes → Bytes) (s : State) (is : SoundState digest s) (t : 
     idle-good = said-none t
 
     pub step-said : Good (step digest s)
-    step-said = step-cases digest s Good dummy-vote (λ e. output-good) pass-good propose-good block-vote idle-good
+    step-said = step-cases digest s Good
+        dummy-vote (λ _ _. output-good) (λ _ _. pass-good) (λ _ _ _. propose-good) (λ _ _ _ _. block-vote) (λ _ _ _ _ _. idle-good)

@@ -1,0 +1,1 @@
+// Theorems on what calls keep and write: no code, all in specs/.

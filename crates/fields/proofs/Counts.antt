@@ -9,7 +9,7 @@ use lib.Pow.{pow-lt}
 use Rattle.protocol.specs.Mask.{ones}
 use Rattle.protocol.specs.View.{View, isDummy, dummyRun}
 use Rattle.protocol.specs.RowLaws.{true-and, not-passed}
-use Rattle.protocol.specs.LinkedLaws.{run-sound}
+use Rattle.protocol.specs.ViewLaws.{run-sound}
 
 -- ---- bits of a mask
 pub no-bits : (mask : ℕ) → mask ≡ mask / 2 ^ 0

@@ -2,7 +2,7 @@
 use Prim.Native.Nat.{ℕ, _-_}
 use mathlib.Core.Path.{_≡_, refl, sym, ap, _∙_}
 use mathlib.Core.Logic.{_≢_}
-use mathlib.Core.Bool.{Bool, true, false, _&&_}
+use mathlib.Core.Bool.{Bool, true, false, _&&_, and-true}
 use lib.Dec.{eqb}
 use borrow.Author.Tests.{eq-eqb, ne-eqb}
 use Rattle.protocol.specs.Bytes.{Bytes, byteAt}
@@ -13,10 +13,6 @@ use Rattle.protocol.specs.View.{linked, isDummy, extends, largestFinalized, par
 use Rattle.protocol.specs.Sound.{view}
 use Rattle.protocol.specs.Move.{isRunning, isSome, dummyVoteApplies, newFinalized, parentBelow, passApplies, proposeApplies, blockVoteApplies}
 use Rattle.moves.specs.Held.{heldExtends}
-
-and-right-true : (a : Bool) → (a && true) ≡ a
-and-right-true true = refl
-and-right-true false = refl
 
 -- ---- move 1
 module _ (s : State) where
@@ -109,7 +105,7 @@ module _ (digest : Bytes → Bytes) where
 
     pub propose-chain : isRunning s ≡ true → eqb (at s (s .current) .leader) (s .own) ≡ true → flag 8 s ≡ false → proposeApplies digest s ≡ isSome (parentBelow digest s)
     unfolding proposeApplies allOf
-    propose-chain e f g = rw (e, f, g) (and-right-true (isSome (parentBelow digest s)))
+    propose-chain e f g = rw (e, f, g) (and-true (isSome (parentBelow digest s)))
 
     -- ---- move 5
     pub vote-stopped : isRunning s ≡ false → blockVoteApplies digest s ≡ false
@@ -122,4 +118,4 @@ module _ (digest : Bytes → Bytes) where
 
     pub vote-held : isRunning s ≡ true → flag 4 s ≡ false → blockVoteApplies digest s ≡ heldExtends digest s
     unfolding blockVoteApplies allOf heldExtends
-    vote-held e f = rw (e, f) (ap (λ (b : Bool). holdsProposal (at s (s .current)) && b) (and-right-true (extends digest (view s) (s .current) (at s (s .current) .proposal))))
+    vote-held e f = rw (e, f) (ap (λ (b : Bool). holdsProposal (at s (s .current)) && b) (and-true (extends digest (view s) (s .current) (at s (s .current) .proposal))))

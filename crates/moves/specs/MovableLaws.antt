@@ -12,10 +12,10 @@ use Rattle.protocol.specs.BytesLaws.{AreBytes}
 use Rattle.protocol.specs.Block.{blockWellFormed}
 use Rattle.protocol.specs.State.{State, at, last, decode}
 use Rattle.protocol.specs.StateLaws.{ShapedHeight}
-use Rattle.protocol.specs.CodecLaws.{last-decode, decode-shaped}
+use Rattle.protocol.specs.CodecLaws.{last-decode, decode-shaped, notarized-in}
 use Rattle.protocol.specs.PlaceLaws.{suc-pred, shaped-at}
 use Rattle.protocol.specs.Sound.{view, sound}
-use Rattle.protocol.specs.SoundLaws.{SoundState, notarized-in}
+use Rattle.protocol.specs.SoundLaws.{SoundState}
 use Rattle.protocol.specs.GrantedLaws.{Granted, granted}
 use Rattle.protocol.specs.Move.{isRunning}
 use Rattle.fields.specs.Ready.{Within, Ready}

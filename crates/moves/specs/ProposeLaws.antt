@@ -6,14 +6,14 @@ use mathlib.Core.Bool.{true}
 use lib.ListN.{length}
 use Rattle.sha256.specs.Digest.{sha256}
 use Rattle.protocol.specs.Bytes.{Bytes, byteAt, zeros, overFront}
-use Rattle.protocol.specs.BytesLaws.{put}
+use Rattle.protocol.specs.BytesLaws.{put, length-zeros}
 use Rattle.protocol.specs.Block.{newBlock}
-use Rattle.protocol.specs.BuildLaws.{length-zeros, new-block-size, front-frame-block}
-use Rattle.protocol.specs.EveryLaws.{Every}
-use Rattle.protocol.specs.RowLaws.{every-take}
-use Rattle.protocol.specs.ChainLaws.{pieces-sized}
-use Rattle.protocol.specs.PendingLaws.{every-without, offered-few}
-use Rattle.protocol.specs.StateLaws.{Sized}
+use Rattle.protocol.specs.BuildLaws.{front-frame-block}
+use Rattle.protocol.specs.BlockLaws.{new-block-size}
+use Rattle.protocol.specs.EveryLaws.{Every, every-take}
+use Rattle.protocol.specs.PendingLaws.{offered-few}
+use Rattle.protocol.specs.PoolLaws.{every-without}
+use Rattle.protocol.specs.PiecesLaws.{Sized, pieces-sized}
 use Rattle.protocol.specs.Frame.{frameOf, proposal}
 use Rattle.protocol.specs.State.{State, decode, pending}
 use Rattle.protocol.specs.Sound.{view}
@@ -43,7 +43,7 @@ module _ (book : Bytes) (m : Movable book) where
         formed = m .formed;
       }
 
-  entries-sized : (j : ℕ) → Every (Sized 16) (offered sha256 s j)
+  entries-sized : (j : ℕ) → Every (Sized 16) (offered s j)
   unfolding offered pending
   entries-sized j =
       let few = m .pending-few in
@@ -51,19 +51,19 @@ module _ (book : Bytes) (m : Movable book) where
       every-take 8 (every-without _ (pieces-sized 16 (s .pendingCount) (s .pool) (omega arith)))
 
   -- a new block has the size of a block
-  pub proposed-size : (digest : Bytes) (c j : ℕ) → length digest ≡ 32 → length (newBlock c j digest (offered sha256 s j)) ≡ 176
-  proposed-size digest c j digest-size = new-block-size c j digest (offered sha256 s j) digest-size (entries-sized j) (offered-few sha256 s j)
+  pub proposed-size : (digest : Bytes) (c j : ℕ) → length digest ≡ 32 → length (newBlock c j digest (offered s j)) ≡ 176
+  proposed-size digest c j digest-size = new-block-size c j digest (offered s j) digest-size (entries-sized j) (offered-few s j)
 
   -- the block in the place of a frame's zero bytes
   pub wrote-proposal : (reply middle replyAfter digest : Bytes) (c signer j : ℕ) → c ≡ s .current → signer ≡ s .own → length digest ≡ 32 → digest ≡ digestAt sha256 (view s) j →
       middle ≡ overFront (frameOf 1 signer c 0 (zeros 32) (zeros 176)) reply →
-      replyAfter ≡ put middle 48 (newBlock c j digest (offered sha256 s j)) →
+      replyAfter ≡ put middle 48 (newBlock c j digest (offered s j)) →
       replyAfter ≡ overFront (proposal (s .own) (s .current) (proposedBlock sha256 s j)) reply
   unfolding proposal proposedBlock
   wrote-proposal reply middle replyAfter digest c signer j c-is signer-is digest-size digest-is first second =
-      let block : Bytes = newBlock c j digest (offered sha256 s j) in
+      let block : Bytes = newBlock c j digest (offered s j) in
       let size : length block ≡ 176 = proposed-size digest c j digest-size in
       let placed : put (overFront (frameOf 1 signer c 0 (zeros 32) (zeros 176)) reply) 48 block ≡ overFront (frameOf 1 signer c 0 (zeros 32) block) reply =
-      front-frame-block 1 signer c 0 (zeros 32) (zeros 176) block reply (length-zeros 32) (length-zeros 176 ∙ sym size) in
+      front-frame-block 1 signer c 0 (zeros 32) (zeros 176) block (length-zeros 32) (length-zeros 176 ∙ sym size) reply in
       let named : overFront (frameOf 1 signer c 0 (zeros 32) block) reply ≡ overFront (proposal (s .own) (s .current) (proposedBlock sha256 s j)) reply = rw (digest-is, signer-is, c-is) in
       second ∙ rw first (placed ∙ named)

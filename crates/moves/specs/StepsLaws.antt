@@ -8,8 +8,8 @@ use mathlib.Core.List.{[], _∷_, _++_, append-nil}
 use lib.ListN.{length}
 use Rattle.sha256.specs.Digest.{sha256}
 use Rattle.protocol.specs.Bytes.{Bytes, zeros, join, overFront}
-use Rattle.protocol.specs.BytesLaws.{put}
-use Rattle.protocol.specs.BuildLaws.{length-zeros, frame-size}
+use Rattle.protocol.specs.BytesLaws.{put, length-zeros}
+use Rattle.protocol.specs.BuildLaws.{frame-size}
 use Rattle.protocol.specs.FrontLaws.{goes-on}
 use Rattle.protocol.specs.TestsLaws.{cond-elim}
 use Rattle.protocol.specs.Frame.{proposal, dummyVote, blockVote, finalize, blockCertificate, dummyCertificate}

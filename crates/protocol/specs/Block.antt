@@ -1,8 +1,8 @@
 -- Blocks (document 01: pages), the 176 bytes that replicas vote into one order.
 use Prim.Native.Nat.{ℕ, _+_, _-_, _*_}
-use mathlib.Core.Bool.{Bool, cond}
+use mathlib.Core.Bool.{Bool}
 use mathlib.Core.List.{List, [], _∷_, _++_}
-use lib.ListN.{length, take, drop}
+use lib.ListN.{length, drop}
 use lib.Dec.{eqb, leb, ltb}
 use Rattle.protocol.specs.Bytes.{Bytes, byteAt, part, zeros, isZero, join, pieces}
 use Rattle.protocol.specs.Tests.{allOf, implies}

@@ -1,24 +1,24 @@
 -- A block that is put together of a parent and entries: it is well formed, and its fields are those that it was made of.
-use Prim.Native.Nat.{ℕ, zero, suc, _+_, _-_, _*_, _≤_, _<_}
+use Prim.Native.Nat.{ℕ, _+_, _-_, _*_, _≤_, _<_}
 use native.Mathlib.Omega.{arith}
 use mathlib.Core.Path.{_≡_, refl, sym, ap, _∙_}
-use mathlib.Core.Bool.{Bool, true, false}
-use mathlib.Core.List.{List, [], _∷_, _++_}
-use lib.ListN.{length, take, drop, length-append, length-replicate}
+use mathlib.Core.Bool.{true}
+use mathlib.Core.List.{List, _++_}
+use lib.ListN.{length, drop, length-append}
 use lib.Seq.{take-at, drop-at, drop-drop}
 use lib.Dec.{eqb}
 use borrow.Author.Tests.{eq-eqb, lt-ltb, le-leb, eqb-true}
 use Rattle.protocol.specs.Bytes.{Bytes, part, zeros, isZero, all, join, pieces}
-use Rattle.protocol.specs.Tests.{allOf, implies}
 use Rattle.protocol.specs.Block.{blockHeight, parentHeight, entryCount, parentDigest, entries, blockWellFormed, newBlock}
 use Rattle.protocol.specs.EveryLaws.{Every, one, none}
 use Rattle.protocol.specs.TestsLaws.{eqb-self}
-use Rattle.protocol.specs.StateLaws.{Sized, length-join, pieces-join}
+use Rattle.protocol.specs.PiecesLaws.{Sized, pieces-join, length-join}
 use Rattle.protocol.specs.RowLaws.{all-of, true-implies, zeros-is-zero}
+use Rattle.protocol.specs.BytesLaws.{length-zeros}
 
-pub zeros-size : (k : ℕ) → length (zeros k) ≡ k
-unfolding zeros
-zeros-size k = length-replicate {A = ℕ} k 0
+pub new-block-size : (h parent : ℕ) (digest : Bytes) (es : List Bytes) → length digest ≡ 32 → Every (Sized 16) es → length es ≤ 8 → length (newBlock h parent digest es) ≡ 176
+unfolding newBlock
+new-block-size h parent digest es size sized few = simp (length-append, length-zeros, length-join 16 es sized, size) (omega arith)
 
 module _ (h parent : ℕ) (digest : Bytes) (es : List Bytes)
     (below : parent < h) (digest-size : length digest ≡ 32) (from-start : parent ≡ 0 → isZero digest ≡ true)
@@ -28,10 +28,6 @@ module _ (h parent : ℕ) (digest : Bytes) (es : List Bytes)
 
   abbrev tail : Bytes
   tail = zeros (128 - 16 * length es)
-
-  size : length block ≡ 176
-  unfolding newBlock zeros
-  size = simp (length-append, length-join 16 es sized, zeros-size) (omega arith)
 
   eleven-zeros : isZero (part block 5 11) ≡ true
   unfolding isZero all part newBlock zeros
@@ -56,7 +52,7 @@ module _ (h parent : ℕ) (digest : Bytes) (es : List Bytes)
   unfolding blockWellFormed blockHeight parentHeight entryCount newBlock
   new-block-good =
       all-of
-      (one (eq-eqb (length block) 176 size)
+      (one (eq-eqb (length block) 176 (new-block-size h parent digest es digest-size sized few))
       (one (eqb-self h)
       (one refl
       (one (lt-ltb parent h below)

@@ -3,37 +3,21 @@ use Prim.Native.Nat.{ℕ, suc, _+_, _*_, _^_, _≤_, _<_}
 use mathlib.Core.Path.{_≡_}
 use lib.ListN.{length, set}
 use Rattle.protocol.specs.Bytes.{Bytes, byteAt, le16}
-use Rattle.protocol.specs.State.{at, last, withHead, withHeight, encode, decode}
+use Rattle.protocol.specs.State.{at, last, withHeight, encode, decode}
 use Rattle.protocol.specs.Deliver.{withProposal, withNotarized, withMasks, withVote}
 use Rattle.protocol.specs.BytesLaws.{put}
 use Rattle.protocol.specs.StateLaws.{ShapedHeight}
 use Rattle.protocol.specs.CodecLaws.{Exact, last-decode, decode-shaped}
 use Rattle.protocol.specs.PlaceLaws.{shaped-at}
-use Rattle.protocol.specs.WriteLaws.{withPool, write-flags, write-current, write-finalized, write-pending-count, write-pool, write-whole-pool}
+use Rattle.protocol.specs.WriteLaws.{withPool, write-pool}
 use Rattle.protocol.specs.ChangeLaws.{named-height, make-proposal, make-notarized, make-dummy-mask, make-finalize-mask, make-vote}
 
 module _ (book : Bytes) (whole : encode (decode book) ≡ book) where
-  -- ---- the head
-  pub book-flags : (v : ℕ) → set book 3 v ≡ encode (withHead (decode book) v (decode book .current) (decode book .finalized))
-  book-flags v = rw whole at (write-flags (decode book) v)
-
-  pub book-current : (v : ℕ) → set book 4 v ≡ encode (withHead (decode book) (decode book .flags) v (decode book .finalized))
-  book-current v = rw whole at (write-current (decode book) v)
-
-  pub book-finalized : (v : ℕ) → set book 5 v ≡ encode (withHead (decode book) (decode book .flags) (decode book .current) v)
-  book-finalized v = rw whole at (write-finalized (decode book) v)
-
   -- ---- the pool
-  pub book-pending-count : (v : ℕ) → set book 6 v ≡ encode (withPool (decode book) v (decode book .pool))
-  book-pending-count v = rw whole at (write-pending-count (decode book) v)
-
   module _ (exact : Exact book) where
     pub book-pool : (j : ℕ) (new : Bytes) → j + length new ≤ 512 →
         put book (64 + j) new ≡ encode (withPool (decode book) (decode book .pendingCount) (put (decode book .pool) j new))
     book-pool j new h = rw whole at (write-pool (decode book) (decode-shaped book exact .pool-size) j new h)
-
-    pub book-whole-pool : (new : Bytes) → length new ≡ 512 → put book 64 new ≡ encode (withPool (decode book) (decode book .pendingCount) new)
-    book-whole-pool new h = rw whole at (write-whole-pool (decode book) (decode-shaped book exact .pool-size) new h)
 
     -- ---- height `suc i`
     module _ (i : ℕ) (inside : i < byteAt book 2) where

@@ -1,16 +1,16 @@
 -- Byte strings in three parts, equal pieces joined, and lists whose numbers are all bytes.
 use Prim.Native.Nat.{ℕ, zero, suc, _+_, _*_, _/_, _%_, _≤_, _<_}
 use native.Mathlib.Omega.{arith}
-use native.Mathlib.Nat.{add-assoc, add-zero, zero-add, suc-add, mul-zero, le-of-suc-le-suc, not-suc-le-zero}
+use native.Mathlib.Nat.{add-assoc, add-zero, zero-add, suc-add}
 use native.Mathlib.Numerals.{add-one}
 use mathlib.Core.Path.{_≡_, refl, sym, ap, _∙_}
-use mathlib.Core.Bool.{true, false}
-use mathlib.Core.List.{List, [], _∷_, _++_, map, append-assoc, append-nil}
+use mathlib.Core.Bool.{true}
+use mathlib.Core.List.{[], _∷_, _++_, append-assoc, append-nil}
 use lib.Dec.{lit<}
-use lib.ListN.{length, getD, take, drop, set, length-append, length-take, length-drop, drop-of-length-le, List·getD-append}
-use lib.Seq.{paste, take-length, take-take, take-append-le, take-append-add, drop-at, drop-cons, drop-drop, drop-append-add, drop-append-le, getD-drop, getD-take, getD-append-add, set-append-left, set-split, sets-eq, length-take-le, ext-getD}
-use Rattle.protocol.specs.Bytes.{Bytes, byteAt, word16, le16, part, zeros, isZero, join, pieces}
-use Rattle.protocol.specs.RowLaws.{is-zero-zeros, bytes-are-zero, not-zero}
+use lib.ListN.{length, take, drop, set, length-append, length-take, length-drop, length-replicate, drop-of-length-le, replicate-append-replicate}
+use lib.Seq.{paste, take-length, take-take, take-append-le, take-append-add, take-append-seam, drop-at, drop-cons, drop-drop, drop-append-add, drop-append-le, getD-drop, getD-take, set-append-left, set-split, sets-eq, length-take-le}
+use Rattle.protocol.specs.Bytes.{Bytes, byteAt, word16, le16, part, zeros, isZero}
+use Rattle.protocol.specs.RowLaws.{is-zero-zeros}
 
 -- every number of the list is a byte, as in a byte slice
 abbrev pub AreBytes : Bytes → Type 0
@@ -24,10 +24,6 @@ are-bytes-take (suc k) (x ∷ xs) small (suc i) = are-bytes-take k xs (λ j. sma
 
 pub are-bytes-drop : (k : ℕ) (bytes : Bytes) → AreBytes bytes → AreBytes (drop k bytes)
 are-bytes-drop k bytes small i = rw getD-drop (small (k + i))
-
-pub are-bytes-part : (bytes : Bytes) (i k : ℕ) → AreBytes bytes → AreBytes (part bytes i k)
-unfolding part
-are-bytes-part bytes i k small = are-bytes-take k (drop i bytes) (are-bytes-drop i bytes small)
 
 -- ---- 16-bit numbers
 pub low-byte : (a b : ℕ) → a < 256 → (a + 256 * b) % 256 ≡ a
@@ -43,6 +39,15 @@ word-low bytes i small = low-byte (byteAt bytes i) (byteAt bytes (i + 1)) (small
 pub word-high : (bytes : Bytes) (i : ℕ) → AreBytes bytes → word16 bytes i / 256 ≡ byteAt bytes (i + 1)
 unfolding word16
 word-high bytes i small = high-byte (byteAt bytes i) (byteAt bytes (i + 1)) (small i)
+
+-- ---- zero bytes
+pub length-zeros : (count : ℕ) → length (zeros count) ≡ count
+unfolding zeros
+length-zeros count = length-replicate count 0
+
+pub zeros-add : (a b : ℕ) → zeros a ++ zeros b ≡ zeros (a + b)
+unfolding zeros
+zeros-add a b = replicate-append-replicate a b 0
 
 -- ---- parts
 pub length-part : (bytes : Bytes) (i k : ℕ) → i + k ≤ length bytes → length (part bytes i k) ≡ k
@@ -71,20 +76,6 @@ part-part bytes i k j m h = take-drop m k j (drop i bytes) (omega arith) ∙ rw 
 pub zero-part : (bytes : Bytes) (i k : ℕ) → i + k ≤ length bytes → isZero (part bytes i k) ≡ true → part bytes i k ≡ zeros k
 zero-part bytes i k h e = is-zero-zeros (part bytes i k) e ∙ ap zeros (length-part bytes i k h)
 
--- the bytes of a part are zero, or one is not
-pub part-is-zero : (bytes : Bytes) (i k : ℕ) → i + k ≤ length bytes → ((j : ℕ) → j < k → byteAt bytes (i + j) ≡ 0) → isZero (part bytes i k) ≡ true
-part-is-zero bytes i k h each =
-    bytes-are-zero (part bytes i k) (λ j l. let inside : j < k = rw (length-part bytes i k h) at l in byte-part bytes i k j inside ∙ each j inside)
-
-pub part-not-zero : (bytes : Bytes) (i k j : ℕ) → j < k → (byteAt bytes (i + j) ≡ 0 → ⊥) → isZero (part bytes i k) ≡ false
-part-not-zero bytes i k j h f = not-zero (part bytes i k) j (λ e. f (sym (byte-part bytes i k j h) ∙ e))
-
--- two parts have the same bytes
-pub parts-same : (a b : Bytes) (i j k : ℕ) → i + k ≤ length a → j + k ≤ length b → ((m : ℕ) → m < k → byteAt a (i + m) ≡ byteAt b (j + m)) → part a i k ≡ part b j k
-parts-same a b i j k p q each =
-    ext-getD 0 (part a i k) (part b j k) (length-part a i k p ∙ sym (length-part b j k q))
-    (λ m l. let inside : m < k = rw (length-part a i k p) at l in byte-part a i k m inside ∙ each m inside ∙ sym (byte-part b j k m inside))
-
 -- ---- bytes spelled out
 abbrev pub firsts : ℕ → ℕ → Bytes → Bytes
 firsts zero i bytes = []
@@ -107,6 +98,11 @@ length-put bytes i new h = simp (length-append, length-take, length-drop) (omega
 pub put-front : (old rest new : Bytes) → length old ≡ length new → put (old ++ rest) 0 new ≡ new ++ rest
 unfolding put
 put-front old rest new e = rw (zero-add, drop-at old rest (length new) e)
+
+-- bytes after a front part
+pub put-at : (front rest new : Bytes) (k : ℕ) → length front ≡ k → put (front ++ rest) k new ≡ front ++ (new ++ drop (length new) rest)
+unfolding put
+put-at front rest new k size = rw (← size, take-append-seam, drop-append-add)
 
 pub put-paste : (bytes new : Bytes) (i : ℕ) → paste bytes i new (length new) ≡ put bytes i new
 unfolding put
@@ -139,9 +135,6 @@ set-append-add (x ∷ xs) ys i v = rw suc-add (ap (λ (l : Bytes). x ∷ l) (set
 
 -- ---- a middle part is read and written where it stands
 module _ (front middle back : Bytes) (k : ℕ) (size : length front ≡ k) where
-  pub middle-byte : (j : ℕ) → j < length middle → byteAt (front ++ (middle ++ back)) (k + j) ≡ byteAt middle j
-  middle-byte j h = rw (← size, getD-append-add, List·getD-append)
-
   pub middle-part : (j m : ℕ) → j + m ≤ length middle → part (front ++ (middle ++ back)) (k + j) m ≡ part middle j m
   unfolding part
   middle-part j m h =
@@ -165,31 +158,3 @@ module _ (front middle back : Bytes) (k : ℕ) (size : length front ≡ k) where
         drop-append-le (j + length new) middle back h,
       )
       (simp append-assoc)
-
--- ---- pieces of one size, joined
-module _ {A : Type 0} (f : A → Bytes) (d : A) where
-  pub cut-join : (xs : List A) (i : ℕ) → i < length xs → join (map f xs) ≡ join (map f (take i xs)) ++ (f (getD xs i d) ++ join (map f (drop (suc i) xs)))
-  unfolding join
-  cut-join [] i h = absurd (not-suc-le-zero h)
-  cut-join (x ∷ xs) zero h = refl
-  cut-join (x ∷ xs) (suc i) h = rw append-assoc (ap (λ (l : Bytes). f x ++ l) (cut-join xs i (le-of-suc-le-suc h)))
-
-  pub cut-set : (xs : List A) (i : ℕ) (y : A) → i < length xs → join (map f (set xs i y)) ≡ join (map f (take i xs)) ++ (f y ++ join (map f (drop (suc i) xs)))
-  unfolding join
-  cut-set [] i y h = absurd (not-suc-le-zero h)
-  cut-set (x ∷ xs) zero y h = refl
-  cut-set (x ∷ xs) (suc i) y h = rw append-assoc (ap (λ (l : Bytes). f x ++ l) (cut-set xs i y (le-of-suc-le-suc h)))
-
--- ---- pieces of a byte string, by their place
-pub length-pieces : (size count : ℕ) (bytes : Bytes) → length (pieces size count bytes) ≡ count
-unfolding pieces
-length-pieces size zero bytes = refl
-length-pieces size (suc count) bytes = ap suc (length-pieces size count (drop size bytes))
-
-pub get-pieces : (size count : ℕ) (bytes : Bytes) (i : ℕ) → i < count → getD (pieces size count bytes) i [] ≡ part bytes (size * i) size
-unfolding pieces part
-get-pieces size zero bytes i h = absurd (not-suc-le-zero h)
-get-pieces size (suc count) bytes zero h = rw mul-zero
-get-pieces size (suc count) bytes (suc i) h =
-    let e : size + size * i ≡ size * suc i = omega arith in
-    get-pieces size count (drop size bytes) i (le-of-suc-le-suc h) ∙ rw (drop-drop, e)

@@ -1,71 +1,21 @@
 -- The chain and the log of a linked height, built from those of its parent, and the sizes of a log.
 use Prim.Native.Nat.{ℕ, zero, suc, _*_, _≤_}
 use native.Mathlib.Omega.{arith}
-use native.Mathlib.Nat.{mul-suc}
-use mathlib.Core.Path.{_≡_, refl, sym, ap, _∙_}
+use mathlib.Core.Path.{_≡_, sym, ap, _∙_}
 use mathlib.Core.Bool.{true}
-use mathlib.Core.List.{List, [], _∷_, _++_, append-assoc, append-nil}
-use lib.Dec.{eqb·suc-zero}
-use lib.ListN.{length, take, drop, length-append, length-take, length-drop}
+use mathlib.Core.List.{List, [], _∷_, _++_}
+use lib.ListN.{length, drop, length-append, length-drop}
 use borrow.Author.Tests.{eqb-true, leb-true}
-use Rattle.protocol.specs.Bytes.{Bytes, join, pieces}
+use Rattle.protocol.specs.Bytes.{Bytes, join}
 use Rattle.protocol.specs.RowLaws.{row}
-use Rattle.protocol.specs.EveryLaws.{Every, none, one}
-use Rattle.protocol.specs.StateLaws.{Sized, length-join}
+use Rattle.protocol.specs.EveryLaws.{Every, none, every-append}
+use Rattle.protocol.specs.PiecesLaws.{Sized, length-join, length-pieces, pieces-sized}
 use Rattle.protocol.specs.Block.{parentHeight, entryCount, entries, allEntries, blockWellFormed}
 use Rattle.protocol.specs.View.{View, linked, chainWithin, chain, logAt}
+use Rattle.protocol.specs.ViewLaws.{chain-none, chain-step, log-zero, allEntries-append, allEntries-one}
 use Rattle.protocol.specs.LinkedLaws.{linked-parent}
 
--- ---- lists
-pub every-append : {A : Type 0} {P : A → Type 0} {xs ys : List A} → Every P xs → Every P ys → Every P (xs ++ ys)
-every-append none qs = qs
-every-append (one p ps) qs = one p (every-append ps qs)
-
-pub join-append : (xs ys : List Bytes) → join (xs ++ ys) ≡ join xs ++ join ys
-unfolding join
-join-append [] ys = refl
-join-append (x ∷ xs) ys = rw (join-append xs ys, append-assoc)
-
-pub allEntries-append : (xs ys : List Bytes) → allEntries (xs ++ ys) ≡ allEntries xs ++ allEntries ys
-unfolding allEntries
-allEntries-append [] ys = refl
-allEntries-append (x ∷ xs) ys = rw (allEntries-append xs ys, append-assoc)
-
-allEntries-one : (x : Bytes) → allEntries (x ∷ []) ≡ entries x
-unfolding allEntries
-allEntries-one x = append-nil (entries x)
-
-pub pieces-sized : (size count : ℕ) (bytes : Bytes) → size * count ≤ length bytes → Every (Sized size) (pieces size count bytes)
-unfolding pieces
-pieces-sized size zero bytes h = none
-pieces-sized size (suc count) bytes h =
-    let sum = mul-suc size count in
-    let first : length (take size bytes) ≡ size = simp length-take (omega arith) in
-    one first (pieces-sized size count (drop size bytes) (simp length-drop (omega arith)))
-
-pieces-length : (size count : ℕ) (bytes : Bytes) → length (pieces size count bytes) ≡ count
-unfolding pieces
-pieces-length size zero bytes = refl
-pieces-length size (suc count) bytes = ap suc (pieces-length size count (drop size bytes))
-
 -- ---- chains
-pub chain-zero : (v : View) → chain v 0 ≡ []
-unfolding chain chainWithin
-chain-zero v = refl
-
-pub log-zero : (v : View) → logAt v 0 ≡ []
-unfolding logAt allEntries
-log-zero v = rw chain-zero
-
-chain-step : (f : ℕ) (v : View) (i : ℕ) → chainWithin (suc f) v (suc i) ≡ chainWithin f v (parentHeight (v .block (suc i))) ++ (v .block (suc i) ∷ [])
-unfolding chainWithin
-chain-step f v i = rw eqb·suc-zero
-
-chain-none : (f : ℕ) (v : View) → chainWithin f v 0 ≡ []
-unfolding chainWithin
-chain-none zero v = refl
-chain-none (suc f) v = refl
-
 module _ (digest : Bytes → Bytes) (v : View) where
   -- two fuels that suffice give one chain
   same-chain : (f g h : ℕ) → linked digest v h ≡ true → h ≤ f → h ≤ g → chainWithin f v h ≡ chainWithin g v h
@@ -111,7 +61,7 @@ pub entries-count : (h : ℕ) (block : Bytes) → blockWellFormed h block ≡ tr
 unfolding entries
 entries-count h block e =
     let fit = entries-fit h block e in
-    let n = pieces-length 16 (entryCount block) (drop 48 block) in
+    let n = length-pieces 16 (entryCount block) (drop 48 block) in
     omega arith
 
 module _ (digest : Bytes → Bytes) (v : View) (formed : (h : ℕ) → 1 ≤ h → v .hasBlock h ≡ true → blockWellFormed h (v .block h) ≡ true) where

@@ -5,7 +5,7 @@ use mathlib.Core.Path.{_≡_, refl, ap, _∙_}
 use mathlib.Core.List.{List, _++_}
 use lib.ListN.{length, set}
 use Rattle.protocol.specs.Bytes.{Bytes, le16, zeros, join}
-use Rattle.protocol.specs.State.{State, Height, at, last, withHead, withHeight, encode, decode}
+use Rattle.protocol.specs.State.{State, Height, at, last, withHeight, encode, decode}
 use Rattle.protocol.specs.Deliver.{withProposal, withNotarized, withMasks, withVote}
 use Rattle.protocol.specs.Submit.{withPending}
 use Rattle.protocol.specs.BytesLaws.{put, length-put}
@@ -71,10 +71,6 @@ shaped-vote x r digest h e fits =
       notarized-size = fits .notarized-size;
       votes-size = length-put (x .voteDigests) (32 * r) digest (omega (arith, fits)) ∙ fits .votes-size;
     })
-
-pub shaped-head : (s : State) (flags current finalized : ℕ) → Shaped s → Shaped (withHead s flags current finalized)
-unfolding withHead
-shaped-head s flags current finalized shaped = record { pool-size = shaped .pool-size; heights = shaped .heights }
 
 pub shaped-pool : (s : State) (count : ℕ) (pool : Bytes) → length pool ≡ 512 → Shaped s → Shaped (withPool s count pool)
 unfolding withPool

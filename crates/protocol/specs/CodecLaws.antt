@@ -3,12 +3,15 @@ use Prim.Native.Nat.{ℕ, zero, suc, _+_, _-_, _*_, _≤_, _<_}
 use native.Mathlib.Omega.{arith}
 use native.Mathlib.Nat.{add-assoc, le-of-suc-le-suc, not-suc-le-zero}
 use mathlib.Core.Path.{_≡_, refl, sym, ap, _∙_}
+use mathlib.Core.Logic.{_⊎_, inl, inr}
+use mathlib.Core.Bool.{true, false≢true}
 use mathlib.Core.List.{_++_, map}
-use lib.ListN.{length, getD, take, drop, length-drop, take-append-drop}
+use lib.ListN.{length, getD, take, drop, length-drop, take-append-drop, List·getD-eq-default}
 use lib.Seq.{take-all, take-add, drop-drop, length-take-le}
 use Rattle.protocol.specs.Bytes.{Bytes, byteAt, le16, part, zeros, join, pieces}
-use Rattle.protocol.specs.State.{State, noHeight, at, last, encode, decode, headBytes, contentBytes, bodyBytes, decodeHeight, decodeHeights}
-use Rattle.protocol.specs.RowLaws.{every-from}
+use Rattle.protocol.specs.State.{State, noHeight, at, last, isNotarized, encode, decode, headBytes, contentBytes, bodyBytes, decodeHeight, decodeHeights}
+use Rattle.protocol.specs.TestsLaws.{le-or-lt}
+use Rattle.protocol.specs.EveryLaws.{every-from}
 use Rattle.protocol.specs.BytesLaws.{AreBytes, are-bytes-take, are-bytes-drop, word-low, word-high, length-part, part-part, firsts, spell}
 use Rattle.protocol.specs.StateLaws.{Shaped, ShapedHeight}
 
@@ -40,6 +43,15 @@ last-decode book = length-heights (byteAt book 2) (drop 576 book) (drop (576 + 1
 pub at-suc : (s : State) (i : ℕ) → at s (suc i) ≡ getD (s .heights) i noHeight
 unfolding at
 at-suc s i = let e : suc i - 1 ≡ i = omega arith in rw e
+
+-- heights past the last hold nothing
+pub notarized-in : (s : State) (i : ℕ) → isNotarized (at s (suc i)) ≡ true → i < last s
+unfolding isNotarized noHeight last
+notarized-in s i e = go (le-or-lt (length (s .heights)) i)
+  where
+    go : (length (s .heights) ≤ i) ⊎ (i < length (s .heights)) → i < length (s .heights)
+    go (inl l) = absurd (false≢true (rw (at-suc s i, List·getD-eq-default (s .heights) noHeight {n = i} l) at e))
+    go (inr l) = l
 
 part-drop : (bytes : Bytes) (from i k : ℕ) → part (drop from bytes) i k ≡ part bytes (from + i) k
 unfolding part

@@ -1,32 +1,21 @@
--- Entries one after the other: in pieces of a byte string, in the parts of a log, among those that a list lacks, and in a new block.
-use Prim.Native.Nat.{ℕ, suc, _+_, _-_, _*_, _≤_, _<_}
+-- Entries one by one: those of a block, whether a list has one, and the pending ones that a list lacks.
+use Prim.Native.Nat.{ℕ, suc, _+_, _*_, _≤_, _<_}
 use native.Mathlib.Omega.{arith}
 use mathlib.Core.Path.{_≡_, refl, sym, ap, _∙_}
 use mathlib.Core.Bool.{Bool, true, false, _||_, cond}
-use mathlib.Core.List.{List, [], _∷_, _++_, append-assoc, append-nil}
-use lib.ListN.{length, getD, take, drop, length-append, take-append-drop, drop-of-length-le}
-use lib.Seq.{drop-cons, drop-at, take-at, take-all, take-append-seam, drop-append-seam, drop-append-add, drop-drop, length-take-le}
-use Rattle.protocol.specs.Bytes.{Bytes, byteAt, part, zeros, same, join, pieces, holds, overFront}
-use Rattle.protocol.specs.BytesLaws.{put, length-pieces, get-pieces}
-use Rattle.protocol.specs.Block.{entryCount, entries, newBlock}
+use mathlib.Core.List.{List, [], _∷_, _++_}
+use lib.ListN.{length, getD, take, drop, take-append-drop}
+use lib.Seq.{take-at, take-all, drop-drop}
+use Rattle.protocol.specs.Bytes.{Bytes, byteAt, part, same, join, holds}
+use Rattle.protocol.specs.TestsLaws.{or-right}
+use Rattle.protocol.specs.Block.{entryCount, entries}
 use Rattle.protocol.specs.State.{State, pending}
 use Rattle.protocol.specs.View.{View, logAt}
 use Rattle.protocol.specs.Move.{without}
-use Rattle.protocol.specs.EveryLaws.{Every, none, one}
-use Rattle.protocol.specs.RowLaws.{every-take}
-use Rattle.protocol.specs.StateLaws.{Sized, length-join}
-use Rattle.protocol.specs.ChainLaws.{every-append, pieces-sized, join-append, log-zero}
-use Rattle.protocol.specs.PendingLaws.{every-without}
-use Rattle.protocol.specs.PoolLaws.{join-pieces, without-append, entry-stays, entry-leaves}
-use Rattle.protocol.specs.NewStateLaws.{zeros-add, zeros-length}
-
--- ---- pieces one after the other
-pub pieces-next : (size count : ℕ) (bytes : Bytes) (k : ℕ) → k < count → drop k (pieces size count bytes) ≡ part bytes (size * k) size ∷ drop (suc k) (pieces size count bytes)
-pieces-next size count bytes k h =
-    drop-cons (pieces size count bytes) k [] (rw length-pieces h) ∙ rw (get-pieces size count bytes k h)
-
-pub pieces-done : (size count : ℕ) (bytes : Bytes) (k : ℕ) → count ≤ k → drop k (pieces size count bytes) ≡ []
-pieces-done size count bytes k h = drop-of-length-le (pieces size count bytes) {i = k} (rw length-pieces h)
+use Rattle.protocol.specs.EveryLaws.{Every, every-take}
+use Rattle.protocol.specs.PiecesLaws.{Sized, length-pieces, get-pieces, pieces-next, pieces-done, pieces-sized, join-pieces}
+use Rattle.protocol.specs.ViewLaws.{log-zero}
+use Rattle.protocol.specs.PoolLaws.{without-append, entry-stays, entry-leaves, every-without}
 
 -- ---- the entries of a block
 pub entries-next : (block : Bytes) (k : ℕ) → k < byteAt block 4 → drop k (entries block) ≡ part block (48 + 16 * k) 16 ∷ drop (suc k) (entries block)
@@ -68,16 +57,12 @@ unfolding holds
 holds-append x [] ys = refl
 holds-append x (y ∷ xs) ys = cond-or (same x y) (holds x xs) (holds x ys) (holds x (xs ++ ys)) (holds-append x xs ys)
 
-or-right : (a b : Bool) → b ≡ true → (a || b) ≡ true
-or-right true b e = refl
-or-right false b e = e
-
 or-left : (a b : Bool) → b ≡ false → (a || b) ≡ a
 or-left true b e = refl
 or-left false b e = e
 
 pub holds-back : (x : Bytes) (xs ys : List Bytes) → holds x ys ≡ true → holds x (xs ++ ys) ≡ true
-holds-back x xs ys e = holds-append x xs ys ∙ or-right (holds x xs) (holds x ys) e
+holds-back x xs ys e = holds-append x xs ys ∙ or-right (holds x xs) e
 
 pub holds-front : (x : Bytes) (xs ys : List Bytes) → holds x ys ≡ false → holds x (xs ++ ys) ≡ holds x xs
 holds-front x xs ys e = holds-append x xs ys ∙ or-left (holds x xs) (holds x ys) e
@@ -138,85 +123,3 @@ few-taken log es k few all =
 -- ---- a log
 pub log-start : (v : View) (h : ℕ) → h ≤ 0 → logAt v h ≡ []
 log-start v h l = let e : h ≡ 0 = omega arith in rw e (log-zero v)
-
--- ---- writing before what is written
-pub front-join : (a b buffer : Bytes) (k : ℕ) → length a ≡ k → k ≤ length buffer → overFront a (put buffer k b) ≡ overFront (a ++ b) buffer
-unfolding overFront put
-front-join a b buffer k size fits =
-    rw (length-append, size, drop-at (take k buffer) (b ++ drop (k + length b) buffer) k (length-take-le k buffer fits))
-    (sym (append-assoc a b (drop (k + length b) buffer)))
-
--- writing over what is written
-pub front-again : (new old buffer : Bytes) → length new ≡ length old → overFront new (overFront old buffer) ≡ overFront new buffer
-unfolding overFront
-front-again new old buffer e = rw (e, drop-append-seam)
-
--- nothing to write
-pub front-none : (buffer : Bytes) → overFront [] buffer ≡ buffer
-unfolding overFront
-front-none buffer = refl
-
--- ---- one more entry of a new block
-put-at : (front rest new : Bytes) (k : ℕ) → length front ≡ k → put (front ++ rest) k new ≡ front ++ (new ++ drop (length new) rest)
-unfolding put
-put-at front rest new k size = rw (← size, take-append-seam, drop-append-add)
-
-put-count : (h parent count next : ℕ) (tail : Bytes) → put (h ∷ 0 ∷ parent ∷ 0 ∷ count ∷ tail) 4 (next ∷ []) ≡ h ∷ 0 ∷ parent ∷ 0 ∷ next ∷ tail
-unfolding put
-put-count h parent count next tail = refl
-
-block-bytes : (h parent count next k : ℕ) (digest old gap more entry rest : Bytes) → length digest ≡ 32 → length old ≡ k → length gap ≡ length entry →
-    put (put (((h ∷ 0 ∷ parent ∷ 0 ∷ count ∷ zeros 11) ++ (digest ++ (old ++ (gap ++ more)))) ++ rest) (48 + k) entry) 4 (next ∷ []) ≡
-    ((h ∷ 0 ∷ parent ∷ 0 ∷ next ∷ zeros 11) ++ (digest ++ ((old ++ entry) ++ more))) ++ rest
-block-bytes h parent count next k digest old gap more entry rest d o g =
-    let head : Bytes = h ∷ 0 ∷ parent ∷ 0 ∷ count ∷ zeros 11 in
-    let front : Bytes = head ++ (digest ++ old) in
-    let size : length front ≡ 48 + k = simp (length-append, zeros-length) (omega arith) in
-    let group : (head ++ (digest ++ (old ++ (gap ++ more)))) ++ rest ≡ front ++ (gap ++ (more ++ rest)) = simp append-assoc in
-    let first : put (front ++ (gap ++ (more ++ rest))) (48 + k) entry ≡ front ++ (entry ++ (more ++ rest)) =
-    put-at front (gap ++ (more ++ rest)) entry (48 + k) size ∙ rw (drop-at gap (more ++ rest) (length entry) g) in
-    let tail : Bytes = (zeros 11 ++ (digest ++ old)) ++ (entry ++ (more ++ rest)) in
-    let last : tail ≡ (zeros 11 ++ (digest ++ ((old ++ entry) ++ more))) ++ rest = simp append-assoc in
-    ap (λ (l : Bytes). put (put l (48 + k) entry) 4 (next ∷ [])) group ∙
-    ap (λ (l : Bytes). put l 4 (next ∷ [])) first ∙
-    put-count h parent count next tail ∙
-    ap (λ (l : Bytes). h ∷ 0 ∷ parent ∷ 0 ∷ next ∷ l) last
-
-join-one : (es : List Bytes) (entry : Bytes) → join (es ++ (entry ∷ [])) ≡ join es ++ entry
-unfolding join
-join-one es entry = join-append es (entry ∷ []) ∙ rw (append-nil entry)
-
-module _ (h parent : ℕ) (digest : Bytes) (digest-size : length digest ≡ 32) (buffer : Bytes) where
-  pub block-length : (es : List Bytes) → Every (Sized 16) es → length es ≤ 8 → length (newBlock h parent digest es) ≡ 176
-  unfolding newBlock
-  block-length es sized few = simp (length-append, length-join 16 es sized, zeros-length) (omega arith)
-
-  over-block : (es : List Bytes) → Every (Sized 16) es → length es ≤ 8 → overFront (newBlock h parent digest es) buffer ≡ newBlock h parent digest es ++ drop 176 buffer
-  unfolding overFront
-  over-block es sized few = rw (block-length es sized few)
-
-  gap-block : (es : List Bytes) → length es < 8 →
-      newBlock h parent digest es ≡ (h ∷ 0 ∷ parent ∷ 0 ∷ length es ∷ zeros 11) ++ (digest ++ (join es ++ (zeros 16 ++ zeros (128 - 16 * (length es + 1)))))
-  unfolding newBlock
-  gap-block es room =
-      let sum : 128 - 16 * length es ≡ 16 + (128 - 16 * (length es + 1)) = omega arith in
-      rw (sum, zeros-add 16 (128 - 16 * (length es + 1)))
-
-  next-block : (es : List Bytes) (entry : Bytes) →
-      newBlock h parent digest (es ++ (entry ∷ [])) ≡ (h ∷ 0 ∷ parent ∷ 0 ∷ (length es + 1) ∷ zeros 11) ++ (digest ++ ((join es ++ entry) ++ zeros (128 - 16 * (length es + 1))))
-  unfolding newBlock
-  next-block es entry = rw (join-one es entry, length-append es (entry ∷ []))
-
-  pub block-more : (count : ℕ) (es : List Bytes) (entry : Bytes) → Every (Sized 16) es → length es ≡ count → count < 8 → length entry ≡ 16 →
-      put (put (overFront (newBlock h parent digest es) buffer) (48 + 16 * count) entry) 4 ((count + 1) ∷ []) ≡ overFront (newBlock h parent digest (es ++ (entry ∷ []))) buffer
-  block-more count es entry sized few room e =
-      let room' : length es < 8 = omega arith in
-      let rest : Bytes = drop 176 buffer in
-      let more : Bytes = zeros (128 - 16 * (length es + 1)) in
-      let before = over-block es sized (omega arith) ∙ ap (λ (l : Bytes). l ++ rest) (gap-block es room') in
-      let fits : length (es ++ (entry ∷ [])) ≤ 8 = rw length-append (omega arith) in
-      let after = over-block (es ++ (entry ∷ [])) (every-append sized (one e none)) fits ∙ ap (λ (l : Bytes). l ++ rest) (next-block es entry) in
-      rw (← few)
-      (ap (λ (l : Bytes). put (put l (48 + 16 * length es) entry) 4 ((length es + 1) ∷ [])) before ∙
-      block-bytes h parent (length es) (length es + 1) (16 * length es) digest (join es) (zeros 16) more entry rest digest-size (length-join 16 es sized) (zeros-length 16 ∙ sym e) ∙
-      sym after)

@@ -11,7 +11,7 @@ use Rattle.protocol.specs.Frame.{kind, frameBlock, dummyVote, finalize, 
 use Rattle.protocol.specs.Mask.{ones}
 use Rattle.protocol.specs.State.{State, at, bookSize, isNotarized}
 use Rattle.protocol.specs.View.{View, quorum, isDummy, extends}
-use Rattle.protocol.specs.Answer.{accepted, done, Move, idle, voteDummy, pass, propose, onDummy}
+use Rattle.protocol.specs.Answer.{accepted, done, idle, voteDummy, pass, propose, onDummy}
 use Rattle.protocol.specs.Open.{openCall}
 use Rattle.protocol.specs.Deliver.{deliverCall}
 use Rattle.protocol.specs.Signal.{signalCall}

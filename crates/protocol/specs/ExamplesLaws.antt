@@ -29,7 +29,8 @@ use Rattle.protocol.specs.Move.{step, moveCall, moved, MoveOutcome, idle
 use Rattle.protocol.specs.Computing.{everything}
 use Rattle.protocol.specs.Examples.{Letter, claim, Start, opened, firstLeader, quorumFrom, deliverAll, signalled, afterSignal, afterDummyVotes, afterFinalizes, frameIn, passesDummy, proposesFirst}
 use Rattle.protocol.specs.NewBookLaws.{Ranges, early, firstHeight}
-use Rattle.protocol.specs.NewBookCallsLaws.{early-move, head-only, early-not-notarized, voting, step-idle, step-vote, step-pass, step-propose, early-signal, early-vote, early-certificate, finalized-stays}
+use Rattle.protocol.specs.NewBookCallsLaws.{early-move, early-not-notarized, voting, step-idle, step-vote, step-pass, step-propose, early-signal, early-vote, early-certificate, finalized-stays}
+use Rattle.protocol.specs.MoveLaws.{head-only}
 
 -- ---- a to d
 quorum-from : (n enough : ℕ) → ((x : ℕ) → enough ≤ x → 2 * n ≤ 3 * x) → ((x : ℕ) → x < enough → 3 * x < 2 * n) → quorumFrom n enough

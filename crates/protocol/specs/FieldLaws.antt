@@ -3,11 +3,9 @@ use Prim.Native.Nat.{ℕ, suc, _+_, _*_, _≤_, _<_}
 use native.Mathlib.Omega.{arith}
 use native.Mathlib.Nat.{add-zero}
 use mathlib.Core.Path.{_≡_, refl, sym, _∙_}
-use mathlib.Core.List.{[]}
-use lib.ListN.{getD}
 use Rattle.protocol.specs.Bytes.{Bytes, byteAt, word16, part}
-use Rattle.protocol.specs.State.{at, decode, decodeHeight, voteOf, pending}
-use Rattle.protocol.specs.BytesLaws.{byte-part, word-part, part-part, get-pieces}
+use Rattle.protocol.specs.State.{at, decode, decodeHeight, voteOf}
+use Rattle.protocol.specs.BytesLaws.{byte-part, word-part, part-part}
 use Rattle.protocol.specs.CodecLaws.{at-decode}
 
 -- ---- the head
@@ -36,20 +34,10 @@ unfolding decode
 read-pending-count book = refl
 
 -- ---- the pool
-pub read-pool : (book : Bytes) → part book 64 512 ≡ decode book .pool
-unfolding decode
-read-pool book = refl
-
 -- entry `k` of the pool, pending or not
 pub read-entry : (book : Bytes) (k : ℕ) → k < 32 → part book (64 + 16 * k) 16 ≡ part (decode book .pool) (16 * k) 16
 unfolding decode
 read-entry book k h = sym (part-part book 64 512 (16 * k) 16 (omega arith))
-
-pub read-pending : (book : Bytes) (k : ℕ) → k < decode book .pendingCount → decode book .pendingCount ≤ 32 →
-    part book (64 + 16 * k) 16 ≡ getD (pending (decode book)) k []
-unfolding pending
-read-pending book k h few =
-    read-entry book k (omega arith) ∙ sym (get-pieces 16 (decode book .pendingCount) (decode book .pool) k h)
 
 -- ---- one height
 module _ (book : Bytes) (i : ℕ) (inside : i < byteAt book 2) where
@@ -105,16 +93,3 @@ module _ (book : Bytes) (i : ℕ) (inside : i < byteAt book 2) where
   unfolding voteOf
   read-vote r h =
       sym (part-part book (576 + 16 * byteAt book 2 + 864 * i + 352) 512 (32 * r) 32 (omega arith)) ∙ rw read-vote-digests
-
-  -- a byte and a part of a block
-  pub read-proposal-byte : (j : ℕ) → j < 176 → byteAt book (576 + 16 * byteAt book 2 + 864 * i + j) ≡ byteAt (at (decode book) (suc i) .proposal) j
-  read-proposal-byte j h = sym (byte-part book (576 + 16 * byteAt book 2 + 864 * i) 176 j h) ∙ rw read-proposal
-
-  pub read-proposal-part : (j k : ℕ) → j + k ≤ 176 → part book (576 + 16 * byteAt book 2 + 864 * i + j) k ≡ part (at (decode book) (suc i) .proposal) j k
-  read-proposal-part j k h = sym (part-part book (576 + 16 * byteAt book 2 + 864 * i) 176 j k h) ∙ rw read-proposal
-
-  pub read-notarized-byte : (j : ℕ) → j < 176 → byteAt book (576 + 16 * byteAt book 2 + 864 * i + 176 + j) ≡ byteAt (at (decode book) (suc i) .notarized) j
-  read-notarized-byte j h = sym (byte-part book (576 + 16 * byteAt book 2 + 864 * i + 176) 176 j h) ∙ rw read-notarized
-
-  pub read-notarized-part : (j k : ℕ) → j + k ≤ 176 → part book (576 + 16 * byteAt book 2 + 864 * i + 176 + j) k ≡ part (at (decode book) (suc i) .notarized) j k
-  read-notarized-part j k h = sym (part-part book (576 + 16 * byteAt book 2 + 864 * i + 176) 176 j k h) ∙ rw read-notarized

@@ -4,12 +4,10 @@ use native.Mathlib.Omega.{arith}
 use mathlib.Core.Path.{_≡_, ap, _∙_}
 use mathlib.Core.Bool.{true}
 use lib.ListN.{length, drop, length-drop}
-use lib.Dec.{eqb}
-use borrow.Author.Tests.{eqb-true, eq-eqb, leb-true, le-leb, ltb-true, lt-ltb}
-use Rattle.protocol.specs.Bytes.{Bytes, byteAt, part, zeros, isZero}
+use borrow.Author.Tests.{eqb-true, eq-eqb, leb-true, ltb-true}
+use Rattle.protocol.specs.Bytes.{Bytes, byteAt, part, zeros}
 use Rattle.protocol.specs.Block.{blockHeight, parentHeight, entryCount, parentDigest, blockWellFormed}
-use Rattle.protocol.specs.EveryLaws.{none, one}
-use Rattle.protocol.specs.RowLaws.{row, all-of, implies-true, true-implies, is-zero-zeros, zeros-is-zero}
+use Rattle.protocol.specs.RowLaws.{row, implies-true, is-zero-zeros}
 use Rattle.protocol.specs.BytesLaws.{zero-part}
 
 pub record Formed (h : ℕ) (block : Bytes) : Type 0 where
@@ -41,16 +39,3 @@ module _ (h : ℕ) (block : Bytes) where
         zero-digest = λ root. zero-part block 16 32 (omega arith) (implies-true _ _ (row _ 7 e) (eq-eqb _ _ root));
         zero-rest = is-zero-zeros _ (row _ 8 e) ∙ ap zeros (rw length-drop (omega arith));
       }
-
-  pub formed-back : Formed h block → blockWellFormed h block ≡ true
-  unfolding blockWellFormed
-  formed-back f = all-of
-      (one (eq-eqb _ _ (f .size))
-      (one (eq-eqb _ _ (f .height-is))
-      (one (eq-eqb _ _ (f .zero-one))
-      (one (lt-ltb _ _ (f .parent-below))
-      (one (eq-eqb _ _ (f .zero-three))
-      (one (le-leb _ _ (f .few-entries))
-      (one (rw (f .zero-head) (zeros-is-zero 11))
-      (one (true-implies (eqb (parentHeight block) 0) (isZero (parentDigest block)) (λ root. rw (f .zero-digest (eqb-true _ _ root)) (zeros-is-zero 32)))
-      (one (rw (f .zero-rest) (zeros-is-zero _)) none)))))))))

@@ -2,10 +2,10 @@
 use Prim.Native.Nat.{ℕ, _+_, _≤_}
 use native.Mathlib.Omega.{arith}
 use native.Mathlib.Nat.{zero-add, add-zero}
-use mathlib.Core.Path.{_≡_, sym, _∙_}
-use mathlib.Core.List.{_++_, append-assoc, append-nil}
-use lib.ListN.{length, take, drop, length-append, length-drop, take-append-drop, drop-of-length-le}
-use lib.Seq.{take-append-seam, drop-append-add, drop-drop, length-take-le}
+use mathlib.Core.Path.{_≡_, refl, sym, _∙_}
+use mathlib.Core.List.{[], _++_, append-assoc}
+use lib.ListN.{length, take, drop, length-append, length-drop, take-append-drop}
+use lib.Seq.{take-append-seam, drop-at, drop-append-add, drop-append-seam, drop-drop, length-take-le}
 use Rattle.protocol.specs.Bytes.{Bytes, overFront}
 use Rattle.protocol.specs.BytesLaws.{put, length-put, middle-put}
 
@@ -26,6 +26,23 @@ starts bytes new after e = e ∙ put-start bytes new
 
 pub goes-on : (front bytes before new after : Bytes) (k : ℕ) → before ≡ overFront front bytes → length front ≡ k → after ≡ put before k new → after ≡ overFront (front ++ new) bytes
 goes-on front bytes before new after k e size f = f ∙ rw e (put-next front bytes new k size)
+
+-- writing before what is written
+pub front-join : (a b buffer : Bytes) (k : ℕ) → length a ≡ k → k ≤ length buffer → overFront a (put buffer k b) ≡ overFront (a ++ b) buffer
+unfolding overFront put
+front-join a b buffer k size fits =
+    rw (length-append, size, drop-at (take k buffer) (b ++ drop (k + length b) buffer) k (length-take-le k buffer fits))
+    (sym (append-assoc a b (drop (k + length b) buffer)))
+
+-- writing over what is written
+pub front-again : (new old buffer : Bytes) → length new ≡ length old → overFront new (overFront old buffer) ≡ overFront new buffer
+unfolding overFront
+front-again new old buffer e = rw (e, drop-append-seam)
+
+-- nothing to write
+pub front-none : (buffer : Bytes) → overFront [] buffer ≡ buffer
+unfolding overFront
+front-none buffer = refl
 
 -- ---- a part of a buffer that was lent and comes back
 -- what was put into the part stands in the whole
@@ -55,8 +72,3 @@ pub front-in-part : (bytes new : Bytes) (start count : ℕ) → start + count �
 front-in-part bytes new start count fits inside =
     let e : start + 0 ≡ start = add-zero start in
     rw (← put-start (take count (drop start bytes)) new) (rw e at (put-in-part bytes new start count 0 fits (omega arith)))
-
--- a buffer that is written over whole
-pub over-all : (bytes new : Bytes) → length bytes ≤ length new → overFront new bytes ≡ new
-unfolding overFront
-over-all bytes new h = rw (drop-of-length-le bytes {i = length new} h) (append-nil new)

@@ -10,7 +10,7 @@ use Rattle.protocol.specs.State.{State, Height, at, last, decode, encode
 use Rattle.protocol.specs.Sound.{view, sound}
 use Rattle.protocol.specs.BytesLaws.{AreBytes}
 use Rattle.protocol.specs.CodecLaws.{Clean, last-decode}
-use Rattle.protocol.specs.SoundLaws.{SoundHeight, SoundState, finalized-in, exact, sound-decode, sound-clean, sound-of, encode-decode}
+use Rattle.protocol.specs.SoundLaws.{SoundHeight, SoundState, finalized-in, exact, sound-decode, sound-clean, encode-decode}
 
 -- the numbers of a height, among `n` replicas
 pub record HeightRange (n : ℕ) (x : Height) : Type 0 where
@@ -70,6 +70,3 @@ module _ (digest : Bytes → Bytes) (book : Bytes) where
     finalized-byte = refl;
     pending-byte = refl;
   }
-
-  pub granted-sound : Granted digest book → sound digest book ≡ true
-  granted-sound g = sound-of digest book (g .clean) (g .state)

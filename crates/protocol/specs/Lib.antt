@@ -1,3 +1,4 @@
+-- Every rule of document 01 as a definition, and then the laws of these definitions.
 pub mod Bytes
 pub mod Tests
 pub mod Block
@@ -14,17 +15,22 @@ pub mod Signal
 pub mod Submit
 pub mod Read
 pub mod Fetch
+pub mod Linked
+pub mod Examples
+pub mod Computing
 pub mod EveryLaws
 pub mod TestsLaws
 pub mod MaskLaws
 pub mod StateLaws
 pub mod QuorumLaws
 pub mod FlagLaws
+pub mod MoveLaws
 pub mod RowLaws
 pub mod BytesLaws
+pub mod PiecesLaws
 pub mod FrontLaws
 pub mod CodecLaws
-pub mod Linked
+pub mod ViewLaws
 pub mod LinkedLaws
 pub mod ChainLaws
 pub mod BlockLaws
@@ -45,9 +51,7 @@ pub mod VoteLaws
 pub mod BookLaws
 pub mod NewStateLaws
 pub mod FormedLaws
-pub mod Examples
 pub mod NewBookLaws
 pub mod NewBookCallsLaws
-pub mod Computing
 pub mod ExamplesLaws
 pub mod BuildLaws

@@ -1,8 +1,7 @@
 -- The tests of linked, extending and finalized hold exactly where the facts do, and need no fuel.
-use Prim.Native.Nat.{ℕ, zero, suc, _+_, _-_, _≤_, _<_}
+use Prim.Native.Nat.{ℕ, zero, suc, _-_, _≤_, _<_}
 use native.Mathlib.Omega.{arith}
 use mathlib.Core.Path.{_≡_, refl, sym, ap, _∙_}
-use mathlib.Core.Logic.{_⊎_, inl, inr}
 use mathlib.Core.Bool.{Bool, true, false, _&&_, _||_}
 use mathlib.Core.List.{[], _∷_}
 use lib.Dec.{eqb, ltb, eqb·suc-zero}
@@ -10,28 +9,11 @@ use borrow.Author.Tests.{ltb-true, lt-ltb}
 use Rattle.protocol.specs.Bytes.{Bytes, same}
 use Rattle.protocol.specs.Tests.{allOf}
 use Rattle.protocol.specs.Block.{parentHeight, parentDigest}
-use Rattle.protocol.specs.View.{View, quorum, isDummy, dummyRun, digestAt, extendsOver, linkedWithin, linked, extends, isFinalized}
+use Rattle.protocol.specs.View.{View, quorum, dummyRun, digestAt, extendsOver, linkedWithin, linked, extends, isFinalized}
 use Rattle.protocol.specs.Linked.{OnParent, Linked, start, link, Extends, Finalized}
-use Rattle.protocol.specs.TestsLaws.{and-true, le-or-lt}
+use Rattle.protocol.specs.TestsLaws.{and-true}
+use Rattle.protocol.specs.ViewLaws.{run-sound, run-complete}
 use Rattle.protocol.specs.RowLaws.{row, same-eq, same-self}
-
--- ---- runs of dummies
-pub run-sound : (v : View) (j count : ℕ) → dummyRun v j count ≡ true → (k : ℕ) → j < k → k ≤ j + count → isDummy v k ≡ true
-unfolding dummyRun
-run-sound v j zero e k low high = absurd (omega arith)
-run-sound v j (suc count) e k low high =
-    let both = and-true (dummyRun v j count) (isDummy v (j + suc count)) e in
-    pick (both .1) (λ z. run-sound v j count (both .0) k low z) (le-or-lt k (j + count))
-  where
-    pick : isDummy v (j + suc count) ≡ true → (k ≤ j + count → isDummy v k ≡ true) → (k ≤ j + count) ⊎ (j + count < k) → isDummy v k ≡ true
-    pick top below (inl z) = below z
-    pick top below (inr z) = let n : k ≡ j + suc count = omega arith in rw n top
-
-pub run-complete : (v : View) (j count : ℕ) → ((k : ℕ) → j < k → k ≤ j + count → isDummy v k ≡ true) → dummyRun v j count ≡ true
-unfolding dummyRun
-run-complete v j zero every = refl
-run-complete v j (suc count) every =
-    rw (run-complete v j count (λ k low high. every k low (omega arith)), every (j + suc count) (omega arith) (omega arith))
 
 module _ (digest : Bytes → Bytes) where
   -- ---- no fuel

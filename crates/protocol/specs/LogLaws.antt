@@ -11,11 +11,10 @@ use Rattle.protocol.specs.State.{State}
 use Rattle.protocol.specs.View.{linked, isFinalized, quorum, logAt}
 use Rattle.protocol.specs.Sound.{view, log}
 use Rattle.protocol.specs.TestsLaws.{and-true}
-use Rattle.protocol.specs.EveryLaws.{Every}
-use Rattle.protocol.specs.StateLaws.{Sized}
-use Rattle.protocol.specs.SoundLaws.{SoundState, notarized-in, linked-in}
+use Rattle.protocol.specs.SoundLaws.{SoundState, linked-in}
+use Rattle.protocol.specs.CodecLaws.{notarized-in}
 use Rattle.protocol.specs.LinkedLaws.{linked-zero}
-use Rattle.protocol.specs.ChainLaws.{log-sized, log-length, log-bound}
+use Rattle.protocol.specs.ChainLaws.{log-length, log-bound}
 
 module _ (digest : Bytes → Bytes) (s : State) (facts : SoundState digest s) where
   -- every notarized block is well formed
@@ -33,9 +32,6 @@ module _ (digest : Bytes → Bytes) (s : State) (facts : SoundState digest s) wh
 
   -- ---- the log that ends at any linked height: at most eight entries for each of 63 heights
   module _ (h : ℕ) (e : linked digest (view s) h ≡ true) where
-    pub log-entries-at : Every (Sized 16) (logAt (view s) h)
-    log-entries-at = log-sized digest (view s) view-formed h e
-
     pub log-bytes-at : length (join (logAt (view s) h)) ≡ 16 * length (logAt (view s) h)
     log-bytes-at = log-length digest (view s) view-formed h e
 
@@ -47,10 +43,6 @@ module _ (digest : Bytes → Bytes) (s : State) (facts : SoundState digest s) wh
         omega arith
 
   -- ---- the log
-  pub log-entries : Every (Sized 16) (log s)
-  unfolding log
-  log-entries = log-entries-at (s .finalized) finalized-linked
-
   pub log-bytes : length (join (log s)) ≡ 16 * length (log s)
   unfolding log
   log-bytes = log-bytes-at (s .finalized) finalized-linked

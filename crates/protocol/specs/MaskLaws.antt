@@ -9,7 +9,7 @@ use mathlib.Core.Logic.{_⊎_, inl, inr, _≢_}
 use mathlib.Core.Bool.{Bool, true, false, cond, true≢false}
 use lib.Dec.{eqb}
 use lib.Pow.{pow-pos, pow-mono, mod-pow-add}
-use borrow.Author.Tests.{eqb-true, eqb-false, eq-eqb, ltb-true, lt-ltb}
+use borrow.Author.Tests.{eqb-true, eqb-false, eq-eqb, ltb-true}
 use Rattle.protocol.specs.Mask.{inMask, maskOf, belowBit}
 use Rattle.protocol.specs.TestsLaws.{cond-elim, le-or-lt}
 
@@ -53,10 +53,6 @@ inMask-high n m t h l = false-bit m t (rw (div-eq-of-lt (le-trans h (pow-mono l)
 pub below-lt : (n m : ℕ) → belowBit n m ≡ true → m < 2 ^ n
 unfolding belowBit
 below-lt n m e = ltb-true m (2 ^ n) e
-
-pub lt-below : (n m : ℕ) → m < 2 ^ n → belowBit n m ≡ true
-unfolding belowBit
-lt-below n m h = lt-ltb m (2 ^ n) h
 
 -- ---- a bit more
 half-add : (m s : ℕ) → (m + 2 ^ suc s) / 2 ≡ m / 2 + 2 ^ s
@@ -131,9 +127,6 @@ maskOf-bit p (suc n) t l = pick (p n) refl (ℕ-discrete t n) (λ z. maskOf-bit 
     pick false e (no q) below = rw add-zero (below (omega arith))
     pick true e (yes q) below = rw q (inMask-add-self (maskOf p n) n absent ∙ sym e)
     pick true e (no q) below = inMask-add-other (maskOf p n) n t absent q ∙ below (omega arith)
-
-pub maskOf-inMask : (p : ℕ → Bool) (n t : ℕ) → t < n → p t ≡ true → inMask (maskOf p n) t ≡ true
-maskOf-inMask p n t l e = maskOf-bit p n t l ∙ e
 
 pub inMask-maskOf : (p : ℕ → Bool) (k t : ℕ) → inMask (maskOf p k) t ≡ true → (t < k) × (p t ≡ true)
 inMask-maskOf p k t e = pick (le-or-lt k t)

@@ -12,7 +12,7 @@ use Rattle.protocol.specs.Frame.{frameSize, proposal, blockVote, dummyVo
 use Rattle.protocol.specs.State.{State, at, last, encode, decode, holdsProposal, flag, withHead, pending}
 use Rattle.protocol.specs.View.{linked, isDummy, extends, largestFinalized, parentOf, digestAt, logAt}
 use Rattle.protocol.specs.Sound.{view, sound}
-use Rattle.protocol.specs.Answer.{Answer, refused, accepted, Move, idle, voteDummy, output, pass, propose, voteBlock, Certificate, onBlock, onDummy}
+use Rattle.protocol.specs.Answer.{Answer, refused, accepted, Move, idle, voteDummy, output, pass, propose, voteBlock, onBlock, onDummy}
 
 -- one move: its name, the state after it and the frames that it writes
 pub record Step : Type 0 where
@@ -55,6 +55,11 @@ dummyVoteStep s = record {
   after = withHead s (s .flags + 2) (s .current) (s .finalized);
   frames = dummyVote (s .own) (s .current) ∷ [];
 }
+
+-- ---- the entries of a proposal
+-- the pending entries that the chain ending in height `j` lacks, as many as a block takes
+unfoldable pub offered : State → ℕ → List Bytes
+offered s j = take blockEntries (without (logAt (view s) j) (pending s))
 
 -- ---- what the call leaves
 -- how many zero bytes follow the frames: the place of a finalize that a pass does not cast
@@ -137,10 +142,6 @@ module _ (digest : Bytes → Bytes) where
   unfoldable pub proposeApplies : State → Bool
   proposeApplies s = allOf
       (isRunning s ∷ eqb (at s (s .current) .leader) (s .own) ∷ not (flag 8 s) ∷ isSome (parentBelow s) ∷ [])
-
-  -- the pending entries that the chain ending in height `j` lacks, as many as a block takes
-  unfoldable pub offered : State → ℕ → List Bytes
-  offered s j = take blockEntries (without (logAt (view s) j) (pending s))
 
   unfoldable pub proposedBlock : State → ℕ → Bytes
   proposedBlock s j = newBlock (s .current) j (digestAt digest (view s) j) (offered s j)

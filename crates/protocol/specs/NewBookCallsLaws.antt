@@ -1,9 +1,9 @@
 -- What the calls do to a book at its first height.
 use Prim.Native.Nat.{ℕ, zero, suc, _+_, _^_, _≤_, _<_}
 use native.Mathlib.Omega.{arith}
-use mathlib.Core.Path.{_≡_, refl}
+use mathlib.Core.Path.{_≡_, refl, sym, _∙_}
 use mathlib.Core.Logic.{_≢_}
-use mathlib.Core.Bool.{Bool, true, false, _&&_, not, and-true, and-false}
+use mathlib.Core.Bool.{Bool, true, false, _&&_, not, true≢false, and-true, and-false}
 use mathlib.Core.List.{_++_, map}
 use mathlib.Core.Option.{some, none}
 use lib.ListN.{length}
@@ -12,7 +12,7 @@ use borrow.Author.Tests.{lt-ltb, le-leb, lt-leb, eq-eqb, ne-eqb}
 use Rattle.protocol.specs.Bytes.{Bytes, zeros, le16, word16, part, isZero, all}
 use Rattle.protocol.specs.Tests.{allOf, inRange, implies, firstRefusal}
 use Rattle.protocol.specs.RowLaws.{range-in}
-use Rattle.protocol.specs.TestsLaws.{cond-elim}
+use Rattle.protocol.specs.MoveLaws.{step-cases}
 use Rattle.protocol.specs.State.{State, at, last, encode, holdsProposal, isNotarized, flag, withHead, withHeight}
 use Rattle.protocol.specs.View.{quorum, isDummy, linked, linkedWithin, isFinalized, largestFinalized, parentOf}
 use Rattle.protocol.specs.Sound.{view}
@@ -22,24 +22,8 @@ use Rattle.protocol.specs.Signal.{withTimerFired, signalRows, signalCall
 use Rattle.protocol.specs.Mask.{inMask, union, belowBit}
 use Rattle.protocol.specs.Frame.{kind, signer, frameHeight, signerMask, frameDigest, frameBlock, isStatement, isCertificate, carriesBlock, carriesDigest, frameWellFormed, frameOf, dummyVote, finalizeCertificate}
 use Rattle.protocol.specs.Answer.{accepted, done, fresh, unlessRefused}
-use Rattle.protocol.specs.Move.{Step, firstStep, isSome, isRunning, idleStep, dummyVoteApplies, dummyVoteStep, moved, unlessMoveRefused, newFinalized, outputApplies, outputStep, parentBelow, passApplies, passStep, proposeApplies, proposeStep, blockVoteApplies, blockVoteStep, step, moveRows, moveCall}
+use Rattle.protocol.specs.Move.{Step, firstStep, isSome, isRunning, idleStep, dummyVoteApplies, dummyVoteStep, moved, unlessMoveRefused, newFinalized, outputApplies, parentBelow, passApplies, passStep, proposeApplies, proposeStep, blockVoteApplies, blockVoteStep, step, moveRows, moveCall}
 use Rattle.protocol.specs.NewBookLaws.{Ranges, early, firstHeight, early-bare, early-back, early-sound}
-
--- ---- any state
--- a move changes nothing past the head
-module _ (digest : Bytes → Bytes) (s : State) where
-  abbrev pub HeadOnly : Step → Type 0
-  HeadOnly st = (flags current finalized : ℕ) × (st .after ≡ withHead s flags current finalized)
-
-  pub head-only : HeadOnly (step digest s)
-  unfolding step firstStep dummyVoteStep outputStep passStep proposeStep blockVoteStep idleStep withHead
-  head-only =
-      cond-elim HeadOnly (dummyVoteApplies s) (λ e. (s .flags + 2, s .current, s .finalized, refl)) (λ e.
-      cond-elim HeadOnly (outputApplies digest s) (λ e. (s .flags, s .current, newFinalized digest s, refl)) (λ e.
-      cond-elim HeadOnly (passApplies digest s) (λ e. (0, s .current + 1, s .finalized, refl)) (λ e.
-      cond-elim HeadOnly (proposeApplies digest s) (λ e. (s .flags + 8, s .current, s .finalized, refl)) (λ e.
-      cond-elim HeadOnly (blockVoteApplies digest s) (λ e. (s .flags + 4, s .current, s .finalized, refl)) (λ e.
-      (s .flags, s .current, s .finalized, refl))))))
 
 -- ---- no block is notarized
 module _ (digest : Bytes → Bytes) (s : State) (bare : (h : ℕ) → isNotarized (at s h) ≡ false) where
@@ -56,19 +40,13 @@ module _ (digest : Bytes → Bytes) (s : State) (bare : (h : ℕ) → isNotarize
   unfolding outputApplies newFinalized
   no-output = rw (nothing-final (last s)) (lt-leb (suc (s .finalized)) 0 (omega arith))
 
-  abbrev Keeps : Step → Type 0
-  Keeps st = st .after .finalized ≡ s .finalized
-
   -- a move leaves the finalized height alone
   pub finalized-stays : step digest s .after .finalized ≡ s .finalized
-  unfolding step firstStep dummyVoteStep passStep proposeStep blockVoteStep idleStep withHead
-  finalized-stays = rw no-output
-      (cond-elim Keeps (dummyVoteApplies s) (λ e. refl) (λ e.
-      cond-elim Keeps (passApplies digest s) (λ e. refl) (λ e.
-      cond-elim Keeps (proposeApplies digest s) (λ e. refl) (λ e.
-      cond-elim Keeps (blockVoteApplies digest s) (λ e. refl) (λ e. refl)))))
+  unfolding dummyVoteStep passStep proposeStep blockVoteStep idleStep withHead
+  finalized-stays = step-cases digest s (λ (st : Step). st .after .finalized ≡ s .finalized)
+      (λ _. refl) (λ _ applies. absurd (true≢false (sym applies ∙ no-output))) (λ _ _ _. refl) (λ _ _ _ _. refl) (λ _ _ _ _ _. refl) (λ _ _ _ _ _. refl)
 
--- ---- the moves of a book at its first height
+-- ---- a book at its first height: its moves
 module _ (n own flags dummy final leader : ℕ) (leaders : Bytes) (ranges : Ranges n own leader leaders)
     (flags-below : flags < 16) (dummy-below : dummy < 2 ^ n) (final-below : final < 2 ^ n) (digest : Bytes → Bytes) where
   abbrev E : State
@@ -125,17 +103,12 @@ module _ (n own flags dummy final leader : ℕ) (leaders : Bytes) (ranges : Rang
       not-proposing : proposeApplies digest E ≡ false
       not-proposing = unfold proposeApplies allOf at firstHeight withMasks newHeight in rw (running, ne-eqb leader own lead)
 
--- ---- the other calls on a book at its first height
-module _ (n own flags dummy final leader : ℕ) (leaders : Bytes) (ranges : Ranges n own leader leaders)
-    (flags-below : flags < 16) (dummy-below : dummy < 2 ^ n) (final-below : final < 2 ^ n) (digest : Bytes → Bytes) where
-  abbrev F : State
-  F = early n own flags dummy final leader leaders
-
-  has-first : inRange 1 (last F) 1 ≡ true
+  -- ---- the other calls
+  has-first : inRange 1 (last E) 1 ≡ true
   unfolding last
   has-first = range-in 1 (suc (length (map newHeight leaders))) 1 (omega arith) (omega arith)
 
-  pub early-signal : flag 1 F ≡ false → signalCall digest (encode F) 1 ≡
+  pub early-signal : flag 1 E ≡ false → signalCall digest (encode E) 1 ≡
       record { answer = accepted done; book = encode (early n own (flags + 1) dummy final leader leaders) }
   unfolding signalCall signalRows firstRefusal unlessRefused withTimerFired withHead
   early-signal e =
@@ -146,15 +119,15 @@ module _ (n own flags dummy final leader : ℕ) (leaders : Bytes) (ranges : Rang
         e,
       )
 
-  vote-rows : (s : ℕ) → s < n → firstRefusal (readRows F (dummyVote s 1) ++ clashRows F (dummyVote s 1)) ≡ none
+  vote-rows : (s : ℕ) → s < n → firstRefusal (readRows E (dummyVote s 1) ++ clashRows E (dummyVote s 1)) ≡ none
   unfolding readRows clashRows firstRefusal frameWellFormed allOf dummyVote frameOf kind signer frameHeight signerMask frameDigest frameBlock isStatement isCertificate carriesBlock carriesDigest implies le16 zeros word16 part isZero all inRange last
   vote-rows s h = rw (le-leb 1 (suc (length (map newHeight leaders))) (omega arith), lt-ltb s n h)
 
-  keep-vote : (s : ℕ) → inMask dummy s ≡ false → keep digest F (dummyVote s 1) ≡ some (firstHeight leader (dummy + 2 ^ s) final)
+  keep-vote : (s : ℕ) → inMask dummy s ≡ false → keep digest E (dummyVote s 1) ≡ some (firstHeight leader (dummy + 2 ^ s) final)
   unfolding keep keepDummyVote at firstHeight newHeight withMasks dummyVote frameOf kind signer frameHeight
   keep-vote s e = rw e
 
-  kept-first : (frame : Bytes) (m q : ℕ) → frameHeight frame ≡ 1 → kept digest (encode F) frame (some (firstHeight leader m q)) ≡
+  kept-first : (frame : Bytes) (m q : ℕ) → frameHeight frame ≡ 1 → kept digest (encode E) frame (some (firstHeight leader m q)) ≡
       record { answer = accepted fresh; book = encode (early n own flags m q leader leaders) }
   unfolding kept withHeight
   kept-first frame m q e =
@@ -164,7 +137,7 @@ module _ (n own flags dummy final leader : ℕ) (leaders : Bytes) (ranges : Rang
   unfolding dummyVote frameOf frameHeight
   vote-height s = refl
 
-  pub early-vote : (s : ℕ) → s < n → inMask dummy s ≡ false → deliverCall digest (encode F) (dummyVote s 1) ≡
+  pub early-vote : (s : ℕ) → s < n → inMask dummy s ≡ false → deliverCall digest (encode E) (dummyVote s 1) ≡
       record { answer = accepted fresh; book = encode (early n own flags (dummy + 2 ^ s) final leader leaders) }
   unfolding deliverCall deliverRows firstRefusal unlessRefused
   early-vote s h e =
@@ -175,13 +148,13 @@ module _ (n own flags dummy final leader : ℕ) (leaders : Bytes) (ranges : Rang
         keep-vote s e,
       ) (kept-first (dummyVote s 1) (dummy + 2 ^ s) final (vote-height s))
 
-  certificate-rows : (mask : ℕ) → belowBit n (word16 (le16 mask) 0) ≡ true → quorum (view F) (word16 (le16 mask) 0) ≡ true →
-      firstRefusal (readRows F (finalizeCertificate 1 mask) ++ clashRows F (finalizeCertificate 1 mask)) ≡ none
+  certificate-rows : (mask : ℕ) → belowBit n (word16 (le16 mask) 0) ≡ true → quorum (view E) (word16 (le16 mask) 0) ≡ true →
+      firstRefusal (readRows E (finalizeCertificate 1 mask) ++ clashRows E (finalizeCertificate 1 mask)) ≡ none
   unfolding readRows clashRows firstRefusal frameWellFormed allOf finalizeCertificate frameOf kind signer frameHeight signerMask frameDigest frameBlock isStatement isCertificate carriesBlock carriesDigest implies le16 zeros word16 part isZero all inRange last
   certificate-rows mask below enough = rw (le-leb 1 (suc (length (map newHeight leaders))) (omega arith), below, enough)
 
   keep-certificate : (mask : ℕ) → eqb (union n final (word16 (le16 mask) 0)) final ≡ false →
-      keep digest F (finalizeCertificate 1 mask) ≡ some (firstHeight leader dummy (union n final (word16 (le16 mask) 0)))
+      keep digest E (finalizeCertificate 1 mask) ≡ some (firstHeight leader dummy (union n final (word16 (le16 mask) 0)))
   unfolding keep keepFinalizeCertificate at firstHeight newHeight withMasks finalizeCertificate frameOf kind signerMask frameHeight word16 le16
   keep-certificate mask e = rw e
 
@@ -189,8 +162,8 @@ module _ (n own flags dummy final leader : ℕ) (leaders : Bytes) (ranges : Rang
   unfolding finalizeCertificate frameOf frameHeight
   certificate-height mask = refl
 
-  pub early-certificate : (mask : ℕ) → belowBit n (word16 (le16 mask) 0) ≡ true → quorum (view F) (word16 (le16 mask) 0) ≡ true →
-      eqb (union n final (word16 (le16 mask) 0)) final ≡ false → deliverCall digest (encode F) (finalizeCertificate 1 mask) ≡
+  pub early-certificate : (mask : ℕ) → belowBit n (word16 (le16 mask) 0) ≡ true → quorum (view E) (word16 (le16 mask) 0) ≡ true →
+      eqb (union n final (word16 (le16 mask) 0)) final ≡ false → deliverCall digest (encode E) (finalizeCertificate 1 mask) ≡
       record { answer = accepted fresh; book = encode (early n own flags dummy (union n final (word16 (le16 mask) 0)) leader leaders) }
   unfolding deliverCall deliverRows firstRefusal unlessRefused
   early-certificate mask below enough new =

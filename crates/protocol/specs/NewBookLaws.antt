@@ -14,6 +14,7 @@ use Rattle.protocol.specs.TestsLaws.{and-true}
 use Rattle.protocol.specs.EveryLaws.{Every, none, one}
 use Rattle.protocol.specs.State.{State, Height, at, last, encode, decode, noHeight, holdsProposal, isNotarized}
 use Rattle.protocol.specs.StateLaws.{Shaped, ShapedHeight, decode-encode}
+use Rattle.protocol.specs.View.{View}
 use Rattle.protocol.specs.Sound.{view, sound}
 use Rattle.protocol.specs.SoundLaws.{SoundHeight, sound-encode}
 use Rattle.protocol.specs.NewStateLaws.{new-shaped}
@@ -69,7 +70,7 @@ none-bare n h = record {
   voter-below = pow-pos n;
 }
 
-all-bare : (n : ℕ) (leaders : Bytes) → all (λ x. ltb x n) leaders ≡ true → Every (Bare n) (map newHeight leaders)
+pub all-bare : (n : ℕ) (leaders : Bytes) → all (λ x. ltb x n) leaders ≡ true → Every (Bare n) (map newHeight leaders)
 unfolding all
 all-bare n [] h = none
 all-bare n (x ∷ xs) h =
@@ -80,9 +81,9 @@ first-shaped : (x dummy final : ℕ) → ShapedHeight (firstHeight x dummy final
 unfolding firstHeight newHeight withMasks zeros
 first-shaped x dummy final = record { proposal-size = refl; notarized-size = refl; votes-size = refl }
 
-bare-sound : (s : State) (h : ℕ) (x : Height) → Bare (s .n) x → SoundHeight (view s) h x
-unfolding view holdsProposal isNotarized
-bare-sound s h x b = record {
+pub bare-sound : (v : View) (h : ℕ) (x : Height) → Bare (v .n) x → SoundHeight v h x
+unfolding holdsProposal isNotarized
+bare-sound v h x b = record {
   leader-below = b .leader-below;
   status-small = rw (b .nothing) (omega arith);
   certificate-below = b .certificate-below;
@@ -151,6 +152,6 @@ module _ (n own flags dummy final leader : ℕ) (leaders : Bytes) (ranges : Rang
         current-high = omega arith;
         flags-small = flags-below;
         pending-few = omega arith;
-        each = λ h p q. bare-sound E h (at E h) (early-bare h);
+        each = λ h p q. bare-sound (view E) h (at E h) (unfold view in early-bare h);
         final = inl refl;
       })

@@ -4,7 +4,7 @@ use native.Mathlib.Omega.{arith}
 use native.Mathlib.Nat.{mul-zero}
 use mathlib.Core.Path.{_≡_, refl, sym, ap, _∙_}
 use mathlib.Core.List.{List, [], _∷_, _++_, map}
-use lib.ListN.{length, getD, set, length-map, length-replicate, replicate-append-replicate}
+use lib.ListN.{length, getD, set, length-map}
 use Rattle.protocol.specs.Bytes.{Bytes, le16, zeros, join}
 use Rattle.protocol.specs.State.{State, Height, at, last, noHeight, withHeight, encode, headBytes, contentBytes, bodyBytes}
 use Rattle.protocol.specs.Open.{newHeight, newState}
@@ -13,19 +13,12 @@ use Rattle.protocol.specs.StateLaws.{Shaped, ShapedHeight}
 use Rattle.protocol.specs.CodecLaws.{at-suc}
 use Rattle.protocol.specs.PlaceLaws.{with-at}
 use Rattle.protocol.specs.WriteLaws.{withLeader, write-leader}
-
-pub zeros-length : (count : ℕ) → length (zeros count) ≡ count
-unfolding zeros
-zeros-length count = length-replicate count 0
-
-pub zeros-add : (a b : ℕ) → zeros a ++ zeros b ≡ zeros (a + b)
-unfolding zeros
-zeros-add a b = replicate-append-replicate a b 0
+use Rattle.protocol.specs.BytesLaws.{length-zeros, zeros-add}
 
 -- ---- the shape of a new state
 pub new-height-shaped : (leader : ℕ) → ShapedHeight (newHeight leader)
 unfolding newHeight
-new-height-shaped leader = record { proposal-size = zeros-length 176; notarized-size = zeros-length 176; votes-size = zeros-length 512 }
+new-height-shaped leader = record { proposal-size = length-zeros 176; notarized-size = length-zeros 176; votes-size = length-zeros 512 }
 
 new-heights-shaped : (leaders : Bytes) → Every ShapedHeight (map newHeight leaders)
 new-heights-shaped [] = none
@@ -33,7 +26,7 @@ new-heights-shaped (leader ∷ leaders) = one (new-height-shaped leader) (new-he
 
 pub new-shaped : (n own : ℕ) (leaders : Bytes) → Shaped (newState n own leaders)
 unfolding newState
-new-shaped n own leaders = record { pool-size = zeros-length 512; heights = new-heights-shaped leaders }
+new-shaped n own leaders = record { pool-size = length-zeros 512; heights = new-heights-shaped leaders }
 
 pub new-last : (n own : ℕ) (leaders : Bytes) → last (newState n own leaders) ≡ length leaders
 unfolding newState last
@@ -74,7 +67,7 @@ new-from-zeros n own heights =
       size,
       eight-zeros (568 + 880 * heights),
       length-map (zeros heights) newHeight,
-      zeros-length heights,
+      length-zeros heights,
       zero-join contentBytes 16 zero-content heights,
       zero-join bodyBytes 864 zero-body heights,
       rest-zeros heights,

@@ -19,8 +19,23 @@ module _ (digest : Bytes → Bytes) (v : View) where
   Best h (some j) = ChainOf digest v h j × ((k : ℕ) → ChainOf digest v h k → k ≤ j)
 
   -- a chain whose last block is that of its own height
+  pub chain-here : {h : ℕ} → Linked digest v h → ChainOf digest v h h
+  chain-here l = record { within = omega arith; isLinked = l; dummies = λ k low high. absurd (omega arith) }
+
+  -- one more dummy
+  pub chain-dummy : {h k : ℕ} → isDummy v (suc h) ≡ true → ChainOf digest v h k → ChainOf digest v (suc h) k
+  chain-dummy {h} {k} d c = record {
+    within = let within = c .within in omega arith;
+    isLinked = c .isLinked;
+    dummies = λ i low high. pick i low high (le-or-lt i h);
+  }
+    where
+      pick : (i : ℕ) → k < i → i ≤ suc h → (i ≤ h) ⊎ (h < i) → isDummy v i ≡ true
+      pick i low high (inl l) = c .dummies i low l
+      pick i low high (inr l) = let top : i ≡ suc h = omega arith in rw top d
+
   at-block : (h : ℕ) → Linked digest v h → Best h (some h)
-  at-block h l = (record { within = omega arith; isLinked = l; dummies = λ k low high. absurd (omega arith) }, λ k c. c .within)
+  at-block h l = (chain-here l, λ k c. c .within)
 
   -- ---- one height more, that is not linked
   module _ (h : ℕ) (bare : linked digest v (suc h) ≡ false) where
@@ -36,20 +51,9 @@ module _ (digest : Bytes → Bytes) (v : View) where
     drop-dummy : {k : ℕ} → ChainOf digest v (suc h) k → ChainOf digest v h k
     drop-dummy c = record { within = shorter c; isLinked = c .isLinked; dummies = λ i low high. c .dummies i low (omega arith) }
 
-    add-dummy : isDummy v (suc h) ≡ true → {k : ℕ} → ChainOf digest v h k → ChainOf digest v (suc h) k
-    add-dummy d {k} c = record {
-      within = let within = c .within in omega arith;
-      isLinked = c .isLinked;
-      dummies = λ i low high. pick i low high (le-or-lt i h);
-    }
-      where
-        pick : (i : ℕ) → k < i → i ≤ suc h → (i ≤ h) ⊎ (h < i) → isDummy v i ≡ true
-        pick i low high (inl l) = c .dummies i low l
-        pick i low high (inr l) = let top : i ≡ suc h = omega arith in rw top d
-
     on-dummy : isDummy v (suc h) ≡ true → (o : Option ℕ) → Best h o → Best (suc h) o
     on-dummy d none no-chain = λ j c. no-chain j (drop-dummy c)
-    on-dummy d (some j) (c, largest) = (add-dummy d c, λ k e. largest k (drop-dummy e))
+    on-dummy d (some j) (c, largest) = (chain-dummy d c, λ k e. largest k (drop-dummy e))
 
     neither : isDummy v (suc h) ≡ false → Best (suc h) none
     neither d j c = let low = shorter c in true≢false (sym (c .dummies (suc h) (omega arith) (omega arith)) ∙ d)

@@ -1,23 +1,14 @@
 -- Pending entries of a sound state, those that a list lacks, and those that a block takes: 16 bytes each, eight at most.
-use Prim.Native.Nat.{ℕ, _*_, _≤_}
+use Prim.Native.Nat.{ℕ, _≤_}
 use native.Mathlib.Omega.{arith}
-use mathlib.Core.List.{List, [], _∷_}
-use lib.ListN.{length, take, length-take}
-use Rattle.protocol.specs.Bytes.{Bytes, holds}
+use lib.ListN.{length, length-take}
+use Rattle.protocol.specs.Bytes.{Bytes}
 use Rattle.protocol.specs.State.{State, pending}
-use Rattle.protocol.specs.Move.{without, offered}
-use Rattle.protocol.specs.EveryLaws.{Every, none, one}
-use Rattle.protocol.specs.TestsLaws.{cond-elim}
-use Rattle.protocol.specs.RowLaws.{every-take}
-use Rattle.protocol.specs.StateLaws.{Sized}
-use Rattle.protocol.specs.ChainLaws.{pieces-sized}
+use Rattle.protocol.specs.Move.{offered}
+use Rattle.protocol.specs.EveryLaws.{Every, every-take}
+use Rattle.protocol.specs.PiecesLaws.{Sized, pieces-sized}
+use Rattle.protocol.specs.PoolLaws.{every-without}
 use Rattle.protocol.specs.SoundLaws.{SoundState}
-
-pub every-without : {P : Bytes → Type 0} (taken : List Bytes) {es : List Bytes} → Every P es → Every P (without taken es)
-unfolding without
-every-without taken none = none
-every-without {P} taken (one {x = e} {xs = es} p ps) =
-    cond-elim (λ (l : List Bytes). Every P l) (holds e taken) (λ q. every-without taken ps) (λ q. one p (every-without taken ps))
 
 pub pending-sized : (digest : Bytes → Bytes) (s : State) → SoundState digest s → Every (Sized 16) (pending s)
 unfolding pending
@@ -26,10 +17,10 @@ pending-sized digest s sound =
     let size = sound .shaped .pool-size in
     pieces-sized 16 (s .pendingCount) (s .pool) (omega arith)
 
-pub offered-sized : (digest : Bytes → Bytes) (s : State) → SoundState digest s → (j : ℕ) → Every (Sized 16) (offered digest s j)
+pub offered-sized : (digest : Bytes → Bytes) (s : State) → SoundState digest s → (j : ℕ) → Every (Sized 16) (offered s j)
 unfolding offered
 offered-sized digest s sound j = every-take 8 (every-without _ (pending-sized digest s sound))
 
-pub offered-few : (digest : Bytes → Bytes) (s : State) (j : ℕ) → length (offered digest s j) ≤ 8
+pub offered-few : (s : State) (j : ℕ) → length (offered s j) ≤ 8
 unfolding offered
-offered-few digest s j = rw length-take (omega arith)
+offered-few s j = rw length-take (omega arith)

@@ -2,15 +2,15 @@
 use Prim.Native.Nat.{ℕ, suc, _+_, _-_, _*_, _≤_, _<_}
 use native.Mathlib.Omega.{arith}
 use mathlib.Core.Path.{_≡_, refl, sym, ap, _∙_}
-use mathlib.Core.List.{List, [], _∷_, _++_, map, append-assoc}
+use mathlib.Core.List.{List, _++_, map, append-assoc}
 use lib.ListN.{length, take, drop, set, length-append, length-map, length-set, length-drop}
 use lib.Seq.{set-getD, set-set, getD-set-same, getD-set-other, length-take-le}
 use Rattle.protocol.specs.Bytes.{Bytes, byteAt, le16, part, zeros, join}
 use Rattle.protocol.specs.State.{State, Height, noHeight, at, last, withHeight, encode, headBytes, contentBytes, bodyBytes}
-use Rattle.protocol.specs.EveryLaws.{Every, every-set}
-use Rattle.protocol.specs.RowLaws.{every-at, every-take}
-use Rattle.protocol.specs.BytesLaws.{put, middle-byte, middle-part, middle-set, middle-put, cut-set}
-use Rattle.protocol.specs.StateLaws.{Shaped, ShapedHeight, Sized, length-join, content-size, body-size, bodies-sized}
+use Rattle.protocol.specs.EveryLaws.{Every, every-set, every-at, every-take}
+use Rattle.protocol.specs.BytesLaws.{put, middle-part, middle-set, middle-put}
+use Rattle.protocol.specs.StateLaws.{Shaped, ShapedHeight, content-size, body-size, contents-sized, bodies-sized}
+use Rattle.protocol.specs.PiecesLaws.{length-join, cut-set}
 use Rattle.protocol.specs.CodecLaws.{Clean, at-suc}
 
 pub head-size : (s : State) → length (headBytes s) ≡ 64
@@ -18,11 +18,7 @@ unfolding headBytes zeros
 head-size s = refl
 
 contents-length : (l : List Height) → length (join (map contentBytes l)) ≡ 16 * length l
-contents-length l = length-join 16 (map contentBytes l) (every-contents l) ∙ rw length-map
-  where
-    every-contents : (l : List Height) → Every (Sized 16) (map contentBytes l)
-    every-contents [] = Every.none
-    every-contents (x ∷ xs) = Every.one (content-size x) (every-contents xs)
+contents-length l = length-join 16 (map contentBytes l) (contents-sized l) ∙ rw length-map
 
 bodies-length : {l : List Height} → Every ShapedHeight l → length (join (map bodyBytes l)) ≡ 864 * length l
 bodies-length {l} hs = length-join 864 (map bodyBytes l) (bodies-sized hs) ∙ rw length-map
@@ -128,26 +124,16 @@ module _ (s : State) (shaped : Shaped s) (i : ℕ) (inside : i < last s) where
   cut : (x : Height) → encode (withHeight s (suc i) x) ≡ front s i ++ (contentBytes x ++ (between s i ++ (bodyBytes x ++ back s i)))
   unfolding encode withHeight front between back last
   cut x =
-      rw (head-with x, suc-minus s i, cut-set contentBytes noHeight (s .heights) i x inside, cut-set bodyBytes noHeight (s .heights) i x inside)
+      rw (head-with x, suc-minus s i, cut-set contentBytes (s .heights) i x inside, cut-set bodyBytes (s .heights) i x inside)
       (simp append-assoc)
 
   body-cut : (x : Height) → encode (withHeight s (suc i) x) ≡ (front s i ++ (contentBytes x ++ between s i)) ++ (bodyBytes x ++ back s i)
   body-cut x = cut x ∙ simp append-assoc
 
   -- ---- reads
-  pub content-byte : (x : Height) (j : ℕ) → j < 16 → byteAt (encode (withHeight s (suc i) x)) (576 + 16 * i + j) ≡ byteAt (contentBytes x) j
-  content-byte x j h =
-      rw (cut x) (middle-byte (front s i) (contentBytes x) (between s i ++ (bodyBytes x ++ back s i)) (576 + 16 * i) front-size j (rw content-size h))
-
   pub content-part : (x : Height) (j k : ℕ) → j + k ≤ 16 → part (encode (withHeight s (suc i) x)) (576 + 16 * i + j) k ≡ part (contentBytes x) j k
   content-part x j k h =
       rw (cut x) (middle-part (front s i) (contentBytes x) (between s i ++ (bodyBytes x ++ back s i)) (576 + 16 * i) front-size j k (rw content-size h))
-
-  pub body-part : (x : Height) → ShapedHeight x → (j k : ℕ) → j + k ≤ 864 →
-      part (encode (withHeight s (suc i) x)) (576 + 16 * last s + 864 * i + j) k ≡ part (bodyBytes x) j k
-  body-part x fits j k h =
-      rw (body-cut x)
-      (middle-part (front s i ++ (contentBytes x ++ between s i)) (bodyBytes x) (back s i) (576 + 16 * last s + 864 * i) (body-front-size x) j k (rw (body-size x fits) h))
 
   -- ---- writes: the height `x` becomes `y`
   pub content-put : (x y : Height) (j : ℕ) (new : Bytes) → j + length new ≤ 16 →

@@ -1,46 +1,29 @@
 -- The pool while its entries are closed up in place: those that stay move to the front one by one, and then a new one follows them.
-use Prim.Native.Nat.{ℕ, zero, suc, _+_, _-_, _*_, _≤_, _<_}
+use Prim.Native.Nat.{ℕ, suc, _+_, _-_, _*_, _≤_, _<_}
 use native.Mathlib.Omega.{arith}
-use native.Mathlib.Nat.{mul-zero}
 use native.Mathlib.Numerals.{add-one}
 use mathlib.Core.Path.{_≡_, refl, sym, ap, _∙_}
 use mathlib.Core.Bool.{Bool, true, false, cond}
 use mathlib.Core.List.{List, [], _∷_, _++_, append-assoc, append-nil}
 use lib.ListN.{length, getD, take, drop, set, length-append, length-take, length-drop, drop-of-length-le}
-use lib.Seq.{take-suc, take-add, take-at, drop-drop, drop-append-add}
+use lib.Seq.{take-suc, drop-drop, drop-append-add}
 use Rattle.protocol.specs.Bytes.{Bytes, part, zeros, join, pieces, holds}
 use Rattle.protocol.specs.State.{State, at, encode, decode, last}
-use Rattle.protocol.specs.Sound.{view, log}
+use Rattle.protocol.specs.Sound.{view}
 use Rattle.protocol.specs.Submit.{withPending}
 use Rattle.protocol.specs.Move.{without}
-use Rattle.protocol.specs.EveryLaws.{Every}
+use Rattle.protocol.specs.EveryLaws.{Every, none, one}
 use Rattle.protocol.specs.TestsLaws.{cond-elim}
-use Rattle.protocol.specs.BytesLaws.{put, length-part, length-put, length-pieces}
-use Rattle.protocol.specs.StateLaws.{Shaped, Sized, length-join, pieces-join}
+use Rattle.protocol.specs.BytesLaws.{put, put-at, length-part, length-put, length-zeros}
+use Rattle.protocol.specs.StateLaws.{Shaped}
+use Rattle.protocol.specs.PiecesLaws.{Sized, pieces-join, join-pieces, length-join, length-pieces, join-more}
 use Rattle.protocol.specs.CodecLaws.{Exact, decode-shaped}
 use Rattle.protocol.specs.WriteLaws.{withPool, write-pool, write-pending-count}
 use Rattle.protocol.specs.ChangeLaws.{with-pending, shaped-pool}
-use Rattle.protocol.specs.ChainLaws.{join-append}
-use Rattle.protocol.specs.NewStateLaws.{zeros-length}
-
--- ---- byte strings
--- pieces joined again
-pub join-pieces : (size count : ℕ) (bytes : Bytes) → join (pieces size count bytes) ≡ take (size * count) bytes
-unfolding join pieces
-join-pieces size zero bytes = rw mul-zero
-join-pieces size (suc count) bytes =
-    let e : size * suc count ≡ size + size * count = omega arith in
-    rw (e, join-pieces size count (drop size bytes)) (sym (take-add size (size * count) bytes))
-
-join-one : (entry : Bytes) → join (entry ∷ []) ≡ entry
-unfolding join
-join-one entry = append-nil entry
 
 -- bytes put at the end of a front part
 put-at-front : (front rest new : Bytes) (k : ℕ) → length front ≡ k → put (front ++ rest) k new ≡ (front ++ new) ++ drop (length new) rest
-unfolding put
-put-at-front front rest new k e =
-    rw (take-at front rest k e, ← e, drop-append-add front rest (length new)) (sym (append-assoc front new (drop (length new) rest)))
+put-at-front front rest new k e = put-at front rest new k e ∙ sym (append-assoc front new (drop (length new) rest))
 
 -- ---- a new entry after the first `count` places, and zeros after it
 put-cut : (bytes : Bytes) (k : ℕ) (new : Bytes) → put bytes k new ≡ (take k bytes ++ new) ++ drop (k + length new) bytes
@@ -53,10 +36,14 @@ finished pool count entry size few e =
     let k : ℕ = 16 * (count + 1) in
     let front : length (take (16 * count) pool ++ entry) ≡ k = simp (length-append, length-take) (omega arith) in
     let rest : Bytes = drop (16 * count + length entry) pool in
-    let past : length rest ≤ length (zeros (512 - k)) = rw (zeros-length, length-drop (16 * count + length entry) pool) (omega arith) in
+    let past : length rest ≤ length (zeros (512 - k)) = rw (length-zeros, length-drop (16 * count + length entry) pool) (omega arith) in
     ap (λ (b : Bytes). put b k (zeros (512 - k))) (put-cut pool (16 * count) entry) ∙
     put-at-front (take (16 * count) pool ++ entry) rest (zeros (512 - k)) k front ∙
     rw (drop-of-length-le rest {i = length (zeros (512 - k))} past) (append-nil ((take (16 * count) pool ++ entry) ++ zeros (512 - k)))
+
+-- the pool of a state with these pending entries has its size
+pub pending-pool-size : (es : List Bytes) → Every (Sized 16) es → length es ≤ 32 → length (join es ++ zeros (512 - 16 * length es)) ≡ 512
+pending-pool-size es sized few = simp (length-append, length-join 16 es sized, length-zeros) (omega arith)
 
 with-entry : (s : State) (count : ℕ) (entry : Bytes) →
     withPending s (pieces 16 count (s .pool) ++ (entry ∷ [])) ≡
@@ -64,7 +51,7 @@ with-entry : (s : State) (count : ℕ) (entry : Bytes) →
 with-entry s count entry =
     let size : length (pieces 16 count (s .pool) ++ (entry ∷ [])) ≡ count + 1 = simp length-append (rw length-pieces) in
     with-pending s (pieces 16 count (s .pool) ++ (entry ∷ [])) ∙
-    rw (size, join-append (pieces 16 count (s .pool)) (entry ∷ []), join-one entry, join-pieces 16 count (s .pool))
+    rw (size, join-more (pieces 16 count (s .pool)) entry, join-pieces 16 count (s .pool))
 
 pub write-finish : (s : State) → length (s .pool) ≡ 512 → (count : ℕ) (entry : Bytes) → count < 32 → length entry ≡ 16 →
     set (put (put (encode s) (64 + 16 * count) entry) (64 + 16 * (count + 1)) (zeros (512 - 16 * (count + 1)))) 6 (count + 1) ≡
@@ -75,7 +62,7 @@ write-finish s size count entry few e =
     let first : State = withPool s (s .pendingCount) pool in
     let pool-size : length pool ≡ 512 = length-put (s .pool) (16 * count) entry (omega arith) ∙ size in
     let new : Bytes = zeros (512 - 16 * (count + 1)) in
-    let fits : 16 * (count + 1) + length new ≤ 512 = rw zeros-length (omega arith) in
+    let fits : 16 * (count + 1) + length new ≤ 512 = rw length-zeros (omega arith) in
     rw (write-pool s size (16 * count) entry (omega arith), write-pool first pool-size (16 * (count + 1)) new fits)
     (write-pending-count (withPool first (s .pendingCount) (put pool (16 * (count + 1)) new)) (count + 1) ∙
     ap (λ (p : Bytes). encode (withPool s (count + 1) p)) (finished (s .pool) count entry size few e) ∙ ap encode (sym (with-entry s count entry)))
@@ -100,17 +87,9 @@ module _ (s : State) (es : List Bytes) where
   unfolding moved withPool view at
   moved-view = refl
 
-  pub moved-log : log (moved s es) ≡ log s
-  unfolding moved withPool log view at
-  moved-log = refl
-
   pub moved-last : last (moved s es) ≡ last s
   unfolding moved withPool last
   moved-last = refl
-
-  pub moved-count : moved s es .pendingCount ≡ s .pendingCount
-  unfolding moved withPool
-  moved-count = refl
 
   pub moved-pending : (entries : List Bytes) → withPending (moved s es) entries ≡ withPending s entries
   unfolding moved withPool withPending
@@ -121,7 +100,7 @@ front-more : (pool : Bytes) (es : List Bytes) (entry : Bytes) → length entry �
     (join es ++ entry) ++ drop (length entry) (drop (16 * length es) pool) ≡ join (es ++ (entry ∷ [])) ++ drop (16 * length (es ++ (entry ∷ []))) pool
 front-more pool es entry e =
     let more : 16 * length es + 16 ≡ 16 * (length es + 1) = omega arith in
-    rw (e, drop-drop 16 (16 * length es) pool, more, length-append es (entry ∷ []), join-append es (entry ∷ []), join-one entry)
+    rw (e, drop-drop 16 (16 * length es) pool, more, length-append es (entry ∷ []), join-more es entry)
 
 module _ (s : State) (size : length (s .pool) ≡ 512) (es : List Bytes) (sized : Every (Sized 16) es) where
   joined : length (join es) ≡ 16 * length es
@@ -181,6 +160,12 @@ without-short taken [] = omega arith
 without-short taken (e ∷ es) =
     let rest = without-short taken es in
     cond-elim (λ (l : List Bytes). length l ≤ suc (length es)) (holds e taken) (λ p. omega arith) (λ p. omega arith)
+
+pub every-without : {P : Bytes → Type 0} (taken : List Bytes) {es : List Bytes} → Every P es → Every P (without taken es)
+unfolding without
+every-without taken none = none
+every-without {P} taken (one {x = e} {xs = es} p ps) =
+    cond-elim (λ (l : List Bytes). Every P l) (holds e taken) (λ q. every-without taken ps) (λ q. one p (every-without taken ps))
 
 module _ (taken es : List Bytes) (k : ℕ) (inside : k < length es) where
   pub entry-stays : holds (getD es k []) taken ≡ false → without taken (take (k + 1) es) ≡ without taken (take k es) ++ (getD es k [] ∷ [])

@@ -1,7 +1,7 @@
 -- Register size and Read: the log of a sound book, by length and by bytes.
 use Prim.Native.Nat.{ℕ, _*_}
-use mathlib.Core.Bool.{Bool, _&&_, cond}
-use mathlib.Core.List.{List, []}
+use mathlib.Core.Bool.{_&&_, cond}
+use mathlib.Core.List.{[]}
 use lib.ListN.{length}
 use lib.Dec.{leb}
 use Rattle.protocol.specs.Bytes.{Bytes, join, overFront}

@@ -1,14 +1,14 @@
 -- Tests taken apart and put together: rows, heights, ranges, refusals, zero bytes and equal bytes.
 use Prim.Native.Nat.{ℕ, zero, suc, _≤_, _<_}
 use native.Mathlib.Omega.{arith}
-use mathlib.Core.Path.{_≡_, refl, sym, ap, ap₂, _∙_}
+use mathlib.Core.Path.{_≡_, refl, sym, ap₂, _∙_}
 use mathlib.Core.Logic.{_⊎_, inl, inr}
 use mathlib.Core.Bool.{Bool, true, false, _&&_, cond, true≢false, false≢true}
 use mathlib.Core.List.{List, [], _∷_, _++_}
 use mathlib.Core.Option.{some, none}
-use lib.ListN.{length, getD, take}
+use lib.ListN.{length, getD}
 use lib.Dec.{eqb, leb}
-use borrow.Author.Tests.{eqb-true, eq-eqb, leb-true, le-leb}
+use borrow.Author.Tests.{eqb-true, leb-true, le-leb}
 use Rattle.protocol.specs.Bytes.{Bytes, zeros, all, isZero, same}
 use Rattle.protocol.specs.Tests.{allOf, implies, inRange, everyHeight, Row, firstRefusal}
 use Rattle.protocol.specs.EveryLaws.{Every, one}
@@ -123,14 +123,6 @@ refuse-rows (r ∷ rows) more number e = go (r .1) e (λ f. refuse-rows rows mor
     go true e below = below e
     go false e below = e
 
-pub rows-pass : (rows more : List Row) → firstRefusal (rows ++ more) ≡ none → (firstRefusal rows ≡ none) × (firstRefusal more ≡ none)
-unfolding firstRefusal
-rows-pass [] more e = (refl, e)
-rows-pass (r ∷ rows) more e =
-    let t = row-passes r (rows ++ more) e in
-    let u = rows-pass rows more (t .1) in
-    (pass-row r rows (t .0) ∙ u .0, u .1)
-
 -- ---- zero bytes, equal bytes
 pub is-zero-zeros : (bytes : Bytes) → isZero bytes ≡ true → bytes ≡ zeros (length bytes)
 unfolding isZero all zeros
@@ -179,31 +171,3 @@ unfolding isZero all
 is-zero-byte [] i e = refl
 is-zero-byte (x ∷ xs) zero e = eqb-true x 0 (and-true (eqb x 0) (all (λ y. eqb y 0) xs) e .0)
 is-zero-byte (x ∷ xs) (suc i) e = is-zero-byte xs i (and-true (eqb x 0) (all (λ y. eqb y 0) xs) e .1)
-
-pub bytes-are-zero : (bytes : Bytes) → ((i : ℕ) → i < length bytes → getD bytes i 0 ≡ 0) → isZero bytes ≡ true
-unfolding isZero
-bytes-are-zero bytes each = at-all (λ x. eqb x 0) bytes (λ i l. eq-eqb (getD bytes i 0) 0 (each i l))
-
-pub not-zero : (bytes : Bytes) (i : ℕ) → (getD bytes i 0 ≡ 0 → ⊥) → isZero bytes ≡ false
-not-zero bytes i f = not-passed (isZero bytes) (λ e. f (is-zero-byte bytes i e))
-
-pub not-same : (a b : Bytes) → (a ≡ b → ⊥) → same a b ≡ false
-not-same a b f = not-passed (same a b) (λ e. f (same-eq a b e))
-
-pub differ-at : (a b : Bytes) (i : ℕ) → (getD a i 0 ≡ getD b i 0 → ⊥) → same a b ≡ false
-differ-at a b i f = not-same a b (λ e. f (ap (λ (l : Bytes). getD l i 0) e))
-
--- ---- every element of a list, by its place
-pub every-at : {A : Type 0} {P : A → Type 0} {l : List A} (i : ℕ) (d : A) → Every P l → i < length l → P (getD l i d)
-every-at i d Every.none h = absurd (omega arith)
-every-at zero d (one p ps) h = p
-every-at (suc i) d (one p ps) h = every-at i d ps (omega arith)
-
-pub every-from : {A : Type 0} (P : A → Type 0) (d : A) (l : List A) → ((i : ℕ) → i < length l → P (getD l i d)) → Every P l
-every-from P d [] each = Every.none
-every-from P d (x ∷ xs) each = one (each 0 (omega arith)) (every-from P d xs (λ i h. each (suc i) (omega arith)))
-
-pub every-take : {A : Type 0} {P : A → Type 0} {l : List A} (k : ℕ) → Every P l → Every P (take k l)
-every-take zero ps = Every.none
-every-take (suc k) Every.none = Every.none
-every-take (suc k) (one p ps) = one p (every-take k ps)

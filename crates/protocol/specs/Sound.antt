@@ -4,11 +4,11 @@ use mathlib.Core.Bool.{Bool, _&&_, _||_}
 use mathlib.Core.List.{List, [], _∷_}
 use lib.ListN.{length}
 use lib.Dec.{eqb, leb, ltb}
-use Rattle.protocol.specs.Bytes.{Bytes, byteAt, part, isZero, join}
+use Rattle.protocol.specs.Bytes.{Bytes, byteAt, part, isZero}
 use Rattle.protocol.specs.Tests.{allOf, implies, inRange, everyHeight}
 use Rattle.protocol.specs.Block.{maximumHeights, blockWellFormed}
 use Rattle.protocol.specs.Mask.{belowBit}
-use Rattle.protocol.specs.State.{State, Height, at, last, decode, edition, bookSize, holdsProposal, isNotarized}
+use Rattle.protocol.specs.State.{State, Height, at, decode, edition, bookSize, holdsProposal, isNotarized}
 use Rattle.protocol.specs.View.{View, quorum, isFinalized, logAt}
 
 unfoldable pub view : State → View

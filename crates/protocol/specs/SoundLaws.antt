@@ -1,25 +1,25 @@
 -- What soundness says of a state, apart from bytes: a sound book says a sound state, and a sound state's bytes are a sound book.
 use Prim.Native.Nat.{ℕ, zero, suc, _+_, _-_, _*_, _^_, _≤_, _<_}
 use native.Mathlib.Omega.{arith}
-use mathlib.Core.Path.{_≡_, refl, sym, subst}
+use mathlib.Core.Path.{_≡_, sym, subst}
 use mathlib.Core.Logic.{_⊎_, inl, inr}
-use mathlib.Core.Bool.{Bool, true, false, _&&_, _||_, false≢true}
-use lib.ListN.{length, List·getD-eq-default}
+use mathlib.Core.Bool.{true, false, _&&_, _||_}
+use lib.ListN.{length}
 use lib.Dec.{eqb, leb, ltb}
 use borrow.Author.Tests.{eqb-true, eq-eqb, leb-true, le-leb, ltb-true, lt-ltb}
 use Rattle.protocol.specs.Bytes.{Bytes, byteAt, part, isZero}
 use Rattle.protocol.specs.Tests.{implies}
 use Rattle.protocol.specs.Block.{blockWellFormed}
 use Rattle.protocol.specs.Mask.{belowBit}
-use Rattle.protocol.specs.State.{State, Height, noHeight, at, last, decode, encode, bookSize, holdsProposal, isNotarized}
+use Rattle.protocol.specs.State.{State, Height, at, last, decode, encode, bookSize, holdsProposal, isNotarized}
 use Rattle.protocol.specs.View.{View, quorum, extendsOver, linkedWithin, linked, isFinalized}
 use Rattle.protocol.specs.Sound.{view, masksBelow, blocksWellFormed, contentZeros, sound}
 use Rattle.protocol.specs.EveryLaws.{none, one}
-use Rattle.protocol.specs.TestsLaws.{and-true, or-true, le-or-lt}
+use Rattle.protocol.specs.TestsLaws.{and-true, or-true, or-right}
 use Rattle.protocol.specs.RowLaws.{not-passed, row, all-of, true-and, every-height-at, every-height, implies-true, true-implies, in-range, range-in, zeros-is-zero}
 use Rattle.protocol.specs.StateLaws.{Shaped, decode-encode}
 use Rattle.protocol.specs.BytesLaws.{AreBytes, zero-part}
-use Rattle.protocol.specs.CodecLaws.{Exact, Clean, at-suc, last-decode, decode-shaped, clean-back}
+use Rattle.protocol.specs.CodecLaws.{Exact, Clean, last-decode, decode-shaped, clean-back, notarized-in}
 use Rattle.protocol.specs.PlaceLaws.{clean-encode}
 
 -- ---- facts about a state
@@ -49,15 +49,7 @@ pub record SoundState (digest : Bytes → Bytes) (s : State) : Type 0 where
   pub each : (h : ℕ) → 1 ≤ h → h ≤ last s → SoundHeight (view s) h (at s h)
   pub final : (s .finalized ≡ 0) ⊎ (isFinalized digest (view s) (s .finalized) ≡ true)
 
--- ---- heights past the last hold nothing
-pub notarized-in : (s : State) (i : ℕ) → isNotarized (at s (suc i)) ≡ true → i < last s
-unfolding isNotarized noHeight last
-notarized-in s i e = go (le-or-lt (length (s .heights)) i)
-  where
-    go : (length (s .heights) ≤ i) ⊎ (i < length (s .heights)) → i < length (s .heights)
-    go (inl l) = absurd (false≢true (rw (at-suc s i, List·getD-eq-default (s .heights) noHeight {n = i} l) at e))
-    go (inr l) = l
-
+-- ---- heights past the last are not linked
 module _ (digest : Bytes → Bytes) (s : State) where
   pub linked-in : (h : ℕ) → linked digest (view s) h ≡ true → h ≤ last s
   unfolding linked linkedWithin view
@@ -226,11 +218,7 @@ module _ (digest : Bytes → Bytes) where
     final-or : (D .finalized ≡ 0) ⊎ (isFinalized digest (view D) (D .finalized) ≡ true) →
         (eqb (D .finalized) 0 || isFinalized digest (view D) (D .finalized)) ≡ true
     final-or (inl z) = rw (eq-eqb (D .finalized) 0 z)
-    final-or (inr z) = rw z (or-last (eqb (D .finalized) 0))
-      where
-        or-last : (b : Bool) → (b || true) ≡ true
-        or-last true = refl
-        or-last false = refl
+    final-or (inr z) = or-right (eqb (D .finalized) 0) z
 
     pub sound-of : sound digest book ≡ true
     unfolding sound view

@@ -34,9 +34,6 @@ pub record State : Type 0 where
   pub heights : List Height
 
 -- ---- sizes
-abbrev pub headSize : ℕ
-headSize = 64
-
 abbrev pub poolSize : ℕ
 poolSize = 512
 

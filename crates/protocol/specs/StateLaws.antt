@@ -1,13 +1,13 @@
 -- A book of the right shape is read back from its bytes as it is.
-use Prim.Native.Nat.{ℕ, zero, suc, _+_, _*_, _/_, _%_}
+use Prim.Native.Nat.{ℕ, _+_, _*_, _/_, _%_}
 use native.Mathlib.Omega.{arith}
-use native.Mathlib.Nat.{mul-suc, add-comm}
 use mathlib.Core.Path.{_≡_, refl, sym, ap₂, subst, _∙_}
 use mathlib.Core.List.{List, [], _∷_, _++_, map, append-assoc, append-nil}
-use lib.ListN.{length, take, drop, set, length-append, length-map}
+use lib.ListN.{length, take, drop, length-append, length-map}
 use lib.Seq.{take-at, drop-at, take-all, drop-drop}
 use Rattle.protocol.specs.Bytes.{Bytes, word16, le16, part, zeros, join, pieces}
 use Rattle.protocol.specs.EveryLaws.{Every, none, one, every-map}
+use Rattle.protocol.specs.PiecesLaws.{Sized, length-join, pieces-join}
 use Rattle.protocol.specs.State.{State, Height, encode, decode, headBytes, contentBytes, bodyBytes, decodeHeight, decodeHeights}
 
 pub record ShapedHeight (x : Height) : Type 0 where
@@ -19,27 +19,8 @@ pub record Shaped (b : State) : Type 0 where
   pub pool-size : length (b .pool) ≡ 512
   pub heights : Every ShapedHeight (b .heights)
 
-abbrev pub Sized : ℕ → Bytes → Type 0
-Sized k b = length b ≡ k
-
--- pieces of a joined list
-pub pieces-join : (k : ℕ) (xs : List Bytes) (rest : Bytes) → Every (Sized k) xs → pieces k (length xs) (join xs ++ rest) ≡ xs
-unfolding pieces join
-pieces-join k [] rest e = refl
-pieces-join k (x ∷ xs) rest (one h hs) =
-    rw (append-assoc, take-at x (join xs ++ rest) k h, drop-at x (join xs ++ rest) k h, pieces-join k xs rest hs)
-
-pub length-join : (k : ℕ) (xs : List Bytes) → Every (Sized k) xs → length (join xs) ≡ k * length xs
-unfolding join
-length-join k [] e = omega arith
-length-join k (x ∷ xs) (one h hs) = let r = length-join k xs hs in rw (length-append, h, r, mul-suc, add-comm)
-
 pub word16-le16 : (x : ℕ) → x % 256 + 256 * (x / 256) ≡ x
 word16-le16 x = omega arith
-
-part-first : (a b c : Bytes) (k : ℕ) → length a ≡ k → part (a ++ (b ++ c)) 0 k ≡ a
-unfolding part
-part-first a b c k h = take-at a (b ++ c) k h
 
 decode-height : (x : Height) → ShapedHeight x → decodeHeight (contentBytes x) (bodyBytes x) ≡ x
 unfolding decodeHeight contentBytes bodyBytes part word16 le16
@@ -80,8 +61,9 @@ unfolding decodeHeights
 heights-zip none = refl
 heights-zip (one {x = x} h hs) = ap₂ _∷_ (decode-height x h) (heights-zip hs)
 
-pub contents-sized : {l : List Height} → Every ShapedHeight l → Every (Sized 16) (map contentBytes l)
-contents-sized hs = every-map contentBytes (λ x h. content-size x) hs
+pub contents-sized : (l : List Height) → Every (Sized 16) (map contentBytes l)
+contents-sized [] = none
+contents-sized (x ∷ xs) = one (content-size x) (contents-sized xs)
 
 pub bodies-sized : {l : List Height} → Every ShapedHeight l → Every (Sized 864) (map bodyBytes l)
 bodies-sized hs = every-map bodyBytes (λ x h. body-size x h) hs
@@ -104,12 +86,12 @@ module _ (s : State) (shaped : Shaped s) where
   bodies-from : drop (576 + 16 * length (s .heights)) (encode s) ≡ D
   bodies-from =
       sym (drop-drop (16 * length (s .heights)) 576 (encode s)) ∙ rw contents-from (drop-at C D (16 * length (s .heights))
-      (length-join 16 (map contentBytes (s .heights)) (contents-sized (shaped .heights)) ∙ rw length-map))
+      (length-join 16 (map contentBytes (s .heights)) (contents-sized (s .heights)) ∙ rw length-map))
 
   contents-back : pieces 16 (length (s .heights)) (C ++ D) ≡ map contentBytes (s .heights)
   contents-back =
       subst (λ (k : ℕ). pieces 16 k (C ++ D) ≡ map contentBytes (s .heights)) (length-map (s .heights) contentBytes)
-      (pieces-join 16 (map contentBytes (s .heights)) D (contents-sized (shaped .heights)))
+      (pieces-join 16 (map contentBytes (s .heights)) D (contents-sized (s .heights)))
 
   bodies-back : pieces 864 (length (s .heights)) D ≡ map bodyBytes (s .heights)
   bodies-back =

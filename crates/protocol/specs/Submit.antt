@@ -1,6 +1,6 @@
 -- Submit: one more pending entry, after those that the log holds are dropped.
-use Prim.Native.Nat.{ℕ, _-_, _*_}
-use mathlib.Core.Bool.{Bool, _||_, not}
+use Prim.Native.Nat.{_-_, _*_}
+use mathlib.Core.Bool.{_||_, not}
 use mathlib.Core.List.{List, [], _∷_, _++_}
 use lib.ListN.{length}
 use lib.Dec.{eqb, ltb}

@@ -2,52 +2,26 @@
 use Prim.Native.Nat.{ℕ, zero, suc, _/_, _%_, _^_, max, _<_}
 use native.Mathlib.Omega.{arith}
 use native.Mathlib.Nat.{mod-lt, mod-eq-of-lt}
-use mathlib.Core.Path.{_≡_, refl, sym, ap, _∙_}
-use mathlib.Core.Logic.{_⊎_}
+use mathlib.Core.Path.{_≡_, refl, sym, _∙_}
 use mathlib.Core.Bool.{Bool, true, false, _||_}
 use lib.Dec.{eqb}
 use lib.Bits.{bitOr, or-step, or-shr, or-lt}
-use Rattle.protocol.specs.Mask.{inMask, union, belowBit}
-use Rattle.protocol.specs.View.{View, quorum}
-use Rattle.protocol.specs.TestsLaws.{or-true}
-use Rattle.protocol.specs.OnesLaws.{quorum-mono}
-use Rattle.protocol.specs.MaskLaws.{Within, lt-below, inMask-maskOf, maskOf-bit, maskOf-below, maskOf-same, maskOf-bits}
+use Rattle.protocol.specs.Mask.{inMask, union}
+use Rattle.protocol.specs.MaskLaws.{Within, maskOf-bit, maskOf-below, maskOf-same, maskOf-bits}
 
 -- ---- bits
 pub union-bit : (n a b t : ℕ) → t < n → inMask (union n a b) t ≡ (inMask a t || inMask b t)
 unfolding union
 union-bit n a b t l = maskOf-bit (λ s. inMask a s || inMask b s) n t l
 
-pub inMask-union : (n a b t : ℕ) → inMask (union n a b) t ≡ true → (t < n) × ((inMask a t ≡ true) ⊎ (inMask b t ≡ true))
-unfolding union
-inMask-union n a b t e =
-    let both = inMask-maskOf (λ s. inMask a s || inMask b s) n t e in
-    (both .0, or-true (inMask a t) (inMask b t) (both .1))
-
 pub union-left : (n a b t : ℕ) → t < n → inMask a t ≡ true → inMask (union n a b) t ≡ true
 union-left n a b t l e = union-bit n a b t l ∙ rw e
-
-pub union-right : (n a b t : ℕ) → t < n → inMask b t ≡ true → inMask (union n a b) t ≡ true
-union-right n a b t l e = union-bit n a b t l ∙ either (inMask a t) e
-  where
-    either : (x : Bool) → inMask b t ≡ true → (x || inMask b t) ≡ true
-    either true e = refl
-    either false e = e
 
 pub union-lt : (n a b : ℕ) → union n a b < 2 ^ n
 unfolding union
 union-lt n a b = maskOf-below (λ s. inMask a s || inMask b s) n
 
-pub union-below : (n a b : ℕ) → belowBit n (union n a b) ≡ true
-union-below n a b = lt-below n (union n a b) (union-lt n a b)
-
-pub quorum-union : (v : View) (a b : ℕ) → quorum v a ≡ true → quorum v (union (v .n) a b) ≡ true
-quorum-union v a b q = quorum-mono v a (union (v .n) a b) (λ t l h. union-left (v .n) a b t l h) q
-
 -- ---- a union that adds nothing
-pub union-same : (n a b : ℕ) → union n a b ≡ a → Within n b a
-union-same n a b e t l h = sym (ap (λ (m : ℕ). inMask m t) e) ∙ union-right n a b t l h
-
 pub same-union : (n a b : ℕ) → a < 2 ^ n → Within n b a → union n a b ≡ a
 unfolding union
 same-union n a b h e =

@@ -4,9 +4,9 @@ use mathlib.Core.Bool.{Bool, true, _&&_, _||_, cond}
 use mathlib.Core.List.{List, [], _∷_, _++_}
 use mathlib.Core.Option.{Option, some, none}
 use lib.Dec.{eqb, leb, ltb}
-use Rattle.protocol.specs.Bytes.{Bytes, zeros, same, join}
+use Rattle.protocol.specs.Bytes.{Bytes, zeros, same}
 use Rattle.protocol.specs.Tests.{allOf}
-use Rattle.protocol.specs.Block.{digestSize, entrySize, parentHeight, parentDigest, allEntries}
+use Rattle.protocol.specs.Block.{digestSize, parentHeight, parentDigest, allEntries}
 use Rattle.protocol.specs.Mask.{ones}
 
 -- what the rules of this file read: the number of replicas, and for each height whether a block is notarized there,

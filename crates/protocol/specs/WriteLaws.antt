@@ -2,27 +2,14 @@
 use Prim.Native.Nat.{ℕ, suc, _+_, _*_, _≤_, _<_}
 use native.Mathlib.Omega.{arith}
 use native.Mathlib.Nat.{add-zero}
-use mathlib.Core.Path.{_≡_, refl, sym, ap, _∙_}
+use mathlib.Core.Path.{_≡_, refl, sym, _∙_}
 use mathlib.Core.List.{_++_, map}
 use lib.ListN.{length, set}
 use Rattle.protocol.specs.Bytes.{Bytes, le16, join}
-use Rattle.protocol.specs.State.{State, Height, at, last, withHead, withHeight, encode, headBytes, contentBytes, bodyBytes}
-use Rattle.protocol.specs.BytesLaws.{put, put-front, put-all, put-after, middle-put}
+use Rattle.protocol.specs.State.{State, Height, at, last, withHeight, encode, headBytes, contentBytes, bodyBytes}
+use Rattle.protocol.specs.BytesLaws.{put, put-front, put-after, middle-put}
 use Rattle.protocol.specs.StateLaws.{Shaped, ShapedHeight}
 use Rattle.protocol.specs.PlaceLaws.{head-size, content-set, content-put, body-put}
-
--- ---- the head: each byte by itself
-pub write-flags : (s : State) (v : ℕ) → set (encode s) 3 v ≡ encode (withHead s v (s .current) (s .finalized))
-unfolding encode headBytes withHead
-write-flags s v = refl
-
-pub write-current : (s : State) (v : ℕ) → set (encode s) 4 v ≡ encode (withHead s (s .flags) v (s .finalized))
-unfolding encode headBytes withHead
-write-current s v = refl
-
-pub write-finalized : (s : State) (v : ℕ) → set (encode s) 5 v ≡ encode (withHead s (s .flags) (s .current) v)
-unfolding encode headBytes withHead
-write-finalized s v = refl
 
 -- ---- the pool
 unfoldable pub withPool : State → ℕ → Bytes → State
@@ -46,11 +33,6 @@ pub write-pool : (s : State) → length (s .pool) ≡ 512 → (j : ℕ) (new : B
 unfolding encode headBytes withPool
 write-pool s size j new h =
     middle-put (headBytes s) (s .pool) (join (map contentBytes (s .heights)) ++ join (map bodyBytes (s .heights))) 64 (head-size s) j new (rw size h)
-
-pub write-whole-pool : (s : State) → length (s .pool) ≡ 512 → (new : Bytes) → length new ≡ 512 →
-    put (encode s) 64 new ≡ encode (withPool s (s .pendingCount) new)
-write-whole-pool s size new e =
-    write-pool s size 0 new (rw e (omega arith)) ∙ ap (λ (pool : Bytes). encode (withPool s (s .pendingCount) pool)) (put-all (s .pool) new (size ∙ sym e))
 
 -- ---- one field of a height
 unfoldable pub withLeader : Height → ℕ → Height

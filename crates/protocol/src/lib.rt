@@ -1,0 +1,1 @@
+// The rules of document 01 and their laws: no code, all in specs/.

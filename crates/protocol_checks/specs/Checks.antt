@@ -1,5 +1,5 @@
 -- The definitions on document 01's own numbers: its refusals, damaged books, the rehearsal, and heights that finalize.
-use Prim.Native.Nat.{ℕ, zero, suc, _+_}
+use Prim.Native.Nat.{ℕ, zero, suc}
 use mathlib.Core.Path.{_≡_, refl}
 use mathlib.Core.Bool.{Bool, true, _&&_, not}
 use mathlib.Core.List.{List, [], _∷_, _++_}
@@ -9,7 +9,7 @@ use Rattle.protocol.specs.Tests.{allOf}
 use Rattle.protocol.specs.Block.{newBlock}
 use Rattle.protocol.specs.Frame.{frameOf, proposal, blockVote, dummyVote, finalize, blockCertificate, dummyCertificate, finalizeCertificate}
 use Rattle.protocol.specs.Sound.{sound}
-use Rattle.protocol_checks.specs.CheckCalls.{standIn, Call, opening, delivery, moving, signalling, submitting, sizing, fetching, after, answers, refuses, splice, tools}
+use Rattle.protocol_checks.specs.CheckCalls.{standIn, opening, delivery, moving, signalling, submitting, sizing, fetching, after, answers, refuses, splice, tools}
 
 -- ---- books, blocks and calls of the checks
 -- an entry of one repeated byte

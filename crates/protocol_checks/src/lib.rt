@@ -1,0 +1,1 @@
+// Checks of the rules on numbers: no code, all in specs/.

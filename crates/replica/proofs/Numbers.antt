@@ -3,7 +3,7 @@ use Prim.Native.Nat.{ℕ, _+_, _*_, _%_, _≤_, _<_}
 use native.Mathlib.Omega.{arith}
 use native.Mathlib.Nat.{div-one}
 use mathlib.Core.Path.{_≡_, refl, sym, _∙_}
-use mathlib.Core.Bool.{Bool, true, false, _&&_, _||_, not, true≢false}
+use mathlib.Core.Bool.{Bool, true, false, _&&_, _||_, not, true≢false, and-true}
 use lib.ListN.{length, getD}
 use lib.Dec.{eqb, leb, ltb}
 use borrow.Author.Tests.{lt-ltb, le-ltb, ltb-true, eqb-true, eq-eqb, ne-eqb}
@@ -37,14 +37,10 @@ module _ (n : ℕ) (leaders : Bytes) where
   not-below i inside high = sym (not-passed (all (λ leader. ltb leader n) leaders)
       (λ e. true≢false (sym (all-at (λ leader. ltb leader n) leaders i e inside) ∙ le-ltb (getD leaders i 0) n high)))
 
-and-end : (a : Bool) → (a && true) ≡ a
-and-end true = refl
-and-end false = refl
-
 pub open-fits : (n own heights : ℕ) (leaders : Bytes) (led : Bool) → led ≡ all (λ leader. ltb leader n) leaders →
     ((leb 1 n && leb n 16) && (ltb own n && ((leb 1 heights && leb heights 63) && (eqb (length leaders) heights && led)))) ≡ openInRange n own heights leaders
 unfolding openInRange allOf inRange
-open-fits n own heights leaders led e = rw (e, and-end (all (λ leader. ltb leader n) leaders))
+open-fits n own heights leaders led e = rw (e, and-true (all (λ leader. ltb leader n) leaders))
 
 -- what the ranges grant
 pub record Fitting (n own heights : ℕ) (leaders : Bytes) : Type 0 where

@@ -4,26 +4,26 @@ use native.Mathlib.Omega.{arith}
 use native.Mathlib.Nat.{add-suc}
 use mathlib.Core.Path.{_≡_, refl, sym, ap, ap₂, subst, _∙_}
 use mathlib.Core.Logic.{_⊎_, inl, inr, _↔_}
-use mathlib.Core.Bool.{true, false, false≢true}
-use mathlib.Core.List.{List, [], _++_}
-use mathlib.Core.Option.{some, none}
+use mathlib.Core.Bool.{true, false≢true}
+use mathlib.Core.List.{List, _++_}
 use lib.ListN.{length, List·getD-eq-default}
 use borrow.Author.Tests.{eqb-true}
 use Rattle.protocol.specs.Bytes.{Bytes}
 use Rattle.protocol.specs.Block.{parentHeight, parentDigest, entries, blockWellFormed}
 use Rattle.protocol.specs.RowLaws.{row}
 use Rattle.protocol.specs.State.{State, last, at, isNotarized, noHeight}
-use Rattle.protocol.specs.View.{View, linked, isDummy, extends, isFinalized, parentOf, digestAt, logAt, quorum}
+use Rattle.protocol.specs.View.{View, linked, isDummy, extends, isFinalized, parentOf, digestAt, logAt}
 use Rattle.protocol.specs.Sound.{view, log}
 use Rattle.protocol.specs.SoundLaws.{SoundState}
 use Rattle.protocol.specs.Move.{isSome}
 use Rattle.protocol.specs.TestsLaws.{le-or-lt}
-use Rattle.protocol.specs.Linked.{Linked, start, link, OnParent, Extends, Finalized, ChainOf}
+use Rattle.protocol.specs.Linked.{Linked, start, link, OnParent, ChainOf}
 use Rattle.protocol.specs.LinkedLaws.{linked-sound, linked-complete, extends-sound, extends-complete, finalized-sound, finalized-complete}
-use Rattle.protocol.specs.ChainLaws.{log-zero, log-suc}
-use Rattle.protocol.specs.ParentLaws.{parent-some, parent-isSome, isSome-parent}
+use Rattle.protocol.specs.ChainLaws.{log-suc}
+use Rattle.protocol.specs.ViewLaws.{log-zero}
+use Rattle.protocol.specs.ParentLaws.{parent-some, parent-isSome, isSome-parent, chain-here, chain-dummy}
 use Rattle.simplex.specs.Paper as Paper
-use Rattle.simplex.specs.Paper.{Sequence, genesis, addDummy, addBlock, height, linearize, lastBlock, lastDigest, Follows, NotarizedBlock, NotarizedBlockchain, FinalizedBlockchain, Finalization, SeenOfHeight, SeenWithBlock}
+use Rattle.simplex.specs.Paper.{Sequence, genesis, addDummy, addBlock, height, linearize, lastBlock, lastDigest, Follows, NotarizedBlock, NotarizedBlockchain, Finalization, SeenOfHeight, SeenWithBlock}
 use Rattle.simplex.specs.Blockchains.{Proper, ChainEndingAt, ParentOf, LinkedIsSeen, ParentIsSeen, ParentIsLargest, ExtendsIsFollowing, FinalizedIsSeen, LogIsLinearized, InThePapersTerms}
 
 module _ (digest : Bytes → Bytes) (v : View) where
@@ -98,17 +98,7 @@ module _ (digest : Bytes → Bytes) (v : View) where
 
   trace-dummy : (c : Sequence) → Traced c → isDummy v (suc (height c)) ≡ true → Traced (addDummy c)
   unfolding height lastBlock lastDigest linearize
-  trace-dummy c t e =
-      let low = t .chain .within in
-      record {
-        chain = record { within = omega arith; isLinked = t .chain .isLinked; dummies = λ k a b. pick k a b (le-or-lt k (height c)) };
-        its-digest = t .its-digest;
-        its-log = t .its-log;
-      }
-    where
-      pick : (k : ℕ) → lastBlock c < k → k ≤ suc (height c) → (k ≤ height c) ⊎ (height c < k) → isDummy v k ≡ true
-      pick k a b (inl q) = t .chain .dummies k a q
-      pick k a b (inr q) = let same : k ≡ suc (height c) = omega arith in rw same e
+  trace-dummy c t e = record { chain = chain-dummy digest v e (t .chain); its-digest = t .its-digest; its-log = t .its-log }
 
   trace-block : (c : Sequence) (b : Bytes) → Traced c → Follows digest c b → NotarizedBlock v (suc (height c)) b → Traced (addBlock c b)
   unfolding height lastBlock lastDigest linearize digestAt
@@ -122,7 +112,7 @@ module _ (digest : Bytes → Bytes) (v : View) where
       } in
       let l : Linked digest v (suc (height c)) = link (q .seen) (t .chain .isLinked) on in
       record {
-        chain = record { within = omega arith; isLinked = l; dummies = λ k a e. absurd (omega arith) };
+        chain = chain-here digest v l;
         its-digest = ap digest (sym (q .same));
         its-log = ap₂ (λ (x : List Bytes) (y : Bytes). x ++ entries y) (t .its-log ∙ ap (λ (k : ℕ). logAt v k) (sym (on .height))) (sym (q .same)) ∙ sym (log-suc digest v (height c) (linked-complete digest v l));
       }
@@ -130,7 +120,7 @@ module _ (digest : Bytes → Bytes) (v : View) where
   pub traced : {c : Sequence} → NotarizedBlockchain digest v c → Traced c
   unfolding height lastBlock lastDigest linearize digestAt isDummy
   traced Paper.NotarizedBlockchain.start =
-      record { chain = record { within = omega arith; isLinked = start; dummies = λ k a e. absurd (omega arith) }; its-digest = refl; its-log = sym (log-zero v) }
+      record { chain = chain-here digest v start; its-digest = refl; its-log = sym (log-zero v) }
   traced (Paper.NotarizedBlockchain.dummyNext {c = c} n e) = trace-dummy c (traced n) e
   traced (Paper.NotarizedBlockchain.blockNext {c = c} {b = b} n f q) = trace-block c b (traced n) f q
 

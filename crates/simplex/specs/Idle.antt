@@ -4,8 +4,8 @@ use mathlib.Core.Path.{_≡_}
 use mathlib.Core.Bool.{false}
 use Rattle.protocol.specs.Bytes.{Bytes}
 use Rattle.protocol.specs.State.{State, last}
-use Rattle.protocol.specs.Answer.{Move, idle}
-use Rattle.protocol.specs.Move.{Step, step, dummyVoteApplies, outputApplies, passApplies, proposeApplies, blockVoteApplies}
+use Rattle.protocol.specs.Answer.{idle}
+use Rattle.protocol.specs.Move.{step, dummyVoteApplies, outputApplies, passApplies, proposeApplies, blockVoteApplies}
 
 module _ (digest : Bytes → Bytes) where
   -- none of the five moves applies

@@ -1,20 +1,21 @@
 -- Proofs of `Idle`: each move lowers a number that is at most H + 4 − c.
-use Prim.Native.Nat.{ℕ, zero, suc, _+_, _-_, _*_, _≤_, _<_}
+use Prim.Native.Nat.{ℕ, zero, suc, _+_, _-_, _≤_, _<_}
 use native.Mathlib.Omega.{arith}
-use mathlib.Core.Path.{_≡_, refl, sym, ap, subst, _∙_}
+use mathlib.Core.Path.{_≡_, refl, ap, _∙_}
 use mathlib.Core.Logic.{_⊎_, inl, inr}
-use mathlib.Core.Bool.{Bool, true, false, _&&_, _||_, not}
+use mathlib.Core.Bool.{Bool, true, false, _&&_, _||_, not, and-false}
 use mathlib.Core.List.{List, [], _∷_}
-use lib.Dec.{eqb, leb, ltb}
+use lib.Dec.{eqb, leb}
 use borrow.Author.Tests.{not-true, leb-true, lt-leb}
 use Rattle.protocol.specs.Bytes.{Bytes}
 use Rattle.protocol.specs.Tests.{allOf}
 use Rattle.protocol.specs.TestsLaws.{and-true}
-use Rattle.protocol.specs.FlagLaws.{dummy-flagged, block-flagged, proposal-flagged}
+use Rattle.protocol.specs.FlagLaws.{flag-set, flag-kept}
+use Rattle.protocol.specs.MoveLaws.{step-cases}
 use Rattle.protocol.specs.RowLaws.{row}
 use Rattle.protocol.specs.State.{State, last, at, flag, withHead, holdsProposal}
 use Rattle.protocol.specs.Sound.{view}
-use Rattle.protocol.specs.Answer.{Move, idle}
+use Rattle.protocol.specs.Answer.{idle, moveNumber}
 use Rattle.protocol.specs.Move.{Step, step, firstStep, isRunning, idleStep, dummyVoteApplies, dummyVoteStep, outputApplies, outputStep, passApplies, passStep, proposeApplies, proposeStep, blockVoteApplies, blockVoteStep, newFinalized, parentBelow, isSome}
 use Rattle.protocol.specs.View.{extends, linked, isDummy}
 use Rattle.simplex.specs.Idle.{NoMove, IdleMeansNoMove, afterMoves, IdleWithin, MovesEnd}
@@ -25,19 +26,14 @@ module _ (digest : Bytes → Bytes) where
   no-move-idle s q = rw (q .no-dummy-vote, q .no-output, q .no-pass, q .no-proposal, q .no-block-vote)
 
   idle-no-move : (s : State) → step digest s .move ≡ idle → NoMove digest s
-  unfolding step firstStep dummyVoteStep outputStep passStep proposeStep blockVoteStep
-  idle-no-move s = go (dummyVoteApplies s) refl (outputApplies digest s) refl (passApplies digest s) refl (proposeApplies digest s) refl (blockVoteApplies digest s) refl
-    where
-      go : (a : Bool) → dummyVoteApplies s ≡ a → (b : Bool) → outputApplies digest s ≡ b → (c : Bool) → passApplies digest s ≡ c →
-          (d : Bool) → proposeApplies digest s ≡ d → (e : Bool) → blockVoteApplies digest s ≡ e →
-          firstStep ((a, dummyVoteStep s) ∷ (b, outputStep digest s) ∷ (c, passStep digest s) ∷ (d, proposeStep digest s) ∷ (e, blockVoteStep digest s) ∷ []) (idleStep s) .move ≡ idle → NoMove digest s
-      go true ea b eb c ec d ed e ee q = let z : _≡_ {A = ℕ} 0 1 = cc in absurd (omega arith)
-      go false ea true eb c ec d ed e ee q = let z : _≡_ {A = ℕ} 0 1 = cc in absurd (omega arith)
-      go false ea false eb true ec d ed e ee q = let z : _≡_ {A = ℕ} 0 1 = cc in absurd (omega arith)
-      go false ea false eb false ec true ed e ee q = let z : _≡_ {A = ℕ} 0 1 = cc in absurd (omega arith)
-      go false ea false eb false ec false ed true ee q = let z : _≡_ {A = ℕ} 0 1 = cc in absurd (omega arith)
-      go false ea false eb false ec false ed false ee q =
-          record { no-dummy-vote = ea; no-output = eb; no-pass = ec; no-proposal = ed; no-block-vote = ee }
+  unfolding dummyVoteStep outputStep passStep proposeStep blockVoteStep moveNumber
+  idle-no-move s = step-cases digest s (λ (st : Step). st .move ≡ idle → NoMove digest s)
+      (λ _ q. absurd (omega (arith, ap moveNumber q)))
+      (λ _ _ q. absurd (omega (arith, ap moveNumber q)))
+      (λ _ _ _ q. absurd (omega (arith, ap moveNumber q)))
+      (λ _ _ _ _ q. absurd (omega (arith, ap moveNumber q)))
+      (λ _ _ _ _ _ q. absurd (omega (arith, ap moveNumber q)))
+      (λ a b c d e q. record { no-dummy-vote = a; no-output = b; no-pass = c; no-proposal = d; no-block-vote = e })
 
   pub idle-means-no-move : (s : State) → IdleMeansNoMove digest s
   unfolding IdleMeansNoMove
@@ -64,10 +60,6 @@ weight true d o p q r left = bit o + (bit d + atHeight p left (bit q + bit r))
 weight false d o p q r left = bit o
 
 -- ---- rows
-and-false : (a : Bool) → (a && false) ≡ false
-and-false true = refl
-and-false false = refl
-
 and-and-false : (a b : Bool) → (a && (b && false)) ≡ false
 and-and-false true b = and-false b
 and-and-false false b = refl
@@ -169,11 +161,12 @@ module _ (digest : Bytes → Bytes) where
   lower-dummy s e =
       let rows : List Bool = isRunning s ∷ flag 1 s ∷ not (flag 2 s) ∷ [] in
       let all : allOf rows ≡ true = unfold dummyVoteApplies in e in
-      let k = dummy-flagged s (s .current) (s .finalized) (not-true (flag 2 s) (row rows 2 all)) in
+      let clear = not-true (flag 2 s) (row rows 2 all) in
+      let kept = flag-kept s (s .current) (s .finalized) 1 clear in
       let f = s .flags + 2 in
       rw (
         measure-is s (row rows 0 all) e refl refl refl refl,
-        measure-is (flagged s f) (running-same s f ∙ row rows 0 all) (dummy-after s f (k .two)) (output-same s f) (pass-same s f) (propose-same s f (k .eight)) (vote-same s f (k .four)),
+        measure-is (flagged s f) (running-same s f ∙ row rows 0 all) (dummy-after s f (flag-set s (s .current) (s .finalized) 1 clear)) (output-same s f) (pass-same s f) (propose-same s f (kept 3 (omega arith))) (vote-same s f (kept 2 (omega arith))),
         left-same s f,
       )
       (less-dummy (outputApplies digest s) (passApplies digest s) (proposeApplies digest s) (blockVoteApplies digest s) (last s - s .current))
@@ -238,11 +231,12 @@ module _ (digest : Bytes → Bytes) where
   lower-propose s e1 e2 e3 e4 =
       let rows : List Bool = isRunning s ∷ eqb (at s (s .current) .leader) (s .own) ∷ not (flag 8 s) ∷ isSome (parentBelow digest s) ∷ [] in
       let all : allOf rows ≡ true = unfold proposeApplies in e4 in
-      let k = proposal-flagged s (s .current) (s .finalized) (not-true (flag 8 s) (row rows 2 all)) in
+      let clear = not-true (flag 8 s) (row rows 2 all) in
+      let kept = flag-kept s (s .current) (s .finalized) 3 clear in
       let f = s .flags + 8 in
       rw (
         measure-is s (row rows 0 all) e1 e2 e3 e4 refl,
-        measure-is (flagged s f) (running-same s f ∙ row rows 0 all) (dummy-same s f (k .one) (k .two) ∙ e1) (output-same s f ∙ e2) (pass-same s f ∙ e3) (propose-after s f (k .eight)) (vote-same s f (k .four)),
+        measure-is (flagged s f) (running-same s f ∙ row rows 0 all) (dummy-same s f (kept 0 (omega arith)) (kept 1 (omega arith)) ∙ e1) (output-same s f ∙ e2) (pass-same s f ∙ e3) (propose-after s f (flag-set s (s .current) (s .finalized) 3 clear)) (vote-same s f (kept 2 (omega arith))),
         left-same s f,
       )
       (less-propose (blockVoteApplies digest s) (last s - s .current))
@@ -253,29 +247,24 @@ module _ (digest : Bytes → Bytes) where
   lower-vote s e1 e2 e3 e4 e5 =
       let rows : List Bool = isRunning s ∷ not (flag 4 s) ∷ holdsProposal (at s (s .current)) ∷ extends digest (view s) (s .current) (at s (s .current) .proposal) ∷ [] in
       let all : allOf rows ≡ true = unfold blockVoteApplies in e5 in
-      let k = block-flagged s (s .current) (s .finalized) (not-true (flag 4 s) (row rows 1 all)) in
+      let clear = not-true (flag 4 s) (row rows 1 all) in
+      let kept = flag-kept s (s .current) (s .finalized) 2 clear in
       let f = s .flags + 4 in
       rw (
         measure-is s (row rows 0 all) e1 e2 e3 e4 e5,
-        measure-is (flagged s f) (running-same s f ∙ row rows 0 all) (dummy-same s f (k .one) (k .two) ∙ e1) (output-same s f ∙ e2) (pass-same s f ∙ e3) (propose-same s f (k .eight) ∙ e4) (vote-after s f (k .four)),
+        measure-is (flagged s f) (running-same s f ∙ row rows 0 all) (dummy-same s f (kept 0 (omega arith)) (kept 1 (omega arith)) ∙ e1) (output-same s f ∙ e2) (pass-same s f ∙ e3) (propose-same s f (kept 3 (omega arith)) ∙ e4) (vote-after s f (flag-set s (s .current) (s .finalized) 2 clear)),
         left-same s f,
       )
       (less-vote (last s - s .current))
 
   lowers : (s : State) → NoMove digest s ⊎ (measure (step digest s .after) < measure s)
-  unfolding step firstStep
-  lowers s = go (dummyVoteApplies s) refl (outputApplies digest s) refl (passApplies digest s) refl (proposeApplies digest s) refl (blockVoteApplies digest s) refl
-    where
-      go : (a : Bool) → dummyVoteApplies s ≡ a → (b : Bool) → outputApplies digest s ≡ b → (c : Bool) → passApplies digest s ≡ c →
-          (d : Bool) → proposeApplies digest s ≡ d → (e : Bool) → blockVoteApplies digest s ≡ e →
-          NoMove digest s ⊎ (measure (firstStep ((a, dummyVoteStep s) ∷ (b, outputStep digest s) ∷ (c, passStep digest s) ∷ (d, proposeStep digest s) ∷ (e, blockVoteStep digest s) ∷ []) (idleStep s) .after) < measure s)
-      go true ea b eb c ec d ed e ee = inr (lower-dummy s ea)
-      go false ea true eb c ec d ed e ee = inr (lower-output s ea eb)
-      go false ea false eb true ec d ed e ee = inr (lower-pass s ea eb ec)
-      go false ea false eb false ec true ed e ee = inr (lower-propose s ea eb ec ed)
-      go false ea false eb false ec false ed true ee = inr (lower-vote s ea eb ec ed ee)
-      go false ea false eb false ec false ed false ee =
-          inl (record { no-dummy-vote = ea; no-output = eb; no-pass = ec; no-proposal = ed; no-block-vote = ee })
+  lowers s = step-cases digest s (λ (st : Step). NoMove digest s ⊎ (measure (st .after) < measure s))
+      (λ a. inr (lower-dummy s a))
+      (λ a b. inr (lower-output s a b))
+      (λ a b c. inr (lower-pass s a b c))
+      (λ a b c d. inr (lower-propose s a b c d))
+      (λ a b c d e. inr (lower-vote s a b c d e))
+      (λ a b c d e. inl (record { no-dummy-vote = a; no-output = b; no-pass = c; no-proposal = d; no-block-vote = e }))
 
   ends : (most : ℕ) (s : State) → measure s ≤ most → IdleWithin digest most s
   unfolding IdleWithin afterMoves

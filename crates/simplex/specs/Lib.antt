@@ -1,3 +1,4 @@
+-- The paper's blockchains and five steps, and that nothing idles.
 pub mod Paper
 pub mod Idle
 pub mod IdleLaws

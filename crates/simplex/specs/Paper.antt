@@ -1,9 +1,8 @@
 -- Section 2 of the paper (Chan and Pass, Simplex Consensus), in its words and order: blocks, dummy blocks, blockchains,
 -- notarized and finalized blockchains in a view, and linearize. Document 01's pair (parent height, parent digest)
 -- stands for the hash of the parent blockchain.
-use Prim.Native.Nat.{ℕ, zero, suc, _≤_, _<_}
+use Prim.Native.Nat.{ℕ, suc}
 use mathlib.Core.Path.{_≡_}
-use mathlib.Core.Logic.{_⊎_}
 use mathlib.Core.Bool.{true}
 use mathlib.Core.List.{List, [], _++_}
 use Rattle.protocol.specs.Bytes.{Bytes, zeros}

@@ -2,7 +2,7 @@
 -- Document 01 tries the moves in its own order, so a step is stated for states in which no earlier move applies.
 use Prim.Native.Nat.{ℕ, suc, _+_, _-_, _≤_, _<_}
 use mathlib.Core.Path.{_≡_}
-use mathlib.Core.Logic.{_⊎_, _↔_}
+use mathlib.Core.Logic.{_↔_}
 use mathlib.Core.Bool.{Bool, true, false, not, cond}
 use mathlib.Core.List.{List, [], _∷_}
 use lib.ListN.{take}
@@ -12,7 +12,7 @@ use Rattle.protocol.specs.Frame.{proposal, blockVote, dummyVote, finalize, bloc
 use Rattle.protocol.specs.State.{State, at, last, flag, withHead, holdsProposal, pending}
 use Rattle.protocol.specs.Sound.{view}
 use Rattle.protocol.specs.Answer.{Move, voteDummy, output, pass, propose, voteBlock, Certificate, onBlock, onDummy}
-use Rattle.protocol.specs.Move.{Step, step, without, dummyVoteApplies, outputApplies, passApplies, proposeApplies}
+use Rattle.protocol.specs.Move.{step, without, dummyVoteApplies, outputApplies, passApplies, proposeApplies}
 use Rattle.simplex.specs.Paper.{Sequence, height, linearize, lastBlock, Follows, NotarizedBlockchain, Finalization, SeenOfHeight, SeenWithBlock}
 use Rattle.simplex.specs.Blockchains.{ParentOf}
 

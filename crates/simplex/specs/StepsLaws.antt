@@ -1,60 +1,53 @@
 -- Proofs of `Steps`: each move is taken just where its test passes and no earlier one does, and its test is the paper's condition.
-use Prim.Native.Nat.{ℕ, zero, suc, _+_, _-_, _≤_, _<_}
+use Prim.Native.Nat.{ℕ, suc, _+_, _-_, _≤_, _<_}
 use native.Mathlib.Omega.{arith}
 use mathlib.Core.Path.{_≡_, refl, sym, ap, subst, _∙_}
 use mathlib.Core.Logic.{_⊎_, inl, inr, _↔_}
-use mathlib.Core.Bool.{Bool, true, false, _&&_, _||_, not, cond, true≢false, false≢true}
+use mathlib.Core.Bool.{Bool, true, false, _&&_, _||_, not, cond, false≢true}
 use mathlib.Core.List.{List, [], _∷_}
 use mathlib.Core.Option.{Option, some, none}
 use lib.ListN.{length, take}
-use lib.Dec.{eqb, leb, ltb}
-use borrow.Author.Tests.{eqb-true, eq-eqb, leb-true, le-leb, ltb-true, lt-ltb, not-true, not-false}
-use Rattle.protocol.specs.Bytes.{Bytes, isZero}
+use borrow.Author.Tests.{eqb-true, eq-eqb, leb-true, le-leb, ltb-true, lt-ltb, not-true}
+use Rattle.protocol.specs.Bytes.{Bytes}
 use Rattle.protocol.specs.Block.{blockHeight, parentHeight, newBlock, blockWellFormed}
 use Rattle.protocol.specs.Frame.{finalize}
-use Rattle.protocol.specs.TestsLaws.{and-true, or-true}
-use Rattle.protocol.specs.RowLaws.{row, all-of, true-and, zeros-is-zero}
-use Rattle.protocol.specs.StateLaws.{Sized}
-use Rattle.protocol.specs.BlockLaws.{zeros-size, digest-back, entries-back, new-block-good}
+use Rattle.protocol.specs.TestsLaws.{and-true, or-true, or-right}
+use Rattle.protocol.specs.RowLaws.{row, all-of, true-and}
+use Rattle.protocol.specs.PiecesLaws.{Sized}
+use Rattle.protocol.specs.BlockLaws.{digest-back, entries-back, new-block-good}
+use Rattle.protocol.specs.MoveLaws.{step-cases}
+use Rattle.protocol.specs.ViewLaws.{digest-at-size, digest-at-start}
 use Rattle.protocol.specs.PendingLaws.{offered-sized, offered-few}
 use Rattle.protocol.specs.EveryLaws.{Every}
 use Rattle.protocol.specs.State.{State, at, last, flag, withHead, holdsProposal, pending}
-use Rattle.protocol.specs.View.{quorum, logAt, digestAt, linked, isDummy, extends, isFinalized, largestFinalized, parentOf}
+use Rattle.protocol.specs.View.{quorum, digestAt, linked, isDummy, extends, isFinalized, parentOf}
 use Rattle.protocol.specs.Linked.{Finalized, Largest}
 use Rattle.protocol.specs.LinkedLaws.{finalized-sound, finalized-complete}
 use Rattle.protocol.specs.ParentLaws.{parent-some, largestFinalized-is}
 use Rattle.protocol.specs.Sound.{view}
 use Rattle.protocol.specs.SoundLaws.{SoundState}
-use Rattle.protocol.specs.Answer.{Move, idle, voteDummy, output, pass, propose, voteBlock, Certificate, onBlock, onDummy}
+use Rattle.protocol.specs.Answer.{Move, idle, voteDummy, output, pass, propose, voteBlock, onBlock, onDummy}
 use Rattle.protocol.specs.Move.{Step, step, firstStep, without, offered, proposedBlock, someOr, isRunning, isSome, idleStep, dummyVoteApplies, dummyVoteStep, outputApplies, outputStep, passApplies, passStep, proposeApplies, proposeStep, blockVoteApplies, blockVoteStep, newFinalized, parentBelow, passCertificate}
-use Rattle.simplex.specs.Paper.{lastBlock, linearize, Sequence, genesis, addDummy, addBlock, height, NotarizedBlockchain, SeenOfHeight, SeenWithBlock, Finalization}
+use Rattle.simplex.specs.Paper.{lastBlock, linearize, Sequence, addDummy, addBlock, height, NotarizedBlockchain, SeenOfHeight, SeenWithBlock, Finalization}
 use Rattle.simplex.specs.Blockchains.{ChainEndingAt, ParentOf, InThePapersTerms, LinkedIsSeen, ParentIsSeen, ParentIsLargest, FinalizedIsSeen, ExtendsIsFollowing}
 use Rattle.simplex.specs.BlockchainsLaws.{in-the-papers-terms}
 use Rattle.simplex.specs.Steps.{FiveSteps, Running, Makes, Offers, LeaderProposal, DummyBlocks, Sent, NextIteration, NotarizingProposals, FinalizedOutputs}
 
 module _ (digest : Bytes → Bytes) (s : State) where
-  -- which row was taken
-  data Taken : Type 0 where
-    by-dummy-vote : dummyVoteApplies s ≡ true → step digest s ≡ dummyVoteStep s → Taken
-    by-output : dummyVoteApplies s ≡ false → outputApplies digest s ≡ true → step digest s ≡ outputStep digest s → Taken
-    by-pass : dummyVoteApplies s ≡ false → outputApplies digest s ≡ false → passApplies digest s ≡ true → step digest s ≡ passStep digest s → Taken
-    by-proposal : dummyVoteApplies s ≡ false → outputApplies digest s ≡ false → passApplies digest s ≡ false → proposeApplies digest s ≡ true → step digest s ≡ proposeStep digest s → Taken
-    by-block-vote : dummyVoteApplies s ≡ false → outputApplies digest s ≡ false → passApplies digest s ≡ false → proposeApplies digest s ≡ false → blockVoteApplies digest s ≡ true →
-        step digest s ≡ blockVoteStep digest s → Taken
-    by-none : step digest s ≡ idleStep s → Taken
+  -- what an answer says of the row that was taken
+  Taken : Move → Type 0
+  Taken idle = Unit {0}
+  Taken (voteDummy h) = (dummyVoteApplies s ≡ true) × (step digest s ≡ dummyVoteStep s)
+  Taken (output g) = (outputApplies digest s ≡ true) × (step digest s ≡ outputStep digest s)
+  Taken (pass h certificate finalized) = (passApplies digest s ≡ true) × (step digest s ≡ passStep digest s)
+  Taken (propose h) = (proposeApplies digest s ≡ true) × (step digest s ≡ proposeStep digest s)
+  Taken (voteBlock h) = (blockVoteApplies digest s ≡ true) × (step digest s ≡ blockVoteStep digest s)
 
-  taken : Taken
-  unfolding step firstStep
-  taken = go (dummyVoteApplies s) refl (outputApplies digest s) refl (passApplies digest s) refl (proposeApplies digest s) refl (blockVoteApplies digest s) refl
-    where
-      go : (a : Bool) → dummyVoteApplies s ≡ a → (b : Bool) → outputApplies digest s ≡ b → (c : Bool) → passApplies digest s ≡ c →
-          (d : Bool) → proposeApplies digest s ≡ d → (e : Bool) → blockVoteApplies digest s ≡ e → Taken
-      go true ea b eb c ec d ed e ee = by-dummy-vote ea (rw ea)
-      go false ea true eb c ec d ed e ee = by-output ea eb (rw (ea, eb))
-      go false ea false eb true ec d ed e ee = by-pass ea eb ec (rw (ea, eb, ec))
-      go false ea false eb false ec true ed e ee = by-proposal ea eb ec ed (rw (ea, eb, ec, ed))
-      go false ea false eb false ec false ed true ee = by-block-vote ea eb ec ed ee (rw (ea, eb, ec, ed, ee))
-      go false ea false eb false ec false ed false ee = by-none (rw (ea, eb, ec, ed, ee))
+  taken : (move : Move) → step digest s .move ≡ move → Taken move
+  unfolding Taken dummyVoteStep outputStep passStep proposeStep blockVoteStep idleStep
+  taken move e = subst Taken e
+      (step-cases digest s (λ (st : Step). step digest s ≡ st → Taken (st .move))
+      (λ a q. (a, q)) (λ _ b q. (b, q)) (λ _ _ c q. (c, q)) (λ _ _ _ d q. (d, q)) (λ _ _ _ _ e q. (e, q)) (λ _ _ _ _ _ q. tt) refl)
 
   -- the answer that each row gives
   dummy-move : step digest s ≡ dummyVoteStep s → step digest s .move ≡ voteDummy (s .current)
@@ -77,12 +70,8 @@ module _ (digest : Bytes → Bytes) (s : State) where
   unfolding blockVoteStep
   block-move e = ap (λ (st : Step). st .move) e
 
-  idle-move : step digest s ≡ idleStep s → step digest s .move ≡ idle
-  unfolding idleStep
-  idle-move e = ap (λ (st : Step). st .move) e
-
-  clash : {a b : Move} {A : Type 0} → (a ≡ b → _≡_ {A = ℕ} 0 1) → step digest s .move ≡ a → step digest s .move ≡ b → A
-  clash differ e e′ = let z = differ (sym e ∙ e′) in absurd (omega arith)
+  makes : {st : Step} {move : Move} → step digest s .move ≡ move → step digest s ≡ st → Makes digest s move (st .frames) (st .after)
+  makes e q = record { answers = e; writes = ap (λ (x : Step). x .frames) q; leaves = ap (λ (x : Step). x .after) q }
 
   running : isRunning s ≡ true → Running digest s
   unfolding isRunning
@@ -105,23 +94,12 @@ module _ (digest : Bytes → Bytes) (s : State) where
   unfolding step firstStep
   step-dummy e = rw e
 
-  took-dummy : step digest s .move ≡ voteDummy (s .current) → dummyVoteApplies s ≡ true
-  took-dummy e = go taken
-    where
-      go : Taken → dummyVoteApplies s ≡ true
-      go (by-dummy-vote a q) = a
-      go (by-output a b q) = clash (λ z. cc) (output-move q) e
-      go (by-pass a b c q) = clash (λ z. cc) (pass-move q) e
-      go (by-proposal a b c d q) = clash (λ z. cc) (propose-move q) e
-      go (by-block-vote a b c d f q) = clash (λ z. cc) (block-move q) e
-      go (by-none q) = clash (λ z. cc) (idle-move q) e
-
   pub dummy-blocks : DummyBlocks digest s
   unfolding DummyBlocks dummyVoteStep
-  dummy-blocks = (
-    ((λ e. dummy-when (took-dummy e)), λ q. dummy-move (step-dummy (dummy-applies q))),
-    λ e. let q = step-dummy (took-dummy e) in record { answers = e; writes = ap (λ (st : Step). st .frames) q; leaves = ap (λ (st : Step). st .after) q },
-  )
+  dummy-blocks = (((λ e. dummy-when (took e .0)), λ q. dummy-move (step-dummy (dummy-applies q))), λ e. makes e (took e .1))
+    where
+      took : step digest s .move ≡ voteDummy (s .current) → (dummyVoteApplies s ≡ true) × (step digest s ≡ dummyVoteStep s)
+      took e = unfold Taken in taken (voteDummy (s .current)) e
 
   -- a blockchain that ends in a block is one
   with-block : {h : ℕ} → SeenWithBlock digest (view s) h → SeenOfHeight digest (view s) h
@@ -136,10 +114,6 @@ module _ (digest : Bytes → Bytes) (s : State) where
     notarized = NotarizedBlockchain.dummyNext (q .notarized) (subst (λ (k : ℕ). quorum (view s) (view s .dummyMask (suc k)) ≡ true) (sym (q .its-height)) e);
     its-height = ap suc (q .its-height);
   }
-
-  or-right : (a : Bool) {b : Bool} → b ≡ true → (a || b) ≡ true
-  or-right true e = refl
-  or-right false e = e
 
   -- ---- every sound state
   module _ (sound : SoundState digest s) (terms : InThePapersTerms digest s) where
@@ -185,15 +159,11 @@ module _ (digest : Bytes → Bytes) (s : State) where
         lt-ltb (s .finalized) (newFinalized digest s) (omega arith)
 
     took-output : (g : ℕ) → step digest s .move ≡ output g → (outputApplies digest s ≡ true) × (newFinalized digest s ≡ g) × (step digest s ≡ outputStep digest s)
-    took-output g e = go taken
-      where
-        go : Taken → (outputApplies digest s ≡ true) × (newFinalized digest s ≡ g) × (step digest s ≡ outputStep digest s)
-        go (by-dummy-vote a q) = clash (λ z. cc) (dummy-move q) e
-        go (by-output a b q) = let z : output (newFinalized digest s) ≡ output g = sym (output-move q) ∙ e in (b, cc, q)
-        go (by-pass a b c q) = clash (λ z. cc) (pass-move q) e
-        go (by-proposal a b c d q) = clash (λ z. cc) (propose-move q) e
-        go (by-block-vote a b c d f q) = clash (λ z. cc) (block-move q) e
-        go (by-none q) = clash (λ z. cc) (idle-move q) e
+    unfolding Taken
+    took-output g e =
+        let (b, q) = taken (output g) e in
+        let z : output (newFinalized digest s) ≡ output g = sym (output-move q) ∙ e in
+        (b, cc, q)
 
     step-output : dummyVoteApplies s ≡ false → outputApplies digest s ≡ true → step digest s ≡ outputStep digest s
     unfolding step firstStep
@@ -215,12 +185,8 @@ module _ (digest : Bytes → Bytes) (s : State) where
             let q = output-seen (t .0) in
             subst (λ (g : ℕ). SeenWithBlock digest (view s) g × Finalization (view s) g ×
             ((h : ℕ) → 1 ≤ h → h ≤ last s → SeenWithBlock digest (view s) h → Finalization (view s) h → h ≤ g) ×
-            Makes digest s (output g) [] (withHead s (s .flags) (s .current) g)) (t .1) (
-              q .1,
-              q .2,
-              not-above,
-              record { answers = output-move (t .2); writes = ap (λ (st : Step). st .frames) (t .2); leaves = ap (λ (st : Step). st .after) (t .2) },
-            )
+            Makes digest s (output g) [] (withHead s (s .flags) (s .current) g)) (t .1)
+            (q .1, q .2, not-above, makes (output-move (t .2)) (t .2))
 
     -- ---- step 4
     pass-seen : passApplies digest s ≡ true → Running digest s × SeenOfHeight digest (view s) (s .current)
@@ -255,17 +221,6 @@ module _ (digest : Bytes → Bytes) (s : State) where
             let l = linked-seen (s .current) (sound .current-low) .1 (record { parent = c; block = b; notarized = NotarizedBlockchain.blockNext n f k; its-height = e }) in
             rw l
 
-    took-pass : (certificate : Certificate) (finalized : Bool) → step digest s .move ≡ pass (s .current) certificate finalized → passApplies digest s ≡ true
-    took-pass certificate finalized e = go taken
-      where
-        go : Taken → passApplies digest s ≡ true
-        go (by-dummy-vote a q) = clash (λ z. cc) (dummy-move q) e
-        go (by-output a b q) = clash (λ z. cc) (output-move q) e
-        go (by-pass a b c q) = c
-        go (by-proposal a b c d q) = clash (λ z. cc) (propose-move q) e
-        go (by-block-vote a b c d f q) = clash (λ z. cc) (block-move q) e
-        go (by-none q) = clash (λ z. cc) (idle-move q) e
-
     step-pass : dummyVoteApplies s ≡ false → outputApplies digest s ≡ false → passApplies digest s ≡ true → step digest s ≡ passStep digest s
     unfolding step firstStep
     step-pass e e′ e″ = rw (e, e′, e″)
@@ -297,7 +252,7 @@ module _ (digest : Bytes → Bytes) (s : State) where
     pub next-iteration : NextIteration digest s
     unfolding NextIteration
     next-iteration no-vote no-output = (
-      ((λ q. pass-seen (took-pass (q .0) (q .1) (q .2))), λ q. (_, _, pass-move (passing (q .0) (q .1)))),
+      ((λ q. pass-seen (unfold Taken in taken (pass (s .current) (q .0) (q .1)) (q .2) .0)), λ q. (_, _, pass-move (passing (q .0) (q .1)))),
       (λ r seen. pass-made (passing r (with-block seen)) true (linked-seen (s .current) (sound .current-low) .1 seen)),
       λ r seen never. pass-made (passing r seen) false (not-linked never),
     )
@@ -329,17 +284,6 @@ module _ (digest : Bytes → Bytes) (s : State) where
     block-applies (r, f, held, q) =
         all-of (Every.one (is-running r) (Every.one (rw f) (Every.one held (Every.one (extends-seen held r .1 q) Every.none))))
 
-    took-block : step digest s .move ≡ voteBlock (s .current) → (blockVoteApplies digest s ≡ true) × (step digest s ≡ blockVoteStep digest s)
-    took-block e = go taken
-      where
-        go : Taken → (blockVoteApplies digest s ≡ true) × (step digest s ≡ blockVoteStep digest s)
-        go (by-dummy-vote a q) = clash (λ z. cc) (dummy-move q) e
-        go (by-output a b q) = clash (λ z. cc) (output-move q) e
-        go (by-pass a b c q) = clash (λ z. cc) (pass-move q) e
-        go (by-proposal a b c d q) = clash (λ z. cc) (propose-move q) e
-        go (by-block-vote a b c d f q) = (f, q)
-        go (by-none q) = clash (λ z. cc) (idle-move q) e
-
     step-block : dummyVoteApplies s ≡ false → outputApplies digest s ≡ false → passApplies digest s ≡ false → proposeApplies digest s ≡ false → blockVoteApplies digest s ≡ true →
         step digest s ≡ blockVoteStep digest s
     unfolding step firstStep
@@ -347,10 +291,11 @@ module _ (digest : Bytes → Bytes) (s : State) where
 
     pub notarizing-proposals : NotarizingProposals digest s
     unfolding NotarizingProposals blockVoteStep
-    notarizing-proposals e1 e2 e3 e4 = (
-      ((λ e. block-when (took-block e .0)), λ q. block-move (step-block e1 e2 e3 e4 (block-applies q))),
-      λ e. let q = took-block e .1 in record { answers = e; writes = ap (λ (st : Step). st .frames) q; leaves = ap (λ (st : Step). st .after) q },
-    )
+    notarizing-proposals e1 e2 e3 e4 =
+        (((λ e. block-when (took e .0)), λ q. block-move (step-block e1 e2 e3 e4 (block-applies q))), λ e. makes e (took e .1))
+      where
+        took : step digest s .move ≡ voteBlock (s .current) → (blockVoteApplies digest s ≡ true) × (step digest s ≡ blockVoteStep digest s)
+        took e = unfold Taken in taken (voteBlock (s .current)) e
 
     -- ---- step 1
     abbrev MayPropose : Type 0
@@ -365,33 +310,11 @@ module _ (digest : Bytes → Bytes) (s : State) where
     propose-applies (r, l, f, q) =
         all-of (Every.one (is-running r) (Every.one (eq-eqb _ _ l) (Every.one (rw f) (Every.one (parent-seen (s .current - 1) .1 q) Every.none))))
 
-    took-propose : step digest s .move ≡ propose (s .current) → (proposeApplies digest s ≡ true) × (step digest s ≡ proposeStep digest s)
-    took-propose e = go taken
-      where
-        go : Taken → (proposeApplies digest s ≡ true) × (step digest s ≡ proposeStep digest s)
-        go (by-dummy-vote a q) = clash (λ z. cc) (dummy-move q) e
-        go (by-output a b q) = clash (λ z. cc) (output-move q) e
-        go (by-pass a b c q) = clash (λ z. cc) (pass-move q) e
-        go (by-proposal a b c d q) = (d, q)
-        go (by-block-vote a b c d f q) = clash (λ z. cc) (block-move q) e
-        go (by-none q) = clash (λ z. cc) (idle-move q) e
-
     step-propose : dummyVoteApplies s ≡ false → outputApplies digest s ≡ false → passApplies digest s ≡ false → proposeApplies digest s ≡ true → step digest s ≡ proposeStep digest s
     unfolding step firstStep
     step-propose e1 e2 e3 e4 = rw (e1, e2, e3, e4)
 
     module _ (digest-size : (block : Bytes) → length (digest block) ≡ 32) where
-      -- the digest of a linked height has 32 bytes, and that of height 0 is zero
-      parent-digest-size : (j : ℕ) → length (digestAt digest (view s) j) ≡ 32
-      unfolding digestAt
-      parent-digest-size zero = zeros-size 32
-      parent-digest-size (suc j) = digest-size (view s .block (suc j))
-
-      zero-parent : (j : ℕ) → j ≡ 0 → isZero (digestAt digest (view s) j) ≡ true
-      unfolding digestAt
-      zero-parent zero e = zeros-is-zero 32
-      zero-parent (suc j) e = absurd (omega arith)
-
       -- the block on the chain with the largest last block
       offers : (j : ℕ) → parentBelow digest s ≡ some j → Offers digest s (proposedBlock digest s j)
       unfolding parentBelow ParentIsLargest proposedBlock
@@ -403,10 +326,10 @@ module _ (digest : Bytes → Bytes) (s : State) where
         follows = record {
           its-height = unfold blockHeight newBlock in sym before ∙ ap suc (sym (chain .its-height));
           its-parent = unfold parentHeight newBlock in sym (chain .its-last);
-          its-digest = digest-back c j d es below (parent-digest-size j) (zero-parent j) few sized ∙ sym (chain .its-digest);
+          its-digest = digest-back c j d es below (digest-at-size digest (view s) digest-size j) (digest-at-start digest (view s) j) few sized ∙ sym (chain .its-digest);
         };
-        its-entries = entries-back c j d es below (parent-digest-size j) (zero-parent j) few sized ∙ chosen;
-        formed = new-block-good c j d es below (parent-digest-size j) (zero-parent j) few sized;
+        its-entries = entries-back c j d es below (digest-at-size digest (view s) digest-size j) (digest-at-start digest (view s) j) few sized ∙ chosen;
+        formed = new-block-good c j d es below (digest-at-size digest (view s) digest-size j) (digest-at-start digest (view s) j) few sized;
       }
         where
           both : ChainEndingAt digest (view s) (s .current - 1) j × ((c : Sequence) → NotarizedBlockchain digest (view s) c → height c ≡ s .current - 1 → lastBlock c ≤ j)
@@ -422,10 +345,10 @@ module _ (digest : Bytes → Bytes) (s : State) where
           d = digestAt digest (view s) j
 
           es : List Bytes
-          es = offered digest s j
+          es = offered s j
 
           few : length es ≤ 8
-          few = offered-few digest s j
+          few = offered-few s j
 
           sized : Every (Sized 16) es
           sized = offered-sized digest s sound j
@@ -433,7 +356,7 @@ module _ (digest : Bytes → Bytes) (s : State) where
           below : j < c
           below = let low = sound .current-low in let within = parent-some digest (view s) (s .current - 1) j e .0 .within in omega arith
 
-          chosen : offered digest s j ≡ take 8 (without (linearize (chain .sequence)) (pending s))
+          chosen : offered s j ≡ take 8 (without (linearize (chain .sequence)) (pending s))
           chosen = unfold offered in ap (λ (l : List Bytes). take 8 (without l (pending s))) (sym (chain .its-log))
 
       proposed : proposeApplies digest s ≡ true → Offers digest s (proposedBlock digest s (someOr 0 (parentBelow digest s)))
@@ -447,13 +370,12 @@ module _ (digest : Bytes → Bytes) (s : State) where
       pub leader-proposal : LeaderProposal digest s
       unfolding LeaderProposal proposeStep
       leader-proposal e1 e2 e3 = (
-        ((λ e. propose-when (took-propose e .0)), λ q. propose-move (step-propose e1 e2 e3 (propose-applies q))),
-        λ e. let q = took-propose e in (
-          proposedBlock digest s (someOr 0 (parentBelow digest s)),
-          proposed (q .0),
-          record { answers = e; writes = ap (λ (st : Step). st .frames) (q .1); leaves = ap (λ (st : Step). st .after) (q .1) },
-        ),
+        ((λ e. propose-when (took e .0)), λ q. propose-move (step-propose e1 e2 e3 (propose-applies q))),
+        λ e. (proposedBlock digest s (someOr 0 (parentBelow digest s)), proposed (took e .0), makes e (took e .1)),
       )
+        where
+          took : step digest s .move ≡ propose (s .current) → (proposeApplies digest s ≡ true) × (step digest s ≡ proposeStep digest s)
+          took e = unfold Taken in taken (propose (s .current)) e
 
 -- the five steps, for every sound state and every digest of 32 bytes
 pub five-steps : (digest : Bytes → Bytes) → ((block : Bytes) → length (digest block) ≡ 32) → (s : State) → SoundState digest s → FiveSteps digest s

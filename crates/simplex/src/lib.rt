@@ -1,0 +1,1 @@
+// Theorems in the paper's terms: no code, all in specs/.

@@ -14,11 +14,13 @@ use Rattle.protocol.specs.Sound.{view}
 use Rattle.protocol.specs.View.{View, linked, logAt}
 use Rattle.protocol.specs.FormedLaws.{Formed, formed}
 use Rattle.protocol.specs.LinkedLaws.{linked-parent}
-use Rattle.protocol.specs.ChainLaws.{log-suc, log-length, log-bound, join-append}
+use Rattle.protocol.specs.ChainLaws.{log-suc, log-length, log-bound}
+use Rattle.protocol.specs.PiecesLaws.{join-append}
 use Rattle.fields.proofs.Places.{cut-part}
 use Rattle.sha256.specs.Digest.{sha256}
 use Rattle.state.specs.Walkable.{Walkable}
-use Rattle.protocol.specs.EntriesLaws.{log-start, front-none, entries-next, entries-done, entries-length, join-entries, holds-first, holds-next, holds-none, holds-back, holds-front, front-join}
+use Rattle.protocol.specs.EntriesLaws.{log-start, entries-next, entries-done, entries-length, join-entries, holds-first, holds-next, holds-none, holds-back, holds-front}
+use Rattle.protocol.specs.FrontLaws.{front-join, front-none}
 
 pub record Step (book : Bytes) (h : ℕ) (block : Bytes) : Type 0 where
   pub parent : Walkable book (byteAt block 2)

@@ -14,7 +14,8 @@ use Rattle.protocol.specs.View.{View, linked, logAt}
 use Rattle.protocol.specs.Move.{without}
 use Rattle.protocol.specs.Submit.{withPending, stillPending}
 use Rattle.protocol.specs.EveryLaws.{Every}
-use Rattle.protocol.specs.StateLaws.{decode-encode, Sized as SizedBytes}
+use Rattle.protocol.specs.StateLaws.{decode-encode}
+use Rattle.protocol.specs.PiecesLaws.{Sized as SizedBytes}
 use Rattle.protocol.specs.WriteLaws.{withPool}
 use Rattle.protocol.specs.PoolLaws.{moved, moved-view, moved-last, moved-pending, moved-pieces, moved-shaped, moved-entry, moved-more, without-short}
 use Rattle.protocol.specs.EntriesLaws.{lacked-sized, pending-all}

@@ -15,9 +15,12 @@ use Rattle.protocol.specs.View.{logAt}
 use Rattle.protocol.specs.Move.{without}
 use Rattle.protocol.specs.Submit.{stillPending}
 use Rattle.protocol.specs.EveryLaws.{Every, none}
-use Rattle.protocol.specs.StateLaws.{Sized}
+use Rattle.protocol.specs.PiecesLaws.{Sized}
 use Rattle.protocol.specs.CodecLaws.{decode-shaped}
-use Rattle.protocol.specs.EntriesLaws.{pending-next, pending-done, pending-all, holds-first, holds-next, holds-none, front-again, block-length, block-more}
+use Rattle.protocol.specs.EntriesLaws.{pending-next, pending-done, pending-all, holds-first, holds-next, holds-none}
+use Rattle.protocol.specs.BlockLaws.{new-block-size}
+use Rattle.protocol.specs.BuildLaws.{block-more}
+use Rattle.protocol.specs.FrontLaws.{front-again}
 use Rattle.state.specs.Walkable.{Walkable}
 
 -- ---- a book's places
@@ -65,7 +68,7 @@ over-length new buffer h = simp (length-append, length-drop) (omega arith)
 module _ (h parent : ℕ) (digest : Bytes) (digest-size : length digest ≡ 32) (buffer : Bytes) where
   pub filled-length : (es : List Bytes) {block : Bytes} → Every (Sized 16) es → length es ≤ 8 → 176 ≤ length buffer → block ≡ overFront (newBlock h parent digest es) buffer → length block ≡ length buffer
   filled-length es sized few room e =
-      let size = block-length h parent digest digest-size buffer es sized few in
+      let size = new-block-size h parent digest es digest-size sized few in
       ap length e ∙ over-length (newBlock h parent digest es) buffer (omega arith)
 
   pub filled-more : (es : List Bytes) (entry : Bytes) {more : List Bytes} {block after : Bytes} {taken : ℕ} → Every (Sized 16) es → taken ≡ length es → taken < 8 → length entry ≡ 16 →
@@ -80,8 +83,8 @@ module _ (h parent : ℕ) (digest : Bytes) (digest-size : length digest ≡ 32) 
   pub filled-over : (es : List Bytes) {begun block : Bytes} {offer : List Bytes} → Every (Sized 16) es → length es ≤ 8 → begun ≡ overFront (newBlock h parent digest []) buffer →
       block ≡ overFront (newBlock h parent digest es) begun → offer ≡ es → block ≡ overFront (newBlock h parent digest offer) buffer
   filled-over es sized few b e o =
-      let size = block-length h parent digest digest-size buffer es sized few in
-      let first = block-length h parent digest digest-size buffer [] none (omega arith) in
+      let size = new-block-size h parent digest es digest-size sized few in
+      let first = new-block-size h parent digest [] digest-size none (omega arith) in
       e ∙
       ap (overFront (newBlock h parent digest es)) b ∙
       front-again (newBlock h parent digest es) (newBlock h parent digest []) buffer (size ∙ sym first) ∙

@@ -3,8 +3,8 @@ use Prim.Native.Nat.{ℕ, zero, suc, _-_, _≤_, _<_}
 use native.Mathlib.Omega.{arith}
 use mathlib.Core.Path.{_≡_, refl, sym, ap, subst, _∙_}
 use mathlib.Core.Logic.{_≢_}
-use mathlib.Core.Bool.{Bool, true, false, _&&_}
-use mathlib.Core.List.{List, [], _∷_}
+use mathlib.Core.Bool.{Bool, true, false, _&&_, and-true, and-false}
+use mathlib.Core.List.{[], _∷_}
 use mathlib.Core.Option.{some, none}
 use lib.ListN.{length, take, drop, set, length-set}
 use lib.Dec.{eqb, ltb}
@@ -23,14 +23,6 @@ use Rattle.protocol.specs.Sound.{view}
 use Rattle.sha256.specs.Digest.{sha256}
 use Rattle.fields.specs.Ready.{Within}
 use Rattle.state.specs.Memo.{Memo, Readable}
-
-and-true-right : (a : Bool) → (a && true) ≡ a
-and-true-right true = refl
-and-true-right false = refl
-
-and-false-right : (a : Bool) → (a && false) ≡ false
-and-false-right true = refl
-and-false-right false = refl
 
 same-zeros : (k : ℕ) (x : Bytes) → length x ≡ k → same x (zeros k) ≡ isZero x
 unfolding same isZero all zeros
@@ -66,11 +58,11 @@ module _ (v : View) (h j : ℕ) (block : Bytes) (names : parentHeight block ≡ 
 
   pub extends-not-linked : linked sha256 v j ≡ false → extends sha256 v h block ≡ false
   unfolding allOf
-  extends-not-linked e = by-rows ∙ rw e (and-false-right (ltb j h))
+  extends-not-linked e = by-rows ∙ rw e (and-false (ltb j h))
 
   pub extends-by-digest : ltb j h ≡ true → linked sha256 v j ≡ true → dummyRun v j (h - 1 - j) ≡ true → extends sha256 v h block ≡ same (parentDigest block) (digestAt sha256 v j)
   unfolding allOf
-  extends-by-digest e e′ e″ = by-rows ∙ rw (e, e′, e″) (and-true-right (same (parentDigest block) (digestAt sha256 v j)))
+  extends-by-digest e e′ e″ = by-rows ∙ rw (e, e′, e″) (and-true (same (parentDigest block) (digestAt sha256 v j)))
 
   pub extends-not-run : dummyRun v j (h - 1 - j) ≡ false → extends sha256 v h block ≡ false
   unfolding allOf
@@ -144,11 +136,11 @@ module _ (book : Bytes) (h : ℕ) where
 
   pub finalized-by-link : quorum here (at (decode book) h .finalizeMask) ≡ true → linked sha256 here h ≡ isFinalized sha256 here h
   unfolding isFinalized view
-  finalized-by-link e = rw e (sym (and-true-right (linked sha256 (view (decode book)) h)))
+  finalized-by-link e = rw e (sym (and-true (linked sha256 (view (decode book)) h)))
 
   pub not-finalized-without : quorum here (at (decode book) h .finalizeMask) ≡ false → isFinalized sha256 here h ≡ false
   unfolding isFinalized view
-  not-finalized-without e = rw e (and-false-right (linked sha256 (view (decode book)) h))
+  not-finalized-without e = rw e (and-false (linked sha256 (view (decode book)) h))
 
 -- ---- from the top down
 module _ (v : View) where

@@ -1,8 +1,8 @@
 -- The groups of rows make soundness; a sound head can be read; a memory of zeros knows nothing.
 use Prim.Native.Nat.{ℕ, _+_, _*_, _≤_}
 use native.Mathlib.Omega.{arith}
-use mathlib.Core.Path.{_≡_, refl, sym}
-use mathlib.Core.Bool.{Bool, true, false, _&&_}
+use mathlib.Core.Path.{_≡_}
+use mathlib.Core.Bool.{Bool, true, _&&_}
 use lib.ListN.{length, getD}
 use borrow.Author.Tests.{eqb-true}
 use Rattle.protocol.specs.Bytes.{Bytes, byteAt, zeros}
@@ -10,18 +10,12 @@ use Rattle.protocol.specs.Tests.{allOf, everyHeight}
 use Rattle.protocol.specs.State.{bookSize}
 use Rattle.protocol.specs.Sound.{sound}
 use Rattle.protocol.specs.EveryLaws.{none, one}
-use Rattle.protocol.specs.TestsLaws.{and-true}
+use Rattle.protocol.specs.TestsLaws.{and-true, both-ways}
 use Rattle.protocol.specs.RowLaws.{row, all-of, true-and, every-height-at, every-height, in-range, is-zero-byte, zeros-is-zero}
-use Rattle.protocol.specs.BlockLaws.{zeros-size}
+use Rattle.protocol.specs.BytesLaws.{length-zeros}
 use Rattle.fields.specs.ReadyLaws.{sized}
 use Rattle.state.specs.Memo.{Readable, Memo}
 use Rattle.state.specs.SoundRows.{numberRows, headRows, heightRows, finalRow}
-
--- two tests are equal where each passes if the other does
-both-ways : (a b : Bool) → (a ≡ true → b ≡ true) → (b ≡ true → a ≡ true) → a ≡ b
-both-ways true b f g = sym (f refl)
-both-ways false true f g = g refl
-both-ways false false f g = refl
 
 module _ (digest : Bytes → Bytes) (book : Bytes) where
   -- the rows of every height
@@ -94,7 +88,7 @@ readable book e =
 -- zeros say of no height that it is linked or not
 pub zero-memo : (book known : Bytes) → known ≡ zeros 64 → Memo book known
 zero-memo book known e = record {
-  size = rw e (zeros-size 64);
+  size = rw e (length-zeros 64);
   is-linked = λ h seen. let none-seen = unseen h in absurd (omega arith);
   not-linked = λ h seen. let none-seen = unseen h in absurd (omega arith);
 }

@@ -1,7 +1,7 @@
 -- The groups of tests that the code makes are the rows of a block.
 use Prim.Native.Nat.{ℕ, _+_, _*_, _≤_}
 use mathlib.Core.Path.{_≡_}
-use mathlib.Core.Bool.{true, _&&_}
+use mathlib.Core.Bool.{true, _&&_, and-assoc, and-true}
 use mathlib.Core.List.{[], _∷_}
 use lib.ListN.{length, drop}
 use lib.Dec.{eqb, leb, ltb}
@@ -11,7 +11,6 @@ use Rattle.protocol.specs.Tests.{allOf, implies}
 use Rattle.protocol.specs.RowLaws.{row}
 use Rattle.protocol.specs.Block.{blockHeight, parentHeight, entryCount, parentDigest, blockWellFormed}
 use Rattle.wire.specs.Parts.{blockFields, blockParent, blockRest}
-use Rattle.wire.proofs.Rows.{and-assoc, and-right-true}
 
 module _ (h : ℕ) (block : Bytes) where
   pub block-is : blockWellFormed h block ≡ (eqb (length block) 176 && (blockFields h block && blockRest block))
@@ -20,7 +19,7 @@ module _ (h : ℕ) (block : Bytes) where
 
   pub fields-are : (eqb (byteAt block 0) h && (eqb (byteAt block 1) 0 && (ltb (byteAt block 2) h && (eqb (byteAt block 3) 0 && leb (byteAt block 4) 8)))) ≡ blockFields h block
   unfolding blockFields blockHeight parentHeight entryCount allOf
-  fields-are = simp and-right-true
+  fields-are = simp and-true
 
   pub few-entries : blockFields h block ≡ true → byteAt block 4 ≤ 8
   unfolding blockFields blockHeight parentHeight entryCount
@@ -39,4 +38,4 @@ module _ (block : Bytes) where
 
   pub rest-are : (isZero (part block 5 11) && (blockParent block && isZero (drop (48 + 16 * byteAt block 4) block))) ≡ blockRest block
   unfolding blockRest entryCount allOf
-  rest-are = simp and-right-true
+  rest-are = simp and-true

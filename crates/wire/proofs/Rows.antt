@@ -1,4 +1,4 @@
--- Tests joined by "and", and a test that code makes in stages.
+-- A test that code makes in stages, and the part of a byte string to its end.
 use Prim.Native.Nat.{ℕ, _-_}
 use native.Mathlib.Nat.{le-refl}
 use mathlib.Core.Path.{_≡_, refl, _∙_}
@@ -6,14 +6,6 @@ use mathlib.Core.Bool.{Bool, true, false, _&&_}
 use lib.ListN.{length, take, drop, length-drop}
 use lib.Seq.{take-all}
 use Rattle.protocol.specs.Bytes.{Bytes}
-
-pub and-assoc : (a b c : Bool) → ((a && b) && c) ≡ (a && (b && c))
-and-assoc true b c = refl
-and-assoc false b c = refl
-
-pub and-right-true : (a : Bool) → (a && true) ≡ a
-and-right-true true = refl
-and-right-true false = refl
 
 -- ---- a test in stages: the first that fails decides
 pub stops-first : {whole first : Bool} (others : Bool) → first ≡ false → whole ≡ (first && others) → whole ≡ false

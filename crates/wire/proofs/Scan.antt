@@ -2,7 +2,7 @@
 use Prim.Native.Nat.{ℕ, zero, suc, _+_, _<_}
 use native.Mathlib.Omega.{arith}
 use mathlib.Core.Path.{_≡_, refl, sym, ap}
-use mathlib.Core.Bool.{Bool, true, false, _&&_, false≢true}
+use mathlib.Core.Bool.{Bool, true, false, _&&_, false≢true, and-assoc, and-true as and-right-true}
 use mathlib.Core.List.{[], _∷_}
 use lib.Bits.{bitOr, bitXor, or-zero-l, xor-self, or-add-and, xor-add-and, and-le-l, and-le-r}
 use lib.Dec.{eqb}
@@ -10,15 +10,8 @@ use lib.ListN.{length, getD, take, set, replicate, length-replicate, getD-replic
 use lib.Seq.{paste, paste-suc}
 use borrow.Author.Tests.{eq-eqb, eqb-true}
 use Rattle.protocol.specs.Bytes.{Bytes, byteAt, all, isZero, same, zeros}
-use Rattle.protocol.specs.TestsLaws.{and-true}
-use Rattle.wire.proofs.Rows.{and-assoc, and-right-true}
+use Rattle.protocol.specs.TestsLaws.{and-true, both-ways}
 use Rattle.protocol.specs.RowLaws.{true-and, not-passed}
-
--- two tests are equal where each passes if the other does
-pub both-ways : (a b : Bool) → (a ≡ true → b ≡ true) → (b ≡ true → a ≡ true) → a ≡ b
-both-ways true b f g = sym (f refl)
-both-ways false true f g = g refl
-both-ways false false f g = refl
 
 or-zero : (a b : ℕ) → bitOr a b ≡ 0 → (a ≡ 0) × (b ≡ 0)
 or-zero a b e =

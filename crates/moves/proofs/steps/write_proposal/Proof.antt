@@ -57,7 +57,7 @@ returns c =
     wrote-proposal book (start .pre .0) (start .args .reply .now) (plain .last .0) _ (digest .result) (height .result) (signer .result) j
     (height .ensures .0) (signer .ensures .0) size (digest .ensures) (plain .ensures)
     (rw (c .before .before .offer .ensures)
-    (front-in-part (plain .last .0) (newBlock (height .result) j (digest .result) (offered sha256 (decode book) j)) 48 176 (omega arith)
+    (front-in-part (plain .last .0) (newBlock (height .result) j (digest .result) (offered (decode book) j)) 48 176 (omega arith)
     (omega (arith, proposed-size book (start .pre .0) (digest .result) (height .result) j size))))
 
 pub write-proposal-spec : {M : Type 1} → statement M

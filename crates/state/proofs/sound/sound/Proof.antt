@@ -3,7 +3,7 @@ use mathlib.Core.Path.{sym, ap, _∙_}
 use mathlib.Core.Bool.{false≢true}
 use lib.ListN.{length}
 use Rattle.sha256.specs.Digest.{sha256}
-use Rattle.protocol.specs.BlockLaws.{zeros-size}
+use Rattle.protocol.specs.BytesLaws.{length-zeros}
 use Rattle.state.specs.SoundRowsLaws.{readable, zero-memo}
 use Rattle.state.proofs.SoundTests.{sound-final, not-sound-heights, not-sound-head}
 use borrow.Author.Needs.{needs}
@@ -41,14 +41,14 @@ returns-2 c =
     let head = c .before .before in
     let start = head .before .before .before .before in (
       not-sound-heights sha256 (start .args .book .now) (sym (head .before .head-sound .ensures) ∙ head .if1 .taken) (sym (c .before .heights-sound .ensures) ∙ c .if2 .left),
-      ((λ passed. absurd (false≢true passed)), ap length (start .pre) ∙ zeros-size 64),
+      ((λ passed. absurd (false≢true passed)), ap length (start .pre) ∙ length-zeros 64),
     )
 
 returns-3 : tie.Need-returns-3
 returns-3 c =
     let start = c .before .before .before .before in (
       not-sound-head sha256 (start .args .book .now) (sym (c .before .head-sound .ensures) ∙ c .if1 .left),
-      ((λ passed. absurd (false≢true passed)), ap length (start .pre) ∙ zeros-size 64),
+      ((λ passed. absurd (false≢true passed)), ap length (start .pre) ∙ length-zeros 64),
     )
 
 pub sound-spec : {M : Type 1} → statement M

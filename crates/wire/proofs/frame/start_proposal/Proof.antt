@@ -8,7 +8,8 @@ use Rattle.protocol.specs.Block.{newBlock}
 use Rattle.protocol.specs.Frame.{proposal}
 use Rattle.protocol.specs.EveryLaws.{none}
 use Rattle.protocol.specs.FrontLaws.{front-in-part}
-use Rattle.protocol.specs.BuildLaws.{length-zeros, new-block-size}
+use Rattle.protocol.specs.BlockLaws.{new-block-size}
+use Rattle.protocol.specs.BytesLaws.{length-zeros}
 use Rattle.wire.proofs.Writes.{frame-follows}
 use borrow.Author.Needs.{needs}
 use Rattle.wire.proofs.frame.start_proposal.Statement.{statement}

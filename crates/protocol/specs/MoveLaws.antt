@@ -1,0 +1,39 @@
+-- Move takes one of six steps: what holds of each of them where it applies and no earlier one does holds of the step taken.
+-- It changes nothing past the head.
+use Prim.Native.Nat.{ℕ}
+use mathlib.Core.Path.{_≡_, refl}
+use mathlib.Core.Bool.{true, false}
+use Rattle.protocol.specs.Bytes.{Bytes}
+use Rattle.protocol.specs.State.{State, withHead}
+use Rattle.protocol.specs.Move.{Step, firstStep, step, dummyVoteApplies, dummyVoteStep, outputApplies, outputStep, passApplies, passStep, proposeApplies, proposeStep, blockVoteApplies, blockVoteStep, idleStep}
+use Rattle.protocol.specs.TestsLaws.{cond-elim}
+
+module _ (digest : Bytes → Bytes) (s : State) (P : Step → Type 0) where
+  pub step-cases :
+      (dummyVoteApplies s ≡ true → P (dummyVoteStep s)) →
+      (dummyVoteApplies s ≡ false → outputApplies digest s ≡ true → P (outputStep digest s)) →
+      (dummyVoteApplies s ≡ false → outputApplies digest s ≡ false → passApplies digest s ≡ true → P (passStep digest s)) →
+      (dummyVoteApplies s ≡ false → outputApplies digest s ≡ false → passApplies digest s ≡ false →
+      proposeApplies digest s ≡ true → P (proposeStep digest s)) →
+      (dummyVoteApplies s ≡ false → outputApplies digest s ≡ false → passApplies digest s ≡ false →
+      proposeApplies digest s ≡ false → blockVoteApplies digest s ≡ true → P (blockVoteStep digest s)) →
+      (dummyVoteApplies s ≡ false → outputApplies digest s ≡ false → passApplies digest s ≡ false →
+      proposeApplies digest s ≡ false → blockVoteApplies digest s ≡ false → P (idleStep s)) →
+      P (step digest s)
+  unfolding step firstStep
+  step-cases one two three four five otherwise =
+      cond-elim P (dummyVoteApplies s) one λ a.
+      cond-elim P (outputApplies digest s) (two a) λ b.
+      cond-elim P (passApplies digest s) (three a b) λ c.
+      cond-elim P (proposeApplies digest s) (four a b c) λ d.
+      cond-elim P (blockVoteApplies digest s) (five a b c d) λ e. otherwise a b c d e
+
+module _ (digest : Bytes → Bytes) (s : State) where
+  abbrev pub HeadOnly : Step → Type 0
+  HeadOnly st = (flags current finalized : ℕ) × (st .after ≡ withHead s flags current finalized)
+
+  pub head-only : HeadOnly (step digest s)
+  unfolding dummyVoteStep outputStep passStep proposeStep blockVoteStep idleStep
+  head-only = step-cases digest s HeadOnly
+      (λ _. (_, _, _, refl)) (λ _ _. (_, _, _, refl)) (λ _ _ _. (_, _, _, refl)) (λ _ _ _ _. (_, _, _, refl)) (λ _ _ _ _ _. (_, _, _, refl))
+      (λ _ _ _ _ _. (s .flags, s .current, s .finalized, unfold withHead in refl))
