@@ -9,7 +9,7 @@ use Rattle.protocol.specs.Tests.{allOf, implies, inRange, everyHeight}
 use Rattle.protocol.specs.Block.{maximumHeights, blockWellFormed}
 use Rattle.protocol.specs.Mask.{belowBit}
 use Rattle.protocol.specs.State.{State, Height, at, decode, edition, bookSize, holdsProposal, isNotarized}
-use Rattle.protocol.specs.View.{View, quorum, isFinalized, logAt}
+use Rattle.protocol.specs.View.{View, quorum, isFinalized, logOf}
 
 unfoldable pub view : State → View
 view s = record {
@@ -23,7 +23,7 @@ view s = record {
 
 -- the entries of the finalized chain (document 01: the register)
 unfoldable pub log : State → List Bytes
-log s = logAt (view s) (s .finalized)
+log s = logOf (view s) (s .finalized)
 
 -- ---- rows about one height
 unfoldable pub masksBelow : ℕ → Height → Bool

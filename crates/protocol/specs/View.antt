@@ -19,9 +19,17 @@ pub record View : Type 0 where
   pub dummyMask : ℕ → ℕ
   pub finalizeMask : ℕ → ℕ
 
--- a mask holds at least two thirds of the replicas
+-- the weight of the replicas in a mask: each weighs 1
+abbrev pub maskWeight : View → ℕ → ℕ
+maskWeight v mask = ones mask (v .n)
+
+-- the weight of all replicas
+abbrev pub totalWeight : View → ℕ
+totalWeight v = v .n
+
+-- a mask holds at least two thirds of the weight
 unfoldable pub quorum : View → ℕ → Bool
-quorum v mask = leb (2 * v .n) (3 * ones mask (v .n))
+quorum v mask = leb (2 * totalWeight v) (3 * maskWeight v mask)
 
 -- the dummy block of height `h` is notarized (document 01: height h is blank)
 unfoldable pub isDummy : View → ℕ → Bool
@@ -88,3 +96,7 @@ chain v h = chainWithin h v h
 -- the entries of the chain that ends in height `h`, oldest block first (document 01: the register, at h = g)
 unfoldable pub logAt : View → ℕ → List Bytes
 logAt v h = allEntries (chain v h)
+
+-- the log of a view whose finalized height is `g`
+abbrev pub logOf : View → ℕ → List Bytes
+logOf v g = logAt v g
