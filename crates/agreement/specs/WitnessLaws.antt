@@ -14,7 +14,7 @@ use Rattle.protocol.specs.Bytes.{Bytes, all, byteAt, holds, isZero, join, le16,
 use Rattle.protocol.specs.Deliver.{clashRows, deliverCall, deliverRows, keep, keepBlockCertificate, keepBlockVote, keepDummyCertificate, keepDummyVote, keepFinalize, keepFinalizeCertificate, keepProposal, kept, notarize, readRows, votersFor, withMasks, withNotarized, withProposal, withVote}
 use Rattle.protocol.specs.Frame.{blockCertificate, blockVote, carriesBlock, carriesDigest, dummyCertificate, dummyVote, finalize, finalizeCertificate, frameBlock, frameDigest, frameHeight, frameOf, frameWellFormed, isCertificate, isStatement, kind, proposal, signer, signerMask}
 use Rattle.protocol.specs.Mask.{belowBit, inMask, maskOf, ones, union}
-use Rattle.protocol.specs.Move.{blockVoteApplies, blockVoteStep, dummyVoteApplies, dummyVoteStep, firstStep, idleStep, isRunning, isSome, moveCall, moveRows, moved, newFinalized, offered, outputApplies, outputStep, parentBelow, passApplies, passCertificate, passStep, proposeApplies, proposeStep, proposedBlock, someOr, step, unlessMoveRefused, unused, without, written}
+use Rattle.protocol.specs.Move.{blockVoteApplies, blockVoteStep, dummyVoteApplies, dummyVoteStep, firstStep, idleStep, isRunning, isSome, moveCall, moveRows, moved, newFinalized, offered, outputApplies, outputStep, passApplies, passCertificate, passStep, proposeApplies, proposeStep, proposedBlock, someOr, step, unlessMoveRefused, unused, without, written}
 use Rattle.protocol.specs.Open.{newHeight, newState, openCall, openInRange, openRows}
 use Rattle.protocol.specs.Read.{logSize, readPart}
 use Rattle.protocol.specs.RowLaws.{row}
@@ -57,7 +57,7 @@ tests l = allOf
     someIn (passes 1) l ∷ [])
 
 tested : tests list ≡ true
-unfolding tests list reads hears passes everyHonest isHonest keepsOneBook deliversBacked notForged shows showsOnly noCollision someIn everyIn signed signedIn isBacked statementBytes opensFor isAmong follows readsPart isAccepted orElse when blockIn statementOf opensBook deliveredBy writtenBy leftBy sample entry oneBlock otherBlock nextBlock move hear openings split timeouts agreed readings build anything bookAfter part zeros word16 le16 overFront all isZero same pieces join holds allOf implies inRange everyHeight firstRefusal inMask maskOf ones union belowBit newBlock blockHeight parentHeight entryCount parentDigest entries blockWellFormed allEntries proposal blockVote dummyVote finalize blockCertificate dummyCertificate finalizeCertificate frameOf kind signer frameHeight signerMask frameDigest frameBlock isStatement isCertificate carriesBlock carriesDigest frameWellFormed bookSize headBytes contentBytes bodyBytes encode decodeHeight decodeHeights decode last noHeight at holdsProposal isNotarized voteOf withHeight withHead flag pending quorum isDummy dummyRun digestAt extendsOver linkedWithin linked extends isFinalized largestFinalized parentOf chainWithin chain logAt view log masksBelow blocksWellFormed contentZeros sound unlessRefused newHeight newState openInRange openRows openCall withProposal withNotarized withMasks withVote votersFor keepDummyVote keepFinalize keepBlockCertificate keepDummyCertificate keepFinalizeCertificate readRows clashRows notarize keepProposal keepBlockVote keep kept deliverRows deliverCall firstStep without isSome someOr isRunning idleStep dummyVoteApplies dummyVoteStep unused written moved unlessMoveRefused newFinalized outputApplies outputStep parentBelow passApplies passCertificate passStep proposeApplies offered proposedBlock proposeStep blockVoteApplies blockVoteStep step moveRows moveCall withTimerFired signalRows signalCall withPending stillPending submitRows submitCall logSize readPart
+unfolding tests list reads hears passes everyHonest isHonest keepsOneBook deliversBacked notForged shows showsOnly noCollision someIn everyIn signed signedIn isBacked statementBytes opensFor isAmong follows readsPart isAccepted orElse when blockIn statementOf opensBook deliveredBy writtenBy leftBy sample entry oneBlock otherBlock nextBlock move hear openings split timeouts agreed readings build anything bookAfter part zeros word16 le16 overFront all isZero same pieces join holds allOf implies inRange everyHeight firstRefusal inMask maskOf ones union belowBit newBlock blockHeight parentHeight entryCount parentDigest entries blockWellFormed allEntries proposal blockVote dummyVote finalize blockCertificate dummyCertificate finalizeCertificate frameOf kind signer frameHeight signerMask frameDigest frameBlock isStatement isCertificate carriesBlock carriesDigest frameWellFormed bookSize headBytes contentBytes bodyBytes encode decodeHeight decodeHeights decode last noHeight at holdsProposal isNotarized voteOf withHeight withHead flag pending quorum isDummy dummyRun digestAt extendsOver linkedWithin linked extends isFinalized largestFinalized parentOf chainWithin chain logAt view log masksBelow blocksWellFormed contentZeros sound unlessRefused newHeight newState openInRange openRows openCall withProposal withNotarized withMasks withVote votersFor keepDummyVote keepFinalize keepBlockCertificate keepDummyCertificate keepFinalizeCertificate readRows clashRows notarize keepProposal keepBlockVote keep kept deliverRows deliverCall firstStep without isSome someOr isRunning idleStep dummyVoteApplies dummyVoteStep unused written moved unlessMoveRefused newFinalized outputApplies outputStep passApplies passCertificate passStep proposeApplies offered proposedBlock proposeStep blockVoteApplies blockVoteStep step moveRows moveCall withTimerFired signalRows signalCall withPending stillPending submitRows submitCall logSize readPart
 tested = refl
 
 -- ---- from tests to facts

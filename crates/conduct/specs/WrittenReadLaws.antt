@@ -14,7 +14,7 @@ use Rattle.protocol.specs.State.{State, at, last, flag, isNotarized}
 use Rattle.protocol.specs.View.{View, quorum, isDummy, linked, digestAt}
 use Rattle.protocol.specs.Sound.{view}
 use Rattle.protocol.specs.Answer.{pass, onBlock, onDummy}
-use Rattle.protocol.specs.Move.{Step, isRunning, isSome, someOr, parentBelow, offered, proposedBlock, passCertificate, step, dummyVoteApplies, dummyVoteStep, outputStep, passApplies, passStep, proposeApplies, proposeStep, blockVoteApplies, blockVoteStep, idleStep}
+use Rattle.protocol.specs.Move.{Step, isRunning, isSome, someOr, parentBelow, offered, proposedBlock, passCertificate, step, dummyVoteApplies, dummyVoteStep, outputStep, passApplies, passStep, proposeApplies, proposeStep, blockVoteApplies, blockVoteStep, idleStep, passesAt}
 use Rattle.protocol.specs.EveryLaws.{none}
 use Rattle.protocol.specs.Linked.{Linked, start, link}
 use Rattle.protocol.specs.LinkedLaws.{linked-sound}
@@ -103,7 +103,7 @@ module _ (digest : Bytes → Bytes) (s : State) (is : SoundState digest s) (t : 
   unfolding passApplies passStep passCertificate
   pass-good e = go (not (flag 1 s))
     where
-      both : (isRunning s ≡ true) × ((linked digest (view s) c || isDummy (view s) c && isSome (parentBelow digest s)) ≡ true)
+      both : (isRunning s ≡ true) × (passesAt digest (view s) c ≡ true)
       both = and-true _ _ e
 
       go : (inTime : Bool) → Said t (moveFields digest s (pass c (cond (linked digest (view s) c) onBlock onDummy) inTime))
@@ -117,7 +117,6 @@ module _ (digest : Bytes → Bytes) (s : State) (is : SoundState digest s) (t : 
   -- ---- statements with a digest
   module _ (sized : DigestSized digest) where
     below-current : (j : ℕ) → parentBelow digest s ≡ some j → j < c
-    unfolding parentBelow
     below-current j p = let chain = parent-some digest (view s) (c - 1) j p .0 in omega (arith, is .current-low, chain .within)
 
     proposed-good : (parent : Option ℕ) → parentBelow digest s ≡ parent → isSome parent ≡ true → blockWellFormed c (proposedBlock digest s (someOr 0 parent)) ≡ true

@@ -40,7 +40,6 @@ module _ (digest : Bytes → Bytes) where
 
   module _ (s : State) (c : ℕ) (is : c ≡ s .current) where
     pub below-is : parentOf digest (view s) (c - 1) ≡ parentBelow digest s
-    unfolding parentBelow
     below-is = rw is
 
     -- ---- move 3

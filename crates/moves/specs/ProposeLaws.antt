@@ -31,7 +31,7 @@ module _ (book : Bytes) (m : Movable book) where
 
   -- the chain below the current height
   pub walkable : s .current ≤ byteAt book 2 → isSome (parentBelow sha256 s) ≡ true → (j : ℕ) → j ≡ someOr 0 (parentBelow sha256 s) → Walkable book j
-  unfolding parentBelow someOr
+  unfolding someOr
   walkable high e j is =
       let found = isSome-parent sha256 (view s) (s .current - 1) e in
       let same-height : j ≡ found .0 = is ∙ ap (someOr 0) (found .1) in

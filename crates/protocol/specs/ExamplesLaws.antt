@@ -25,7 +25,7 @@ use Rattle.protocol.specs.Open.{newState, newHeight, openInRange, openRo
 use Rattle.protocol.specs.Deliver.{withMasks, deliverCall}
 use Rattle.protocol.specs.Signal.{signalCall}
 use Rattle.protocol.specs.Frame.{kind, frameBlock, frameOf, proposal, dummyVote, finalize}
-use Rattle.protocol.specs.Move.{step, moveCall, moved, MoveOutcome, idleStep, dummyVoteStep, passStep, proposeStep, written, unused, proposedBlock, offered, without, parentBelow, someOr, dummyVoteApplies}
+use Rattle.protocol.specs.Move.{step, moveCall, moved, MoveOutcome, idleStep, dummyVoteStep, passStep, proposeStep, written, unused, proposedBlock, offered, without, someOr, dummyVoteApplies}
 use Rattle.protocol.specs.Computing.{everything}
 use Rattle.protocol.specs.Examples.{Letter, claim, Start, opened, firstLeader, quorumFrom, deliverAll, signalled, afterSignal, afterDummyVotes, afterFinalizes, frameIn, passesDummy, proposesFirst}
 use Rattle.protocol.specs.NewBookLaws.{Ranges, early, firstHeight}
@@ -190,7 +190,7 @@ module _ (digest : Bytes → Bytes) (n own leader : ℕ) (leaders : Bytes) (rang
 
   proposal-first : (reply : Bytes) → frameIn (moved reply (proposeStep digest (early n own 0 0 0 leader leaders)) .reply) 0 ≡
       proposal own 1 (newBlock 1 0 (zeros 32) [])
-  unfolding frameIn moved proposeStep overFront written unused join part proposal frameOf zeros le16 proposedBlock newBlock offered without logAt chain chainWithin allEntries pending pieces parentBelow parentOf someOr digestAt
+  unfolding frameIn moved proposeStep overFront written unused join part proposal frameOf zeros le16 proposedBlock newBlock offered without logAt chain chainWithin allEntries pending pieces parentOf someOr digestAt
   proposal-first reply = refl
 
 -- one frame more is delivered

@@ -10,7 +10,7 @@ use Rattle.protocol.specs.Tests.{allOf, Row, firstRefusal}
 use Rattle.protocol.specs.Block.{blockEntries, newBlock}
 use Rattle.protocol.specs.Frame.{frameSize, proposal, blockVote, dummyVote, finalize, blockCertificate, dummyCertificate}
 use Rattle.protocol.specs.State.{State, at, last, encode, decode, holdsProposal, flag, withHead, pending}
-use Rattle.protocol.specs.View.{linked, isDummy, extends, largestFinalized, parentOf, digestAt, logAt}
+use Rattle.protocol.specs.View.{View, linked, isDummy, extends, largestFinalized, parentOf, digestAt, logAt}
 use Rattle.protocol.specs.Sound.{view, sound}
 use Rattle.protocol.specs.Answer.{Answer, refused, accepted, Move, idle, voteDummy, output, pass, propose, voteBlock, onBlock, onDummy}
 
@@ -29,6 +29,10 @@ firstStep (row ∷ rows) otherwise = cond (row .0) (row .1) (firstStep rows othe
 unfoldable pub without : List Bytes → List Bytes → List Bytes
 without taken [] = []
 without taken (e ∷ es) = cond (holds e taken) (without taken es) (e ∷ without taken es)
+
+-- of the entries that a block may carry those that it does: the first ones, as many as it takes
+abbrev pub chosen : List Bytes → List Bytes
+chosen es = take blockEntries es
 
 unfoldable pub isSome : {A : Type 0} → Option A → Bool
 isSome none = false
@@ -59,7 +63,7 @@ dummyVoteStep s = record {
 -- ---- the entries of a proposal
 -- the pending entries that the chain ending in height `j` lacks, as many as a block takes
 unfoldable pub offered : State → ℕ → List Bytes
-offered s j = take blockEntries (without (logAt (view s) j) (pending s))
+offered s j = chosen (without (logAt (view s) j) (pending s))
 
 -- ---- what the call leaves
 -- how many zero bytes follow the frames: the place of a finalize that a pass does not cast
@@ -113,13 +117,15 @@ module _ (digest : Bytes → Bytes) where
 
   -- ---- move 3
   -- the last block's height of the best chain of height c − 1, if there is such a chain
-  unfoldable pub parentBelow : State → Option ℕ
+  abbrev pub parentBelow : State → Option ℕ
   parentBelow s = parentOf digest (view s) (s .current - 1)
 
+  -- a notarized chain of height `c` is seen
+  abbrev pub passesAt : View → ℕ → Bool
+  passesAt v c = linked digest v c || isDummy v c && isSome (parentOf digest v (c - 1))
+
   unfoldable pub passApplies : State → Bool
-  passApplies s =
-      isRunning s &&
-      (linked digest (view s) (s .current) || isDummy (view s) (s .current) && isSome (parentBelow s))
+  passApplies s = isRunning s && passesAt (view s) (s .current)
 
   unfoldable pub passCertificate : State → Bytes
   passCertificate s =

@@ -22,7 +22,7 @@ use Rattle.protocol.specs.Signal.{withTimerFired, signalRows, signalCall
 use Rattle.protocol.specs.Mask.{inMask, union, belowBit}
 use Rattle.protocol.specs.Frame.{kind, signer, frameHeight, signerMask, frameDigest, frameBlock, isStatement, isCertificate, carriesBlock, carriesDigest, frameWellFormed, frameOf, dummyVote, finalizeCertificate}
 use Rattle.protocol.specs.Answer.{accepted, done, fresh, unlessRefused}
-use Rattle.protocol.specs.Move.{Step, firstStep, isSome, isRunning, idleStep, dummyVoteApplies, dummyVoteStep, moved, unlessMoveRefused, newFinalized, outputApplies, parentBelow, passApplies, passStep, proposeApplies, proposeStep, blockVoteApplies, blockVoteStep, step, moveRows, moveCall}
+use Rattle.protocol.specs.Move.{Step, firstStep, isSome, isRunning, idleStep, dummyVoteApplies, dummyVoteStep, moved, unlessMoveRefused, newFinalized, outputApplies, passApplies, passStep, proposeApplies, proposeStep, blockVoteApplies, blockVoteStep, step, moveRows, moveCall}
 use Rattle.protocol.specs.NewBookLaws.{Ranges, early, firstHeight, early-bare, early-back, early-sound}
 
 -- ---- no block is notarized
@@ -78,7 +78,7 @@ module _ (n own flags dummy final leader : ℕ) (leaders : Bytes) (ranges : Rang
   no-block-vote = rw (running, and-false)
 
   passing : (b : Bool) → isDummy (view E) 1 ≡ b → passApplies digest E ≡ b
-  unfolding passApplies parentBelow parentOf isSome
+  unfolding passApplies parentOf isSome
   passing b e = rw (running, unlinked digest E early-not-notarized 0, e) (and-true b)
 
   pub step-vote : dummyVoteApplies E ≡ true → step digest E ≡ dummyVoteStep E
@@ -94,7 +94,7 @@ module _ (n own flags dummy final leader : ℕ) (leaders : Bytes) (ranges : Rang
   step-propose e q lead not-yet = rw (e, no-output digest E early-not-notarized, passing false q, proposing)
     where
       proposing : proposeApplies digest E ≡ true
-      proposing = unfold proposeApplies allOf at firstHeight withMasks newHeight parentBelow parentOf isSome in rw (running, eq-eqb leader own lead, not-yet)
+      proposing = unfold proposeApplies allOf at firstHeight withMasks newHeight parentOf isSome in rw (running, eq-eqb leader own lead, not-yet)
 
   pub step-idle : dummyVoteApplies E ≡ false → isDummy (view E) 1 ≡ false → leader ≢ own → step digest E ≡ idleStep E
   unfolding step firstStep

@@ -3,7 +3,7 @@ use Prim.Native.Nat.{ℕ, zero, suc, _+_, _-_, _≤_, _<_}
 use native.Mathlib.Omega.{arith}
 use mathlib.Core.Path.{_≡_, refl, ap, _∙_}
 use mathlib.Core.Logic.{_⊎_, inl, inr}
-use mathlib.Core.Bool.{Bool, true, false, _&&_, _||_, not, and-false}
+use mathlib.Core.Bool.{Bool, true, false, _&&_, not, and-false}
 use mathlib.Core.List.{List, [], _∷_}
 use lib.Dec.{eqb, leb}
 use borrow.Author.Tests.{not-true, leb-true, lt-leb}
@@ -16,8 +16,8 @@ use Rattle.protocol.specs.RowLaws.{row}
 use Rattle.protocol.specs.State.{State, last, at, flag, withHead, holdsProposal}
 use Rattle.protocol.specs.Sound.{view}
 use Rattle.protocol.specs.Answer.{idle, moveNumber}
-use Rattle.protocol.specs.Move.{Step, step, firstStep, isRunning, idleStep, dummyVoteApplies, dummyVoteStep, outputApplies, outputStep, passApplies, passStep, proposeApplies, proposeStep, blockVoteApplies, blockVoteStep, newFinalized, parentBelow, isSome}
-use Rattle.protocol.specs.View.{extends, linked, isDummy}
+use Rattle.protocol.specs.Move.{Step, step, firstStep, isRunning, idleStep, dummyVoteApplies, dummyVoteStep, outputApplies, outputStep, passApplies, passStep, proposeApplies, proposeStep, blockVoteApplies, blockVoteStep, newFinalized, parentBelow, passesAt, isSome}
+use Rattle.protocol.specs.View.{extends}
 use Rattle.simplex.specs.Idle.{NoMove, IdleMeansNoMove, afterMoves, IdleWithin, MovesEnd}
 
 module _ (digest : Bytes → Bytes) where
@@ -125,7 +125,7 @@ module _ (digest : Bytes → Bytes) where
     dummy-same e e′ = rw (e, e′)
 
     propose-same : flag 8 flagged ≡ flag 8 s → proposeApplies digest flagged ≡ proposeApplies digest s
-    unfolding proposeApplies isRunning last withHead at parentBelow view
+    unfolding proposeApplies isRunning last withHead at view
     propose-same e = rw e
 
     propose-after : flag 8 flagged ≡ true → proposeApplies digest flagged ≡ false
@@ -145,7 +145,7 @@ module _ (digest : Bytes → Bytes) where
     output-same = refl
 
     pass-same : passApplies digest flagged ≡ passApplies digest s
-    unfolding passApplies isRunning last withHead view at parentBelow
+    unfolding passApplies isRunning last withHead view at
     pass-same = refl
 
     running-same : isRunning flagged ≡ isRunning s
@@ -192,10 +192,10 @@ module _ (digest : Bytes → Bytes) where
       none-left = unfold outputApplies newFinalized last withHead view at in lt-leb (suc (newFinalized digest s)) (newFinalized digest s) (omega arith)
 
       pass′ : passApplies digest after ≡ passApplies digest s
-      pass′ = unfold passApplies isRunning last withHead view at parentBelow in refl
+      pass′ = unfold passApplies isRunning last withHead view at in refl
 
       propose′ : proposeApplies digest after ≡ proposeApplies digest s
-      propose′ = unfold proposeApplies isRunning last withHead flag view at parentBelow in refl
+      propose′ = unfold proposeApplies isRunning last withHead flag view at in refl
 
       vote′ : blockVoteApplies digest after ≡ blockVoteApplies digest s
       vote′ = unfold blockVoteApplies isRunning last withHead flag view at in refl
@@ -203,8 +203,8 @@ module _ (digest : Bytes → Bytes) where
   lower-pass : (s : State) → dummyVoteApplies s ≡ false → outputApplies digest s ≡ false → passApplies digest s ≡ true → measure (passStep digest s .after) < measure s
   unfolding passStep isRunning withHead last
   lower-pass s e1 e2 e3 =
-      let parts : (isRunning s && (linked digest (view s) (s .current) || isDummy (view s) (s .current) && isSome (parentBelow digest s))) ≡ true = unfold passApplies in e3 in
-      let running : isRunning s ≡ true = and-true (isRunning s) (linked digest (view s) (s .current) || isDummy (view s) (s .current) && isSome (parentBelow digest s)) parts .0 in
+      let parts : (isRunning s && passesAt digest (view s) (s .current)) ≡ true = unfold passApplies in e3 in
+      let running : isRunning s ≡ true = and-true (isRunning s) (passesAt digest (view s) (s .current)) parts .0 in
       rw (measure-is s running e1 e2 e3 refl refl) (go (isRunning after) (passApplies digest after) refl refl)
     where
       after : State

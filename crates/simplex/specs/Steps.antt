@@ -5,14 +5,13 @@ use mathlib.Core.Path.{_≡_}
 use mathlib.Core.Logic.{_↔_}
 use mathlib.Core.Bool.{Bool, true, false, not, cond}
 use mathlib.Core.List.{List, [], _∷_}
-use lib.ListN.{take}
 use Rattle.protocol.specs.Bytes.{Bytes}
 use Rattle.protocol.specs.Block.{entries, blockWellFormed}
 use Rattle.protocol.specs.Frame.{proposal, blockVote, dummyVote, finalize, blockCertificate, dummyCertificate}
 use Rattle.protocol.specs.State.{State, at, last, flag, withHead, holdsProposal, pending}
 use Rattle.protocol.specs.Sound.{view}
 use Rattle.protocol.specs.Answer.{Move, voteDummy, output, pass, propose, voteBlock, Certificate, onBlock, onDummy}
-use Rattle.protocol.specs.Move.{step, without, dummyVoteApplies, outputApplies, passApplies, proposeApplies}
+use Rattle.protocol.specs.Move.{step, without, dummyVoteApplies, outputApplies, passApplies, proposeApplies, chosen}
 use Rattle.simplex.specs.Paper.{Sequence, height, linearize, lastBlock, Follows, NotarizedBlockchain, Finalization, SeenOfHeight, SeenWithBlock}
 use Rattle.simplex.specs.Blockchains.{ParentOf}
 
@@ -35,7 +34,7 @@ module _ (digest : Bytes → Bytes) (s : State) where
     pub its-height : suc (height parent) ≡ s .current
     pub longest : (c : Sequence) → NotarizedBlockchain digest (view s) c → height c ≡ height parent → lastBlock c ≤ lastBlock parent
     pub follows : Follows digest parent block
-    pub its-entries : entries block ≡ take 8 (without (linearize parent) (pending s))
+    pub its-entries : entries block ≡ chosen (without (linearize parent) (pending s))
     pub formed : blockWellFormed (s .current) block ≡ true
 
   unfoldable pub LeaderProposal : Type 0

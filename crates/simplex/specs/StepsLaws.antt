@@ -3,10 +3,10 @@ use Prim.Native.Nat.{ℕ, suc, _+_, _-_, _≤_, _<_}
 use native.Mathlib.Omega.{arith}
 use mathlib.Core.Path.{_≡_, refl, sym, ap, subst, _∙_}
 use mathlib.Core.Logic.{_⊎_, inl, inr, _↔_}
-use mathlib.Core.Bool.{Bool, true, false, _&&_, _||_, not, cond, false≢true}
+use mathlib.Core.Bool.{Bool, true, false, _&&_, not, cond, false≢true}
 use mathlib.Core.List.{List, [], _∷_}
 use mathlib.Core.Option.{Option, some, none}
-use lib.ListN.{length, take}
+use lib.ListN.{length}
 use borrow.Author.Tests.{eqb-true, eq-eqb, leb-true, le-leb, ltb-true, lt-ltb, not-true}
 use Rattle.protocol.specs.Bytes.{Bytes}
 use Rattle.protocol.specs.Block.{blockHeight, parentHeight, newBlock, blockWellFormed}
@@ -27,7 +27,7 @@ use Rattle.protocol.specs.ParentLaws.{parent-some, largestFinalized-is}
 use Rattle.protocol.specs.Sound.{view}
 use Rattle.protocol.specs.SoundLaws.{SoundState}
 use Rattle.protocol.specs.Answer.{Move, idle, voteDummy, output, pass, propose, voteBlock, onBlock, onDummy}
-use Rattle.protocol.specs.Move.{Step, step, firstStep, without, offered, proposedBlock, someOr, isRunning, isSome, idleStep, dummyVoteApplies, dummyVoteStep, outputApplies, outputStep, passApplies, passStep, proposeApplies, proposeStep, blockVoteApplies, blockVoteStep, newFinalized, parentBelow, passCertificate}
+use Rattle.protocol.specs.Move.{Step, step, firstStep, without, offered, proposedBlock, someOr, isRunning, isSome, idleStep, dummyVoteApplies, dummyVoteStep, outputApplies, outputStep, passApplies, passStep, proposeApplies, proposeStep, blockVoteApplies, blockVoteStep, newFinalized, parentBelow, passCertificate, passesAt, chosen}
 use Rattle.simplex.specs.Paper.{lastBlock, linearize, Sequence, addDummy, addBlock, height, NotarizedBlockchain, SeenOfHeight, SeenWithBlock, Finalization}
 use Rattle.simplex.specs.Blockchains.{ChainEndingAt, ParentOf, InThePapersTerms, LinkedIsSeen, ParentIsSeen, ParentIsLargest, FinalizedIsSeen, ExtendsIsFollowing}
 use Rattle.simplex.specs.BlockchainsLaws.{in-the-papers-terms}
@@ -192,14 +192,14 @@ module _ (digest : Bytes → Bytes) (s : State) where
     pass-seen : passApplies digest s ≡ true → Running digest s × SeenOfHeight digest (view s) (s .current)
     unfolding passApplies
     pass-seen e =
-        let q = and-true (isRunning s) (linked digest (view s) (s .current) || isDummy (view s) (s .current) && isSome (parentBelow digest s)) e in
+        let q = and-true (isRunning s) (passesAt digest (view s) (s .current)) e in
         (running (q .0), go (or-true (linked digest (view s) (s .current)) (isDummy (view s) (s .current) && isSome (parentBelow digest s)) (q .1)))
       where
         go : (linked digest (view s) (s .current) ≡ true) ⊎ ((isDummy (view s) (s .current) && isSome (parentBelow digest s)) ≡ true) → SeenOfHeight digest (view s) (s .current)
         go (inl l) = with-block (linked-seen (s .current) (sound .current-low) .0 l)
         go (inr d) =
             let both = and-true (isDummy (view s) (s .current)) (isSome (parentBelow digest s)) d in
-            let below = parent-seen (s .current - 1) .0 (unfold parentBelow in both .1) in
+            let below = parent-seen (s .current - 1) .0 (both .1) in
             subst (λ (c : ℕ). SeenOfHeight digest (view s) c) before (with-dummy (s .current - 1) (subst (λ (c : ℕ). isDummy (view s) c ≡ true) (sym before) (both .0)) below)
 
     pass-applies : Running digest s → SeenOfHeight digest (view s) (s .current) → passApplies digest s ≡ true
@@ -207,14 +207,14 @@ module _ (digest : Bytes → Bytes) (s : State) where
     pass-applies r q = true-and _ _ (is-running r) (go (q .notarized) (q .its-height))
       where
         on-dummy : {c : Sequence} → NotarizedBlockchain digest (view s) c → isDummy (view s) (suc (height c)) ≡ true → suc (height c) ≡ s .current →
-            (linked digest (view s) (s .current) || isDummy (view s) (s .current) && isSome (parentBelow digest s)) ≡ true
+            passesAt digest (view s) (s .current) ≡ true
         on-dummy {c} n d e =
-            let some-below : isSome (parentBelow digest s) ≡ true = unfold parentBelow in
+            let some-below : isSome (parentBelow digest s) ≡ true =
             parent-seen (s .current - 1) .1 (record { sequence = c; notarized = n; its-height = omega arith }) in
             or-right (linked digest (view s) (s .current)) (true-and _ _ (subst (λ (h : ℕ). isDummy (view s) h ≡ true) e d) some-below)
 
         go : {c : Sequence} → NotarizedBlockchain digest (view s) c → height c ≡ s .current →
-            (linked digest (view s) (s .current) || isDummy (view s) (s .current) && isSome (parentBelow digest s)) ≡ true
+            passesAt digest (view s) (s .current) ≡ true
         go NotarizedBlockchain.start e = absurd (let low = sound .current-low in omega arith)
         go (NotarizedBlockchain.dummyNext n d) e = on-dummy n d e
         go (NotarizedBlockchain.blockNext {c = c} {b = b} n f k) e =
@@ -302,11 +302,11 @@ module _ (digest : Bytes → Bytes) (s : State) where
     MayPropose = Running digest s × (at s (s .current) .leader ≡ s .own) × (flag 8 s ≡ false) × SeenOfHeight digest (view s) (s .current - 1)
 
     propose-when : proposeApplies digest s ≡ true → MayPropose
-    unfolding proposeApplies parentBelow
+    unfolding proposeApplies
     propose-when e = (running (row _ 0 e), eqb-true _ _ (row _ 1 e), not-true (flag 8 s) (row _ 2 e), parent-seen (s .current - 1) .0 (row _ 3 e))
 
     propose-applies : MayPropose → proposeApplies digest s ≡ true
-    unfolding proposeApplies parentBelow
+    unfolding proposeApplies
     propose-applies (r, l, f, q) =
         all-of (Every.one (is-running r) (Every.one (eq-eqb _ _ l) (Every.one (rw f) (Every.one (parent-seen (s .current - 1) .1 q) Every.none))))
 
@@ -317,7 +317,7 @@ module _ (digest : Bytes → Bytes) (s : State) where
     module _ (digest-size : (block : Bytes) → length (digest block) ≡ 32) where
       -- the block on the chain with the largest last block
       offers : (j : ℕ) → parentBelow digest s ≡ some j → Offers digest s (proposedBlock digest s j)
-      unfolding parentBelow ParentIsLargest proposedBlock
+      unfolding ParentIsLargest proposedBlock
       offers j e = record {
         parent = chain .sequence;
         notarized = chain .notarized;
@@ -328,7 +328,7 @@ module _ (digest : Bytes → Bytes) (s : State) where
           its-parent = unfold parentHeight newBlock in sym (chain .its-last);
           its-digest = digest-back c j d es below (digest-at-size digest (view s) digest-size j) (digest-at-start digest (view s) j) few sized ∙ sym (chain .its-digest);
         };
-        its-entries = entries-back c j d es below (digest-at-size digest (view s) digest-size j) (digest-at-start digest (view s) j) few sized ∙ chosen;
+        its-entries = entries-back c j d es below (digest-at-size digest (view s) digest-size j) (digest-at-start digest (view s) j) few sized ∙ offered-is;
         formed = new-block-good c j d es below (digest-at-size digest (view s) digest-size j) (digest-at-start digest (view s) j) few sized;
       }
         where
@@ -356,8 +356,8 @@ module _ (digest : Bytes → Bytes) (s : State) where
           below : j < c
           below = let low = sound .current-low in let within = parent-some digest (view s) (s .current - 1) j e .0 .within in omega arith
 
-          chosen : offered s j ≡ take 8 (without (linearize (chain .sequence)) (pending s))
-          chosen = unfold offered in ap (λ (l : List Bytes). take 8 (without l (pending s))) (sym (chain .its-log))
+          offered-is : offered s j ≡ chosen (without (linearize (chain .sequence)) (pending s))
+          offered-is = unfold offered in ap (λ (l : List Bytes). chosen (without l (pending s))) (sym (chain .its-log))
 
       proposed : proposeApplies digest s ≡ true → Offers digest s (proposedBlock digest s (someOr 0 (parentBelow digest s)))
       unfolding proposeApplies someOr
