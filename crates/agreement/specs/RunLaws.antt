@@ -19,9 +19,9 @@ use Rattle.protocol.specs.Frame.{frameHeight}
 use Rattle.protocol.specs.Move.{Step, moveCall, moveRows, moved, step, unlessMoveRefused}
 use Rattle.protocol.specs.Open.{newState, openCall, openRows}
 use Rattle.protocol.specs.RowLaws.{row-passes}
-use Rattle.protocol.specs.Signal.{signalCall, signalRows, withTimerFired}
+use Rattle.protocol.specs.Signal.{signalCall, signalRows}
 use Rattle.protocol.specs.Sound.{sound}
-use Rattle.protocol.specs.State.{Height, State, at, decode, encode, flag, noHeight, withHead, withHeight}
+use Rattle.protocol.specs.State.{Height, State, at, decode, encode, flag, noHeight, withHead, withHeight, withTimerFired}
 use Rattle.protocol.specs.StateLaws.{Shaped, ShapedHeight, decode-encode}
 use Rattle.protocol.specs.Tests.{firstRefusal}
 use Rattle.protocol.specs.TestsLaws.{and-true}

@@ -18,9 +18,9 @@ use Rattle.protocol.specs.Move.{blockVoteApplies, blockVoteStep, dummyVoteAppli
 use Rattle.protocol.specs.Open.{newHeight, newState, openCall, openInRange, openRows}
 use Rattle.protocol.specs.Read.{logSize, readPart}
 use Rattle.protocol.specs.RowLaws.{row}
-use Rattle.protocol.specs.Signal.{signalCall, signalRows, withTimerFired}
+use Rattle.protocol.specs.Signal.{signalCall, signalRows}
 use Rattle.protocol.specs.Sound.{blocksWellFormed, contentZeros, log, masksBelow, sound, view}
-use Rattle.protocol.specs.State.{at, bodyBytes, bookSize, contentBytes, decode, decodeHeight, decodeHeights, encode, flag, headBytes, holdsProposal, isNotarized, last, noHeight, pending, voteOf, withHead, withHeight}
+use Rattle.protocol.specs.State.{at, bodyBytes, bookSize, contentBytes, decode, decodeHeight, decodeHeights, encode, flag, headBytes, holdsProposal, isNotarized, last, noHeight, pending, voteOf, withHead, withHeight, withTimerFired}
 use Rattle.protocol.specs.Submit.{stillPending, submitCall, submitRows, withPending}
 use Rattle.protocol.specs.Tests.{allOf, everyHeight, firstRefusal, implies, inRange}
 use Rattle.protocol.specs.TestsLaws.{and-true}

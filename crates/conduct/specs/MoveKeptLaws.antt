@@ -6,11 +6,10 @@ use mathlib.Core.Logic.{_⊎_, inl, inr}
 use mathlib.Core.Bool.{true, not}
 use borrow.Author.Tests.{leb-true, not-true}
 use Rattle.protocol.specs.Bytes.{Bytes}
-use Rattle.protocol.specs.State.{State, last, flag, withHead}
+use Rattle.protocol.specs.State.{State, last, flag, withHead, withTimerFired}
 use Rattle.protocol.specs.View.{isFinalized}
 use Rattle.protocol.specs.Sound.{view}
 use Rattle.protocol.specs.Move.{Step, isRunning, newFinalized, step, dummyVoteApplies, dummyVoteStep, outputStep, passApplies, passStep, proposeApplies, proposeStep, blockVoteApplies, blockVoteStep, idleStep}
-use Rattle.protocol.specs.Signal.{withTimerFired}
 use Rattle.protocol.specs.Linked.{Finalized}
 use Rattle.protocol.specs.LinkedLaws.{finalized-complete}
 use Rattle.protocol.specs.ParentLaws.{largestFinalized-is}

@@ -10,13 +10,13 @@ use borrow.Author.Tests.{eqb-true, ltb-true}
 use Rattle.protocol.specs.Bytes.{Bytes}
 use Rattle.protocol.specs.Tests.{Row, firstRefusal}
 use Rattle.protocol.specs.Frame.{frameHeight}
-use Rattle.protocol.specs.State.{State, Height, encode, decode, withHeight}
+use Rattle.protocol.specs.State.{State, Height, encode, decode, withHeight, withTimerFired}
 use Rattle.protocol.specs.Sound.{sound}
 use Rattle.protocol.specs.Answer.{Answer, refused, accepted, Outcome, Done, done, unlessRefused}
 use Rattle.protocol.specs.Open.{newState, openRows, openCall}
 use Rattle.protocol.specs.Deliver.{clashRows, keep, kept, deliverRows, deliverCall}
 use Rattle.protocol.specs.Move.{step, moved, unlessMoveRefused, moveRows, moveCall}
-use Rattle.protocol.specs.Signal.{withTimerFired, signalRows, signalCall}
+use Rattle.protocol.specs.Signal.{signalRows, signalCall}
 use Rattle.protocol.specs.Submit.{withPending, stillPending, submitRows, submitCall}
 use Rattle.protocol.specs.TestsLaws.{and-true}
 use Rattle.protocol.specs.RowLaws.{row-passes}

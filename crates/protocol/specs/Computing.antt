@@ -4,14 +4,14 @@ use Rattle.protocol.specs.Tests.{allOf, implies, inRange, everyHeight, f
 use Rattle.protocol.specs.Block.{blockHeight, parentHeight, entryCount, parentDigest, entries, blockWellFormed, newBlock, allEntries}
 use Rattle.protocol.specs.Frame.{kind, signer, frameHeight, signerMask, frameDigest, frameBlock, isStatement, isCertificate, carriesBlock, carriesDigest, frameWellFormed, frameOf, proposal, blockVote, dummyVote, finalize, blockCertificate, dummyCertificate, finalizeCertificate}
 use Rattle.protocol.specs.Mask.{inMask, maskOf, ones, union, belowBit}
-use Rattle.protocol.specs.State.{bookSize, headBytes, contentBytes, bodyBytes, encode, decodeHeight, decodeHeights, decode, last, noHeight, at, holdsProposal, isNotarized, voteOf, withHeight, withHead, flag, pending}
+use Rattle.protocol.specs.State.{bookSize, headBytes, contentBytes, bodyBytes, encode, decodeHeight, decodeHeights, decode, last, noHeight, at, holdsProposal, isNotarized, voteOf, withHeight, withHead, withTimerFired, flag, pending}
 use Rattle.protocol.specs.View.{quorum, isDummy, dummyRun, digestAt, extendsOver, linkedWithin, linked, extends, isFinalized, largestFinalized, parentOf, chainWithin, chain, logAt}
 use Rattle.protocol.specs.Sound.{view, log, masksBelow, blocksWellFormed, contentZeros, sound}
 use Rattle.protocol.specs.Answer.{unlessRefused, refusalNumber, certificateKind, finalizeKind, moveNumber, moveHeight}
 use Rattle.protocol.specs.Open.{newHeight, newState, openInRange, openRows, openCall}
 use Rattle.protocol.specs.Deliver.{withProposal, withNotarized, withMasks, withVote, votersFor, keepDummyVote, keepFinalize, keepBlockCertificate, keepDummyCertificate, keepFinalizeCertificate, readRows, clashRows, notarize, keepProposal, keepBlockVote, keep, kept, deliverRows, deliverCall}
 use Rattle.protocol.specs.Move.{firstStep, without, isSome, someOr, isRunning, idleStep, dummyVoteApplies, dummyVoteStep, unused, written, moved, unlessMoveRefused, newFinalized, outputApplies, outputStep, passApplies, passCertificate, passStep, proposeApplies, offered, proposedBlock, proposeStep, blockVoteApplies, blockVoteStep, step, moveRows, moveCall}
-use Rattle.protocol.specs.Signal.{withTimerFired, signalRows, signalCall}
+use Rattle.protocol.specs.Signal.{signalRows, signalCall}
 use Rattle.protocol.specs.Submit.{withPending, stillPending, submitRows, submitCall}
 use Rattle.protocol.specs.Read.{logSize, sizeCall, readPart, readBuffer}
 use Rattle.protocol.specs.Fetch.{certificateFrame, hasCertificate, unlessFetchRefused, fetchRows, fetchCall}

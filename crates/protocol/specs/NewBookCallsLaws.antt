@@ -13,12 +13,12 @@ use Rattle.protocol.specs.Bytes.{Bytes, zeros, le16, word16, part, isZer
 use Rattle.protocol.specs.Tests.{allOf, inRange, implies, firstRefusal}
 use Rattle.protocol.specs.RowLaws.{range-in}
 use Rattle.protocol.specs.MoveLaws.{step-cases}
-use Rattle.protocol.specs.State.{State, at, last, encode, holdsProposal, isNotarized, flag, withHead, withHeight}
+use Rattle.protocol.specs.State.{State, at, last, encode, holdsProposal, isNotarized, flag, withHead, withTimerFired, withHeight}
 use Rattle.protocol.specs.View.{quorum, isDummy, linked, linkedWithin, isFinalized, largestFinalized, parentOf}
 use Rattle.protocol.specs.Sound.{view}
 use Rattle.protocol.specs.Open.{newHeight}
 use Rattle.protocol.specs.Deliver.{withMasks, readRows, clashRows, keep, kept, keepDummyVote, keepFinalizeCertificate, deliverRows, deliverCall}
-use Rattle.protocol.specs.Signal.{withTimerFired, signalRows, signalCall}
+use Rattle.protocol.specs.Signal.{signalRows, signalCall}
 use Rattle.protocol.specs.Mask.{inMask, union, belowBit}
 use Rattle.protocol.specs.Frame.{kind, signer, frameHeight, signerMask, frameDigest, frameBlock, isStatement, isCertificate, carriesBlock, carriesDigest, frameWellFormed, frameOf, dummyVote, finalizeCertificate}
 use Rattle.protocol.specs.Answer.{accepted, done, fresh, unlessRefused}

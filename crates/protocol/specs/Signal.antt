@@ -1,16 +1,13 @@
 -- Signal: the timer of the current height has fired.
-use Prim.Native.Nat.{ℕ, _+_}
+use Prim.Native.Nat.{ℕ}
 use mathlib.Core.Bool.{_&&_, not}
 use mathlib.Core.List.{List, [], _∷_}
 use lib.Dec.{eqb}
 use Rattle.protocol.specs.Bytes.{Bytes}
 use Rattle.protocol.specs.Tests.{inRange, Row, firstRefusal}
-use Rattle.protocol.specs.State.{State, last, encode, decode, flag, withHead}
+use Rattle.protocol.specs.State.{State, last, encode, decode, flag, withTimerFired}
 use Rattle.protocol.specs.Sound.{sound}
 use Rattle.protocol.specs.Answer.{Outcome, Done, done, accepted, unlessRefused}
-
-unfoldable pub withTimerFired : State → State
-withTimerFired s = withHead s (s .flags + 1) (s .current) (s .finalized)
 
 module _ (digest : Bytes → Bytes) where
   unfoldable pub signalRows : Bytes → ℕ → List Row

@@ -162,6 +162,10 @@ withHead s flags current finalized = record {
   heights = s .heights;
 }
 
+-- the timer of the current height has fired
+unfoldable pub withTimerFired : State → State
+withTimerFired s = withHead s (s .flags + 1) (s .current) (s .finalized)
+
 -- whether flag `k` (1, 2, 4 or 8) is set
 unfoldable pub flag : ℕ → State → Bool
 flag k s = eqb (s .flags / k % 2) 1

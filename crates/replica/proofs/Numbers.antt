@@ -9,12 +9,11 @@ use lib.Dec.{eqb, leb, ltb}
 use borrow.Author.Tests.{lt-ltb, le-ltb, ltb-true, eqb-true, eq-eqb, ne-eqb}
 use Rattle.protocol.specs.Bytes.{Bytes, byteAt, all}
 use Rattle.protocol.specs.Tests.{allOf, inRange}
-use Rattle.protocol.specs.State.{State, decode, encode, last, flag, pending, withHead, bookSize}
+use Rattle.protocol.specs.State.{State, decode, encode, last, flag, pending, withHead, withTimerFired, bookSize}
 use Rattle.protocol.specs.Sound.{log}
 use Rattle.protocol.specs.Submit.{stillPending}
 use Rattle.protocol.specs.EntriesLaws.{pending-length}
 use Rattle.protocol.specs.PoolLaws.{without-short}
-use Rattle.protocol.specs.Signal.{withTimerFired}
 use Rattle.protocol.specs.Open.{openInRange}
 use Rattle.protocol.specs.Frame.{isCertificate}
 use Rattle.protocol.specs.CodecLaws.{last-decode}
