@@ -8,23 +8,14 @@ use mathlib.Core.List.{List, [], _∷_, List·Memᴰ}
 use mathlib.Core.Option.{some, none}
 use lib.Dec.{eqb}
 use borrow.Author.Tests.{eqb-true}
-use Rattle.protocol.specs.Answer.{unlessRefused}
-use Rattle.protocol.specs.Block.{allEntries, blockHeight, blockWellFormed, entries, entryCount, newBlock, parentDigest, parentHeight}
-use Rattle.protocol.specs.Bytes.{Bytes, all, byteAt, holds, isZero, join, le16, overFront, part, pieces, same, word16, zeros}
-use Rattle.protocol.specs.Deliver.{clashRows, deliverCall, deliverRows, keep, keepBlockCertificate, keepBlockVote, keepDummyCertificate, keepDummyVote, keepFinalize, keepFinalizeCertificate, keepProposal, kept, notarize, readRows, votersFor, withMasks, withNotarized, withProposal, withVote}
-use Rattle.protocol.specs.Frame.{blockCertificate, blockVote, carriesBlock, carriesDigest, dummyCertificate, dummyVote, finalize, finalizeCertificate, frameBlock, frameDigest, frameHeight, frameOf, frameWellFormed, isCertificate, isStatement, kind, proposal, signer, signerMask}
-use Rattle.protocol.specs.Mask.{belowBit, inMask, maskOf, ones, union}
-use Rattle.protocol.specs.Move.{blockVoteApplies, blockVoteStep, dummyVoteApplies, dummyVoteStep, firstStep, idleStep, isRunning, isSome, moveCall, moveRows, moved, newFinalized, offered, outputApplies, outputStep, passApplies, passCertificate, passStep, proposeApplies, proposeStep, proposedBlock, someOr, step, unlessMoveRefused, unused, without, written}
-use Rattle.protocol.specs.Open.{newHeight, newState, openCall, openInRange, openRows}
-use Rattle.protocol.specs.Read.{logSize, readPart}
+use Rattle.protocol.specs.Block.{newBlock}
+use Rattle.protocol.specs.Bytes.{Bytes, byteAt, holds, join, le16, zeros}
+use Rattle.protocol.specs.Computing.{everything}
+use Rattle.protocol.specs.Frame.{dummyCertificate, frameBlock, frameHeight, frameOf, kind, proposal, signer}
+use Rattle.protocol.specs.Mask.{inMask, ones}
 use Rattle.protocol.specs.RowLaws.{row}
-use Rattle.protocol.specs.Signal.{signalCall, signalRows}
-use Rattle.protocol.specs.Sound.{blocksWellFormed, contentZeros, log, masksBelow, sound, view}
-use Rattle.protocol.specs.State.{at, bodyBytes, bookSize, contentBytes, decode, decodeHeight, decodeHeights, encode, flag, headBytes, holdsProposal, isNotarized, last, noHeight, pending, voteOf, withHead, withHeight, withTimerFired}
-use Rattle.protocol.specs.Submit.{stillPending, submitCall, submitRows, withPending}
-use Rattle.protocol.specs.Tests.{allOf, everyHeight, firstRefusal, implies, inRange}
+use Rattle.protocol.specs.Tests.{allOf}
 use Rattle.protocol.specs.TestsLaws.{and-true}
-use Rattle.protocol.specs.View.{chain, chainWithin, digestAt, dummyRun, extends, extendsOver, isDummy, isFinalized, largestFinalized, linked, linkedWithin, logAt, parentOf, quorum}
 use Rattle.agreement.specs.ListTests.{deliversBacked, everyHonest, everyIn, follows, isAmong, isBacked, isHonest, keepsOneBook, noCollision, notForged, opensFor, readsPart, shows, showsOnly, signed, signedIn, someIn, statementBytes}
 use Rattle.agreement.specs.ListTestsLaws.{collision-sound, every-honest, forged-sound, holds-member, honest-in, keeps-sound, reads-sound, some-in}
 use Rattle.agreement.specs.Lists.{HonestIn, Member, Reads, blockIn, bookAfter, deliveredBy, delivers, isAccepted, leftBy, opensBook, orElse, proposes, statementOf, when, writes, writtenBy}
@@ -57,7 +48,7 @@ tests l = allOf
     someIn (passes 1) l ∷ [])
 
 tested : tests list ≡ true
-unfolding tests list reads hears passes everyHonest isHonest keepsOneBook deliversBacked notForged shows showsOnly noCollision someIn everyIn signed signedIn isBacked statementBytes opensFor isAmong follows readsPart isAccepted orElse when blockIn statementOf opensBook deliveredBy writtenBy leftBy sample entry oneBlock otherBlock nextBlock move hear openings split timeouts agreed readings build anything bookAfter part zeros word16 le16 overFront all isZero same pieces join holds allOf implies inRange everyHeight firstRefusal inMask maskOf ones union belowBit newBlock blockHeight parentHeight entryCount parentDigest entries blockWellFormed allEntries proposal blockVote dummyVote finalize blockCertificate dummyCertificate finalizeCertificate frameOf kind signer frameHeight signerMask frameDigest frameBlock isStatement isCertificate carriesBlock carriesDigest frameWellFormed bookSize headBytes contentBytes bodyBytes encode decodeHeight decodeHeights decode last noHeight at holdsProposal isNotarized voteOf withHeight withHead flag pending quorum isDummy dummyRun digestAt extendsOver linkedWithin linked extends isFinalized largestFinalized parentOf chainWithin chain logAt view log masksBelow blocksWellFormed contentZeros sound unlessRefused newHeight newState openInRange openRows openCall withProposal withNotarized withMasks withVote votersFor keepDummyVote keepFinalize keepBlockCertificate keepDummyCertificate keepFinalizeCertificate readRows clashRows notarize keepProposal keepBlockVote keep kept deliverRows deliverCall firstStep without isSome someOr isRunning idleStep dummyVoteApplies dummyVoteStep unused written moved unlessMoveRefused newFinalized outputApplies outputStep passApplies passCertificate passStep proposeApplies offered proposedBlock proposeStep blockVoteApplies blockVoteStep step moveRows moveCall withTimerFired signalRows signalCall withPending stillPending submitRows submitCall logSize readPart
+unfolding everything tests list reads hears passes everyHonest isHonest keepsOneBook deliversBacked notForged shows showsOnly noCollision someIn everyIn signed signedIn isBacked statementBytes opensFor isAmong follows readsPart isAccepted orElse when blockIn statementOf opensBook deliveredBy writtenBy leftBy sample entry oneBlock otherBlock nextBlock move hear openings split timeouts agreed readings build anything bookAfter
 tested = refl
 
 -- ---- from tests to facts
