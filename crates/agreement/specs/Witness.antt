@@ -53,15 +53,15 @@ openings =
 -- height 1: replica 3 proposes two blocks and votes for both
 unfoldable pub split : List Turn
 split =
-    hear 0 (proposal 3 1 oneBlock) ∷ hear 1 (proposal 3 1 otherBlock) ∷ hear 0 (proposal 3 1 otherBlock) ∷
+    hear 0 (proposal 3 1 oneBlock) ∷ hear 1 (proposal 3 1 otherBlock) ∷
     move 0 ∷ move 1 ∷
     hear 0 (blockVote 3 1 (sample oneBlock)) ∷ hear 1 (blockVote 3 1 (sample otherBlock)) ∷
     hear 0 (blockVote 0 1 (sample oneBlock)) ∷ hear 1 (blockVote 0 1 (sample oneBlock)) ∷ []
 
--- the timers fire, and height 1 passes on its dummy block
+-- the timers fire, replica 0 hears the other block too, which is refused, and height 1 passes on its dummy block
 unfoldable pub timeouts : List Turn
 timeouts =
-    (0, signalling 1) ∷ (1, signalling 1) ∷ (2, signalling 1) ∷ move 0 ∷ move 1 ∷ move 2 ∷
+    (0, signalling 1) ∷ (1, signalling 1) ∷ (2, signalling 1) ∷ hear 0 (proposal 3 1 otherBlock) ∷ move 0 ∷ move 1 ∷ move 2 ∷
     hear 0 (dummyVote 0 1) ∷ hear 0 (dummyVote 1 1) ∷ hear 0 (dummyVote 2 1) ∷ move 0 ∷
     hear 1 (dummyCertificate 1 7) ∷ hear 2 (dummyCertificate 1 7) ∷ move 1 ∷ move 2 ∷ []
 
