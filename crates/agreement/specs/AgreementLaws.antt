@@ -1,5 +1,5 @@
 -- Of any two logs read from honest replicas one is a beginning of the other.
-use Prim.Native.Nat.{ℕ, zero, suc, _*_, _≤_, _<_}
+use Prim.Native.Nat.{ℕ, suc, _*_, _≤_, _<_}
 use native.Mathlib.Omega.{arith}
 use mathlib.Core.Path.{_≡_, refl, sym, subst, _∙_}
 use mathlib.Core.Logic.{_⊎_, inl, inr}
@@ -16,9 +16,9 @@ use Rattle.protocol.specs.Read.{logSize, readPart}
 use Rattle.protocol.specs.Sound.{log, sound, view}
 use Rattle.protocol.specs.State.{State, at, decode, isNotarized}
 use Rattle.protocol.specs.TestsLaws.{and-true, cond-elim, le-or-lt, member-split}
-use Rattle.protocol.specs.View.{chain, chainWithin, isDummy, isFinalized, linked, logAt, quorum}
+use Rattle.protocol.specs.View.{chain, isDummy, isFinalized, logAt, quorum}
 use Rattle.agreement.specs.BackingLaws.{Backed}
-use Rattle.agreement.specs.ChainsLaws.{Prefix, begins, prefix-bytes, prefix-nil}
+use Rattle.agreement.specs.ChainsLaws.{Prefix, prefix-bytes, settled-chains}
 use Rattle.agreement.specs.GrantsLaws.{Grants, grants}
 use Rattle.agreement.specs.Lists.{Agreement, Begins, Continues, Follows, HonestIn, KeepsOneBook, Member, NoCollision, NotForged, Opens, Reads, Statement, Wrote, finalizes, lastLeft, votesBlock, votesDummy}
 use Rattle.agreement.specs.ReplicaLaws.{good-after}
@@ -107,14 +107,8 @@ module _ (digest : Bytes → Bytes) (n dishonest : ℕ) (l : List Member) (third
     -- ---- chains of finalized heights
     chains : (g g′ : ℕ) → (g ≡ 0) ⊎ (isFinalized digest (view b) g ≡ true) → (g′ ≡ 0) ⊎ (isFinalized digest (view b′) g′ ≡ true) →
         g ≤ g′ → Prefix (chain (view b) g) (chain (view b′) g′)
-    unfolding chain chainWithin isFinalized linked isDummy view
-    chains zero g′ q q′ le = prefix-nil (chain (view b′) g′)
-    chains (suc i) g′ (inl q) q′ le = absurd (omega arith)
-    chains (suc i) g′ (inr q) (inl q′) le = absurd (omega arith)
-    chains (suc i) g′ (inr q) (inr q′) le =
-        let a = and-true (linked digest (view b) (suc i)) (quorum (view b) (at b (suc i) .finalizeMask)) q in
-        let a′ = and-true (linked digest (view b′) g′) (quorum (view b′) (at b′ g′ .finalizeMask)) q′ in
-        begins digest (view b) (view b′) equal-blocks (suc i) g′ (suc i) g′ (a .0) (a′ .0) (λ z. final-not-dummy i (a .1) z) le
+    unfolding isDummy view
+    chains = settled-chains digest (view b) (view b′) equal-blocks final-not-dummy
 
     logs : b .finalized ≤ b′ .finalized → Begins (join (log b)) (join (log b′))
     unfolding log logAt

@@ -15,11 +15,15 @@ use Rattle.protocol.specs.RowLaws.{row}
 use Rattle.protocol.specs.TestsLaws.{and-true, le-or-lt}
 use Rattle.protocol.specs.PiecesLaws.{join-append}
 use Rattle.protocol.specs.ViewLaws.{run-sound, chain-none, chain-step, allEntries-append}
-use Rattle.protocol.specs.View.{View, chainWithin, dummyRun, extendsOver, isDummy, linkedWithin}
+use Rattle.protocol.specs.View.{View, chain, chainWithin, dummyRun, extendsOver, isDummy, isFinalized, linked, linkedWithin, quorum}
 use Rattle.agreement.specs.Lists.{Begins}
 
 unfoldable pub Prefix : {A : Type 0} → List A → List A → Type 0
 Prefix {A} xs ys = (zs : List A) × (ys ≡ xs ++ zs)
+
+prefix-nil : {A : Type 0} (ys : List A) → Prefix [] ys
+unfolding Prefix
+prefix-nil ys = (ys, refl)
 
 -- ---- one link of a chain
 abbrev back : View → ℕ → ℕ
@@ -57,7 +61,7 @@ module _ (digest : Bytes → Bytes) where
         chain-step f v i ∙ ap₂ (λ (x : List Bytes) (y : Bytes). x ++ (y ∷ [])) lower p ∙ sym (chain-step f′ v′ i)
 
     -- the chain of a height that has no dummy block in the other view begins each longer chain of that view
-    pub begins : (f f′ g g′ : ℕ) → linkedWithin digest f v g ≡ true → linkedWithin digest f′ v′ g′ ≡ true →
+    begins : (f f′ g g′ : ℕ) → linkedWithin digest f v g ≡ true → linkedWithin digest f′ v′ g′ ≡ true →
         (isDummy v′ g ≡ true → ⊥) → g ≤ g′ → Prefix (chainWithin f v g) (chainWithin f′ v′ g′)
     unfolding Prefix
     begins f zero g g′ e e′ final le =
@@ -92,13 +96,22 @@ module _ (digest : Bytes → Bytes) where
             ([], ap (chainWithin (suc f′) v′) (sym z) ∙ sym same-one ∙ sym (append-nil (chainWithin f v g)))
         go below (inr h) = behind below h (le-or-lt g (back v′ (suc i)))
 
+    -- the chains of two finalized heights, where a height finalized in the first view has no dummy block in the second
+    pub settled-chains : ((i : ℕ) → quorum v (v .finalizeMask (suc i)) ≡ true → isDummy v′ (suc i) ≡ true → ⊥) →
+        (g g′ : ℕ) → (g ≡ 0) ⊎ (isFinalized digest v g ≡ true) → (g′ ≡ 0) ⊎ (isFinalized digest v′ g′ ≡ true) →
+        g ≤ g′ → Prefix (chain v g) (chain v′ g′)
+    unfolding chain chainWithin isFinalized linked
+    settled-chains apart zero g′ q q′ le = prefix-nil (chain v′ g′)
+    settled-chains apart (suc i) g′ (inl q) q′ le = absurd (omega arith)
+    settled-chains apart (suc i) g′ (inr q) (inl q′) le = absurd (omega arith)
+    settled-chains apart (suc i) g′ (inr q) (inr q′) le =
+        let a = and-true (linked digest v (suc i)) (quorum v (v .finalizeMask (suc i))) q in
+        let a′ = and-true (linked digest v′ g′) (quorum v′ (v′ .finalizeMask g′)) q′ in
+        begins (suc i) g′ (suc i) g′ (a .0) (a′ .0) (λ z. apart i (a .1) z) le
+
 -- ---- from chains to bytes
 pub prefix-bytes : (xs ys : List Bytes) → Prefix xs ys → Begins (join (allEntries xs)) (join (allEntries ys))
 unfolding Begins Prefix
 prefix-bytes xs ys (zs, e) =
     rw (e, allEntries-append xs zs, join-append (allEntries xs) (allEntries zs))
     (sym (take-append-seam (join (allEntries xs)) (join (allEntries zs))))
-
-pub prefix-nil : {A : Type 0} (ys : List A) → Prefix [] ys
-unfolding Prefix
-prefix-nil ys = (ys, refl)
