@@ -24,11 +24,10 @@ use Rattle.agreement.specs.Lists.{Agreement, Begins, Continues, Follows,
 use Rattle.agreement.specs.ReplicaLaws.{good-after}
 use Rattle.agreement.specs.RunLaws.{Good, GoodBytes, Honest, Seen, States, wrote-more}
 
-module _ (digest : Bytes → Bytes) (n dishonest : ℕ) (l : List Member) (third : 3 * ones dishonest n < n)
+-- ---- what an honest replica states in the whole list, however many are dishonest
+module _ (digest : Bytes → Bytes) (n dishonest : ℕ) (l : List Member)
     (keeps : (s : ℕ) → HonestIn n dishonest s → KeepsOneBook digest n l s)
-    (unforged : NotForged digest (HonestIn n dishonest) l)
-    (collisionless : NoCollision digest (HonestIn n dishonest) l) where
-  -- ---- what an honest replica states in the whole list
+    (unforged : NotForged digest (HonestIn n dishonest) l) where
   whole-list : (t : ℕ) → Honest digest n dishonest t → GoodBytes digest n dishonest l t (lastLeft digest t l)
   whole-list t ht = good-after digest n dishonest l keeps unforged l [] (sym (append-nil l)) t ht
 
@@ -47,6 +46,11 @@ module _ (digest : Bytes → Bytes) (n dishonest : ℕ) (l : List Member) (third
       go none g = g _ w
       go (some book) g = g .consistent .not-both h (λ q. w) (λ q. w′)
 
+-- ---- where fewer than a third are dishonest, and no two blocks collide
+module _ (digest : Bytes → Bytes) (n dishonest : ℕ) (l : List Member) (third : 3 * ones dishonest n < n)
+    (keeps : (s : ℕ) → HonestIn n dishonest s → KeepsOneBook digest n l s)
+    (unforged : NotForged digest (HonestIn n dishonest) l)
+    (collisionless : NoCollision digest (HonestIn n dishonest) l) where
   -- a sound book that an honest replica had after some first part of the list
   record Had (b : State) : Type 0 where
     P : List Member
@@ -94,14 +98,14 @@ module _ (digest : Bytes → Bytes) (n dishonest : ℕ) (l : List Member) (third
         let p′ = backed-at b′ x′ i .notarized-seen e′ in
         collisionless (p .0) (p′ .0) (at b (suc i) .notarized) (at b′ (suc i) .notarized)
         (in-whole b x (p .0) (p .1)) (in-whole b′ x′ (p′ .0) (p′ .1)) (p .2) (p′ .2) (p .3) (p′ .3)
-        (one-vote t (suc i) _ _ ht w w′)
+        (one-vote digest n dishonest l keeps unforged t (suc i) _ _ ht w w′)
 
     final-not-dummy : (i : ℕ) → quorum (view b) (at b (suc i) .finalizeMask) ≡ true →
         quorum (view b′) (at b′ (suc i) .dummyMask) ≡ true → ⊥
     final-not-dummy i e e′ =
         let (t, low, inA, inB, notD) = shared (at b (suc i) .finalizeMask) (at b′ (suc i) .dummyMask) e e′ in
         let ht = honest t low notD in
-        never-both t (suc i) ht (stated b′ x′ t _ ht (backed-at b′ x′ i .dummies t inB))
+        never-both digest n dishonest l keeps unforged t (suc i) ht (stated b′ x′ t _ ht (backed-at b′ x′ i .dummies t inB))
         (stated b x t _ ht (backed-at b x i .finalizations t inA))
 
     -- ---- chains of finalized heights
