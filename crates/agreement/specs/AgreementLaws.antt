@@ -1,5 +1,5 @@
 -- Of any two logs read from honest replicas one is a beginning of the other.
-use Prim.Native.Nat.{ℕ, suc, _*_, _≤_, _<_}
+use Prim.Native.Nat.{ℕ, suc, _≤_, _<_}
 use native.Mathlib.Omega.{arith}
 use mathlib.Core.Path.{_≡_, refl, sym, subst, _∙_}
 use mathlib.Core.Logic.{_⊎_, inl, inr}
@@ -10,7 +10,7 @@ use lib.ListN.{length}
 use lib.Dec.{leb}
 use Rattle.protocol.specs.Bytes.{Bytes, join}
 use Rattle.protocol.specs.CodecLaws.{at-suc}
-use Rattle.protocol.specs.Mask.{inMask, ones}
+use Rattle.protocol.specs.Mask.{inMask}
 use Rattle.protocol.specs.QuorumLaws.{quorums-meet}
 use Rattle.protocol.specs.Read.{logSize, readPart}
 use Rattle.protocol.specs.Sound.{log, sound, view}
@@ -20,7 +20,7 @@ use Rattle.protocol.specs.View.{chain, isDummy, isFinalized, logAt, quorum}
 use Rattle.agreement.specs.BackingLaws.{Backed}
 use Rattle.agreement.specs.ChainsLaws.{Prefix, prefix-bytes, settled-chains}
 use Rattle.agreement.specs.GrantsLaws.{Grants, grants}
-use Rattle.agreement.specs.Lists.{Agreement, Begins, Continues, Follows, HonestIn, KeepsOneBook, Member, NoCollision, NotForged, Opens, Reads, Statement, Wrote, finalizes, lastLeft, votesBlock, votesDummy}
+use Rattle.agreement.specs.Lists.{Agreement, Begins, Continues, FewDishonest, Follows, HonestIn, KeepsOneBook, Member, NoCollision, NotForged, Opens, Reads, Statement, Wrote, finalizes, lastLeft, votesBlock, votesDummy}
 use Rattle.agreement.specs.ReplicaLaws.{good-after}
 use Rattle.agreement.specs.RunLaws.{Good, GoodBytes, Honest, Seen, States, wrote-more}
 
@@ -47,7 +47,7 @@ module _ (digest : Bytes → Bytes) (n dishonest : ℕ) (l : List Member)
       go (some book) g = g .consistent .not-both h (λ q. w) (λ q. w′)
 
 -- ---- where fewer than a third are dishonest, and no two blocks collide
-module _ (digest : Bytes → Bytes) (n dishonest : ℕ) (l : List Member) (third : 3 * ones dishonest n < n)
+module _ (digest : Bytes → Bytes) (n dishonest : ℕ) (l : List Member) (third : FewDishonest n dishonest)
     (keeps : (s : ℕ) → HonestIn n dishonest s → KeepsOneBook digest n l s)
     (unforged : NotForged digest (HonestIn n dishonest) l)
     (collisionless : NoCollision digest (HonestIn n dishonest) l) where
@@ -79,7 +79,7 @@ module _ (digest : Bytes → Bytes) (n dishonest : ℕ) (l : List Member) (third
     unfolding view
     shared m m′ e e′ =
         quorums-meet (view b) (view b′) m m′ dishonest (x′ .good .same-n ∙ sym (x .good .same-n)) e e′
-        (subst (λ (k : ℕ). 3 * ones dishonest k < k) (sym (x .good .same-n)) third)
+        (subst (λ (k : ℕ). FewDishonest k dishonest) (sym (x .good .same-n)) third)
 
     honest : (t : ℕ) → t < b .n → inMask dishonest t ≡ false → Honest digest n dishonest t
     unfolding HonestIn

@@ -64,6 +64,10 @@ Begins part other = part ≡ take (length part) other
 unfoldable pub HonestIn : ℕ → ℕ → ℕ → Type 0
 HonestIn n dishonest s = (s < n) × (inMask dishonest s ≡ false)
 
+-- fewer than a third of the replicas below `n` are dishonest
+abbrev pub FewDishonest : ℕ → ℕ → Type 0
+FewDishonest n dishonest = 3 * ones dishonest n < n
+
 unfoldable pub isAccepted : {A : Type 0} → Answer A → Bool
 isAccepted (refused number) = false
 isAccepted (accepted a) = true
@@ -195,7 +199,7 @@ module _ (digest : Bytes → Bytes) where
   unfoldable pub Agreement : Type 0
   Agreement =
       (n dishonest : ℕ) (list : List Member) →
-      3 * ones dishonest n < n →
+      FewDishonest n dishonest →
       ((s : ℕ) → HonestIn n dishonest s → KeepsOneBook n list s) →
       NotForged (HonestIn n dishonest) list →
       NoCollision (HonestIn n dishonest) list →

@@ -1,17 +1,16 @@
 -- A list of calls that meets every premise of demand 3, so that the claim is not vacuous: four replicas, of which
 -- replica 3 is dishonest and tells different replicas different things; height 1 passes on its dummy block, and two
 -- honest replicas read an entry.
-use Prim.Native.Nat.{ℕ, _*_, _<_}
+use Prim.Native.Nat.{ℕ}
 use mathlib.Core.Path.{_≡_}
 use mathlib.Core.Logic.{_≢_}
 use mathlib.Core.List.{List, [], _∷_, _++_, List·Memᴰ}
 use mathlib.Core.Option.{some}
 use lib.ListN.{getD, set, replicate}
 use Rattle.protocol.specs.Bytes.{Bytes, byteAt, part, zeros}
-use Rattle.protocol.specs.Mask.{ones}
 use Rattle.protocol.specs.Block.{newBlock}
 use Rattle.protocol.specs.Frame.{proposal, blockVote, dummyVote, finalize, blockCertificate, dummyCertificate, finalizeCertificate}
-use Rattle.agreement.specs.Lists.{Call, opening, delivery, moving, signalling, submitting, reading, Member, proposes, statementOf, bookAfter, delivers, writes, HonestIn, KeepsOneBook, NotForged, NoCollision, Reads}
+use Rattle.agreement.specs.Lists.{Call, opening, delivery, moving, signalling, submitting, reading, Member, proposes, statementOf, bookAfter, delivers, writes, HonestIn, FewDishonest, KeepsOneBook, NotForged, NoCollision, Reads}
 
 -- a digest that computes, and tells the blocks of the list apart: the height, then the first entry and a half
 unfoldable pub sample : Bytes → Bytes
@@ -108,7 +107,7 @@ HearsProposal block m = (frame : Bytes) × List·Memᴰ frame (delivers sample m
 
 pub record Witness : Type 0 where
   -- the premises
-  pub few : 3 * ones dishonest 4 < 4
+  pub few : FewDishonest 4 dishonest
   pub keeps : (s : ℕ) → HonestIn 4 dishonest s → KeepsOneBook sample 4 list s
   pub unforged : NotForged sample (HonestIn 4 dishonest) list
   pub collisionless : NoCollision sample (HonestIn 4 dishonest) list

@@ -1,5 +1,5 @@
 -- The list of the witness passes the tests, by computation, and so meets the premises.
-use Prim.Native.Nat.{ℕ, _*_, _<_}
+use Prim.Native.Nat.{ℕ}
 use native.Mathlib.Omega.{arith}
 use mathlib.Core.Path.{_≡_, refl, ap}
 use mathlib.Core.Logic.{_≢_}
@@ -18,7 +18,7 @@ use Rattle.protocol.specs.Tests.{allOf}
 use Rattle.protocol.specs.TestsLaws.{and-true}
 use Rattle.agreement.specs.ListTests.{deliversBacked, everyHonest, everyIn, follows, isAmong, isBacked, isHonest, keepsOneBook, noCollision, notForged, opensFor, readsPart, shows, showsOnly, signed, signedIn, someIn, statementBytes}
 use Rattle.agreement.specs.ListTestsLaws.{collision-sound, every-honest, forged-sound, holds-member, honest-in, keeps-sound, reads-sound, some-in}
-use Rattle.agreement.specs.Lists.{HonestIn, Member, Reads, blockIn, bookAfter, deliveredBy, delivers, isAccepted, leftBy, opensBook, orElse, proposes, statementOf, when, writes, writtenBy}
+use Rattle.agreement.specs.Lists.{FewDishonest, HonestIn, Member, Reads, blockIn, bookAfter, deliveredBy, delivers, isAccepted, leftBy, opensBook, orElse, proposes, statementOf, when, writes, writtenBy}
 use Rattle.agreement.specs.Witness.{HearsProposal, MemberOf, Witness, agreed, anything, build, dishonest, entry, hear, list, move, nextBlock, oneBlock, openings, otherBlock, readings, sample, split, timeouts}
 
 abbrev blocks : List Bytes
@@ -76,7 +76,7 @@ passes-found : (s : ℕ) → someIn (passes s) list ≡ true → MemberOf s (λ 
 unfolding passes
 passes-found s e = found s _ _ (λ m t. holds-member (dummyCertificate 1 7) (writes sample m) t) e
 
-few : 3 * ones dishonest 4 < 4
+few : FewDishonest 4 dishonest
 unfolding ones
 few = omega arith
 
