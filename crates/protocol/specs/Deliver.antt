@@ -157,3 +157,8 @@ module _ (digest : Bytes → Bytes) where
   unfoldable pub deliverCall : Bytes → Bytes → Outcome Delivery
   deliverCall book frame =
       unlessRefused (firstRefusal (deliverRows book frame)) book (kept book frame (keep (decode book) frame))
+
+  -- the book after frames were delivered in order
+  unfoldable pub deliverAll : Bytes → List Bytes → Bytes
+  deliverAll book [] = book
+  deliverAll book (frame ∷ frames) = deliverAll (deliverCall book frame .book) frames

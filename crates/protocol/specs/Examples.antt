@@ -3,7 +3,7 @@ use Prim.Native.Nat.{ℕ, zero, suc, _≤_, _<_}
 use mathlib.Core.Path.{_≡_}
 use mathlib.Core.Logic.{_≢_}
 use mathlib.Core.Bool.{Bool, true, false}
-use mathlib.Core.List.{List, [], _∷_}
+use mathlib.Core.List.{[], _∷_}
 use lib.ListN.{length}
 use Rattle.protocol.specs.Bytes.{Bytes, byteAt, word16, part, zeros}
 use Rattle.protocol.specs.Block.{parentHeight, entryCount}
@@ -13,7 +13,7 @@ use Rattle.protocol.specs.State.{State, at, bookSize, isNotarized}
 use Rattle.protocol.specs.View.{View, quorum, isDummy, extends}
 use Rattle.protocol.specs.Answer.{accepted, done, idle, voteDummy, pass, propose, onDummy}
 use Rattle.protocol.specs.Open.{openCall}
-use Rattle.protocol.specs.Deliver.{deliverCall}
+use Rattle.protocol.specs.Deliver.{deliverCall, deliverAll}
 use Rattle.protocol.specs.Signal.{signalCall}
 use Rattle.protocol.specs.Move.{step, MoveOutcome, moveCall}
 
@@ -37,11 +37,6 @@ unfoldable pub firstLeader : Start → ℕ
 firstLeader x = byteAt (x .leaders) 0
 
 module _ (digest : Bytes → Bytes) where
-  -- the book after frames were delivered in order
-  unfoldable pub deliverAll : Bytes → List Bytes → Bytes
-  deliverAll book [] = book
-  deliverAll book (frame ∷ frames) = deliverAll (deliverCall digest book frame .book) frames
-
   -- the new book after the timer of height 1 fired
   unfoldable pub signalled : Start → Bytes
   signalled x = signalCall digest (opened x) 1 .book
@@ -53,7 +48,7 @@ module _ (digest : Bytes → Bytes) where
   -- a move after the dummy votes of replicas 0, 1 and 2 for height 1
   unfoldable pub afterDummyVotes : Bytes → Bytes → MoveOutcome
   afterDummyVotes book reply =
-      moveCall digest (deliverAll book (dummyVote 0 1 ∷ dummyVote 1 1 ∷ dummyVote 2 1 ∷ [])) reply
+      moveCall digest (deliverAll digest book (dummyVote 0 1 ∷ dummyVote 1 1 ∷ dummyVote 2 1 ∷ [])) reply
 
   -- a move after the finalize certificate of replicas 0, 1 and 2 for height 1
   unfoldable pub afterFinalizes : Bytes → Bytes → MoveOutcome

@@ -22,12 +22,12 @@ use Rattle.protocol.specs.View.{View, quorum, isDummy, dummyRun, digestA
 use Rattle.protocol.specs.Sound.{view}
 use Rattle.protocol.specs.Answer.{Outcome, Delivery, fresh, idle, voteDummy, accepted, Done, done, unlessRefused}
 use Rattle.protocol.specs.Open.{newState, newHeight, openInRange, openRows, openCall}
-use Rattle.protocol.specs.Deliver.{withMasks, deliverCall}
+use Rattle.protocol.specs.Deliver.{withMasks, deliverCall, deliverAll}
 use Rattle.protocol.specs.Signal.{signalCall}
 use Rattle.protocol.specs.Frame.{kind, frameBlock, frameOf, proposal, dummyVote, finalize}
 use Rattle.protocol.specs.Move.{step, moveCall, moved, MoveOutcome, idleStep, dummyVoteStep, passStep, proposeStep, written, unused, proposedBlock, offered, without, someOr, dummyVoteApplies}
 use Rattle.protocol.specs.Computing.{everything}
-use Rattle.protocol.specs.Examples.{Letter, claim, Start, opened, firstLeader, quorumFrom, deliverAll, signalled, afterSignal, afterDummyVotes, afterFinalizes, frameIn, passesDummy, proposesFirst}
+use Rattle.protocol.specs.Examples.{Letter, claim, Start, opened, firstLeader, quorumFrom, signalled, afterSignal, afterDummyVotes, afterFinalizes, frameIn, passesDummy, proposesFirst}
 use Rattle.protocol.specs.NewBookLaws.{Ranges, early, firstHeight}
 use Rattle.protocol.specs.NewBookCallsLaws.{early-move, early-not-notarized, voting, step-idle, step-vote, step-pass, step-propose, early-signal, early-vote, early-certificate, finalized-stays}
 use Rattle.protocol.specs.MoveLaws.{head-only}
