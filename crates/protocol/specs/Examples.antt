@@ -9,7 +9,7 @@ use Rattle.protocol.specs.Bytes.{Bytes, byteAt, word16, part, zeros}
 use Rattle.protocol.specs.Block.{parentHeight, entryCount}
 use Rattle.protocol.specs.Frame.{kind, frameBlock, dummyVote, finalize, dummyCertificate, finalizeCertificate}
 use Rattle.protocol.specs.Mask.{ones}
-use Rattle.protocol.specs.State.{State, at, bookSize, isNotarized}
+use Rattle.protocol.specs.State.{State, at, decode, bookSize, isNotarized}
 use Rattle.protocol.specs.View.{View, quorum, isDummy, extends}
 use Rattle.protocol.specs.Answer.{accepted, done, idle, voteDummy, pass, propose, onDummy}
 use Rattle.protocol.specs.Open.{openCall}
@@ -80,6 +80,14 @@ proposesFirst m =
     (parentHeight (frameBlock (frameIn (m .reply) 0)) ≡ 0) ×
     (entryCount (frameBlock (frameIn (m .reply) 0)) ≡ 0)
 
+-- a book has finalize mask 7 at height 1 and the finalized height 0, in its bytes and in its state
+abbrev pub notFinalized : Bytes → Type 0
+notFinalized book =
+    (word16 book 582 ≡ 7) ×
+    (byteAt book 5 ≡ 0) ×
+    (at (decode book) 1 .finalizeMask ≡ 7) ×
+    (decode book .finalized ≡ 0)
+
 pub data Letter : Type 0 where
   a b c d e f g h i j k l : Letter
 
@@ -121,9 +129,7 @@ claim j =
 -- finalized height alone where no block is notarized, whatever the masks
 claim k =
     (digest : Bytes → Bytes) →
-    ((x : Start) → x .n ≡ 4 →
-    (word16 (afterFinalizes digest (opened x) (x .reply) .book) 582 ≡ 7) ×
-    (byteAt (afterFinalizes digest (opened x) (x .reply) .book) 5 ≡ 0)) ×
+    ((x : Start) → x .n ≡ 4 → notFinalized (afterFinalizes digest (opened x) (x .reply) .book)) ×
     ((s : State) → ((h : ℕ) → isNotarized (at s h) ≡ false) → step digest s .after .finalized ≡ s .finalized)
 -- a block at height 3 with parent height 1 does not extend while height 2 is not dummy
 claim l =

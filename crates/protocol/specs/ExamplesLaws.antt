@@ -17,7 +17,7 @@ use Rattle.protocol.specs.TestsLaws.{and-true}
 use Rattle.protocol.specs.RowLaws.{in-range, row-passes}
 use Rattle.protocol.specs.Block.{parentHeight, entryCount, newBlock, allEntries}
 use Rattle.protocol.specs.Mask.{inMask, maskOf, ones, union, belowBit}
-use Rattle.protocol.specs.State.{State, at, encode, headBytes, bookSize, flag, pending, withHead}
+use Rattle.protocol.specs.State.{State, at, last, encode, decode, headBytes, bookSize, flag, pending, withHead}
 use Rattle.protocol.specs.View.{View, quorum, isDummy, dummyRun, digestAt, parentOf, chain, chainWithin, logAt, extends, extendsOver}
 use Rattle.protocol.specs.Sound.{view}
 use Rattle.protocol.specs.Answer.{Outcome, Delivery, fresh, idle, voteDummy, accepted, Done, done, unlessRefused}
@@ -27,7 +27,9 @@ use Rattle.protocol.specs.Signal.{signalCall}
 use Rattle.protocol.specs.Frame.{kind, frameBlock, frameOf, proposal, dummyVote, finalize}
 use Rattle.protocol.specs.Move.{step, moveCall, moved, MoveOutcome, idleStep, dummyVoteStep, passStep, proposeStep, written, unused, proposedBlock, offered, without, someOr, dummyVoteApplies}
 use Rattle.protocol.specs.Computing.{everything}
-use Rattle.protocol.specs.Examples.{Letter, claim, Start, opened, firstLeader, quorumFrom, signalled, afterSignal, afterDummyVotes, afterFinalizes, frameIn, passesDummy, proposesFirst}
+use Rattle.protocol.specs.Examples.{Letter, claim, Start, opened, firstLeader, quorumFrom, signalled, afterSignal, afterDummyVotes, afterFinalizes, frameIn, passesDummy, proposesFirst, notFinalized}
+use Rattle.protocol.specs.PlaceLaws.{count-encode}
+use Rattle.protocol.specs.FieldLaws.{read-finalized, read-finalize-mask}
 use Rattle.protocol.specs.NewBookLaws.{Ranges, early, firstHeight}
 use Rattle.protocol.specs.NewBookCallsLaws.{early-move, early-not-notarized, voting, step-idle, step-vote, step-pass, step-propose, early-signal, early-vote, early-certificate, finalized-stays}
 use Rattle.protocol.specs.MoveLaws.{head-only}
@@ -255,24 +257,35 @@ module _ (digest : Bytes → Bytes) (own leader : ℕ) (leaders : Bytes) (ranges
         early-move 4 own 0 0 7 leader leaders ranges (omega arith) (omega arith) (omega arith) digest reply room,
       )
 
-  mask-kept : (flags current finalized : ℕ) → word16 (encode (withHead (early 4 own 0 0 7 leader leaders) flags current finalized)) 582 ≡ 7
+  abbrev K : ℕ → ℕ → ℕ → Bytes
+  K flags current finalized = encode (withHead (early 4 own 0 0 7 leader leaders) flags current finalized)
+
+  mask-kept : (flags current finalized : ℕ) → word16 (K flags current finalized) 582 ≡ 7
   unfolding everything firstHeight
   mask-kept flags current finalized = refl
+
+  mask-decoded : (flags current finalized : ℕ) → at (decode (K flags current finalized)) 1 .finalizeMask ≡ 7
+  unfolding last withHead
+  mask-decoded flags current finalized =
+      let count = count-encode (withHead (early 4 own 0 0 7 leader leaders) flags current finalized) in
+      sym (read-finalize-mask (K flags current finalized) 0 (omega arith)) ∙ mask-kept flags current finalized
 
   finalized-byte : (s : State) → byteAt (encode s) 5 ≡ s .finalized
   unfolding encode headBytes
   finalized-byte s = refl
 
-  not-finalized : (reply : Bytes) → 448 ≤ length reply →
-      (word16 (afterFinalizes digest (B 0 0 0) reply .book) 582 ≡ 7) × (byteAt (afterFinalizes digest (B 0 0 0) reply .book) 5 ≡ 0)
+  not-finalized : (reply : Bytes) → 448 ≤ length reply → notFinalized (afterFinalizes digest (B 0 0 0) reply .book)
   unfolding moved
   not-finalized reply room =
       let s : State = early 4 own 0 0 7 leader leaders in
       let stays = head-only digest s in
       let bare = early-not-notarized 4 own 0 0 7 leader leaders ranges (omega arith) (omega arith) (omega arith) digest in
+      let zero-byte = finalized-byte (step digest s .after) ∙ finalized-stays digest s bare in
       rw (finalizes reply room) (
         ap (λ (t : State). word16 (encode t) 582) (stays .3) ∙ mask-kept (stays .0) (stays .1) (stays .2),
-        finalized-byte (step digest s .after) ∙ finalized-stays digest s bare,
+        zero-byte,
+        ap (λ (t : State). at (decode (encode t)) 1 .finalizeMask) (stays .3) ∙ mask-decoded (stays .0) (stays .1) (stays .2),
+        sym (read-finalized (encode (step digest s .after))) ∙ zero-byte,
       )
 
 -- ---- the table
@@ -346,9 +359,7 @@ module _ (digest : Bytes → Bytes) (x : Start) where
           field (proposal (x .own) 1 (newBlock 1 0 (zeros 32) []))
       first field = ap field (proposal-first digest (x .n) (x .own) (O .leader) (O .leaders) (O .ranges) (x .reply))
 
-  example-k : x .n ≡ 4 →
-      (word16 (afterFinalizes digest (opened x) (x .reply) .book) 582 ≡ 7) ×
-      (byteAt (afterFinalizes digest (opened x) (x .reply) .book) 5 ≡ 0)
+  example-k : x .n ≡ 4 → notFinalized (afterFinalizes digest (opened x) (x .reply) .book)
   example-k four =
       rw (four-book x O four) (not-finalized digest (x .own) (O .leader) (O .leaders) (four-ranges x O four) (x .reply) (x .room))
 
