@@ -1,8 +1,9 @@
 -- Refusals as numbers, the rows of reading and of contradiction one by one, and what a kept frame leaves.
-use Prim.Native.Nat.{ℕ, zero, suc}
+use Prim.Native.Nat.{ℕ, zero, suc, _^_}
 use mathlib.Core.Bool.{Bool, true, false, _&&_, _||_, cond}
 use mathlib.Core.List.{List, [], _∷_}
 use mathlib.Core.Option.{Option, some, none}
+use lib.Bits.{bitOr}
 use lib.Dec.{eqb, ltb}
 use Rattle.protocol.specs.Bytes.{Bytes, same}
 use Rattle.protocol.specs.Tests.{implies, Row, firstRefusal}
@@ -13,6 +14,7 @@ use Rattle.protocol.specs.View.{quorum}
 use Rattle.protocol.specs.Sound.{view}
 use Rattle.protocol.specs.Answer.{Outcome, Delivery, unlessRefused}
 use Rattle.protocol.specs.Deliver.{clashRows, keep, kept}
+use Rattle.fields.specs.Numbered.{maskAt, withMaskAt}
 
 -- 0 stands for no refusal
 unfoldable pub refusalOf : ℕ → Option ℕ
@@ -41,6 +43,16 @@ voteAgrees x frame = implies (eqb (kind frame) 2 && inMask (x .voterMask) (signe
 
 unfoldable pub blockAgrees : Height → Bytes → Bool
 blockAgrees x frame = implies (eqb (kind frame) 5 && isNotarized x) (same (x .notarized) (frameBlock frame))
+
+-- ---- signers of a statement or a certificate
+unfoldable pub signersOf : Bytes → ℕ
+signersOf frame = cond (isStatement (kind frame)) (2 ^ signer frame) (signerMask frame)
+
+-- signers join mask `k` of a height, 1 of the dummy votes or 2 of the finalize statements, unless it holds them all
+unfoldable pub joinSigners : ℕ → Height → ℕ → Option Height
+joinSigners k x signers =
+    let mask : ℕ = bitOr (maskAt x k) signers in
+    cond (eqb mask (maskAt x k)) none (some (withMaskAt x k mask))
 
 -- ---- what is kept
 -- whether a frame changes its height

@@ -1,13 +1,13 @@
 // Whether a frame that is read contradicts what its height keeps: refusals 8 and 10.
 use crate::parts::frame_block;
 use crate::parts::frame_digest;
-use crate::signers::in_mask;
 use fields::height::holds_proposal;
 use fields::height::is_notarized;
 use fields::height::notarized;
 use fields::height::proposal;
 use fields::height::vote_digest;
 use fields::height::voter_mask;
+use fields::mask::in_mask;
 use wire::bytes::same_bytes;
 use wire::frame::frame_kind;
 use wire::frame::frame_signer;

@@ -1,9 +1,9 @@
 // Whether a frame can be read over a book: refusals 4, 6, 5, 7 and 9, in document 01's order.
 use crate::parts::is_statement;
-use crate::signers::below;
 use fields::head::heights;
 use fields::head::replicas;
 use fields::height::leader;
+use fields::mask::below;
 use fields::quorum::quorum;
 use wire::frame::frame_height;
 use wire::frame::frame_kind;

@@ -5,7 +5,7 @@ use mathlib.Core.Bool.{true, false}
 use lib.ListN.{length}
 use Rattle.protocol.specs.Bytes.{Bytes, byteAt}
 use Rattle.protocol.specs.State.{decode}
-use Rattle.protocol.specs.View.{View, linked}
+use Rattle.protocol.specs.View.{linked}
 use Rattle.protocol.specs.Sound.{view}
 use Rattle.fields.specs.Ready.{Sized}
 use Rattle.sha256.specs.Digest.{sha256}

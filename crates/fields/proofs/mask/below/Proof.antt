@@ -1,8 +1,8 @@
 -- `below` meets its contract: the mask is less than the bit after the last.
 use Rattle.protocol.specs.Mask.{belowBit}
 use borrow.Author.Needs.{needs}
-use Rattle.delivery.proofs.signers.below.Statement.{statement}
-use Rattle.delivery.proofs.signers.below.Tie as tie
+use Rattle.fields.proofs.mask.below.Statement.{statement}
+use Rattle.fields.proofs.mask.below.Tie as tie
 
 bit-requires : tie.Need-bit-requires
 bit-requires c κs = search needs

@@ -2,8 +2,8 @@
 use mathlib.Core.Path.{refl}
 use Rattle.protocol.specs.Mask.{inMask}
 use borrow.Author.Needs.{needs}
-use Rattle.delivery.proofs.signers.in_mask.Statement.{statement}
-use Rattle.delivery.proofs.signers.in_mask.Tie as tie
+use Rattle.fields.proofs.mask.in_mask.Statement.{statement}
+use Rattle.fields.proofs.mask.in_mask.Tie as tie
 
 shr-result : tie.Need-shr-result
 shr-result c = search needs

@@ -1,8 +1,8 @@
 -- `bit` meets its contract: a shift within 16 bits loses nothing.
-use Rattle.delivery.specs.PartLaws.{one-shifted}
+use Rattle.fields.proofs.Counts.{one-shifted}
 use borrow.Author.Needs.{needs}
-use Rattle.delivery.proofs.signers.bit.Statement.{statement}
-use Rattle.delivery.proofs.signers.bit.Tie as tie
+use Rattle.fields.proofs.mask.bit.Statement.{statement}
+use Rattle.fields.proofs.mask.bit.Tie as tie
 
 shl-result : tie.Need-shl-result
 shl-result c = search needs
