@@ -7,9 +7,9 @@ use lib.Bits.{bitOr}
 use lib.Dec.{eqb, ltb}
 use Rattle.protocol.specs.Bytes.{Bytes, same}
 use Rattle.protocol.specs.Tests.{implies, Row, firstRefusal}
-use Rattle.protocol.specs.Frame.{kind, signer, signerMask, frameDigest, frameBlock, isStatement}
+use Rattle.protocol.specs.Frame.{kind, signer, signerMask, frameDigest, isStatement}
 use Rattle.protocol.specs.Mask.{inMask, belowBit}
-use Rattle.protocol.specs.State.{State, Height, at, withHeight, encode, decode, holdsProposal, isNotarized, voteOf}
+use Rattle.protocol.specs.State.{State, Height, at, withHeight, encode, decode, voteOf}
 use Rattle.protocol.specs.View.{quorum}
 use Rattle.protocol.specs.Sound.{view}
 use Rattle.protocol.specs.Answer.{Outcome, Delivery, unlessRefused}
@@ -20,6 +20,9 @@ use Rattle.fields.specs.Numbered.{maskAt, withMaskAt}
 unfoldable pub refusalOf : ℕ → Option ℕ
 refusalOf zero = none
 refusalOf (suc number) = some (suc number)
+
+abbrev pub threeRows : ℕ → ℕ → ℕ → Bool → Bool → Bool → List Row
+threeRows a b c p q r = (a, p) ∷ (b, q) ∷ (c, r) ∷ []
 
 -- ---- the rows about a frame's signers
 unfoldable pub membersFit : State → Bytes → Bool
@@ -32,17 +35,11 @@ unfoldable pub signersEnough : State → Bytes → Bool
 signersEnough s frame = isStatement (kind frame) || quorum (view s) (signerMask frame)
 
 unfoldable pub memberRows : State → ℕ → Bytes → List Row
-memberRows s h frame = (5, membersFit s frame) ∷ (7, leaderSigned s h frame) ∷ (9, signersEnough s frame) ∷ []
+memberRows s h frame = threeRows 5 7 9 (membersFit s frame) (leaderSigned s h frame) (signersEnough s frame)
 
--- ---- the rows about what the frame's height keeps
-unfoldable pub proposalAgrees : Height → Bytes → Bool
-proposalAgrees x frame = implies (eqb (kind frame) 1 && holdsProposal x) (same (x .proposal) (frameBlock frame))
-
+-- ---- the row about the signer's kept vote
 unfoldable pub voteAgrees : Height → Bytes → Bool
 voteAgrees x frame = implies (eqb (kind frame) 2 && inMask (x .voterMask) (signer frame)) (same (voteOf x (signer frame)) (frameDigest frame))
-
-unfoldable pub blockAgrees : Height → Bytes → Bool
-blockAgrees x frame = implies (eqb (kind frame) 5 && isNotarized x) (same (x .notarized) (frameBlock frame))
 
 -- ---- signers of a statement or a certificate
 unfoldable pub signersOf : Bytes → ℕ

@@ -11,13 +11,26 @@ use wire::frame::frame_mask;
 use wire::frame::frame_signer;
 use wire::frame::frame_well_formed;
 ghost use mathlib.Core.Path.{_≡_};
+ghost use Prim.Native.Nat.{_≤_};
 ghost use lib.ListN.{length};
 ghost use Rattle.protocol.specs.Tests.{firstRefusal};
 ghost use Rattle.protocol.specs.State.{decode};
 ghost use Rattle.protocol.specs.Deliver.{readRows};
 ghost use Rattle.fields.specs.Ready.{Within};
 ghost use Rattle.state.specs.Memo.{Readable};
-ghost use Rattle.delivery.specs.Refusal.{refusalOf, membersFit, leaderSigned, signersEnough, memberRows};
+ghost use Rattle.delivery.specs.Refusal.{refusalOf, threeRows, membersFit, leaderSigned, signersEnough, memberRows};
+
+// The number of the first of three tests that fails, and 0 where none does.
+pub fn first_refusal(a: usize, p: bool, b: usize, q: bool, c: usize, r: bool) -> usize
+    requires { ⌜ (1 ≤ a) × (1 ≤ b) × (1 ≤ c) ⌝ }
+    ensures { λ number. ⌜ refusalOf number ≡ firstRefusal (threeRows a b c p q r) ⌝ }
+{
+    if p {
+        if q { if r { 0 } else { c } } else { b }
+    } else {
+        a
+    }
+}
 
 // Whether the signer, or each signer of a certificate, is one of the book's replicas.
 fn members_fit(book: &[u8], frame: &[u8]) -> bool
@@ -67,15 +80,14 @@ fn member_refusal(book: &[u8], h: usize, frame: &[u8]) -> usize
     requires { ⌜ length (now frame) ≡ 224 ⌝ }
     ensures { λ r. ⌜ refusalOf r ≡ firstRefusal (memberRows (decode (now (book .entry))) h (now (frame .entry))) ⌝ }
 {
-    if members_fit(book, frame) {
-        if leader_signed(book, h, frame) {
-            if signers_enough(book, frame) { 0 } else { 9 }
-        } else {
-            7
-        }
-    } else {
-        5
-    }
+    first_refusal(
+        5,
+        members_fit(book, frame),
+        7,
+        leader_signed(book, h, frame),
+        9,
+        signers_enough(book, frame),
+    )
 }
 
 // The first refusal that keeps a frame from being read, and 0 where none does.
