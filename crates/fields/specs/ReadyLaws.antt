@@ -1,11 +1,11 @@
 -- Which books are sized and ready: those of the right length, the sound ones, and those just written from a state.
 use Prim.Native.Nat.{ℕ, _+_, _-_, _*_, _≤_}
-use mathlib.Core.Path.{_≡_, refl, ap, _∙_}
+use mathlib.Core.Path.{_≡_, ap, _∙_}
 use mathlib.Core.Bool.{true}
 use mathlib.Core.List.{List}
 use lib.ListN.{length, length-set}
 use Rattle.protocol.specs.Bytes.{Bytes, byteAt}
-use Rattle.protocol.specs.State.{State, Height, last, decode, encode, withHead, withHeight}
+use Rattle.protocol.specs.State.{State, Height, last, decode, encode, withHeight}
 use Rattle.protocol.specs.Sound.{sound}
 use Rattle.protocol.specs.BytesLaws.{AreBytes}
 use Rattle.protocol.specs.StateLaws.{Shaped, ShapedHeight, decode-encode}
@@ -13,9 +13,7 @@ use Rattle.protocol.specs.StateLaws.{Sized as SizedBytes}
 use Rattle.protocol.specs.EveryLaws.{Every, every-set}
 use Rattle.protocol.specs.CodecLaws.{last-decode, decode-shaped}
 use Rattle.protocol.specs.PlaceLaws.{length-encode, count-encode}
-use Rattle.protocol.specs.ChangeLaws.{shaped-head}
 use Rattle.protocol.specs.PoolLaws.{moved, moved-last, moved-shaped}
-use Rattle.protocol.specs.SoundLaws.{SoundState}
 use Rattle.protocol.specs.GrantedLaws.{Granted, granted}
 use Rattle.protocol.specs.FieldLaws.{read-n, read-own, read-flags, read-current, read-finalized, read-pending-count}
 use Rattle.fields.specs.Ready.{Sized, Ready}
@@ -76,19 +74,7 @@ ready-height book r h x fits =
     (record { pool-size = shaped .pool-size; heights = every-set (h - 1) x fits (shaped .heights) })
     (last-with-height (decode book) h x)
 
-pub last-with-head : (s : State) (flags current finalized : ℕ) → last (withHead s flags current finalized) ≡ last s
-unfolding last withHead
-last-with-head s flags current finalized = refl
-
-pub ready-head : (book : Bytes) → Ready book → (flags current finalized : ℕ) → Ready (encode (withHead (decode book) flags current finalized))
-ready-head book r flags current finalized =
-    ready-after book r (withHead (decode book) flags current finalized)
-    (shaped-head (decode book) flags current finalized (ready-state book r)) (last-with-head (decode book) flags current finalized)
-
 pub ready-moved : (book : Bytes) → Ready book → (es : List Bytes) → Every (SizedBytes 16) es → length es ≤ 32 → Ready (encode (moved (decode book) es))
 ready-moved book r es sized few =
     let shaped = ready-state book r in
     ready-after book r (moved (decode book) es) (moved-shaped (decode book) (shaped .pool-size) es sized few shaped) (moved-last (decode book) es)
-
-pub ready-encode : (digest : Bytes → Bytes) (s : State) → SoundState digest s → Ready (encode s)
-ready-encode digest s state = ready-shaped s (state .shaped) (state .last-high)

@@ -98,8 +98,7 @@ pub fn fetch(book: &[u8], kind: usize, height: usize, reply: &mut [u8]) -> Answe
     ensures answer { λ r. ⌜ doneAnswer r ≡ fetchCall sha (now (book .entry)) kind height (now (reply .entry)) .answer ⌝ }
     ensures reply { λ _. ⌜ now (reply .exit) ≡ fetchCall sha (now (book .entry)) kind height (now (reply .entry)) .reply ⌝ }
 {
-    let mut known = [0u8; 64];
-    if state::sound::sound(book, &mut known) {
+    if state::sound::is_sound(book) {
         fetch_sound(book, kind, height, reply)
     } else {
         Answer::Refused(1)

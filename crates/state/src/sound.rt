@@ -12,6 +12,7 @@ ghost use Prim.Native.Nat.{_≤_};
 ghost use lib.ListN.{length};
 ghost use Rattle.sha256.specs.Digest.{sha256 as sha};
 ghost use Rattle.protocol.specs.Bytes.{byteAt, zeros, isZero};
+ghost use Rattle.protocol.specs.BytesLaws.{AreBytes};
 ghost use Rattle.protocol.specs.Tests.{allOf, implies, everyHeight};
 ghost use Rattle.protocol.specs.Block.{blockWellFormed};
 ghost use Rattle.protocol.specs.State.{decode, at, isNotarized};
@@ -171,4 +172,13 @@ pub fn sound(book: &[u8], known: &mut [u8]) -> bool
     } else {
         false
     }
+}
+
+// Whether a book is sound, for a call that asks for no linked height afterwards. Its bytes are below 256, as those of any slice.
+pub fn is_sound(book: &[u8]) -> bool
+    ensures answer { λ r. ⌜ r ≡ isSound sha (now (book .entry)) ⌝ }
+    ensures bytes { λ _. ⌜ AreBytes (now (book .entry)) ⌝ }
+{
+    let mut known = [0u8; 64];
+    sound(book, &mut known)
 }
