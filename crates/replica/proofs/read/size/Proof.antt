@@ -15,8 +15,8 @@ is-sound-requires c κs = search needs
 log-count-requires : tie.Need-log-count-requires
 log-count-requires c κs = sound-book _ (c .before .is-sound .ensures .1) (sym (c .before .is-sound .ensures .0) ∙ c .if1 .taken)
 
-mul-t8 : tie.Need-mul-t8
-mul-t8 c = search needs
+mul-t5 : tie.Need-mul-t5
+mul-t5 c = search needs
 
 returns : tie.Need-returns
 returns c =
@@ -33,4 +33,4 @@ returns-2 c =
 pub size-spec : {M : Type 1} → statement M
 size-spec =
     tie.close
-    (tie.spec is-sound-requires log-count-requires mul-t8 returns returns-2)
+    (tie.spec is-sound-requires log-count-requires mul-t5 returns returns-2)
