@@ -21,6 +21,7 @@ unfoldable pub refusalOf : ℕ → Option ℕ
 refusalOf zero = none
 refusalOf (suc number) = some (suc number)
 
+-- three rows, each a number and a test
 abbrev pub threeRows : ℕ → ℕ → ℕ → Bool → Bool → Bool → List Row
 threeRows a b c p q r = (a, p) ∷ (b, q) ∷ (c, r) ∷ []
 

@@ -59,7 +59,8 @@ pub fn is_notarized(book: &[u8], h: usize) -> bool
     2 <= status(book, h)
 }
 
-// Mask `k` of height `h`, of the four that lie in a row.
+// Mask `k` of height `h`, of the four in its contents: 0 of its certificate, 1 of the dummy votes, 2 of the finalize
+// statements, 3 of the voters.
 pub fn mask_at(book: &[u8], h: usize, k: usize) -> usize
     requires { ⌜ Sized (now book) ⌝ }
     requires { ⌜ Within (now book) h ⌝ }

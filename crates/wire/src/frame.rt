@@ -16,7 +16,7 @@ ghost use lib.ListN.{length};
 ghost use Rattle.protocol.specs.Bytes.{zeros, overFront};
 ghost use Rattle.protocol.specs.BytesLaws.{put};
 ghost use Rattle.protocol.specs.Block.{newBlock};
-ghost use Rattle.protocol.specs.Frame.{kind, signer, frameHeight, signerMask, frameWellFormed, frameOf, proposal, blockVote, dummyVote, finalize, blockCertificate, dummyCertificate, finalizeCertificate};
+ghost use Rattle.protocol.specs.Frame.{kind, signer, frameHeight, signerMask, frameWellFormed, frameOf, proposal, blockVote, dummyVote, finalize, blockCertificate, dummyCertificate};
 ghost use Rattle.wire.specs.Parts.{frameFields, frameRest, frameBlockPart, frameHead};
 
 // The kind of a frame, its first byte. Costs one read.
@@ -176,15 +176,6 @@ pub fn write_dummy_certificate(out: &mut [u8], h: usize, mask: usize)
     ensures { λ _. ⌜ now (out .exit) ≡ overFront (dummyCertificate h mask) (now (out .entry)) ⌝ }
 {
     write_plain(out, 6, 0, h, mask);
-}
-
-// Writes a finalization: 224 stores.
-pub fn write_finalize_certificate(out: &mut [u8], h: usize, mask: usize)
-    requires { ⌜ 224 ≤ length (now out) ⌝ }
-    requires { ⌜ (h < 256) × (mask < 65536) ⌝ }
-    ensures { λ _. ⌜ now (out .exit) ≡ overFront (finalizeCertificate h mask) (now (out .entry)) ⌝ }
-{
-    write_plain(out, 7, 0, h, mask);
 }
 
 // Writes a vote for a block, which names it by its digest: 224 stores.

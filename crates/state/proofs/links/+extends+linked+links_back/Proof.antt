@@ -1,3 +1,4 @@
+-- `extends`, `linked` and `links_back` call each other and meet their contracts: the height falls on the way round.
 use Prim.Native.Nat.{ℕ, _+_, _*_, _<_}
 use borrow.Author.Needs.{needs}
 use native.Mathlib.Omega.{arith}
