@@ -3,7 +3,6 @@ ghost use mathlib.Core.Path.{_≡_};
 ghost use Prim.Native.Nat.{_+_, _-_, _*_, _<_, _≤_};
 ghost use Rattle.protocol.specs.Bytes.{byteAt};
 ghost use Rattle.protocol.specs.State.{decode, at, holdsProposal, isNotarized, voteOf};
-ghost use Rattle.protocol.specs.Block.{parentHeight};
 ghost use Rattle.fields.specs.Ready.{Sized, Within};
 ghost use Rattle.fields.specs.Numbered.{maskAt, blockAt};
 
@@ -141,14 +140,4 @@ pub fn vote_digest(book: &[u8], h: usize, s: usize) -> &[u8]
 {
     let from = body_at(book, h) + 352 + 32 * s;
     &book[from..from + 32]
-}
-
-// The parent height of the notarized block of height `h`.
-pub fn notarized_parent(book: &[u8], h: usize) -> usize
-    requires { ⌜ Sized (now book) ⌝ }
-    requires { ⌜ Within (now book) h ⌝ }
-    ensures { λ r. ⌜ (r ≡ parentHeight (at (decode (now (book .entry))) h .notarized)) × (r < 256) ⌝ }
-{
-    let block = notarized(book, h);
-    wire::bytes::byte(block, 2)
 }
