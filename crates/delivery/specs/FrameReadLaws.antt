@@ -33,11 +33,11 @@ sound-readable digest book small e =
     record { sized = is .sized; replicas = granted digest book e .state .n-high; heights = is .heights }
 
 -- ---- what the rows say
-statement-kind : (k : ℕ) → 1 ≤ k → k ≤ 4 → isStatement k ≡ true
+pub statement-kind : (k : ℕ) → 1 ≤ k → k ≤ 4 → isStatement k ≡ true
 unfolding isStatement
 statement-kind k low high = range-in 1 4 k low high
 
-certificate-kind : (k : ℕ) → 5 ≤ k → isStatement k ≡ false
+pub certificate-kind : (k : ℕ) → 5 ≤ k → isStatement k ≡ false
 unfolding isStatement
 certificate-kind k high = not-passed (inRange 1 4 k) (λ e. omega (arith, in-range 1 4 k e))
 

@@ -1,24 +1,21 @@
--- What a frame keeps: known and new frames, the kind that decides, and a second write at the height of a first.
+-- What a frame keeps: known and new frames, and a second write at the height of a first.
 use Prim.Native.Nat.{ℕ, zero, suc, _+_, _%_, _^_, _≤_, _<_}
 use native.Mathlib.Omega.{arith}
 use mathlib.Core.Path.{_≡_, refl, ap, _∙_, ap₂, sym}
 use mathlib.Core.Bool.{Bool, true, false, cond}
 use mathlib.Core.Option.{Option, some, none}
-use lib.Bits.{bitOr}
-use borrow.Author.Tests.{eqb-false, ne-eqb}
+use borrow.Author.Tests.{eqb-false}
 use Rattle.protocol.specs.Bytes.{Bytes, byteAt}
-use Rattle.protocol.specs.Frame.{kind, frameHeight}
-use Rattle.protocol.specs.Mask.{inMask, union}
+use Rattle.protocol.specs.Mask.{inMask}
 use Rattle.protocol.specs.State.{State, Height, at, last, decode, encode, withHeight, holdsProposal}
 use Rattle.protocol.specs.View.{quorum}
 use Rattle.protocol.specs.Sound.{view}
 use Rattle.protocol.specs.MaskLaws.{add-below}
-use Rattle.protocol.specs.UnionLaws.{union-or}
 use Rattle.protocol.specs.StateLaws.{Shaped, ShapedHeight, decode-encode}
 use Rattle.protocol.specs.CodecLaws.{last-decode}
 use Rattle.protocol.specs.PlaceLaws.{with-with, at-with, shaped-at, shaped-with}
 use Rattle.protocol.specs.ChangeLaws.{named-height}
-use Rattle.protocol.specs.Deliver.{withProposal, withVote, notarize, keep, keepProposal, keepBlockVote, keepDummyVote, keepFinalize, keepBlockCertificate, keepDummyCertificate, keepFinalizeCertificate}
+use Rattle.protocol.specs.Deliver.{withProposal, withVote, notarize}
 use Rattle.fields.specs.Ready.{Ready}
 use Rattle.fields.specs.ReadyLaws.{ready-state, ready-height, same-heights, last-with-height}
 use Rattle.delivery.specs.Refusal.{isKept, keptBook}
@@ -48,51 +45,6 @@ room n mask s small fits bound new = omega (arith, add-below s n mask small fits
 module _ {held mask s signer : ℕ} (holds : held ≡ mask) (signs : s ≡ signer) where
   pub same-bit : {found : Bool} → found ≡ inMask held s → inMask mask signer ≡ found
   same-bit e = sym (ap₂ (λ (m k : ℕ). inMask m k) holds signs) ∙ sym e
-
-  pub same-sum : {bit : ℕ} → bit ≡ 2 ^ s → held + bit ≡ mask + 2 ^ signer
-  same-sum e = ap₂ (λ (m k : ℕ). m + k) holds (e ∙ ap (λ (k : ℕ). 2 ^ k) signs)
-
-pub same-union : (n : ℕ) {held mask other signers : ℕ} → held ≡ mask → other ≡ signers → mask < 2 ^ n → signers < 2 ^ n → bitOr held other ≡ union n mask signers
-same-union n {mask = mask} {signers = signers} holds signs fits below = ap₂ (λ (a b : ℕ). bitOr a b) holds signs ∙ sym (union-or n mask signers fits below)
-
--- ---- the kind decides
-module _ (digest : Bytes → Bytes) (s : State) (h : ℕ) (frame : Bytes) (same : h ≡ frameHeight frame) where
-  pub kind-one : kind frame ≡ 1 → keep digest s frame ≡ keepProposal digest (view s) (at s h) frame
-  unfolding keep
-  kind-one e = rw (e, same)
-
-  pub kind-two : kind frame ≡ 2 → keep digest s frame ≡ keepBlockVote digest (view s) (at s h) frame
-  unfolding keep
-  kind-two e = rw (e, same)
-
-  pub kind-three : kind frame ≡ 3 → keep digest s frame ≡ keepDummyVote (at s h) frame
-  unfolding keep
-  kind-three e = rw (e, same)
-
-  pub kind-four : kind frame ≡ 4 → keep digest s frame ≡ keepFinalize (at s h) frame
-  unfolding keep
-  kind-four e = rw (e, same)
-
-  pub kind-five : kind frame ≡ 5 → keep digest s frame ≡ keepBlockCertificate (at s h) frame
-  unfolding keep
-  kind-five e = rw (e, same)
-
-  pub kind-six : kind frame ≡ 6 → keep digest s frame ≡ keepDummyCertificate (s .n) (at s h) frame
-  unfolding keep
-  kind-six e = rw (e, same)
-
-  pub kind-other : 7 ≤ kind frame → keep digest s frame ≡ keepFinalizeCertificate (s .n) (at s h) frame
-  unfolding keep
-  kind-other l =
-      rw (
-        ne-eqb (kind frame) 1 (λ e. omega arith),
-        ne-eqb (kind frame) 2 (λ e. omega arith),
-        ne-eqb (kind frame) 3 (λ e. omega arith),
-        ne-eqb (kind frame) 4 (λ e. omega arith),
-        ne-eqb (kind frame) 5 (λ e. omega arith),
-        ne-eqb (kind frame) 6 (λ e. omega arith),
-        same,
-      )
 
 -- ---- a height that is there
 pub shaped-here : (book : Bytes) (h : ℕ) → Spot book h → ShapedHeight (at (decode book) h)

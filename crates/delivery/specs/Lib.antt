@@ -1,6 +1,8 @@
 pub mod FrameReadLaws
 pub mod Given
+pub mod JoinLaws
 pub mod KeepLaws
+pub mod KindLaws
 pub mod NotarizeLaws
 pub mod PartLaws
 pub mod Refusal

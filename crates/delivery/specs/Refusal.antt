@@ -1,23 +1,29 @@
 -- Refusals as numbers, the rows of reading and of contradiction one by one, and what a kept frame leaves.
-use Prim.Native.Nat.{ℕ, zero, suc}
+use Prim.Native.Nat.{ℕ, zero, suc, _^_}
 use mathlib.Core.Bool.{Bool, true, false, _&&_, _||_, cond}
 use mathlib.Core.List.{List, [], _∷_}
 use mathlib.Core.Option.{Option, some, none}
+use lib.Bits.{bitOr}
 use lib.Dec.{eqb, ltb}
 use Rattle.protocol.specs.Bytes.{Bytes, same}
 use Rattle.protocol.specs.Tests.{implies, Row, firstRefusal}
-use Rattle.protocol.specs.Frame.{kind, signer, signerMask, frameDigest, frameBlock, isStatement}
+use Rattle.protocol.specs.Frame.{kind, signer, signerMask, frameDigest, isStatement}
 use Rattle.protocol.specs.Mask.{inMask, belowBit}
-use Rattle.protocol.specs.State.{State, Height, at, withHeight, encode, decode, holdsProposal, isNotarized, voteOf}
+use Rattle.protocol.specs.State.{State, Height, at, withHeight, encode, decode, voteOf}
 use Rattle.protocol.specs.View.{quorum}
 use Rattle.protocol.specs.Sound.{view}
 use Rattle.protocol.specs.Answer.{Outcome, Delivery, unlessRefused}
 use Rattle.protocol.specs.Deliver.{clashRows, keep, kept}
+use Rattle.fields.specs.Numbered.{maskAt, withMaskAt}
 
 -- 0 stands for no refusal
 unfoldable pub refusalOf : ℕ → Option ℕ
 refusalOf zero = none
 refusalOf (suc number) = some (suc number)
+
+-- three rows, each a number and a test
+abbrev pub threeRows : ℕ → ℕ → ℕ → Bool → Bool → Bool → List Row
+threeRows a b c p q r = (a, p) ∷ (b, q) ∷ (c, r) ∷ []
 
 -- ---- the rows about a frame's signers
 unfoldable pub membersFit : State → Bytes → Bool
@@ -30,17 +36,21 @@ unfoldable pub signersEnough : State → Bytes → Bool
 signersEnough s frame = isStatement (kind frame) || quorum (view s) (signerMask frame)
 
 unfoldable pub memberRows : State → ℕ → Bytes → List Row
-memberRows s h frame = (5, membersFit s frame) ∷ (7, leaderSigned s h frame) ∷ (9, signersEnough s frame) ∷ []
+memberRows s h frame = threeRows 5 7 9 (membersFit s frame) (leaderSigned s h frame) (signersEnough s frame)
 
--- ---- the rows about what the frame's height keeps
-unfoldable pub proposalAgrees : Height → Bytes → Bool
-proposalAgrees x frame = implies (eqb (kind frame) 1 && holdsProposal x) (same (x .proposal) (frameBlock frame))
-
+-- ---- the row about the signer's kept vote
 unfoldable pub voteAgrees : Height → Bytes → Bool
 voteAgrees x frame = implies (eqb (kind frame) 2 && inMask (x .voterMask) (signer frame)) (same (voteOf x (signer frame)) (frameDigest frame))
 
-unfoldable pub blockAgrees : Height → Bytes → Bool
-blockAgrees x frame = implies (eqb (kind frame) 5 && isNotarized x) (same (x .notarized) (frameBlock frame))
+-- ---- signers of a statement or a certificate
+unfoldable pub signersOf : Bytes → ℕ
+signersOf frame = cond (isStatement (kind frame)) (2 ^ signer frame) (signerMask frame)
+
+-- signers join mask `k` of a height, 1 of the dummy votes or 2 of the finalize statements, unless it holds them all
+unfoldable pub joinSigners : ℕ → Height → ℕ → Option Height
+joinSigners k x signers =
+    let mask : ℕ = bitOr (maskAt x k) signers in
+    cond (eqb mask (maskAt x k)) none (some (withMaskAt x k mask))
 
 -- ---- what is kept
 -- whether a frame changes its height

@@ -1,19 +1,20 @@
 -- Refusals: numbers and options, three rows in a row, and Deliver's outcome by the row that fails.
-use Prim.Native.Nat.{ℕ, zero, suc}
+use Prim.Native.Nat.{ℕ, zero, suc, _≤_}
 use native.Mathlib.Omega.{arith}
 use mathlib.Core.Path.{_≡_, refl, sym, ap, _∙_}
-use mathlib.Core.Bool.{Bool, true, false}
-use mathlib.Core.List.{List, [], _∷_}
+use mathlib.Core.Bool.{Bool, true, false, _&&_}
+use mathlib.Core.List.{_∷_}
 use mathlib.Core.Option.{Option, some, none}
-use Rattle.protocol.specs.Bytes.{Bytes}
-use Rattle.protocol.specs.Tests.{inRange, Row, firstRefusal}
-use Rattle.protocol.specs.Frame.{frameHeight, frameWellFormed}
-use Rattle.protocol.specs.State.{State, Height, at, last, decode, encode, withHeight}
+use lib.Dec.{eqb}
+use Rattle.protocol.specs.Bytes.{Bytes, same}
+use Rattle.protocol.specs.Tests.{implies, inRange, firstRefusal}
+use Rattle.protocol.specs.Frame.{kind, frameHeight, frameBlock, frameWellFormed}
+use Rattle.protocol.specs.State.{State, Height, at, last, decode, encode, withHeight, holdsProposal, isNotarized}
 use Rattle.protocol.specs.Sound.{sound}
 use Rattle.protocol.specs.Answer.{Outcome, Delivery, refused, accepted, known, fresh, unlessRefused}
 use Rattle.protocol.specs.RowLaws.{pass-row, refuse-row, pass-rows, refuse-rows}
 use Rattle.protocol.specs.Deliver.{readRows, clashRows, deliverRows, keep, kept, deliverCall}
-use Rattle.delivery.specs.Refusal.{refusalOf, membersFit, leaderSigned, signersEnough, memberRows, proposalAgrees, voteAgrees, blockAgrees, isKept, keptBook, readOutcome}
+use Rattle.delivery.specs.Refusal.{refusalOf, threeRows, membersFit, leaderSigned, signersEnough, memberRows, voteAgrees, isKept, keptBook, readOutcome}
 
 -- ---- numbers
 pub number-refuses : (number : ℕ) (o : Option ℕ) → refusalOf number ≡ o → (number ≡ 0 → ⊥) → o ≡ some number
@@ -26,24 +27,26 @@ unfolding refusalOf
 zero-passes zero o e z = sym e
 zero-passes (suc number) o e z = absurd (omega arith)
 
+pub refusal-some : (number : ℕ) → 1 ≤ number → refusalOf number ≡ some number
+unfolding refusalOf
+refusal-some zero l = absurd (omega arith)
+refusal-some (suc number) l = refl
+
 -- ---- three rows
 module _ (a b c : ℕ) (p q r : Bool) where
-  abbrev pub threeRows : List Row
-  threeRows = (a, p) ∷ (b, q) ∷ (c, r) ∷ []
-
-  pub first-fails : p ≡ false → firstRefusal threeRows ≡ some a
+  pub first-fails : p ≡ false → firstRefusal (threeRows a b c p q r) ≡ some a
   unfolding firstRefusal
   first-fails e = rw e
 
-  pub second-fails : p ≡ true → q ≡ false → firstRefusal threeRows ≡ some b
+  pub second-fails : p ≡ true → q ≡ false → firstRefusal (threeRows a b c p q r) ≡ some b
   unfolding firstRefusal
   second-fails e f = rw (e, f)
 
-  pub third-fails : p ≡ true → q ≡ true → r ≡ false → firstRefusal threeRows ≡ some c
+  pub third-fails : p ≡ true → q ≡ true → r ≡ false → firstRefusal (threeRows a b c p q r) ≡ some c
   unfolding firstRefusal
   third-fails e f g = rw (e, f, g)
 
-  pub none-fails : p ≡ true → q ≡ true → r ≡ true → firstRefusal threeRows ≡ none
+  pub none-fails : p ≡ true → q ≡ true → r ≡ true → firstRefusal (threeRows a b c p q r) ≡ none
   unfolding firstRefusal
   none-fails e f g = rw (e, f, g)
 
@@ -69,8 +72,10 @@ module _ (s : State) (frame : Bytes) where
 
 -- ---- the rows of contradiction
 pub clash-rows : (s : State) (h : ℕ) (frame : Bytes) → h ≡ frameHeight frame →
-    clashRows s frame ≡ (8, proposalAgrees (at s h) frame) ∷ (8, voteAgrees (at s h) frame) ∷ (10, blockAgrees (at s h) frame) ∷ []
-unfolding clashRows proposalAgrees voteAgrees blockAgrees
+    clashRows s frame ≡
+    threeRows 8 8 10 (implies (eqb (kind frame) 1 && holdsProposal (at s h)) (same (at s h .proposal) (frameBlock frame)))
+    (voteAgrees (at s h) frame) (implies (eqb (kind frame) 5 && isNotarized (at s h)) (same (at s h .notarized) (frameBlock frame)))
+unfolding clashRows voteAgrees
 clash-rows s h frame e = rw e
 
 -- ---- outcomes

@@ -4,29 +4,27 @@ use crate::notarize::notarize_with;
 use crate::parts::frame_block;
 use crate::parts::frame_block_digest;
 use crate::parts::frame_digest;
-use crate::signers::bit;
-use crate::signers::in_mask;
-use fields::height::dummy_mask;
-use fields::height::finalize_mask;
+use crate::parts::frame_signers;
 use fields::height::holds_proposal;
 use fields::height::is_notarized;
+use fields::height::mask_at;
 use fields::height::voter_mask;
-use fields::keep::keep_dummy_mask;
-use fields::keep::keep_finalize_mask;
+use fields::keep::keep_mask;
 use fields::keep::keep_notarized;
 use fields::keep::keep_vote;
+use fields::mask::in_mask;
 use wire::frame::frame_kind;
 use wire::frame::frame_mask;
 use wire::frame::frame_signer;
 ghost use mathlib.Core.Path.{_≡_};
-ghost use Prim.Native.Nat.{_^_, _<_};
+ghost use Prim.Native.Nat.{_<_, _≤_};
 ghost use Rattle.sha256.specs.Digest.{sha256 as sha};
-ghost use Rattle.protocol.specs.Frame.{signer, signerMask};
+ghost use Rattle.protocol.specs.Frame.{signer};
 ghost use Rattle.protocol.specs.State.{decode, at};
 ghost use Rattle.protocol.specs.Sound.{view};
-ghost use Rattle.protocol.specs.Deliver.{keepProposal, keepBlockVote, keepDummyVote, keepFinalize, keepBlockCertificate, keepDummyCertificate, keepFinalizeCertificate, keep as keeps};
-ghost use Rattle.delivery.specs.Refusal.{isKept, keptBook};
-ghost use Rattle.delivery.specs.Given.{Read};
+ghost use Rattle.protocol.specs.Deliver.{keepProposal, keepBlockVote, keepBlockCertificate, keep as keeps};
+ghost use Rattle.delivery.specs.Refusal.{isKept, keptBook, joinSigners};
+ghost use Rattle.delivery.specs.Given.{Spot, Read};
 
 // Keeps a proposal where none is held, and notarizes it if its votes are a quorum.
 fn keep_proposal(book: &mut [u8], h: usize, frame: &[u8]) -> bool
@@ -61,40 +59,6 @@ fn keep_block_vote(book: &mut [u8], h: usize, frame: &[u8]) -> bool
     }
 }
 
-// Keeps a vote for the dummy block.
-fn keep_dummy_vote(book: &mut [u8], h: usize, frame: &[u8]) -> bool
-    requires { ⌜ Read (now book) h (now frame) ⌝ }
-    requires { ⌜ signer (now frame) < decode (now book) .n ⌝ }
-    ensures answer { λ r. ⌜ r ≡ isKept (keepDummyVote (at (decode (now (book .entry))) h) (now (frame .entry))) ⌝ }
-    ensures book { λ _. ⌜ now (book .exit) ≡ keptBook (now (book .entry)) h (keepDummyVote (at (decode (now (book .entry))) h) (now (frame .entry))) ⌝ }
-{
-    let held = dummy_mask(book, h);
-    let s = frame_signer(frame);
-    if in_mask(held, s) {
-        false
-    } else {
-        keep_dummy_mask(book, h, held + bit(s));
-        true
-    }
-}
-
-// Keeps a finalize statement.
-fn keep_finalize(book: &mut [u8], h: usize, frame: &[u8]) -> bool
-    requires { ⌜ Read (now book) h (now frame) ⌝ }
-    requires { ⌜ signer (now frame) < decode (now book) .n ⌝ }
-    ensures answer { λ r. ⌜ r ≡ isKept (keepFinalize (at (decode (now (book .entry))) h) (now (frame .entry))) ⌝ }
-    ensures book { λ _. ⌜ now (book .exit) ≡ keptBook (now (book .entry)) h (keepFinalize (at (decode (now (book .entry))) h) (now (frame .entry))) ⌝ }
-{
-    let held = finalize_mask(book, h);
-    let s = frame_signer(frame);
-    if in_mask(held, s) {
-        false
-    } else {
-        keep_finalize_mask(book, h, held + bit(s));
-        true
-    }
-}
-
 // Keeps a certified block with its signers where none is notarized.
 fn keep_block_certificate(book: &mut [u8], h: usize, frame: &[u8]) -> bool
     requires { ⌜ Read (now book) h (now frame) ⌝ }
@@ -109,36 +73,20 @@ fn keep_block_certificate(book: &mut [u8], h: usize, frame: &[u8]) -> bool
     }
 }
 
-// Joins the signers of a notarization of the dummy block to its votes.
-fn keep_dummy_certificate(book: &mut [u8], h: usize, frame: &[u8]) -> bool
-    requires { ⌜ Read (now book) h (now frame) ⌝ }
-    requires { ⌜ signerMask (now frame) < 2 ^ decode (now book) .n ⌝ }
-    ensures answer { λ r. ⌜ r ≡ isKept (keepDummyCertificate ((decode (now (book .entry))) .n) (at (decode (now (book .entry))) h) (now (frame .entry))) ⌝ }
-    ensures book { λ _. ⌜ now (book .exit) ≡ keptBook (now (book .entry)) h (keepDummyCertificate ((decode (now (book .entry))) .n) (at (decode (now (book .entry))) h) (now (frame .entry))) ⌝ }
+// Joins signers to mask `k` of height `h`: 1 of the dummy votes, or 2 of the finalize statements.
+fn join_signers(book: &mut [u8], h: usize, k: usize, signers: usize) -> bool
+    requires { ⌜ Spot (now book) h ⌝ }
+    requires { ⌜ (1 ≤ k) × (k ≤ 2) ⌝ }
+    requires { ⌜ signers < 65536 ⌝ }
+    ensures answer { λ r. ⌜ r ≡ isKept (joinSigners k (at (decode (now (book .entry))) h) signers) ⌝ }
+    ensures book { λ _. ⌜ now (book .exit) ≡ keptBook (now (book .entry)) h (joinSigners k (at (decode (now (book .entry))) h) signers) ⌝ }
 {
-    let held = dummy_mask(book, h);
-    let voters = held | frame_mask(frame);
-    if voters == held {
+    let held = mask_at(book, h, k);
+    let joined = held | signers;
+    if joined == held {
         false
     } else {
-        keep_dummy_mask(book, h, voters);
-        true
-    }
-}
-
-// Joins the signers of a finalization to the finalize statements.
-fn keep_finalize_certificate(book: &mut [u8], h: usize, frame: &[u8]) -> bool
-    requires { ⌜ Read (now book) h (now frame) ⌝ }
-    requires { ⌜ signerMask (now frame) < 2 ^ decode (now book) .n ⌝ }
-    ensures answer { λ r. ⌜ r ≡ isKept (keepFinalizeCertificate ((decode (now (book .entry))) .n) (at (decode (now (book .entry))) h) (now (frame .entry))) ⌝ }
-    ensures book { λ _. ⌜ now (book .exit) ≡ keptBook (now (book .entry)) h (keepFinalizeCertificate ((decode (now (book .entry))) .n) (at (decode (now (book .entry))) h) (now (frame .entry))) ⌝ }
-{
-    let held = finalize_mask(book, h);
-    let signers = held | frame_mask(frame);
-    if signers == held {
-        false
-    } else {
-        keep_finalize_mask(book, h, signers);
+        keep_mask(book, h, k, joined);
         true
     }
 }
@@ -156,17 +104,12 @@ pub fn keep(book: &mut [u8], h: usize, frame: &[u8]) -> bool
     if kind == 2 {
         return keep_block_vote(book, h, frame);
     }
-    if kind == 3 {
-        return keep_dummy_vote(book, h, frame);
-    }
-    if kind == 4 {
-        return keep_finalize(book, h, frame);
-    }
     if kind == 5 {
         return keep_block_certificate(book, h, frame);
     }
-    if kind == 6 {
-        return keep_dummy_certificate(book, h, frame);
+    let signers = frame_signers(frame);
+    if (kind == 3) | (kind == 6) {
+        return join_signers(book, h, 1, signers);
     }
-    keep_finalize_certificate(book, h, frame)
+    join_signers(book, h, 2, signers)
 }

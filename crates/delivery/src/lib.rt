@@ -5,4 +5,3 @@ mod keep;
 mod notarize;
 mod parts;
 mod refuse;
-mod signers;

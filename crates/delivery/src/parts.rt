@@ -1,8 +1,10 @@
-// Parts of a frame, lent where they lie, and whether it is one replica's statement.
+// Parts of a frame, lent where they lie, whether it is one replica's statement, and who signed it.
 ghost use mathlib.Core.Path.{_≡_};
+ghost use Prim.Native.Nat.{_<_, _≤_};
 ghost use lib.ListN.{length};
 ghost use Rattle.sha256.specs.Digest.{sha256 as sha};
-ghost use Rattle.protocol.specs.Frame.{kind, frameDigest, frameBlock, isStatement};
+ghost use Rattle.protocol.specs.Frame.{kind, signer, frameDigest, frameBlock, isStatement};
+ghost use Rattle.delivery.specs.Refusal.{signersOf};
 
 // The digest's place in a frame, 32 bytes.
 pub fn frame_digest(frame: &[u8]) -> &[u8]
@@ -35,4 +37,17 @@ pub fn is_statement(frame: &[u8]) -> bool
 {
     let kind = wire::frame::frame_kind(frame);
     (1 <= kind) & (kind <= 4)
+}
+
+// The mask of a frame's signers: the one of a statement, or those of a certificate.
+pub fn frame_signers(frame: &[u8]) -> usize
+    requires { ⌜ length (now frame) ≡ 224 ⌝ }
+    requires { ⌜ (kind (now frame) ≤ 4 → signer (now frame) < 16) ⌝ }
+    ensures { λ r. ⌜ (r ≡ signersOf (now (frame .entry))) × (r < 65536) ⌝ }
+{
+    if is_statement(frame) {
+        fields::mask::bit(wire::frame::frame_signer(frame))
+    } else {
+        wire::frame::frame_mask(frame)
+    }
 }

@@ -1,9 +1,9 @@
 // Whether a frame can be read over a book: refusals 4, 6, 5, 7 and 9, in document 01's order.
 use crate::parts::is_statement;
-use crate::signers::below;
 use fields::head::heights;
 use fields::head::replicas;
 use fields::height::leader;
+use fields::mask::below;
 use fields::quorum::quorum;
 use wire::frame::frame_height;
 use wire::frame::frame_kind;
@@ -11,13 +11,26 @@ use wire::frame::frame_mask;
 use wire::frame::frame_signer;
 use wire::frame::frame_well_formed;
 ghost use mathlib.Core.Path.{_≡_};
+ghost use Prim.Native.Nat.{_≤_};
 ghost use lib.ListN.{length};
 ghost use Rattle.protocol.specs.Tests.{firstRefusal};
 ghost use Rattle.protocol.specs.State.{decode};
 ghost use Rattle.protocol.specs.Deliver.{readRows};
 ghost use Rattle.fields.specs.Ready.{Within};
 ghost use Rattle.state.specs.Memo.{Readable};
-ghost use Rattle.delivery.specs.Refusal.{refusalOf, membersFit, leaderSigned, signersEnough, memberRows};
+ghost use Rattle.delivery.specs.Refusal.{refusalOf, threeRows, membersFit, leaderSigned, signersEnough, memberRows};
+
+// The number of the first of three tests that fails, and 0 where none does.
+pub fn first_refusal(a: usize, p: bool, b: usize, q: bool, c: usize, r: bool) -> usize
+    requires { ⌜ (1 ≤ a) × (1 ≤ b) × (1 ≤ c) ⌝ }
+    ensures { λ number. ⌜ refusalOf number ≡ firstRefusal (threeRows a b c p q r) ⌝ }
+{
+    if p {
+        if q { if r { 0 } else { c } } else { b }
+    } else {
+        a
+    }
+}
 
 // Whether the signer, or each signer of a certificate, is one of the book's replicas.
 fn members_fit(book: &[u8], frame: &[u8]) -> bool
@@ -70,11 +83,7 @@ fn member_refusal(book: &[u8], h: usize, frame: &[u8]) -> usize
     let members = members_fit(book, frame);
     let leads = leader_signed(book, h, frame);
     let enough = signers_enough(book, frame);
-    if members {
-        if leads { if enough { 0 } else { 9 } } else { 7 }
-    } else {
-        5
-    }
+    first_refusal(5, members, 7, leads, 9, enough)
 }
 
 // The first refusal that keeps a frame from being read, and 0 where none does.

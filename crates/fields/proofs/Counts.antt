@@ -1,7 +1,7 @@
 -- Turns of the two loops that count: one more bit of a mask, and one more dummy block of a run.
-use Prim.Native.Nat.{ℕ, suc, _+_, _*_, _/_, _%_, _^_, _<_}
+use Prim.Native.Nat.{ℕ, suc, _+_, _*_, _/_, _%_, _^_, _≤_, _<_}
 use native.Mathlib.Omega.{arith}
-use native.Mathlib.Nat.{div-div-eq-div-mul, div-one, pow-suc, mod-eq-of-lt, one-mul}
+use native.Mathlib.Nat.{div-div-eq-div-mul, div-one, pow-suc, mod-eq-of-lt, one-mul, pow-le-pow-right}
 use native.Mathlib.Numerals.{add-one}
 use mathlib.Core.Path.{_≡_, sym, _∙_}
 use mathlib.Core.Bool.{true, false, false≢true}
@@ -36,5 +36,7 @@ module _ (v : View) (j k : ℕ) where
 
 -- ---- the bit of a replica
 -- `1 << s` of a usize
-pub one-shl : (s : ℕ) → s < 16 → (1 * 2 ^ s) % 18446744073709551616 ≡ 2 ^ s
-one-shl s h = rw one-mul (mod-eq-of-lt (pow-lt {j = 64} (omega arith)))
+pub one-shifted : (s : ℕ) → s ≤ 16 → ((1 * 2 ^ s) % 18446744073709551616 ≡ 2 ^ s) × ((1 * 2 ^ s) % 18446744073709551616 ≤ 65536)
+one-shifted s h =
+    let is : (1 * 2 ^ s) % 18446744073709551616 ≡ 2 ^ s = rw one-mul (mod-eq-of-lt (pow-lt {j = 64} (omega arith))) in
+    (is, rw is (pow-le-pow-right {n = 2} (omega arith) {i = s} {j = 16} h))

@@ -1,6 +1,7 @@
 -- Where the fields of height `h` stand in a book, for the readers and the writers of one height.
-use Prim.Native.Nat.{ℕ, suc, _+_, _-_, _*_, _<_}
+use Prim.Native.Nat.{ℕ, zero, suc, _+_, _-_, _*_, _<_}
 use native.Mathlib.Omega.{arith}
+use native.Mathlib.Nat.{add-zero}
 use mathlib.Core.Path.{_≡_, ap, subst, _∙_}
 use lib.ListN.{length, take, drop}
 use Rattle.protocol.specs.Bytes.{Bytes, byteAt, word16, part}
@@ -10,6 +11,7 @@ use Rattle.protocol.specs.CodecLaws.{Exact, last-decode, decode-shaped}
 use Rattle.protocol.specs.PlaceLaws.{suc-pred, shaped-at}
 use Rattle.protocol.specs.FieldLaws.{read-leader, read-status, read-certificate-mask, read-dummy-mask, read-finalize-mask, read-voter-mask, read-proposal, read-notarized, read-vote}
 use Rattle.fields.specs.Ready.{Within}
+use Rattle.fields.specs.Numbered.{maskAt, blockAt}
 
 -- a lent part, as its place and its size
 pub cut-part : (bytes : Bytes) (from size : ℕ) → take (from + size - from) (drop from bytes) ≡ part bytes from size
@@ -39,24 +41,21 @@ module _ (book : Bytes) (h : ℕ) (within : Within book h) where
     pub status-at : byteAt book (from + 1) ≡ at (decode book) h .status
     status-at = rw place (named (λ x. x .status) (read-status book (h - 1) inside))
 
-    pub certificate-mask-at : word16 book (from + 2) ≡ at (decode book) h .certificateMask
-    certificate-mask-at = rw place (named (λ x. x .certificateMask) (read-certificate-mask book (h - 1) inside))
-
-    pub dummy-mask-at : word16 book (from + 4) ≡ at (decode book) h .dummyMask
-    dummy-mask-at = rw place (named (λ x. x .dummyMask) (read-dummy-mask book (h - 1) inside))
-
-    pub finalize-mask-at : word16 book (from + 6) ≡ at (decode book) h .finalizeMask
-    finalize-mask-at = rw place (named (λ x. x .finalizeMask) (read-finalize-mask book (h - 1) inside))
-
-    pub voter-mask-at : word16 book (from + 8) ≡ at (decode book) h .voterMask
-    voter-mask-at = rw place (named (λ x. x .voterMask) (read-voter-mask book (h - 1) inside))
+    pub mask-at : (k : ℕ) → k < 4 → word16 book (from + (2 + 2 * k)) ≡ maskAt (at (decode book) h) k
+    mask-at zero l = rw place (named (λ x. x .certificateMask) (read-certificate-mask book (h - 1) inside))
+    mask-at (suc zero) l = rw place (named (λ x. x .dummyMask) (read-dummy-mask book (h - 1) inside))
+    mask-at (suc (suc zero)) l = rw place (named (λ x. x .finalizeMask) (read-finalize-mask book (h - 1) inside))
+    mask-at (suc (suc (suc zero))) l = rw place (named (λ x. x .voterMask) (read-voter-mask book (h - 1) inside))
+    mask-at (suc (suc (suc (suc k)))) l = absurd (omega arith)
 
   module _ (from : ℕ) (place : from ≡ 576 + 16 * byteAt book 2 + 864 * (h - 1)) where
-    pub proposal-at : take (from + 176 - from) (drop from book) ≡ at (decode book) h .proposal
-    proposal-at = cut-part book from 176 ∙ rw place (named (λ x. x .proposal) (read-proposal book (h - 1) inside))
-
-    pub notarized-at : take (from + 176 + 176 - (from + 176)) (drop (from + 176) book) ≡ at (decode book) h .notarized
-    notarized-at = cut-part book (from + 176) 176 ∙ rw place (named (λ x. x .notarized) (read-notarized book (h - 1) inside))
+    pub block-at : (k : ℕ) → k < 2 → take (from + 176 * k + 176 - (from + 176 * k)) (drop (from + 176 * k) book) ≡ blockAt (at (decode book) h) k
+    block-at k l = cut-part book (from + 176 * k) 176 ∙ rw place (lies k l)
+      where
+        lies : (k : ℕ) → k < 2 → part book (576 + 16 * byteAt book 2 + 864 * (h - 1) + 176 * k) 176 ≡ blockAt (at (decode book) h) k
+        lies zero l = rw add-zero (named (λ x. x .proposal) (read-proposal book (h - 1) inside))
+        lies (suc zero) l = named (λ x. x .notarized) (read-notarized book (h - 1) inside)
+        lies (suc (suc k)) l = absurd (omega arith)
 
     pub vote-at : (s : ℕ) → s < 16 → take (from + 352 + 32 * s + 32 - (from + 352 + 32 * s)) (drop (from + 352 + 32 * s) book) ≡ voteOf (at (decode book) h) s
     vote-at s small = cut-part book (from + 352 + 32 * s) 32 ∙ rw place (named (λ x. voteOf x s) (read-vote book (h - 1) inside s small))

@@ -1,12 +1,12 @@
 -- What the writes of a function make of a whole book, in the order in which the code makes them.
-use Prim.Native.Nat.{ℕ, suc, _+_, _-_, _*_, _^_, _≤_, _<_}
+use Prim.Native.Nat.{ℕ, zero, suc, _+_, _-_, _*_, _^_, _≤_, _<_}
 use native.Mathlib.Omega.{arith}
 use mathlib.Core.Path.{_≡_, refl, ap, subst, _∙_}
 use mathlib.Core.List.{[], _∷_, _++_}
 use lib.ListN.{length, set}
 use Rattle.protocol.specs.Bytes.{Bytes, byteAt, le16, part, zeros, pieces}
 use Rattle.protocol.specs.State.{State, Height, headBytes, encode, decode, at, last, withHead, withHeight}
-use Rattle.protocol.specs.Deliver.{withProposal, withNotarized, withMasks, withVote}
+use Rattle.protocol.specs.Deliver.{withProposal, withNotarized, withVote}
 use Rattle.protocol.specs.Submit.{withPending}
 use Rattle.protocol.specs.BytesLaws.{put, length-part}
 use Rattle.protocol.specs.StateLaws.{Shaped, ShapedHeight}
@@ -18,6 +18,7 @@ use Rattle.protocol.specs.ChangeLaws.{named-height}
 use Rattle.protocol.specs.BookLaws.{book-pool, book-proposal, book-dummy-mask, book-finalize-mask, book-vote}
 use Rattle.protocol.specs.PoolLaws.{book-finish}
 use Rattle.fields.specs.Ready.{Ready, Within}
+use Rattle.fields.specs.Numbered.{withMaskAt}
 use Rattle.fields.proofs.Places.{height-shaped}
 
 -- ---- the head
@@ -77,19 +78,17 @@ module _ (book : Bytes) (ready : Ready book) (h : ℕ) (within : Within book h) 
   named claim p = subst claim (suc-pred h (within .low)) p
 
   module _ (content : ℕ) (content-place : content ≡ 576 + 16 * (h - 1)) where
-    pub kept-dummy-mask : (mask : ℕ) →
-        put book (content + 4) (le16 mask) ≡ encode (withHeight (decode book) h (withMasks (at (decode book) h) mask (at (decode book) h .finalizeMask)))
-    kept-dummy-mask mask =
+    pub kept-mask : (k : ℕ) → 1 ≤ k → k ≤ 2 → (mask : ℕ) → put book (content + (2 + 2 * k)) (le16 mask) ≡ encode (withHeight (decode book) h (withMaskAt (at (decode book) h) k mask))
+    kept-mask zero low high mask = absurd (omega arith)
+    kept-mask (suc zero) low high mask =
         rw content-place
-        (named (λ k. put book (576 + 16 * (h - 1) + 4) (le16 mask) ≡ encode (withHeight (decode book) k (withMasks (at (decode book) k) mask (at (decode book) k .finalizeMask))))
+        (named (λ i. put book (576 + 16 * (h - 1) + 4) (le16 mask) ≡ encode (withHeight (decode book) i (withMaskAt (at (decode book) i) 1 mask)))
         (book-dummy-mask book (ready .whole) (ready .size) (h - 1) inside mask))
-
-    pub kept-finalize-mask : (mask : ℕ) →
-        put book (content + 6) (le16 mask) ≡ encode (withHeight (decode book) h (withMasks (at (decode book) h) (at (decode book) h .dummyMask) mask))
-    kept-finalize-mask mask =
+    kept-mask (suc (suc zero)) low high mask =
         rw content-place
-        (named (λ k. put book (576 + 16 * (h - 1) + 6) (le16 mask) ≡ encode (withHeight (decode book) k (withMasks (at (decode book) k) (at (decode book) k .dummyMask) mask)))
+        (named (λ i. put book (576 + 16 * (h - 1) + 6) (le16 mask) ≡ encode (withHeight (decode book) i (withMaskAt (at (decode book) i) 2 mask)))
         (book-finalize-mask book (ready .whole) (ready .size) (h - 1) inside mask))
+    kept-mask (suc (suc (suc k))) low high mask = absurd (omega arith)
 
     module _ (body : ℕ) (body-place : body ≡ 576 + 16 * byteAt book 2 + 864 * (h - 1)) where
       pub held-proposal : part book body 176 ≡ at (decode book) h .proposal

@@ -3,8 +3,8 @@ ghost use mathlib.Core.Path.{_≡_};
 ghost use Prim.Native.Nat.{_+_, _-_, _*_, _<_, _≤_};
 ghost use Rattle.protocol.specs.Bytes.{byteAt};
 ghost use Rattle.protocol.specs.State.{decode, at, holdsProposal, isNotarized, voteOf};
-ghost use Rattle.protocol.specs.Block.{parentHeight};
 ghost use Rattle.fields.specs.Ready.{Sized, Within};
+ghost use Rattle.fields.specs.Numbered.{maskAt, blockAt};
 
 // Where the contents of height `h` start.
 pub fn content_at(h: usize) -> usize
@@ -58,13 +58,24 @@ pub fn is_notarized(book: &[u8], h: usize) -> bool
     2 <= status(book, h)
 }
 
+// Mask `k` of height `h`, of the four in its contents: 0 of its certificate, 1 of the dummy votes, 2 of the finalize
+// statements, 3 of the voters.
+pub fn mask_at(book: &[u8], h: usize, k: usize) -> usize
+    requires { ⌜ Sized (now book) ⌝ }
+    requires { ⌜ Within (now book) h ⌝ }
+    requires { ⌜ k < 4 ⌝ }
+    ensures { λ r. ⌜ (r ≡ maskAt (at (decode (now (book .entry))) h) k) × (r < 65536) ⌝ }
+{
+    let from = content_at(h);
+    wire::bytes::word(book, from + (2 + 2 * k))
+}
+
 pub fn certificate_mask(book: &[u8], h: usize) -> usize
     requires { ⌜ Sized (now book) ⌝ }
     requires { ⌜ Within (now book) h ⌝ }
     ensures { λ r. ⌜ (r ≡ at (decode (now (book .entry))) h .certificateMask) × (r < 65536) ⌝ }
 {
-    let from = content_at(h);
-    wire::bytes::word(book, from + 2)
+    mask_at(book, h, 0)
 }
 
 pub fn dummy_mask(book: &[u8], h: usize) -> usize
@@ -72,8 +83,7 @@ pub fn dummy_mask(book: &[u8], h: usize) -> usize
     requires { ⌜ Within (now book) h ⌝ }
     ensures { λ r. ⌜ (r ≡ at (decode (now (book .entry))) h .dummyMask) × (r < 65536) ⌝ }
 {
-    let from = content_at(h);
-    wire::bytes::word(book, from + 4)
+    mask_at(book, h, 1)
 }
 
 pub fn finalize_mask(book: &[u8], h: usize) -> usize
@@ -81,8 +91,7 @@ pub fn finalize_mask(book: &[u8], h: usize) -> usize
     requires { ⌜ Within (now book) h ⌝ }
     ensures { λ r. ⌜ (r ≡ at (decode (now (book .entry))) h .finalizeMask) × (r < 65536) ⌝ }
 {
-    let from = content_at(h);
-    wire::bytes::word(book, from + 6)
+    mask_at(book, h, 2)
 }
 
 pub fn voter_mask(book: &[u8], h: usize) -> usize
@@ -90,8 +99,18 @@ pub fn voter_mask(book: &[u8], h: usize) -> usize
     requires { ⌜ Within (now book) h ⌝ }
     ensures { λ r. ⌜ (r ≡ at (decode (now (book .entry))) h .voterMask) × (r < 65536) ⌝ }
 {
-    let from = content_at(h);
-    wire::bytes::word(book, from + 8)
+    mask_at(book, h, 3)
+}
+
+// Block `k` of height `h`: 0 the held proposal's place, 1 the notarized block's, 176 bytes each.
+fn block_at(book: &[u8], h: usize, k: usize) -> &[u8]
+    requires { ⌜ Sized (now book) ⌝ }
+    requires { ⌜ Within (now book) h ⌝ }
+    requires { ⌜ k < 2 ⌝ }
+    ensures { λ r. ⌜ now r ≡ blockAt (at (decode (now (book .entry))) h) k ⌝ }
+{
+    let from = body_at(book, h) + 176 * k;
+    &book[from..from + 176]
 }
 
 // The held proposal's place, 176 bytes.
@@ -100,8 +119,7 @@ pub fn proposal(book: &[u8], h: usize) -> &[u8]
     requires { ⌜ Within (now book) h ⌝ }
     ensures { λ r. ⌜ now r ≡ at (decode (now (book .entry))) h .proposal ⌝ }
 {
-    let from = body_at(book, h);
-    &book[from..from + 176]
+    block_at(book, h, 0)
 }
 
 // The notarized block's place, 176 bytes.
@@ -110,8 +128,7 @@ pub fn notarized(book: &[u8], h: usize) -> &[u8]
     requires { ⌜ Within (now book) h ⌝ }
     ensures { λ r. ⌜ now r ≡ at (decode (now (book .entry))) h .notarized ⌝ }
 {
-    let from = body_at(book, h) + 176;
-    &book[from..from + 176]
+    block_at(book, h, 1)
 }
 
 // The digest that replica `s` voted for, 32 bytes.
@@ -123,14 +140,4 @@ pub fn vote_digest(book: &[u8], h: usize, s: usize) -> &[u8]
 {
     let from = body_at(book, h) + 352 + 32 * s;
     &book[from..from + 32]
-}
-
-// The parent height of the notarized block of height `h`.
-pub fn notarized_parent(book: &[u8], h: usize) -> usize
-    requires { ⌜ Sized (now book) ⌝ }
-    requires { ⌜ Within (now book) h ⌝ }
-    ensures { λ r. ⌜ (r ≡ parentHeight (at (decode (now (book .entry))) h .notarized)) × (r < 256) ⌝ }
-{
-    let block = notarized(book, h);
-    wire::bytes::byte(block, 2)
 }

@@ -4,6 +4,7 @@ use crate::height::content_at;
 use crate::height::status;
 use crate::height::voter_mask;
 use crate::inside::copy_inside;
+use crate::mask::bit;
 use wire::bytes::copy_to;
 use wire::bytes::put_word;
 ghost use mathlib.Core.Path.{_≡_};
@@ -12,8 +13,9 @@ ghost use lib.ListN.{length, set};
 ghost use Rattle.protocol.specs.Bytes.{le16};
 ghost use Rattle.protocol.specs.BytesLaws.{put};
 ghost use Rattle.protocol.specs.State.{decode, encode, at, withHeight};
-ghost use Rattle.protocol.specs.Deliver.{withProposal, withNotarized, withMasks, withVote};
+ghost use Rattle.protocol.specs.Deliver.{withProposal, withNotarized, withVote};
 ghost use Rattle.fields.specs.Ready.{Ready, Within};
+ghost use Rattle.fields.specs.Numbered.{withMaskAt};
 
 // Keeps a block as the held proposal of height `h`.
 pub fn keep_proposal(book: &mut [u8], h: usize, block: &[u8])
@@ -72,26 +74,16 @@ pub fn notarize_held(book: &mut [u8], h: usize, mask: usize)
     mark_notarized(book, content, held, mask);
 }
 
-// Sets the mask of the dummy votes of height `h`.
-pub fn keep_dummy_mask(book: &mut [u8], h: usize, mask: usize)
+// Sets mask `k` of height `h`: 1 of the dummy votes, or 2 of the finalize statements.
+pub fn keep_mask(book: &mut [u8], h: usize, k: usize, mask: usize)
     requires { ⌜ Ready (now book) ⌝ }
     requires { ⌜ Within (now book) h ⌝ }
+    requires { ⌜ (1 ≤ k) × (k ≤ 2) ⌝ }
     requires { ⌜ mask < 65536 ⌝ }
-    ensures { λ _. ⌜ now (book .exit) ≡ encode (withHeight (decode (now (book .entry))) h (withMasks (at (decode (now (book .entry))) h) mask (at (decode (now (book .entry))) h .finalizeMask))) ⌝ }
+    ensures { λ _. ⌜ now (book .exit) ≡ encode (withHeight (decode (now (book .entry))) h (withMaskAt (at (decode (now (book .entry))) h) k mask)) ⌝ }
 {
     let content = content_at(h);
-    put_word(book, content + 4, mask);
-}
-
-// Sets the mask of the finalize votes of height `h`.
-pub fn keep_finalize_mask(book: &mut [u8], h: usize, mask: usize)
-    requires { ⌜ Ready (now book) ⌝ }
-    requires { ⌜ Within (now book) h ⌝ }
-    requires { ⌜ mask < 65536 ⌝ }
-    ensures { λ _. ⌜ now (book .exit) ≡ encode (withHeight (decode (now (book .entry))) h (withMasks (at (decode (now (book .entry))) h) (at (decode (now (book .entry))) h .dummyMask) mask)) ⌝ }
-{
-    let content = content_at(h);
-    put_word(book, content + 6, mask);
+    put_word(book, content + (2 + 2 * k), mask);
 }
 
 // Keeps the digest that replica `s` voted for, which had no vote yet.
@@ -106,6 +98,6 @@ pub fn keep_vote(book: &mut [u8], h: usize, s: usize, digest: &[u8])
     let content = content_at(h);
     let body = body_at(book, h);
     let mask = voter_mask(book, h);
-    put_word(book, content + 8, mask + (1 << s));
+    put_word(book, content + 8, mask + bit(s));
     copy_to(book, body + (352 + 32 * s), digest);
 }

@@ -4,5 +4,6 @@ pub mod head;
 pub mod height;
 mod inside;
 pub mod keep;
+pub mod mask;
 pub mod pool;
 pub mod quorum;

@@ -3,7 +3,7 @@ use crate::inside::copy_inside;
 use wire::bytes::clear;
 use wire::bytes::copy_to;
 ghost use mathlib.Core.Path.{_≡_};
-ghost use Prim.Native.Nat.{_+_, _*_, _<_, _≤_};
+ghost use Prim.Native.Nat.{_*_, _<_, _≤_};
 ghost use mathlib.Core.List.{[], _∷_, _++_};
 ghost use lib.ListN.{length};
 ghost use Rattle.protocol.specs.Bytes.{part, pieces};

@@ -1,10 +1,10 @@
 // Quorums of masks, and the dummy blocks that they notarize.
 ghost use mathlib.Core.Path.{_≡_};
-ghost use Prim.Native.Nat.{_+_, _*_, _<_, _≤_};
+ghost use Prim.Native.Nat.{_+_, _<_, _≤_};
 ghost use Rattle.protocol.specs.Bytes.{byteAt};
 ghost use Rattle.protocol.specs.Mask.{ones};
 ghost use Rattle.protocol.specs.View.{quorum as isQuorum, isDummy, dummyRun};
-ghost use Rattle.protocol.specs.State.{decode, at};
+ghost use Rattle.protocol.specs.State.{decode};
 ghost use Rattle.protocol.specs.Sound.{view};
 ghost use Rattle.fields.specs.Ready.{Sized, Within};
 

@@ -1,38 +1,41 @@
--- Which certificate a kind asks for, case by case.
-use Prim.Native.Nat.{ℕ}
+-- Which certificate a kind asks for: the block's, or the signers that joined a mask.
+use Prim.Native.Nat.{ℕ, _-_, _≤_}
+use native.Mathlib.Omega.{arith}
 use mathlib.Core.Path.{_≡_}
-use borrow.Author.Tests.{ne-eqb}
-use Rattle.protocol.specs.Bytes.{Bytes}
+use mathlib.Core.Logic.{_⊎_, inl, inr, ⊎-elim}
+use mathlib.Core.Bool.{true}
+use Rattle.protocol.specs.Bytes.{Bytes, zeros}
 use Rattle.protocol.specs.State.{State, at, isNotarized}
 use Rattle.protocol.specs.View.{quorum}
 use Rattle.protocol.specs.Sound.{view}
-use Rattle.protocol.specs.Frame.{blockCertificate, dummyCertificate, finalizeCertificate}
+use Rattle.protocol.specs.Frame.{isCertificate, frameOf, blockCertificate, dummyCertificate, finalizeCertificate}
 use Rattle.protocol.specs.Fetch.{certificateFrame, hasCertificate}
+use Rattle.protocol.specs.TestsLaws.{le-or-lt}
+use Rattle.protocol.specs.RowLaws.{in-range}
+use Rattle.fields.specs.Numbered.{maskAt}
+
+pub certificate-range : (k : ℕ) → isCertificate k ≡ true → (5 ≤ k) × (k ≤ 7)
+unfolding isCertificate
+certificate-range k e = in-range 5 7 k e
+
+six-or-seven : (k : ℕ) → 6 ≤ k → k ≤ 7 → (k ≡ 6) ⊎ (k ≡ 7)
+six-or-seven k low high = ⊎-elim (λ l. inl (omega arith)) (λ l. inr (omega arith)) (le-or-lt k 6)
 
 module _ (s : State) (k h : ℕ) where
   pub has-block : k ≡ 5 → hasCertificate s k h ≡ isNotarized (at s h)
   unfolding hasCertificate
   has-block e = rw e
 
-  pub has-dummy : k ≡ 6 → hasCertificate s k h ≡ quorum (view s) (at s h .dummyMask)
+  pub has-signers : 6 ≤ k → k ≤ 7 → hasCertificate s k h ≡ quorum (view s) (maskAt (at s h) (k - 5))
   unfolding hasCertificate
-  has-dummy e = rw e
-
-  pub has-final : (k ≡ 5 → ⊥) → (k ≡ 6 → ⊥) → hasCertificate s k h ≡ quorum (view s) (at s h .finalizeMask)
-  unfolding hasCertificate
-  has-final p q = rw (ne-eqb k 5 p, ne-eqb k 6 q)
+  has-signers low high = ⊎-elim (λ e. rw e) (λ e. rw e) (six-or-seven k low high)
 
   -- ---- the frame
-  module _ (mask : ℕ) where
-    pub frame-block : (block : Bytes) → k ≡ 5 → mask ≡ at s h .certificateMask → block ≡ at s h .notarized →
-        blockCertificate h mask block ≡ certificateFrame s k h
+  module _ (mask : ℕ) (held : mask ≡ maskAt (at s h) (k - 5)) where
+    pub frame-block : (block : Bytes) → k ≡ 5 → block ≡ at s h .notarized → blockCertificate h mask block ≡ certificateFrame s k h
     unfolding certificateFrame
-    frame-block block e p q = rw (e, p, q)
+    frame-block block e q = rw (held, e, q)
 
-    pub frame-dummy : k ≡ 6 → mask ≡ at s h .dummyMask → dummyCertificate h mask ≡ certificateFrame s k h
-    unfolding certificateFrame
-    frame-dummy e p = rw (e, p)
-
-    pub frame-final : (k ≡ 5 → ⊥) → (k ≡ 6 → ⊥) → mask ≡ at s h .finalizeMask → finalizeCertificate h mask ≡ certificateFrame s k h
-    unfolding certificateFrame
-    frame-final p q e = rw (ne-eqb k 5 p, ne-eqb k 6 q, e)
+    pub frame-signers : 6 ≤ k → k ≤ 7 → frameOf k 0 h mask (zeros 32) (zeros 176) ≡ certificateFrame s k h
+    unfolding certificateFrame dummyCertificate finalizeCertificate
+    frame-signers low high = ⊎-elim (λ (e : k ≡ 6). rw (held, e)) (λ (e : k ≡ 7). rw (held, e)) (six-or-seven k low high)

@@ -21,18 +21,17 @@ fn is_certificate(kind: usize) -> bool
     (5 <= kind) & (kind <= 7)
 }
 
-// Whether the book has the certificate of that kind and height.
+// Whether the book has the certificate of that kind and height. The masks of kinds 5 to 7 are the first three of a height.
 fn has_certificate(book: &[u8], kind: usize, height: usize) -> bool
     requires { ⌜ SoundBook (now book) ⌝ }
     requires { ⌜ Within (now book) height ⌝ }
+    requires { ⌜ (5 ≤ kind) × (kind ≤ 7) ⌝ }
     ensures { λ r. ⌜ r ≡ hasCertificate (decode (now (book .entry))) kind height ⌝ }
 {
     if kind == 5 {
         fields::height::is_notarized(book, height)
-    } else if kind == 6 {
-        fields::quorum::quorum(book, fields::height::dummy_mask(book, height))
     } else {
-        fields::quorum::quorum(book, fields::height::finalize_mask(book, height))
+        fields::quorum::quorum(book, fields::height::mask_at(book, height, kind - 5))
     }
 }
 
@@ -40,19 +39,16 @@ fn has_certificate(book: &[u8], kind: usize, height: usize) -> bool
 fn write_certificate(book: &[u8], kind: usize, height: usize, reply: &mut [u8])
     requires { ⌜ SoundBook (now book) ⌝ }
     requires { ⌜ Within (now book) height ⌝ }
+    requires { ⌜ (5 ≤ kind) × (kind ≤ 7) ⌝ }
     requires { ⌜ 224 ≤ length (now reply) ⌝ }
     ensures { λ _. ⌜ now (reply .exit) ≡ overFront (certificateFrame (decode (now (book .entry))) kind height) (now (reply .entry)) ⌝ }
 {
+    let mask = fields::height::mask_at(book, height, kind - 5);
     if kind == 5 {
-        let mask = fields::height::certificate_mask(book, height);
         let block = fields::height::notarized(book, height);
         wire::frame::write_block_certificate(reply, height, mask, block);
-    } else if kind == 6 {
-        let mask = fields::height::dummy_mask(book, height);
-        wire::frame::write_dummy_certificate(reply, height, mask);
     } else {
-        let mask = fields::height::finalize_mask(book, height);
-        wire::frame::write_finalize_certificate(reply, height, mask);
+        wire::frame::write_plain(reply, kind, 0, height, mask);
     }
 }
 
@@ -98,8 +94,7 @@ pub fn fetch(book: &[u8], kind: usize, height: usize, reply: &mut [u8]) -> Answe
     ensures answer { λ r. ⌜ doneAnswer r ≡ fetchCall sha (now (book .entry)) kind height (now (reply .entry)) .answer ⌝ }
     ensures reply { λ _. ⌜ now (reply .exit) ≡ fetchCall sha (now (book .entry)) kind height (now (reply .entry)) .reply ⌝ }
 {
-    let mut known = [0u8; 64];
-    if state::sound::sound(book, &mut known) {
+    if state::sound::is_sound(book) {
         fetch_sound(book, kind, height, reply)
     } else {
         Answer::Refused(1)

@@ -23,8 +23,7 @@ fn log_count(book: &[u8]) -> usize
 pub fn size(book: &[u8]) -> Size
     ensures { λ r. ⌜ sizeAnswer r ≡ sizeCall sha (now (book .entry)) ⌝ }
 {
-    let mut known = [0u8; 64];
-    if state::sound::sound(book, &mut known) {
+    if state::sound::is_sound(book) {
         let count = log_count(book);
         Size::Bytes(16 * count)
     } else {
@@ -54,8 +53,7 @@ pub fn read_into(book: &[u8], buffer: &mut [u8]) -> usize
     ensures length { λ r. ⌜ r ≡ length (readPart sha (now (book .entry)) (now (buffer .entry))) ⌝ }
     ensures buffer { λ _. ⌜ now (buffer .exit) ≡ readBuffer sha (now (book .entry)) (now (buffer .entry)) ⌝ }
 {
-    let mut known = [0u8; 64];
-    if state::sound::sound(book, &mut known) {
+    if state::sound::is_sound(book) {
         read_sound(book, buffer)
     } else {
         0

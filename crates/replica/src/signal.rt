@@ -57,8 +57,7 @@ pub fn signal(book: &mut [u8], height: usize) -> Answer
     ensures answer { λ r. ⌜ doneAnswer r ≡ signalCall sha (now (book .entry)) height .answer ⌝ }
     ensures book { λ _. ⌜ now (book .exit) ≡ signalCall sha (now (book .entry)) height .book ⌝ }
 {
-    let mut known = [0u8; 64];
-    if state::sound::sound(book, &mut known) {
+    if state::sound::is_sound(book) {
         signal_sound(book, height)
     } else {
         Answer::Refused(1)

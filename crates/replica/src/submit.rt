@@ -76,8 +76,7 @@ pub fn submit(book: &mut [u8], entry: &[u8]) -> Answer
     ensures answer { λ r. ⌜ doneAnswer r ≡ submitCall sha (now (book .entry)) (now (entry .entry)) .answer ⌝ }
     ensures book { λ _. ⌜ now (book .exit) ≡ submitCall sha (now (book .entry)) (now (entry .entry)) .book ⌝ }
 {
-    let mut known = [0u8; 64];
-    if state::sound::sound(book, &mut known) {
+    if state::sound::is_sound(book) {
         submit_sound(book, entry)
     } else {
         Answer::Refused(1)

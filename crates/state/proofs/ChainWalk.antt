@@ -2,16 +2,16 @@
 use Prim.Native.Nat.{ℕ, zero, suc, _+_, _-_, _*_, _≤_, _<_}
 use native.Mathlib.Omega.{arith}
 use native.Mathlib.Numerals.{add-one}
-use mathlib.Core.Path.{_≡_, refl, sym, ap, subst, _∙_}
+use mathlib.Core.Path.{_≡_, sym, ap, subst, _∙_}
 use mathlib.Core.Bool.{Bool, true, false}
-use mathlib.Core.List.{List, [], _++_}
+use mathlib.Core.List.{List, _++_}
 use lib.ListN.{length, take, drop, length-append}
 use Rattle.protocol.specs.Bytes.{Bytes, byteAt, part, same, join, holds, overFront}
 use Rattle.protocol.specs.BytesLaws.{put, length-part}
-use Rattle.protocol.specs.Block.{parentHeight, entryCount, entries, blockWellFormed}
+use Rattle.protocol.specs.Block.{parentHeight, entryCount, entries}
 use Rattle.protocol.specs.State.{decode, at}
 use Rattle.protocol.specs.Sound.{view}
-use Rattle.protocol.specs.View.{View, linked, logAt}
+use Rattle.protocol.specs.View.{View, logAt}
 use Rattle.protocol.specs.FormedLaws.{Formed, formed}
 use Rattle.protocol.specs.LinkedLaws.{linked-parent}
 use Rattle.protocol.specs.ChainLaws.{log-suc, log-length, log-bound}

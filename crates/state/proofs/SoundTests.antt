@@ -1,15 +1,13 @@
 -- The tests that the code of soundness makes are the rows of the definition, group by group.
-use Prim.Native.Nat.{ℕ, suc, _+_, _-_, _*_, _/_, _^_, _≤_, _<_}
+use Prim.Native.Nat.{ℕ, suc, _+_, _-_, _*_, _<_}
 use native.Mathlib.Omega.{arith}
-use native.Mathlib.Nat.{div-eq-of-lt, le-div-iff-mul-le}
 use native.Mathlib.Numerals.{add-one}
 use mathlib.Core.Path.{_≡_, sym, _∙_}
-use mathlib.Core.Logic.{_⊎_, inl, inr, _≢_}
+use mathlib.Core.Logic.{_≢_}
 use mathlib.Core.Bool.{Bool, true, false, _&&_, and-true}
 use lib.ListN.{length, take, drop}
 use lib.Dec.{eqb, leb, ltb}
-use lib.Pow.{pow-pos}
-use borrow.Author.Tests.{eq-eqb, ne-eqb, lt-ltb, le-ltb}
+use borrow.Author.Tests.{eq-eqb, ne-eqb}
 use Rattle.protocol.specs.Bytes.{Bytes, byteAt, part, isZero}
 use Rattle.protocol.specs.Tests.{allOf, implies, inRange, everyHeight}
 use Rattle.protocol.specs.Block.{blockWellFormed}
@@ -17,7 +15,6 @@ use Rattle.protocol.specs.Mask.{belowBit}
 use Rattle.protocol.specs.State.{Height, at, decode, bookSize, holdsProposal, isNotarized}
 use Rattle.protocol.specs.View.{quorum, isFinalized}
 use Rattle.protocol.specs.Sound.{view, masksBelow, blocksWellFormed, contentZeros, sound}
-use Rattle.protocol.specs.TestsLaws.{le-or-lt}
 use Rattle.protocol.specs.RowLaws.{true-and, row-fails}
 use Rattle.protocol.specs.CodecLaws.{last-decode}
 use Rattle.protocol.specs.SoundLaws.{not-finalized-past}
@@ -45,16 +42,6 @@ module _ (book : Bytes) where
   head-short short = row-fails _ 0 (ne-eqb (length book) (576 + 880 * byteAt book 2) (λ e. omega arith))
 
 -- ---- masks
-pub below-bit : (n mask : ℕ) → eqb (mask / 2 ^ n) 0 ≡ belowBit n mask
-unfolding belowBit
-below-bit n mask = go (le-or-lt (2 ^ n) mask)
-  where
-    go : (2 ^ n ≤ mask) ⊎ (mask < 2 ^ n) → eqb (mask / 2 ^ n) 0 ≡ ltb mask (2 ^ n)
-    go (inl l) =
-        let some-left : 1 ≤ mask / 2 ^ n = le-div-iff-mul-le {k = 2 ^ n} {x = 1} {y = mask} (pow-pos n) .1 (omega arith) in
-        ne-eqb (mask / 2 ^ n) 0 (λ e. omega arith) ∙ sym (le-ltb mask (2 ^ n) l)
-    go (inr l) = eq-eqb (mask / 2 ^ n) 0 (div-eq-of-lt l) ∙ sym (lt-ltb mask (2 ^ n) l)
-
 pub masks-are : (n : ℕ) (x : Height) →
     (belowBit n (x .certificateMask) && (belowBit n (x .dummyMask) && (belowBit n (x .finalizeMask) && belowBit n (x .voterMask)))) ≡ masksBelow n x
 unfolding masksBelow allOf

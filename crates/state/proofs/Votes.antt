@@ -1,11 +1,10 @@
 -- The turns of the tally: a bit for each replica whose kept vote is for the digest.
-use Prim.Native.Nat.{ℕ, suc, _+_, _*_, _/_, _%_, _^_, _≤_, _<_}
+use Prim.Native.Nat.{ℕ, _+_, _*_, _^_, _≤_}
 use native.Mathlib.Omega.{arith}
 use native.Mathlib.Nat.{pow-suc, pow-le-pow-right, add-zero}
 use native.Mathlib.Numerals.{add-one}
-use mathlib.Core.Path.{_≡_, refl, sym, ap₂, _∙_}
+use mathlib.Core.Path.{_≡_, ap₂, _∙_}
 use mathlib.Core.Bool.{Bool, true, false, _&&_}
-use borrow.Author.Tests.{ne-eqb}
 use Rattle.protocol.specs.Bytes.{Bytes, same}
 use Rattle.protocol.specs.Mask.{inMask, maskOf}
 use Rattle.protocol.specs.State.{Height, voteOf}
@@ -14,10 +13,6 @@ use Rattle.protocol.specs.Deliver.{votersFor}
 -- replica `s` is one of the voters, and its kept vote is for this digest
 abbrev pub votes : Height → ℕ → Bytes → ℕ → Bool
 votes x voters digest s = inMask voters s && same (voteOf x s) digest
-
-pub no-bit : (mask s : ℕ) → (mask / 2 ^ s % 2 ≡ 1 → ⊥) → inMask mask s ≡ false
-unfolding inMask
-no-bit mask s h = ne-eqb _ _ h
 
 pub power-small : (s : ℕ) → s ≤ 16 → 2 ^ s ≤ 65536
 power-small s h = pow-le-pow-right {n = 2} (omega arith) {i = s} {j = 16} h

@@ -16,12 +16,11 @@ use Rattle.protocol.specs.State.{decode, at, isNotarized}
 use Rattle.protocol.specs.Tests.{allOf}
 use Rattle.protocol.specs.View.{View, quorum, isDummy, digestAt, linked, extends, extendsOver, dummyRun, isFinalized, largestFinalized, parentOf}
 use Rattle.protocol.specs.BytesLaws.{length-part}
-use Rattle.protocol.specs.CodecLaws.{last-decode, decode-shaped}
-use Rattle.protocol.specs.PlaceLaws.{suc-pred, shaped-at}
 use Rattle.protocol.specs.LinkedLaws.{linked-suc, linked-zero}
 use Rattle.protocol.specs.Sound.{view}
 use Rattle.sha256.specs.Digest.{sha256}
 use Rattle.fields.specs.Ready.{Within}
+use Rattle.fields.proofs.Places.{notarized-size as block-size}
 use Rattle.state.specs.Memo.{Memo, Readable}
 
 same-zeros : (k : ℕ) (x : Bytes) → length x ≡ k → same x (zeros k) ≡ isZero x
@@ -93,12 +92,7 @@ unfolding parentHeight
 names-parent-height block = refl
 
 pub notarized-size : (book : Bytes) (h : ℕ) → Readable book → Within book h → length (at (decode book) h .notarized) ≡ 176
-notarized-size book h r w =
-    let low = w .low in
-    let high = w .high in
-    let count = last-decode book in
-    subst (λ (k : ℕ). length (at (decode book) k .notarized) ≡ 176) (suc-pred h (w .low))
-    (shaped-at (decode book) (h - 1) (decode-shaped book (r .sized .size)) (omega arith) .notarized-size)
+notarized-size book h r w = block-size book h (r .sized .size) w
 
 -- ---- the memory
 module _ (book known : Bytes) (memo : Memo book known) (h : ℕ) (inside : h < 64) where

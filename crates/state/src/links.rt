@@ -1,7 +1,7 @@
 // Linked heights: a recursive walk over parent heights. A lent memory of 64 bytes keeps what is known, so that in one
 // call each height is looked at once and at most one digest is computed for it.
 ghost use mathlib.Core.Path.{_≡_};
-ghost use Prim.Native.Nat.{_+_, _-_, _<_, _≤_};
+ghost use Prim.Native.Nat.{_≤_};
 ghost use lib.ListN.{length};
 ghost use Rattle.sha256.specs.Digest.{sha256 as sha};
 ghost use Rattle.protocol.specs.Bytes.{byteAt, same};

@@ -1,4 +1,9 @@
 // Soundness of a book: one pass over its bytes, and one digest for each block of the finalized chain.
+use fields::height::holds_proposal;
+use fields::height::is_notarized;
+use fields::height::notarized;
+use fields::height::proposal;
+use fields::mask::below;
 use wire::bytes::byte;
 use wire::bytes::is_zero;
 ghost use mathlib.Core.Path.{_≡_};
@@ -7,10 +12,10 @@ ghost use Prim.Native.Nat.{_≤_};
 ghost use lib.ListN.{length};
 ghost use Rattle.sha256.specs.Digest.{sha256 as sha};
 ghost use Rattle.protocol.specs.Bytes.{byteAt, zeros, isZero};
+ghost use Rattle.protocol.specs.BytesLaws.{AreBytes};
 ghost use Rattle.protocol.specs.Tests.{allOf, implies, everyHeight};
 ghost use Rattle.protocol.specs.Block.{blockWellFormed};
-ghost use Rattle.protocol.specs.Mask.{belowBit};
-ghost use Rattle.protocol.specs.State.{decode, at, holdsProposal, isNotarized};
+ghost use Rattle.protocol.specs.State.{decode, at, isNotarized};
 ghost use Rattle.protocol.specs.View.{quorum};
 ghost use Rattle.protocol.specs.Sound.{view, masksBelow, contentZeros, sound as isSound};
 ghost use Rattle.fields.specs.Ready.{Within};
@@ -50,14 +55,6 @@ fn head_sound(book: &[u8]) -> bool
     }
 }
 
-// Whether a mask has no bit from `n` up.
-fn below(n: usize, mask: usize) -> bool
-    requires { ⌜ n ≤ 16 ⌝ }
-    ensures { λ r. ⌜ r ≡ belowBit n mask ⌝ }
-{
-    mask >> n == 0
-}
-
 // Whether the four masks of height `h` hold none but the book's replicas.
 fn masks_sound(book: &[u8], h: usize) -> bool
     requires { ⌜ Readable (now book) ⌝ }
@@ -72,27 +69,12 @@ fn masks_sound(book: &[u8], h: usize) -> bool
     certificate & (dummy & (finalize & voters))
 }
 
-// Whether the proposal that is held at height `h`, if one is, is well formed.
-fn proposal_sound(book: &[u8], h: usize) -> bool
-    requires { ⌜ Readable (now book) ⌝ }
-    requires { ⌜ Within (now book) h ⌝ }
-    ensures { λ r. ⌜ r ≡ implies (holdsProposal (at (decode (now (book .entry))) h)) (blockWellFormed h (at (decode (now (book .entry))) h .proposal)) ⌝ }
+// Whether a block of height `h` is well formed, if it is there.
+fn block_sound(there: bool, block: &[u8], h: usize) -> bool
+    ensures { λ r. ⌜ r ≡ implies there (blockWellFormed h (now (block .entry))) ⌝ }
 {
-    if fields::height::holds_proposal(book, h) {
-        wire::block::block_well_formed(fields::height::proposal(book, h), h)
-    } else {
-        true
-    }
-}
-
-// Whether the notarized block of height `h`, if there is one, is well formed.
-fn notarized_sound(book: &[u8], h: usize) -> bool
-    requires { ⌜ Readable (now book) ⌝ }
-    requires { ⌜ Within (now book) h ⌝ }
-    ensures { λ r. ⌜ r ≡ implies (isNotarized (at (decode (now (book .entry))) h)) (blockWellFormed h (at (decode (now (book .entry))) h .notarized)) ⌝ }
-{
-    if fields::height::is_notarized(book, h) {
-        wire::block::block_well_formed(fields::height::notarized(book, h), h)
+    if there {
+        wire::block::block_well_formed(block, h)
     } else {
         true
     }
@@ -104,7 +86,7 @@ fn certificate_sound(book: &[u8], h: usize) -> bool
     requires { ⌜ Within (now book) h ⌝ }
     ensures { λ r. ⌜ r ≡ implies (isNotarized (at (decode (now (book .entry))) h)) (quorum (view (decode (now (book .entry)))) (at (decode (now (book .entry))) h .certificateMask)) ⌝ }
 {
-    if fields::height::is_notarized(book, h) {
+    if is_notarized(book, h) {
         fields::quorum::quorum(book, fields::height::certificate_mask(book, h))
     } else {
         true
@@ -130,8 +112,8 @@ fn height_sound(book: &[u8], h: usize) -> bool
     let leader = fields::height::leader(book, h) < fields::head::replicas(book);
     let masks = masks_sound(book, h);
     let status = fields::height::status(book, h) <= 3;
-    let proposal = proposal_sound(book, h);
-    let notarized = notarized_sound(book, h);
+    let proposal = block_sound(holds_proposal(book, h), proposal(book, h), h);
+    let notarized = block_sound(is_notarized(book, h), notarized(book, h), h);
     let certificate = certificate_sound(book, h);
     let unused = unused_sound(book, h);
     leader & (masks & (status & ((proposal & notarized) & (certificate & unused))))
@@ -190,4 +172,13 @@ pub fn sound(book: &[u8], known: &mut [u8]) -> bool
     } else {
         false
     }
+}
+
+// Whether a book is sound, for a call that asks for no linked height afterwards. Its bytes are below 256, as those of any slice.
+pub fn is_sound(book: &[u8]) -> bool
+    ensures answer { λ r. ⌜ r ≡ isSound sha (now (book .entry)) ⌝ }
+    ensures bytes { λ _. ⌜ AreBytes (now (book .entry)) ⌝ }
+{
+    let mut known = [0u8; 64];
+    sound(book, &mut known)
 }

@@ -16,7 +16,7 @@ fn votes_for(book: &[u8], h: usize, s: usize, voters: usize, digest: &[u8]) -> b
     requires { ⌜ s < 16 ⌝ }
     ensures { λ r. ⌜ r ≡ (inMask voters s && same (voteOf (at (decode (now (book .entry))) h) s) (now (digest .entry))) ⌝ }
 {
-    if (voters >> s) % 2 == 1 {
+    if fields::mask::in_mask(voters, s) {
         wire::bytes::same_bytes(fields::height::vote_digest(book, h, s), digest)
     } else {
         false

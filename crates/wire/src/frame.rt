@@ -1,7 +1,5 @@
 // Frames: tests of the 224 bytes where they lie, their fields, and the writing of each kind at the front of a buffer.
-use crate::block::add_entry;
 use crate::block::block_well_formed;
-use crate::block::start_block;
 use crate::bytes::byte;
 use crate::bytes::clear;
 use crate::bytes::copy_to;
@@ -10,13 +8,10 @@ use crate::bytes::put_byte;
 use crate::bytes::put_word;
 use crate::bytes::word;
 ghost use mathlib.Core.Path.{_≡_};
-ghost use Prim.Native.Nat.{_+_, _*_, _<_, _≤_};
-ghost use mathlib.Core.List.{[], _∷_};
+ghost use Prim.Native.Nat.{_<_, _≤_};
 ghost use lib.ListN.{length};
 ghost use Rattle.protocol.specs.Bytes.{zeros, overFront};
-ghost use Rattle.protocol.specs.BytesLaws.{put};
-ghost use Rattle.protocol.specs.Block.{newBlock};
-ghost use Rattle.protocol.specs.Frame.{kind, signer, frameHeight, signerMask, frameWellFormed, frameOf, proposal, blockVote, dummyVote, finalize, blockCertificate, dummyCertificate, finalizeCertificate};
+ghost use Rattle.protocol.specs.Frame.{kind, signer, frameHeight, signerMask, frameWellFormed, frameOf, blockVote, dummyVote, finalize, blockCertificate, dummyCertificate};
 ghost use Rattle.wire.specs.Parts.{frameFields, frameRest, frameBlockPart, frameHead};
 
 // The kind of a frame, its first byte. Costs one read.
@@ -178,15 +173,6 @@ pub fn write_dummy_certificate(out: &mut [u8], h: usize, mask: usize)
     write_plain(out, 6, 0, h, mask);
 }
 
-// Writes a finalization: 224 stores.
-pub fn write_finalize_certificate(out: &mut [u8], h: usize, mask: usize)
-    requires { ⌜ 224 ≤ length (now out) ⌝ }
-    requires { ⌜ (h < 256) × (mask < 65536) ⌝ }
-    ensures { λ _. ⌜ now (out .exit) ≡ overFront (finalizeCertificate h mask) (now (out .entry)) ⌝ }
-{
-    write_plain(out, 7, 0, h, mask);
-}
-
 // Writes a vote for a block, which names it by its digest: 224 stores.
 pub fn write_block_vote(out: &mut [u8], signer: usize, h: usize, digest: &[u8])
     requires { ⌜ 224 ≤ length (now out) ⌝ }
@@ -207,36 +193,4 @@ pub fn write_block_certificate(out: &mut [u8], h: usize, mask: usize, block: &[u
     ensures { λ _. ⌜ now (out .exit) ≡ overFront (blockCertificate h mask (now (block .entry))) (now (out .entry)) ⌝ }
 {
     write_with_block(out, 5, 0, h, mask, block);
-}
-
-// Writes a proposal: 224 stores.
-pub fn write_proposal(out: &mut [u8], signer: usize, h: usize, block: &[u8])
-    requires { ⌜ 224 ≤ length (now out) ⌝ }
-    requires { ⌜ (signer < 256) × (h < 256) ⌝ }
-    requires { ⌜ length (now block) ≡ 176 ⌝ }
-    ensures { λ _. ⌜ now (out .exit) ≡ overFront (proposal signer h (now (block .entry))) (now (out .entry)) ⌝ }
-{
-    write_with_block(out, 1, signer, h, 0, block);
-}
-
-// Writes a proposal of a block with no entries yet, made where it lies, from byte 48 on: 224 stores.
-pub fn start_proposal(out: &mut [u8], signer: usize, h: usize, parent: usize, digest: &[u8])
-    requires { ⌜ 224 ≤ length (now out) ⌝ }
-    requires { ⌜ (signer < 256) × (h < 256) × (parent < 256) ⌝ }
-    requires { ⌜ length (now digest) ≡ 32 ⌝ }
-    ensures { λ _. ⌜ now (out .exit) ≡ overFront (proposal signer h (newBlock h parent (now (digest .entry)) [])) (now (out .entry)) ⌝ }
-{
-    write_head(out, 1, signer, h, 0);
-    clear(out, 16, 32);
-    start_block(&mut out[48..224], h, parent, digest);
-}
-
-// Puts one more entry into the block of a proposal, behind the `count` that it has. Costs 17 stores.
-pub fn add_proposal_entry(out: &mut [u8], count: usize, entry: &[u8])
-    requires { ⌜ 224 ≤ length (now out) ⌝ }
-    requires { ⌜ count < 8 ⌝ }
-    requires { ⌜ length (now entry) ≡ 16 ⌝ }
-    ensures { λ _. ⌜ now (out .exit) ≡ put (put (now (out .entry)) (96 + 16 * count) (now (entry .entry))) 52 ((count + 1) ∷ []) ⌝ }
-{
-    add_entry(&mut out[48..224], count, entry);
 }

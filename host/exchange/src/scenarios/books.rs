@@ -55,9 +55,11 @@ fn free_bytes<C: Calls>(to: &mut Recorder<C>) {
 }
 
 fn past_the_end<C: Calls>(to: &mut Recorder<C>) {
-    to.part("All heights passed and all flags set: only move 2 is left");
-    edited(to, &[(field::FLAGS, 15), (field::CURRENT, 3)]);
-    moves(to, BOOK);
+    to.part("All heights passed and all flags set, or flag 1 alone: only move 2 is left");
+    for flags in [1, 15] {
+        edited(to, &[(field::FLAGS, flags), (field::CURRENT, 3)]);
+        moves(to, BOOK);
+    }
     deliver(to, BOOK, &[Frame::FinalizeCertificate { mask: 13, height: 1 }]);
     moves(to, BOOK);
     to.make(Call::Read, BOOK, "register");

@@ -1,5 +1,6 @@
 //! The list of corners: quorums of every n, chains with two ways down, tallies that complete late.
 
+use super::edges;
 use super::parts::*;
 use crate::{Call, Recorder};
 use types::{field, Calls, Frame};
@@ -18,10 +19,11 @@ pub fn run<C: Calls>(to: &mut Recorder<C>) {
     parent_chain_filters(to);
     late_proposal(to);
     both_votes(to);
+    vote_after_the_quorum(to);
     joined_certificates(to);
     unlinked_certificate(to);
-    single_bytes(to);
-    one_byte_more(to);
+    unsettled_entry(to);
+    edges::run(to);
 }
 
 /// The mask of the first so many replicas.
@@ -48,18 +50,27 @@ fn two_ways_down<C: Calls>(to: &mut Recorder<C>) {
     deliver(to, BOOK, &[Frame::DummyCertificate { mask: 7, height: 1 }]);
     deliver(to, BOOK, &[Frame::BlockCertificate { mask: 7, block }]);
     moves(to, BOOK);
+    to.remark("It is blank all the same: a page on height 0 stands over it, and gets the vote");
+    deliver(to, BOOK, &[Frame::Proposal { signer: 2, block: first(2, &[]) }]);
+    moves(to, BOOK);
 }
 
 fn wrong_back_digest<C: Calls>(to: &mut Recorder<C>) {
     to.part(
         "A certified page that names another digest for its back page does not stand, nor settle",
     );
-    to.open(BOOK, 4, 2, &[0, 1]);
+    to.open(BOOK, 4, 2, &[0, 1, 0]);
     let one = first(1, &[]);
     let two = child(2, &first(1, &[entry("swap A1 B2")]), &[]);
+    let three = child(3, &two, &[]);
     deliver(to, BOOK, &[Frame::BlockCertificate { mask: 7, block: one }]);
-    deliver(to, BOOK, &[Frame::BlockCertificate { mask: 7, block: two }]);
+    deliver(to, BOOK, &[Frame::BlockCertificate { mask: 7, block: two.clone() }]);
     deliver(to, BOOK, &[Frame::FinalizeCertificate { mask: 7, height: 2 }]);
+    moves(to, BOOK);
+    to.remark("Held, it gets no vote; nor does the page on it settle");
+    deliver(to, BOOK, &[Frame::Proposal { signer: 1, block: two }]);
+    deliver(to, BOOK, &[Frame::BlockCertificate { mask: 7, block: three }]);
+    deliver(to, BOOK, &[Frame::FinalizeCertificate { mask: 7, height: 3 }]);
     moves(to, BOOK);
 }
 
@@ -83,6 +94,10 @@ fn parent_chain_filters<C: Calls>(to: &mut Recorder<C>) {
     }
     let block = first(1, &[entry("entry 2"), entry("entry 5")]);
     deliver(to, BOOK, &[Frame::BlockCertificate { mask: 7, block }]);
+    let written = moves(to, BOOK);
+    to.remark("Eight entries are a page like any other");
+    let offer = written.iter().filter(|frame| frame.starts_with(&[1]));
+    offer.for_each(|frame| _ = to.deliver(BOOK, frame));
     moves(to, BOOK);
 }
 
@@ -104,6 +119,18 @@ fn both_votes<C: Calls>(to: &mut Recorder<C>) {
     let block = first(1, &[]);
     let blank = |signer| Frame::DummyVote { signer, height: 1 };
     deliver(to, BOOK, &[blank(1), vote(1, &block), vote(3, &block), blank(3)]);
+    to.remark("So is a finalise; the same again is known");
+    let finalize = Frame::Finalize { signer: 1, height: 1 };
+    deliver(to, BOOK, &[finalize.clone(), finalize, blank(1)]);
+}
+
+fn vote_after_the_quorum<C: Calls>(to: &mut Recorder<C>) {
+    to.part("A vote after the quorum is kept and fresh, and the certificate stays as it was");
+    to.open(BOOK, 4, 2, &[0]);
+    let block = first(1, &[]);
+    deliver(to, BOOK, &[Frame::Proposal { signer: 0, block: block.clone() }]);
+    deliver(to, BOOK, &[0, 1, 3, 2].map(|signer| vote(signer, &block)));
+    to.make(Call::Fetch { kind: 5, height: 1 }, BOOK, REPLY);
 }
 
 fn joined_certificates<C: Calls>(to: &mut Recorder<C>) {
@@ -135,30 +162,19 @@ fn unlinked_certificate<C: Calls>(to: &mut Recorder<C>) {
     }
 }
 
-fn single_bytes<C: Calls>(to: &mut Recorder<C>) {
-    to.part(
-        "A byte that a frame does not use is 4: the last zero byte, and a signer of a certificate",
-    );
+fn unsettled_entry<C: Calls>(to: &mut Recorder<C>) {
+    to.part("An entry of a page that is not settled is taken; later it is 13, and the refused call drops nothing");
     to.open(BOOK, 4, 2, &[0]);
-    let certificates = [
-        Frame::BlockCertificate { mask: 7, block: first(1, &[]) },
-        Frame::DummyCertificate { mask: 7, height: 1 },
-        Frame::FinalizeCertificate { mask: 7, height: 1 },
-    ];
-    for (frame, at) in certificates.iter().flat_map(|frame| [(frame, 15), (frame, 1)]) {
-        let mut bytes = frame.bytes();
-        bytes.iter_mut().skip(at).take(1).for_each(|byte| *byte = 1);
-        to.deliver(BOOK, &bytes);
+    let block = first(1, &[entry("swap A1 B2"), entry("swap A1 B2")]);
+    deliver(to, BOOK, &[Frame::BlockCertificate { mask: 7, block }]);
+    for words in ["entry 1", "swap A1 B2", "entry 2", "entry 3"] {
+        submit(to, BOOK, words);
     }
-}
-
-fn one_byte_more<C: Calls>(to: &mut Recorder<C>) {
-    to.part(
-        "A sound book with one more byte is not sound, and no length but the exact one is opened",
-    );
-    let mut longer = to.bytes(BOOK).to_vec();
-    longer.push(0);
-    to.give(BOOK, longer);
+    deliver(to, BOOK, &[Frame::FinalizeCertificate { mask: 7, height: 1 }]);
+    moves(to, BOOK);
+    submit(to, BOOK, "swap A1 B2");
+    to.remark("A taken one drops it from between the others, which stay in order");
+    submit(to, BOOK, "entry 4");
+    to.remark("An entry that stands twice in the register counts twice");
     to.make(Call::Size, BOOK, "");
-    to.make(Call::Open { n: 4, own: 2, heights: 1, leaders: vec![0] }, BOOK, "");
 }

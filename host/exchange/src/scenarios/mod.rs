@@ -2,6 +2,7 @@
 
 mod books;
 mod corners;
+mod edges;
 mod moves;
 mod orders;
 mod parts;

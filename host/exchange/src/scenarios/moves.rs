@@ -18,6 +18,7 @@ pub fn run<C: Calls>(to: &mut Recorder<C>) {
     alone_after_the_timer(to);
     finalized_nothing(to);
     gap(to);
+    two_apply(to);
 }
 
 /// The dummy votes of replicas 0, 1 and 2.
@@ -97,4 +98,22 @@ fn gap<C: Calls>(to: &mut Recorder<C>) {
     moves(to, BOOK);
     to.give("register", vec![0xbb; 64]);
     to.make(Call::Read, BOOK, "register");
+}
+
+fn two_apply<C: Calls>(to: &mut Recorder<C>) {
+    to.part("The blank vote goes before settling, and of two settled heights the larger is taken at once");
+    to.open(BOOK, 4, 2, &[0, 1]);
+    let one = first(1, &[entry("swap A1 B2")]);
+    let two = child(2, &one, &[]);
+    for block in [one, two] {
+        let height = block.height;
+        deliver(to, BOOK, &[Frame::BlockCertificate { mask: 7, block }]);
+        deliver(to, BOOK, &[Frame::FinalizeCertificate { mask: 7, height }]);
+    }
+    signal(to, BOOK, 1);
+    moves(to, BOOK);
+    to.part("The proposal goes before the vote for one that is held already");
+    to.open(BOOK, 4, 0, &[0]);
+    deliver(to, BOOK, &[Frame::Proposal { signer: 0, block: first(1, &[]) }]);
+    moves(to, BOOK);
 }

@@ -65,6 +65,11 @@ fn other_calls<C: Calls>(to: &mut Recorder<C>) {
     to.give("cut", vec![0; 1455]);
     to.make(Call::Move, "cut", "short");
     to.make(Call::Move, BOOK, "short");
+    to.remark("Every call looks at the book first: 1 before 4 and 6");
+    to.deliver("cut", &[]);
+    signal(to, "cut", 0);
+    to.make(Call::Submit { entry: vec![0; 15] }, "cut", "");
+    to.make(Call::Fetch { kind: 4, height: 0 }, "cut", "short");
 }
 
 fn soundness<C: Calls>(to: &mut Recorder<C>) {
@@ -80,11 +85,12 @@ fn soundness<C: Calls>(to: &mut Recorder<C>) {
         [Area::Row, Area::Held, Area::Notarized].map(|area| layout.area(1, area).start);
     let rows =
         [(0, 4), (1, 7), (2, 3), (2, 23), (4, 16), (6, 16), (8, 16), (9, 1), (10, 1), (15, 1)];
-    let pages = [(0, 2), (1, 1), (2, 1), (4, 9), (5, 1), (16, 1), (48, 1), (175, 1)];
+    let pages =
+        [(0, 2), (1, 1), (2, 1), (3, 1), (4, 9), (5, 1), (15, 1), (16, 1), (48, 1), (175, 1)];
     let edits = rows.map(|(at, byte)| (row.saturating_add(at), byte)).into_iter();
     let edits = edits.chain(pages.map(|(at, byte)| (held.saturating_add(at), byte)));
     let edits = edits.chain(pages.map(|(at, byte)| (notarized.saturating_add(at), byte)));
-    for (at, byte) in edits.chain([(5, 1)]) {
+    for (at, byte) in edits.chain([(5, 1), (row.saturating_add(1), 4)]) {
         let mut book = sound.clone();
         book.iter_mut().skip(at).take(1).for_each(|place| *place = byte);
         to.give(BOOK, book);

@@ -33,6 +33,11 @@ fn opening<C: Calls>(to: &mut Recorder<C>) {
     }
     to.make(open(4, 2, 1, &[4]), BOOK, "");
     to.make(open(u64::MAX, 2, 1, &[0]), BOOK, "");
+    to.remark("A number is not cut to a byte; 64 heights with a roll of 64 are too many");
+    for (n, own, heights) in [(260, 2, 1), (4, 258, 1), (4, 2, 257)] {
+        to.make(open(n, own, heights, &[0]), BOOK, "");
+    }
+    to.make(open(4, 2, 64, &[0; 64]), BOOK, "");
     to.make(open(4, 2, 1, &[0]), BOOK, "");
     to.make(Call::Size, BOOK, "");
     to.open(BOOK, 4, 2, &[0]);
@@ -56,13 +61,15 @@ fn frames<C: Calls>(to: &mut Recorder<C>) {
     let dummy_vote = Frame::DummyVote { signer: 0, height: 1 }.bytes();
     to.deliver(BOOK, &[]);
     to.deliver(BOOK, dummy_vote.get(..223).unwrap_or(&[]));
+    to.deliver(BOOK, &[&dummy_vote[..], &[0]].concat());
     for (at, byte) in [(0, 8), (0, 0), (3, 1), (4, 1), (16, 1), (223, 1)] {
         let mut frame = dummy_vote;
         frame.iter_mut().skip(at).take(1).for_each(|place| *place = byte);
         to.deliver(BOOK, &frame);
     }
     let odd = Block { digest: [1; 32], ..first(1, &[]) };
-    deliver(to, BOOK, &[proposal(0, first(0, &[])), proposal(0, odd)]);
+    deliver(to, BOOK, &[proposal(0, first(0, &[])), proposal(0, odd.clone())]);
+    deliver(to, BOOK, &[Frame::BlockCertificate { mask: 7, block: odd }]);
     to.part(
         "Heights outside the book are 6, signers 5, a proposer who does not lead 7, no quorum 9",
     );
@@ -106,6 +113,10 @@ fn fetching<C: Calls>(to: &mut Recorder<C>) {
     for (kind, height) in [(4, 0), (8, 1), (5, 0), (5, 2), (5, u64::MAX), (5, 1), (6, 1), (7, 1)] {
         to.make(Call::Fetch { kind, height }, BOOK, REPLY);
     }
+    to.remark("Kind and height are not cut to a byte");
+    for (kind, height) in [(261, 1), (5, 257)] {
+        to.make(Call::Fetch { kind, height }, BOOK, REPLY);
+    }
 }
 
 /// Submit: 4, 13, 12.
@@ -124,7 +135,7 @@ fn entries<C: Calls>(to: &mut Recorder<C>) {
 fn signals<C: Calls>(to: &mut Recorder<C>) {
     to.part("Signals: a height outside is 6, one that is not current or fired already 14");
     to.open(BOOK, 4, 2, &[0, 1]);
-    for height in [0, 3, u64::MAX, 2, 1, 1] {
+    for height in [0, 3, 257, u64::MAX, 2, 1, 1] {
         signal(to, BOOK, height);
     }
     to.part("A book with a byte changed that must be zero is 1 for every call, and reads as empty");

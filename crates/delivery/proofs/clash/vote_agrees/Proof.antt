@@ -29,44 +29,31 @@ in-mask-requires c κs =
 
 vote-digest-requires : tie.Need-vote-digest-requires
 vote-digest-requires c κs =
-    let start = c .before .before .before .before .before .before .before .before in
-    (start .pre .spot .readable .sized, (start .pre .spot .within, omega (arith, start .pre .signer-small (omega (arith, c .before .before .before .before .before .frame-kind .ensures .0)), start .pre .spot .readable .replicas)))
+    let start = c .before .before .before .before .before .before .before in
+    (start .pre .spot .readable .sized, (start .pre .spot .within, omega (arith, start .pre .signer-small (omega (arith, c .before .before .before .before .frame-kind .ensures .0)), start .pre .spot .readable .replicas)))
 
 frame-digest-requires : tie.Need-frame-digest-requires
 frame-digest-requires c κs = search needs
 
-same-bytes-requires : tie.Need-same-bytes-requires
-same-bytes-requires c κs = search needs
+agrees-requires : tie.Need-agrees-requires
+agrees-requires c κs = search needs
 
 returns : tie.Need-returns
-unfolding voteAgrees implies
+unfolding voteAgrees
 returns c =
-    let inner = c .before .before .before in
-    let outer = inner .before .before .before .before in
-    let start = outer .before .before .before .before in
-    let book = start .args .book .now in
-    let x = at (decode book) (start .args .h) in
-    let mask = inner .before .before .voter-mask in
-    let held : mask .result ≡ x .voterMask = mask .ensures .0 in
-    let signed = inner .before .before .before .frame-signer .ensures .0 in
-    let is-vote = sym (outer .before .frame-kind .ensures .0) ∙ outer .if1 .taken in
-    let there = same-bit held signed (inner .before .in-mask .ensures) ∙ inner .if2 .taken in
+    let bit = c .before .before .before in
+    let branch = bit .before .before .before in
+    let start = branch .before .before .before .before in
+    let x = at (decode (start .args .book .now)) (start .args .h) in
+    let held : bit .before .voter-mask .result ≡ x .voterMask = bit .before .voter-mask .ensures .0 in
+    let signed = bit .before .before .frame-signer .ensures .0 in
     let kept = c .before .before .vote-digest .ensures ∙ ap (λ (k : ℕ). voteOf x k) signed in
-    rw (is-vote, there) (c .same-bytes .ensures ∙ ap₂ (λ (a b : Bytes). same a b) kept (c .before .frame-digest .ensures .0))
+    rw (sym (branch .before .frame-kind .ensures .0) ∙ branch .if1 .taken, same-bit held signed (bit .in-mask .ensures))
+    (c .agrees .ensures ∙ ap₂ (λ (a b : Bytes). implies (bit .in-mask .result) (same a b)) kept (c .before .frame-digest .ensures .0))
 
 returns-2 : tie.Need-returns-2
 unfolding voteAgrees implies
-returns-2 c =
-    let branch = c .before .before .before .before in
-    let held = c .before .before .voter-mask .ensures .0 in
-    let signed = c .before .before .before .frame-signer .ensures .0 in
-    let is-vote = sym (branch .before .frame-kind .ensures .0) ∙ branch .if1 .taken in
-    let missing = same-bit held signed (c .before .in-mask .ensures) ∙ c .if2 .left in
-    rw (is-vote, missing)
-
-returns-3 : tie.Need-returns-3
-unfolding voteAgrees implies
-returns-3 c = rw (ne-eqb (kind (c .before .before .before .before .args .frame .now)) 2 (λ e. c .if1 .left (c .before .frame-kind .ensures .0 ∙ e)))
+returns-2 c = rw (ne-eqb (kind (c .before .before .before .before .args .frame .now)) 2 (λ e. c .if1 .left (c .before .frame-kind .ensures .0 ∙ e)))
 
 pub vote-agrees-spec : {M : Type 1} → statement M
 vote-agrees-spec =
@@ -78,7 +65,6 @@ vote-agrees-spec =
     in-mask-requires
     vote-digest-requires
     frame-digest-requires
-    same-bytes-requires
+    agrees-requires
     returns
-    returns-2
-    returns-3)
+    returns-2)

@@ -1,22 +1,17 @@
 -- `deliver` meets its contract: a book that is not sound is refused, and a sound one gets the frame.
 use mathlib.Core.Path.{refl, sym, _∙_}
 use Rattle.sha256.specs.Digest.{sha256}
-use Rattle.protocol.specs.Bytes.{zeros}
 use Rattle.answers.specs.Answers.{deliveredAnswer}
 use Rattle.delivery.specs.RefusalLaws.{call-unsound}
 use borrow.Author.Needs.{needs}
 use Rattle.delivery.proofs.deliver.deliver.Statement.{statement}
 use Rattle.delivery.proofs.deliver.deliver.Tie as tie
 
-slice-aggregate-sound : tie.Need-slice-aggregate-sound
-slice-aggregate-sound c = search needs
-
-sound-requires : tie.Need-sound-requires
-unfolding zeros
-sound-requires c κs = refl
+is-sound-requires : tie.Need-is-sound-requires
+is-sound-requires c κs = search needs
 
 deliver-sound-requires : tie.Need-deliver-sound-requires
-deliver-sound-requires c κs = sym (c .before .before .before .sound .ensures .0) ∙ c .before .if1 .taken
+deliver-sound-requires c κs = sym (c .before .before .is-sound .ensures .0) ∙ c .before .if1 .taken
 
 same-length : tie.Need-same-length
 same-length c = search needs
@@ -30,10 +25,10 @@ same-length-2 c = search needs
 returns-2 : tie.Need-returns-2
 unfolding deliveredAnswer
 returns-2 c =
-    let start = c .before .before .before .before .before .before .before in
+    let start = c .before .before .before .before .before in
     let book = start .args .book .now in
     let frame = start .args .frame .now in
-    rw (call-unsound sha256 book frame (sym (c .before .before .sound .ensures .0) ∙ c .if1 .left)) (refl, refl)
+    rw (call-unsound sha256 book frame (sym (c .before .is-sound .ensures .0) ∙ c .if1 .left)) (refl, refl)
 
 pub deliver-spec : {M : Type 1} → statement M
-deliver-spec = tie.close (tie.spec slice-aggregate-sound sound-requires deliver-sound-requires same-length returns same-length-2 returns-2)
+deliver-spec = tie.close (tie.spec is-sound-requires deliver-sound-requires same-length returns same-length-2 returns-2)

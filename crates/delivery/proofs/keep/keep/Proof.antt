@@ -1,9 +1,14 @@
--- `keep` meets its contract: each kind has its function.
+-- `keep` meets its contract: three kinds have their functions, and the signers of the others join a mask.
+use Prim.Native.Nat.{ℕ}
 use native.Mathlib.Omega.{arith}
-use mathlib.Core.Path.{sym, _∙_}
+use mathlib.Core.Path.{sym, ap, _∙_}
+use mathlib.Core.Bool.{_||_}
+use lib.Dec.{eqb}
 use Rattle.sha256.specs.Digest.{sha256}
-use Rattle.protocol.specs.State.{decode}
-use Rattle.delivery.specs.KeepLaws.{same-kept, kind-one, kind-two, kind-three, kind-four, kind-five, kind-six, kind-other}
+use Rattle.protocol.specs.State.{decode, at}
+use Rattle.delivery.specs.Refusal.{joinSigners}
+use Rattle.delivery.specs.KeepLaws.{same-kept}
+use Rattle.delivery.specs.KindLaws.{kind-one, kind-two, kind-five, dummy-joins, finalize-joins}
 use borrow.Author.Needs.{needs}
 use Rattle.delivery.proofs.keep.keep.Statement.{statement}
 use Rattle.delivery.proofs.keep.keep.Tie as tie
@@ -23,8 +28,7 @@ returns c =
     let start = branch .before .before .before .before in
     let book = start .args .book .now in
     let h = start .args .h in
-    let kind = sym (branch .before .frame-kind .ensures .0) ∙ branch .if1 .taken in
-    let decides = kind-one sha256 (decode book) h (start .args .frame .now) (start .pre .height) kind in
+    let decides = kind-one sha256 book h (start .args .frame .now) (start .pre) (sym (branch .before .frame-kind .ensures .0) ∙ branch .if1 .taken) in
     same-kept book h _ _ _ _ decides (c .before .before .keep-proposal .ensures)
 
 keep-block-vote-requires : tie.Need-keep-block-vote-requires
@@ -41,14 +45,11 @@ returns-2 c =
     let start = branch .before .before .before .before .before in
     let book = start .args .book .now in
     let h = start .args .h in
-    let kind = sym (branch .before .before .frame-kind .ensures .0) ∙ branch .if2 .taken in
-    let decides = kind-two sha256 (decode book) h (start .args .frame .now) (start .pre .height) kind in
+    let decides = kind-two sha256 book h (start .args .frame .now) (start .pre) (sym (branch .before .before .frame-kind .ensures .0) ∙ branch .if2 .taken) in
     same-kept book h _ _ _ _ decides (c .before .before .keep-block-vote .ensures)
 
-keep-dummy-vote-requires : tie.Need-keep-dummy-vote-requires
-keep-dummy-vote-requires c κs =
-    let start = c .before .before .before .before .before .before .before in
-    (start .pre, start .pre .signer-small (omega (arith, c .before .before .before .before .frame-kind .ensures .0, start .pre .kind-low)))
+keep-block-certificate-requires : tie.Need-keep-block-certificate-requires
+keep-block-certificate-requires c κs = search needs
 
 same-length-3 : tie.Need-same-length-3
 same-length-3 c = search needs
@@ -59,14 +60,16 @@ returns-3 c =
     let start = branch .before .before .before .before .before .before in
     let book = start .args .book .now in
     let h = start .args .h in
-    let kind = sym (branch .before .before .before .frame-kind .ensures .0) ∙ branch .if3 .taken in
-    let decides = kind-three sha256 (decode book) h (start .args .frame .now) (start .pre .height) kind in
-    same-kept book h _ _ _ _ decides (c .before .before .keep-dummy-vote .ensures)
+    let decides = kind-five sha256 book h (start .args .frame .now) (start .pre) (sym (branch .before .before .before .frame-kind .ensures .0) ∙ branch .if3 .taken) in
+    same-kept book h _ _ _ _ decides (c .before .before .keep-block-certificate .ensures)
 
-keep-finalize-requires : tie.Need-keep-finalize-requires
-keep-finalize-requires c κs =
-    let start = c .before .before .before .before .before .before .before .before in
-    (start .pre, start .pre .signer-small (omega (arith, c .before .before .before .before .before .frame-kind .ensures .0, start .pre .kind-low)))
+frame-signers-requires : tie.Need-frame-signers-requires
+frame-signers-requires c κs =
+    let start = c .before .before .before .before .before .before in
+    (start .pre .size, λ l. omega (arith, start .pre .signer-small l, start .pre .spot .readable .replicas))
+
+join-signers-requires : tie.Need-join-signers-requires
+join-signers-requires c κs = search needs
 
 same-length-4 : tie.Need-same-length-4
 same-length-4 c = search needs
@@ -74,15 +77,16 @@ same-length-4 c = search needs
 returns-4 : tie.Need-returns-4
 returns-4 c =
     let branch = c .before .before .before .before in
-    let start = branch .before .before .before .before .before .before .before in
+    let asked = branch .before .before .before .before .before in
+    let start = asked .before .before .before in
     let book = start .args .book .now in
     let h = start .args .h in
-    let kind = sym (branch .before .before .before .before .frame-kind .ensures .0) ∙ branch .if4 .taken in
-    let decides = kind-four sha256 (decode book) h (start .args .frame .now) (start .pre .height) kind in
-    same-kept book h _ _ _ _ decides (c .before .before .keep-finalize .ensures)
+    let dummy = sym (ap (λ (kind : ℕ). eqb kind 3 || eqb kind 6) (asked .frame-kind .ensures .0)) ∙ branch .if4 .taken in
+    let decides = dummy-joins sha256 book h (start .args .frame .now) (start .pre) dummy ∙ ap (λ (signers : ℕ). joinSigners 1 (at (decode book) h) signers) (sym (branch .before .frame-signers .ensures .0)) in
+    same-kept book h _ _ _ _ decides (c .before .before .join-signers .ensures)
 
-keep-block-certificate-requires : tie.Need-keep-block-certificate-requires
-keep-block-certificate-requires c κs = search needs
+join-signers-requires-2 : tie.Need-join-signers-requires-2
+join-signers-requires-2 c κs = search needs
 
 same-length-5 : tie.Need-same-length-5
 same-length-5 c = search needs
@@ -90,47 +94,17 @@ same-length-5 c = search needs
 returns-5 : tie.Need-returns-5
 returns-5 c =
     let branch = c .before .before .before .before in
-    let start = branch .before .before .before .before .before .before .before .before in
+    let others = branch .before .before in
+    let asked = others .before .before .before in
+    let start = asked .before .before .before in
     let book = start .args .book .now in
     let h = start .args .h in
-    let kind = sym (branch .before .before .before .before .before .frame-kind .ensures .0) ∙ branch .if5 .taken in
-    let decides = kind-five sha256 (decode book) h (start .args .frame .now) (start .pre .height) kind in
-    same-kept book h _ _ _ _ decides (c .before .before .keep-block-certificate .ensures)
-
-keep-dummy-certificate-requires : tie.Need-keep-dummy-certificate-requires
-keep-dummy-certificate-requires c κs =
-    let start = c .before .before .before .before .before .before .before .before .before .before in
-    (start .pre, start .pre .mask-small (omega (arith, c .before .before .before .before .before .before .before .frame-kind .ensures .0, start .pre .kind-low)))
-
-same-length-6 : tie.Need-same-length-6
-same-length-6 c = search needs
-
-returns-6 : tie.Need-returns-6
-returns-6 c =
-    let branch = c .before .before .before .before in
-    let start = branch .before .before .before .before .before .before .before .before .before in
-    let book = start .args .book .now in
-    let h = start .args .h in
-    let kind = sym (branch .before .before .before .before .before .before .frame-kind .ensures .0) ∙ branch .if6 .taken in
-    let decides = kind-six sha256 (decode book) h (start .args .frame .now) (start .pre .height) kind in
-    same-kept book h _ _ _ _ decides (c .before .before .keep-dummy-certificate .ensures)
-
-keep-finalize-certificate-requires : tie.Need-keep-finalize-certificate-requires
-keep-finalize-certificate-requires c κs =
-    let start = c .before .before .before .before .before .before .before .before .before .before in
-    (start .pre, start .pre .mask-small (omega (arith, c .before .before .before .before .before .before .before .frame-kind .ensures .0, start .pre .kind-low)))
-
-same-length-7 : tie.Need-same-length-7
-same-length-7 c = search needs
-
-returns-7 : tie.Need-returns-7
-returns-7 c =
-    let start = c .before .before .before .before .before .before .before .before .before .before .before .before .before in
-    let book = start .args .book .now in
-    let h = start .args .h in
-    let kind = c .before .before .before .before .before .before .before .before .before .before .frame-kind .ensures .0 in
-    let decides = kind-other sha256 (decode book) h (start .args .frame .now) (start .pre .height) (omega (arith, kind, start .pre .kind-low)) in
-    same-kept book h _ _ _ _ decides (c .before .before .keep-finalize-certificate .ensures)
+    let kind = asked .frame-kind .ensures .0 in
+    let finalize = sym (ap (λ (kind : ℕ). eqb kind 3 || eqb kind 6) kind) ∙ branch .if4 .left in
+    let decides = finalize-joins sha256 book h (start .args .frame .now) (start .pre)
+    (λ e. others .before .before .if1 .left (kind ∙ e)) (λ e. others .before .if2 .left (kind ∙ e)) (λ e. others .if3 .left (kind ∙ e)) finalize
+    ∙ ap (λ (signers : ℕ). joinSigners 2 (at (decode book) h) signers) (sym (branch .before .frame-signers .ensures .0)) in
+    same-kept book h _ _ _ _ decides (c .before .before .join-signers2 .ensures)
 
 pub keep-spec : {M : Type 1} → statement M
 keep-spec =
@@ -143,18 +117,13 @@ keep-spec =
     keep-block-vote-requires
     same-length-2
     returns-2
-    keep-dummy-vote-requires
+    keep-block-certificate-requires
     same-length-3
     returns-3
-    keep-finalize-requires
+    frame-signers-requires
+    join-signers-requires
     same-length-4
     returns-4
-    keep-block-certificate-requires
+    join-signers-requires-2
     same-length-5
-    returns-5
-    keep-dummy-certificate-requires
-    same-length-6
-    returns-6
-    keep-finalize-certificate-requires
-    same-length-7
-    returns-7)
+    returns-5)

@@ -1,7 +1,6 @@
 -- `keep_vote` meets its contract: the voter mask gains the replica's bit, and the digest is copied to its place.
 use native.Mathlib.Omega.{arith}
 use mathlib.Core.Path.{_∙_}
-use Rattle.fields.proofs.Counts.{one-shl}
 use Rattle.fields.proofs.Writes.{kept-vote}
 use borrow.Author.Needs.{needs}
 use Rattle.fields.proofs.keep.keep_vote.Statement.{statement}
@@ -19,8 +18,8 @@ voter-mask-requires c κs = search needs
 add-put-word : tie.Need-add-put-word
 add-put-word c = search needs
 
-shl-put-word : tie.Need-shl-put-word
-shl-put-word c = search needs
+bit-requires : tie.Need-bit-requires
+bit-requires c κs = search needs
 
 add-put-word-2 : tie.Need-add-put-word-2
 add-put-word-2 c = search needs
@@ -46,14 +45,14 @@ same-length c = search needs
 returns : tie.Need-returns
 returns c =
     let marked = c .before .before .before .before .before .before in
-    let read = marked .before .before in
+    let read = marked .before .before .before in
     let placed = read .before .before in
     let begun = placed .before .before in
     let start = begun .before .before .before in
     let small = start .pre .1 .1 .0 in
     c .before .before .copy-to .ensures ∙
     kept-vote (start .args .book .now) (start .pre .0) (start .args .h) (start .pre .1 .0) _ (begun .content-at .ensures) _ (placed .body-at .ensures)
-    (start .args .s) (start .args .digest .now) small (start .pre .1 .1 .1 .1) _ (omega (arith, read .voter-mask .ensures .0, one-shl (start .args .s) small)) _
+    (start .args .s) (start .args .digest .now) small (start .pre .1 .1 .1 .1) _ (omega (arith, read .voter-mask .ensures .0, marked .before .bit .ensures .0)) _
     (marked .put-word .ensures)
 
 pub keep-vote-spec : {M : Type 1} → statement M
@@ -64,7 +63,7 @@ keep-vote-spec =
     body-at-requires
     voter-mask-requires
     add-put-word
-    shl-put-word
+    bit-requires
     add-put-word-2
     put-word-requires
     mul-copy-to

@@ -5,15 +5,20 @@ use borrow.Author.Tests.{le-leb, lt-leb}
 use Rattle.replica.specs.AnswerLaws.{fetch-answered, fetch-refused}
 use Rattle.replica.specs.CallLaws.{fetch-short, fetch-lacking, fetch-done}
 use Rattle.replica.specs.SoundBookLaws.{in-heights}
+use Rattle.replica.proofs.Certificates.{certificate-range}
 use borrow.Author.Needs.{needs}
 use Rattle.replica.proofs.fetch.fetch_at.Statement.{statement}
 use Rattle.replica.proofs.fetch.fetch_at.Tie as tie
 
 has-certificate-requires : tie.Need-has-certificate-requires
-has-certificate-requires c κs = search needs
+has-certificate-requires c κs =
+    let z = c .before .before .before in
+    (z .pre .0, (z .pre .1 .0, certificate-range (z .args .kind) (z .pre .1 .1)))
 
 write-certificate-requires : tie.Need-write-certificate-requires
-write-certificate-requires c κs = search needs
+write-certificate-requires c κs =
+    let z = c .before .before .before .before .before .before in
+    (z .pre .0, (z .pre .1 .0, (certificate-range (z .args .kind) (z .pre .1 .1), c .before .before .before .if1 .taken)))
 
 same-length : tie.Need-same-length
 same-length c = search needs

@@ -1,10 +1,11 @@
--- `has_certificate` meets its contract: each kind's own test.
+-- `has_certificate` meets its contract: a block is notarized, and the signers of the others are a quorum.
 use Prim.Native.Nat.{ℕ}
+use native.Mathlib.Omega.{arith}
 use mathlib.Core.Path.{sym, ap, _∙_}
 use Rattle.protocol.specs.State.{decode}
 use Rattle.protocol.specs.Sound.{view}
 use Rattle.protocol.specs.View.{quorum}
-use Rattle.replica.proofs.Certificates.{has-block, has-dummy, has-final}
+use Rattle.replica.proofs.Certificates.{has-block, has-signers}
 use borrow.Author.Needs.{needs}
 use Rattle.replica.proofs.fetch.has_certificate.Statement.{statement}
 use Rattle.replica.proofs.fetch.has_certificate.Tie as tie
@@ -12,17 +13,14 @@ use Rattle.replica.proofs.fetch.has_certificate.Tie as tie
 is-notarized-requires : tie.Need-is-notarized-requires
 is-notarized-requires c κs = search needs
 
-dummy-mask-requires : tie.Need-dummy-mask-requires
-dummy-mask-requires c κs = search needs
+sub-mask-at : tie.Need-sub-mask-at
+sub-mask-at c = search needs
+
+mask-at-requires : tie.Need-mask-at-requires
+mask-at-requires c κs = search needs
 
 quorum-requires : tie.Need-quorum-requires
 quorum-requires c κs = search needs
-
-finalize-mask-requires : tie.Need-finalize-mask-requires
-finalize-mask-requires c κs = search needs
-
-quorum-requires-2 : tie.Need-quorum-requires-2
-quorum-requires-2 c κs = search needs
 
 returns : tie.Need-returns
 returns c =
@@ -31,27 +29,12 @@ returns c =
 
 returns-2 : tie.Need-returns-2
 returns-2 c =
-    let z = c .before .before .before .before .before in
+    let z = c .before .before .before .before in
     let s = decode (z .args .book .now) in
-    c .quorum .ensures ∙ ap (λ (m : ℕ). quorum (view s) m) (c .before .dummy-mask .ensures .0)
-    ∙ sym (has-dummy s (z .args .kind) (z .args .height) (c .before .before .if2 .taken))
-
-returns-3 : tie.Need-returns-3
-returns-3 c =
-    let z = c .before .before .before .before .before in
-    let s = decode (z .args .book .now) in
-    c .quorum2 .ensures ∙ ap (λ (m : ℕ). quorum (view s) m) (c .before .finalize-mask .ensures .0)
-    ∙ sym (has-final s (z .args .kind) (z .args .height) (c .before .before .before .if1 .left) (c .before .before .if2 .left))
+    c .quorum .ensures ∙ ap (λ (m : ℕ). quorum (view s) m) (c .before .mask-at .ensures .0)
+    ∙ sym (has-signers s (z .args .kind) (z .args .height) (omega (arith, c .before .before .if1 .left)) (z .pre .1 .1 .1))
 
 pub has-certificate-spec : {M : Type 1} → statement M
 has-certificate-spec =
     tie.close
-    (tie.spec
-    is-notarized-requires
-    dummy-mask-requires
-    quorum-requires
-    finalize-mask-requires
-    quorum-requires-2
-    returns
-    returns-2
-    returns-3)
+    (tie.spec is-notarized-requires sub-mask-at mask-at-requires quorum-requires returns returns-2)

@@ -1,9 +1,7 @@
 -- `read_into` meets its contract: of a book that is not sound nothing is read.
-use native.Mathlib.Omega.{arith}
-use mathlib.Core.Path.{_≡_, refl}
-use mathlib.Core.Bool.{true, false}
+use mathlib.Core.Path.{_≡_, sym, _∙_}
+use mathlib.Core.Bool.{false}
 use Rattle.sha256.specs.Digest.{sha256}
-use Rattle.protocol.specs.Bytes.{zeros}
 use Rattle.protocol.specs.Sound.{sound}
 use Rattle.replica.specs.SoundBookLaws.{sound-book}
 use Rattle.replica.specs.ReadLaws.{read-unsound}
@@ -11,18 +9,11 @@ use borrow.Author.Needs.{needs}
 use Rattle.replica.proofs.read.read_into.Statement.{statement}
 use Rattle.replica.proofs.read.read_into.Tie as tie
 
-slice-aggregate-sound : tie.Need-slice-aggregate-sound
-slice-aggregate-sound c = search needs
-
-sound-requires : tie.Need-sound-requires
-unfolding zeros
-sound-requires c κs = refl
+is-sound-requires : tie.Need-is-sound-requires
+is-sound-requires c κs = search needs
 
 read-sound-requires : tie.Need-read-sound-requires
-read-sound-requires c κs =
-    let z = c .before .before .before .before .before .before .before in
-    let e : sound sha256 (z .args .book .now) ≡ true = cc in
-    sound-book (z .args .book .now) (λ i. omega (arith, c .before .before .before .before .before .before .shared-slice-known .given i)) e
+read-sound-requires c κs = sound-book _ (c .before .before .is-sound .ensures .1) (sym (c .before .before .is-sound .ensures .0) ∙ c .before .if1 .taken)
 
 same-length : tie.Need-same-length
 same-length c = search needs
@@ -32,7 +23,7 @@ returns c = search needs
 
 returns-2 : tie.Need-returns-2
 returns-2 c =
-    let z = c .before .before .before .before .before .before in
+    let z = c .before .before .before .before in
     let e : sound sha256 (z .args .book .now) ≡ false = cc in
     read-unsound (z .args .book .now) (z .args .buffer .now) e
 
@@ -40,8 +31,7 @@ pub read-into-spec : {M : Type 1} → statement M
 read-into-spec =
     tie.close
     (tie.spec
-    slice-aggregate-sound
-    sound-requires
+    is-sound-requires
     read-sound-requires
     same-length
     returns

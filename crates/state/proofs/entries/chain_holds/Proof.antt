@@ -1,7 +1,6 @@
 -- `chain_holds` meets its contract: the blocks passed do not have the entry, so that the whole log has it if the rest has it.
 use native.Mathlib.Omega.{arith}
 use mathlib.Core.Path.{_≡_, refl, sym, ap, _∙_}
-use borrow.Author.Needs.{needs}
 use Rattle.protocol.specs.Bytes.{holds}
 use Rattle.protocol.specs.State.{decode}
 use Rattle.protocol.specs.Sound.{view}

@@ -1,16 +1,15 @@
 -- `copy_chain` meets its contract: the log that is left, over what is copied, makes the whole log over the buffer.
 use Prim.Native.Nat.{_*_, _≤_}
 use native.Mathlib.Omega.{arith}
-use mathlib.Core.Path.{_≡_, refl, sym, ap, _∙_}
-use borrow.Author.Needs.{needs}
+use mathlib.Core.Path.{_≡_, refl, ap, _∙_}
 use lib.ListN.{length}
-use Rattle.protocol.specs.Bytes.{Bytes, join, overFront}
+use Rattle.protocol.specs.Bytes.{join, overFront}
 use Rattle.protocol.specs.BytesLaws.{length-put}
 use Rattle.protocol.specs.State.{decode}
 use Rattle.protocol.specs.Sound.{view}
 use Rattle.protocol.specs.View.{logAt}
 use Rattle.state.specs.Walkable.{Walkable}
-use Rattle.state.proofs.ChainWalk.{walk-step, walk-few, walk-parent, walk-count, piece-length, copy-more, copied-all}
+use Rattle.state.proofs.ChainWalk.{walk-step, walk-parent, walk-count, piece-length, copy-more, copied-all}
 use Rattle.state.proofs.entries.copy_chain.Statement.{statement}
 use Rattle.state.proofs.entries.copy_chain.Tie as tie
 

@@ -1,16 +1,18 @@
 -- `keep_unlogged` meets its contract: after `k` places, those of their entries that the log lacks are in front of the pool.
-use Prim.Native.Nat.{_≤_, _<_, _-_}
+use Prim.Native.Nat.{_*_, _≤_, _<_, _-_}
 use native.Mathlib.Omega.{arith}
 use mathlib.Core.Path.{_≡_, refl, sym, ap, _∙_}
+use mathlib.Core.Bool.{Bool}
 use mathlib.Core.List.{List, [], _∷_, _++_}
-use borrow.Author.Needs.{needs}
 use lib.ListN.{length}
-use Rattle.protocol.specs.Bytes.{Bytes, holds}
-use Rattle.protocol.specs.State.{decode, encode}
-use Rattle.protocol.specs.Sound.{log}
+use Rattle.protocol.specs.Bytes.{Bytes, part, holds}
+use Rattle.protocol.specs.State.{State, decode, encode}
+use Rattle.protocol.specs.Sound.{view, log}
+use Rattle.protocol.specs.View.{logAt}
 use Rattle.protocol.specs.Move.{without}
 use Rattle.protocol.specs.PoolLaws.{moved, moved-none}
 use Rattle.protocol.specs.EntriesLaws.{place-leaves, place-stays}
+use Rattle.fields.specs.Ready.{Ready}
 use Rattle.state.proofs.Pending.{walk-at, one-more}
 use Rattle.state.proofs.Closing.{staying, staying-few, staying-all, closed-ready, closed-walk, closed-log, closed-place, closed-length, closed-more, closed-end}
 use Rattle.state.proofs.entries.keep_unlogged.Statement.{statement}
@@ -21,6 +23,35 @@ Inv-loop book₀ entry finalized count kept₀ k₀ book kept k = (k ≤ count) 
 
 abbrev μ-loop : tie.MeasureT-loop
 μ-loop book₀ entry finalized count kept₀ k₀ book kept k = count - k
+
+-- what is known whenever the loop's test is reached
+module _ (at : tie.At-loop Inv-loop μ-loop) where
+  abbrev start : tie.Start Inv-loop μ-loop
+  start = at .before .before .before .before .before .before .before
+
+  abbrev book : Bytes
+  book = start .args .book .now
+
+  abbrev s : State
+  s = decode book
+
+  few : s .pendingCount ≤ 32
+  few = start .pre .1 .1 .0 .0
+
+  within : at .loop .k ≤ 32
+  within = let most = few in omega arith
+
+  ready-now : Ready (at .loop .book)
+  ready-now = closed-ready book (start .pre .0) few (at .loop .k) within (at .loop .book) (at .loop .inv .2)
+
+  -- the entry at place `k` is that of the book as it was, and so is the log that it is looked for in
+  entry-now : {entry : Bytes} → entry ≡ part (decode (at .loop .book) .pool) (16 * at .loop .k) 16 → entry ≡ part (s .pool) (16 * at .loop .k) 16
+  entry-now e = e ∙ closed-place book (start .pre .0) few (at .loop .k) within (at .loop .book) (at .loop .inv .2)
+
+  found-now : (entry : Bytes) {found : Bool} → found ≡ holds entry (logAt (view (decode (at .loop .book))) (at .before .before .before .finalized .result)) → found ≡ holds entry (log s)
+  found-now entry e =
+      let finalized = at .before .before .before .finalized in
+      e ∙ ap (holds entry) (closed-log book (start .pre .0) few (at .loop .k) within (at .loop .book) (at .loop .inv .2) (finalized .result) (finalized .ensures .0))
 
 finalized-requires : tie.Need-finalized-requires Inv-loop μ-loop
 finalized-requires c κs = c .before .before .before .pre .0 .sized
@@ -33,26 +64,12 @@ unfolding without
 loop-holds c = (omega arith, refl, sym (ap encode (moved-none (decode (c .before .before .before .before .before .before .args .book .now))) ∙ c .before .before .before .before .before .before .pre .0 .whole))
 
 pending-entry-requires : tie.Need-pending-entry-requires Inv-loop μ-loop
-pending-entry-requires c κs =
-    let at = c .before .before in
-    let loop = at .loop in
-    let start = at .before .before .before .before .before .before .before in
-    let book = start .args .book .now in
-    let few = start .pre .1 .1 .0 .0 in
-    let within : loop .k ≤ 32 = omega arith in
-    let s = decode book in
-    (closed-ready book (start .pre .0) few (loop .k) within (loop .book) (loop .inv .2) .sized, omega arith)
+pending-entry-requires c κs = (ready-now (c .before .before) .sized, let most = few (c .before .before) in omega arith)
 
 chain-holds-requires : tie.Need-chain-holds-requires Inv-loop μ-loop
 chain-holds-requires c κs =
     let at = c .before .before .before in
-    let loop = at .loop in
-    let start = at .before .before .before .before .before .before .before in
-    let book = start .args .book .now in
-    let few = start .pre .1 .1 .0 .0 in
-    let within : loop .k ≤ 32 = omega arith in
-    let s = decode book in
-    closed-walk book (start .pre .0) few (loop .k) within (loop .book) (loop .inv .2) (walk-at (start .pre .1 .0) (at .before .before .before .finalized .ensures .0))
+    closed-walk (book at) (start at .pre .0) (few at) (at .loop .k) (within at) (at .loop .book) (at .loop .inv .2) (walk-at (start at .pre .1 .0) (at .before .before .before .finalized .ensures .0))
 
 add-k : tie.Need-add-k Inv-loop μ-loop
 add-k c = omega arith
@@ -63,35 +80,21 @@ loop-less c = omega arith
 loop-again : tie.Need-loop-again Inv-loop μ-loop
 loop-again c =
     let at = c .before .before .before .before .before in
-    let loop = at .loop in
-    let start = at .before .before .before .before .before .before .before in
-    let book = start .args .book .now in
-    let few = start .pre .1 .1 .0 .0 in
-    let within : loop .k ≤ 32 = omega arith in
-    let s = decode book in
-    let inside : loop .k < s .pendingCount = omega arith in
-    let finalized = at .before .before .before .finalized in
-    let log-same = closed-log book (start .pre .0) few (loop .k) within (loop .book) (loop .inv .2) (finalized .result) (finalized .ensures .0) in
-    let read = c .before .before .pending-entry .ensures ∙ closed-place book (start .pre .0) few (loop .k) within (loop .book) (loop .inv .2) in
-    let test = c .before .chain-holds .ensures ∙ ap (holds (c .before .before .pending-entry .result .now)) log-same in
-    let leaves = place-leaves s (log s) (loop .k) inside read test (c .if1 .taken) in
-    (omega arith, loop .inv .1 ∙ ap length (sym leaves), loop .inv .2 ∙ ap (λ (l : List Bytes). encode (moved s l)) (sym leaves))
+    let inside : at .loop .k < s at .pendingCount = omega arith in
+    let leaves = place-leaves (s at) (log (s at)) (at .loop .k) inside (entry-now at (c .before .before .pending-entry .ensures)) (found-now at (c .before .before .pending-entry .result .now) (c .before .chain-holds .ensures)) (c .if1 .taken) in
+    (omega arith, at .loop .inv .1 ∙ ap length (sym leaves), at .loop .inv .2 ∙ ap (λ (l : List Bytes). encode (moved (s at) l)) (sym leaves))
 
 move-entry-requires : tie.Need-move-entry-requires Inv-loop μ-loop
 move-entry-requires c κs =
     let at = c .before .before .before .before .before .before in
-    let loop = at .loop in
-    let start = at .before .before .before .before .before .before .before in
-    let book = start .args .book .now in
-    let few = start .pre .1 .1 .0 .0 in
-    let within : loop .k ≤ 32 = omega arith in
-    let s = decode book in
-    let short = staying-few s (loop .k) in
-    (closed-ready book (start .pre .0) few (loop .k) within (loop .book) (loop .inv .2), omega arith)
+    let most = few at in
+    let short = staying-few (s at) (at .loop .k) in
+    (ready-now at, omega arith)
 
 add-kept : tie.Need-add-kept Inv-loop μ-loop
 add-kept c =
-    let short = staying-few (decode (c .before .before .before .before .before .before .before .before .before .before .before .before .before .before .before .before .args .book .now)) (c .before .before .before .before .before .before .before .before .before .loop .k) in
+    let at = c .before .before .before .before .before .before .before .before .before in
+    let short = staying-few (s at) (at .loop .k) in
     omega arith
 
 add-k-2 : tie.Need-add-k-2 Inv-loop μ-loop
@@ -102,62 +105,40 @@ loop-less-2 c = omega arith
 
 loop-again-2 : tie.Need-loop-again-2 Inv-loop μ-loop
 loop-again-2 c =
-    let at = c .before .before .before .before .before .before .before .before .before in
-    let loop = at .loop in
-    let start = at .before .before .before .before .before .before .before in
-    let book = start .args .book .now in
-    let few = start .pre .1 .1 .0 .0 in
-    let within : loop .k ≤ 32 = omega arith in
-    let s = decode book in
-    let inside : loop .k < s .pendingCount = omega arith in
-    let finalized = at .before .before .before .finalized in
-    let log-same = closed-log book (start .pre .0) few (loop .k) within (loop .book) (loop .inv .2) (finalized .result) (finalized .ensures .0) in
-    let read = c .before .before .before .before .before .before .pending-entry .ensures ∙ closed-place book (start .pre .0) few (loop .k) within (loop .book) (loop .inv .2) in
-    let test = c .before .before .before .before .before .chain-holds .ensures ∙ ap (holds (c .before .before .before .before .before .before .pending-entry .result .now)) log-same in
-    let stays = place-stays s (log s) (loop .k) inside read test (c .before .before .before .before .if1 .left) in
-    let more = stays ∙ ap (λ (e : Bytes). staying s (loop .k) ++ (e ∷ [])) read in (
+    let tested = c .before .before .before .before in
+    let asked = tested .before .before in
+    let at = tested .before .before .before .before .before in
+    let most = few at in
+    let inside : at .loop .k < s at .pendingCount = omega arith in
+    let entry = asked .pending-entry .result .now in
+    let read = entry-now at (asked .pending-entry .ensures) in
+    let stays = place-stays (s at) (log (s at)) (at .loop .k) inside read (found-now at entry (tested .before .chain-holds .ensures)) (tested .if1 .left) in (
       omega arith,
-      one-more (staying s (loop .k)) (c .before .before .before .before .before .before .pending-entry .result .now) (loop .inv .1) stays,
-      closed-more book (start .pre .0) few (loop .k) within (loop .book) (loop .inv .2) (loop .kept) (loop .inv .1) (omega arith) (c .before .before .move-entry .ensures) more,
+      one-more (staying (s at) (at .loop .k)) entry (at .loop .inv .1) stays,
+      closed-more (book at) (start at .pre .0) most (at .loop .k) (within at) (at .loop .book) (at .loop .inv .2) (at .loop .kept) (at .loop .inv .1) (omega arith)
+          (c .before .before .move-entry .ensures) (stays ∙ ap (λ (e : Bytes). staying (s at) (at .loop .k) ++ (e ∷ [])) read),
     )
 
 finish-pool-requires : tie.Need-finish-pool-requires Inv-loop μ-loop
 finish-pool-requires c κs =
     let at = c .before .before in
-    let loop = at .loop in
-    let start = at .before .before .before .before .before .before .before in
-    let book = start .args .book .now in
-    let few = start .pre .1 .1 .0 .0 in
-    let within : loop .k ≤ 32 = omega arith in
-    let s = decode book in
-    let over : s .pendingCount ≤ loop .k = omega arith in
-    let all = ap length (staying-all s (loop .k) over) in
-    let count : loop .kept < 32 = omega (arith, start .pre .1 .1 .0 .1) in
-    (closed-ready book (start .pre .0) few (loop .k) within (loop .book) (loop .inv .2), (count, start .pre .1 .1 .1))
+    let over : s at .pendingCount ≤ at .loop .k = omega arith in
+    let all = ap length (staying-all (s at) (at .loop .k) over) in
+    let count : at .loop .kept < 32 = omega (arith, start at .pre .1 .1 .0 .1) in
+    (ready-now at, (count, start at .pre .1 .1 .1))
 
 same-length : tie.Need-same-length Inv-loop μ-loop
 same-length c =
     let at = c .before .before .before .before .before in
-    let loop = at .loop in
-    let start = at .before .before .before .before .before .before .before in
-    let book = start .args .book .now in
-    let few = start .pre .1 .1 .0 .0 in
-    let within : loop .k ≤ 32 = omega arith in
-    let s = decode book in
-    let size = closed-length book (start .pre .0) few (loop .k) within (loop .book) (loop .inv .2) in
+    let size = closed-length (book at) (start at .pre .0) (few at) (at .loop .k) (within at) (at .loop .book) (at .loop .inv .2) in
     omega arith
 
 returns : tie.Need-returns Inv-loop μ-loop
 returns c =
     let at = c .before .before .before .before .before in
-    let loop = at .loop in
-    let start = at .before .before .before .before .before .before .before in
-    let book = start .args .book .now in
-    let few = start .pre .1 .1 .0 .0 in
-    let within : loop .k ≤ 32 = omega arith in
-    let s = decode book in
-    let over : s .pendingCount ≤ loop .k = omega arith in
-    closed-end book (start .pre .0) few (loop .k) within (loop .book) (loop .inv .2) (loop .kept) (start .args .entry .now) (loop .inv .1) (staying-all s (loop .k) over) (c .before .before .finish-pool .ensures)
+    let over : s at .pendingCount ≤ at .loop .k = omega arith in
+    closed-end (book at) (start at .pre .0) (few at) (at .loop .k) (within at) (at .loop .book) (at .loop .inv .2) (at .loop .kept) (start at .args .entry .now) (at .loop .inv .1)
+    (staying-all (s at) (at .loop .k) over) (c .before .before .finish-pool .ensures)
 
 pub keep-unlogged-spec : {M : Type 1} → statement M
 keep-unlogged-spec =

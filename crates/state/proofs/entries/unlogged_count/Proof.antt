@@ -2,7 +2,6 @@
 use Prim.Native.Nat.{_≤_, _<_, _-_}
 use native.Mathlib.Omega.{arith}
 use mathlib.Core.Path.{_≡_, refl, sym, ap, _∙_}
-use borrow.Author.Needs.{needs}
 use lib.ListN.{length, take}
 use Rattle.protocol.specs.State.{decode, pending}
 use Rattle.protocol.specs.Sound.{view}

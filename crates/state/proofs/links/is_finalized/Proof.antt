@@ -8,11 +8,6 @@ use Rattle.state.proofs.Walk.{finalized-by-link, not-finalized-without}
 use borrow.Author.Needs.{needs}
 use Rattle.state.proofs.links.is_finalized.Statement.{statement}
 use Rattle.state.proofs.links.is_finalized.Tie as tie
-use Rattle.state.proofs.links.is_finalized.Reads as reads
-use Rattle.state.proofs.links.is_finalized.Lts as lts
-use Rattle.fields.proofs.height.finalize_mask.Reads as finalize-mask-reads
-use Rattle.fields.proofs.quorum.quorum.Reads as quorum-reads
-use Rattle.state.proofs.links.linked.Reads as linked-reads
 
 finalize-mask-requires : tie.Need-finalize-mask-requires
 finalize-mask-requires c κs = search needs

@@ -11,9 +11,6 @@ use Rattle.state.specs.Memo.{Memo}
 use Rattle.state.proofs.Walk.{largest-here, largest-below, largest-none}
 use Rattle.state.proofs.links.largest_finalized.Statement.{statement}
 use Rattle.state.proofs.links.largest_finalized.Tie as tie
-use Rattle.state.proofs.links.largest_finalized.Reads as reads
-use Rattle.state.proofs.links.largest_finalized.Lts as lts
-use Rattle.state.proofs.links.is_finalized.Reads as is-finalized-reads
 
 abbrev Inv-loop : tie.InvT-loop
 Inv-loop book top known₀ h₀ known h =

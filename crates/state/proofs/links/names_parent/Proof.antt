@@ -1,6 +1,6 @@
 use borrow.Author.Needs.{needs}
 use native.Mathlib.Omega.{arith}
-use mathlib.Core.Path.{_∙_, sym, ap}
+use mathlib.Core.Path.{_∙_, ap}
 use lib.ListN.{take, drop}
 use Rattle.protocol.specs.Bytes.{Bytes, same}
 use Rattle.protocol.specs.State.{decode}
@@ -9,12 +9,6 @@ use Rattle.protocol.specs.Sound.{view}
 use Rattle.state.proofs.Walk.{names-start, names-block}
 use Rattle.state.proofs.links.names_parent.Statement.{statement}
 use Rattle.state.proofs.links.names_parent.Tie as tie
-use Rattle.state.proofs.links.names_parent.Reads as reads
-use Rattle.state.proofs.links.names_parent.Lts as lts
-use Rattle.fields.proofs.height.notarized.Reads as notarized-reads
-use Rattle.sha256.proofs.sha256.Reads as sha256-reads
-use Rattle.wire.proofs.bytes.is_zero.Reads as is-zero-reads
-use Rattle.wire.proofs.bytes.same_bytes.Reads as same-bytes-reads
 
 -- src/links.rt:30:30
 sub-is-zero : tie.Need-sub-is-zero

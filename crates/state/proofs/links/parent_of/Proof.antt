@@ -12,10 +12,6 @@ use Rattle.state.specs.Parent.{parentOption}
 use Rattle.state.proofs.Walk.{parent-here, parent-below, parent-stops, parent-start}
 use Rattle.state.proofs.links.parent_of.Statement.{statement}
 use Rattle.state.proofs.links.parent_of.Tie as tie
-use Rattle.state.proofs.links.parent_of.Reads as reads
-use Rattle.state.proofs.links.parent_of.Lts as lts
-use Rattle.fields.proofs.quorum.is_dummy.Reads as is-dummy-reads
-use Rattle.state.proofs.links.linked.Reads as linked-reads
 
 abbrev Inv-loop : tie.InvT-loop
 Inv-loop book top known₀ h₀ known h =

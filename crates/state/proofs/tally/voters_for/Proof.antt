@@ -4,7 +4,6 @@ use native.Mathlib.Omega.{arith}
 use mathlib.Core.Path.{_≡_, refl, sym, _∙_}
 use borrow.Author.Needs.{needs}
 use Rattle.protocol.specs.Mask.{maskOf}
-use Rattle.protocol.specs.MaskLaws.{maskOf-below}
 use Rattle.protocol.specs.State.{decode, at as heightAt}
 use Rattle.state.proofs.Votes.{votes, power-small, bit-next, mask-with, mask-without, tallied}
 use Rattle.state.proofs.tally.voters_for.Statement.{statement}

@@ -1,14 +1,12 @@
 -- `votes_for` meets its contract: a bit of the voters, and the vote that is kept for it.
-use mathlib.Core.Path.{ap, _∙_}
+use mathlib.Core.Path.{sym, ap, _∙_}
 use Rattle.protocol.specs.Bytes.{Bytes, same}
-use Rattle.protocol.specs.MaskLaws.{true-bit}
-use Rattle.state.proofs.Votes.{no-bit}
 use borrow.Author.Needs.{needs}
 use Rattle.state.proofs.tally.votes_for.Statement.{statement}
 use Rattle.state.proofs.tally.votes_for.Tie as tie
 
-shr-if1 : tie.Need-shr-if1
-shr-if1 c = search needs
+in-mask-requires : tie.Need-in-mask-requires
+in-mask-requires c κs = search needs
 
 vote-digest-requires : tie.Need-vote-digest-requires
 vote-digest-requires c κs = search needs
@@ -18,15 +16,14 @@ same-bytes-requires c κs = search needs
 
 returns : tie.Need-returns
 returns c =
-    let args = c .before .before .before .before .before .args in
-    rw (true-bit (args .voters) (args .s) (c .before .before .if1 .taken))
-    (c .same-bytes .ensures ∙ ap (λ (d : Bytes). same d (args .digest .now)) (c .before .vote-digest .ensures))
+    let branch = c .before .before in
+    let digest = branch .before .before .before .before .args .digest .now in
+    rw (sym (branch .before .in-mask .ensures) ∙ branch .if1 .taken)
+    (c .same-bytes .ensures ∙ ap (λ (d : Bytes). same d digest) (c .before .vote-digest .ensures))
 
 returns-2 : tie.Need-returns-2
-returns-2 c =
-    let args = c .before .before .before .args in
-    rw (no-bit (args .voters) (args .s) (c .if1 .left))
+returns-2 c = rw (sym (c .before .in-mask .ensures) ∙ c .if1 .left)
 
 pub votes-for-spec : {M : Type 1} → statement M
 votes-for-spec =
-    tie.close (tie.spec shr-if1 vote-digest-requires same-bytes-requires returns returns-2)
+    tie.close (tie.spec in-mask-requires vote-digest-requires same-bytes-requires returns returns-2)

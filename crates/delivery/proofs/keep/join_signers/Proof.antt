@@ -1,0 +1,52 @@
+-- `join_signers` meets its contract: the mask is written where a signer is new.
+use Prim.Native.Nat.{ℕ}
+use mathlib.Core.Path.{sym, ap, _∙_}
+use lib.Bits.{bitOr, or-lt}
+use borrow.Author.Tests.{eq-eqb, ne-eqb}
+use Rattle.protocol.specs.State.{decode, encode, at, withHeight}
+use Rattle.fields.specs.Numbered.{withMaskAt}
+use Rattle.delivery.specs.Refusal.{joinSigners}
+use Rattle.delivery.specs.KeepLaws.{known-frame, new-frame}
+use borrow.Author.Needs.{needs}
+use Rattle.delivery.proofs.keep.join_signers.Statement.{statement}
+use Rattle.delivery.proofs.keep.join_signers.Tie as tie
+
+mask-at-requires : tie.Need-mask-at-requires
+mask-at-requires c κs = search needs
+
+keep-mask-requires : tie.Need-keep-mask-requires
+keep-mask-requires c κs =
+    let start = c .before .before .before .before .before in
+    let spot = start .pre .0 in
+    (spot .ready, (spot .within, (start .pre .1 .0, or-lt 16 _ _ (c .before .before .mask-at .ensures .1) (start .pre .1 .1))))
+
+same-length : tie.Need-same-length
+same-length c = search needs
+
+returns : tie.Need-returns
+unfolding joinSigners
+returns c =
+    let start = c .before .before .before .before in
+    let held = c .before .mask-at .ensures .0 in
+    let joined = ap (λ (mask : ℕ). bitOr mask (start .args .signers)) held in
+    known-frame (start .args .book .now) (start .args .h) _ _ (eq-eqb _ _ (sym joined ∙ c .if1 .taken ∙ held))
+
+same-length-2 : tie.Need-same-length-2
+same-length-2 c = search needs
+
+returns-2 : tie.Need-returns-2
+unfolding joinSigners
+returns-2 c =
+    let branch = c .before .before .before .before in
+    let start = branch .before .before .before .before in
+    let book = start .args .book .now in
+    let h = start .args .h in
+    let held = branch .before .mask-at .ensures .0 in
+    let joined = ap (λ (mask : ℕ). bitOr mask (start .args .signers)) held in
+    let more = ne-eqb _ _ (λ e. branch .if1 .left (joined ∙ e ∙ sym held)) in
+    new-frame book h _ _ _ more (c .before .before .keep-mask .ensures ∙ ap (λ (mask : ℕ). encode (withHeight (decode book) h (withMaskAt (at (decode book) h) (start .args .k) mask))) joined)
+
+pub join-signers-spec : {M : Type 1} → statement M
+join-signers-spec =
+    tie.close
+    (tie.spec mask-at-requires keep-mask-requires same-length returns same-length-2 returns-2)

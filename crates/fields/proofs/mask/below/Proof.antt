@@ -1,0 +1,15 @@
+-- `below` meets its contract: the mask is less than the bit after the last.
+use Rattle.protocol.specs.Mask.{belowBit}
+use borrow.Author.Needs.{needs}
+use Rattle.fields.proofs.mask.below.Statement.{statement}
+use Rattle.fields.proofs.mask.below.Tie as tie
+
+bit-requires : tie.Need-bit-requires
+bit-requires c κs = search needs
+
+returns : tie.Need-returns
+unfolding belowBit
+returns c = rw (c .bit .ensures .0)
+
+pub below-spec : {M : Type 1} → statement M
+below-spec = tie.close (tie.spec bit-requires returns)

@@ -1,0 +1,14 @@
+-- `bit` meets its contract: a shift within 16 bits loses nothing.
+use Rattle.fields.proofs.Counts.{one-shifted}
+use borrow.Author.Needs.{needs}
+use Rattle.fields.proofs.mask.bit.Statement.{statement}
+use Rattle.fields.proofs.mask.bit.Tie as tie
+
+shl-result : tie.Need-shl-result
+shl-result c = search needs
+
+returns : tie.Need-returns
+returns c = one-shifted _ (c .pre)
+
+pub bit-spec : {M : Type 1} → statement M
+bit-spec = tie.close (tie.spec shl-result returns)

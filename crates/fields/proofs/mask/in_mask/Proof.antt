@@ -1,0 +1,16 @@
+-- `in_mask` meets its contract: a bit is what is left of a shifted mask.
+use mathlib.Core.Path.{refl}
+use Rattle.protocol.specs.Mask.{inMask}
+use borrow.Author.Needs.{needs}
+use Rattle.fields.proofs.mask.in_mask.Statement.{statement}
+use Rattle.fields.proofs.mask.in_mask.Tie as tie
+
+shr-result : tie.Need-shr-result
+shr-result c = search needs
+
+returns : tie.Need-returns
+unfolding inMask
+returns c = refl
+
+pub in-mask-spec : {M : Type 1} → statement M
+in-mask-spec = tie.close (tie.spec shr-result returns)

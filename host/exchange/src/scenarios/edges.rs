@@ -1,0 +1,87 @@
+//! The end of the list of corners: fields that a frame does not use, lengths one byte off, the largest book.
+
+use super::parts::*;
+use crate::{Call, Recorder};
+use types::{Calls, Frame};
+
+/// The one book of the list.
+const BOOK: &str = "book";
+
+/// Records these parts.
+pub fn run<C: Calls>(to: &mut Recorder<C>) {
+    single_bytes(to);
+    one_byte_more(to);
+    largest_book(to);
+}
+
+fn single_bytes<C: Calls>(to: &mut Recorder<C>) {
+    to.part("A byte that a frame does not use is 4: for each kind one of every such field");
+    to.open(BOOK, 4, 2, &[0]);
+    let block = first(1, &[]);
+    let statements = [
+        Frame::Proposal { signer: 0, block: block.clone() },
+        vote(0, &block),
+        Frame::DummyVote { signer: 0, height: 1 },
+        Frame::Finalize { signer: 0, height: 1 },
+    ];
+    let certificates = [
+        Frame::BlockCertificate { mask: 7, block },
+        Frame::DummyCertificate { mask: 7, height: 1 },
+        Frame::FinalizeCertificate { mask: 7, height: 1 },
+    ];
+    let unused: [&[usize]; 7] = [
+        &[3, 5, 15, 47],
+        &[3, 5, 15, 223],
+        &[3, 5, 15, 47, 223],
+        &[3, 5, 15, 47, 223],
+        &[1, 3, 15, 47],
+        &[1, 3, 15, 47, 223],
+        &[1, 3, 15, 47, 223],
+    ];
+    for (frame, fields) in statements.iter().chain(&certificates).zip(unused) {
+        fields.iter().for_each(|at| with_one(to, frame, *at));
+    }
+}
+
+/// Delivers a frame with one byte set.
+fn with_one<C: Calls>(to: &mut Recorder<C>, frame: &Frame, at: usize) {
+    let mut bytes = frame.bytes();
+    bytes.iter_mut().skip(at).take(1).for_each(|byte| *byte = 1);
+    to.deliver(BOOK, &bytes);
+}
+
+fn one_byte_more<C: Calls>(to: &mut Recorder<C>) {
+    to.part(
+        "A sound book with one more byte is not sound, and no length but the exact one is opened",
+    );
+    let mut longer = to.bytes(BOOK).to_vec();
+    longer.push(0);
+    to.give(BOOK, longer);
+    to.make(Call::Size, BOOK, "");
+    to.make(Call::Open { n: 4, own: 2, heights: 1, leaders: vec![0] }, BOOK, "");
+}
+
+fn largest_book<C: Calls>(to: &mut Recorder<C>) {
+    to.part("The largest book: 16 stations, 63 heights; station 15 has the last bit of a mask");
+    to.open(BOOK, 16, 15, &[15; 63]);
+    let (one, last) = (first(1, &[]), first(63, &[]));
+    let of_station_15 = [
+        Frame::Proposal { signer: 15, block: last.clone() },
+        vote(15, &last),
+        Frame::DummyVote { signer: 15, height: 63 },
+        Frame::Finalize { signer: 15, height: 63 },
+    ];
+    deliver(to, BOOK, &of_station_15);
+    let of_the_last_eleven = [
+        Frame::BlockCertificate { mask: 0xffe0, block: one },
+        Frame::DummyCertificate { mask: 0xffe0, height: 2 },
+        Frame::FinalizeCertificate { mask: 0xffe0, height: 1 },
+    ];
+    deliver(to, BOOK, &of_the_last_eleven);
+    moves(to, BOOK);
+    to.remark("A reply of 224 bytes is enough for fetch");
+    to.give("frame", vec![0xaa; types::FRAME]);
+    for (kind, height) in [(5, 1), (6, 2), (7, 1)] {
+        to.make(Call::Fetch { kind, height }, BOOK, "frame");
+    }
+}
