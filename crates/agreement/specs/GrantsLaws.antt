@@ -6,11 +6,11 @@ use mathlib.Core.Logic.{_⊎_, inl, inr}
 use mathlib.Core.Bool.{true}
 use lib.Dec.{eqb}
 use borrow.Author.Tests.{eqb-true, leb-true}
-use Rattle.protocol.specs.Bytes.{Bytes, byteAt}
+use Rattle.protocol.specs.Bytes.{Bytes}
 use Rattle.protocol.specs.CodecLaws.{last-decode, notarized-in}
 use Rattle.protocol.specs.RowLaws.{every-height-at, implies-true, in-range, row}
 use Rattle.protocol.specs.Sound.{sound, view}
-use Rattle.protocol.specs.State.{State, at, decode, isNotarized}
+use Rattle.protocol.specs.State.{State, at, decode, isNotarized, bookHeights}
 use Rattle.protocol.specs.TestsLaws.{or-true}
 use Rattle.protocol.specs.View.{isFinalized, quorum}
 
@@ -29,7 +29,7 @@ module _ (digest : Bytes → Bytes) (book : Bytes) where
   unfolding sound
   grants e = record {
     few = in-range 1 16 (b .n) (row _ 1 e) .1;
-    positive = in-range 1 (byteAt book 2 + 1) (b .current) (row _ 5 e) .0;
+    positive = in-range 1 (bookHeights book + 1) (b .current) (row _ 5 e) .0;
     pends = leb-true (b .pendingCount) 32 (row _ 7 e);
     certificates = certified;
     finalizes = settled (or-true (eqb (b .finalized) 0) _ (row _ 15 e));
@@ -37,8 +37,8 @@ module _ (digest : Bytes → Bytes) (book : Bytes) where
     where
       certified : (i : ℕ) → isNotarized (at b (suc i)) ≡ true → quorum (view b) (at b (suc i) .certificateMask) ≡ true
       certified i q =
-          let inside : i < byteAt book 2 = rw (last-decode book) at (notarized-in b i q) in
-          implies-true _ _ (every-height-at _ (byteAt book 2) (suc i) (row _ 12 e) (omega arith) inside) q
+          let inside : i < bookHeights book = rw (last-decode book) at (notarized-in b i q) in
+          implies-true _ _ (every-height-at _ (bookHeights book) (suc i) (row _ 12 e) (omega arith) inside) q
 
       settled : (eqb (b .finalized) 0 ≡ true) ⊎ (isFinalized digest (view b) (b .finalized) ≡ true) →
           (b .finalized ≡ 0) ⊎ (isFinalized digest (view b) (b .finalized) ≡ true)

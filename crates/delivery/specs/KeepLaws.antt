@@ -7,7 +7,7 @@ use mathlib.Core.Option.{Option, some, none}
 use borrow.Author.Tests.{eqb-false}
 use Rattle.protocol.specs.Bytes.{Bytes, byteAt}
 use Rattle.protocol.specs.Mask.{inMask}
-use Rattle.protocol.specs.State.{State, Height, at, last, decode, encode, withHeight, holdsProposal}
+use Rattle.protocol.specs.State.{State, Height, at, last, decode, encode, withHeight, holdsProposal, bookHeights}
 use Rattle.protocol.specs.View.{quorum}
 use Rattle.protocol.specs.Sound.{view}
 use Rattle.protocol.specs.MaskLaws.{add-below}
@@ -98,7 +98,7 @@ module _ (book : Bytes) (h : ℕ) (spot : Spot book h) (y : Height) (fits : Shap
   decoded : decode (encode (withHeight (decode book) h y)) ≡ withHeight (decode book) h y
   decoded = decode-encode (withHeight (decode book) h y) (shaped-written (decode book) h y (spot .within .low) (ready-state book (spot .ready)) fits)
 
-  heights-same : byteAt (encode (withHeight (decode book) h y)) 2 ≡ byteAt book 2
+  heights-same : byteAt (encode (withHeight (decode book) h y)) 2 ≡ bookHeights book
   heights-same = same-heights book (withHeight (decode book) h y) (last-with-height (decode book) h y)
 
   spot-written : y .status ≤ 3 → Spot (encode (withHeight (decode book) h y)) h

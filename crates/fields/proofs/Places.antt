@@ -5,7 +5,7 @@ use native.Mathlib.Nat.{add-zero}
 use mathlib.Core.Path.{_≡_, ap, subst, _∙_}
 use lib.ListN.{length, take, drop}
 use Rattle.protocol.specs.Bytes.{Bytes, byteAt, word16, part}
-use Rattle.protocol.specs.State.{Height, at, last, decode, voteOf}
+use Rattle.protocol.specs.State.{Height, at, last, decode, voteOf, bookHeights}
 use Rattle.protocol.specs.StateLaws.{ShapedHeight}
 use Rattle.protocol.specs.CodecLaws.{Exact, last-decode, decode-shaped}
 use Rattle.protocol.specs.PlaceLaws.{suc-pred, shaped-at}
@@ -27,7 +27,7 @@ pub notarized-size : (book : Bytes) (h : ℕ) → Exact book → Within book h �
 notarized-size book h exact within = height-shaped book h exact within .notarized-size
 
 module _ (book : Bytes) (h : ℕ) (within : Within book h) where
-  inside : h - 1 < byteAt book 2
+  inside : h - 1 < bookHeights book
   inside = omega arith
 
   -- height `h` is the next after `h - 1`
@@ -48,11 +48,11 @@ module _ (book : Bytes) (h : ℕ) (within : Within book h) where
     mask-at (suc (suc (suc zero))) l = rw place (named (λ x. x .voterMask) (read-voter-mask book (h - 1) inside))
     mask-at (suc (suc (suc (suc k)))) l = absurd (omega arith)
 
-  module _ (from : ℕ) (place : from ≡ 576 + 16 * byteAt book 2 + 864 * (h - 1)) where
+  module _ (from : ℕ) (place : from ≡ 576 + 16 * bookHeights book + 864 * (h - 1)) where
     pub block-at : (k : ℕ) → k < 2 → take (from + 176 * k + 176 - (from + 176 * k)) (drop (from + 176 * k) book) ≡ blockAt (at (decode book) h) k
     block-at k l = cut-part book (from + 176 * k) 176 ∙ rw place (lies k l)
       where
-        lies : (k : ℕ) → k < 2 → part book (576 + 16 * byteAt book 2 + 864 * (h - 1) + 176 * k) 176 ≡ blockAt (at (decode book) h) k
+        lies : (k : ℕ) → k < 2 → part book (576 + 16 * bookHeights book + 864 * (h - 1) + 176 * k) 176 ≡ blockAt (at (decode book) h) k
         lies zero l = rw add-zero (named (λ x. x .proposal) (read-proposal book (h - 1) inside))
         lies (suc zero) l = named (λ x. x .notarized) (read-notarized book (h - 1) inside)
         lies (suc (suc k)) l = absurd (omega arith)

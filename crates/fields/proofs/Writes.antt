@@ -4,8 +4,8 @@ use native.Mathlib.Omega.{arith}
 use mathlib.Core.Path.{_≡_, refl, ap, subst, _∙_}
 use mathlib.Core.List.{[], _∷_, _++_}
 use lib.ListN.{length, set}
-use Rattle.protocol.specs.Bytes.{Bytes, byteAt, le16, part, zeros, pieces}
-use Rattle.protocol.specs.State.{State, Height, headBytes, encode, decode, at, last, withHead, withHeight}
+use Rattle.protocol.specs.Bytes.{Bytes, le16, part, zeros, pieces}
+use Rattle.protocol.specs.State.{State, Height, headBytes, encode, decode, at, last, withHead, withHeight, bookHeights}
 use Rattle.protocol.specs.Deliver.{withProposal, withNotarized, withVote}
 use Rattle.protocol.specs.Submit.{withPending}
 use Rattle.protocol.specs.BytesLaws.{put, length-part}
@@ -43,8 +43,8 @@ write-block s shaped i inside x fits mask block e =
     rw (write-notarized s shaped i inside x fits block e, write-status s shaped i inside (withNotarizedBytes x block) (x .status + 2), ← notarized-last x mask block)
     (write-certificate-mask s shaped i inside (withStatus (withNotarizedBytes x block) (x .status + 2)) mask)
 
-book-block : (book : Bytes) → Ready book → (i : ℕ) → i < byteAt book 2 → (mask : ℕ) (block : Bytes) → length block ≡ 176 →
-    put (set (put book (576 + 16 * byteAt book 2 + 864 * i + 176) block) (576 + 16 * i + 1) (at (decode book) (suc i) .status + 2)) (576 + 16 * i + 2) (le16 mask) ≡
+book-block : (book : Bytes) → Ready book → (i : ℕ) → i < bookHeights book → (mask : ℕ) (block : Bytes) → length block ≡ 176 →
+    put (set (put book (576 + 16 * bookHeights book + 864 * i + 176) block) (576 + 16 * i + 1) (at (decode book) (suc i) .status + 2)) (576 + 16 * i + 2) (le16 mask) ≡
     encode (withHeight (decode book) (suc i) (withNotarized (at (decode book) (suc i)) mask block))
 book-block book ready i inside mask block e =
     let within : i < last (decode book) = rw (last-decode book) inside in
@@ -70,7 +70,7 @@ module _ (book : Bytes) (ready : Ready book) where
 
 -- ---- height `h`, where the code has computed its places
 module _ (book : Bytes) (ready : Ready book) (h : ℕ) (within : Within book h) where
-  inside : h - 1 < byteAt book 2
+  inside : h - 1 < bookHeights book
   inside = omega arith
 
   -- height `h` is the next after `h - 1`
@@ -90,18 +90,18 @@ module _ (book : Bytes) (ready : Ready book) (h : ℕ) (within : Within book h) 
         (book-finalize-mask book (ready .whole) (ready .size) (h - 1) inside mask))
     kept-mask (suc (suc (suc k))) low high mask = absurd (omega arith)
 
-    module _ (body : ℕ) (body-place : body ≡ 576 + 16 * byteAt book 2 + 864 * (h - 1)) where
+    module _ (body : ℕ) (body-place : body ≡ 576 + 16 * bookHeights book + 864 * (h - 1)) where
       pub held-proposal : part book body 176 ≡ at (decode book) h .proposal
       held-proposal =
           rw body-place
-          (named (λ k. part book (576 + 16 * byteAt book 2 + 864 * (h - 1)) 176 ≡ at (decode book) k .proposal) (read-proposal book (h - 1) inside))
+          (named (λ k. part book (576 + 16 * bookHeights book + 864 * (h - 1)) 176 ≡ at (decode book) k .proposal) (read-proposal book (h - 1) inside))
 
       module _ (status : ℕ) (status-is : status ≡ at (decode book) h .status) where
         pub kept-proposal : (block : Bytes) → length block ≡ 176 →
             put (set book (content + 1) (status + 1)) body block ≡ encode (withHeight (decode book) h (withProposal (at (decode book) h) block))
         kept-proposal block e =
             rw (content-place, body-place, status-is)
-            (named (λ k. put (set book (576 + 16 * (h - 1) + 1) (at (decode book) k .status + 1)) (576 + 16 * byteAt book 2 + 864 * (h - 1)) block ≡
+            (named (λ k. put (set book (576 + 16 * (h - 1) + 1) (at (decode book) k .status + 1)) (576 + 16 * bookHeights book + 864 * (h - 1)) block ≡
             encode (withHeight (decode book) k (withProposal (at (decode book) k) block)))
             (book-proposal book (ready .whole) (ready .size) (h - 1) inside block e))
 
@@ -111,7 +111,7 @@ module _ (book : Bytes) (ready : Ready book) (h : ℕ) (within : Within book h) 
             marked ≡ encode (withHeight (decode book) h (withNotarized (at (decode book) h) mask block))
         kept-notarized mask block e copied copy marked mark =
             rw (mark, copy, content-place, body-place, status-is)
-            (named (λ k. put (set (put book (576 + 16 * byteAt book 2 + 864 * (h - 1) + 176) block) (576 + 16 * (h - 1) + 1) (at (decode book) k .status + 2)) (576 + 16 * (h - 1) + 2) (le16 mask) ≡
+            (named (λ k. put (set (put book (576 + 16 * bookHeights book + 864 * (h - 1) + 176) block) (576 + 16 * (h - 1) + 1) (at (decode book) k .status + 2)) (576 + 16 * (h - 1) + 2) (le16 mask) ≡
             encode (withHeight (decode book) k (withNotarized (at (decode book) k) mask block)))
             (book-block book ready (h - 1) inside mask block e))
 
@@ -129,6 +129,6 @@ module _ (book : Bytes) (ready : Ready book) (h : ℕ) (within : Within book h) 
           put marked (body + (352 + 32 * r)) digest ≡ encode (withHeight (decode book) h (withVote (at (decode book) h) r digest))
       kept-vote r digest small e mask mask-is marked mark =
           rw (mark, content-place, body-place, mask-is)
-          (named (λ k. put (put book (576 + 16 * (h - 1) + 8) (le16 (at (decode book) k .voterMask + 2 ^ r))) (576 + 16 * byteAt book 2 + 864 * (h - 1) + (352 + 32 * r)) digest ≡
+          (named (λ k. put (put book (576 + 16 * (h - 1) + 8) (le16 (at (decode book) k .voterMask + 2 ^ r))) (576 + 16 * bookHeights book + 864 * (h - 1) + (352 + 32 * r)) digest ≡
           encode (withHeight (decode book) k (withVote (at (decode book) k) r digest)))
           (book-vote book (ready .whole) (ready .size) (h - 1) inside r digest small e))

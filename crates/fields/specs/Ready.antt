@@ -3,14 +3,14 @@ use Prim.Native.Nat.{ℕ, _+_, _*_, _≤_}
 use mathlib.Core.Path.{_≡_}
 use lib.ListN.{length}
 use Rattle.protocol.specs.Bytes.{Bytes, byteAt}
-use Rattle.protocol.specs.State.{decode, encode, last}
+use Rattle.protocol.specs.State.{decode, encode, last, bookHeights}
 
 -- the length is that of the H heights that the head says: all that reading asks
 pub record Sized (book : Bytes) : Type 0 where
-  pub size : length book ≡ 576 + 880 * byteAt book 2
-  pub heights : byteAt book 2 ≤ 63
+  pub size : length book ≡ 576 + 880 * bookHeights book
+  pub heights : bookHeights book ≤ 63
   -- these follow from the definition of `decode`, and stand here for the search to find
-  pub count : last (decode book) ≡ byteAt book 2
+  pub count : last (decode book) ≡ bookHeights book
   pub n-byte : byteAt book 0 ≡ decode book .n
   pub own-byte : byteAt book 1 ≡ decode book .own
   pub flags-byte : byteAt book 3 ≡ decode book .flags
@@ -22,11 +22,11 @@ pub record Sized (book : Bytes) : Type 0 where
 pub record Ready (book : Bytes) : Type 0 where
   pub sized : Sized book
   pub whole : encode (decode book) ≡ book
-  pub size : length book ≡ 576 + 880 * byteAt book 2
-  pub heights : byteAt book 2 ≤ 63
-  pub count : last (decode book) ≡ byteAt book 2
+  pub size : length book ≡ 576 + 880 * bookHeights book
+  pub heights : bookHeights book ≤ 63
+  pub count : last (decode book) ≡ bookHeights book
 
 -- height `h` is one of the book's
 pub record Within (book : Bytes) (h : ℕ) : Type 0 where
   pub low : 1 ≤ h
-  pub high : h ≤ byteAt book 2
+  pub high : h ≤ bookHeights book

@@ -4,8 +4,8 @@ use mathlib.Core.Path.{_≡_, ap, _∙_}
 use mathlib.Core.Bool.{true}
 use mathlib.Core.List.{List}
 use lib.ListN.{length, length-set}
-use Rattle.protocol.specs.Bytes.{Bytes, byteAt}
-use Rattle.protocol.specs.State.{State, Height, last, decode, encode, withHeight}
+use Rattle.protocol.specs.Bytes.{Bytes}
+use Rattle.protocol.specs.State.{State, Height, last, decode, encode, withHeight, bookHeights}
 use Rattle.protocol.specs.Sound.{sound}
 use Rattle.protocol.specs.BytesLaws.{AreBytes}
 use Rattle.protocol.specs.StateLaws.{Shaped, ShapedHeight, decode-encode}
@@ -18,7 +18,7 @@ use Rattle.protocol.specs.GrantedLaws.{Granted, granted}
 use Rattle.protocol.specs.FieldLaws.{read-n, read-own, read-flags, read-current, read-finalized, read-pending-count}
 use Rattle.fields.specs.Ready.{Sized, Ready}
 
-pub sized : (book : Bytes) → length book ≡ 576 + 880 * byteAt book 2 → byteAt book 2 ≤ 63 → Sized book
+pub sized : (book : Bytes) → length book ≡ 576 + 880 * bookHeights book → bookHeights book ≤ 63 → Sized book
 sized book size heights = record {
   size = size;
   heights = heights;
@@ -31,7 +31,7 @@ sized book size heights = record {
   pending-byte = read-pending-count book;
 }
 
-pub make-ready : (book : Bytes) → length book ≡ 576 + 880 * byteAt book 2 → byteAt book 2 ≤ 63 → encode (decode book) ≡ book → Ready book
+pub make-ready : (book : Bytes) → length book ≡ 576 + 880 * bookHeights book → bookHeights book ≤ 63 → encode (decode book) ≡ book → Ready book
 make-ready book size heights whole = record {
   sized = sized book size heights;
   whole = whole;
@@ -56,7 +56,7 @@ pub ready-state : (book : Bytes) → Ready book → Shaped (decode book)
 ready-state book r = decode-shaped book (r .size)
 
 -- the book says as many heights as before
-pub same-heights : (book : Bytes) (s : State) → last s ≡ last (decode book) → byteAt (encode s) 2 ≡ byteAt book 2
+pub same-heights : (book : Bytes) (s : State) → last s ≡ last (decode book) → bookHeights (encode s) ≡ bookHeights book
 same-heights book s e = count-encode s ∙ e ∙ last-decode book
 
 ready-after : (book : Bytes) → Ready book → (s : State) → Shaped s → last s ≡ last (decode book) → Ready (encode s)

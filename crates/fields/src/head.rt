@@ -1,8 +1,7 @@
 // The head of a book: its numbers, and the three that a move changes.
 ghost use mathlib.Core.Path.{_≡_};
 ghost use Prim.Native.Nat.{_<_};
-ghost use Rattle.protocol.specs.Bytes.{byteAt};
-ghost use Rattle.protocol.specs.State.{decode, encode, withHead};
+ghost use Rattle.protocol.specs.State.{decode, encode, withHead, bookHeights};
 ghost use Rattle.fields.specs.Ready.{Sized, Ready};
 
 // The number of replicas.
@@ -24,7 +23,7 @@ pub fn own(book: &[u8]) -> usize
 // The number of heights.
 pub fn heights(book: &[u8]) -> usize
     requires { ⌜ Sized (now book) ⌝ }
-    ensures { λ r. ⌜ (r ≡ byteAt (now (book .entry)) 2) × (r < 64) ⌝ }
+    ensures { λ r. ⌜ (r ≡ bookHeights (now (book .entry))) × (r < 64) ⌝ }
 {
     wire::bytes::byte(book, 2)
 }

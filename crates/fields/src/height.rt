@@ -1,8 +1,7 @@
 // One height of a book: leader, status, masks, blocks and vote digests, read where they lie.
 ghost use mathlib.Core.Path.{_≡_};
 ghost use Prim.Native.Nat.{_+_, _-_, _*_, _<_, _≤_};
-ghost use Rattle.protocol.specs.Bytes.{byteAt};
-ghost use Rattle.protocol.specs.State.{decode, at, holdsProposal, isNotarized, voteOf};
+ghost use Rattle.protocol.specs.State.{decode, at, holdsProposal, isNotarized, voteOf, bookHeights};
 ghost use Rattle.fields.specs.Ready.{Sized, Within};
 ghost use Rattle.fields.specs.Numbered.{maskAt, blockAt};
 
@@ -18,7 +17,7 @@ pub fn content_at(h: usize) -> usize
 pub fn body_at(book: &[u8], h: usize) -> usize
     requires { ⌜ Sized (now book) ⌝ }
     requires { ⌜ Within (now book) h ⌝ }
-    ensures { λ r. ⌜ r ≡ 576 + 16 * byteAt (now (book .entry)) 2 + 864 * (h - 1) ⌝ }
+    ensures { λ r. ⌜ r ≡ 576 + 16 * bookHeights (now (book .entry)) + 864 * (h - 1) ⌝ }
 {
     let heights = wire::bytes::byte(book, 2);
     576 + 16 * heights + 864 * (h - 1)

@@ -1,10 +1,9 @@
 // Quorums of masks, and the dummy blocks that they notarize.
 ghost use mathlib.Core.Path.{_≡_};
-ghost use Prim.Native.Nat.{_+_, _<_, _≤_};
-ghost use Rattle.protocol.specs.Bytes.{byteAt};
+ghost use Prim.Native.Nat.{_<_, _≤_};
 ghost use Rattle.protocol.specs.Mask.{ones};
-ghost use Rattle.protocol.specs.View.{quorum as isQuorum, isDummy, dummyRun};
-ghost use Rattle.protocol.specs.State.{decode};
+ghost use Rattle.protocol.specs.View.{quorum as isQuorum, isDummy};
+ghost use Rattle.protocol.specs.State.{decode, at};
 ghost use Rattle.protocol.specs.Sound.{view};
 ghost use Rattle.fields.specs.Ready.{Sized, Within};
 
@@ -43,22 +42,4 @@ pub fn is_dummy(book: &[u8], h: usize) -> bool
     ensures { λ r. ⌜ r ≡ isDummy (view (decode (now (book .entry)))) h ⌝ }
 {
     quorum(book, crate::height::dummy_mask(book, h))
-}
-
-// Whether the dummy blocks of the `count` heights after `j` are notarized.
-pub fn dummy_run(book: &[u8], j: usize, count: usize) -> bool
-    requires { ⌜ Sized (now book) ⌝ }
-    requires { ⌜ decode (now book) .n ≤ 16 ⌝ }
-    requires { ⌜ j + count ≤ byteAt (now book) 2 ⌝ }
-    ensures { λ r. ⌜ r ≡ dummyRun (view (decode (now (book .entry)))) j count ⌝ }
-{
-    let mut k = 0;
-    while k < count {
-        if is_dummy(book, j + k + 1) {
-            k += 1;
-        } else {
-            return false;
-        }
-    }
-    true
 }

@@ -5,9 +5,9 @@ use mathlib.Core.Logic.{_≢_}
 use mathlib.Core.Bool.{Bool, true, false, _&&_, and-true}
 use lib.Dec.{eqb}
 use borrow.Author.Tests.{eq-eqb, ne-eqb}
-use Rattle.protocol.specs.Bytes.{Bytes, byteAt}
+use Rattle.protocol.specs.Bytes.{Bytes}
 use Rattle.protocol.specs.Tests.{allOf}
-use Rattle.protocol.specs.State.{State, at, decode, flag, holdsProposal}
+use Rattle.protocol.specs.State.{State, at, decode, flag, holdsProposal, bookHeights}
 use Rattle.protocol.specs.CodecLaws.{last-decode}
 use Rattle.protocol.specs.View.{linked, isDummy, extends, largestFinalized, parentOf}
 use Rattle.protocol.specs.Sound.{view}
@@ -34,7 +34,7 @@ module _ (s : State) where
 
 module _ (digest : Bytes → Bytes) where
   -- ---- move 2
-  pub newest-is : (book : Bytes) (top : ℕ) → top ≡ byteAt book 2 → largestFinalized digest (view (decode book)) top ≡ newFinalized digest (decode book)
+  pub newest-is : (book : Bytes) (top : ℕ) → top ≡ bookHeights book → largestFinalized digest (view (decode book)) top ≡ newFinalized digest (decode book)
   unfolding newFinalized
   newest-is book top e = rw (e, last-decode book)
 

@@ -2,9 +2,9 @@
 use Prim.Native.Nat.{ℕ, _+_, _≤_, _<_}
 use mathlib.Core.Path.{_≡_}
 use mathlib.Core.Bool.{true}
-use Rattle.protocol.specs.Bytes.{Bytes, byteAt, overFront}
+use Rattle.protocol.specs.Bytes.{Bytes, overFront}
 use Rattle.protocol.specs.Block.{blockWellFormed}
-use Rattle.protocol.specs.State.{decode, encode}
+use Rattle.protocol.specs.State.{decode, encode, bookHeights}
 use Rattle.protocol.specs.Sound.{view}
 use Rattle.protocol.specs.Answer.{accepted}
 use Rattle.protocol.specs.Move.{Step, written}
@@ -18,7 +18,7 @@ pub record Movable (book : Bytes) : Type 0 where
   pub ready : Ready book
   pub flags-small : decode book .flags < 16
   pub current-low : 1 ≤ decode book .current
-  pub current-high : decode book .current ≤ byteAt book 2 + 1
+  pub current-high : decode book .current ≤ bookHeights book + 1
   pub pending-few : decode book .pendingCount ≤ 32
   pub formed : (i : ℕ) → 1 ≤ i → view (decode book) .hasBlock i ≡ true → blockWellFormed i (view (decode book) .block i) ≡ true
 

@@ -7,10 +7,10 @@ use lib.ListN.{length}
 use lib.Dec.{leb}
 use borrow.Author.Tests.{leb-true}
 use Rattle.sha256.specs.Digest.{sha256}
-use Rattle.protocol.specs.Bytes.{Bytes, byteAt}
+use Rattle.protocol.specs.Bytes.{Bytes}
 use Rattle.protocol.specs.BytesLaws.{AreBytes}
 use Rattle.protocol.specs.Block.{blockWellFormed}
-use Rattle.protocol.specs.State.{State, at, last, decode}
+use Rattle.protocol.specs.State.{State, at, last, decode, bookHeights}
 use Rattle.protocol.specs.StateLaws.{ShapedHeight}
 use Rattle.protocol.specs.CodecLaws.{last-decode, decode-shaped, notarized-in}
 use Rattle.protocol.specs.PlaceLaws.{suc-pred, shaped-at}
@@ -24,19 +24,19 @@ use Rattle.state.specs.Memo.{Readable}
 use Rattle.moves.specs.Movable.{Movable}
 
 -- ---- the current height
-pub running-is : (book : Bytes) → leb (decode book .current) (byteAt book 2) ≡ isRunning (decode book)
+pub running-is : (book : Bytes) → leb (decode book .current) (bookHeights book) ≡ isRunning (decode book)
 unfolding isRunning
 running-is book = rw (last-decode book)
 
-pub running-high : (book : Bytes) → isRunning (decode book) ≡ true → decode book .current ≤ byteAt book 2
+pub running-high : (book : Bytes) → isRunning (decode book) ≡ true → decode book .current ≤ bookHeights book
 running-high book e = leb-true _ _ (rw (← running-is book) at e)
 
 module _ (book : Bytes) (m : Movable book) where
-  pub within-current : decode book .current ≤ byteAt book 2 → (c : ℕ) → c ≡ decode book .current → Within book c
+  pub within-current : decode book .current ≤ bookHeights book → (c : ℕ) → c ≡ decode book .current → Within book c
   within-current high c is = record { low = let low = m .current-low in omega arith; high = omega arith }
 
   module _ (e : isRunning (decode book) ≡ true) (c : ℕ) (is : c ≡ decode book .current) where
-    pub current-high : c ≤ byteAt book 2
+    pub current-high : c ≤ bookHeights book
     current-high = omega (arith, running-high book e)
 
     pub current-within : Within book c

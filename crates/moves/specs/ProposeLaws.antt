@@ -5,7 +5,7 @@ use mathlib.Core.Path.{_≡_, sym, ap, _∙_}
 use mathlib.Core.Bool.{true}
 use lib.ListN.{length}
 use Rattle.sha256.specs.Digest.{sha256}
-use Rattle.protocol.specs.Bytes.{Bytes, byteAt, zeros, overFront}
+use Rattle.protocol.specs.Bytes.{Bytes, zeros, overFront}
 use Rattle.protocol.specs.BytesLaws.{put, length-zeros}
 use Rattle.protocol.specs.Block.{newBlock}
 use Rattle.protocol.specs.BuildLaws.{front-frame-block}
@@ -15,7 +15,7 @@ use Rattle.protocol.specs.PendingLaws.{offered-few}
 use Rattle.protocol.specs.PoolLaws.{every-without}
 use Rattle.protocol.specs.PiecesLaws.{Sized, pieces-sized}
 use Rattle.protocol.specs.Frame.{frameOf, proposal}
-use Rattle.protocol.specs.State.{State, decode, pending}
+use Rattle.protocol.specs.State.{State, decode, pending, bookHeights}
 use Rattle.protocol.specs.Sound.{view}
 use Rattle.protocol.specs.View.{digestAt}
 use Rattle.protocol.specs.LinkedLaws.{linked-complete}
@@ -30,7 +30,7 @@ module _ (book : Bytes) (m : Movable book) where
   s = decode book
 
   -- the chain below the current height
-  pub walkable : s .current ≤ byteAt book 2 → isSome (parentBelow sha256 s) ≡ true → (j : ℕ) → j ≡ someOr 0 (parentBelow sha256 s) → Walkable book j
+  pub walkable : s .current ≤ bookHeights book → isSome (parentBelow sha256 s) ≡ true → (j : ℕ) → j ≡ someOr 0 (parentBelow sha256 s) → Walkable book j
   unfolding someOr
   walkable high e j is =
       let found = isSome-parent sha256 (view s) (s .current - 1) e in

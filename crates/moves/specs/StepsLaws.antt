@@ -1,8 +1,7 @@
 -- What the writes of each step leave: the step's frames in the reply and the step's state in the book.
-use Prim.Native.Nat.{ℕ, zero, suc, _+_}
+use Prim.Native.Nat.{ℕ, _+_}
 use native.Mathlib.Omega.{arith}
 use mathlib.Core.Path.{_≡_, refl, ap, _∙_}
-use mathlib.Core.Logic.{_≢_}
 use mathlib.Core.Bool.{Bool, true, false, not, cond}
 use mathlib.Core.List.{[], _∷_, _++_, append-nil}
 use lib.ListN.{length}
@@ -15,7 +14,7 @@ use Rattle.protocol.specs.TestsLaws.{cond-elim}
 use Rattle.protocol.specs.Frame.{proposal, dummyVote, blockVote, finalize, blockCertificate, dummyCertificate}
 use Rattle.protocol.specs.State.{State, at, decode, encode, flag, withHead}
 use Rattle.protocol.specs.Sound.{view}
-use Rattle.protocol.specs.View.{linked, digestAt}
+use Rattle.protocol.specs.View.{linked}
 use Rattle.protocol.specs.Answer.{accepted, Certificate, onBlock, onDummy, pass}
 use Rattle.protocol.specs.Move.{unused, written, dummyVoteStep, outputStep, newFinalized, passCertificate, passStep, someOr, parentBelow, proposedBlock, proposeStep, blockVoteStep}
 use Rattle.state.specs.Memo.{Readable}
@@ -63,17 +62,6 @@ module _ (s : State) (reply replyAfter : Bytes) (chosen : Bool) (c mask : ℕ) (
       replyAfter ≡ overFront (dummyCertificate c mask) reply → replyAfter ≡ overFront (certificateOn chosen s) reply
   unfolding certificateOn
   wrote-dummy e m r = r ∙ rw (e, m, c-is)
-
--- ---- the digest that a block names
-pub no-digest : (book : Bytes) (j : ℕ) → j ≡ 0 → zeros 32 ≡ digestAt sha256 (view (decode book)) j
-unfolding digestAt
-no-digest book zero e = refl
-no-digest book (suc j) e = absurd (omega arith)
-
-pub some-digest : (book : Bytes) (j : ℕ) → j ≢ 0 → sha256 (at (decode book) j .notarized) ≡ digestAt sha256 (view (decode book)) j
-unfolding digestAt view
-some-digest book zero e = absurd (e refl)
-some-digest book (suc j) e = refl
 
 -- ---- what is written
 one-written : (frame : Bytes) → join (frame ∷ []) ++ zeros 0 ≡ frame

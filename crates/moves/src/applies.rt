@@ -5,8 +5,7 @@ use state::links::Parent;
 ghost use mathlib.Core.Path.{_≡_};
 ghost use Prim.Native.Nat.{_≤_, _<_};
 ghost use Rattle.sha256.specs.Digest.{sha256 as sha};
-ghost use Rattle.protocol.specs.Bytes.{byteAt};
-ghost use Rattle.protocol.specs.State.{decode, flag as isFlagged};
+ghost use Rattle.protocol.specs.State.{decode, flag as isFlagged, bookHeights};
 ghost use Rattle.protocol.specs.Move.{isRunning, isSome, someOr, parentBelow, newFinalized, dummyVoteApplies, passApplies, proposeApplies, blockVoteApplies};
 ghost use Rattle.fields.specs.Ready.{Sized};
 ghost use Rattle.state.specs.Memo.{Memo};
@@ -161,7 +160,7 @@ pub fn block_vote_applies(book: &[u8], known: &mut [u8]) -> bool
 fn proposal_extends(book: &[u8], known: &mut [u8]) -> bool
     requires { ⌜ Movable (now book) ⌝ }
     requires { ⌜ Memo (now book) (now known) ⌝ }
-    requires { ⌜ decode (now book) .current ≤ byteAt (now book) 2 ⌝ }
+    requires { ⌜ decode (now book) .current ≤ bookHeights (now book) ⌝ }
     ensures answer { λ r. ⌜ r ≡ heldExtends sha (decode (now (book .entry))) ⌝ }
     ensures memo { λ _. ⌜ Memo (now (book .entry)) (now (known .exit)) ⌝ }
 {

@@ -64,7 +64,7 @@ pub fn make_move(book: &mut [u8], reply: &mut [u8]) -> Moved
     ensures book { λ _. ⌜ now (book .exit) ≡ moveCall sha (now (book .entry)) (now (reply .entry)) .book ⌝ }
     ensures reply { λ _. ⌜ now (reply .exit) ≡ moveCall sha (now (book .entry)) (now (reply .entry)) .reply ⌝ }
 {
-    let mut known = [0u8; 64];
+    let mut known = [0u8; state::memory::SIZE];
     if state::sound::sound(book, &mut known) {
         if 448 <= reply.len() {
             step(book, reply, &mut known)

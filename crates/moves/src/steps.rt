@@ -13,12 +13,11 @@ ghost use mathlib.Core.Bool.{true, not, cond};
 ghost use Prim.Native.Nat.{_≤_, _<_};
 ghost use lib.ListN.{length};
 ghost use Rattle.sha256.specs.Digest.{sha256 as sha};
-ghost use Rattle.protocol.specs.Bytes.{byteAt, zeros, overFront};
+ghost use Rattle.protocol.specs.Bytes.{zeros, overFront};
 ghost use Rattle.protocol.specs.BytesLaws.{put};
 ghost use Rattle.protocol.specs.Frame.{finalize, proposal as proposalFrame};
-ghost use Rattle.protocol.specs.State.{decode, encode, flag as isFlagged};
+ghost use Rattle.protocol.specs.State.{decode, encode, flag as isFlagged, bookHeights};
 ghost use Rattle.protocol.specs.Sound.{view};
-ghost use Rattle.protocol.specs.View.{digestAt};
 ghost use Rattle.protocol.specs.Answer.{accepted, output, onBlock, onDummy};
 ghost use Rattle.protocol.specs.Move.{dummyVoteStep, outputStep, passStep, proposedBlock, proposeStep, blockVoteStep, isRunning, newFinalized, parentBelow, isSome, someOr};
 ghost use Rattle.state.specs.Memo.{Memo};
@@ -67,7 +66,7 @@ fn in_time(book: &[u8]) -> bool
 // Costs 224 stores.
 fn write_pass_certificate(book: &[u8], reply: &mut [u8], linked: bool) -> Certificate
     requires { ⌜ Movable (now book) ⌝ }
-    requires { ⌜ decode (now book) .current ≤ byteAt (now book) 2 ⌝ }
+    requires { ⌜ decode (now book) .current ≤ bookHeights (now book) ⌝ }
     requires { ⌜ 448 ≤ length (now reply) ⌝ }
     ensures answer { λ r. ⌜ certificateOf r ≡ cond linked onBlock onDummy ⌝ }
     ensures reply { λ _. ⌜ now (reply .exit) ≡ overFront (certificateOn linked (decode (now (book .entry)))) (now (reply .entry)) ⌝ }
@@ -103,7 +102,7 @@ fn write_pass_finalize(book: &[u8], reply: &mut [u8], finalizes: bool)
 pub fn pass(book: &mut [u8], reply: &mut [u8], known: &mut [u8]) -> Moved
     requires { ⌜ Movable (now book) ⌝ }
     requires { ⌜ Memo (now book) (now known) ⌝ }
-    requires { ⌜ decode (now book) .current ≤ byteAt (now book) 2 ⌝ }
+    requires { ⌜ decode (now book) .current ≤ bookHeights (now book) ⌝ }
     requires { ⌜ 448 ≤ length (now reply) ⌝ }
     ensures { λ r. ⌜ Took (passStep sha (decode (now (book .entry)))) (now (reply .entry)) r (now (book .exit)) (now (reply .exit)) ⌝ }
 {
@@ -117,30 +116,18 @@ pub fn pass(book: &mut [u8], reply: &mut [u8], known: &mut [u8]) -> Moved
     Moved::Pass(c, certificate, finalizes)
 }
 
-// The digest that a block on the block of height `j` names: zeros for height 0. One digest.
-fn parent_digest(book: &[u8], j: usize) -> [u8; 32]
-    requires { ⌜ Movable (now book) ⌝ }
-    requires { ⌜ j ≤ byteAt (now book) 2 ⌝ }
-    ensures { λ r. ⌜ r ≡ digestAt sha (view (decode (now (book .entry)))) j ⌝ }
-{
-    if j == 0 {
-        [0u8; 32]
-    } else {
-        sha256::sha256(fields::height::notarized(book, j))
-    }
-}
-
 // Writes a proposal of a block on the block of height `j`: the frame first, and the block, with its entries, in its place.
-// Costs one digest, and a walk of the chain for each pending entry, 32 at most.
-fn write_proposal(book: &[u8], reply: &mut [u8], j: usize)
+// Costs one digest, if the memory keeps none, and a walk of the chain for each pending entry, 32 at most.
+fn write_proposal(book: &[u8], reply: &mut [u8], j: usize, known: &mut [u8])
     requires { ⌜ Movable (now book) ⌝ }
+    requires { ⌜ Memo (now book) (now known) ⌝ }
     requires { ⌜ Walkable (now book) j ⌝ }
     requires { ⌜ 448 ≤ length (now reply) ⌝ }
     ensures { λ _. ⌜ now (reply .exit) ≡ overFront (proposalFrame (decode (now (book .entry)) .own) (decode (now (book .entry)) .current) (proposedBlock sha (decode (now (book .entry))) j)) (now (reply .entry)) ⌝ }
 {
     let c = current(book);
     let signer = own(book);
-    let digest = parent_digest(book, j);
+    let digest = state::links::parent_digest(book, j, known);
     wire::frame::write_plain(reply, 1, signer, c, 0);
     state::entries::offer(book, c, j, &digest, &mut reply[48..224]);
 }
@@ -149,7 +136,7 @@ fn write_proposal(book: &[u8], reply: &mut [u8], j: usize)
 pub fn propose(book: &mut [u8], reply: &mut [u8], known: &mut [u8]) -> Moved
     requires { ⌜ Movable (now book) ⌝ }
     requires { ⌜ Memo (now book) (now known) ⌝ }
-    requires { ⌜ decode (now book) .current ≤ byteAt (now book) 2 ⌝ }
+    requires { ⌜ decode (now book) .current ≤ bookHeights (now book) ⌝ }
     requires { ⌜ isSome (parentBelow sha (decode (now book))) ≡ true ⌝ }
     requires { ⌜ 448 ≤ length (now reply) ⌝ }
     ensures { λ r. ⌜ Took (proposeStep sha (decode (now (book .entry)))) (now (reply .entry)) r (now (book .exit)) (now (reply .exit)) ⌝ }
@@ -158,7 +145,7 @@ pub fn propose(book: &mut [u8], reply: &mut [u8], known: &mut [u8]) -> Moved
     let seen = flags(book);
     let settled = finalized(book);
     let j = parent_below(book, known);
-    write_proposal(book, reply, j);
+    write_proposal(book, reply, j, known);
     set_head(book, seen + 8, c, settled);
     Moved::Offer(c)
 }
@@ -166,7 +153,7 @@ pub fn propose(book: &mut [u8], reply: &mut [u8], known: &mut [u8]) -> Moved
 // Move 5: votes for the held proposal by its digest. Costs one digest and 224 stores.
 pub fn cast_block_vote(book: &mut [u8], reply: &mut [u8]) -> Moved
     requires { ⌜ Movable (now book) ⌝ }
-    requires { ⌜ decode (now book) .current ≤ byteAt (now book) 2 ⌝ }
+    requires { ⌜ decode (now book) .current ≤ bookHeights (now book) ⌝ }
     requires { ⌜ 448 ≤ length (now reply) ⌝ }
     ensures { λ r. ⌜ Took (blockVoteStep sha (decode (now (book .entry)))) (now (reply .entry)) r (now (book .exit)) (now (reply .exit)) ⌝ }
 {

@@ -2,8 +2,8 @@
 use Prim.Native.Nat.{ℕ, suc, _+_, _*_, _^_, _≤_, _<_}
 use mathlib.Core.Path.{_≡_}
 use lib.ListN.{length, set}
-use Rattle.protocol.specs.Bytes.{Bytes, byteAt, le16}
-use Rattle.protocol.specs.State.{at, last, withHeight, encode, decode}
+use Rattle.protocol.specs.Bytes.{Bytes, le16}
+use Rattle.protocol.specs.State.{at, last, withHeight, encode, decode, bookHeights}
 use Rattle.protocol.specs.Deliver.{withProposal, withNotarized, withMasks, withVote}
 use Rattle.protocol.specs.BytesLaws.{put}
 use Rattle.protocol.specs.StateLaws.{ShapedHeight}
@@ -20,7 +20,7 @@ module _ (book : Bytes) (whole : encode (decode book) ≡ book) where
     book-pool j new h = rw whole at (write-pool (decode book) (decode-shaped book exact .pool-size) j new h)
 
     -- ---- height `suc i`
-    module _ (i : ℕ) (inside : i < byteAt book 2) where
+    module _ (i : ℕ) (inside : i < bookHeights book) where
       within : i < last (decode book)
       within = rw (last-decode book) inside
 
@@ -28,14 +28,14 @@ module _ (book : Bytes) (whole : encode (decode book) ≡ book) where
       fits = shaped-at (decode book) i (decode-shaped book exact) within
 
       pub book-proposal : (block : Bytes) → length block ≡ 176 →
-          put (set book (576 + 16 * i + 1) (at (decode book) (suc i) .status + 1)) (576 + 16 * byteAt book 2 + 864 * i) block ≡
+          put (set book (576 + 16 * i + 1) (at (decode book) (suc i) .status + 1)) (576 + 16 * bookHeights book + 864 * i) block ≡
           encode (withHeight (decode book) (suc i) (withProposal (at (decode book) (suc i)) block))
       book-proposal block e =
           rw (named-height book i whole, last-decode book) at
           (make-proposal (decode book) (decode-shaped book exact) i within (at (decode book) (suc i)) fits block e)
 
       pub book-notarized : (mask : ℕ) (block : Bytes) → length block ≡ 176 →
-          put (put (set book (576 + 16 * i + 1) (at (decode book) (suc i) .status + 2)) (576 + 16 * i + 2) (le16 mask)) (576 + 16 * byteAt book 2 + 864 * i + 176) block ≡
+          put (put (set book (576 + 16 * i + 1) (at (decode book) (suc i) .status + 2)) (576 + 16 * i + 2) (le16 mask)) (576 + 16 * bookHeights book + 864 * i + 176) block ≡
           encode (withHeight (decode book) (suc i) (withNotarized (at (decode book) (suc i)) mask block))
       book-notarized mask block e =
           rw (named-height book i whole, last-decode book) at
@@ -56,7 +56,7 @@ module _ (book : Bytes) (whole : encode (decode book) ≡ book) where
           (make-finalize-mask (decode book) (decode-shaped book exact) i within (at (decode book) (suc i)) fits mask)
 
       pub book-vote : (r : ℕ) (digest : Bytes) → r < 16 → length digest ≡ 32 →
-          put (put book (576 + 16 * i + 8) (le16 (at (decode book) (suc i) .voterMask + 2 ^ r))) (576 + 16 * byteAt book 2 + 864 * i + (352 + 32 * r)) digest ≡
+          put (put book (576 + 16 * i + 8) (le16 (at (decode book) (suc i) .voterMask + 2 ^ r))) (576 + 16 * bookHeights book + 864 * i + (352 + 32 * r)) digest ≡
           encode (withHeight (decode book) (suc i) (withVote (at (decode book) (suc i)) r digest))
       book-vote r digest h e =
           rw (named-height book i whole, last-decode book) at

@@ -9,7 +9,7 @@ use mathlib.Core.List.{_++_, map}
 use lib.ListN.{length, getD, take, drop, length-drop, take-append-drop, List·getD-eq-default}
 use lib.Seq.{take-all, take-add, drop-drop, length-take-le}
 use Rattle.protocol.specs.Bytes.{Bytes, byteAt, le16, part, zeros, join, pieces}
-use Rattle.protocol.specs.State.{State, noHeight, at, last, isNotarized, encode, decode, headBytes, contentBytes, bodyBytes, decodeHeight, decodeHeights}
+use Rattle.protocol.specs.State.{State, noHeight, at, last, isNotarized, encode, decode, headBytes, contentBytes, bodyBytes, decodeHeight, decodeHeights, bookHeights}
 use Rattle.protocol.specs.TestsLaws.{le-or-lt}
 use Rattle.protocol.specs.EveryLaws.{every-from}
 use Rattle.protocol.specs.BytesLaws.{AreBytes, are-bytes-take, are-bytes-drop, word-low, word-high, length-part, part-part, firsts, spell}
@@ -17,7 +17,7 @@ use Rattle.protocol.specs.StateLaws.{Shaped, ShapedHeight}
 
 -- the length is that of as many heights as byte 2 says
 abbrev pub Exact : Bytes → Type 0
-Exact book = length book ≡ 576 + 880 * byteAt book 2
+Exact book = length book ≡ 576 + 880 * bookHeights book
 
 -- ---- the heights of a book, from its contents and its bodies
 pub length-heights : (count : ℕ) (contents bodies : Bytes) → length (decodeHeights (pieces 16 count contents) (pieces 864 count bodies)) ≡ count
@@ -35,9 +35,9 @@ get-heights (suc count) contents bodies (suc i) h =
     let f : 864 + 864 * i ≡ 864 * suc i = omega arith in
     get-heights count (drop 16 contents) (drop 864 bodies) i (le-of-suc-le-suc h) ∙ rw (drop-drop (16 * i) 16 contents, drop-drop (864 * i) 864 bodies, e, f)
 
-pub last-decode : (book : Bytes) → last (decode book) ≡ byteAt book 2
+pub last-decode : (book : Bytes) → last (decode book) ≡ bookHeights book
 unfolding last decode
-last-decode book = length-heights (byteAt book 2) (drop 576 book) (drop (576 + 16 * byteAt book 2) book)
+last-decode book = length-heights (bookHeights book) (drop 576 book) (drop (576 + 16 * bookHeights book) book)
 
 -- height `suc i` stands at place `i` of the list
 pub at-suc : (s : State) (i : ℕ) → at s (suc i) ≡ getD (s .heights) i noHeight
@@ -58,11 +58,11 @@ unfolding part
 part-drop bytes from i k = rw drop-drop
 
 -- the bytes that height `suc i` is read from
-pub at-decode : (book : Bytes) (i : ℕ) → i < byteAt book 2 →
-    at (decode book) (suc i) ≡ decodeHeight (part book (576 + 16 * i) 16) (part book (576 + 16 * byteAt book 2 + 864 * i) 864)
+pub at-decode : (book : Bytes) (i : ℕ) → i < bookHeights book →
+    at (decode book) (suc i) ≡ decodeHeight (part book (576 + 16 * i) 16) (part book (576 + 16 * bookHeights book + 864 * i) 864)
 unfolding decode
 at-decode book i h =
-    at-suc (decode book) i ∙ get-heights (byteAt book 2) (drop 576 book) (drop (576 + 16 * byteAt book 2) book) i h ∙ rw (part-drop book 576 (16 * i) 16, part-drop book (576 + 16 * byteAt book 2) (864 * i) 864)
+    at-suc (decode book) i ∙ get-heights (bookHeights book) (drop 576 book) (drop (576 + 16 * bookHeights book) book) i h ∙ rw (part-drop book 576 (16 * i) 16, part-drop book (576 + 16 * bookHeights book) (864 * i) 864)
 
 -- ---- a book of the right length says a state of the right shape
 decode-height-shaped : (content body : Bytes) → length body ≡ 864 → ShapedHeight (decodeHeight content body)
@@ -84,16 +84,16 @@ decode-shaped book exact = record {
     pool-size : length (decode book .pool) ≡ 512
     pool-size = unfold decode in length-part book 64 512 (omega arith)
 
-    height-shaped : (i : ℕ) → i < byteAt book 2 → ShapedHeight (at (decode book) (suc i))
+    height-shaped : (i : ℕ) → i < bookHeights book → ShapedHeight (at (decode book) (suc i))
     height-shaped i h =
-        rw (at-decode book i h) (decode-height-shaped _ _ (length-part book (576 + 16 * byteAt book 2 + 864 * i) 864 (omega arith)))
+        rw (at-decode book i h) (decode-height-shaped _ _ (length-part book (576 + 16 * bookHeights book + 864 * i) 864 (omega arith)))
 
 -- ---- a book whose bytes called zero are zero is the bytes of its state
 pub record Clean (book : Bytes) : Type 0 where
   pub size : Exact book
   pub edition-byte : byteAt book 7 ≡ 1
   pub head-zeros : part book 8 56 ≡ zeros 56
-  pub content-zeros : (i : ℕ) → i < byteAt book 2 → part book (576 + 16 * i + 10) 6 ≡ zeros 6
+  pub content-zeros : (i : ℕ) → i < bookHeights book → part book (576 + 16 * i + 10) 6 ≡ zeros 6
 
 content-back : (content body : Bytes) → length content ≡ 16 → AreBytes content → part content 10 6 ≡ zeros 6 → contentBytes (decodeHeight content body) ≡ content
 unfolding contentBytes decodeHeight le16 part
@@ -143,31 +143,31 @@ bodies-back (suc count) contents bodies h =
 head-back : (book : Bytes) → Clean book → headBytes (decode book) ≡ take 64 book
 unfolding headBytes decode
 head-back book clean =
-    let size : length book ≡ 576 + 880 * byteAt book 2 = clean .size in
+    let size : length book ≡ 576 + 880 * bookHeights book = clean .size in
     let e : take 64 book ≡ firsts 8 0 book ++ take 56 (drop 8 book) = ap (λ (l : Bytes). take 64 l) (spell 8 0 book (omega arith)) in
     let z : take 56 (drop 8 book) ≡ zeros 56 = unfold part in clean .head-zeros in
-    let h = length-heights (byteAt book 2) (drop 576 book) (drop (576 + 16 * byteAt book 2) book) in
+    let h = length-heights (bookHeights book) (drop 576 book) (drop (576 + 16 * bookHeights book) book) in
     cc (clean .edition-byte)
 
 module _ (book : Bytes) (small : AreBytes book) (clean : Clean book) where
-  from-bodies : join (map bodyBytes (decode book .heights)) ≡ drop (576 + 16 * byteAt book 2) book
+  from-bodies : join (map bodyBytes (decode book .heights)) ≡ drop (576 + 16 * bookHeights book) book
   unfolding decode
   from-bodies =
-      let size : length book ≡ 576 + 880 * byteAt book 2 = clean .size in
-      bodies-back (byteAt book 2) (drop 576 book) (drop (576 + 16 * byteAt book 2) book) (rw length-drop (omega arith))
-      ∙ take-all (864 * byteAt book 2) (drop (576 + 16 * byteAt book 2) book) (rw length-drop (omega arith))
+      let size : length book ≡ 576 + 880 * bookHeights book = clean .size in
+      bodies-back (bookHeights book) (drop 576 book) (drop (576 + 16 * bookHeights book) book) (rw length-drop (omega arith))
+      ∙ take-all (864 * bookHeights book) (drop (576 + 16 * bookHeights book) book) (rw length-drop (omega arith))
 
   from-contents : join (map contentBytes (decode book .heights)) ++ join (map bodyBytes (decode book .heights)) ≡ drop 576 book
   unfolding decode
   from-contents =
-      let size : length book ≡ 576 + 880 * byteAt book 2 = clean .size in
+      let size : length book ≡ 576 + 880 * bookHeights book = clean .size in
       rw (
         from-bodies,
-        contents-back (byteAt book 2) (drop 576 book) (drop (576 + 16 * byteAt book 2) book) (rw length-drop (omega arith)) (are-bytes-drop 576 book small)
+        contents-back (bookHeights book) (drop 576 book) (drop (576 + 16 * bookHeights book) book) (rw length-drop (omega arith)) (are-bytes-drop 576 book small)
             (λ i l. part-drop book 576 (16 * i + 10) 6 ∙ rw (← add-assoc 576 (16 * i) 10) (clean .content-zeros i l)),
-        ← drop-drop (16 * byteAt book 2) 576 book,
+        ← drop-drop (16 * bookHeights book) 576 book,
       )
-      (take-append-drop (16 * byteAt book 2) (drop 576 book))
+      (take-append-drop (16 * bookHeights book) (drop 576 book))
 
   from-pool : decode book .pool ++ drop 576 book ≡ drop 64 book
   unfolding decode part

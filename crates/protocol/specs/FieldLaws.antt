@@ -4,7 +4,7 @@ use native.Mathlib.Omega.{arith}
 use native.Mathlib.Nat.{add-zero}
 use mathlib.Core.Path.{_≡_, refl, sym, _∙_}
 use Rattle.protocol.specs.Bytes.{Bytes, byteAt, word16, part}
-use Rattle.protocol.specs.State.{at, decode, decodeHeight, voteOf}
+use Rattle.protocol.specs.State.{at, decode, decodeHeight, voteOf, bookHeights}
 use Rattle.protocol.specs.BytesLaws.{byte-part, word-part, part-part}
 use Rattle.protocol.specs.CodecLaws.{at-decode}
 
@@ -40,7 +40,7 @@ unfolding decode
 read-entry book k h = sym (part-part book 64 512 (16 * k) 16 (omega arith))
 
 -- ---- one height
-module _ (book : Bytes) (i : ℕ) (inside : i < byteAt book 2) where
+module _ (book : Bytes) (i : ℕ) (inside : i < bookHeights book) where
   -- a byte and a 16-bit number of its contents, and a part of its body
   content-byte-of : (j : ℕ) → j < 16 → byteAt book (576 + 16 * i + j) ≡ byteAt (part book (576 + 16 * i) 16) j
   content-byte-of j h = sym (byte-part book (576 + 16 * i) 16 j h)
@@ -49,8 +49,8 @@ module _ (book : Bytes) (i : ℕ) (inside : i < byteAt book 2) where
   content-word-of j h = sym (word-part book (576 + 16 * i) 16 j h)
 
   body-part-of : (j k : ℕ) → j + k ≤ 864 →
-      part book (576 + 16 * byteAt book 2 + 864 * i + j) k ≡ part (part book (576 + 16 * byteAt book 2 + 864 * i) 864) j k
-  body-part-of j k h = sym (part-part book (576 + 16 * byteAt book 2 + 864 * i) 864 j k h)
+      part book (576 + 16 * bookHeights book + 864 * i + j) k ≡ part (part book (576 + 16 * bookHeights book + 864 * i) 864) j k
+  body-part-of j k h = sym (part-part book (576 + 16 * bookHeights book + 864 * i) 864 j k h)
 
   pub read-leader : byteAt book (576 + 16 * i) ≡ at (decode book) (suc i) .leader
   unfolding decodeHeight
@@ -76,20 +76,20 @@ module _ (book : Bytes) (i : ℕ) (inside : i < byteAt book 2) where
   unfolding decodeHeight
   read-voter-mask = rw (at-decode book i inside) (content-word-of 8 (omega arith))
 
-  pub read-proposal : part book (576 + 16 * byteAt book 2 + 864 * i) 176 ≡ at (decode book) (suc i) .proposal
+  pub read-proposal : part book (576 + 16 * bookHeights book + 864 * i) 176 ≡ at (decode book) (suc i) .proposal
   unfolding decodeHeight
   read-proposal = rw (at-decode book i inside) (rw add-zero at (body-part-of 0 176 (omega arith)))
 
-  pub read-notarized : part book (576 + 16 * byteAt book 2 + 864 * i + 176) 176 ≡ at (decode book) (suc i) .notarized
+  pub read-notarized : part book (576 + 16 * bookHeights book + 864 * i + 176) 176 ≡ at (decode book) (suc i) .notarized
   unfolding decodeHeight
   read-notarized = rw (at-decode book i inside) (body-part-of 176 176 (omega arith))
 
-  pub read-vote-digests : part book (576 + 16 * byteAt book 2 + 864 * i + 352) 512 ≡ at (decode book) (suc i) .voteDigests
+  pub read-vote-digests : part book (576 + 16 * bookHeights book + 864 * i + 352) 512 ≡ at (decode book) (suc i) .voteDigests
   unfolding decodeHeight
   read-vote-digests = rw (at-decode book i inside) (body-part-of 352 512 (omega arith))
 
   -- the digest that replica `r` voted for
-  pub read-vote : (r : ℕ) → r < 16 → part book (576 + 16 * byteAt book 2 + 864 * i + 352 + 32 * r) 32 ≡ voteOf (at (decode book) (suc i)) r
+  pub read-vote : (r : ℕ) → r < 16 → part book (576 + 16 * bookHeights book + 864 * i + 352 + 32 * r) 32 ≡ voteOf (at (decode book) (suc i)) r
   unfolding voteOf
   read-vote r h =
-      sym (part-part book (576 + 16 * byteAt book 2 + 864 * i + 352) 512 (32 * r) 32 (omega arith)) ∙ rw read-vote-digests
+      sym (part-part book (576 + 16 * bookHeights book + 864 * i + 352) 512 (32 * r) 32 (omega arith)) ∙ rw read-vote-digests

@@ -6,7 +6,7 @@ use mathlib.Core.Path.{_≡_, refl, sym}
 use mathlib.Core.Bool.{true}
 use lib.ListN.{length}
 use Rattle.protocol.specs.Bytes.{Bytes, byteAt}
-use Rattle.protocol.specs.State.{State, Height, at, last, decode, encode}
+use Rattle.protocol.specs.State.{State, Height, at, last, decode, encode, bookHeights}
 use Rattle.protocol.specs.Sound.{view, sound}
 use Rattle.protocol.specs.BytesLaws.{AreBytes}
 use Rattle.protocol.specs.CodecLaws.{Clean, last-decode}
@@ -46,7 +46,7 @@ pub record Granted (digest : Bytes → Bytes) (book : Bytes) : Type 0 where
   -- the head's bytes
   pub n-byte : byteAt book 0 ≡ decode book .n
   pub own-byte : byteAt book 1 ≡ decode book .own
-  pub last-byte : byteAt book 2 ≡ last (decode book)
+  pub last-byte : bookHeights book ≡ last (decode book)
   pub flags-byte : byteAt book 3 ≡ decode book .flags
   pub current-byte : byteAt book 4 ≡ decode book .current
   pub finalized-byte : byteAt book 5 ≡ decode book .finalized

@@ -6,7 +6,7 @@ use mathlib.Core.List.{List, _++_, map, append-assoc}
 use lib.ListN.{length, take, drop, set, length-append, length-map, length-set, length-drop}
 use lib.Seq.{set-getD, set-set, getD-set-same, getD-set-other, length-take-le}
 use Rattle.protocol.specs.Bytes.{Bytes, byteAt, le16, part, zeros, join}
-use Rattle.protocol.specs.State.{State, Height, noHeight, at, last, withHeight, encode, headBytes, contentBytes, bodyBytes}
+use Rattle.protocol.specs.State.{State, Height, noHeight, at, last, withHeight, encode, headBytes, contentBytes, bodyBytes, bookHeights}
 use Rattle.protocol.specs.EveryLaws.{Every, every-set, every-at, every-take}
 use Rattle.protocol.specs.BytesLaws.{put, middle-part, middle-set, middle-put}
 use Rattle.protocol.specs.StateLaws.{Shaped, ShapedHeight, content-size, body-size, contents-sized, bodies-sized}
@@ -162,7 +162,7 @@ content-zeros : (x : Height) → part (contentBytes x) 10 6 ≡ zeros 6
 unfolding contentBytes le16 part zeros
 content-zeros x = refl
 
-pub count-encode : (s : State) → byteAt (encode s) 2 ≡ last s
+pub count-encode : (s : State) → bookHeights (encode s) ≡ last s
 unfolding encode headBytes last
 count-encode s = refl
 

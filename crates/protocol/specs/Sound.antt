@@ -8,7 +8,7 @@ use Rattle.protocol.specs.Bytes.{Bytes, byteAt, part, isZero}
 use Rattle.protocol.specs.Tests.{allOf, implies, inRange, everyHeight}
 use Rattle.protocol.specs.Block.{maximumHeights, blockWellFormed}
 use Rattle.protocol.specs.Mask.{belowBit}
-use Rattle.protocol.specs.State.{State, Height, at, decode, edition, bookSize, holdsProposal, isNotarized}
+use Rattle.protocol.specs.State.{State, Height, at, decode, edition, bookSize, holdsProposal, isNotarized, bookHeights}
 use Rattle.protocol.specs.View.{View, quorum, isFinalized, logOf}
 
 unfoldable pub view : State → View
@@ -47,7 +47,7 @@ module _ (digest : Bytes → Bytes) where
   unfoldable pub sound : Bytes → Bool
   sound book =
       let s : State = decode book in
-      let heights : ℕ = byteAt book 2 in
+      let heights : ℕ = bookHeights book in
       allOf
       (eqb (length book) (bookSize heights) ∷
       inRange 1 16 (s .n) ∷

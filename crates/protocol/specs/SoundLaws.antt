@@ -11,7 +11,7 @@ use Rattle.protocol.specs.Bytes.{Bytes, byteAt, part, isZero}
 use Rattle.protocol.specs.Tests.{implies}
 use Rattle.protocol.specs.Block.{blockWellFormed}
 use Rattle.protocol.specs.Mask.{belowBit}
-use Rattle.protocol.specs.State.{State, Height, at, last, decode, encode, bookSize, holdsProposal, isNotarized}
+use Rattle.protocol.specs.State.{State, Height, at, last, decode, encode, bookSize, holdsProposal, isNotarized, bookHeights}
 use Rattle.protocol.specs.View.{View, quorum, extendsOver, linkedWithin, linked, isFinalized}
 use Rattle.protocol.specs.Sound.{view, masksBelow, blocksWellFormed, contentZeros, sound}
 use Rattle.protocol.specs.EveryLaws.{none, one}
@@ -113,7 +113,7 @@ module _ (digest : Bytes → Bytes) where
   -- ---- a sound book, row by row
   module _ (book : Bytes) (e : sound digest book ≡ true) where
     abbrev H : ℕ
-    H = byteAt book 2
+    H = bookHeights book
 
     abbrev S : State
     S = decode book
@@ -204,14 +204,14 @@ module _ (digest : Bytes → Bytes) where
     abbrev D : State
     D = decode book
 
-    height-of : (h : ℕ) → 1 ≤ h → h ≤ byteAt book 2 → SoundHeight (view D) h (at D h)
+    height-of : (h : ℕ) → 1 ≤ h → h ≤ bookHeights book → SoundHeight (view D) h (at D h)
     height-of h low high = facts .each h low (rw (last-decode book) high)
 
-    size-row : eqb (length book) (bookSize (byteAt book 2)) ≡ true
+    size-row : eqb (length book) (bookSize (bookHeights book)) ≡ true
     unfolding bookSize
     size-row = eq-eqb _ _ (clean .size)
 
-    zeros-row : (h : ℕ) → 1 ≤ h → h ≤ byteAt book 2 → isZero (contentZeros book h) ≡ true
+    zeros-row : (h : ℕ) → 1 ≤ h → h ≤ bookHeights book → isZero (contentZeros book h) ≡ true
     unfolding contentZeros
     zeros-row h low high = rw (clean .content-zeros (h - 1) (omega arith)) (zeros-is-zero 6)
 

@@ -51,6 +51,10 @@ edition = 1
 unfoldable pub bookSize : ℕ → ℕ
 bookSize heights = 576 + 880 * heights
 
+-- H, as a book's bytes say it
+abbrev pub bookHeights : Bytes → ℕ
+bookHeights book = byteAt book 2
+
 -- ---- a state's bytes
 unfoldable pub headBytes : State → Bytes
 headBytes s =
@@ -90,7 +94,7 @@ decodeHeights (content ∷ contents) (body ∷ bodies) = decodeHeight content bo
 
 unfoldable pub decode : Bytes → State
 decode book =
-    let heights : ℕ = byteAt book 2 in
+    let heights : ℕ = bookHeights book in
     record {
       n = byteAt book 0;
       own = byteAt book 1;

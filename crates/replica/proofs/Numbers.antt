@@ -7,9 +7,9 @@ use mathlib.Core.Bool.{Bool, true, false, _&&_, _||_, not, true≢false, and-tru
 use lib.ListN.{length, getD}
 use lib.Dec.{eqb, leb, ltb}
 use borrow.Author.Tests.{lt-ltb, le-ltb, ltb-true, eqb-true, eq-eqb, ne-eqb}
-use Rattle.protocol.specs.Bytes.{Bytes, byteAt, all}
+use Rattle.protocol.specs.Bytes.{Bytes, all}
 use Rattle.protocol.specs.Tests.{allOf, inRange}
-use Rattle.protocol.specs.State.{State, decode, encode, last, flag, pending, withHead, withTimerFired, bookSize}
+use Rattle.protocol.specs.State.{State, decode, encode, last, flag, pending, withHead, withTimerFired, bookSize, bookHeights}
 use Rattle.protocol.specs.Sound.{log}
 use Rattle.protocol.specs.Submit.{stillPending}
 use Rattle.protocol.specs.EntriesLaws.{pending-length}
@@ -19,7 +19,7 @@ use Rattle.protocol.specs.Frame.{isCertificate}
 use Rattle.protocol.specs.CodecLaws.{last-decode}
 use Rattle.protocol.specs.RowLaws.{not-passed, row, in-range, all-at, at-all}
 
-pub in-book : (book : Bytes) (h heights : ℕ) → heights ≡ byteAt book 2 → (leb 1 h && leb h heights) ≡ inRange 1 (last (decode book)) h
+pub in-book : (book : Bytes) (h heights : ℕ) → heights ≡ bookHeights book → (leb 1 h && leb h heights) ≡ inRange 1 (last (decode book)) h
 unfolding inRange
 in-book book h heights e = rw (e, last-decode book)
 

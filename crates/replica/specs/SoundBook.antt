@@ -3,8 +3,8 @@ use Prim.Native.Nat.{_≤_, _<_}
 use mathlib.Core.Path.{_≡_}
 use mathlib.Core.Bool.{true}
 use Rattle.sha256.specs.Digest.{sha256}
-use Rattle.protocol.specs.Bytes.{Bytes, byteAt}
-use Rattle.protocol.specs.State.{decode}
+use Rattle.protocol.specs.Bytes.{Bytes}
+use Rattle.protocol.specs.State.{decode, bookHeights}
 use Rattle.protocol.specs.Sound.{sound}
 use Rattle.fields.specs.Ready.{Sized, Ready}
 use Rattle.state.specs.Memo.{Readable}
@@ -18,5 +18,5 @@ pub record SoundBook (book : Bytes) : Type 0 where
   pub replicas : decode book .n ≤ 16
   pub flags : decode book .flags < 16
   pub current : decode book .current ≤ 64
-  pub finalized : decode book .finalized ≤ byteAt book 2
+  pub finalized : decode book .finalized ≤ bookHeights book
   pub pending : decode book .pendingCount ≤ 32

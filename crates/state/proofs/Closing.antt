@@ -5,10 +5,10 @@ use mathlib.Core.Path.{_≡_, refl, sym, ap, subst, _∙_}
 use mathlib.Core.Bool.{true}
 use mathlib.Core.List.{List, [], _∷_, _++_}
 use lib.ListN.{length, take, length-take}
-use Rattle.protocol.specs.Bytes.{Bytes, byteAt, part, pieces}
+use Rattle.protocol.specs.Bytes.{Bytes, part, pieces}
 use Rattle.protocol.specs.BytesLaws.{put}
 use Rattle.protocol.specs.Block.{blockWellFormed}
-use Rattle.protocol.specs.State.{State, decode, encode, last, pending}
+use Rattle.protocol.specs.State.{State, decode, encode, last, pending, bookHeights}
 use Rattle.protocol.specs.Sound.{view, log}
 use Rattle.protocol.specs.View.{View, linked, logAt}
 use Rattle.protocol.specs.Move.{without}
@@ -65,7 +65,7 @@ module _ (book : Bytes) (r : Ready book) (few : decode book .pendingCount ≤ 32
     pub closed-view : view (decode after) ≡ view (decode book)
     closed-view = ap view closed-state ∙ moved-view (decode book) es
 
-    closed-heights : byteAt after 2 ≡ byteAt book 2
+    closed-heights : bookHeights after ≡ bookHeights book
     closed-heights = sym (closed-ready .count) ∙ ap last closed-state ∙ moved-last (decode book) es ∙ r .count
 
     pub closed-length : length after ≡ length book

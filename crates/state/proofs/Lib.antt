@@ -1,3 +1,4 @@
+pub mod Stores
 pub mod Walk
 pub mod SoundTests
 pub mod ChainWalk

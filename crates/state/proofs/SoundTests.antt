@@ -2,9 +2,9 @@
 use Prim.Native.Nat.{ℕ, suc, _+_, _-_, _*_, _<_}
 use native.Mathlib.Omega.{arith}
 use native.Mathlib.Numerals.{add-one}
-use mathlib.Core.Path.{_≡_, sym, _∙_}
+use mathlib.Core.Path.{_≡_, refl, sym, _∙_}
 use mathlib.Core.Logic.{_≢_}
-use mathlib.Core.Bool.{Bool, true, false, _&&_, and-true}
+use mathlib.Core.Bool.{Bool, true, false, _&&_, and-true, true≢false}
 use lib.ListN.{length, take, drop}
 use lib.Dec.{eqb, leb, ltb}
 use borrow.Author.Tests.{eq-eqb, ne-eqb}
@@ -12,13 +12,13 @@ use Rattle.protocol.specs.Bytes.{Bytes, byteAt, part, isZero}
 use Rattle.protocol.specs.Tests.{allOf, implies, inRange, everyHeight}
 use Rattle.protocol.specs.Block.{blockWellFormed}
 use Rattle.protocol.specs.Mask.{belowBit}
-use Rattle.protocol.specs.State.{Height, at, decode, bookSize, holdsProposal, isNotarized}
+use Rattle.protocol.specs.State.{Height, at, decode, bookSize, holdsProposal, isNotarized, bookHeights}
 use Rattle.protocol.specs.View.{quorum, isFinalized}
 use Rattle.protocol.specs.Sound.{view, masksBelow, blocksWellFormed, contentZeros, sound}
-use Rattle.protocol.specs.RowLaws.{true-and, row-fails}
+use Rattle.protocol.specs.RowLaws.{row, true-and, row-fails}
 use Rattle.protocol.specs.CodecLaws.{last-decode}
 use Rattle.protocol.specs.SoundLaws.{not-finalized-past}
-use Rattle.state.specs.SoundRows.{numberRows, headRows, heightRows, finalRow}
+use Rattle.state.specs.SoundRows.{numberRows, headRows, heightRows, bookRows, finalRow}
 use Rattle.state.specs.SoundRowsLaws.{sound-is}
 
 -- ---- the head
@@ -26,20 +26,20 @@ module _ (book : Bytes) where
   pub numbers-are :
       ((leb 1 (byteAt book 0) && leb (byteAt book 0) 16) &&
       (ltb (byteAt book 1) (byteAt book 0) &&
-      ((leb 1 (byteAt book 2) && leb (byteAt book 2) 63) &&
+      ((leb 1 (bookHeights book) && leb (bookHeights book) 63) &&
       (eqb (byteAt book 7) 1 &&
-      ((leb 1 (byteAt book 4) && leb (byteAt book 4) (byteAt book 2 + 1)) &&
+      ((leb 1 (byteAt book 4) && leb (byteAt book 4) (bookHeights book + 1)) &&
       (ltb (byteAt book 3) 16 && leb (byteAt book 6) 32)))))) ≡ allOf (numberRows book)
   unfolding numberRows decode inRange allOf
   numbers-are = simp and-true
 
-  pub head-are : (eqb (length book) (576 + 880 * byteAt book 2) && (allOf (numberRows book) && isZero (part book 8 56))) ≡ allOf (headRows book)
+  pub head-are : (eqb (length book) (576 + 880 * bookHeights book) && (allOf (numberRows book) && isZero (part book 8 56))) ≡ allOf (headRows book)
   unfolding headRows bookSize allOf
   head-are = simp and-true
 
   pub head-short : length book < 576 → allOf (headRows book) ≡ false
   unfolding headRows bookSize
-  head-short short = row-fails _ 0 (ne-eqb (length book) (576 + 880 * byteAt book 2) (λ e. omega arith))
+  head-short short = row-fails _ 0 (ne-eqb (length book) (576 + 880 * bookHeights book) (λ e. omega arith))
 
 -- ---- masks
 pub masks-are : (n : ℕ) (x : Height) →
@@ -89,18 +89,37 @@ module _ (digest : Bytes → Bytes) (book : Bytes) where
   unfolding finalRow
   final-some f = rw (ne-eqb (decode book .finalized) 0 f)
 
-  pub final-past : decode book .finalized ≢ 0 → byteAt book 2 < decode book .finalized → finalRow digest book ≡ false
+  pub final-past : decode book .finalized ≢ 0 → bookHeights book < decode book .finalized → finalRow digest book ≡ false
   final-past f past = final-some f ∙ not-finalized-past digest (decode book) (decode book .finalized) (rw (last-decode book) past)
 
   -- ---- the three groups
   abbrev every : Bool
-  every = everyHeight (λ h. allOf (heightRows book h)) (byteAt book 2)
+  every = everyHeight (λ h. allOf (heightRows book h)) (bookHeights book)
 
-  pub sound-final : allOf (headRows book) ≡ true → every ≡ true → finalRow digest book ≡ sound digest book
-  sound-final head heights = sym (sound-is digest book ∙ rw (head, heights))
+  pub rows-by-heights : allOf (headRows book) ≡ true → every ≡ allOf (bookRows book)
+  unfolding bookRows allOf
+  rows-by-heights head = rw head (sym (and-true every))
 
-  pub not-sound-heights : allOf (headRows book) ≡ true → every ≡ false → false ≡ sound digest book
-  not-sound-heights head heights = sym (sound-is digest book ∙ rw (head, heights))
+  pub rows-not-head : allOf (headRows book) ≡ false → false ≡ allOf (bookRows book)
+  unfolding bookRows allOf
+  rows-not-head head = rw head
 
-  pub not-sound-head : allOf (headRows book) ≡ false → false ≡ sound digest book
-  not-sound-head head = sym (sound-is digest book ∙ rw head)
+  pub rows-head : allOf (bookRows book) ≡ true → allOf (headRows book) ≡ true
+  unfolding bookRows
+  rows-head rows = row _ 0 rows
+
+  pub sound-final : allOf (bookRows book) ≡ true → finalRow digest book ≡ sound digest book
+  unfolding bookRows
+  sound-final rows =
+      let head : allOf (headRows book) ≡ true = row _ 0 rows in
+      let heights : every ≡ true = row _ 1 rows in
+      sym (sound-is digest book ∙ rw (head, heights))
+
+  pub not-sound-rows : allOf (bookRows book) ≡ false → false ≡ sound digest book
+  unfolding bookRows allOf
+  not-sound-rows rows = sym (sound-is digest book ∙ neither (allOf (headRows book)) every (finalRow digest book) rows)
+    where
+      neither : (a b c : Bool) → (a && (b && true)) ≡ false → (a && (b && c)) ≡ false
+      neither true true c e = absurd (true≢false e)
+      neither true false c e = refl
+      neither false b c e = refl

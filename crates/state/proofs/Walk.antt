@@ -1,46 +1,50 @@
--- What the walk over parent heights relies on: a zero digest, a block's test by its parts, and what a memory of heights knows.
-use Prim.Native.Nat.{ℕ, zero, suc, _-_, _≤_, _<_}
+-- What the walk over parent heights relies on: the digest that a block names, and a block's test by its parts.
+use Prim.Native.Nat.{ℕ, zero, suc, _+_, _-_, _*_, _≤_}
 use native.Mathlib.Omega.{arith}
 use mathlib.Core.Path.{_≡_, refl, sym, ap, subst, _∙_}
 use mathlib.Core.Logic.{_≢_}
 use mathlib.Core.Bool.{Bool, true, false, _&&_, and-true, and-false}
 use mathlib.Core.List.{[], _∷_}
 use mathlib.Core.Option.{some, none}
-use lib.ListN.{length, take, drop, set, length-set}
-use lib.Dec.{eqb, ltb}
-use lib.Seq.{getD-set-same, getD-set-other}
-use borrow.Author.Tests.{eqb-false, eqb-true}
-use Rattle.protocol.specs.Bytes.{Bytes, byteAt, part, zeros, all, isZero, same}
+use lib.ListN.{length, take, drop}
+use lib.Dec.{ltb}
+use Rattle.protocol.specs.Bytes.{Bytes, byteAt, part, zeros, same}
 use Rattle.protocol.specs.Block.{parentHeight, parentDigest}
 use Rattle.protocol.specs.State.{decode, at, isNotarized}
 use Rattle.protocol.specs.Tests.{allOf}
 use Rattle.protocol.specs.View.{View, quorum, isDummy, digestAt, linked, extends, extendsOver, dummyRun, isFinalized, largestFinalized, parentOf}
-use Rattle.protocol.specs.BytesLaws.{length-part}
+use Rattle.protocol.specs.BytesLaws.{length-part, put, put-all}
+use Rattle.protocol.specs.PlaceLaws.{suc-pred}
 use Rattle.protocol.specs.LinkedLaws.{linked-suc, linked-zero}
 use Rattle.protocol.specs.Sound.{view}
 use Rattle.sha256.specs.Digest.{sha256}
 use Rattle.fields.specs.Ready.{Within}
 use Rattle.fields.proofs.Places.{notarized-size as block-size}
-use Rattle.state.specs.Memo.{Memo, Readable}
+use Rattle.state.specs.Memo.{Readable}
 
-same-zeros : (k : ℕ) (x : Bytes) → length x ≡ k → same x (zeros k) ≡ isZero x
-unfolding same isZero all zeros
-same-zeros zero [] e = refl
-same-zeros zero (y ∷ ys) e = absurd (omega arith)
-same-zeros (suc k) [] e = absurd (omega arith)
-same-zeros (suc k) (y ∷ ys) e = ap (λ (b : Bool). eqb y 0 && b) (same-zeros k ys (omega arith))
+-- ---- the digest that a block names
+pub digest-start : (v : View) (j : ℕ) → j ≡ 0 → zeros 32 ≡ digestAt sha256 v j
+unfolding digestAt
+digest-start v zero e = refl
+digest-start v (suc j) e = absurd (omega arith)
 
--- the parent digest of a block whose parent height is 0 is tested for zeros
-pub names-start : (v : View) (block : Bytes) (j : ℕ) → length block ≡ 176 → j ≡ 0 → isZero (take 32 (drop 16 block)) ≡ same (parentDigest block) (digestAt sha256 v j)
-unfolding parentDigest part digestAt
-names-start v block zero size e = sym (same-zeros 32 (take 32 (drop 16 block)) (unfold part in length-part block 16 32 (omega arith)))
-names-start v block (suc j) size e = absurd (omega arith)
+digest-block : (book : Bytes) (j : ℕ) → j ≢ 0 → sha256 (at (decode book) j .notarized) ≡ digestAt sha256 (view (decode book)) j
+unfolding digestAt view
+digest-block book zero no-zero = absurd (no-zero refl)
+digest-block book (suc j) no-zero = refl
 
--- and else held against the digest of the block there
-pub names-block : (book block : Bytes) (j : ℕ) → j ≢ 0 → same (take 32 (drop 16 block)) (sha256 (at (decode book) j .notarized)) ≡ same (parentDigest block) (digestAt sha256 (view (decode book)) j)
-unfolding parentDigest part digestAt view
-names-block book block zero no-zero = absurd (no-zero refl)
-names-block book block (suc j) no-zero = refl
+-- the digest that a memory keeps, copied over 32 bytes
+pub digest-copied : (book known old : Bytes) (j count : ℕ) → j ≢ 0 → count ≡ 32 → length old ≡ 32 → 192 + 32 * j + 32 ≤ length known →
+    part known (192 + 32 * j) 32 ≡ sha256 (at (decode book) j .notarized) → put old 0 (take count (drop (192 + 32 * j) known)) ≡ digestAt sha256 (view (decode book)) j
+unfolding part
+digest-copied book known old j count no-zero whole size fits kept =
+    ap (λ (k : ℕ). put old 0 (take k (drop (192 + 32 * j) known))) whole
+    ∙ put-all old (take 32 (drop (192 + 32 * j) known)) (size ∙ sym (unfold part in length-part known (192 + 32 * j) 32 fits))
+    ∙ kept ∙ digest-block book j no-zero
+
+pub names-digest : (block digest : Bytes) → same (take 32 (drop 16 block)) digest ≡ same (parentDigest block) digest
+unfolding parentDigest part
+names-digest block digest = refl
 
 -- ---- the rows of a block that extends
 module _ (v : View) (h j : ℕ) (block : Bytes) (names : parentHeight block ≡ j) where
@@ -93,35 +97,6 @@ names-parent-height block = refl
 
 pub notarized-size : (book : Bytes) (h : ℕ) → Readable book → Within book h → length (at (decode book) h .notarized) ≡ 176
 notarized-size book h r w = block-size book h (r .sized .size) w
-
--- ---- the memory
-module _ (book known : Bytes) (memo : Memo book known) (h : ℕ) (inside : h < 64) where
-  -- what is known of the other heights stays, and `mark` is known of height `h`
-  keep-memo : (mark : ℕ) → (mark ≡ 1 → linked sha256 (view (decode book)) h ≡ true) → (mark ≡ 2 → linked sha256 (view (decode book)) h ≡ false) → Memo book (set known h mark)
-  keep-memo mark yes′ no′ = record {
-    size = length-set known h mark ∙ memo .size;
-    is-linked = λ k q. pick k true 1 yes′ (memo .is-linked k) q;
-    not-linked = λ k q. pick k false 2 no′ (memo .not-linked k) q;
-  }
-    where
-      here : byteAt (set known h mark) h ≡ mark
-      here = getD-set-same known h mark 0 (let e = memo .size in omega arith)
-
-      pick : (k : ℕ) (answer : Bool) (value : ℕ) → (mark ≡ value → linked sha256 (view (decode book)) h ≡ answer) →
-          (byteAt known k ≡ value → linked sha256 (view (decode book)) k ≡ answer) → byteAt (set known h mark) k ≡ value → linked sha256 (view (decode book)) k ≡ answer
-      pick k answer value at-h elsewhere q = go (eqb k h) refl
-        where
-          go : (b : Bool) → eqb k h ≡ b → linked sha256 (view (decode book)) k ≡ answer
-          go true e =
-              let same-height : k ≡ h = eqb-true k h e in
-              rw same-height (at-h (sym here ∙ subst (λ (i : ℕ). byteAt (set known h mark) i ≡ value) same-height q))
-          go false e = elsewhere (sym (getD-set-other known h k mark 0 (eqb-false k h e)) ∙ q)
-
-  pub remember-linked : linked sha256 (view (decode book)) h ≡ true → Memo book (set known h 1)
-  remember-linked e = keep-memo 1 (λ q. e) (λ q. absurd (omega arith))
-
-  pub remember-unlinked : linked sha256 (view (decode book)) h ≡ false → Memo book (set known h 2)
-  remember-unlinked e = keep-memo 2 (λ q. absurd (omega arith)) (λ q. e)
 
 -- ---- finalized heights
 module _ (book : Bytes) (h : ℕ) where

@@ -1,11 +1,11 @@
--- What is asked of a book by the functions of this crate, and what a scratch memory remembers of linked heights.
-use Prim.Native.Nat.{ℕ, _≤_}
+-- What is asked of a book by the functions of this crate, and what a memory says of a book.
+use Prim.Native.Nat.{ℕ, zero, suc, _+_, _*_, _≤_, _<_}
 use mathlib.Core.Path.{_≡_}
-use mathlib.Core.Bool.{true, false}
+use mathlib.Core.Bool.{true, false, cond}
 use lib.ListN.{length}
-use Rattle.protocol.specs.Bytes.{Bytes, byteAt}
-use Rattle.protocol.specs.State.{decode}
-use Rattle.protocol.specs.View.{linked}
+use Rattle.protocol.specs.Bytes.{Bytes, byteAt, part}
+use Rattle.protocol.specs.State.{decode, at, bookHeights}
+use Rattle.protocol.specs.View.{View, linked, isDummy}
 use Rattle.protocol.specs.Sound.{view}
 use Rattle.fields.specs.Ready.{Sized}
 use Rattle.sha256.specs.Digest.{sha256}
@@ -14,10 +14,22 @@ use Rattle.sha256.specs.Digest.{sha256}
 pub record Readable (book : Bytes) : Type 0 where
   pub sized : Sized book
   pub replicas : decode book .n ≤ 16
-  pub heights : byteAt book 2 ≤ 63
+  pub heights : bookHeights book ≤ 63
 
--- 64 bytes, one a height: 1 where the height is known to be linked, 2 where it is known not to be
+-- the height below the run of dummies that ends at `h`: the dummy blocks of the heights after it up to `h` are notarized, its own is not
+unfoldable pub runStart : View → ℕ → ℕ
+runStart v zero = 0
+runStart v (suc h) = cond (isDummy v (suc h)) (runStart v h) (suc h)
+
+abbrev pub memorySize : ℕ
+memorySize = 2240
+
+-- A byte of the first 64 is 1 where its height is known to be linked, and 2 where it is known not to be. A byte of the next 64 is 1 where
+-- the digest of its height's notarized block is kept, from 192 on. A byte of the next 64 is 0, or one more than the start of the run of
+-- dummies that ends at its height.
 pub record Memo (book known : Bytes) : Type 0 where
-  pub size : length known ≡ 64
-  pub is-linked : (h : ℕ) → byteAt known h ≡ 1 → linked sha256 (view (decode book)) h ≡ true
-  pub not-linked : (h : ℕ) → byteAt known h ≡ 2 → linked sha256 (view (decode book)) h ≡ false
+  pub size : length known ≡ memorySize
+  pub is-linked : (h : ℕ) → h < 64 → byteAt known h ≡ 1 → linked sha256 (view (decode book)) h ≡ true
+  pub not-linked : (h : ℕ) → h < 64 → byteAt known h ≡ 2 → linked sha256 (view (decode book)) h ≡ false
+  pub digest : (j : ℕ) → j < 64 → byteAt known (64 + j) ≡ 1 → part known (192 + 32 * j) 32 ≡ sha256 (at (decode book) j .notarized)
+  pub run : (h : ℕ) → h < 64 → 0 < byteAt known (128 + h) → byteAt known (128 + h) ≡ runStart (view (decode book)) h + 1

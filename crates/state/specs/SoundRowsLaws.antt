@@ -7,20 +7,20 @@ use lib.ListN.{length, getD}
 use borrow.Author.Tests.{eqb-true}
 use Rattle.protocol.specs.Bytes.{Bytes, byteAt, zeros}
 use Rattle.protocol.specs.Tests.{allOf, everyHeight}
-use Rattle.protocol.specs.State.{bookSize}
+use Rattle.protocol.specs.State.{bookSize, bookHeights}
 use Rattle.protocol.specs.Sound.{sound}
 use Rattle.protocol.specs.EveryLaws.{none, one}
 use Rattle.protocol.specs.TestsLaws.{and-true, both-ways}
 use Rattle.protocol.specs.RowLaws.{row, all-of, true-and, every-height-at, every-height, in-range, is-zero-byte, zeros-is-zero}
 use Rattle.protocol.specs.BytesLaws.{length-zeros}
 use Rattle.fields.specs.ReadyLaws.{sized}
-use Rattle.state.specs.Memo.{Readable, Memo}
+use Rattle.state.specs.Memo.{Readable, Memo, memorySize}
 use Rattle.state.specs.SoundRows.{numberRows, headRows, heightRows, finalRow}
 
 module _ (digest : Bytes → Bytes) (book : Bytes) where
   -- the rows of every height
   abbrev every : Bool
-  every = everyHeight (λ h. allOf (heightRows book h)) (byteAt book 2)
+  every = everyHeight (λ h. allOf (heightRows book h)) (bookHeights book)
 
   module _ (e : sound digest book ≡ true) where
     head-passes : allOf (headRows book) ≡ true
@@ -30,7 +30,7 @@ module _ (digest : Bytes → Bytes) (book : Bytes) where
         (one (row _ 1 e) (one (row _ 2 e) (one (row _ 3 e) (one (row _ 4 e) (one (row _ 5 e) (one (row _ 6 e) (one (row _ 7 e) none))))))) in
         all-of (one (row _ 0 e) (one numbers (one (row _ 13 e) none)))
 
-    height-passes : (h : ℕ) → 1 ≤ h → h ≤ byteAt book 2 → allOf (heightRows book h) ≡ true
+    height-passes : (h : ℕ) → 1 ≤ h → h ≤ bookHeights book → allOf (heightRows book h) ≡ true
     unfolding sound heightRows
     height-passes h low high = all-of
         (one (every-height-at _ _ h (row _ 8 e) low high) (one (every-height-at _ _ h (row _ 9 e) low high)
@@ -46,8 +46,8 @@ module _ (digest : Bytes → Bytes) (book : Bytes) where
     unfolding headRows
     number i = row (numberRows book) i (row _ 1 head)
 
-    at-height : (h : ℕ) → 1 ≤ h → h ≤ byteAt book 2 → allOf (heightRows book h) ≡ true
-    at-height h low high = every-height-at _ (byteAt book 2) h heights low high
+    at-height : (h : ℕ) → 1 ≤ h → h ≤ bookHeights book → allOf (heightRows book h) ≡ true
+    at-height h low high = every-height-at _ (bookHeights book) h heights low high
 
     sound-passes : sound digest book ≡ true
     unfolding sound headRows numberRows heightRows finalRow
@@ -77,21 +77,23 @@ pub readable : (book : Bytes) → allOf (headRows book) ≡ true → Readable bo
 unfolding headRows numberRows bookSize
 readable book e =
     let numbers : allOf (numberRows book) ≡ true = row _ 1 e in
-    let size : length book ≡ 576 + 880 * byteAt book 2 = eqb-true _ _ (row _ 0 e) in
-    let few : byteAt book 2 ≤ 63 = in-range _ _ _ (row _ 2 numbers) .1 in
+    let size : length book ≡ 576 + 880 * bookHeights book = eqb-true _ _ (row _ 0 e) in
+    let few : bookHeights book ≤ 63 = in-range _ _ _ (row _ 2 numbers) .1 in
     record {
       sized = sized book size few;
       replicas = in-range _ _ _ (row _ 0 numbers) .1;
       heights = few;
     }
 
--- zeros say of no height that it is linked or not
-pub zero-memo : (book known : Bytes) → known ≡ zeros 64 → Memo book known
+-- zeros say nothing of any height
+pub zero-memo : (book known : Bytes) → known ≡ zeros memorySize → Memo book known
 zero-memo book known e = record {
-  size = rw e (length-zeros 64);
-  is-linked = λ h seen. let none-seen = unseen h in absurd (omega arith);
-  not-linked = λ h seen. let none-seen = unseen h in absurd (omega arith);
+  size = rw e (length-zeros memorySize);
+  is-linked = λ h high seen. let none-seen = unseen h in absurd (omega arith);
+  not-linked = λ h high seen. let none-seen = unseen h in absurd (omega arith);
+  digest = λ j high seen. let none-seen = unseen (64 + j) in absurd (omega arith);
+  run = λ h high seen. let none-seen = unseen (128 + h) in absurd (omega arith);
 }
   where
-    unseen : (h : ℕ) → byteAt known h ≡ 0
-    unseen h = rw e (is-zero-byte (zeros 64) h (zeros-is-zero 64))
+    unseen : (k : ℕ) → byteAt known k ≡ 0
+    unseen k = rw e (is-zero-byte (zeros memorySize) k (zeros-is-zero memorySize))

@@ -2,9 +2,9 @@
 use Prim.Native.Nat.{ℕ, _≤_}
 use mathlib.Core.Path.{_≡_}
 use mathlib.Core.Bool.{true}
-use Rattle.protocol.specs.Bytes.{Bytes, byteAt}
+use Rattle.protocol.specs.Bytes.{Bytes}
 use Rattle.protocol.specs.Block.{blockWellFormed}
-use Rattle.protocol.specs.State.{decode}
+use Rattle.protocol.specs.State.{decode, bookHeights}
 use Rattle.protocol.specs.Sound.{view}
 use Rattle.protocol.specs.View.{linked}
 use Rattle.state.specs.Memo.{Readable}
@@ -13,6 +13,6 @@ use Rattle.sha256.specs.Digest.{sha256}
 -- a linked height of a book whose notarized blocks are all well formed
 pub record Walkable (book : Bytes) (h : ℕ) : Type 0 where
   pub readable : Readable book
-  pub high : h ≤ byteAt book 2
+  pub high : h ≤ bookHeights book
   pub is-linked : linked sha256 (view (decode book)) h ≡ true
   pub formed : (i : ℕ) → 1 ≤ i → view (decode book) .hasBlock i ≡ true → blockWellFormed i (view (decode book) .block i) ≡ true

@@ -1,12 +1,12 @@
-// Linked heights: a recursive walk over parent heights. A lent memory of 64 bytes keeps what is known, so that in one
-// call each height is looked at once and at most one digest is computed for it.
+// Linked heights: a recursive walk over parent heights. A lent memory keeps what is known, so that in one call each height is
+// looked at once, each run of dummy blocks is counted once, and each block is digested once, however many others name it.
 ghost use mathlib.Core.Path.{_≡_};
 ghost use Prim.Native.Nat.{_≤_};
 ghost use lib.ListN.{length};
 ghost use Rattle.sha256.specs.Digest.{sha256 as sha};
-ghost use Rattle.protocol.specs.Bytes.{byteAt, same};
+ghost use Rattle.protocol.specs.Bytes.{same};
 ghost use Rattle.protocol.specs.Block.{parentDigest};
-ghost use Rattle.protocol.specs.State.{decode};
+ghost use Rattle.protocol.specs.State.{decode, bookHeights};
 ghost use Rattle.protocol.specs.Sound.{view};
 ghost use Rattle.protocol.specs.View.{digestAt, linked as isLinked, extends as doesExtend, isFinalized, largestFinalized, parentOf};
 ghost use Rattle.fields.specs.Ready.{Within};
@@ -19,26 +19,42 @@ pub enum Parent {
     Nothing,
 }
 
-// Whether a block names the digest of the notarized block of height `j`, or zeros for height 0. One digest.
-fn names_parent(book: &[u8], block: &[u8], j: usize) -> bool
+// The digest that a block on the block of height `j` names: zeros for height 0. The memory keeps it.
+pub fn parent_digest(book: &[u8], j: usize, known: &mut [u8]) -> [u8; 32]
     requires { ⌜ Readable (now book) ⌝ }
-    requires { ⌜ length (now block) ≡ 176 ⌝ }
-    requires { ⌜ j ≤ byteAt (now book) 2 ⌝ }
-    ensures { λ r. ⌜ r ≡ same (parentDigest (now (block .entry))) (digestAt sha (view (decode (now (book .entry)))) j) ⌝ }
+    requires { ⌜ Memo (now book) (now known) ⌝ }
+    requires { ⌜ j ≤ bookHeights (now book) ⌝ }
+    ensures answer { λ r. ⌜ r ≡ digestAt sha (view (decode (now (book .entry)))) j ⌝ }
+    ensures memo { λ _. ⌜ Memo (now (book .entry)) (now (known .exit)) ⌝ }
 {
+    let mut digest = [0u8; 32];
     if j == 0 {
-        wire::bytes::is_zero(&block[16..48])
-    } else {
-        let digest = sha256::sha256(fields::height::notarized(book, j));
-        wire::bytes::same_bytes(&block[16..48], &digest)
+        return digest;
     }
+    crate::memory::keep_digest(book, j, known);
+    let start = 192 + 32 * j;
+    wire::bytes::copy_to(&mut digest, 0, &known[start..start + 32]);
+    digest
+}
+
+// Whether a block names the digest of the block of height `j`.
+fn names_parent(book: &[u8], block: &[u8], j: usize, known: &mut [u8]) -> bool
+    requires { ⌜ Readable (now book) ⌝ }
+    requires { ⌜ Memo (now book) (now known) ⌝ }
+    requires { ⌜ length (now block) ≡ 176 ⌝ }
+    requires { ⌜ j ≤ bookHeights (now book) ⌝ }
+    ensures answer { λ r. ⌜ r ≡ same (parentDigest (now (block .entry))) (digestAt sha (view (decode (now (book .entry)))) j) ⌝ }
+    ensures memo { λ _. ⌜ Memo (now (book .entry)) (now (known .exit)) ⌝ }
+{
+    let digest = parent_digest(book, j, known);
+    wire::bytes::same_bytes(&block[16..48], &digest)
 }
 
 // Whether height `h` is linked. Each call goes to a lower height.
 pub fn linked(book: &[u8], h: usize, known: &mut [u8]) -> bool
     requires { ⌜ Readable (now book) ⌝ }
     requires { ⌜ Memo (now book) (now known) ⌝ }
-    requires { ⌜ h ≤ byteAt (now book) 2 ⌝ }
+    requires { ⌜ h ≤ bookHeights (now book) ⌝ }
     ensures answer { λ r. ⌜ r ≡ isLinked sha (view (decode (now (book .entry)))) h ⌝ }
     ensures memo { λ _. ⌜ Memo (now (book .entry)) (now (known .exit)) ⌝ }
 {
@@ -88,8 +104,8 @@ pub fn extends(book: &[u8], h: usize, block: &[u8], known: &mut [u8]) -> bool
     let j = block[2] as usize;
     if j < h {
         if linked(book, j, known) {
-            if fields::quorum::dummy_run(book, j, h - 1 - j) {
-                return names_parent(book, block, j);
+            if crate::memory::dummies_after(book, j, h - 1, known) {
+                return names_parent(book, block, j, known);
             }
         }
     }
@@ -115,7 +131,7 @@ pub fn is_finalized(book: &[u8], h: usize, known: &mut [u8]) -> bool
 pub fn largest_finalized(book: &[u8], top: usize, known: &mut [u8]) -> usize
     requires { ⌜ Readable (now book) ⌝ }
     requires { ⌜ Memo (now book) (now known) ⌝ }
-    requires { ⌜ top ≤ byteAt (now book) 2 ⌝ }
+    requires { ⌜ top ≤ bookHeights (now book) ⌝ }
     ensures answer { λ r. ⌜ r ≡ largestFinalized sha (view (decode (now (book .entry)))) top ⌝ }
     ensures within { λ r. ⌜ r ≤ top ⌝ }
     ensures memo { λ _. ⌜ Memo (now (book .entry)) (now (known .exit)) ⌝ }
@@ -134,7 +150,7 @@ pub fn largest_finalized(book: &[u8], top: usize, known: &mut [u8]) -> usize
 pub fn parent_of(book: &[u8], top: usize, known: &mut [u8]) -> Parent
     requires { ⌜ Readable (now book) ⌝ }
     requires { ⌜ Memo (now book) (now known) ⌝ }
-    requires { ⌜ top ≤ byteAt (now book) 2 ⌝ }
+    requires { ⌜ top ≤ bookHeights (now book) ⌝ }
     ensures answer { λ r. ⌜ parentOption r ≡ parentOf sha (view (decode (now (book .entry)))) top ⌝ }
     ensures memo { λ _. ⌜ Memo (now (book .entry)) (now (known .exit)) ⌝ }
 {

@@ -1,4 +1,5 @@
 // Soundness of a book: one pass over its bytes, and one digest for each block of the finalized chain.
+use crate::memory::SIZE;
 use fields::height::holds_proposal;
 use fields::height::is_notarized;
 use fields::height::notarized;
@@ -11,16 +12,16 @@ ghost use mathlib.Core.Bool.{true};
 ghost use Prim.Native.Nat.{_≤_};
 ghost use lib.ListN.{length};
 ghost use Rattle.sha256.specs.Digest.{sha256 as sha};
-ghost use Rattle.protocol.specs.Bytes.{byteAt, zeros, isZero};
+ghost use Rattle.protocol.specs.Bytes.{zeros, isZero};
 ghost use Rattle.protocol.specs.BytesLaws.{AreBytes};
 ghost use Rattle.protocol.specs.Tests.{allOf, implies, everyHeight};
 ghost use Rattle.protocol.specs.Block.{blockWellFormed};
-ghost use Rattle.protocol.specs.State.{decode, at, isNotarized};
+ghost use Rattle.protocol.specs.State.{decode, at, isNotarized, bookHeights};
 ghost use Rattle.protocol.specs.View.{quorum};
 ghost use Rattle.protocol.specs.Sound.{view, masksBelow, contentZeros, sound as isSound};
 ghost use Rattle.fields.specs.Ready.{Within};
-ghost use Rattle.state.specs.Memo.{Readable, Memo};
-ghost use Rattle.state.specs.SoundRows.{numberRows, headRows, heightRows, finalRow};
+ghost use Rattle.state.specs.Memo.{Readable, Memo, memorySize};
+ghost use Rattle.state.specs.SoundRows.{numberRows, headRows, heightRows, bookRows, finalRow};
 
 // Whether the numbers of the head are in their ranges.
 fn numbers_sound(book: &[u8]) -> bool
@@ -122,7 +123,7 @@ fn height_sound(book: &[u8], h: usize) -> bool
 // Whether every height is as it must be. Looks at each once, and ends at the first that is not.
 fn heights_sound(book: &[u8]) -> bool
     requires { ⌜ Readable (now book) ⌝ }
-    ensures { λ r. ⌜ r ≡ everyHeight (λ h. allOf (heightRows (now (book .entry)) h)) (byteAt (now (book .entry)) 2) ⌝ }
+    ensures { λ r. ⌜ r ≡ everyHeight (λ h. allOf (heightRows (now (book .entry)) h)) (bookHeights (now (book .entry))) ⌝ }
 {
     let last = fields::head::heights(book);
     let mut h = 0;
@@ -155,30 +156,53 @@ fn finalized_sound(book: &[u8], known: &mut [u8]) -> bool
     }
 }
 
-// Whether a book is sound. Reads it once, and computes one digest for each block of the finalized chain;
-// what it finds of linked heights stays in the memory of zeros that it is lent.
-pub fn sound(book: &[u8], known: &mut [u8]) -> bool
-    requires { ⌜ now known ≡ zeros 64 ⌝ }
-    ensures answer { λ r. ⌜ r ≡ isSound sha (now (book .entry)) ⌝ }
-    ensures memo { λ r. ⌜ (r ≡ true → Memo (now (book .entry)) (now (known .exit))) ⌝ }
-    ensures size { λ _. ⌜ length (now (known .exit)) ≡ 64 ⌝ }
+// The same with a memory of its own, which is made only where there is a height to ask for.
+fn finalized_alone(book: &[u8]) -> bool
+    requires { ⌜ Readable (now book) ⌝ }
+    ensures { λ r. ⌜ r ≡ finalRow sha (now (book .entry)) ⌝ }
+{
+    if fields::head::finalized(book) == 0 {
+        return true;
+    }
+    let mut known = [0u8; SIZE];
+    finalized_sound(book, &mut known)
+}
+
+// Whether a book is sound but for its finalized height. Reads it once.
+fn rows_sound(book: &[u8]) -> bool
+    ensures answer { λ r. ⌜ r ≡ allOf (bookRows (now (book .entry))) ⌝ }
+    ensures readable { λ r. ⌜ (r ≡ true → Readable (now (book .entry))) ⌝ }
 {
     if head_sound(book) {
-        if heights_sound(book) {
-            finalized_sound(book, known)
-        } else {
-            false
-        }
+        heights_sound(book)
     } else {
         false
     }
 }
 
-// Whether a book is sound, for a call that asks for no linked height afterwards. Its bytes are below 256, as those of any slice.
+// Whether a book is sound, for a call that asks for no linked height afterwards. Reads it once, and computes one digest for each
+// block of the finalized chain. The book's bytes are below 256, as those of any slice.
 pub fn is_sound(book: &[u8]) -> bool
     ensures answer { λ r. ⌜ r ≡ isSound sha (now (book .entry)) ⌝ }
     ensures bytes { λ _. ⌜ AreBytes (now (book .entry)) ⌝ }
 {
-    let mut known = [0u8; 64];
-    sound(book, &mut known)
+    if rows_sound(book) {
+        finalized_alone(book)
+    } else {
+        false
+    }
+}
+
+// The same for a call that walks the book further: what is found stays in the memory of zeros that is lent.
+pub fn sound(book: &[u8], known: &mut [u8]) -> bool
+    requires { ⌜ now known ≡ zeros memorySize ⌝ }
+    ensures answer { λ r. ⌜ r ≡ isSound sha (now (book .entry)) ⌝ }
+    ensures memo { λ r. ⌜ (r ≡ true → Memo (now (book .entry)) (now (known .exit))) ⌝ }
+    ensures size { λ _. ⌜ length (now (known .exit)) ≡ memorySize ⌝ }
+{
+    if rows_sound(book) {
+        finalized_sound(book, known)
+    } else {
+        false
+    }
 }

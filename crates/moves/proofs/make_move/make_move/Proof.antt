@@ -15,8 +15,7 @@ slice-aggregate-sound c = search needs
 
 sound-requires : tie.Need-sound-requires
 unfolding zeros
-sound-requires c κs =
-    refl
+sound-requires c κs = refl
 
 slice-aggregate-step : tie.Need-slice-aggregate-step
 slice-aggregate-step c = search needs

@@ -21,9 +21,9 @@ parent-below-requires c κs = search needs
 
 write-proposal-requires : tie.Need-write-proposal-requires
 write-proposal-requires c κs =
-    let start = c .before .before .before .before .before .before .before .before .before .before .before .before .before .before .before .before in
-    let found = c .before .before .before .before .parent-below in
-    (start .pre .0, (walkable (start .args .book .now) (start .pre .0) (start .pre .1 .1 .0) (start .pre .1 .1 .1 .0) (found .result) (found .ensures .0), start .pre .1 .1 .1 .1))
+    let start = c .before .before .before .before .before .before .before .before .before .before .before .before .before .before .before .before .before in
+    let found = c .before .before .before .before .before .parent-below in
+    (start .pre .0, (found .ensures .1, (walkable (start .args .book .now) (start .pre .0) (start .pre .1 .1 .0) (start .pre .1 .1 .1 .0) (found .result) (found .ensures .0), start .pre .1 .1 .1 .1)))
 
 add-set-head : tie.Need-add-set-head
 add-set-head c = search needs
@@ -42,15 +42,16 @@ same-length-3 c = search needs
 
 returns : tie.Need-returns
 returns c =
-    let start = c .before .before .before .before .before .before .before .before .before .before .before .before .before .before .before .before .before .before .before .before .before .before .before in
+    let start = c .before .before .before .before .before .before .before .before .before .before .before .before .before .before .before .before .before .before .before .before .before .before .before .before .before .before in
     let s = decode (start .args .book .now) in
-    let height = c .before .before .before .before .before .before .before .before .before .before .before .before .before .before .before .before .before .before .current in
-    let seen = c .before .before .before .before .before .before .before .before .before .before .before .before .before .before .before .before .flags in
-    let settled = c .before .before .before .before .before .before .before .before .before .before .before .before .before .before .finalized in
-    let found = c .before .before .before .before .before .before .before .before .before .before .before .parent-below in
-    took-propose s (start .args .reply .now) (c .before .before .set-head .last .0) (c .before .before .before .before .before .before .write-proposal .last .1 .0)
+    let height = c .before .before .before .before .before .before .before .before .before .before .before .before .before .before .before .before .before .before .before .before .before .current in
+    let seen = c .before .before .before .before .before .before .before .before .before .before .before .before .before .before .before .before .before .before .before .flags in
+    let settled = c .before .before .before .before .before .before .before .before .before .before .before .before .before .before .before .before .before .finalized in
+    let found = c .before .before .before .before .before .before .before .before .before .before .before .before .before .before .parent-below in
+    let proposed = c .before .before .before .before .before .before .before .before .write-proposal in
+    took-propose s (start .args .reply .now) (c .before .before .set-head .last .0) (proposed .last .1 .0)
     (height .result) (s .own) (seen .result) (settled .result) (height .ensures .0) refl (seen .ensures .0) (settled .ensures .0)
-    (found .result) (found .ensures .0) (c .before .before .set-head .ensures) (c .before .before .before .before .before .before .write-proposal .ensures)
+    (found .result) (found .ensures .0) (c .before .before .set-head .ensures) (proposed .ensures)
 
 pub propose-spec : {M : Type 1} → statement M
 propose-spec =

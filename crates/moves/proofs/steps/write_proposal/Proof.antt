@@ -1,7 +1,7 @@
 -- `write_proposal` meets its contract: the new block takes the place of the zero bytes of a frame without one.
 use native.Mathlib.Omega.{arith}
 use mathlib.Core.Path.{_≡_}
-use lib.ListN.{length}
+use lib.ListN.{length, length-take, length-drop}
 use Rattle.sha256.specs.Digest.{sha256}
 use Rattle.protocol.specs.Block.{newBlock}
 use Rattle.protocol.specs.State.{decode}
@@ -19,7 +19,9 @@ own-requires : tie.Need-own-requires
 own-requires c κs = search needs
 
 parent-digest-requires : tie.Need-parent-digest-requires
-parent-digest-requires c κs = search needs
+parent-digest-requires c κs =
+    let start = c .before .before .before .before .before .before in
+    (start .pre .0 .readable, (start .pre .1 .0, start .pre .1 .1 .0 .high))
 
 write-plain-requires : tie.Need-write-plain-requires
 write-plain-requires c κs = search needs
@@ -37,25 +39,33 @@ part-offer-end : tie.Need-part-offer-end
 part-offer-end c = search needs
 
 offer-requires : tie.Need-offer-requires
-offer-requires c κs = search needs
+offer-requires c κs =
+    let start = c .before .before .before .before .before .before .before .before .before .before .before .before .before .before .before in
+    let plain = c .before .before .before .before .write-plain in
+    let room = start .pre .1 .1 .1 in
+    let kept = plain .kept .0 in
+    (start .pre .1 .1 .0, (start .pre .0 .pending-few, (search needs, search needs, simp (length-take, length-drop) (omega arith))))
 
 same-length : tie.Need-same-length
 same-length c = search needs
 
+same-length-2 : tie.Need-same-length-2
+same-length-2 c = search needs
+
 returns : tie.Need-returns
 returns c =
-    let start = c .before .before .before .before .before .before .before .before .before .before .before .before .before .before in
+    let start = c .before .before .before .before .before .before .before .before .before .before .before .before .before .before .before .before .before .before in
     let book = start .args .book .now in
     let j = start .args .j in
-    let height = c .before .before .before .before .before .before .before .before .before .before .before .current in
-    let signer = c .before .before .before .before .before .before .before .before .before .before .own in
-    let digest = c .before .before .before .before .before .before .before .before .before .parent-digest in
+    let height = c .before .before .before .before .before .before .before .before .before .before .before .before .before .before .current in
+    let signer = c .before .before .before .before .before .before .before .before .before .before .before .before .before .own in
+    let digest = c .before .before .before .before .before .before .before .before .before .before .before .parent-digest in
     let plain = c .before .before .before .before .before .before .before .write-plain in
-    let room = start .pre .1 .1 in
+    let room = start .pre .1 .1 .1 in
     let kept = plain .kept .0 in
     let size : length (digest .result) ≡ 32 = search needs in
     wrote-proposal book (start .pre .0) (start .args .reply .now) (plain .last .0) _ (digest .result) (height .result) (signer .result) j
-    (height .ensures .0) (signer .ensures .0) size (digest .ensures) (plain .ensures)
+    (height .ensures .0) (signer .ensures .0) size (digest .ensures .0) (plain .ensures)
     (rw (c .before .before .offer .ensures)
     (front-in-part (plain .last .0) (newBlock (height .result) j (digest .result) (offered (decode book) j)) 48 176 (omega arith)
     (omega (arith, proposed-size book (start .pre .0) (digest .result) (height .result) j size))))
@@ -74,4 +84,5 @@ write-proposal-spec =
     part-offer-end
     offer-requires
     same-length
+    same-length-2
     returns)

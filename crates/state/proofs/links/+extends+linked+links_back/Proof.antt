@@ -10,7 +10,8 @@ use Rattle.protocol.specs.Bytes.{Bytes}
 use Rattle.protocol.specs.View.{extends as extends-test}
 use Rattle.protocol.specs.State.{decode}
 use Rattle.protocol.specs.Sound.{view}
-use Rattle.state.proofs.Walk.{names-parent-height, extends-by-digest, extends-not-run, extends-not-linked, extends-not-below, linked-start, linked-by-block, not-linked-without, remember-linked, remember-unlinked, notarized-size}
+use Rattle.state.proofs.Walk.{names-parent-height, extends-by-digest, extends-not-run, extends-not-linked, extends-not-below, linked-start, linked-by-block, not-linked-without, notarized-size}
+use Rattle.state.proofs.Stores.{remember-linked, remember-unlinked}
 use borrow.Fn.Kinds.{In}
 use borrow.Fn.PlainCycle.{Measures, is, falls, and}
 use Rattle.state.proofs.links.extends.Reads as extends
@@ -24,7 +25,7 @@ use Rattle.state.proofs.links.links_back.Kinds as links-back-kinds
 use Rattle.state.proofs.links.+extends+linked+links_back.Lts-links_back as links-back-lts
 use Rattle.fields.proofs.height.is_notarized.Reads as is-notarized-reads
 use Rattle.fields.proofs.height.notarized.Reads as notarized-reads
-use Rattle.fields.proofs.quorum.dummy_run.Reads as dummy-run-reads
+use Rattle.state.proofs.memory.dummies_after.Reads as dummies-after-reads
 use Rattle.state.proofs.links.names_parent.Reads as names-parent-reads
 use Rattle.state.proofs.links.+extends+linked+links_back.{statement}
 use Rattle.state.proofs.links.+extends+linked+links_back.Tie.{close}
@@ -61,8 +62,8 @@ links-back-below t =
 extends-shared-slice-read-j : (t : ℕ) → extends-lts.Need-shared-slice-read-j (
   linked-below t,
   linked.Post,
-  dummy-run-reads.Asked,
-  dummy-run-reads.Learnt,
+  dummies-after-reads.Asked,
+  dummies-after-reads.Learnt,
   names-parent-reads.Asked,
   names-parent-reads.Learnt,
 ) (extends-at t) extends.Post
@@ -71,8 +72,8 @@ extends-shared-slice-read-j t c = search needs
 extends-cast-j : (t : ℕ) → extends-lts.Need-cast-j (
   linked-below t,
   linked.Post,
-  dummy-run-reads.Asked,
-  dummy-run-reads.Learnt,
+  dummies-after-reads.Asked,
+  dummies-after-reads.Learnt,
   names-parent-reads.Asked,
   names-parent-reads.Learnt,
 ) (extends-at t) extends.Post
@@ -81,8 +82,8 @@ extends-cast-j t c = omega (arith, c .shared-slice-known3 .given 2)
 extends-linked-requires : (t : ℕ) → extends-lts.Need-linked-requires (
   linked-below t,
   linked.Post,
-  dummy-run-reads.Asked,
-  dummy-run-reads.Learnt,
+  dummies-after-reads.Asked,
+  dummies-after-reads.Learnt,
   names-parent-reads.Asked,
   names-parent-reads.Learnt,
 ) (extends-at t) extends.Post
@@ -90,55 +91,45 @@ extends-linked-requires t c κs =
     let z = c .before .before .before .before .before .before in
     (omega arith, (z .pre .1 .0, (z .pre .1 .1 .0, omega arith)))
 
-extends-sub-dummy-run : (t : ℕ) → extends-lts.Need-sub-dummy-run (
+extends-sub-dummies-after : (t : ℕ) → extends-lts.Need-sub-dummies-after (
   linked-below t,
   linked.Post,
-  dummy-run-reads.Asked,
-  dummy-run-reads.Learnt,
+  dummies-after-reads.Asked,
+  dummies-after-reads.Learnt,
   names-parent-reads.Asked,
   names-parent-reads.Learnt,
 ) (extends-at t) extends.Post
-extends-sub-dummy-run t c = search needs
+extends-sub-dummies-after t c = search needs
 
-extends-sub-dummy-run-2 : (t : ℕ) → extends-lts.Need-sub-dummy-run-2 (
+extends-dummies-after-requires : (t : ℕ) → extends-lts.Need-dummies-after-requires (
   linked-below t,
   linked.Post,
-  dummy-run-reads.Asked,
-  dummy-run-reads.Learnt,
+  dummies-after-reads.Asked,
+  dummies-after-reads.Learnt,
   names-parent-reads.Asked,
   names-parent-reads.Learnt,
 ) (extends-at t) extends.Post
-extends-sub-dummy-run-2 t c = search needs
-
-extends-dummy-run-requires : (t : ℕ) → extends-lts.Need-dummy-run-requires (
-  linked-below t,
-  linked.Post,
-  dummy-run-reads.Asked,
-  dummy-run-reads.Learnt,
-  names-parent-reads.Asked,
-  names-parent-reads.Learnt,
-) (extends-at t) extends.Post
-extends-dummy-run-requires t c κs =
-    let z = c .before .before .before .before .before .before .before .before .before .before in
-    (z .pre .1 .0 .sized, (z .pre .1 .0 .replicas, omega arith))
+extends-dummies-after-requires t c κs =
+    let z = c .before .before .before .before .before .before .before .before .before .before .before in
+    (z .pre .1 .0, (c .before .before .before .before .linked .ensures .1, (omega arith, omega arith)))
 
 extends-names-parent-requires : (t : ℕ) → extends-lts.Need-names-parent-requires (
   linked-below t,
   linked.Post,
-  dummy-run-reads.Asked,
-  dummy-run-reads.Learnt,
+  dummies-after-reads.Asked,
+  dummies-after-reads.Learnt,
   names-parent-reads.Asked,
   names-parent-reads.Learnt,
 ) (extends-at t) extends.Post
 extends-names-parent-requires t c κs =
-    let z = c .before .before .before .before .before .before .before .before .before .before .before .before in
-    (z .pre .1 .0, (z .pre .1 .1 .1 .1, omega arith))
+    let z = c .before .before .before .before .before .before .before .before .before .before .before .before .before .before .before .before in
+    (z .pre .1 .0, (c .before .before .before .before .dummies-after .ensures .1, (z .pre .1 .1 .1 .1, omega arith)))
 
 extends-same-length : (t : ℕ) → extends-lts.Need-same-length (
   linked-below t,
   linked.Post,
-  dummy-run-reads.Asked,
-  dummy-run-reads.Learnt,
+  dummies-after-reads.Asked,
+  dummies-after-reads.Learnt,
   names-parent-reads.Asked,
   names-parent-reads.Learnt,
 ) (extends-at t) extends.Post
@@ -147,22 +138,23 @@ extends-same-length t c = search needs
 extends-returns : (t : ℕ) → extends-lts.Need-returns (
   linked-below t,
   linked.Post,
-  dummy-run-reads.Asked,
-  dummy-run-reads.Learnt,
+  dummies-after-reads.Asked,
+  dummies-after-reads.Learnt,
   names-parent-reads.Asked,
   names-parent-reads.Learnt,
 ) (extends-at t) extends.Post
 extends-returns t c =
-    let z = c .before .before .before .before .before .before .before .before .before .before .before .before .before in
+    let z = c .before .before .before .before .before .before .before .before .before .before .before .before .before .before .before .before .before .before .before in
     let v = view (decode (z .args .book .now)) in
     let j = getD (z .args .block .now) 2 0 in
-    (c .names-parent .ensures ∙ sym (extends-by-digest v (z .args .h) j (z .args .block .now) (names-parent-height (z .args .block .now)) (lt-ltb j (z .args .h) (omega arith)) (sym (c .before .before .before .before .before .before .linked .ensures .0) ∙ c .before .before .before .if2 .taken) (sym (c .before .before .dummy-run .ensures) ∙ c .before .if3 .taken)), c .before .before .before .before .before .before .linked .ensures .1)
+    let named = c .before .before .names-parent in
+    (named .ensures .0 ∙ sym (extends-by-digest v (z .args .h) j (z .args .block .now) (names-parent-height (z .args .block .now)) (lt-ltb j (z .args .h) (omega arith)) (sym (c .before .before .before .before .before .before .before .before .before .before .before .before .linked .ensures .0) ∙ c .before .before .before .before .before .before .before .before .before .if2 .taken) (sym (c .before .before .before .before .before .before .before .dummies-after .ensures .0) ∙ c .before .before .before .before .if3 .taken)), named .ensures .1)
 
 extends-same-length-2 : (t : ℕ) → extends-lts.Need-same-length-2 (
   linked-below t,
   linked.Post,
-  dummy-run-reads.Asked,
-  dummy-run-reads.Learnt,
+  dummies-after-reads.Asked,
+  dummies-after-reads.Learnt,
   names-parent-reads.Asked,
   names-parent-reads.Learnt,
 ) (extends-at t) extends.Post
@@ -171,22 +163,23 @@ extends-same-length-2 t c = search needs
 extends-returns-2 : (t : ℕ) → extends-lts.Need-returns-2 (
   linked-below t,
   linked.Post,
-  dummy-run-reads.Asked,
-  dummy-run-reads.Learnt,
+  dummies-after-reads.Asked,
+  dummies-after-reads.Learnt,
   names-parent-reads.Asked,
   names-parent-reads.Learnt,
 ) (extends-at t) extends.Post
 extends-returns-2 t c =
-    let z = c .before .before .before .before .before .before .before .before .before .before .before .before in
+    let z = c .before .before .before .before .before .before .before .before .before .before .before .before .before .before .before in
     let v = view (decode (z .args .book .now)) in
     let j = getD (z .args .block .now) 2 0 in
-    (sym (extends-not-run v (z .args .h) j (z .args .block .now) (names-parent-height (z .args .block .now)) (sym (c .before .dummy-run .ensures) ∙ c .if3 .left)), c .before .before .before .before .before .linked .ensures .1)
+    let run = c .before .before .before .dummies-after in
+    (sym (extends-not-run v (z .args .h) j (z .args .block .now) (names-parent-height (z .args .block .now)) (sym (run .ensures .0) ∙ c .if3 .left)), run .ensures .1)
 
 extends-same-length-3 : (t : ℕ) → extends-lts.Need-same-length-3 (
   linked-below t,
   linked.Post,
-  dummy-run-reads.Asked,
-  dummy-run-reads.Learnt,
+  dummies-after-reads.Asked,
+  dummies-after-reads.Learnt,
   names-parent-reads.Asked,
   names-parent-reads.Learnt,
 ) (extends-at t) extends.Post
@@ -195,8 +188,8 @@ extends-same-length-3 t c = search needs
 extends-returns-3 : (t : ℕ) → extends-lts.Need-returns-3 (
   linked-below t,
   linked.Post,
-  dummy-run-reads.Asked,
-  dummy-run-reads.Learnt,
+  dummies-after-reads.Asked,
+  dummies-after-reads.Learnt,
   names-parent-reads.Asked,
   names-parent-reads.Learnt,
 ) (extends-at t) extends.Post
@@ -209,8 +202,8 @@ extends-returns-3 t c =
 extends-returns-4 : (t : ℕ) → extends-lts.Need-returns-4 (
   linked-below t,
   linked.Post,
-  dummy-run-reads.Asked,
-  dummy-run-reads.Learnt,
+  dummies-after-reads.Asked,
+  dummies-after-reads.Learnt,
   names-parent-reads.Asked,
   names-parent-reads.Learnt,
 ) (extends-at t) extends.Post
@@ -238,14 +231,14 @@ linked-returns-2 :
     linked-lts.Need-returns-2 (links-back-below t, links-back.Post) (linked-at t) linked.Post
 linked-returns-2 t c =
     let z = c .before .before .before .before .before in
-    (sym (z .pre .1 .1 .0 .is-linked (z .args .h) (c .if2 .taken)), z .pre .1 .1 .0)
+    (sym (z .pre .1 .1 .0 .is-linked (z .args .h) (omega arith) (c .if2 .taken)), z .pre .1 .1 .0)
 
 linked-returns-3 :
     (t : ℕ) →
     linked-lts.Need-returns-3 (links-back-below t, links-back.Post) (linked-at t) linked.Post
 linked-returns-3 t c =
     let z = c .before .before .before .before .before .before in
-    (sym (z .pre .1 .1 .0 .not-linked (z .args .h) (c .if3 .taken)), z .pre .1 .1 .0)
+    (sym (z .pre .1 .1 .0 .not-linked (z .args .h) (omega arith) (c .if3 .taken)), z .pre .1 .1 .0)
 
 linked-links-back-requires : (t : ℕ) → linked-lts.Need-links-back-requires (
   links-back-below t,
@@ -370,8 +363,8 @@ pub +extends+linked+links-back-spec : {M : Type 1} → statement M
 +extends+linked+links-back-spec = close μ-extends μ-linked μ-links-back (λ t. extends-lts.spec (
   linked-below t,
   linked.Post,
-  dummy-run-reads.Asked,
-  dummy-run-reads.Learnt,
+  dummies-after-reads.Asked,
+  dummies-after-reads.Learnt,
   names-parent-reads.Asked,
   names-parent-reads.Learnt,
 )
@@ -380,9 +373,8 @@ pub +extends+linked+links-back-spec : {M : Type 1} → statement M
     (extends-shared-slice-read-j t)
     (extends-cast-j t)
     (extends-linked-requires t)
-    (extends-sub-dummy-run t)
-    (extends-sub-dummy-run-2 t)
-    (extends-dummy-run-requires t)
+    (extends-sub-dummies-after t)
+    (extends-dummies-after-requires t)
     (extends-names-parent-requires t)
     (extends-same-length t)
     (extends-returns t)

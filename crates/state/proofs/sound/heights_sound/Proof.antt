@@ -3,9 +3,9 @@ use Prim.Native.Nat.{ℕ, _+_, _-_, _≤_}
 use native.Mathlib.Omega.{arith}
 use mathlib.Core.Path.{_≡_, refl, sym, ap, _∙_}
 use mathlib.Core.Bool.{true}
-use Rattle.protocol.specs.Bytes.{byteAt}
 use Rattle.protocol.specs.Tests.{allOf, everyHeight}
 use Rattle.protocol.specs.RowLaws.{every-height-fails}
+use Rattle.protocol.specs.State.{bookHeights}
 use Rattle.state.specs.SoundRows.{heightRows}
 use Rattle.state.proofs.SoundTests.{every-more}
 use borrow.Author.Needs.{needs}
@@ -47,13 +47,13 @@ returns : tie.Need-returns Inv-loop μ-loop
 returns c =
     let start = c .before .before .before .before .before .before in
     let at = c .before .before .before .loop in
-    sym (every-height-fails (λ k. allOf (heightRows (start .args .book .now) k)) (byteAt (start .args .book .now) 2) (at .h + 1) (omega arith) (omega arith)
+    sym (every-height-fails (λ k. allOf (heightRows (start .args .book .now) k)) (bookHeights (start .args .book .now)) (at .h + 1) (omega arith) (omega arith)
     (sym (c .before .height-sound .ensures) ∙ c .if1 .left))
 
 returns-2 : tie.Need-returns-2 Inv-loop μ-loop
 returns-2 c =
     let start = c .before .before .before .before in
-    let end : c .before .loop .h ≡ byteAt (start .args .book .now) 2 = omega arith in
+    let end : c .before .loop .h ≡ bookHeights (start .args .book .now) = omega arith in
     sym (ap (λ (h : ℕ). everyHeight (λ k. allOf (heightRows (start .args .book .now) k)) h) (sym end) ∙ c .before .loop .inv .1)
 
 pub heights-sound-spec : {M : Type 1} → statement M

@@ -1,20 +1,29 @@
--- `is_sound` meets its contract: it lends a memory of zeros, and a slice has bytes.
+-- `is_sound` meets its contract: its two tests are the groups of rows, and a slice has bytes.
 use native.Mathlib.Omega.{arith}
-use mathlib.Core.Path.{refl}
-use Rattle.protocol.specs.Bytes.{zeros}
+use mathlib.Core.Path.{sym, _∙_}
+use Rattle.sha256.specs.Digest.{sha256}
+use Rattle.state.proofs.SoundTests.{sound-final, not-sound-rows}
 use borrow.Author.Needs.{needs}
 use Rattle.state.proofs.sound.is_sound.Statement.{statement}
 use Rattle.state.proofs.sound.is_sound.Tie as tie
 
-slice-aggregate-sound : tie.Need-slice-aggregate-sound
-slice-aggregate-sound c = search needs
+rows-sound-requires : tie.Need-rows-sound-requires
+rows-sound-requires c κs = search needs
 
-sound-requires : tie.Need-sound-requires
-unfolding zeros
-sound-requires c κs = refl
+finalized-alone-requires : tie.Need-finalized-alone-requires
+finalized-alone-requires c κs = c .before .rows-sound .ensures .1 (c .if1 .taken)
 
 returns : tie.Need-returns
-returns c = (c .before .sound .ensures .0, λ i. omega (arith, c .before .before .before .shared-slice-known .given i))
+returns c = (
+  c .finalized-alone .ensures ∙ sound-final sha256 (c .before .before .before .before .args .book .now) (sym (c .before .before .rows-sound .ensures .0) ∙ c .before .if1 .taken),
+  λ i. omega (arith, c .before .before .before .shared-slice-known .given i),
+)
+
+returns-2 : tie.Need-returns-2
+returns-2 c = (
+  not-sound-rows sha256 (c .before .before .before .args .book .now) (sym (c .before .rows-sound .ensures .0) ∙ c .if1 .left),
+  λ i. omega (arith, c .before .before .shared-slice-known .given i),
+)
 
 pub is-sound-spec : {M : Type 1} → statement M
-is-sound-spec = tie.close (tie.spec slice-aggregate-sound sound-requires returns)
+is-sound-spec = tie.close (tie.spec rows-sound-requires finalized-alone-requires returns returns-2)

@@ -1,0 +1,75 @@
+-- `parent_digest` meets its contract: zeros for height 0, and else the digest that is kept.
+use Prim.Native.Nat.{_+_, _-_, _*_}
+use native.Mathlib.Omega.{arith}
+use mathlib.Core.Path.{_∙_}
+use Rattle.protocol.specs.Bytes.{zeros}
+use Rattle.protocol.specs.BytesLaws.{length-zeros}
+use Rattle.protocol.specs.State.{decode}
+use Rattle.protocol.specs.Sound.{view}
+use Rattle.state.proofs.Walk.{digest-start, digest-copied}
+use borrow.Author.Needs.{needs}
+use Rattle.state.proofs.links.parent_digest.Statement.{statement}
+use Rattle.state.proofs.links.parent_digest.Tie as tie
+
+returns : tie.Need-returns
+unfolding zeros
+returns c =
+    let z = c .before .before .before in
+    (digest-start (view (decode (z .args .book .now))) (z .args .j) (c .if1 .taken), z .pre .1 .0)
+
+keep-digest-requires : tie.Need-keep-digest-requires
+keep-digest-requires c κs =
+    let z = c .before .before .before .before in
+    (z .pre .0, (z .pre .1 .0, record { low = omega arith; high = z .pre .1 .1 }))
+
+mul-start : tie.Need-mul-start
+mul-start c = search needs
+
+add-start : tie.Need-add-start
+add-start c = search needs
+
+slice-aggregate-copy-to : tie.Need-slice-aggregate-copy-to
+slice-aggregate-copy-to c = search needs
+
+add-copy-to : tie.Need-add-copy-to
+add-copy-to c = search needs
+
+sub-copy-to : tie.Need-sub-copy-to
+sub-copy-to c = search needs
+
+part-copy-to-start : tie.Need-part-copy-to-start
+part-copy-to-start c = search needs
+
+part-copy-to-end : tie.Need-part-copy-to-end
+part-copy-to-end c = search needs
+
+copy-to-requires : tie.Need-copy-to-requires
+copy-to-requires c κs = omega arith
+
+same-length : tie.Need-same-length
+same-length c = search needs
+
+returns-2 : tie.Need-returns-2
+unfolding zeros
+returns-2 c =
+    let z = c .before .before .before .before .before .before .before .before .before .before .before .before in
+    let j = z .args .j in
+    let kept = c .before .before .before .before .before .before .before .keep-digest in
+    (c .before .copy-to .ensures ∙ digest-copied (z .args .book .now) (kept .last .1 .1 .0) (zeros 32) j (192 + 32 * j + 32 - (192 + 32 * j)) (c .before .before .before .before .before .before .before .before .before .if1 .left) (omega arith) (length-zeros 32) (omega arith) (kept .ensures .0), kept .ensures .1)
+
+pub parent-digest-spec : {M : Type 1} → statement M
+parent-digest-spec =
+    tie.close
+    (tie.spec
+    returns
+    keep-digest-requires
+    mul-start
+    add-start
+    slice-aggregate-copy-to
+    add-copy-to
+    sub-copy-to
+    part-copy-to-start
+    part-copy-to-end
+    copy-to-requires
+    same-length
+    returns-2)

@@ -1,0 +1,34 @@
+-- `finalized_alone` meets its contract: height 0 passes, and a memory of zeros knows nothing.
+use mathlib.Core.Path.{refl, sym, _∙_}
+use Rattle.sha256.specs.Digest.{sha256}
+use Rattle.protocol.specs.Bytes.{zeros}
+use Rattle.state.specs.SoundRowsLaws.{zero-memo}
+use Rattle.state.proofs.SoundTests.{final-none}
+use borrow.Author.Needs.{needs}
+use Rattle.state.proofs.sound.finalized_alone.Statement.{statement}
+use Rattle.state.proofs.sound.finalized_alone.Tie as tie
+
+finalized-requires : tie.Need-finalized-requires
+finalized-requires c κs = search needs
+
+returns : tie.Need-returns
+returns c = sym (final-none sha256 (c .before .before .before .args .book .now) (sym (c .before .finalized .ensures .0) ∙ c .if1 .taken))
+
+slice-aggregate-finalized-sound : tie.Need-slice-aggregate-finalized-sound
+slice-aggregate-finalized-sound c = search needs
+
+finalized-sound-requires : tie.Need-finalized-sound-requires
+finalized-sound-requires c κs = (c .before .before .before .before .pre, zero-memo (c .before .before .before .before .args .book .now) _ (unfold zeros in refl))
+
+returns-2 : tie.Need-returns-2
+returns-2 c = c .before .finalized-sound .ensures .0
+
+pub finalized-alone-spec : {M : Type 1} → statement M
+finalized-alone-spec =
+    tie.close
+    (tie.spec
+    finalized-requires
+    returns
+    slice-aggregate-finalized-sound
+    finalized-sound-requires
+    returns-2)
