@@ -1,1 +1,2 @@
+-- What each case of an answer means.
 pub mod Answers

@@ -4,7 +4,7 @@ use native.Mathlib.Omega.{arith}
 use native.Mathlib.Decide.{ℕ-discrete}
 use mathlib.Core.Path.{_≡_, refl, sym, ap, subst, _∙_}
 use mathlib.Core.Logic.{_⊎_, inl, inr, _≢_}
-use mathlib.Core.Bool.{Bool, true, false, _&&_, _||_, not, cond, true≢false}
+use mathlib.Core.Bool.{Bool, true, false, _||_, not, true≢false}
 use mathlib.Core.List.{[], _∷_}
 use mathlib.Core.Option.{Option, some, none}
 use lib.ListN.{length}
@@ -15,7 +15,7 @@ use Rattle.protocol.specs.Tests.{allOf, implies, inRange, firstRefusal}
 use Rattle.protocol.specs.Answer.{Outcome, refused, accepted, Delivery, unlessRefused}
 use Rattle.protocol.specs.Mask.{inMask, union}
 use Rattle.protocol.specs.Frame.{kind, signer, frameHeight, signerMask, frameDigest, frameBlock, frameWellFormed, isStatement, isCertificate}
-use Rattle.protocol.specs.State.{State, Height, at, last, withHeight, decode, encode, holdsProposal, isNotarized, voteOf}
+use Rattle.protocol.specs.State.{State, Height, at, last, withHeight, decode, holdsProposal, isNotarized, voteOf}
 use Rattle.protocol.specs.View.{View, quorum}
 use Rattle.protocol.specs.Deliver.{withProposal, withNotarized, withMasks, withVote, votersFor, notarize, keepProposal, keepBlockVote, keepDummyVote, keepFinalize, keepBlockCertificate, keepDummyCertificate, keepFinalizeCertificate, keep, kept, readRows, clashRows, deliverRows, deliverCall}
 use Rattle.protocol.specs.MaskLaws.{inMask-add-self, inMask-add-other}

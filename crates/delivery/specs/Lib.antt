@@ -1,3 +1,4 @@
+-- What the contracts of Deliver's parts speak of, and laws about it.
 pub mod FrameReadLaws
 pub mod Given
 pub mod JoinLaws

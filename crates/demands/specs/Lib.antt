@@ -1,1 +1,2 @@
+-- The three demands on one page.
 pub mod Demands

@@ -3,7 +3,7 @@ ghost use mathlib.Core.Path.{_≡_};
 ghost use Prim.Native.Nat.{_<_, _≤_};
 ghost use Rattle.protocol.specs.Mask.{ones};
 ghost use Rattle.protocol.specs.View.{quorum as isQuorum, isDummy};
-ghost use Rattle.protocol.specs.State.{decode, at};
+ghost use Rattle.protocol.specs.State.{decode};
 ghost use Rattle.protocol.specs.Sound.{view};
 ghost use Rattle.fields.specs.Ready.{Sized, Within};
 

@@ -1,3 +1,4 @@
+-- What the contracts of Move's parts speak of, and laws about it.
 pub mod AppliesLaws
 pub mod Held
 pub mod Later

@@ -7,7 +7,7 @@ use mathlib.Core.List.{[], _++_, append-assoc}
 use lib.ListN.{length, take, drop, length-append, length-drop, take-append-drop}
 use lib.Seq.{take-append-seam, drop-at, drop-append-add, drop-append-seam, drop-drop, length-take-le}
 use Rattle.protocol.specs.Bytes.{Bytes, overFront}
-use Rattle.protocol.specs.BytesLaws.{put, length-put, middle-put}
+use Rattle.protocol.specs.BytesLaws.{put, middle-put}
 
 -- the first piece
 pub put-start : (bytes new : Bytes) → put bytes 0 new ≡ overFront new bytes
@@ -54,17 +54,6 @@ put-in-part bytes new start count i fits inside =
     let size : length lent ≡ count = length-take-le count (drop start bytes) (rw length-drop (omega arith)) in
     let whole : take start bytes ++ (lent ++ after) ≡ bytes = rw (take-append-drop count (drop start bytes)) (take-append-drop start bytes) in
     sym (rw whole at (middle-put (take start bytes) lent after start (length-take-le start bytes (omega arith)) i new (rw size inside)))
-
--- the same of two pieces, one after the other
-pub puts-in-part : (bytes new later : Bytes) (start count i j : ℕ) → start + count ≤ length bytes → i + length new ≤ count → j + length later ≤ count
-    → take start bytes ++ (put (put (take count (drop start bytes)) i new) j later ++ drop count (drop start bytes)) ≡ put (put bytes (start + i) new) (start + j) later
-puts-in-part bytes new later start count i j fits inside later-inside =
-    let lent = take count (drop start bytes) in
-    let after = drop count (drop start bytes) in
-    let size : length lent ≡ count = length-take-le count (drop start bytes) (rw length-drop (omega arith)) in
-    let front-size : length (take start bytes) ≡ start = length-take-le start bytes (omega arith) in
-    let kept : length (put lent i new) ≡ count = length-put lent i new (rw size inside) ∙ size in
-    sym (rw (← put-in-part bytes new start count i fits inside) (middle-put (take start bytes) (put lent i new) after start front-size j later (rw kept later-inside)))
 
 -- what was written to the part's front
 pub front-in-part : (bytes new : Bytes) (start count : ℕ) → start + count ≤ length bytes → length new ≤ count

@@ -1,3 +1,4 @@
+-- What the contracts of the calls' parts speak of, and laws about it.
 pub mod AnswerLaws
 pub mod CallLaws
 pub mod SoundBook

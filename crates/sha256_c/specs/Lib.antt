@@ -1,1 +1,2 @@
+-- What the function for C writes.
 pub mod Written

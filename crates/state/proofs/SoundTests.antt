@@ -104,10 +104,6 @@ module _ (digest : Bytes → Bytes) (book : Bytes) where
   unfolding bookRows allOf
   rows-not-head head = rw head
 
-  pub rows-head : allOf (bookRows book) ≡ true → allOf (headRows book) ≡ true
-  unfolding bookRows
-  rows-head rows = row _ 0 rows
-
   pub sound-final : allOf (bookRows book) ≡ true → finalRow digest book ≡ sound digest book
   unfolding bookRows
   sound-final rows =

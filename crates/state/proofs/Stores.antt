@@ -3,10 +3,10 @@ use Prim.Native.Nat.{ℕ, zero, suc, _+_, _-_, _*_, _≤_, _<_}
 use native.Mathlib.Omega.{arith}
 use native.Mathlib.Numerals.{unary-clauses}
 use mathlib.Core.Path.{_≡_, refl, sym, ap, subst, _∙_}
-use mathlib.Core.Logic.{_⊎_, inl, inr, ⊎-elim, _≢_}
+use mathlib.Core.Logic.{_⊎_, inl, inr, ⊎-elim}
 use mathlib.Core.Bool.{Bool, true, false, _&&_, cond, and-true, and-false}
 use mathlib.Core.List.{_++_}
-use lib.ListN.{length, take, drop, set, length-set, getD, length-take, List·getD-append}
+use lib.ListN.{length, take, drop, set, length-set, length-take, List·getD-append}
 use lib.Dec.{eqb, leb}
 use lib.Seq.{getD-set-same, getD-set-other, getD-take, getD-drop, getD-append-add, take-length, ext-getD}
 use borrow.Author.Tests.{eqb-false, eqb-true, le-leb, lt-leb}

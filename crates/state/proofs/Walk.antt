@@ -1,7 +1,7 @@
 -- What the walk over parent heights relies on: the digest that a block names, and a block's test by its parts.
 use Prim.Native.Nat.{ℕ, zero, suc, _+_, _-_, _*_, _≤_}
 use native.Mathlib.Omega.{arith}
-use mathlib.Core.Path.{_≡_, refl, sym, ap, subst, _∙_}
+use mathlib.Core.Path.{_≡_, refl, sym, ap, _∙_}
 use mathlib.Core.Logic.{_≢_}
 use mathlib.Core.Bool.{Bool, true, false, _&&_, and-true, and-false}
 use mathlib.Core.List.{[], _∷_}
@@ -14,7 +14,6 @@ use Rattle.protocol.specs.State.{decode, at, isNotarized}
 use Rattle.protocol.specs.Tests.{allOf}
 use Rattle.protocol.specs.View.{View, quorum, isDummy, digestAt, linked, extends, extendsOver, dummyRun, isFinalized, largestFinalized, parentOf}
 use Rattle.protocol.specs.BytesLaws.{length-part, put, put-all}
-use Rattle.protocol.specs.PlaceLaws.{suc-pred}
 use Rattle.protocol.specs.LinkedLaws.{linked-suc, linked-zero}
 use Rattle.protocol.specs.Sound.{view}
 use Rattle.sha256.specs.Digest.{sha256}

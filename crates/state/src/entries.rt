@@ -11,7 +11,6 @@ ghost use Rattle.protocol.specs.Sound.{view};
 ghost use Rattle.protocol.specs.View.{logAt};
 ghost use Rattle.protocol.specs.Move.{offered};
 ghost use Rattle.protocol.specs.Submit.{stillPending, withPending};
-ghost use Rattle.sha256.specs.Digest.{sha256};
 ghost use Rattle.fields.specs.Ready.{Sized, Ready};
 ghost use Rattle.state.specs.Walkable.{Walkable};
 

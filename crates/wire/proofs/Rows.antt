@@ -1,7 +1,7 @@
 -- A test that code makes in stages, and the part of a byte string to its end.
 use Prim.Native.Nat.{ℕ, _-_}
 use native.Mathlib.Nat.{le-refl}
-use mathlib.Core.Path.{_≡_, refl, _∙_}
+use mathlib.Core.Path.{_≡_, _∙_}
 use mathlib.Core.Bool.{Bool, true, false, _&&_}
 use lib.ListN.{length, take, drop, length-drop}
 use lib.Seq.{take-all}

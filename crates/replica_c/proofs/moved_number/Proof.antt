@@ -2,7 +2,7 @@
 use Prim.Native.Nat.{ℕ, _+_, _*_, _≤_}
 use mathlib.Core.Path.{_≡_, sym, ap, ap₂, subst, _∙_}
 use Rattle.protocol.specs.Answer.{moveNumber, moveHeight}
-use Rattle.answers.specs.Answers.{movedAnswer, certificateOf}
+use Rattle.answers.specs.Answers.{movedAnswer}
 use Rattle.answers.specs.declared.answer.Moved.{Moved}
 use Rattle.replica_c.specs.Packing.{packedMove, passKinds, answeredHeight}
 use borrow.Author.Needs.{needs}

@@ -2,7 +2,6 @@
 use native.Mathlib.Omega.{arith}
 use mathlib.Core.Path.{_≡_}
 use lib.ListN.{length, length-take, length-drop}
-use Rattle.sha256.specs.Digest.{sha256}
 use Rattle.protocol.specs.Block.{newBlock}
 use Rattle.protocol.specs.State.{decode}
 use Rattle.protocol.specs.Move.{offered}
