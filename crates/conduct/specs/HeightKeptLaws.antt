@@ -47,7 +47,7 @@ module _ (s : State) (i : ℕ) (high : i < last s) (y : Height) where
   s′ = withHeight s (suc i) y
 
   -- to prove something of each height afterwards, prove it of the new one and of the old ones
-  each-height : (P : ℕ → Height → Type 0) → P (suc i) y → ((h : ℕ) → 1 ≤ h → P h (at s h)) → (h : ℕ) → 1 ≤ h → P h (at s′ h)
+  pub each-height : (P : ℕ → Height → Type 0) → P (suc i) y → ((h : ℕ) → 1 ≤ h → P h (at s h)) → (h : ℕ) → 1 ≤ h → P h (at s′ h)
   each-height P new old zero low = absurd (omega arith)
   each-height P new old (suc j) low = go (ℕ-discrete j i)
     where

@@ -1,6 +1,6 @@
 -- What a delivery that is not refused keeps: the statements that its frame makes, all that was kept before, and nothing else;
 -- and a block is notarized if a certificate says so or the kept votes for the held proposal are a quorum.
-use Prim.Native.Nat.{ℕ, _<_}
+use Prim.Native.Nat.{ℕ, _≤_, _<_}
 use mathlib.Core.Path.{_≡_}
 use mathlib.Core.Logic.{_⊎_}
 use mathlib.Core.Bool.{Bool, true, _&&_, _||_, cond}
@@ -66,6 +66,10 @@ module _ (digest : Bytes → Bytes) (v : View) where
     pub votes : KeepsVotes (v .n) k frame x y
     pub proposal : KeepsProposal (v .n) k frame x y
     pub block : KeepsBlock k frame x y
+
+-- every height of a state is tallied
+abbrev pub AllTallied : (Bytes → Bytes) → State → Type 0
+AllTallied digest s = (h : ℕ) → 1 ≤ h → Tallied digest (view s) (at s h)
 
 -- ---- the whole state: only the frame's height has changed, and there what the frame states is kept
 pub record Keeps (digest : Bytes → Bytes) (s after : State) (frame : Bytes) : Type 0 where

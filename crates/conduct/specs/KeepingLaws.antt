@@ -30,7 +30,7 @@ use Rattle.protocol.specs.VoteLaws.{vote-same, vote-other}
 use Rattle.conduct.specs.DeliverKeptLaws.{ReadFacts, read-facts, keep-sound, shaped, digest-size, signer-small}
 use Rattle.conduct.specs.Keeping.{says, Keeps, KeepsMasks, KeepsVotes, KeepsProposal, KeepsBlock, KeepsAt, Voted, Tallied, ByVotes, voters}
 
-refused≢accepted : {A : Type 0} (number : ℕ) (answer : A) → refused number ≡ accepted answer → ⊥
+pub refused≢accepted : {A : Type 0} (number : ℕ) (answer : A) → refused number ≡ accepted answer → ⊥
 refused≢accepted number answer e = true≢false (let impossible : true ≡ false = cc in impossible)
 
 -- ---- bits of masks
@@ -422,7 +422,7 @@ module _ (digest : Bytes → Bytes) (book frame : Bytes) (passes : firstRefusal 
   unfolding deliverRows
   state = sound-decode digest book (row-passes _ _ passes .0)
 
-  facts : ReadFacts s frame
+  pub facts : ReadFacts s frame
   unfolding deliverRows
   facts = read-facts s frame (clashRows s frame) (row-passes _ _ passes .1)
 
@@ -435,7 +435,7 @@ module _ (digest : Bytes → Bytes) (book frame : Bytes) (passes : firstRefusal 
       let r7 = row-passes _ _ (r5 .1) in
       row-passes _ _ (r7 .1) .1
 
-  outcome : (o : Option Height) → keep digest s frame ≡ o → Keeps digest s (decode (kept digest book frame o .book)) frame
+  pub outcome : (o : Option Height) → keep digest s frame ≡ o → Keeps digest s (decode (kept digest book frame o .book)) frame
   unfolding kept left
   outcome none e =
       let same : after digest s state frame facts clash ≡ s = rw e (same-after digest s state frame facts clash (frameHeight frame) (facts .low)) in

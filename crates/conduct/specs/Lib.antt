@@ -3,6 +3,8 @@ pub mod SoundKept
 pub mod WrittenRead
 pub mod Keeping
 pub mod KeepingLaws
+pub mod Tallying
+pub mod TallyingLaws
 pub mod Fields
 pub mod Readable
 pub mod Named

@@ -27,7 +27,7 @@ use Rattle.conduct.specs.MoveKeptLaws.{step-sound, timer-sound}
 use Rattle.conduct.specs.SubmitKeptLaws.{submit-sound}
 
 -- to prove something of the book after a call, prove it of the old book and of the new one where no row refuses
-unless-refused : {A : Type 0} (P : Bytes → Type 0) (rows : List Row) (book : Bytes) (outcome : Outcome A) →
+pub unless-refused : {A : Type 0} (P : Bytes → Type 0) (rows : List Row) (book : Bytes) (outcome : Outcome A) →
     P book → (firstRefusal rows ≡ none → P (outcome .book)) → P (unlessRefused (firstRefusal rows) book outcome .book)
 unless-refused P rows book outcome old new = go (firstRefusal rows) new
   where

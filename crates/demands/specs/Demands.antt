@@ -2,6 +2,7 @@
 use Prim.Native.Nat.{ℕ, _≤_}
 use mathlib.Core.Path.{_≡_}
 use mathlib.Core.Bool.{true}
+use mathlib.Core.List.{List}
 use lib.ListN.{length}
 use borrow.Author.Tests.{le-leb}
 use Rattle.sha256.specs.Digest.{sha256}
@@ -11,13 +12,16 @@ use Rattle.protocol.specs.Tests.{firstRefusal}
 use Rattle.protocol.specs.State.{decode}
 use Rattle.protocol.specs.Sound.{sound}
 use Rattle.protocol.specs.SoundLaws.{sound-decode}
-use Rattle.protocol.specs.Answer.{Delivery, accepted}
+use Rattle.protocol.specs.Answer.{Delivery, accepted, done}
+use Rattle.protocol.specs.Open.{openCall}
 use Rattle.protocol.specs.Deliver.{deliverCall}
 use Rattle.protocol.specs.Move.{step, moved, moveRows, moveCall, unlessMoveRefused}
 use Rattle.agreement.specs.Lists.{Agreement}
 use Rattle.agreement.specs.AgreementLaws.{agreement}
-use Rattle.conduct.specs.Keeping.{Keeps}
+use Rattle.conduct.specs.Keeping.{Keeps, AllTallied}
 use Rattle.conduct.specs.KeepingLaws.{deliver-keeps}
+use Rattle.conduct.specs.SoundKept.{Call, bookAfterAll, sound-opened}
+use Rattle.conduct.specs.Tallying.{tallied-kept-all, tallied-opened}
 use Rattle.conduct.specs.Readable.{SameSetting}
 use Rattle.conduct.specs.WrittenRead.{MoveWritten, move-written-read, FetchWritten, fetch-written-read}
 use Rattle.simplex.specs.Steps.{FiveSteps}
@@ -37,6 +41,13 @@ the-five-steps book ok = five-steps sha256 sha256-length (decode book) (sound-de
 pub deliveries-keep : (book frame : Bytes) (news : Delivery) → deliverCall sha256 book frame .answer ≡ accepted news →
     Keeps sha256 (decode book) (decode (deliverCall sha256 book frame .book)) frame
 deliveries-keep = deliver-keeps sha256
+
+-- demand 2: on every book that calls make from an opened one, a proposal held with a quorum of kept votes has its height notarized
+pub votes-are-tallied : (book : Bytes) (n own heights : ℕ) (leaders : Bytes) (calls : List Call) →
+    openCall book n own heights leaders .answer ≡ accepted done →
+    AllTallied sha256 (decode (bookAfterAll sha256 calls (openCall book n own heights leaders .book)))
+votes-are-tallied book n own heights leaders calls opened =
+    tallied-kept-all sha256 calls _ (sound-opened sha256 book n own heights leaders opened) (tallied-opened sha256 book n own heights leaders opened)
 
 -- demand 2: each frame written is read over every book of the same n, H and leaders as the same statement
 pub moves-are-read : (book reply other : Bytes) → SameSetting (decode book) (decode other) → MoveWritten sha256 book reply other
