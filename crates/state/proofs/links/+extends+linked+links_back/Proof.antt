@@ -1,5 +1,5 @@
 -- `extends`, `linked` and `links_back` call each other and meet their contracts: the height falls on the way round.
-use Prim.Native.Nat.{ℕ, _+_, _*_}
+use Prim.Native.Nat.{ℕ, _+_, _*_, _<_}
 use borrow.Author.Needs.{needs}
 use native.Mathlib.Omega.{arith}
 use mathlib.Core.Path.{sym, ap, _∙_}

@@ -1,11 +1,11 @@
 -- `run_start` meets its contract: a height that is no dummy starts a run itself, and any other goes on with the run below. The measure is the height.
 use native.Mathlib.Omega.{arith}
 use borrow.Author.Needs.{needs}
-use mathlib.Core.Path.{sym, _∙_}
+use mathlib.Core.Path.{_≡_, sym, _∙_}
 use Rattle.protocol.specs.State.{decode}
 use Rattle.protocol.specs.Sound.{view}
 use Rattle.state.proofs.Stores.{start-zero, start-within, start-back, start-here, remember-run}
-use Prim.Native.Nat.{ℕ, _+_}
+use Prim.Native.Nat.{ℕ, _+_, _<_}
 use borrow.Fn.Kinds.{In}
 use borrow.Fn.PlainCycle.{Measures, is, falls, and}
 use Rattle.state.proofs.memory.run_start.Reads as run-start
