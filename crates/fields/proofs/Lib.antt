@@ -3,3 +3,4 @@ pub mod Counts
 pub mod Copies
 pub mod Writes
 pub mod Leaders
+pub mod Showing

@@ -2,3 +2,4 @@
 pub mod Numbered
 pub mod Ready
 pub mod ReadyLaws
+pub mod Shown

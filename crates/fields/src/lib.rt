@@ -4,6 +4,7 @@ pub mod head;
 pub mod height;
 mod inside;
 pub mod keep;
+pub mod kind;
 pub mod mask;
 pub mod pool;
 pub mod quorum;

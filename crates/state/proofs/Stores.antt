@@ -12,12 +12,10 @@ use lib.Seq.{getD-set-same, getD-set-other, getD-take, getD-drop, getD-append-ad
 use borrow.Author.Tests.{eqb-false, eqb-true, le-leb, lt-leb}
 use Rattle.protocol.specs.Bytes.{Bytes, byteAt, part}
 use Rattle.protocol.specs.BytesLaws.{put, length-put, length-part, byte-part, middle-part}
-use Rattle.protocol.specs.State.{decode, at}
 use Rattle.protocol.specs.View.{View, linked, isDummy, dummyRun}
-use Rattle.protocol.specs.Sound.{view}
 use Rattle.protocol.specs.TestsLaws.{le-or-lt}
 use Rattle.sha256.specs.Digest.{sha256}
-use Rattle.state.specs.Memo.{Memo, runStart}
+use Rattle.state.specs.Memo.{Known, runStart}
 
 -- two parts have the same bytes
 parts-same : (a b : Bytes) (i j k : ℕ) → i + k ≤ length a → j + k ≤ length b → ((m : ℕ) → m < k → byteAt a (i + m) ≡ byteAt b (j + m)) → part a i k ≡ part b j k
@@ -26,7 +24,7 @@ parts-same a b i j k p q each =
     (λ m l. let inside : m < k = rw (length-part a i k p) at l in byte-part a i k m inside ∙ each m inside ∙ sym (byte-part b j k m inside))
 
 -- ---- one byte is stored
-module _ (book known : Bytes) (memo : Memo book known) (i value : ℕ) (low : i < 192) where
+module _ (v : View) (known : Bytes) (memo : Known v known) (i value : ℕ) (low : i < 192) where
   cases : (k : ℕ) → ((k ≡ i) × (byteAt (set known i value) k ≡ value)) ⊎ (byteAt (set known i value) k ≡ byteAt known k)
   cases k = go (eqb k i) refl
     where
@@ -44,16 +42,16 @@ module _ (book known : Bytes) (memo : Memo book known) (i value : ℕ) (low : i 
       (λ m in-part. getD-set-other known i (192 + 32 * j + m) value 0 (λ e. omega arith))
 
   pub remember :
-      (i < 64 → value ≡ 1 → linked sha256 (view (decode book)) i ≡ true) → (i < 64 → value ≡ 2 → linked sha256 (view (decode book)) i ≡ false) →
-      ((j : ℕ) → 64 + j ≡ i → j < 64 → value ≡ 1 → part known (192 + 32 * j) 32 ≡ sha256 (at (decode book) j .notarized)) →
-      ((h : ℕ) → 128 + h ≡ i → value ≡ runStart (view (decode book)) h + 1) → Memo book (set known i value)
+      (i < 64 → value ≡ 1 → linked sha256 v i ≡ true) → (i < 64 → value ≡ 2 → linked sha256 v i ≡ false) →
+      ((j : ℕ) → 64 + j ≡ i → j < 64 → value ≡ 1 → part known (192 + 32 * j) 32 ≡ sha256 (v .block j)) →
+      ((h : ℕ) → 128 + h ≡ i → value ≡ runStart v h + 1) → Known v (set known i value)
   remember links no-links kept run = record {
     size = length-set known i value ∙ memo .size;
     is-linked = λ h high q. ⊎-elim
-        (λ (e : (h ≡ i) × (byteAt (set known i value) h ≡ value)). subst (λ (p : ℕ). linked sha256 (view (decode book)) p ≡ true) (sym (e .0)) (links (omega arith) (sym (e .1) ∙ q)))
+        (λ (e : (h ≡ i) × (byteAt (set known i value) h ≡ value)). subst (λ (p : ℕ). linked sha256 v p ≡ true) (sym (e .0)) (links (omega arith) (sym (e .1) ∙ q)))
         (λ (e : byteAt (set known i value) h ≡ byteAt known h). memo .is-linked h high (sym e ∙ q)) (cases h);
     not-linked = λ h high q. ⊎-elim
-        (λ (e : (h ≡ i) × (byteAt (set known i value) h ≡ value)). subst (λ (p : ℕ). linked sha256 (view (decode book)) p ≡ false) (sym (e .0)) (no-links (omega arith) (sym (e .1) ∙ q)))
+        (λ (e : (h ≡ i) × (byteAt (set known i value) h ≡ value)). subst (λ (p : ℕ). linked sha256 v p ≡ false) (sym (e .0)) (no-links (omega arith) (sym (e .1) ∙ q)))
         (λ (e : byteAt (set known i value) h ≡ byteAt known h). memo .not-linked h high (sym e ∙ q)) (cases h);
     digest = λ j high q. digests-stay j high ∙ ⊎-elim
         (λ (e : (64 + j ≡ i) × (byteAt (set known i value) (64 + j) ≡ value)). kept j (e .0) high (sym (e .1) ∙ q))
@@ -63,16 +61,16 @@ module _ (book known : Bytes) (memo : Memo book known) (i value : ℕ) (low : i 
         (λ (e : byteAt (set known i value) (128 + h) ≡ byteAt known (128 + h)). e ∙ memo .run h high (omega arith)) (cases (128 + h));
   }
 
-module _ (book known : Bytes) (memo : Memo book known) (h : ℕ) (inside : h < 64) where
-  pub remember-linked : linked sha256 (view (decode book)) h ≡ true → Memo book (set known h 1)
-  remember-linked e = remember book known memo h 1 (omega arith) (λ _ q. e) (λ _ q. absurd (omega arith)) (λ j p high q. absurd (omega arith)) (λ k p. absurd (omega arith))
+module _ (v : View) (known : Bytes) (memo : Known v known) (h : ℕ) (inside : h < 64) where
+  pub remember-linked : linked sha256 v h ≡ true → Known v (set known h 1)
+  remember-linked e = remember v known memo h 1 (omega arith) (λ _ q. e) (λ _ q. absurd (omega arith)) (λ j p high q. absurd (omega arith)) (λ k p. absurd (omega arith))
 
-  pub remember-unlinked : linked sha256 (view (decode book)) h ≡ false → Memo book (set known h 2)
-  remember-unlinked e = remember book known memo h 2 (omega arith) (λ _ q. absurd (omega arith)) (λ _ q. e) (λ j p high q. absurd (omega arith)) (λ k p. absurd (omega arith))
+  pub remember-unlinked : linked sha256 v h ≡ false → Known v (set known h 2)
+  remember-unlinked e = remember v known memo h 2 (omega arith) (λ _ q. absurd (omega arith)) (λ _ q. e) (λ j p high q. absurd (omega arith)) (λ k p. absurd (omega arith))
 
-  pub remember-run : (start : ℕ) → start ≡ runStart (view (decode book)) h → Memo book (set known (128 + h) (start + 1))
+  pub remember-run : (start : ℕ) → start ≡ runStart v h → Known v (set known (128 + h) (start + 1))
   remember-run start e =
-      remember book known memo (128 + h) (start + 1) (omega arith) (λ low q. absurd (omega arith)) (λ low q. absurd (omega arith)) (λ j p high q. absurd (omega arith))
+      remember v known memo (128 + h) (start + 1) (omega arith) (λ low q. absurd (omega arith)) (λ low q. absurd (omega arith)) (λ j p high q. absurd (omega arith))
       (λ k p. let same-height : k ≡ h = omega arith in rw (e, same-height))
 
 -- ---- a digest is stored
@@ -104,7 +102,7 @@ module _ (bytes new : Bytes) (i : ℕ) (fits : i + length new ≤ length bytes) 
       middle-part (take i bytes) new (drop (i + length new) bytes) i s 0 (length new) (omega arith) in
       simp unary-clauses at (inner ∙ take-length new)
 
-module _ (book known : Bytes) (memo : Memo book known) (j : ℕ) (inside : j < 64) (new : Bytes) (whole : length new ≡ 32) where
+module _ (v : View) (known : Bytes) (memo : Known v known) (j : ℕ) (inside : j < 64) (new : Bytes) (whole : length new ≡ 32) where
   abbrev after : Bytes
   after = put known (192 + 32 * j) new
 
@@ -129,7 +127,7 @@ module _ (book known : Bytes) (memo : Memo book known) (j : ℕ) (inside : j < 6
       side m in-part (inr below) = inl (omega arith)
 
   -- the bytes of a digest may be stored as long as none is said to be kept there
-  remember-bytes : (byteAt known (64 + j) ≡ 1 → ⊥) → Memo book after
+  remember-bytes : (byteAt known (64 + j) ≡ 1 → ⊥) → Known v after
   remember-bytes unkept = record {
     size = length-put known (192 + 32 * j) new fits ∙ memo .size;
     is-linked = λ h high q. memo .is-linked h high (sym (rows-stay h (omega arith)) ∙ q);
@@ -138,31 +136,31 @@ module _ (book known : Bytes) (memo : Memo book known) (j : ℕ) (inside : j < 6
     run = λ h high q. let e = rows-stay (128 + h) (omega arith) in e ∙ memo .run h high (omega arith);
   }
     where
-      elsewhere : (k : ℕ) → k < 64 → byteAt known (64 + k) ≡ 1 → (b : Bool) → eqb k j ≡ b → part after (192 + 32 * k) 32 ≡ sha256 (at (decode book) k .notarized)
+      elsewhere : (k : ℕ) → k < 64 → byteAt known (64 + k) ≡ 1 → (b : Bool) → eqb k j ≡ b → part after (192 + 32 * k) 32 ≡ sha256 (v .block k)
       elsewhere k high q true e = absurd (unkept (subst (λ (p : ℕ). byteAt known (64 + p) ≡ 1) (eqb-true k j e) q))
       elsewhere k high q false e = others-stay k high (eqb-false k j e) ∙ memo .digest k high q
 
-  module _ (unkept : byteAt known (64 + j) ≡ 1 → ⊥) (is : new ≡ sha256 (at (decode book) j .notarized)) where
-    there : part after (192 + 32 * j) 32 ≡ sha256 (at (decode book) j .notarized)
+  module _ (unkept : byteAt known (64 + j) ≡ 1 → ⊥) (is : new ≡ sha256 (v .block j)) where
+    there : part after (192 + 32 * j) 32 ≡ sha256 (v .block j)
     there = subst (λ (k : ℕ). part after (192 + 32 * j) k ≡ new) whole (put-there known new (192 + 32 * j) fits) ∙ is
 
-    remember-digest : Memo book (set after (64 + j) 1)
-    remember-digest = remember book after (remember-bytes unkept) (64 + j) 1 (omega arith)
+    remember-digest : Known v (set after (64 + j) 1)
+    remember-digest = remember v after (remember-bytes unkept) (64 + j) 1 (omega arith)
         (λ low q. absurd (omega arith))
         (λ low q. absurd (omega arith))
-        (λ k p high q. let same-height : j ≡ k = omega arith in subst (λ (i : ℕ). part after (192 + 32 * i) 32 ≡ sha256 (at (decode book) i .notarized)) same-height there)
+        (λ k p high q. let same-height : j ≡ k = omega arith in subst (λ (i : ℕ). part after (192 + 32 * i) 32 ≡ sha256 (v .block i)) same-height there)
         (λ h p. absurd (omega arith))
 
-    digest-kept : part (set after (64 + j) 1) (192 + 32 * j) 32 ≡ sha256 (at (decode book) j .notarized)
+    digest-kept : part (set after (64 + j) 1) (192 + 32 * j) 32 ≡ sha256 (v .block j)
     digest-kept =
         let s = memo .size in
         let s′ = length-put known (192 + 32 * j) new fits in
         remember-digest .digest j inside (getD-set-same after (64 + j) 1 0 (omega arith))
 
     -- the same after a store whose outcome is known by an equation
-    pub stored : (stores : Bytes) → stores ≡ after → (part (set stores (64 + j) 1) (192 + 32 * j) 32 ≡ sha256 (at (decode book) j .notarized)) × Memo book (set stores (64 + j) 1)
+    pub stored : (stores : Bytes) → stores ≡ after → (part (set stores (64 + j) 1) (192 + 32 * j) 32 ≡ sha256 (v .block j)) × Known v (set stores (64 + j) 1)
     stored stores e =
-        subst (λ (s : Bytes). (part (set s (64 + j) 1) (192 + 32 * j) 32 ≡ sha256 (at (decode book) j .notarized)) × Memo book (set s (64 + j) 1)) (sym e) (digest-kept, remember-digest)
+        subst (λ (s : Bytes). (part (set s (64 + j) 1) (192 + 32 * j) 32 ≡ sha256 (v .block j)) × Known v (set s (64 + j) 1)) (sym e) (digest-kept, remember-digest)
 
 -- ---- runs of dummies
 module _ (v : View) where

@@ -10,16 +10,11 @@ use lib.ListN.{length, take, drop}
 use lib.Dec.{ltb}
 use Rattle.protocol.specs.Bytes.{Bytes, byteAt, part, zeros, same}
 use Rattle.protocol.specs.Block.{parentHeight, parentDigest}
-use Rattle.protocol.specs.State.{decode, at, isNotarized}
 use Rattle.protocol.specs.Tests.{allOf}
 use Rattle.protocol.specs.View.{View, quorum, isDummy, digestAt, linked, extends, extendsOver, dummyRun, isFinalized, largestFinalized, parentOf}
 use Rattle.protocol.specs.BytesLaws.{length-part, put, put-all}
 use Rattle.protocol.specs.LinkedLaws.{linked-suc, linked-zero}
-use Rattle.protocol.specs.Sound.{view}
 use Rattle.sha256.specs.Digest.{sha256}
-use Rattle.fields.specs.Ready.{Within}
-use Rattle.fields.proofs.Places.{notarized-size as block-size}
-use Rattle.state.specs.Memo.{Readable}
 
 -- ---- the digest that a block names
 pub digest-start : (v : View) (j : ℕ) → j ≡ 0 → zeros 32 ≡ digestAt sha256 v j
@@ -27,19 +22,19 @@ unfolding digestAt
 digest-start v zero e = refl
 digest-start v (suc j) e = absurd (omega arith)
 
-digest-block : (book : Bytes) (j : ℕ) → j ≢ 0 → sha256 (at (decode book) j .notarized) ≡ digestAt sha256 (view (decode book)) j
-unfolding digestAt view
-digest-block book zero no-zero = absurd (no-zero refl)
-digest-block book (suc j) no-zero = refl
+digest-block : (v : View) (j : ℕ) → j ≢ 0 → sha256 (v .block j) ≡ digestAt sha256 v j
+unfolding digestAt
+digest-block v zero no-zero = absurd (no-zero refl)
+digest-block v (suc j) no-zero = refl
 
 -- the digest that a memory keeps, copied over 32 bytes
-pub digest-copied : (book known old : Bytes) (j count : ℕ) → j ≢ 0 → count ≡ 32 → length old ≡ 32 → 192 + 32 * j + 32 ≤ length known →
-    part known (192 + 32 * j) 32 ≡ sha256 (at (decode book) j .notarized) → put old 0 (take count (drop (192 + 32 * j) known)) ≡ digestAt sha256 (view (decode book)) j
+pub digest-copied : (v : View) (known old : Bytes) (j count : ℕ) → j ≢ 0 → count ≡ 32 → length old ≡ 32 → 192 + 32 * j + 32 ≤ length known →
+    part known (192 + 32 * j) 32 ≡ sha256 (v .block j) → put old 0 (take count (drop (192 + 32 * j) known)) ≡ digestAt sha256 v j
 unfolding part
-digest-copied book known old j count no-zero whole size fits kept =
+digest-copied v known old j count no-zero whole size fits kept =
     ap (λ (k : ℕ). put old 0 (take k (drop (192 + 32 * j) known))) whole
     ∙ put-all old (take 32 (drop (192 + 32 * j) known)) (size ∙ sym (unfold part in length-part known (192 + 32 * j) 32 fits))
-    ∙ kept ∙ digest-block book j no-zero
+    ∙ kept ∙ digest-block v j no-zero
 
 pub names-digest : (block digest : Bytes) → same (take 32 (drop 16 block)) digest ≡ same (parentDigest block) digest
 unfolding parentDigest part
@@ -77,38 +72,32 @@ module _ (v : View) (h j : ℕ) (block : Bytes) (names : parentHeight block ≡ 
       all-false false b c = refl
 
 -- ---- linked heights
-pub linked-by-block : (book : Bytes) (h : ℕ) → 1 ≤ h → isNotarized (at (decode book) h) ≡ true →
-    linked sha256 (view (decode book)) h ≡ extends sha256 (view (decode book)) h (at (decode book) h .notarized)
-linked-by-block book zero low e = absurd (omega arith)
-linked-by-block book (suc i) low e = linked-suc sha256 (view (decode book)) i ∙ (unfold view in rw e)
+pub linked-by-block : (v : View) (h : ℕ) → 1 ≤ h → v .hasBlock h ≡ true →
+    linked sha256 v h ≡ extends sha256 v h (v .block h)
+linked-by-block v zero low e = absurd (omega arith)
+linked-by-block v (suc i) low e = linked-suc sha256 v i ∙ rw e
 
-pub not-linked-without : (book : Bytes) (h : ℕ) → 1 ≤ h → isNotarized (at (decode book) h) ≡ false → linked sha256 (view (decode book)) h ≡ false
-not-linked-without book zero low e = absurd (omega arith)
-not-linked-without book (suc i) low e = linked-suc sha256 (view (decode book)) i ∙ (unfold view in rw e)
+pub not-linked-without : (v : View) (h : ℕ) → 1 ≤ h → v .hasBlock h ≡ false → linked sha256 v h ≡ false
+not-linked-without v zero low e = absurd (omega arith)
+not-linked-without v (suc i) low e = linked-suc sha256 v i ∙ rw e
 
-pub linked-start : (book : Bytes) (h : ℕ) → h ≡ 0 → linked sha256 (view (decode book)) h ≡ true
-linked-start book h e = rw e (linked-zero sha256 (view (decode book)))
+pub linked-start : (v : View) (h : ℕ) → h ≡ 0 → linked sha256 v h ≡ true
+linked-start v h e = rw e (linked-zero sha256 v)
 
 -- the parent height as the code reads it
 pub names-parent-height : (block : Bytes) → parentHeight block ≡ byteAt block 2
 unfolding parentHeight
 names-parent-height block = refl
 
-pub notarized-size : (book : Bytes) (h : ℕ) → Readable book → Within book h → length (at (decode book) h .notarized) ≡ 176
-notarized-size book h r w = block-size book h (r .sized .size) w
-
 -- ---- finalized heights
-module _ (book : Bytes) (h : ℕ) where
-  abbrev here : View
-  here = view (decode book)
+module _ (v : View) (h : ℕ) where
+  pub finalized-by-link : quorum v (v .finalizeMask h) ≡ true → linked sha256 v h ≡ isFinalized sha256 v h
+  unfolding isFinalized
+  finalized-by-link e = rw e (sym (and-true (linked sha256 v h)))
 
-  pub finalized-by-link : quorum here (at (decode book) h .finalizeMask) ≡ true → linked sha256 here h ≡ isFinalized sha256 here h
-  unfolding isFinalized view
-  finalized-by-link e = rw e (sym (and-true (linked sha256 (view (decode book)) h)))
-
-  pub not-finalized-without : quorum here (at (decode book) h .finalizeMask) ≡ false → isFinalized sha256 here h ≡ false
-  unfolding isFinalized view
-  not-finalized-without e = rw e (and-false (linked sha256 (view (decode book)) h))
+  pub not-finalized-without : quorum v (v .finalizeMask h) ≡ false → isFinalized sha256 v h ≡ false
+  unfolding isFinalized
+  not-finalized-without e = rw e (and-false (linked sha256 v h))
 
 -- ---- from the top down
 module _ (v : View) where

@@ -1,45 +1,46 @@
 // What a call remembers of a book while it walks it, so that it looks at each height, counts each mask and computes each digest once.
 // A memory has three bytes a height, in three rows of 64 (linked or not; digest kept or not; where a run of dummies starts),
 // and then 32 bytes a height for digests.
+use fields::kind::Kind;
 ghost use mathlib.Core.Path.{_≡_};
 ghost use Prim.Native.Nat.{_+_, _*_, _-_, _≤_};
 ghost use Rattle.sha256.specs.Digest.{sha256 as sha};
 ghost use Rattle.protocol.specs.Bytes.{part};
-ghost use Rattle.protocol.specs.State.{decode, at, bookHeights};
-ghost use Rattle.protocol.specs.Sound.{view};
+ghost use Rattle.protocol.specs.State.{bookHeights};
 ghost use Rattle.protocol.specs.View.{dummyRun};
 ghost use Rattle.fields.specs.Ready.{Within};
-ghost use Rattle.state.specs.Memo.{Readable, Memo, runStart};
+ghost use Rattle.fields.specs.Shown.{Shown, viewOf};
+ghost use Rattle.state.specs.Memo.{Known, runStart};
 
 // The size of a memory.
 pub const SIZE: usize = 2240;
 
 // Keeps the digest of the notarized block of height `j`. Costs one digest where it is not kept yet, and one read where it is.
-pub fn keep_digest(book: &[u8], j: usize, known: &mut [u8])
-    requires { ⌜ Readable (now book) ⌝ }
-    requires { ⌜ Memo (now book) (now known) ⌝ }
+pub fn keep_digest(kind: Kind, book: &[u8], j: usize, known: &mut [u8])
+    requires { ⌜ Shown kind (now book) ⌝ }
+    requires { ⌜ Known (viewOf kind (now book)) (now known) ⌝ }
     requires { ⌜ Within (now book) j ⌝ }
-    ensures kept { λ _. ⌜ part (now (known .exit)) (192 + 32 * j) 32 ≡ sha (at (decode (now (book .entry))) j .notarized) ⌝ }
-    ensures memo { λ _. ⌜ Memo (now (book .entry)) (now (known .exit)) ⌝ }
+    ensures kept { λ _. ⌜ part (now (known .exit)) (192 + 32 * j) 32 ≡ sha (viewOf kind (now (book .entry)) .block j) ⌝ }
+    ensures memo { λ _. ⌜ Known (viewOf kind (now (book .entry))) (now (known .exit)) ⌝ }
 {
     let kept = known[64 + j];
     if kept == 1 {
         return;
     }
-    let digest = sha256::sha256(fields::height::notarized(book, j));
+    let digest = sha256::sha256(fields::kind::block(kind, book, j));
     wire::bytes::copy_to(known, 192 + 32 * j, &digest);
     known[64 + j] = 1;
 }
 
 // The height below the run of dummy blocks that ends at height `h`: `h` itself where its dummy block is not notarized.
 // Each call goes to a lower height.
-fn run_start(book: &[u8], h: usize, known: &mut [u8]) -> usize
-    requires { ⌜ Readable (now book) ⌝ }
-    requires { ⌜ Memo (now book) (now known) ⌝ }
+fn run_start(kind: Kind, book: &[u8], h: usize, known: &mut [u8]) -> usize
+    requires { ⌜ Shown kind (now book) ⌝ }
+    requires { ⌜ Known (viewOf kind (now book)) (now known) ⌝ }
     requires { ⌜ h ≤ bookHeights (now book) ⌝ }
-    ensures answer { λ r. ⌜ r ≡ runStart (view (decode (now (book .entry)))) h ⌝ }
+    ensures answer { λ r. ⌜ r ≡ runStart (viewOf kind (now (book .entry))) h ⌝ }
     ensures within { λ r. ⌜ r ≤ h ⌝ }
-    ensures memo { λ _. ⌜ Memo (now (book .entry)) (now (known .exit)) ⌝ }
+    ensures memo { λ _. ⌜ Known (viewOf kind (now (book .entry))) (now (known .exit)) ⌝ }
 {
     if h == 0 {
         return 0;
@@ -48,8 +49,8 @@ fn run_start(book: &[u8], h: usize, known: &mut [u8]) -> usize
     if 0 < seen {
         return seen - 1;
     }
-    if fields::quorum::is_dummy(book, h) {
-        let start = run_start(book, h - 1, known);
+    if fields::kind::is_dummy(kind, book, h) {
+        let start = run_start(kind, book, h - 1, known);
         known[128 + h] = (start + 1) as u8;
         start
     } else {
@@ -59,15 +60,15 @@ fn run_start(book: &[u8], h: usize, known: &mut [u8]) -> usize
 }
 
 // Whether the dummy blocks of the heights after `j` up to `top` are notarized. Where there are none, nothing is counted.
-pub fn dummies_after(book: &[u8], j: usize, top: usize, known: &mut [u8]) -> bool
-    requires { ⌜ Readable (now book) ⌝ }
-    requires { ⌜ Memo (now book) (now known) ⌝ }
+pub fn dummies_after(kind: Kind, book: &[u8], j: usize, top: usize, known: &mut [u8]) -> bool
+    requires { ⌜ Shown kind (now book) ⌝ }
+    requires { ⌜ Known (viewOf kind (now book)) (now known) ⌝ }
     requires { ⌜ (j ≤ top) × (top ≤ bookHeights (now book)) ⌝ }
-    ensures answer { λ r. ⌜ r ≡ dummyRun (view (decode (now (book .entry)))) j (top - j) ⌝ }
-    ensures memo { λ _. ⌜ Memo (now (book .entry)) (now (known .exit)) ⌝ }
+    ensures answer { λ r. ⌜ r ≡ dummyRun (viewOf kind (now (book .entry))) j (top - j) ⌝ }
+    ensures memo { λ _. ⌜ Known (viewOf kind (now (book .entry))) (now (known .exit)) ⌝ }
 {
     if j == top {
         return true;
     }
-    run_start(book, top, known) <= j
+    run_start(kind, book, top, known) <= j
 }

@@ -5,7 +5,7 @@ use mathlib.Core.Path.{ap, _∙_}
 use lib.ListN.{length}
 use Rattle.protocol.specs.Bytes.{Bytes, overFront}
 use Rattle.protocol.specs.State.{decode}
-use Rattle.state.proofs.Walk.{notarized-size}
+use Rattle.fields.proofs.Places.{notarized-size}
 use Rattle.replica.proofs.Certificates.{frame-block, frame-signers}
 use borrow.Author.Needs.{needs}
 use Rattle.replica.proofs.fetch.write_certificate.Statement.{statement}
@@ -27,7 +27,7 @@ write-block-certificate-requires c κs =
       z .pre .1 .1 .1,
       (
         (small, c .before .before .before .mask-at .ensures .1),
-        ap length (c .before .notarized .ensures) ∙ notarized-size (z .args .book .now) (z .args .height) (z .pre .0 .readable) (z .pre .1 .0),
+        ap length (c .before .notarized .ensures) ∙ notarized-size (z .args .book .now) (z .args .height) (z .pre .0 .readable .sized .size) (z .pre .1 .0),
       ),
     )
 

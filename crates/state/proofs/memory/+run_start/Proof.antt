@@ -2,8 +2,7 @@
 use native.Mathlib.Omega.{arith}
 use borrow.Author.Needs.{needs}
 use mathlib.Core.Path.{_≡_, sym, _∙_}
-use Rattle.protocol.specs.State.{decode}
-use Rattle.protocol.specs.Sound.{view}
+use Rattle.fields.specs.Shown.{viewOf}
 use Rattle.state.proofs.Stores.{start-zero, start-within, start-back, start-here, remember-run}
 use Prim.Native.Nat.{ℕ, _+_, _<_}
 use borrow.Fn.Kinds.{In}
@@ -11,12 +10,12 @@ use borrow.Fn.PlainCycle.{Measures, is, falls, and}
 use Rattle.state.proofs.memory.run_start.Reads as run-start
 use Rattle.state.proofs.memory.run_start.Kinds as run-start-kinds
 use Rattle.state.proofs.memory.+run_start.Lts-run_start as run-start-lts
-use Rattle.fields.proofs.quorum.is_dummy.Reads as is-dummy-reads
+use Rattle.fields.proofs.kind.is_dummy.Reads as is-dummy-reads
 use Rattle.state.proofs.memory.+run_start.{statement}
 use Rattle.state.proofs.memory.+run_start.Tie.{close}
 
 abbrev μ-run-start : Measures 2 run-start-kinds.ps ℕ
-μ-run-start κs a = a .1 .0
+μ-run-start κs a = a .1 .1 .0
 
 abbrev run-start-at : ℕ → In 2 run-start-kinds.ps
 run-start-at t = and 2 run-start-kinds.ps (is 2 run-start-kinds.ps μ-run-start t) run-start.Pre
@@ -33,7 +32,7 @@ run-start-returns : (t : ℕ) → run-start-lts.Need-returns (
 ) (run-start-at t) run-start.Post
 run-start-returns t c =
     let z = c .before .before .before in
-    (start-zero (view (decode (z .args .book .now))) (z .args .h) (c .if1 .taken), (omega arith, z .pre .1 .1 .0))
+    (start-zero (viewOf (z .args .kind) (z .args .book .now)) (z .args .h) (c .if1 .taken), (omega arith, z .pre .1 .1 .0))
 
 run-start-add-seen : (t : ℕ) → run-start-lts.Need-add-seen (
   is-dummy-reads.Asked,
@@ -76,7 +75,7 @@ run-start-returns-2 : (t : ℕ) → run-start-lts.Need-returns-2 (
 run-start-returns-2 t c =
     let z = c .before .before .before .before .before in
     let e = z .pre .1 .1 .0 .run (z .args .h) (omega arith) (c .if2 .taken) in
-    let low = start-within (view (decode (z .args .book .now))) (z .args .h) in
+    let low = start-within (viewOf (z .args .kind) (z .args .book .now)) (z .args .h) in
     (omega arith, (omega arith, z .pre .1 .1 .0))
 
 run-start-is-dummy-requires : (t : ℕ) → run-start-lts.Need-is-dummy-requires (
@@ -87,7 +86,7 @@ run-start-is-dummy-requires : (t : ℕ) → run-start-lts.Need-is-dummy-requires
 ) (run-start-at t) run-start.Post
 run-start-is-dummy-requires t c κs =
     let z = c .before .before .before .before .before in
-    (z .pre .1 .0 .sized, (z .pre .1 .0 .replicas, record { low = omega arith; high = z .pre .1 .1 .1 }))
+    (z .pre .1 .0, record { low = omega arith; high = z .pre .1 .1 .1 })
 
 run-start-sub-run-start : (t : ℕ) → run-start-lts.Need-sub-run-start (
   is-dummy-reads.Asked,
@@ -187,10 +186,10 @@ run-start-returns-3 : (t : ℕ) → run-start-lts.Need-returns-3 (
 ) (run-start-at t) run-start.Post
 run-start-returns-3 t c =
     let z = c .before .before .before .before .before .before .before .before .before .before .before in
-    let v = view (decode (z .args .book .now)) in
+    let v = viewOf (z .args .kind) (z .args .book .now) in
     let below = c .before .before .run-start in
     let answer = below .ensures .0 ∙ start-back v (z .args .h) (omega arith) (sym (c .before .before .before .before .before .is-dummy .ensures) ∙ c .before .before .before .before .if3 .taken) in
-    (answer, (omega arith, remember-run (z .args .book .now) (below .last .1 .1 .0) (below .ensures .1 .1) (z .args .h) (omega arith) (below .result) answer))
+    (answer, (omega arith, remember-run v (below .last .1 .1 .1 .0) (below .ensures .1 .1) (z .args .h) (omega arith) (below .result) answer))
 
 run-start-same-length-2 : (t : ℕ) → run-start-lts.Need-same-length-2 (
   is-dummy-reads.Asked,
@@ -208,9 +207,9 @@ run-start-returns-4 : (t : ℕ) → run-start-lts.Need-returns-4 (
 ) (run-start-at t) run-start.Post
 run-start-returns-4 t c =
     let z = c .before .before .before .before .before .before .before in
-    let v = view (decode (z .args .book .now)) in
+    let v = viewOf (z .args .kind) (z .args .book .now) in
     let answer = start-here v (z .args .h) (omega arith) (sym (c .before .is-dummy .ensures) ∙ c .if3 .left) in
-    (answer, (omega arith, remember-run (z .args .book .now) (z .args .known .now) (z .pre .1 .1 .0) (z .args .h) (omega arith) (z .args .h) answer))
+    (answer, (omega arith, remember-run v (z .args .known .now) (z .pre .1 .1 .0) (z .args .h) (omega arith) (z .args .h) answer))
 
 pub +run-start-spec : {M : Type 1} → statement M
 +run-start-spec = close μ-run-start λ t. run-start-lts.spec (

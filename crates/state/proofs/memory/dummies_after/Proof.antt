@@ -2,8 +2,7 @@
 use Prim.Native.Nat.{ℕ}
 use mathlib.Core.Path.{ap, _∙_}
 use lib.Dec.{leb}
-use Rattle.protocol.specs.State.{decode}
-use Rattle.protocol.specs.Sound.{view}
+use Rattle.fields.specs.Shown.{viewOf}
 use Rattle.state.proofs.Stores.{run-none, run-is}
 use borrow.Author.Needs.{needs}
 use Rattle.state.proofs.memory.dummies_after.Statement.{statement}
@@ -12,7 +11,7 @@ use Rattle.state.proofs.memory.dummies_after.Tie as tie
 returns : tie.Need-returns
 returns c =
     let z = c .before .before .before in
-    (run-none (view (decode (z .args .book .now))) (z .args .j) (z .args .top) (c .if1 .taken), z .pre .1 .0)
+    (run-none (viewOf (z .args .kind) (z .args .book .now)) (z .args .j) (z .args .top) (c .if1 .taken), z .pre .1 .0)
 
 run-start-requires : tie.Need-run-start-requires
 run-start-requires c κs =
@@ -26,7 +25,7 @@ returns-2 : tie.Need-returns-2
 returns-2 c =
     let z = c .before .before .before .before .before .before .before in
     let start = c .before .before .run-start in
-    (ap (λ (s : ℕ). leb s (z .args .j)) (start .ensures .0) ∙ run-is (view (decode (z .args .book .now))) (z .args .j) (z .args .top) (z .pre .1 .1 .0), start .ensures .1 .1)
+    (ap (λ (s : ℕ). leb s (z .args .j)) (start .ensures .0) ∙ run-is (viewOf (z .args .kind) (z .args .book .now)) (z .args .j) (z .args .top) (z .pre .1 .1 .0), start .ensures .1 .1)
 
 pub dummies-after-spec : {M : Type 1} → statement M
 dummies-after-spec = tie.close (tie.spec returns run-start-requires same-length returns-2)

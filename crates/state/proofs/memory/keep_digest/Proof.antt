@@ -3,6 +3,7 @@ use native.Mathlib.Omega.{arith}
 use mathlib.Core.Path.{_≡_, ap, _∙_}
 use lib.ListN.{length}
 use Rattle.sha256.specs.Digest.{sha256}
+use Rattle.fields.specs.Shown.{viewOf}
 use Rattle.state.proofs.Stores.{stored}
 use borrow.Author.Needs.{needs}
 use Rattle.state.proofs.memory.keep_digest.Statement.{statement}
@@ -19,8 +20,8 @@ returns c =
     let z = c .before .before .before .before in
     (z .pre .1 .0 .digest (z .args .j) (omega arith) (c .if1 .taken), z .pre .1 .0)
 
-notarized-requires : tie.Need-notarized-requires
-notarized-requires c κs = search needs
+block-requires : tie.Need-block-requires
+block-requires c κs = search needs
 
 sha256-requires : tie.Need-sha256-requires
 sha256-requires c κs = search needs
@@ -52,8 +53,8 @@ returns-2 c =
     let copied = c .before .before .copy-to in
     let hashed = c .before .before .before .before .before .sha256 in
     let whole : length (hashed .result) ≡ 32 = omega arith in
-    stored (z .args .book .now) (z .args .known .now) (z .pre .1 .0) (z .args .j) (omega arith) (hashed .result) whole (c .before .before .before .before .before .before .before .if1 .left)
-    (hashed .ensures ∙ ap sha256 (c .before .before .before .before .before .before .notarized .ensures)) (copied .last .0) (copied .ensures)
+    stored (viewOf (z .args .kind) (z .args .book .now)) (z .args .known .now) (z .pre .1 .0) (z .args .j) (omega arith) (hashed .result) whole (c .before .before .before .before .before .before .before .if1 .left)
+    (hashed .ensures ∙ ap sha256 (c .before .before .before .before .before .before .block .ensures .0)) (copied .last .0) (copied .ensures)
 
 pub keep-digest-spec : {M : Type 1} → statement M
 keep-digest-spec =
@@ -62,7 +63,7 @@ keep-digest-spec =
     add-kept
     slice-read-kept
     returns
-    notarized-requires
+    block-requires
     sha256-requires
     mul-copy-to
     add-copy-to

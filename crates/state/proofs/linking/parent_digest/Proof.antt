@@ -4,18 +4,17 @@ use native.Mathlib.Omega.{arith}
 use mathlib.Core.Path.{_∙_}
 use Rattle.protocol.specs.Bytes.{zeros}
 use Rattle.protocol.specs.BytesLaws.{length-zeros}
-use Rattle.protocol.specs.State.{decode}
-use Rattle.protocol.specs.Sound.{view}
+use Rattle.fields.specs.Shown.{viewOf}
 use Rattle.state.proofs.Walk.{digest-start, digest-copied}
 use borrow.Author.Needs.{needs}
-use Rattle.state.proofs.links.parent_digest.Statement.{statement}
-use Rattle.state.proofs.links.parent_digest.Tie as tie
+use Rattle.state.proofs.linking.parent_digest.Statement.{statement}
+use Rattle.state.proofs.linking.parent_digest.Tie as tie
 
 returns : tie.Need-returns
 unfolding zeros
 returns c =
     let z = c .before .before .before in
-    (digest-start (view (decode (z .args .book .now))) (z .args .j) (c .if1 .taken), z .pre .1 .0)
+    (digest-start (viewOf (z .args .kind) (z .args .book .now)) (z .args .j) (c .if1 .taken), z .pre .1 .0)
 
 keep-digest-requires : tie.Need-keep-digest-requires
 keep-digest-requires c κs =
@@ -55,7 +54,7 @@ returns-2 c =
     let z = c .before .before .before .before .before .before .before .before .before .before .before .before in
     let j = z .args .j in
     let kept = c .before .before .before .before .before .before .before .keep-digest in
-    (c .before .copy-to .ensures ∙ digest-copied (z .args .book .now) (kept .last .1 .1 .0) (zeros 32) j (192 + 32 * j + 32 - (192 + 32 * j)) (c .before .before .before .before .before .before .before .before .before .if1 .left) (omega arith) (length-zeros 32) (omega arith) (kept .ensures .0), kept .ensures .1)
+    (c .before .copy-to .ensures ∙ digest-copied (viewOf (z .args .kind) (z .args .book .now)) (kept .last .1 .1 .1 .0) (zeros 32) j (192 + 32 * j + 32 - (192 + 32 * j)) (c .before .before .before .before .before .before .before .before .before .if1 .left) (omega arith) (length-zeros 32) (omega arith) (kept .ensures .0), kept .ensures .1)
 
 pub parent-digest-spec : {M : Type 1} → statement M
 parent-digest-spec =

@@ -1,13 +1,12 @@
 -- `is_finalized` meets its contract: where the finalize mask is a quorum, a height is finalized if it is linked, and else it is not.
 use Prim.Native.Nat.{ℕ}
 use mathlib.Core.Path.{sym, ap, _∙_}
-use Rattle.protocol.specs.State.{decode}
-use Rattle.protocol.specs.Sound.{view}
+use Rattle.fields.specs.Shown.{viewOf}
 use Rattle.protocol.specs.View.{quorum}
 use Rattle.state.proofs.Walk.{finalized-by-link, not-finalized-without}
 use borrow.Author.Needs.{needs}
-use Rattle.state.proofs.links.is_finalized.Statement.{statement}
-use Rattle.state.proofs.links.is_finalized.Tie as tie
+use Rattle.state.proofs.linking.is_finalized.Statement.{statement}
+use Rattle.state.proofs.linking.is_finalized.Tie as tie
 
 finalize-mask-requires : tie.Need-finalize-mask-requires
 finalize-mask-requires c κs = search needs
@@ -25,9 +24,9 @@ returns : tie.Need-returns
 returns c =
     let z = c .before .before .before .before .before .before .before .before .before in
     let mask = c .before .before .before .before .before .before .finalize-mask in
-    let v = view (decode (z .args .book .now)) in (
+    let v = viewOf (z .args .kind) (z .args .book .now) in (
       c .before .before .linked .ensures .0
-          ∙ finalized-by-link (z .args .book .now) (z .args .h) (ap (λ (m : ℕ). quorum v m) (sym (mask .ensures .0)) ∙ sym (c .before .before .before .before .before .quorum .ensures) ∙ c .before .before .before .before .if1 .taken),
+          ∙ finalized-by-link v (z .args .h) (ap (λ (m : ℕ). quorum v m) (sym (mask .ensures .0)) ∙ sym (c .before .before .before .before .before .quorum .ensures) ∙ c .before .before .before .before .if1 .taken),
       c .before .before .linked .ensures .1,
     )
 
@@ -35,8 +34,8 @@ returns-2 : tie.Need-returns-2
 returns-2 c =
     let z = c .before .before .before .before .before in
     let mask = c .before .before .finalize-mask in
-    let v = view (decode (z .args .book .now)) in
-    (sym (not-finalized-without (z .args .book .now) (z .args .h) (ap (λ (m : ℕ). quorum v m) (sym (mask .ensures .0)) ∙ sym (c .before .quorum .ensures) ∙ c .if1 .left)), z .pre .1 .0)
+    let v = viewOf (z .args .kind) (z .args .book .now) in
+    (sym (not-finalized-without v (z .args .h) (ap (λ (m : ℕ). quorum v m) (sym (mask .ensures .0)) ∙ sym (c .before .quorum .ensures) ∙ c .if1 .left)), z .pre .1 .0)
 
 pub is-finalized-spec : {M : Type 1} → statement M
 is-finalized-spec =

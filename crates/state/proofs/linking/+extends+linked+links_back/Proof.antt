@@ -8,36 +8,35 @@ use borrow.Author.Tests.{lt-ltb, le-ltb}
 use Rattle.sha256.specs.Digest.{sha256}
 use Rattle.protocol.specs.Bytes.{Bytes}
 use Rattle.protocol.specs.View.{extends as extends-test}
-use Rattle.protocol.specs.State.{decode}
-use Rattle.protocol.specs.Sound.{view}
-use Rattle.state.proofs.Walk.{names-parent-height, extends-by-digest, extends-not-run, extends-not-linked, extends-not-below, linked-start, linked-by-block, not-linked-without, notarized-size}
+use Rattle.fields.specs.Shown.{viewOf}
+use Rattle.state.proofs.Walk.{names-parent-height, extends-by-digest, extends-not-run, extends-not-linked, extends-not-below, linked-start, linked-by-block, not-linked-without}
 use Rattle.state.proofs.Stores.{remember-linked, remember-unlinked}
 use borrow.Fn.Kinds.{In}
 use borrow.Fn.PlainCycle.{Measures, is, falls, and}
-use Rattle.state.proofs.links.extends.Reads as extends
-use Rattle.state.proofs.links.extends.Kinds as extends-kinds
-use Rattle.state.proofs.links.+extends+linked+links_back.Lts-extends as extends-lts
-use Rattle.state.proofs.links.linked.Reads as linked
-use Rattle.state.proofs.links.linked.Kinds as linked-kinds
-use Rattle.state.proofs.links.+extends+linked+links_back.Lts-linked as linked-lts
-use Rattle.state.proofs.links.links_back.Reads as links-back
-use Rattle.state.proofs.links.links_back.Kinds as links-back-kinds
-use Rattle.state.proofs.links.+extends+linked+links_back.Lts-links_back as links-back-lts
-use Rattle.fields.proofs.height.is_notarized.Reads as is-notarized-reads
-use Rattle.fields.proofs.height.notarized.Reads as notarized-reads
+use Rattle.state.proofs.linking.extends.Reads as extends
+use Rattle.state.proofs.linking.extends.Kinds as extends-kinds
+use Rattle.state.proofs.linking.+extends+linked+links_back.Lts-extends as extends-lts
+use Rattle.state.proofs.linking.linked.Reads as linked
+use Rattle.state.proofs.linking.linked.Kinds as linked-kinds
+use Rattle.state.proofs.linking.+extends+linked+links_back.Lts-linked as linked-lts
+use Rattle.state.proofs.linking.links_back.Reads as links-back
+use Rattle.state.proofs.linking.links_back.Kinds as links-back-kinds
+use Rattle.state.proofs.linking.+extends+linked+links_back.Lts-links_back as links-back-lts
+use Rattle.fields.proofs.kind.has_block.Reads as has-block-reads
+use Rattle.fields.proofs.kind.block.Reads as block-reads
 use Rattle.state.proofs.memory.dummies_after.Reads as dummies-after-reads
-use Rattle.state.proofs.links.names_parent.Reads as names-parent-reads
-use Rattle.state.proofs.links.+extends+linked+links_back.{statement}
-use Rattle.state.proofs.links.+extends+linked+links_back.Tie.{close}
+use Rattle.state.proofs.linking.names_parent.Reads as names-parent-reads
+use Rattle.state.proofs.linking.+extends+linked+links_back.{statement}
+use Rattle.state.proofs.linking.+extends+linked+links_back.Tie.{close}
 
 abbrev μ-extends : Measures 3 extends-kinds.ps ℕ
-μ-extends κs a = 3 * a .1 .0
+μ-extends κs a = 3 * a .1 .1 .0
 
 abbrev μ-linked : Measures 2 linked-kinds.ps ℕ
-μ-linked κs a = 3 * a .1 .0 + 2
+μ-linked κs a = 3 * a .1 .1 .0 + 2
 
 abbrev μ-links-back : Measures 2 links-back-kinds.ps ℕ
-μ-links-back κs a = 3 * a .1 .0 + 1
+μ-links-back κs a = 3 * a .1 .1 .0 + 1
 
 abbrev extends-at : ℕ → In 3 extends-kinds.ps
 extends-at t = and 3 extends-kinds.ps (is 3 extends-kinds.ps μ-extends t) extends.Pre
@@ -145,7 +144,7 @@ extends-returns : (t : ℕ) → extends-lts.Need-returns (
 ) (extends-at t) extends.Post
 extends-returns t c =
     let z = c .before .before .before .before .before .before .before .before .before .before .before .before .before .before .before .before .before .before .before in
-    let v = view (decode (z .args .book .now)) in
+    let v = viewOf (z .args .kind) (z .args .book .now) in
     let j = getD (z .args .block .now) 2 0 in
     let named = c .before .before .names-parent in
     (named .ensures .0 ∙ sym (extends-by-digest v (z .args .h) j (z .args .block .now) (names-parent-height (z .args .block .now)) (lt-ltb j (z .args .h) (omega arith)) (sym (c .before .before .before .before .before .before .before .before .before .before .before .before .linked .ensures .0) ∙ c .before .before .before .before .before .before .before .before .before .if2 .taken) (sym (c .before .before .before .before .before .before .before .dummies-after .ensures .0) ∙ c .before .before .before .before .if3 .taken)), named .ensures .1)
@@ -170,7 +169,7 @@ extends-returns-2 : (t : ℕ) → extends-lts.Need-returns-2 (
 ) (extends-at t) extends.Post
 extends-returns-2 t c =
     let z = c .before .before .before .before .before .before .before .before .before .before .before .before .before .before .before in
-    let v = view (decode (z .args .book .now)) in
+    let v = viewOf (z .args .kind) (z .args .book .now) in
     let j = getD (z .args .block .now) 2 0 in
     let run = c .before .before .before .dummies-after in
     (sym (extends-not-run v (z .args .h) j (z .args .block .now) (names-parent-height (z .args .block .now)) (sym (run .ensures .0) ∙ c .if3 .left)), run .ensures .1)
@@ -195,7 +194,7 @@ extends-returns-3 : (t : ℕ) → extends-lts.Need-returns-3 (
 ) (extends-at t) extends.Post
 extends-returns-3 t c =
     let z = c .before .before .before .before .before .before .before .before .before .before in
-    let v = view (decode (z .args .book .now)) in
+    let v = viewOf (z .args .kind) (z .args .book .now) in
     let j = getD (z .args .block .now) 2 0 in
     (sym (extends-not-linked v (z .args .h) j (z .args .block .now) (names-parent-height (z .args .block .now)) (sym (c .before .before .before .linked .ensures .0) ∙ c .if2 .left)), c .before .before .before .linked .ensures .1)
 
@@ -209,7 +208,7 @@ extends-returns-4 : (t : ℕ) → extends-lts.Need-returns-4 (
 ) (extends-at t) extends.Post
 extends-returns-4 t c =
     let z = c .before .before .before .before .before in
-    let v = view (decode (z .args .book .now)) in
+    let v = viewOf (z .args .kind) (z .args .book .now) in
     let j = getD (z .args .block .now) 2 0 in
     (sym (extends-not-below v (z .args .h) j (z .args .block .now) (names-parent-height (z .args .block .now)) (le-ltb j (z .args .h) (omega arith))), z .pre .1 .1 .0)
 
@@ -218,7 +217,7 @@ linked-returns :
     linked-lts.Need-returns (links-back-below t, links-back.Post) (linked-at t) linked.Post
 linked-returns t c =
     let z = c .before .before .before in
-    (sym (linked-start (z .args .book .now) (z .args .h) (c .if1 .taken)), z .pre .1 .1 .0)
+    (sym (linked-start (viewOf (z .args .kind) (z .args .book .now)) (z .args .h) (c .if1 .taken)), z .pre .1 .1 .0)
 
 linked-slice-read-seen : (t : ℕ) → linked-lts.Need-slice-read-seen (
   links-back-below t,
@@ -271,7 +270,7 @@ linked-returns-4 :
 linked-returns-4 t c =
     let z = c .before .before .before .before .before .before .before .before .before .before .before in
     let back = c .before .before .before .links-back in
-    (back .ensures .0, remember-linked (z .args .book .now) (back .last .1 .1 .0) (back .ensures .1) (z .args .h) (omega arith) (sym (back .ensures .0) ∙ c .if4 .taken))
+    (back .ensures .0, remember-linked (viewOf (z .args .kind) (z .args .book .now)) (back .last .1 .1 .1 .0) (back .ensures .1) (z .args .h) (omega arith) (sym (back .ensures .0) ∙ c .if4 .taken))
 
 linked-same-length-2 : (t : ℕ) → linked-lts.Need-same-length-2 (
   links-back-below t,
@@ -285,79 +284,79 @@ linked-returns-5 :
 linked-returns-5 t c =
     let z = c .before .before .before .before .before .before .before .before .before .before .before in
     let back = c .before .before .before .links-back in
-    (back .ensures .0, remember-unlinked (z .args .book .now) (back .last .1 .1 .0) (back .ensures .1) (z .args .h) (omega arith) (sym (back .ensures .0) ∙ c .if4 .left))
+    (back .ensures .0, remember-unlinked (viewOf (z .args .kind) (z .args .book .now)) (back .last .1 .1 .1 .0) (back .ensures .1) (z .args .h) (omega arith) (sym (back .ensures .0) ∙ c .if4 .left))
 
-links-back-is-notarized-requires : (t : ℕ) → links-back-lts.Need-is-notarized-requires (
-  is-notarized-reads.Asked,
-  is-notarized-reads.Learnt,
-  notarized-reads.Asked,
-  notarized-reads.Learnt,
+links-back-has-block-requires : (t : ℕ) → links-back-lts.Need-has-block-requires (
+  has-block-reads.Asked,
+  has-block-reads.Learnt,
+  block-reads.Asked,
+  block-reads.Learnt,
   extends-below t,
   extends.Post,
 ) (links-back-at t) links-back.Post
-links-back-is-notarized-requires t c κs = search needs
+links-back-has-block-requires t c κs = search needs
 
-links-back-notarized-requires : (t : ℕ) → links-back-lts.Need-notarized-requires (
-  is-notarized-reads.Asked,
-  is-notarized-reads.Learnt,
-  notarized-reads.Asked,
-  notarized-reads.Learnt,
+links-back-block-requires : (t : ℕ) → links-back-lts.Need-block-requires (
+  has-block-reads.Asked,
+  has-block-reads.Learnt,
+  block-reads.Asked,
+  block-reads.Learnt,
   extends-below t,
   extends.Post,
 ) (links-back-at t) links-back.Post
-links-back-notarized-requires t c κs = search needs
+links-back-block-requires t c κs = search needs
 
 links-back-extends-requires : (t : ℕ) → links-back-lts.Need-extends-requires (
-  is-notarized-reads.Asked,
-  is-notarized-reads.Learnt,
-  notarized-reads.Asked,
-  notarized-reads.Learnt,
+  has-block-reads.Asked,
+  has-block-reads.Learnt,
+  block-reads.Asked,
+  block-reads.Learnt,
   extends-below t,
   extends.Post,
 ) (links-back-at t) links-back.Post
 links-back-extends-requires t c κs =
     let z = c .before .before .before .before .before .before in
-    (omega arith, (z .pre .1 .0, (z .pre .1 .1 .0, (z .pre .1 .1 .1, ap length (c .before .notarized .ensures) ∙ notarized-size (z .args .book .now) (z .args .h) (z .pre .1 .0) (z .pre .1 .1 .1)))))
+    (omega arith, (z .pre .1 .0, (z .pre .1 .1 .0, (z .pre .1 .1 .1, c .before .block .ensures .1))))
 
 links-back-same-length : (t : ℕ) → links-back-lts.Need-same-length (
-  is-notarized-reads.Asked,
-  is-notarized-reads.Learnt,
-  notarized-reads.Asked,
-  notarized-reads.Learnt,
+  has-block-reads.Asked,
+  has-block-reads.Learnt,
+  block-reads.Asked,
+  block-reads.Learnt,
   extends-below t,
   extends.Post,
 ) (links-back-at t) links-back.Post
 links-back-same-length t c = search needs
 
 links-back-returns : (t : ℕ) → links-back-lts.Need-returns (
-  is-notarized-reads.Asked,
-  is-notarized-reads.Learnt,
-  notarized-reads.Asked,
-  notarized-reads.Learnt,
+  has-block-reads.Asked,
+  has-block-reads.Learnt,
+  block-reads.Asked,
+  block-reads.Learnt,
   extends-below t,
   extends.Post,
 ) (links-back-at t) links-back.Post
 links-back-returns t c =
     let z = c .before .before .before .before .before .before .before .before .before in
-    let book = z .args .book .now in
+    let v = viewOf (z .args .kind) (z .args .book .now) in
     let h = z .args .h in (
       c .before .before .extends .ensures .0
-          ∙ ap (λ (b : Bytes). extends-test sha256 (view (decode book)) h b) (c .before .before .before .before .notarized .ensures)
-          ∙ sym (linked-by-block book h (z .pre .1 .1 .1 .low) (sym (c .before .before .before .before .before .before .is-notarized .ensures) ∙ c .before .before .before .before .before .if1 .taken)),
+          ∙ ap (λ (b : Bytes). extends-test sha256 v h b) (c .before .before .before .before .block .ensures .0)
+          ∙ sym (linked-by-block v h (z .pre .1 .1 .1 .low) (sym (c .before .before .before .before .before .before .has-block .ensures) ∙ c .before .before .before .before .before .if1 .taken)),
       c .before .before .extends .ensures .1,
     )
 
 links-back-returns-2 : (t : ℕ) → links-back-lts.Need-returns-2 (
-  is-notarized-reads.Asked,
-  is-notarized-reads.Learnt,
-  notarized-reads.Asked,
-  notarized-reads.Learnt,
+  has-block-reads.Asked,
+  has-block-reads.Learnt,
+  block-reads.Asked,
+  block-reads.Learnt,
   extends-below t,
   extends.Post,
 ) (links-back-at t) links-back.Post
 links-back-returns-2 t c =
     let z = c .before .before .before .before in
-    (sym (not-linked-without (z .args .book .now) (z .args .h) (z .pre .1 .1 .1 .low) (sym (c .before .is-notarized .ensures) ∙ c .if1 .left)), z .pre .1 .1 .0)
+    (sym (not-linked-without (viewOf (z .args .kind) (z .args .book .now)) (z .args .h) (z .pre .1 .1 .1 .low) (sym (c .before .has-block .ensures) ∙ c .if1 .left)), z .pre .1 .1 .0)
 
 pub +extends+linked+links-back-spec : {M : Type 1} → statement M
 +extends+linked+links-back-spec = close μ-extends μ-linked μ-links-back (λ t. extends-lts.spec (
@@ -399,17 +398,17 @@ pub +extends+linked+links-back-spec : {M : Type 1} → statement M
     (linked-same-length-2 t)
     (linked-returns-5 t))
     λ t. links-back-lts.spec (
-      is-notarized-reads.Asked,
-      is-notarized-reads.Learnt,
-      notarized-reads.Asked,
-      notarized-reads.Learnt,
+      has-block-reads.Asked,
+      has-block-reads.Learnt,
+      block-reads.Asked,
+      block-reads.Learnt,
       extends-below t,
       extends.Post,
     )
     (links-back-at t)
     links-back.Post
-    (links-back-is-notarized-requires t)
-    (links-back-notarized-requires t)
+    (links-back-has-block-requires t)
+    (links-back-block-requires t)
     (links-back-extends-requires t)
     (links-back-same-length t)
     (links-back-returns t)

@@ -4,8 +4,8 @@ use Rattle.protocol.specs.Bytes.{Bytes, same}
 use Rattle.protocol.specs.Block.{parentDigest}
 use Rattle.state.proofs.Walk.{names-digest}
 use borrow.Author.Needs.{needs}
-use Rattle.state.proofs.links.names_parent.Statement.{statement}
-use Rattle.state.proofs.links.names_parent.Tie as tie
+use Rattle.state.proofs.linking.names_parent.Statement.{statement}
+use Rattle.state.proofs.linking.names_parent.Tie as tie
 
 parent-digest-requires : tie.Need-parent-digest-requires
 parent-digest-requires c κs =

@@ -4,20 +4,19 @@ use native.Mathlib.Omega.{arith}
 use borrow.Author.Needs.{needs}
 use mathlib.Core.Path.{_≡_, refl, sym, _∙_}
 use Rattle.sha256.specs.Digest.{sha256}
-use Rattle.protocol.specs.State.{decode}
-use Rattle.protocol.specs.Sound.{view}
+use Rattle.fields.specs.Shown.{viewOf}
 use Rattle.protocol.specs.View.{largestFinalized}
-use Rattle.state.specs.Memo.{Memo}
+use Rattle.state.specs.Memo.{Known}
 use Rattle.state.proofs.Walk.{largest-here, largest-below, largest-none}
-use Rattle.state.proofs.links.largest_finalized.Statement.{statement}
-use Rattle.state.proofs.links.largest_finalized.Tie as tie
+use Rattle.state.proofs.linking.largest_finalized.Statement.{statement}
+use Rattle.state.proofs.linking.largest_finalized.Tie as tie
 
 abbrev Inv-loop : tie.InvT-loop
-Inv-loop book top known₀ h₀ known h =
-    (h ≤ top) × (largestFinalized sha256 (view (decode book)) h ≡ largestFinalized sha256 (view (decode book)) top) × Memo book known
+Inv-loop kind book top known₀ h₀ known h =
+    (h ≤ top) × (largestFinalized sha256 (viewOf kind book) h ≡ largestFinalized sha256 (viewOf kind book) top) × Known (viewOf kind book) known
 
 abbrev μ-loop : tie.MeasureT-loop
-μ-loop book top known₀ h₀ known h = h
+μ-loop kind book top known₀ h₀ known h = h
 
 loop-holds : tie.Need-loop-holds Inv-loop μ-loop
 loop-holds c =
@@ -33,7 +32,7 @@ same-length c = search needs
 
 returns : tie.Need-returns Inv-loop μ-loop
 returns c =
-    let v = view (decode (c .before .before .before .before .before .before .before .before .before .args .book .now)) in
+    let v = viewOf (c .before .before .before .before .before .before .before .before .before .args .kind) (c .before .before .before .before .before .before .before .before .before .args .book .now) in
     let loop = c .before .before .before .before .before .before .loop in
     let found = c .before .before .before .is-finalized in
     (largest-here v (loop .h) (omega arith) (sym (found .ensures .0) ∙ c .if1 .taken) ∙ loop .inv .1, (loop .inv .0, found .ensures .1))
@@ -46,7 +45,7 @@ loop-less c = search needs
 
 loop-again : tie.Need-loop-again Inv-loop μ-loop
 loop-again c =
-    let v = view (decode (c .before .before .before .before .before .before .before .before .before .args .book .now)) in
+    let v = viewOf (c .before .before .before .before .before .before .before .before .before .args .kind) (c .before .before .before .before .before .before .before .before .before .args .book .now) in
     let loop = c .before .before .before .before .before .before .loop in
     let found = c .before .before .before .is-finalized in
     (omega arith, largest-below v (loop .h) (omega arith) (sym (found .ensures .0) ∙ c .if1 .left) ∙ loop .inv .1, found .ensures .1)
@@ -56,7 +55,7 @@ same-length-2 c = search needs
 
 returns-2 : tie.Need-returns-2 Inv-loop μ-loop
 returns-2 c =
-    let v = view (decode (c .before .before .before .before .args .book .now)) in
+    let v = viewOf (c .before .before .before .before .args .kind) (c .before .before .before .before .args .book .now) in
     let loop = c .before .loop in
     (largest-none v (loop .h) (omega arith) ∙ loop .inv .1, (omega arith, loop .inv .2))
 

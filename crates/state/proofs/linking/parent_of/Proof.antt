@@ -4,21 +4,20 @@ use native.Mathlib.Omega.{arith}
 use borrow.Author.Needs.{needs}
 use mathlib.Core.Path.{_≡_, refl, sym, _∙_}
 use Rattle.sha256.specs.Digest.{sha256}
-use Rattle.protocol.specs.State.{decode}
-use Rattle.protocol.specs.Sound.{view}
+use Rattle.fields.specs.Shown.{viewOf}
 use Rattle.protocol.specs.View.{parentOf}
-use Rattle.state.specs.Memo.{Memo}
+use Rattle.state.specs.Memo.{Known}
 use Rattle.state.specs.Parent.{parentOption}
 use Rattle.state.proofs.Walk.{parent-here, parent-below, parent-stops, parent-start}
-use Rattle.state.proofs.links.parent_of.Statement.{statement}
-use Rattle.state.proofs.links.parent_of.Tie as tie
+use Rattle.state.proofs.linking.parent_of.Statement.{statement}
+use Rattle.state.proofs.linking.parent_of.Tie as tie
 
 abbrev Inv-loop : tie.InvT-loop
-Inv-loop book top known₀ h₀ known h =
-    (h ≤ top) × (parentOf sha256 (view (decode book)) h ≡ parentOf sha256 (view (decode book)) top) × Memo book known
+Inv-loop kind book top known₀ h₀ known h =
+    (h ≤ top) × (parentOf sha256 (viewOf kind book) h ≡ parentOf sha256 (viewOf kind book) top) × Known (viewOf kind book) known
 
 abbrev μ-loop : tie.MeasureT-loop
-μ-loop book top known₀ h₀ known h = h
+μ-loop kind book top known₀ h₀ known h = h
 
 loop-holds : tie.Need-loop-holds Inv-loop μ-loop
 loop-holds c =
@@ -35,7 +34,7 @@ same-length c = search needs
 returns : tie.Need-returns Inv-loop μ-loop
 unfolding parentOption
 returns c =
-    let v = view (decode (c .before .before .before .before .before .before .before .before .before .args .book .now)) in
+    let v = viewOf (c .before .before .before .before .before .before .before .before .before .args .kind) (c .before .before .before .before .before .before .before .before .before .args .book .now) in
     let loop = c .before .before .before .before .before .before .loop in
     let found = c .before .before .before .linked in
     (parent-here v (loop .h) (omega arith) (sym (found .ensures .0) ∙ c .if1 .taken) ∙ loop .inv .1, found .ensures .1)
@@ -43,7 +42,7 @@ returns c =
 is-dummy-requires : tie.Need-is-dummy-requires Inv-loop μ-loop
 is-dummy-requires c κs =
     let z = c .before .before .before .before .before .before .before .before .before in
-    (z .pre .0 .sized, (z .pre .0 .replicas, record { low = omega arith; high = omega arith }))
+    (z .pre .0, record { low = omega arith; high = omega arith })
 
 sub-h : tie.Need-sub-h Inv-loop μ-loop
 sub-h c = search needs
@@ -53,7 +52,7 @@ loop-less c = search needs
 
 loop-again : tie.Need-loop-again Inv-loop μ-loop
 loop-again c =
-    let v = view (decode (c .before .before .before .before .before .before .before .before .before .before .before .args .book .now)) in
+    let v = viewOf (c .before .before .before .before .before .before .before .before .before .before .before .args .kind) (c .before .before .before .before .before .before .before .before .before .before .before .args .book .now) in
     let loop = c .before .before .before .before .before .before .before .before .loop in
     let found = c .before .before .before .before .before .linked in
     (omega arith, parent-below v (loop .h) (omega arith) (sym (found .ensures .0) ∙ c .before .before .if1 .left) (sym (c .before .is-dummy .ensures) ∙ c .if2 .taken) ∙ loop .inv .1, found .ensures .1)
@@ -64,7 +63,7 @@ same-length-2 c = search needs
 returns-2 : tie.Need-returns-2 Inv-loop μ-loop
 unfolding parentOption
 returns-2 c =
-    let v = view (decode (c .before .before .before .before .before .before .before .before .before .before .before .args .book .now)) in
+    let v = viewOf (c .before .before .before .before .before .before .before .before .before .before .before .args .kind) (c .before .before .before .before .before .before .before .before .before .before .before .args .book .now) in
     let loop = c .before .before .before .before .before .before .before .before .loop in
     let found = c .before .before .before .before .before .linked in
     (parent-stops v (loop .h) (omega arith) (sym (found .ensures .0) ∙ c .before .before .if1 .left) (sym (c .before .is-dummy .ensures) ∙ c .if2 .left) ∙ loop .inv .1, found .ensures .1)
@@ -75,7 +74,7 @@ same-length-3 c = search needs
 returns-3 : tie.Need-returns-3 Inv-loop μ-loop
 unfolding parentOption
 returns-3 c =
-    let v = view (decode (c .before .before .before .before .args .book .now)) in
+    let v = viewOf (c .before .before .before .before .args .kind) (c .before .before .before .before .args .book .now) in
     let loop = c .before .loop in
     (parent-start v (loop .h) (omega arith) ∙ loop .inv .1, loop .inv .2)
 
