@@ -1,22 +1,22 @@
 -- Of any two logs read from honest replicas one is a beginning of the other.
-use Prim.Native.Nat.{ℕ, suc, _≤_, _<_}
+use Prim.Native.Nat.{ℕ, suc, _*_, _≤_, _<_}
 use native.Mathlib.Omega.{arith}
-use mathlib.Core.Path.{_≡_, refl, sym, subst, _∙_}
+use mathlib.Core.Path.{_≡_, refl, sym, ap, subst, _∙_}
 use mathlib.Core.Logic.{_⊎_, inl, inr}
 use mathlib.Core.Bool.{true, false, _&&_}
 use mathlib.Core.List.{List, [], _∷_, _++_, append-nil, List·Memᴰ, Memᴰ·append-left}
 use mathlib.Core.Option.{Option, some, none}
-use lib.ListN.{length}
+use lib.ListN.{length, replicate, length-replicate}
 use lib.Dec.{leb}
 use Rattle.protocol.specs.Bytes.{Bytes, join}
 use Rattle.protocol.specs.CodecLaws.{at-suc}
 use Rattle.protocol.specs.Mask.{inMask}
-use Rattle.protocol.specs.QuorumLaws.{quorums-meet}
+use Rattle.protocol.specs.QuorumLaws.{quorums-meet, ones-weigh, total-equal}
 use Rattle.protocol.specs.Read.{logSize, readPart}
 use Rattle.protocol.specs.Sound.{log, sound, view}
 use Rattle.protocol.specs.State.{State, at, decode, isNotarized}
 use Rattle.protocol.specs.TestsLaws.{and-true, cond-elim, le-or-lt, member-split}
-use Rattle.protocol.specs.View.{chain, isDummy, isFinalized, logAt, quorum}
+use Rattle.protocol.specs.View.{chain, isDummy, isFinalized, logAt, quorum, maskWeight, totalWeight}
 use Rattle.agreement.specs.BackingLaws.{Backed}
 use Rattle.agreement.specs.ChainsLaws.{Prefix, prefix-bytes, settled-chains}
 use Rattle.agreement.specs.GrantsLaws.{Grants, grants}
@@ -78,8 +78,15 @@ module _ (digest : Bytes → Bytes) (n dishonest : ℕ) (l : List Member) (third
     shared : (m m′ : ℕ) → quorum (view b) m ≡ true → quorum (view b′) m′ ≡ true → Shared m m′
     unfolding view
     shared m m′ e e′ =
-        quorums-meet (view b) (view b′) m m′ dishonest (x′ .good .same-n ∙ sym (x .good .same-n)) e e′
-        (subst (λ (k : ℕ). FewDishonest k dishonest) (sym (x .good .same-n)) third)
+        let (t, low, inA, inB, notD) = quorums-meet (view b) (view b′) m m′ dishonest
+        (ap (λ (k : ℕ). replicate k 1) (x′ .good .same-n ∙ sym (x .good .same-n))) e e′ few in
+        let all = length-replicate {A = ℕ} (b .n) 1 in
+        (t, omega arith, inA, inB, notD)
+      where
+        few : 3 * maskWeight (view b) dishonest < totalWeight (view b)
+        few =
+            rw (sym (ones-weigh dishonest (b .n)), total-equal (b .n))
+            (subst (λ (k : ℕ). FewDishonest k dishonest) (sym (x .good .same-n)) third)
 
     honest : (t : ℕ) → t < b .n → inMask dishonest t ≡ false → Honest digest n dishonest t
     unfolding HonestIn

@@ -3,23 +3,37 @@ use Prim.Native.Nat.{ℕ, zero, suc, _≤_}
 use native.Mathlib.Omega.{arith}
 use mathlib.Core.Path.{_≡_, refl, sym, ap, _∙_}
 use mathlib.Core.Bool.{true}
+use lib.ListN.{length, length-replicate}
 use Rattle.protocol.specs.Bytes.{Bytes}
+use Rattle.protocol.specs.State.{State}
+use Rattle.protocol.specs.Sound.{view}
 use Rattle.protocol.specs.Block.{parentHeight, parentDigest}
 use Rattle.protocol.specs.View.{View, quorum, isDummy, digestAt, isFinalized}
 use Rattle.protocol.specs.Linked.{OnParent, Linked, start, link}
 use Rattle.protocol.specs.LinkedLaws.{finalized-sound, finalized-complete}
 use Rattle.protocol.specs.MaskLaws.{Within}
 use Rattle.protocol.specs.OnesLaws.{quorum-mono}
-use Rattle.conduct.specs.Grows.{Grows}
+use Rattle.conduct.specs.Grows.{Grows, SameReplicas}
+
+-- states of the same n have views of the same replicas, each of which has a weight
+pub views-alike : (s s′ : State) → s′ .n ≡ s .n → SameReplicas (view s) (view s′)
+unfolding view
+views-alike s s′ e = record { same-n = e; same-weights = rw e }
+
+pub weights-many : (s : State) → length (view s .weights) ≡ view s .n
+unfolding view
+weights-many s = length-replicate (s .n) 1
 
 -- quorums are the same in views of the same replicas
-pub same-quorum : (v v′ : View) (mask : ℕ) → v′ .n ≡ v .n → quorum v mask ≡ true → quorum v′ mask ≡ true
+pub same-quorum : (v v′ : View) (mask : ℕ) → SameReplicas v v′ → quorum v mask ≡ true → quorum v′ mask ≡ true
 unfolding quorum
-same-quorum v v′ mask e q = rw e q
+same-quorum v v′ mask same q = rw (same .same-weights) q
 
 module _ (v v′ : View) (grows : Grows v v′) where
   quorum-kept : (mask other : ℕ) → Within (v .n) mask other → quorum v mask ≡ true → quorum v′ other ≡ true
-  quorum-kept mask other within e = same-quorum v v′ other (grows .same-n) (quorum-mono v mask other within e)
+  quorum-kept mask other within e =
+      let each = grows .weight-each in
+      same-quorum v v′ other (grows .same-replicas) (quorum-mono v mask other (λ t l. within t (omega arith)) e)
 
   dummy-kept : (h : ℕ) → 1 ≤ h → isDummy v h ≡ true → isDummy v′ h ≡ true
   unfolding isDummy

@@ -13,8 +13,8 @@ use Rattle.protocol.specs.MaskLaws.{Within}
 use Rattle.protocol.specs.StateLaws.{ShapedHeight}
 use Rattle.protocol.specs.PlaceLaws.{last-with, at-with, at-with-other, shaped-with}
 use Rattle.protocol.specs.SoundLaws.{SoundState, SoundHeight}
-use Rattle.conduct.specs.Grows.{Grows}
-use Rattle.conduct.specs.GrowsLaws.{same-quorum, finalized-grows}
+use Rattle.conduct.specs.Grows.{Grows, SameReplicas}
+use Rattle.conduct.specs.GrowsLaws.{same-quorum, views-alike, weights-many, finalized-grows}
 
 -- what was notarized at a height stays, and its masks have only gained members
 pub record GrownHeight (n : ℕ) (x y : Height) : Type 0 where
@@ -28,18 +28,18 @@ pub record Replaces (v : View) (h : ℕ) (x y : Height) : Type 0 where
   pub sound : SoundHeight v h y
   pub grown : GrownHeight (v .n) x y
 
--- soundness of a height goes by the number of replicas alone
-same-height : (v v′ : View) (h : ℕ) (x : Height) → v′ .n ≡ v .n → SoundHeight v h x → SoundHeight v′ h x
-same-height v v′ h x e is = record {
-  leader-below = rw e (is .leader-below);
+-- soundness of a height goes by the replicas alone
+same-height : (v v′ : View) (h : ℕ) (x : Height) → SameReplicas v v′ → SoundHeight v h x → SoundHeight v′ h x
+same-height v v′ h x same is = record {
+  leader-below = rw (same .same-n) (is .leader-below);
   status-small = is .status-small;
-  certificate-below = rw e (is .certificate-below);
-  dummy-below = rw e (is .dummy-below);
-  finalize-below = rw e (is .finalize-below);
-  voter-below = rw e (is .voter-below);
+  certificate-below = rw (same .same-n) (is .certificate-below);
+  dummy-below = rw (same .same-n) (is .dummy-below);
+  finalize-below = rw (same .same-n) (is .finalize-below);
+  voter-below = rw (same .same-n) (is .voter-below);
   proposal-formed = is .proposal-formed;
   notarized-formed = is .notarized-formed;
-  certified = λ has. same-quorum v v′ (x .certificateMask) e (is .certified has);
+  certified = λ has. same-quorum v v′ (x .certificateMask) same (is .certified has);
 }
 
 module _ (s : State) (i : ℕ) (high : i < last s) (y : Height) where
@@ -56,9 +56,9 @@ module _ (s : State) (i : ℕ) (high : i < last s) (y : Height) where
       go (no e) = rw (at-with-other s i j y e) (old (suc j) low)
 
   module _ (digest : Bytes → Bytes) (is : SoundState digest s) (fits : Replaces (view s) (suc i) (at s (suc i)) y) where
-    same-n : view s′ .n ≡ view s .n
-    unfolding view withHeight
-    same-n = refl
+    same : SameReplicas (view s) (view s′)
+    unfolding withHeight
+    same = views-alike s s′ refl
 
     grown-each : (h : ℕ) → 1 ≤ h → GrownHeight (view s .n) (at s h) (at s′ h)
     grown-each = each-height (λ (h : ℕ) (x : Height). GrownHeight (view s .n) (at s h) x) (fits .grown)
@@ -67,7 +67,8 @@ module _ (s : State) (i : ℕ) (high : i < last s) (y : Height) where
     grows : Grows (view s) (view s′)
     unfolding view
     grows = record {
-      same-n = same-n;
+      same-replicas = same;
+      weight-each = weights-many s;
       keeps-block = λ h low. grown-each h low .keeps-block;
       more-dummies = λ h low. grown-each h low .more-dummies;
       more-finalizes = λ h low. grown-each h low .more-finalizes;
@@ -75,8 +76,8 @@ module _ (s : State) (i : ℕ) (high : i < last s) (y : Height) where
 
     sound-each : (h : ℕ) → 1 ≤ h → h ≤ last s → SoundHeight (view s′) h (at s′ h)
     sound-each = each-height (λ (h : ℕ) (x : Height). h ≤ last s → SoundHeight (view s′) h x)
-        (λ l. same-height (view s) (view s′) (suc i) y same-n (fits .sound))
-        (λ h low l. same-height (view s) (view s′) h (at s h) same-n (is .each h low l))
+        (λ l. same-height (view s) (view s′) (suc i) y same (fits .sound))
+        (λ h low l. same-height (view s) (view s′) h (at s h) same (is .each h low l))
 
     final-kept : (g : ℕ) → (g ≡ 0) ⊎ (isFinalized digest (view s) g ≡ true) → (g ≡ 0) ⊎ (isFinalized digest (view s′) g ≡ true)
     final-kept zero e = inl refl

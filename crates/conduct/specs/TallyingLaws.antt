@@ -28,24 +28,26 @@ use Rattle.protocol.specs.SoundLaws.{SoundState, sound-decode}
 use Rattle.conduct.specs.SoundKeptLaws.{unless-refused}
 use Rattle.conduct.specs.MoveKeptLaws.{step-sound}
 use Rattle.conduct.specs.SubmitKeptLaws.{submit-sound}
-use Rattle.conduct.specs.GrowsLaws.{same-quorum}
+use Rattle.conduct.specs.GrowsLaws.{same-quorum, views-alike}
+use Rattle.conduct.specs.Grows.{SameReplicas}
 use Rattle.conduct.specs.Keeping.{Voted, Tallied, AllTallied, Keeps}
 use Rattle.conduct.specs.KeepingLaws.{refused≢accepted, facts, outcome}
 use Rattle.conduct.specs.HeightKeptLaws.{each-height}
 
 module _ (digest : Bytes → Bytes) where
-  -- tallies go by the number of replicas alone
-  same-tally : (v v′ : View) (x : Height) → v′ .n ≡ v .n → Tallied digest v x → Tallied digest v′ x
+  -- tallies go by the replicas alone
+  same-tally : (v v′ : View) (x : Height) → SameReplicas v v′ → Tallied digest v x → Tallied digest v′ x
   unfolding Tallied Voted
-  same-tally v v′ x e all (held, enough) =
-      let counted = same-quorum v′ v (votersFor x (digest (x .proposal)) (v′ .n)) (sym e) enough in
-      all (held, subst (λ (k : ℕ). quorum v (votersFor x (digest (x .proposal)) k) ≡ true) e counted)
+  same-tally v v′ x same all (held, enough) =
+      let back : SameReplicas v′ v = record { same-n = sym (same .same-n); same-weights = sym (same .same-weights) } in
+      let counted = same-quorum v′ v (votersFor x (digest (x .proposal)) (v′ .n)) back enough in
+      all (held, subst (λ (k : ℕ). quorum v (votersFor x (digest (x .proposal)) k) ≡ true) (same .same-n) counted)
 
   -- a state with the same heights and the same n
   same-heights : (s s′ : State) → s′ .n ≡ s .n → s′ .heights ≡ s .heights → AllTallied digest s → AllTallied digest s′
   same-heights s s′ e e′ all h low =
       let here : at s′ h ≡ at s h = unfold at in rw e′ in
-      rw here (same-tally (view s) (view s′) (at s h) (unfold view in e) (all h low))
+      rw here (same-tally (view s) (view s′) (at s h) (views-alike s s′ e) (all h low))
 
   none-held : (v : View) (x : Height) → holdsProposal x ≡ false → Tallied digest v x
   unfolding Tallied Voted
@@ -136,7 +138,7 @@ module _ (digest : Bytes → Bytes) where
     placed : (h : ℕ) (y : Height) → 1 ≤ h → h ≤ last s → Tallied digest (view s) y → AllTallied digest (withHeight s h y)
     placed zero y low high new = λ _ _. absurd (omega arith)
     placed (suc i) y low high new = λ h from.
-        same-tally (view s) (view (withHeight s (suc i) y)) (at (withHeight s (suc i) y) h) (unfold view withHeight in refl)
+        same-tally (view s) (view (withHeight s (suc i) y)) (at (withHeight s (suc i) y) h) (views-alike s (withHeight s (suc i) y) (unfold withHeight in refl))
         (each-height s i high y (λ (k : ℕ) (z : Height). Tallied digest (view s) z) new all h from)
 
     delivered : (frame : Bytes) (after : State) → Keeps digest s after frame → 1 ≤ frameHeight frame → frameHeight frame ≤ last s → AllTallied digest after

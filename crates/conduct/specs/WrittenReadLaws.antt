@@ -29,7 +29,7 @@ use Rattle.conduct.specs.Fields.{blockCertificateFields, dummyCertificat
 use Rattle.conduct.specs.Readable.{Said, SameSetting, DigestSized}
 use Rattle.conduct.specs.Named.{offeredBlock, moveFields, passFields}
 use Rattle.conduct.specs.ReadLaws.{Written, said-none, said-more, proposal-read, block-vote-read, dummy-vote-read, finalize-read, block-certificate-read, dummy-certificate-read, finalize-certificate-read}
-use Rattle.conduct.specs.GrowsLaws.{same-quorum}
+use Rattle.conduct.specs.GrowsLaws.{same-quorum, views-alike}
 use Rattle.protocol.specs.MoveLaws.{step-cases}
 
 -- a linked height from 1 on has a block
@@ -49,8 +49,7 @@ module _ (digest : Bytes → Bytes) (s : State) (is : SoundState digest s) (t : 
   mask-small mask small = rw (same .same-n) (lt-ltb mask (2 ^ s .n) small)
 
   as-many : (mask : ℕ) → quorum (view s) mask ≡ true → quorum (view t) mask ≡ true
-  unfolding view
-  as-many mask e = same-quorum (view s) (view t) mask (same .same-n) e
+  as-many mask e = same-quorum (view s) (view t) mask (views-alike s t (same .same-n)) e
 
   -- ---- certificates of a height
   module _ (h : ℕ) (low : 1 ≤ h) (high : h ≤ last s) where

@@ -3,7 +3,7 @@ use Rattle.protocol.specs.Bytes.{word16, le16, part, zeros, overFront, a
 use Rattle.protocol.specs.Tests.{allOf, implies, inRange, everyHeight, firstRefusal}
 use Rattle.protocol.specs.Block.{blockHeight, parentHeight, entryCount, parentDigest, entries, blockWellFormed, newBlock, allEntries}
 use Rattle.protocol.specs.Frame.{kind, signer, frameHeight, signerMask, frameDigest, frameBlock, isStatement, isCertificate, carriesBlock, carriesDigest, frameWellFormed, frameOf, proposal, blockVote, dummyVote, finalize, blockCertificate, dummyCertificate, finalizeCertificate}
-use Rattle.protocol.specs.Mask.{inMask, maskOf, ones, union, belowBit}
+use Rattle.protocol.specs.Mask.{inMask, maskOf, ones, union, belowBit, weigh, total}
 use Rattle.protocol.specs.State.{bookSize, headBytes, contentBytes, bodyBytes, encode, decodeHeight, decodeHeights, decode, last, noHeight, at, holdsProposal, isNotarized, voteOf, withHeight, withHead, withTimerFired, flag, pending}
 use Rattle.protocol.specs.View.{quorum, isDummy, dummyRun, digestAt, extendsOver, linkedWithin, linked, extends, isFinalized, largestFinalized, parentOf, chainWithin, chain, logAt}
 use Rattle.protocol.specs.Sound.{view, log, masksBelow, blocksWellFormed, contentZeros, sound}
@@ -17,5 +17,5 @@ use Rattle.protocol.specs.Read.{logSize, sizeCall, readPart, readBuffer}
 use Rattle.protocol.specs.Fetch.{certificateFrame, hasCertificate, unlessFetchRefused, fetchRows, fetchCall}
 
 unfoldable pub everything : Unit {0}
-unfolding word16 le16 part zeros overFront all isZero same pieces join holds allOf implies inRange everyHeight firstRefusal blockHeight parentHeight entryCount parentDigest entries blockWellFormed newBlock allEntries kind signer frameHeight signerMask frameDigest frameBlock isStatement isCertificate carriesBlock carriesDigest frameWellFormed frameOf proposal blockVote dummyVote finalize blockCertificate dummyCertificate finalizeCertificate inMask maskOf ones union belowBit bookSize headBytes contentBytes bodyBytes encode decodeHeight decodeHeights decode last noHeight at holdsProposal isNotarized voteOf withHeight withHead flag pending quorum isDummy dummyRun digestAt extendsOver linkedWithin linked extends isFinalized largestFinalized parentOf chainWithin chain logAt view log masksBelow blocksWellFormed contentZeros sound unlessRefused refusalNumber certificateKind finalizeKind moveNumber moveHeight newHeight newState openInRange openRows openCall withProposal withNotarized withMasks withVote votersFor keepDummyVote keepFinalize keepBlockCertificate keepDummyCertificate keepFinalizeCertificate readRows clashRows notarize keepProposal keepBlockVote keep kept deliverRows deliverCall deliverAll firstStep without isSome someOr isRunning idleStep dummyVoteApplies dummyVoteStep unused written moved unlessMoveRefused newFinalized outputApplies outputStep passApplies passCertificate passStep proposeApplies offered proposedBlock proposeStep blockVoteApplies blockVoteStep step moveRows moveCall withTimerFired signalRows signalCall withPending stillPending submitRows submitCall logSize sizeCall readPart readBuffer certificateFrame hasCertificate unlessFetchRefused fetchRows fetchCall
+unfolding word16 le16 weigh total part zeros overFront all isZero same pieces join holds allOf implies inRange everyHeight firstRefusal blockHeight parentHeight entryCount parentDigest entries blockWellFormed newBlock allEntries kind signer frameHeight signerMask frameDigest frameBlock isStatement isCertificate carriesBlock carriesDigest frameWellFormed frameOf proposal blockVote dummyVote finalize blockCertificate dummyCertificate finalizeCertificate inMask maskOf ones union belowBit bookSize headBytes contentBytes bodyBytes encode decodeHeight decodeHeights decode last noHeight at holdsProposal isNotarized voteOf withHeight withHead flag pending quorum isDummy dummyRun digestAt extendsOver linkedWithin linked extends isFinalized largestFinalized parentOf chainWithin chain logAt view log masksBelow blocksWellFormed contentZeros sound unlessRefused refusalNumber certificateKind finalizeKind moveNumber moveHeight newHeight newState openInRange openRows openCall withProposal withNotarized withMasks withVote votersFor keepDummyVote keepFinalize keepBlockCertificate keepDummyCertificate keepFinalizeCertificate readRows clashRows notarize keepProposal keepBlockVote keep kept deliverRows deliverCall deliverAll firstStep without isSome someOr isRunning idleStep dummyVoteApplies dummyVoteStep unused written moved unlessMoveRefused newFinalized outputApplies outputStep passApplies passCertificate passStep proposeApplies offered proposedBlock proposeStep blockVoteApplies blockVoteStep step moveRows moveCall withTimerFired signalRows signalCall withPending stillPending submitRows submitCall logSize sizeCall readPart readBuffer certificateFrame hasCertificate unlessFetchRefused fetchRows fetchCall
 everything = tt

@@ -4,7 +4,7 @@ use mathlib.Core.Path.{_≡_}
 use mathlib.Core.Logic.{_≢_}
 use mathlib.Core.Bool.{Bool, true, false}
 use mathlib.Core.List.{[], _∷_}
-use lib.ListN.{length}
+use lib.ListN.{length, replicate}
 use Rattle.protocol.specs.Bytes.{Bytes, byteAt, word16, part, zeros}
 use Rattle.protocol.specs.Block.{parentHeight, entryCount}
 use Rattle.protocol.specs.Frame.{kind, frameBlock, dummyVote, finalize, dummyCertificate, finalizeCertificate}
@@ -62,7 +62,7 @@ frameIn reply (suc i) = part reply 224 224
 -- with `n` replicas, every mask of at least `enough` signers is a quorum, and no smaller one
 unfoldable pub quorumFrom : ℕ → ℕ → Type 0
 quorumFrom n enough =
-    (v : View) (mask : ℕ) → v .n ≡ n →
+    (v : View) (mask : ℕ) → v .weights ≡ replicate n 1 →
     (enough ≤ ones mask n → quorum v mask ≡ true) × (ones mask n < enough → quorum v mask ≡ false)
 
 -- a move passes height 1 on the dummy certificate of mask 7, which is its first frame; its second is `next`

@@ -16,7 +16,7 @@ use Rattle.protocol.specs.Tests.{allOf, inRange, firstRefusal}
 use Rattle.protocol.specs.TestsLaws.{and-true}
 use Rattle.protocol.specs.RowLaws.{in-range, row-passes}
 use Rattle.protocol.specs.Block.{parentHeight, entryCount, newBlock, allEntries}
-use Rattle.protocol.specs.Mask.{inMask, maskOf, ones, union, belowBit}
+use Rattle.protocol.specs.Mask.{inMask, maskOf, ones, union, belowBit, weigh, total}
 use Rattle.protocol.specs.State.{State, at, last, encode, decode, headBytes, bookSize, flag, pending, withHead}
 use Rattle.protocol.specs.View.{View, quorum, isDummy, dummyRun, digestAt, parentOf, chain, chainWithin, logAt, extends, extendsOver}
 use Rattle.protocol.specs.Sound.{view}
@@ -29,6 +29,7 @@ use Rattle.protocol.specs.Move.{step, moveCall, moved, MoveOutcome, idle
 use Rattle.protocol.specs.Computing.{everything}
 use Rattle.protocol.specs.Examples.{Letter, claim, Start, opened, firstLeader, quorumFrom, signalled, afterSignal, afterDummyVotes, afterFinalizes, frameIn, passesDummy, proposesFirst, notFinalized}
 use Rattle.protocol.specs.PlaceLaws.{count-encode}
+use Rattle.protocol.specs.QuorumLaws.{quorum-even}
 use Rattle.protocol.specs.FieldLaws.{read-finalized, read-finalize-mask}
 use Rattle.protocol.specs.NewBookLaws.{Ranges, early, firstHeight}
 use Rattle.protocol.specs.NewBookCallsLaws.{early-move, early-not-notarized, voting, step-idle, step-vote, step-pass, step-propose, early-signal, early-vote, early-certificate, finalized-stays}
@@ -38,7 +39,7 @@ use Rattle.protocol.specs.MoveLaws.{head-only}
 quorum-from : (n enough : ℕ) → ((x : ℕ) → enough ≤ x → 2 * n ≤ 3 * x) → ((x : ℕ) → x < enough → 3 * x < 2 * n) → quorumFrom n enough
 unfolding quorumFrom quorum
 quorum-from n enough up down v mask q =
-    rw q (λ p. le-leb (2 * n) (3 * ones mask n) (up (ones mask n) p), λ p. lt-leb (2 * n) (3 * ones mask n) (down (ones mask n) p))
+    rw (quorum-even v n mask q) (λ p. le-leb (2 * n) (3 * ones mask n) (up (ones mask n) p), λ p. lt-leb (2 * n) (3 * ones mask n) (down (ones mask n) p))
 
 -- ---- l
 away : (digest : Bytes → Bytes) (v : View) (block : Bytes) → parentHeight block ≡ 1 → isDummy v 2 ≡ false → extends digest v 3 block ≡ false
@@ -127,8 +128,10 @@ none-signed (suc n) = rw (none-signed n, zero-div)
 
 module _ (digest : Bytes → Bytes) (n own leader : ℕ) (leaders : Bytes) (ranges : Ranges n own leader leaders) where
   not-dummy : (flags : ℕ) → isDummy (view (early n own flags 0 0 leader leaders)) 1 ≡ false
-  unfolding isDummy quorum view at firstHeight withMasks newHeight
-  not-dummy flags = rw (none-signed n) (lt-leb (2 * n) (3 * 0) (omega (arith, ranges .some-replica)))
+  unfolding isDummy view at firstHeight withMasks newHeight
+  not-dummy flags =
+      quorum-even (view (early n own flags 0 0 leader leaders)) n 0 refl ∙
+      rw (none-signed n) (lt-leb (2 * n) (3 * 0) (omega (arith, ranges .some-replica)))
 
   zero-below : 0 < 2 ^ n
   zero-below = pow-pos n
@@ -222,7 +225,7 @@ module _ (digest : Bytes → Bytes) (own leader : ℕ) (leaders : Bytes) (ranges
       one-vote flags 3 2 [] p (omega arith) (omega arith) refl)
 
   dummy-now : (flags : ℕ) → isDummy (view (early 4 own flags 7 0 leader leaders)) 1 ≡ true
-  unfolding isDummy quorum view at firstHeight withMasks newHeight ones
+  unfolding isDummy quorum view at firstHeight withMasks newHeight weigh total inMask
   dummy-now flags = refl
 
   -- the move after the three votes
@@ -250,7 +253,7 @@ module _ (digest : Bytes → Bytes) (own leader : ℕ) (leaders : Bytes) (ranges
 
   -- the move after the finalize certificate
   finalizes : (reply : Bytes) → 448 ≤ length reply → afterFinalizes digest (B 0 0 0) reply ≡ moved reply (step digest (early 4 own 0 0 7 leader leaders))
-  unfolding afterFinalizes word16 le16 belowBit quorum union maskOf inMask ones view
+  unfolding afterFinalizes word16 le16 belowBit quorum union maskOf inMask weigh total view
   finalizes reply room =
       rw (
         early-certificate 4 own 0 0 0 leader leaders ranges (omega arith) (omega arith) (omega arith) digest 7 refl refl refl,

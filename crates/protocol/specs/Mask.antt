@@ -1,6 +1,7 @@
 -- Masks: sets of replicas as the bits of a number, and how many are in one.
 use Prim.Native.Nat.{ℕ, zero, suc, _+_, _/_, _%_, _^_}
 use mathlib.Core.Bool.{Bool, _||_, cond}
+use mathlib.Core.List.{List, [], _∷_}
 use lib.Dec.{eqb, ltb}
 
 -- whether replica `s` is in a mask
@@ -24,3 +25,12 @@ union n mask other = maskOf (λ s. inMask mask s || inMask other s) n
 -- no bit from `n` up
 unfoldable pub belowBit : ℕ → ℕ → Bool
 belowBit n mask = ltb mask (2 ^ n)
+
+-- the weight of the replicas that pass a test, for a list of the replicas' weights
+unfoldable pub weigh : (ℕ → Bool) → List ℕ → ℕ
+weigh p [] = 0
+weigh p (w ∷ ws) = cond (p 0) w 0 + weigh (λ t. p (suc t)) ws
+
+unfoldable pub total : List ℕ → ℕ
+total [] = 0
+total (w ∷ ws) = w + total ws

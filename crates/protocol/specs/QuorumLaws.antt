@@ -7,19 +7,10 @@ use mathlib.Core.Bool.{Bool, true, false, _&&_, cond}
 use mathlib.Core.List.{List, [], _∷_}
 use lib.ListN.{length, replicate, length-replicate}
 use lib.Dec.{eqb, leb}
-use Rattle.protocol.specs.Mask.{inMask, ones}
-use Rattle.protocol.specs.View.{View, quorum}
+use Rattle.protocol.specs.Mask.{inMask, ones, weigh, total}
+use Rattle.protocol.specs.View.{View, quorum, maskWeight, totalWeight}
 use borrow.Author.Tests.{leb-true}
 use Rattle.protocol.specs.TestsLaws.{and-true}
-
--- the weight of the replicas that pass a test, for a list of the replicas' weights
-unfoldable pub weigh : (ℕ → Bool) → List ℕ → ℕ
-weigh p [] = 0
-weigh p (w ∷ ws) = cond (p 0) w 0 + weigh (λ t. p (suc t)) ws
-
-unfoldable pub total : List ℕ → ℕ
-total [] = 0
-total (w ∷ ws) = w + total ws
 
 one-replica : (x y : Bool) (w : ℕ) → cond x w 0 + cond y w 0 ≤ w + cond (x && y) w 0
 one-replica true true w = omega arith
@@ -59,7 +50,7 @@ outside p d (w ∷ ws) h = go (p 0) (d 0) refl refl h (λ k. up (outside (λ t. 
     go false false a b l below = below (omega arith)
 
 -- ---- equal weights
-total-equal : (n : ℕ) → total (replicate n 1) ≡ n
+pub total-equal : (n : ℕ) → total (replicate n 1) ≡ n
 unfolding total
 total-equal zero = refl
 total-equal (suc n) = let h = total-equal n in omega arith
@@ -74,7 +65,7 @@ bit-weight zero h = refl
 bit-weight (suc zero) h = refl
 bit-weight (suc (suc x)) h = absurd (omega arith)
 
-ones-weigh : (m n : ℕ) → ones m n ≡ weigh (λ t. inMask m t) (replicate n 1)
+pub ones-weigh : (m n : ℕ) → ones m n ≡ weigh (λ t. inMask m t) (replicate n 1)
 unfolding ones inMask
 ones-weigh m zero = weigh-none
   where
@@ -83,27 +74,23 @@ ones-weigh m zero = weigh-none
 ones-weigh m (suc n) =
     ap₂ _+_ (ones-weigh m n) (bit-weight (m / 2 ^ n % 2) (mod-lt _ (omega arith))) ∙ sym (weigh-last (λ t. eqb (m / 2 ^ t % 2) 1) n)
 
-meet : (n a b d : ℕ) → 2 * n ≤ 3 * ones a n → 2 * n ≤ 3 * ones b n → 3 * ones d n < n →
-    (t : ℕ) × (t < n) × (inMask a t ≡ true) × (inMask b t ≡ true) × (inMask d t ≡ false)
-unfolding Outside
-meet n a b d p q h = found (outside (λ t. inMask a t && inMask b t) (λ t. inMask d t) (replicate n 1) lighter)
+-- where all weigh 1 it is the number that counts
+pub quorum-even : (v : View) (n mask : ℕ) → v .weights ≡ replicate n 1 → quorum v mask ≡ leb (2 * n) (3 * ones mask n)
+unfolding quorum
+quorum-even v n mask e = rw (e, total-equal n, sym (ones-weigh mask n))
+
+-- two quorums of views of the same weights share a replica outside any set that weighs less than a third
+pub quorums-meet : (v v′ : View) (a b d : ℕ) → v′ .weights ≡ v .weights → quorum v a ≡ true → quorum v′ b ≡ true → 3 * maskWeight v d < totalWeight v →
+    (t : ℕ) × (t < length (v .weights)) × (inMask a t ≡ true) × (inMask b t ≡ true) × (inMask d t ≡ false)
+unfolding quorum Outside
+quorums-meet v v′ a b d e p q h = found (outside (λ t. inMask a t && inMask b t) (λ t. inMask d t) (v .weights) lighter)
   where
-    lighter : weigh (λ t. inMask d t) (replicate n 1) < weigh (λ t. inMask a t && inMask b t) (replicate n 1)
+    lighter : weigh (λ t. inMask d t) (v .weights) < weigh (λ t. inMask a t && inMask b t) (v .weights)
     lighter =
-        let ea = ones-weigh a n in let eb = ones-weigh b n in let ed = ones-weigh d n in let et = total-equal n in
-        let third = quorums-share (λ t. inMask a t) (λ t. inMask b t) (replicate n 1) (omega arith) (omega arith) in
+        let many = leb-true (2 * total (v .weights)) (3 * weigh (λ t. inMask a t) (v .weights)) p in
+        let more = leb-true (2 * total (v .weights)) (3 * weigh (λ t. inMask b t) (v .weights)) (subst (λ (ws : List ℕ). leb (2 * total ws) (3 * weigh (λ t. inMask b t) ws) ≡ true) e q) in
+        let third = quorums-share (λ t. inMask a t) (λ t. inMask b t) (v .weights) many more in
         omega arith
 
-    found : Outside (λ t. inMask a t && inMask b t) (λ t. inMask d t) (length {A = ℕ} (replicate n 1)) → (t : ℕ) × (t < n) × (inMask a t ≡ true) × (inMask b t ≡ true) × (inMask d t ≡ false)
-    found (t, l, ab, nd) =
-        let k = and-true (inMask a t) (inMask b t) ab in
-        let e = length-replicate {A = ℕ} n 1 in
-        (t, omega arith, k .0, k .1, nd)
-
--- two quorums of views of the same replicas share a replica outside any set that holds fewer than a third
-pub quorums-meet : (v v′ : View) (a b d : ℕ) → v′ .n ≡ v .n → quorum v a ≡ true → quorum v′ b ≡ true → 3 * ones d (v .n) < v .n →
-    (t : ℕ) × (t < v .n) × (inMask a t ≡ true) × (inMask b t ≡ true) × (inMask d t ≡ false)
-unfolding quorum
-quorums-meet v v′ a b d e p q h =
-    meet (v .n) a b d (leb-true (2 * v .n) (3 * ones a (v .n)) p)
-    (leb-true (2 * v .n) (3 * ones b (v .n)) (subst (λ (n : ℕ). leb (2 * n) (3 * ones b n) ≡ true) e q)) h
+    found : Outside (λ t. inMask a t && inMask b t) (λ t. inMask d t) (length (v .weights)) → (t : ℕ) × (t < length (v .weights)) × (inMask a t ≡ true) × (inMask b t ≡ true) × (inMask d t ≡ false)
+    found (t, l, ab, nd) = let k = and-true (inMask a t) (inMask b t) ab in (t, l, k .0, k .1, nd)

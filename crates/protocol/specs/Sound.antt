@@ -2,7 +2,7 @@
 use Prim.Native.Nat.{ℕ, _+_, _-_, _*_}
 use mathlib.Core.Bool.{Bool, _&&_, _||_}
 use mathlib.Core.List.{List, [], _∷_}
-use lib.ListN.{length}
+use lib.ListN.{length, replicate}
 use lib.Dec.{eqb, leb, ltb}
 use Rattle.protocol.specs.Bytes.{Bytes, byteAt, part, isZero}
 use Rattle.protocol.specs.Tests.{allOf, implies, inRange, everyHeight}
@@ -14,6 +14,7 @@ use Rattle.protocol.specs.View.{View, quorum, isFinalized, logOf}
 unfoldable pub view : State → View
 view s = record {
   n = s .n;
+  weights = replicate (s .n) 1;
   hasBlock = λ h. isNotarized (at s h);
   block = λ h. at s h .notarized;
   certificateMask = λ h. at s h .certificateMask;

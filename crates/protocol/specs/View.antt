@@ -7,25 +7,26 @@ use lib.Dec.{eqb, leb, ltb}
 use Rattle.protocol.specs.Bytes.{Bytes, zeros, same}
 use Rattle.protocol.specs.Tests.{allOf}
 use Rattle.protocol.specs.Block.{digestSize, parentHeight, parentDigest, allEntries}
-use Rattle.protocol.specs.Mask.{ones}
+use Rattle.protocol.specs.Mask.{inMask, weigh, total}
 
 -- what the rules of this file read: the number of replicas, and for each height whether a block is notarized there,
 -- that block, and the masks of its certificate, of the dummy votes and of the finalize votes
 pub record View : Type 0 where
   pub n : ℕ
+  pub weights : List ℕ
   pub hasBlock : ℕ → Bool
   pub block : ℕ → Bytes
   pub certificateMask : ℕ → ℕ
   pub dummyMask : ℕ → ℕ
   pub finalizeMask : ℕ → ℕ
 
--- the weight of the replicas in a mask: each weighs 1
+-- the weight of the replicas in a mask
 abbrev pub maskWeight : View → ℕ → ℕ
-maskWeight v mask = ones mask (v .n)
+maskWeight v mask = weigh (λ t. inMask mask t) (v .weights)
 
 -- the weight of all replicas
 abbrev pub totalWeight : View → ℕ
-totalWeight v = v .n
+totalWeight v = total (v .weights)
 
 -- a mask holds at least two thirds of the weight
 unfoldable pub quorum : View → ℕ → Bool

@@ -1,5 +1,6 @@
 -- `quorum` meets its contract: it counts the mask and compares as the definition does.
-use Rattle.protocol.specs.View.{quorum}
+use mathlib.Core.Path.{refl, sym, _∙_}
+use Rattle.protocol.specs.QuorumLaws.{quorum-even}
 use Rattle.protocol.specs.Sound.{view}
 use borrow.Author.Needs.{needs}
 use Rattle.fields.proofs.quorum.quorum.Statement.{statement}
@@ -18,8 +19,8 @@ mul-result-2 : tie.Need-mul-result-2
 mul-result-2 c = search needs
 
 returns : tie.Need-returns
-unfolding quorum view
-returns c = rw (c .count .ensures .0, c .before .replicas .ensures .0)
+unfolding view
+returns c = rw (c .count .ensures .0, c .before .replicas .ensures .0) (sym (quorum-even _ _ _ refl))
 
 pub quorum-spec : {M : Type 1} → statement M
 quorum-spec = tie.close (tie.spec replicas-requires mul-result count-requires mul-result-2 returns)
