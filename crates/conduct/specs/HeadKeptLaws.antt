@@ -5,7 +5,7 @@ use mathlib.Core.Logic.{_⊎_}
 use mathlib.Core.Bool.{true}
 use lib.ListN.{length}
 use Rattle.protocol.specs.Bytes.{Bytes}
-use Rattle.protocol.specs.State.{State, at, last}
+use Rattle.protocol.specs.State.{State, at, last, renewed}
 use Rattle.protocol.specs.View.{isFinalized}
 use Rattle.protocol.specs.Sound.{view}
 use Rattle.protocol.specs.SoundLaws.{SoundState}
@@ -13,19 +13,11 @@ use Rattle.protocol.specs.SoundLaws.{SoundState}
 module _ (digest : Bytes → Bytes) (s : State) (is : SoundState digest s) where
   pub head-sound : (flags current finalized pendingCount : ℕ) (pool : Bytes) →
       flags < 16 → 1 ≤ current → current ≤ last s + 1 → (finalized ≡ 0) ⊎ (isFinalized digest (view s) finalized ≡ true) → pendingCount ≤ 32 → length pool ≡ 512 →
-      SoundState digest (record {
-        n = s .n;
-        own = s .own;
-        flags = flags;
-        current = current;
-        finalized = finalized;
-        pendingCount = pendingCount;
-        pool = pool;
-        heights = s .heights;
-      })
+      SoundState digest (renewed s flags current finalized pendingCount pool (s .heights))
   unfolding view at last
   head-sound flags current finalized pendingCount pool small low high ended few size = record {
     shaped = record { pool-size = size; heights = is .shaped .heights };
+    first-edition = is .first-edition;
     n-low = is .n-low;
     n-high = is .n-high;
     own-below = is .own-below;

@@ -89,6 +89,7 @@ module _ (s : State) (i : ℕ) (high : i < last s) (y : Height) where
         let count : last s′ ≡ last s = last-with s i y in
         record {
           shaped = shaped-with s i y (is .shaped) (fits .shaped);
+          first-edition = unfold withHeight in is .first-edition;
           n-low = unfold withHeight in is .n-low;
           n-high = unfold withHeight in is .n-high;
           own-below = unfold withHeight in is .own-below;

@@ -44,6 +44,7 @@ module _ (digest : Bytes → Bytes) (n own heights : ℕ) (leaders : Bytes) (ran
   unfolding newState
   open-sound = record {
     shaped = new-shaped n own leaders;
+    first-edition = refl;
     n-low = n-range .0;
     n-high = n-range .1;
     own-below = ltb-true own n (unfold openInRange in row _ 1 ranges);

@@ -3,13 +3,13 @@ use Prim.Native.Nat.{ℕ, suc, _+_, _*_, _^_, _≤_, _<_}
 use mathlib.Core.Path.{_≡_}
 use lib.ListN.{length, set}
 use Rattle.protocol.specs.Bytes.{Bytes, le16}
-use Rattle.protocol.specs.State.{at, last, withHeight, encode, decode, bookHeights}
+use Rattle.protocol.specs.State.{at, last, withHeight, encode, decode, bookHeights, withPool}
 use Rattle.protocol.specs.Deliver.{withProposal, withNotarized, withMasks, withVote}
 use Rattle.protocol.specs.BytesLaws.{put}
 use Rattle.protocol.specs.StateLaws.{ShapedHeight}
 use Rattle.protocol.specs.CodecLaws.{Exact, last-decode, decode-shaped}
 use Rattle.protocol.specs.PlaceLaws.{shaped-at}
-use Rattle.protocol.specs.WriteLaws.{withPool, write-pool}
+use Rattle.protocol.specs.WriteLaws.{write-pool}
 use Rattle.protocol.specs.ChangeLaws.{named-height, make-proposal, make-notarized, make-dummy-mask, make-finalize-mask, make-vote}
 
 module _ (book : Bytes) (whole : encode (decode book) ≡ book) where

@@ -5,13 +5,13 @@ use mathlib.Core.Path.{_≡_, refl, ap, _∙_}
 use mathlib.Core.List.{List, _++_}
 use lib.ListN.{length, set}
 use Rattle.protocol.specs.Bytes.{Bytes, le16, zeros, join}
-use Rattle.protocol.specs.State.{State, Height, at, last, withHeight, encode, decode}
+use Rattle.protocol.specs.State.{State, Height, at, last, withHeight, encode, decode, withPool}
 use Rattle.protocol.specs.Deliver.{withProposal, withNotarized, withMasks, withVote}
 use Rattle.protocol.specs.Submit.{withPending}
 use Rattle.protocol.specs.BytesLaws.{put, length-put}
 use Rattle.protocol.specs.StateLaws.{Shaped, ShapedHeight}
 use Rattle.protocol.specs.PlaceLaws.{with-at}
-use Rattle.protocol.specs.WriteLaws.{withPool, withStatus, withCertificateMask, withDummyMask, withFinalizeMask, withVoterMask, withProposalBytes, withNotarizedBytes, withVoteDigests, write-status, write-certificate-mask, write-dummy-mask, write-finalize-mask, write-voter-mask, write-proposal, write-notarized, write-vote-digests}
+use Rattle.protocol.specs.WriteLaws.{withStatus, withCertificateMask, withDummyMask, withFinalizeMask, withVoterMask, withProposalBytes, withNotarizedBytes, withVoteDigests, write-status, write-certificate-mask, write-dummy-mask, write-finalize-mask, write-voter-mask, write-proposal, write-notarized, write-vote-digests}
 
 -- ---- changes, field by field
 pub with-proposal : (x : Height) (block : Bytes) → withProposal x block ≡ withProposalBytes (withStatus x (x .status + 1)) block

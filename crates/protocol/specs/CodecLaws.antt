@@ -91,7 +91,6 @@ decode-shaped book exact = record {
 -- ---- a book whose bytes called zero are zero is the bytes of its state
 pub record Clean (book : Bytes) : Type 0 where
   pub size : Exact book
-  pub edition-byte : byteAt book 7 ≡ 1
   pub head-zeros : part book 8 56 ≡ zeros 56
   pub content-zeros : (i : ℕ) → i < bookHeights book → part book (576 + 16 * i + 10) 6 ≡ zeros 6
 
@@ -147,7 +146,7 @@ head-back book clean =
     let e : take 64 book ≡ firsts 8 0 book ++ take 56 (drop 8 book) = ap (λ (l : Bytes). take 64 l) (spell 8 0 book (omega arith)) in
     let z : take 56 (drop 8 book) ≡ zeros 56 = unfold part in clean .head-zeros in
     let h = length-heights (bookHeights book) (drop 576 book) (drop (576 + 16 * bookHeights book) book) in
-    cc (clean .edition-byte)
+    cc
 
 module _ (book : Bytes) (small : AreBytes book) (clean : Clean book) where
   from-bodies : join (map bodyBytes (decode book .heights)) ≡ drop (576 + 16 * bookHeights book) book

@@ -55,3 +55,4 @@ pub mod NewBookLaws
 pub mod NewBookCallsLaws
 pub mod ExamplesLaws
 pub mod BuildLaws
+pub mod EditionLaws

@@ -100,6 +100,7 @@ bare-sound v h x b = record {
 module _ (n own flags dummy final leader : ℕ) (leaders : Bytes) where
   abbrev pub early : State
   early = record {
+    edition = 1;
     n = n;
     own = own;
     flags = flags;
@@ -143,6 +144,7 @@ module _ (n own flags dummy final leader : ℕ) (leaders : Bytes) (ranges : Rang
       let count = length-map leaders newHeight in
       sound-encode digest E (record {
         shaped = early-shaped;
+        first-edition = refl;
         n-low = ranges .some-replica;
         n-high = ranges .few-replicas;
         own-below = ranges .own-below;

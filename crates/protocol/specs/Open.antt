@@ -25,6 +25,7 @@ newHeight leader = record {
 
 unfoldable pub newState : ℕ → ℕ → Bytes → State
 newState n own leaders = record {
+  edition = 1;
   n = n;
   own = own;
   flags = 0;

@@ -6,16 +6,12 @@ use mathlib.Core.List.{List, _++_, map, append-assoc}
 use lib.ListN.{length, take, drop, set, length-append, length-map, length-set, length-drop}
 use lib.Seq.{set-getD, set-set, getD-set-same, getD-set-other, length-take-le}
 use Rattle.protocol.specs.Bytes.{Bytes, byteAt, le16, part, zeros, join}
-use Rattle.protocol.specs.State.{State, Height, noHeight, at, last, withHeight, encode, headBytes, contentBytes, bodyBytes, bookHeights}
+use Rattle.protocol.specs.State.{State, Height, noHeight, at, last, withHeight, encode, headBytes, contentBytes, bodyBytes, bookHeights, renewed}
 use Rattle.protocol.specs.EveryLaws.{Every, every-set, every-at, every-take}
 use Rattle.protocol.specs.BytesLaws.{put, middle-part, middle-set, middle-put}
-use Rattle.protocol.specs.StateLaws.{Shaped, ShapedHeight, content-size, body-size, contents-sized, bodies-sized}
+use Rattle.protocol.specs.StateLaws.{head-size, Shaped, ShapedHeight, content-size, body-size, contents-sized, bodies-sized}
 use Rattle.protocol.specs.PiecesLaws.{length-join, cut-set}
 use Rattle.protocol.specs.CodecLaws.{Clean, at-suc}
-
-pub head-size : (s : State) → length (headBytes s) ≡ 64
-unfolding headBytes zeros
-head-size s = refl
 
 contents-length : (l : List Height) → length (join (map contentBytes l)) ≡ 16 * length l
 contents-length l = length-join 16 (map contentBytes l) (contents-sized l) ∙ rw length-map
@@ -39,32 +35,17 @@ module _ (s : State) (i : ℕ) where
   suc-minus : suc i - 1 ≡ i
   suc-minus = omega arith
 
+  abbrev with-heights : List Height → State
+  with-heights = renewed s (s .flags) (s .current) (s .finalized) (s .pendingCount) (s .pool)
+
   -- the height that stands there anyway
   pub with-at : withHeight s (suc i) (at s (suc i)) ≡ s
   unfolding withHeight at
-  with-at = λ k. record {
-    n = s .n;
-    own = s .own;
-    flags = s .flags;
-    current = s .current;
-    finalized = s .finalized;
-    pendingCount = s .pendingCount;
-    pool = s .pool;
-    heights = set-getD (s .heights) (suc i - 1) noHeight k;
-  }
+  with-at = ap with-heights (set-getD (s .heights) (suc i - 1) noHeight)
 
   pub with-with : (x y : Height) → withHeight (withHeight s (suc i) x) (suc i) y ≡ withHeight s (suc i) y
   unfolding withHeight
-  with-with x y = λ k. record {
-    n = s .n;
-    own = s .own;
-    flags = s .flags;
-    current = s .current;
-    finalized = s .finalized;
-    pendingCount = s .pendingCount;
-    pool = s .pool;
-    heights = set-set (s .heights) (suc i - 1) x y k;
-  }
+  with-with x y = ap with-heights (set-set (s .heights) (suc i - 1) x y)
 
   pub last-with : (x : Height) → last (withHeight s (suc i) x) ≡ last s
   unfolding last withHeight
@@ -170,14 +151,9 @@ head-zeros : (s : State) → part (encode s) 8 56 ≡ zeros 56
 unfolding encode headBytes part zeros
 head-zeros s = refl
 
-edition-encode : (s : State) → byteAt (encode s) 7 ≡ 1
-unfolding encode headBytes
-edition-encode s = refl
-
 pub clean-encode : (s : State) → Shaped s → Clean (encode s)
 clean-encode s shaped = record {
   size = rw count-encode (length-encode s shaped);
-  edition-byte = edition-encode s;
   head-zeros = head-zeros s;
   content-zeros = λ i h.
       ap (λ (t : State). part (encode t) (576 + 16 * i + 10) 6) (sym (with-at s i)) ∙

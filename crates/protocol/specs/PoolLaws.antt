@@ -8,7 +8,7 @@ use mathlib.Core.List.{List, [], _∷_, _++_, append-assoc, append-nil}
 use lib.ListN.{length, getD, take, drop, set, length-append, length-take, length-drop, drop-of-length-le}
 use lib.Seq.{take-suc, drop-drop, drop-append-add}
 use Rattle.protocol.specs.Bytes.{Bytes, part, zeros, join, pieces, holds}
-use Rattle.protocol.specs.State.{State, at, encode, decode, last}
+use Rattle.protocol.specs.State.{State, at, encode, decode, last, withPool}
 use Rattle.protocol.specs.Sound.{view}
 use Rattle.protocol.specs.Submit.{withPending}
 use Rattle.protocol.specs.Move.{without}
@@ -18,7 +18,7 @@ use Rattle.protocol.specs.BytesLaws.{put, put-at, length-part, length-pu
 use Rattle.protocol.specs.StateLaws.{Shaped}
 use Rattle.protocol.specs.PiecesLaws.{Sized, pieces-join, join-pieces, length-join, length-pieces, join-more}
 use Rattle.protocol.specs.CodecLaws.{Exact, decode-shaped}
-use Rattle.protocol.specs.WriteLaws.{withPool, write-pool, write-pending-count}
+use Rattle.protocol.specs.WriteLaws.{write-pool, write-pending-count}
 use Rattle.protocol.specs.ChangeLaws.{with-pending, shaped-pool}
 
 -- bytes put at the end of a front part

@@ -8,7 +8,7 @@ use Rattle.protocol.specs.Bytes.{Bytes, byteAt, part, isZero}
 use Rattle.protocol.specs.Tests.{allOf, implies, inRange, everyHeight}
 use Rattle.protocol.specs.Block.{maximumHeights, blockWellFormed}
 use Rattle.protocol.specs.Mask.{belowBit}
-use Rattle.protocol.specs.State.{State, Height, at, decode, edition, bookSize, holdsProposal, isNotarized, bookHeights}
+use Rattle.protocol.specs.State.{State, Height, at, decode, bookSize, holdsProposal, isNotarized, bookHeights}
 use Rattle.protocol.specs.View.{View, quorum, isFinalized, logOf}
 
 unfoldable pub view : State → View
@@ -54,7 +54,7 @@ module _ (digest : Bytes → Bytes) where
       inRange 1 16 (s .n) ∷
       ltb (s .own) (s .n) ∷
       inRange 1 maximumHeights heights ∷
-      eqb (byteAt book 7) edition ∷
+      eqb (s .edition) 1 ∷
       inRange 1 (heights + 1) (s .current) ∷
       ltb (s .flags) 16 ∷
       leb (s .pendingCount) 32 ∷

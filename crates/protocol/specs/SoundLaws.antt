@@ -37,6 +37,7 @@ pub record SoundHeight (v : View) (h : ℕ) (x : Height) : Type 0 where
 
 pub record SoundState (digest : Bytes → Bytes) (s : State) : Type 0 where
   pub shaped : Shaped s
+  pub first-edition : s .edition ≡ 1
   pub n-low : 1 ≤ s .n
   pub n-high : s .n ≤ 16
   pub own-below : s .own < s .n
@@ -126,7 +127,7 @@ module _ (digest : Bytes → Bytes) where
     unfolding sound
     heights-range = in-range _ _ _ (row _ 3 e)
 
-    edition-row : byteAt book 7 ≡ 1
+    edition-row : S .edition ≡ 1
     unfolding sound
     edition-row = eqb-true _ _ (row _ 4 e)
 
@@ -169,6 +170,7 @@ module _ (digest : Bytes → Bytes) where
         let count = last-decode book in
         record {
           shaped = decode-shaped book exact;
+          first-edition = edition-row;
           n-low = n-range .0;
           n-high = n-range .1;
           own-below = ltb-true _ _ (row _ 2 e);
@@ -187,7 +189,6 @@ module _ (digest : Bytes → Bytes) where
     unfolding contentZeros
     sound-clean = record {
       size = exact;
-      edition-byte = edition-row;
       head-zeros = let size : length book ≡ 576 + 880 * H = exact in zero-part book 8 56 (omega arith) head-zero-row;
       content-zeros = λ i h.
           let size : length book ≡ 576 + 880 * H = exact in
@@ -229,7 +230,7 @@ module _ (digest : Bytes → Bytes) where
         (one (range-in _ _ _ (facts .n-low) (facts .n-high))
         (one (lt-ltb _ _ (facts .own-below))
         (one (range-in _ _ _ (rw count at (facts .last-low)) (rw count at (facts .last-high)))
-        (one (eq-eqb _ _ (clean .edition-byte))
+        (one (eq-eqb _ _ (facts .first-edition))
         (one (range-in _ _ _ (facts .current-low) (rw count at (facts .current-high)))
         (one (lt-ltb _ _ (facts .flags-small))
         (one (le-leb _ _ (facts .pending-few))

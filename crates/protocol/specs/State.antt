@@ -21,6 +21,8 @@ pub record Height : Type 0 where
   pub voteDigests : Bytes
 
 pub record State : Type 0 where
+  -- the edition of its book's layout: what is encoded has it, and no rule goes by it
+  pub edition : ℕ
   pub n : ℕ
   pub own : ℕ
   -- of the current height: 1 timer fired, 2 dummy vote cast, 4 block vote cast, 8 proposed
@@ -43,10 +45,6 @@ contentSize = 16
 abbrev pub bodySize : ℕ
 bodySize = 864
 
--- the edition of a book's layout
-abbrev pub edition : ℕ
-edition = 1
-
 -- the length of the book of `H` heights
 unfoldable pub bookSize : ℕ → ℕ
 bookSize heights = 576 + 880 * heights
@@ -58,7 +56,7 @@ bookHeights book = byteAt book 2
 -- ---- a state's bytes
 unfoldable pub headBytes : State → Bytes
 headBytes s =
-    s .n ∷ s .own ∷ length (s .heights) ∷ s .flags ∷ s .current ∷ s .finalized ∷ s .pendingCount ∷ edition ∷ zeros 56
+    s .n ∷ s .own ∷ length (s .heights) ∷ s .flags ∷ s .current ∷ s .finalized ∷ s .pendingCount ∷ s .edition ∷ zeros 56
 
 unfoldable pub contentBytes : Height → Bytes
 contentBytes x =
@@ -96,6 +94,7 @@ unfoldable pub decode : Bytes → State
 decode book =
     let heights : ℕ = bookHeights book in
     record {
+      edition = byteAt book 7;
       n = byteAt book 0;
       own = byteAt book 1;
       flags = byteAt book 3;
@@ -142,8 +141,24 @@ unfoldable pub voteOf : Height → ℕ → Bytes
 voteOf x s = part (x .voteDigests) (32 * s) 32
 
 -- ---- changes
-unfoldable pub withHeight : State → ℕ → Height → State
-withHeight s h x = record {
+-- all that a call may change is given anew; the rest stays from the opening on
+abbrev pub renewed : State → (flags current finalized pendingCount : ℕ) → Bytes → List Height → State
+renewed s flags current finalized pendingCount pool heights = record {
+  edition = s .edition;
+  n = s .n;
+  own = s .own;
+  flags = flags;
+  current = current;
+  finalized = finalized;
+  pendingCount = pendingCount;
+  pool = pool;
+  heights = heights;
+}
+
+-- the same state in a book of another edition
+unfoldable pub withEdition : ℕ → State → State
+withEdition edition s = record {
+  edition = edition;
   n = s .n;
   own = s .own;
   flags = s .flags;
@@ -151,20 +166,18 @@ withHeight s h x = record {
   finalized = s .finalized;
   pendingCount = s .pendingCount;
   pool = s .pool;
-  heights = set (s .heights) (h - 1) x;
-}
-
-unfoldable pub withHead : State → ℕ → ℕ → ℕ → State
-withHead s flags current finalized = record {
-  n = s .n;
-  own = s .own;
-  flags = flags;
-  current = current;
-  finalized = finalized;
-  pendingCount = s .pendingCount;
-  pool = s .pool;
   heights = s .heights;
 }
+
+unfoldable pub withHeight : State → ℕ → Height → State
+withHeight s h x =
+    renewed s (s .flags) (s .current) (s .finalized) (s .pendingCount) (s .pool) (set (s .heights) (h - 1) x)
+
+unfoldable pub withHead : State → ℕ → ℕ → ℕ → State
+withHead s flags current finalized = renewed s flags current finalized (s .pendingCount) (s .pool) (s .heights)
+
+unfoldable pub withPool : State → ℕ → Bytes → State
+withPool s count pool = renewed s (s .flags) (s .current) (s .finalized) count pool (s .heights)
 
 -- the timer of the current height has fired
 unfoldable pub withTimerFired : State → State

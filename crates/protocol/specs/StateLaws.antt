@@ -6,9 +6,10 @@ use mathlib.Core.List.{List, [], _∷_, _++_, map, append-assoc, append-nil}
 use lib.ListN.{length, take, drop, length-append, length-map}
 use lib.Seq.{take-at, drop-at, take-all, drop-drop}
 use Rattle.protocol.specs.Bytes.{Bytes, word16, le16, part, zeros, join, pieces}
+use Rattle.protocol.specs.BytesLaws.{length-zeros}
 use Rattle.protocol.specs.EveryLaws.{Every, none, one, every-map}
 use Rattle.protocol.specs.PiecesLaws.{Sized, length-join, pieces-join}
-use Rattle.protocol.specs.State.{State, Height, encode, decode, headBytes, contentBytes, bodyBytes, decodeHeight, decodeHeights}
+use Rattle.protocol.specs.State.{State, Height, encode, decode, headBytes, contentBytes, bodyBytes, decodeHeight, decodeHeights, renewed}
 
 pub record ShapedHeight (x : Height) : Type 0 where
   pub proposal-size : length (x .proposal) ≡ 176
@@ -21,6 +22,10 @@ pub record Shaped (b : State) : Type 0 where
 
 pub word16-le16 : (x : ℕ) → x % 256 + 256 * (x / 256) ≡ x
 word16-le16 x = omega arith
+
+pub head-size : (s : State) → length (headBytes s) ≡ 64
+unfolding headBytes
+head-size s = let rest = length-zeros 56 in omega arith
 
 decode-height : (x : Height) → ShapedHeight x → decodeHeight (contentBytes x) (bodyBytes x) ≡ x
 unfolding decodeHeight contentBytes bodyBytes part word16 le16
@@ -76,12 +81,14 @@ module _ (s : State) (shaped : Shaped s) where
   D = join (map bodyBytes (s .heights))
 
   pool-back : part (encode s) 64 512 ≡ s .pool
-  unfolding part encode headBytes zeros
-  pool-back = take-at (s .pool) (C ++ D) 512 (shaped .pool-size)
+  unfolding part encode
+  pool-back = rw (drop-at (headBytes s) (s .pool ++ (C ++ D)) 64 (head-size s)) (take-at (s .pool) (C ++ D) 512 (shaped .pool-size))
 
   contents-from : drop 576 (encode s) ≡ C ++ D
-  unfolding encode headBytes zeros
-  contents-from = drop-at (s .pool) (C ++ D) 512 (shaped .pool-size)
+  unfolding encode
+  contents-from =
+      sym (drop-drop 512 64 (encode s)) ∙
+      rw (drop-at (headBytes s) (s .pool ++ (C ++ D)) 64 (head-size s)) (drop-at (s .pool) (C ++ D) 512 (shaped .pool-size))
 
   bodies-from : drop (576 + 16 * length (s .heights)) (encode s) ≡ D
   bodies-from =
@@ -104,13 +111,4 @@ module _ (s : State) (shaped : Shaped s) where
 
   pub decode-encode : decode (encode s) ≡ s
   unfolding decode encode headBytes
-  decode-encode = λ i. record {
-    n = s .n;
-    own = s .own;
-    flags = s .flags;
-    current = s .current;
-    finalized = s .finalized;
-    pendingCount = s .pendingCount;
-    pool = pool-back i;
-    heights = heights-back i;
-  }
+  decode-encode = ap₂ (renewed s (s .flags) (s .current) (s .finalized) (s .pendingCount)) pool-back heights-back

@@ -7,23 +7,16 @@ use lib.Dec.{eqb, ltb}
 use Rattle.protocol.specs.Bytes.{Bytes, zeros, join, holds}
 use Rattle.protocol.specs.Tests.{Row, firstRefusal}
 use Rattle.protocol.specs.Block.{entrySize}
-use Rattle.protocol.specs.State.{State, encode, decode, pending, poolSize}
+use Rattle.protocol.specs.State.{State, encode, decode, pending, poolSize, renewed}
 use Rattle.protocol.specs.Sound.{sound, log}
 use Rattle.protocol.specs.Move.{without}
 use Rattle.protocol.specs.Answer.{Outcome, Done, done, accepted, unlessRefused}
 
 -- the state with these pending entries, and zero bytes after them
 unfoldable pub withPending : State → List Bytes → State
-withPending s es = record {
-  n = s .n;
-  own = s .own;
-  flags = s .flags;
-  current = s .current;
-  finalized = s .finalized;
-  pendingCount = length es;
-  pool = join es ++ zeros (poolSize - entrySize * length es);
-  heights = s .heights;
-}
+withPending s es =
+    renewed s (s .flags) (s .current) (s .finalized) (length es) (join es ++ zeros (poolSize - entrySize * length es))
+    (s .heights)
 
 -- the pending entries that the log does not hold
 unfoldable pub stillPending : State → List Bytes

@@ -6,24 +6,12 @@ use mathlib.Core.Path.{_≡_, refl, sym, _∙_}
 use mathlib.Core.List.{_++_, map}
 use lib.ListN.{length, set}
 use Rattle.protocol.specs.Bytes.{Bytes, le16, join}
-use Rattle.protocol.specs.State.{State, Height, at, last, withHeight, encode, headBytes, contentBytes, bodyBytes}
+use Rattle.protocol.specs.State.{State, Height, at, last, withHeight, withPool, encode, headBytes, contentBytes, bodyBytes}
 use Rattle.protocol.specs.BytesLaws.{put, put-front, put-after, middle-put}
-use Rattle.protocol.specs.StateLaws.{Shaped, ShapedHeight}
-use Rattle.protocol.specs.PlaceLaws.{head-size, content-set, content-put, body-put}
+use Rattle.protocol.specs.StateLaws.{head-size, Shaped, ShapedHeight}
+use Rattle.protocol.specs.PlaceLaws.{content-set, content-put, body-put}
 
 -- ---- the pool
-unfoldable pub withPool : State → ℕ → Bytes → State
-withPool s count pool = record {
-  n = s .n;
-  own = s .own;
-  flags = s .flags;
-  current = s .current;
-  finalized = s .finalized;
-  pendingCount = count;
-  pool = pool;
-  heights = s .heights;
-}
-
 pub write-pending-count : (s : State) (v : ℕ) → set (encode s) 6 v ≡ encode (withPool s v (s .pool))
 unfolding encode headBytes withPool
 write-pending-count s v = refl

@@ -7,7 +7,7 @@ use lib.Dec.{eqb, leb, ltb}
 use Rattle.protocol.specs.Bytes.{Bytes, byteAt, part, isZero}
 use Rattle.protocol.specs.Tests.{allOf, implies, inRange, everyHeight}
 use Rattle.protocol.specs.Block.{maximumHeights}
-use Rattle.protocol.specs.State.{at, decode, edition, bookSize, isNotarized, bookHeights}
+use Rattle.protocol.specs.State.{at, decode, bookSize, isNotarized, bookHeights}
 use Rattle.protocol.specs.View.{quorum, isFinalized}
 use Rattle.protocol.specs.Sound.{view, masksBelow, blocksWellFormed, contentZeros}
 
@@ -17,7 +17,7 @@ numberRows book =
     inRange 1 16 (decode book .n) ∷
     ltb (decode book .own) (decode book .n) ∷
     inRange 1 maximumHeights (bookHeights book) ∷
-    eqb (byteAt book 7) edition ∷
+    eqb (decode book .edition) 1 ∷
     inRange 1 (bookHeights book + 1) (decode book .current) ∷
     ltb (decode book .flags) 16 ∷
     leb (decode book .pendingCount) 32 ∷ []
