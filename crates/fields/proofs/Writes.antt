@@ -5,7 +5,7 @@ use mathlib.Core.Path.{_≡_, refl, ap, subst, _∙_}
 use mathlib.Core.List.{[], _∷_, _++_}
 use lib.ListN.{length, set}
 use Rattle.protocol.specs.Bytes.{Bytes, le16, part, zeros, pieces}
-use Rattle.protocol.specs.State.{State, Height, headBytes, encode, decode, at, last, withHead, withHeight, bookHeights}
+use Rattle.protocol.specs.State.{State, Height, headBytes, encode, decode, at, last, withHead, withHeight, withPool, bookHeights}
 use Rattle.protocol.specs.Deliver.{withProposal, withNotarized, withVote}
 use Rattle.protocol.specs.Submit.{withPending}
 use Rattle.protocol.specs.BytesLaws.{put, length-part}
@@ -13,7 +13,7 @@ use Rattle.protocol.specs.StateLaws.{Shaped, ShapedHeight}
 use Rattle.protocol.specs.CodecLaws.{last-decode, decode-shaped}
 use Rattle.protocol.specs.PlaceLaws.{suc-pred, shaped-at}
 use Rattle.protocol.specs.FieldLaws.{read-proposal, read-entry}
-use Rattle.protocol.specs.WriteLaws.{withPool, withStatus, withCertificateMask, withNotarizedBytes, write-status, write-certificate-mask, write-notarized}
+use Rattle.protocol.specs.WriteLaws.{withStatus, withCertificateMask, withNotarizedBytes, write-status, write-certificate-mask, write-notarized}
 use Rattle.protocol.specs.ChangeLaws.{named-height}
 use Rattle.protocol.specs.BookLaws.{book-pool, book-proposal, book-dummy-mask, book-finalize-mask, book-vote}
 use Rattle.protocol.specs.PoolLaws.{book-finish}

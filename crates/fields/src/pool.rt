@@ -8,9 +8,8 @@ ghost use mathlib.Core.List.{[], _∷_, _++_};
 ghost use lib.ListN.{length};
 ghost use Rattle.protocol.specs.Bytes.{part, pieces};
 ghost use Rattle.protocol.specs.BytesLaws.{put};
-ghost use Rattle.protocol.specs.State.{decode, encode};
+ghost use Rattle.protocol.specs.State.{decode, encode, withPool};
 ghost use Rattle.protocol.specs.Submit.{withPending};
-ghost use Rattle.protocol.specs.WriteLaws.{withPool};
 ghost use Rattle.fields.specs.Ready.{Sized, Ready};
 
 // Place `k` of the pool, 16 bytes: an entry, if it is pending.

@@ -8,7 +8,7 @@ use lib.ListN.{length, take, length-take}
 use Rattle.protocol.specs.Bytes.{Bytes, part, pieces}
 use Rattle.protocol.specs.BytesLaws.{put}
 use Rattle.protocol.specs.Block.{blockWellFormed}
-use Rattle.protocol.specs.State.{State, decode, encode, last, pending, bookHeights}
+use Rattle.protocol.specs.State.{State, decode, encode, last, pending, withPool, bookHeights}
 use Rattle.protocol.specs.Sound.{view, log}
 use Rattle.protocol.specs.View.{View, linked, logAt}
 use Rattle.protocol.specs.Move.{without}
@@ -16,7 +16,6 @@ use Rattle.protocol.specs.Submit.{withPending, stillPending}
 use Rattle.protocol.specs.EveryLaws.{Every}
 use Rattle.protocol.specs.StateLaws.{decode-encode}
 use Rattle.protocol.specs.PiecesLaws.{Sized as SizedBytes}
-use Rattle.protocol.specs.WriteLaws.{withPool}
 use Rattle.protocol.specs.PoolLaws.{moved, moved-view, moved-last, moved-pending, moved-pieces, moved-shaped, moved-entry, moved-more, without-short}
 use Rattle.protocol.specs.EntriesLaws.{lacked-sized, pending-all}
 use Rattle.fields.specs.Ready.{Ready}
