@@ -1,4 +1,4 @@
-"""What a statement reaches: the declarations that its text names, then those that their texts name; by which imports."""
+"""What a statement reaches: the declarations that its text names, then those that their texts name."""
 import json
 import pathlib
 import re
@@ -55,7 +55,7 @@ class Library:
             folder = self.crates / crate / "specs"
             root = [line for line in (folder / "Lib.antt").read_text().splitlines() if not line.startswith("--")]
             if any(not re.fullmatch(r"(pub mod \w+)?", line) for line in root) or f"pub mod {name}" not in root:
-                raise Unreadable(f"crates/{crate}/specs/Lib.antt, which must declare {name} and hold `pub mod` lines alone")
+                raise Unreadable(f"crates/{crate}/specs/Lib.antt: it must hold `pub mod {name}`, and such lines alone")
             place = f"crates/{crate}/specs/{name}.antt"
             self.files[key] = SpecFile((folder / f"{name}.antt").read_text(), place)
             if self.files[key].children:
