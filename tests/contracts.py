@@ -1,7 +1,7 @@
 """The public functions of a crate with their contracts, and the types of its src/, read from its files."""
 import re
 
-from specs import Unreadable, Use, Words
+from specs import Unreadable, Use, Words, readable
 
 # the crates whose public functions are for others to call
 PUBLIC = ("replica", "replica_c", "sha256", "sha256_c")
@@ -26,11 +26,11 @@ def closing(text, at):
 class Item:
     """A function up to its body, with the comment and the attributes above it, or a type."""
 
-    def __init__(self, file, text, m):
+    def __init__(self, file, text, bare, m):
         self.file, self.name, self.names, self.sort = file, m["name"], [m["name"]], m["sort"]
         self.public, self.exported = bool(m["pub"]), bool(m["extern"])
         self.clauses, self.types = [], set()
-        end = self.function(text, m.end()) if self.sort == "fn" else self.type_of(text, m.end())
+        end = self.function(bare, m.end()) if self.sort == "fn" else self.type_of(bare, m.end())
         self.whole = text[m.start() : end].rstrip()
         self.used = Words(" ".join(body for sort, body in self.clauses))
 
@@ -38,7 +38,7 @@ class Item:
         """The signature is the language's own; what stands in a clause's braces is antt's."""
         while True:
             brace = re.compile(r"[{;](?![^\[]*\])").search(text, at).start()
-            between = re.sub(r"//.*", "", text[at:brace])
+            between = text[at:brace]
             self.types.update(re.findall(r"\w+(?:::\w+)*", between))
             clause = CLAUSE.search(between)
             if not clause:
@@ -49,7 +49,7 @@ class Item:
     def type_of(self, text, at):
         end = re.compile(r"[{;](?![^\[\n]*\])").search(text, at).start()
         end = closing(text, end) if text[end] == "{" else end + 1
-        self.types.update(re.findall(r"\w+(?:::\w+)*", re.sub(r"//.*", "", text[at:end])))
+        self.types.update(re.findall(r"\w+(?:::\w+)*", text[at:end]))
         return end
 
     def text(self, whole=True):
@@ -67,17 +67,30 @@ class SourceFile:
     """A file of src/: its imports, the modules that it names, its functions and types."""
 
     def __init__(self, text, place):
-        self.place, self.uses = place, []
+        self.place, self.uses, self.imports = place, [], []
+        readable(text, place)
         if re.search(r"^ *(pub )?mod \w+ \{", text, re.M) or "/*" in text:
             raise Unreadable(f"{place}: a module or a comment in braces")
-        for line in re.findall(r"^ghost use .*", text, re.M):
-            self.uses.append(Use(line, {use.alias: use.module for use in self.uses if use.alias}))
-        self.imports = []
-        for m in IMPORT.finditer(text):
-            path = m[2].split("::")
-            self.imports.append((m[0], bool(m[1]), path, m[3] or path[-1]))
+        for line in re.findall(r"^ *((?:ghost |pub )*use .*)", text, re.M):
+            self.takes(line)
         self.modules = {m[2]: bool(m[1]) for m in re.finditer(r"^(pub )?mod (\w+);", text, re.M)}
-        self.items = [Item(self, text, m) for m in ITEM.finditer(text)]
+        bare = re.sub(r"//.*", lambda m: " " * len(m[0]), text)
+        self.items = [Item(self, text, bare, m) for m in ITEM.finditer(text)]
+        known = {item.name for item in self.items if item.sort == "fn"}
+        strange = [name for name in re.findall(r"\bfn (\w+)", bare) if name not in known]
+        if strange:
+            raise Unreadable(f"{place}: a function of another form: {strange[0]}")
+
+    def takes(self, line):
+        """An import, of antt's names or of the code's."""
+        if line.startswith("ghost "):
+            self.uses.append(Use(line, {use.alias: use.module for use in self.uses if use.alias}))
+            return
+        m = IMPORT.match(line)
+        if not m:
+            raise Unreadable(f"{self.place}: an import of another form: {line}")
+        path = m[2].split("::")
+        self.imports.append((m[0], bool(m[1]), path, m[3] or path[-1]))
 
     def find(self, name):
         return [item for item in self.items if item.name == name]

@@ -53,6 +53,8 @@ class Library:
         key = f"Rattle.{crate}.specs.{name}"
         if self.files.get(key) is None:
             folder = self.crates / crate / "specs"
+            if not (folder / f"{name}.antt").exists():
+                raise Unreadable(f"there is no crates/{crate}/specs/{name}.antt")
             root = [line for line in (folder / "Lib.antt").read_text().splitlines() if not line.startswith("--")]
             if any(not re.fullmatch(r"(pub mod \w+)?", line) for line in root) or f"pub mod {name}" not in root:
                 raise Unreadable(f"crates/{crate}/specs/Lib.antt: it must hold `pub mod {name}`, and such lines alone")

@@ -4,6 +4,7 @@ What is not read here is refused (`Unreadable`), so that no form of the language
 """
 import itertools
 import re
+import unicodedata
 
 # antt's names: any run of characters but these; «word» is the name `word`; `a.b` goes through a module or to a field
 NAME = r"(?:«[^»]*»|[^\s(){}.;,@\"«»]+)"
@@ -15,6 +16,12 @@ USE = re.compile(r"^(?:ghost )?(pub )?use ([^\s{]+?)(?:\.\{(.*)\}|\.(\*))?(?: as
 
 class Unreadable(Exception):
     """A form that these scripts do not read."""
+
+
+def readable(text, place):
+    """One spelling for a name, and no sign that a reader does not see."""
+    if unicodedata.normalize("NFC", text) != text or any(unicodedata.category(c) in ("Cf", "Co", "Cn") for c in text):
+        raise Unreadable(f"{place}: a sign that cannot be seen, or is written in another way than it is read")
 
 
 def uncommented(text):
@@ -129,6 +136,8 @@ class SpecFile:
 
     def __init__(self, text, place, lenient=False):
         self.lenient = lenient
+        if not lenient:
+            readable(text, place)
         if "{-" in text and not lenient:
             raise Unreadable(f"{place}: a comment in braces")
         self.place, self.uses, self.all, self.declared, self.fields = place, [], [], {}, {}
