@@ -138,8 +138,8 @@ class SpecFile:
         self.lenient = lenient
         if not lenient:
             readable(text, place)
-        if "{-" in text and not lenient:
-            raise Unreadable(f"{place}: a comment in braces")
+        if ("{-" in text or "\t" in text) and not lenient:
+            raise Unreadable(f"{place}: a comment in braces, or a tab")
         self.place, self.uses, self.all, self.declared, self.fields = place, [], [], {}, {}
         self.children = set()
         self.parse(text.splitlines())
@@ -184,17 +184,23 @@ class SpecFile:
                 self.all.append(now)
             elif now is None and self.lenient:
                 continue
-            elif now is None:
-                raise Unreadable(f"{self.place}: a line that belongs to nothing: {line}")
             else:
+                self.belongs(now, line, indent > column)
                 now.lines.extend(comment + [line])
                 comment = []
                 if block and indent == column + 2:
                     self.inner(now, line)
 
-    @staticmethod
-    def special(now, words):
+    def belongs(self, now, line, deeper):
+        """What follows a signature at its column is `unfolding ..`, a clause or its end; the rest stands deeper."""
+        known = deeper or re.match(r" *(unfolding |[)}\]])", line) or "=" in outside(line)
+        if not self.lenient and (now is None or not known):
+            raise Unreadable(f"{self.place}: a line of another form: {line}")
+
+    def special(self, now, words):
         """Fixity lines are of each operator that they name; `open` brings the names in its brackets."""
+        if words[0] in ("open", "mutual") and not self.lenient:
+            raise Unreadable(f"{self.place}: a form that is not read: {' '.join(words)}")
         if re.match(FIXITY, " ".join(words)):
             now.names, now.fixity = words[2:], True
         elif words[0] == "open":
