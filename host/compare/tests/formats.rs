@@ -1,27 +1,27 @@
 //! docs/FORMATS.md against the replicas: what a call writes is found at the places of the page, and no byte elsewhere changes.
 
 mod formats {
+    pub mod bench;
     pub mod page;
-    pub mod trial;
 }
 
+use formats::bench::{changed, shifted, Bench, HEIGHTS, N, OWN, ROLL};
 use formats::page::Formats;
-use formats::trial::{changed, shifted, Trial, HEIGHTS, N, OWN, ROLL};
 use reference::{sha256, Rules};
 use types::{Calls, Move};
 
 fn holds<C: Calls + Copy>(calls: C) {
     let formats = Formats::read();
     formats.sizes();
-    let trial = Trial { calls, formats: &formats };
-    opening(&trial);
-    signal_and_submit(&trial);
-    each_kind(&trial);
-    votes(&trial);
-    settling(&trial);
-    zeros_of_pages_and_frames(&trial);
-    unused_fields(&trial);
-    zeros_of_books(&trial);
+    let bench = Bench { calls, formats: &formats };
+    opening(&bench);
+    signal_and_submit(&bench);
+    each_kind(&bench);
+    votes(&bench);
+    settling(&bench);
+    zeros_of_pages_and_frames(&bench);
+    unused_fields(&bench);
+    zeros_of_books(&bench);
     formats.all_asked();
 }
 
@@ -37,109 +37,109 @@ fn the_proved_replica_has_the_formats_of_the_page() {
 }
 
 /// Opening writes each number to its place in the head and each leader to its row; all else is zero.
-fn opening<C: Calls + Copy>(trial: &Trial<C>) {
+fn opening<C: Calls + Copy>(bench: &Bench<C>) {
     let mut expected = vec![0; 576 + 880 * HEIGHTS];
     let head = [("n", N as u8), ("own number", OWN as u8), ("H", HEIGHTS as u8)];
     for (field, value) in head.into_iter().chain([("current height", 1), ("edition", 1)]) {
-        expected[trial.head(field).start] = value;
+        expected[bench.head(field).start] = value;
     }
     for (height, leader) in (1..).zip(ROLL) {
-        expected[trial.row(height, "leader").start] = leader;
+        expected[bench.row(height, "leader").start] = leader;
     }
-    assert_eq!(trial.new_book(), expected);
+    assert_eq!(bench.new_book(), expected);
 }
 
 /// A signal and its blank vote write the flags; a submission the count and the first free place.
-fn signal_and_submit<C: Calls + Copy>(trial: &Trial<C>) {
-    let mut book = trial.new_book();
+fn signal_and_submit<C: Calls + Copy>(bench: &Bench<C>) {
+    let mut book = bench.new_book();
     let before = book.clone();
-    trial.calls.signal(&mut book, 1).unwrap();
-    changed(&before, &book, &[trial.head("flags")]);
-    assert_eq!(book[trial.head("flags").start], 1);
+    bench.calls.signal(&mut book, 1).unwrap();
+    changed(&before, &book, &[bench.head("flags")]);
+    assert_eq!(book[bench.head("flags").start], 1);
     let mut reply = [0; 448];
-    trial.calls.make_move(&mut book, &mut reply).unwrap();
-    assert_eq!(book[trial.head("flags").start], 1 + 2);
-    assert_eq!(reply[..224], trial.frame(3, 1, &[("signer", &[OWN as u8])]));
+    bench.calls.make_move(&mut book, &mut reply).unwrap();
+    assert_eq!(book[bench.head("flags").start], 1 + 2);
+    assert_eq!(reply[..224], bench.frame(3, 1, &[("signer", &[OWN as u8])]));
     for place in 0..32 {
         let before = book.clone();
         let entry = [place as u8 + 1; 16];
-        trial.calls.submit(&mut book, &entry).unwrap();
+        bench.calls.submit(&mut book, &entry).unwrap();
         let entry_place = 64 + 16 * place..80 + 16 * place;
-        changed(&before, &book, &[trial.head("pending count"), entry_place.clone()]);
+        changed(&before, &book, &[bench.head("pending count"), entry_place.clone()]);
         assert_eq!(book[entry_place], entry);
     }
 }
 
 /// A frame of each kind writes just what the page says that it concerns.
-fn each_kind<C: Calls + Copy>(trial: &Trial<C>) {
+fn each_kind<C: Calls + Copy>(bench: &Bench<C>) {
     let concerned: [&[_]; 7] = [
-        &[trial.row(1, "state"), trial.body(1, "held proposal")],
-        &[trial.row(1, "page voters"), shifted(0..32, trial.body(1, "vote digests").start + 32)],
-        &[trial.row(1, "blank")],
-        &[trial.row(1, "finalise")],
-        &[trial.row(1, "state"), trial.row(1, "page certificate"), trial.body(1, "notarised page")],
-        &[trial.row(1, "blank")],
-        &[trial.row(1, "finalise")],
+        &[bench.row(1, "state"), bench.body(1, "held proposal")],
+        &[bench.row(1, "page voters"), shifted(0..32, bench.body(1, "vote digests").start + 32)],
+        &[bench.row(1, "blank")],
+        &[bench.row(1, "finalise")],
+        &[bench.row(1, "state"), bench.row(1, "page certificate"), bench.body(1, "notarised page")],
+        &[bench.row(1, "blank")],
+        &[bench.row(1, "finalise")],
     ];
-    for (frame, places) in trial.one_of_each_kind().iter().zip(concerned) {
-        let before = trial.new_book();
+    for (frame, places) in bench.one_of_each_kind().iter().zip(concerned) {
+        let before = bench.new_book();
         let mut book = before.clone();
-        trial.fresh(&mut book, frame);
+        bench.fresh(&mut book, frame);
         changed(&before, &book, places);
     }
 }
 
 /// Votes of a quorum notarise the held page, of the last height too; masks and digests stand where the page says.
-fn votes<C: Calls + Copy>(trial: &Trial<C>) {
-    let page = trial.page(3, None, &[[9; 16]]);
+fn votes<C: Calls + Copy>(bench: &Bench<C>) {
+    let page = bench.page(3, None, &[[9; 16]]);
     let digest = sha256::digest(&page);
-    let mut book = trial.new_book();
-    trial.fresh(&mut book, &trial.frame(1, 3, &[("signer", &[ROLL[2]]), ("page", &page)]));
+    let mut book = bench.new_book();
+    bench.fresh(&mut book, &bench.frame(1, 3, &[("signer", &[ROLL[2]]), ("page", &page)]));
     for signer in [0, 1, 3] {
-        trial.fresh(&mut book, &trial.frame(2, 3, &[("signer", &[signer]), ("digest", &digest)]));
-        let place = trial.body(3, "vote digests").start + 32 * usize::from(signer);
+        bench.fresh(&mut book, &bench.frame(2, 3, &[("signer", &[signer]), ("digest", &digest)]));
+        let place = bench.body(3, "vote digests").start + 32 * usize::from(signer);
         assert_eq!(book[place..place + 32], digest);
     }
-    assert_eq!(book[trial.row(3, "state").start], 3);
-    assert_eq!(book[trial.row(3, "page voters")], [0b1011, 0]);
-    assert_eq!(book[trial.row(3, "page certificate")], [0b1011, 0]);
-    assert_eq!(book[trial.body(3, "held proposal")], page);
-    assert_eq!(book[trial.body(3, "notarised page")], page);
+    assert_eq!(book[bench.row(3, "state").start], 3);
+    assert_eq!(book[bench.row(3, "page voters")], [0b1011, 0]);
+    assert_eq!(book[bench.row(3, "page certificate")], [0b1011, 0]);
+    assert_eq!(book[bench.body(3, "held proposal")], page);
+    assert_eq!(book[bench.body(3, "notarised page")], page);
 }
 
 /// A page on a page settles: the settled and the current height stand where the page says, the register is the pages' entries.
-fn settling<C: Calls + Copy>(trial: &Trial<C>) {
-    let first = trial.page(1, None, &[[1; 16], [2; 16]]);
-    let second = trial.page(2, Some(&first), &[[3; 16]; 8]);
-    let mut book = trial.new_book();
+fn settling<C: Calls + Copy>(bench: &Bench<C>) {
+    let first = bench.page(1, None, &[[1; 16], [2; 16]]);
+    let second = bench.page(2, Some(&first), &[[3; 16]; 8]);
+    let mut book = bench.new_book();
     for (height, page) in [(1, &first), (2, &second)] {
-        trial.fresh(&mut book, &trial.frame(5, height, &[("mask", &[0b0111, 0]), ("page", page)]));
+        bench.fresh(&mut book, &bench.frame(5, height, &[("mask", &[0b0111, 0]), ("page", page)]));
     }
-    trial.fresh(&mut book, &trial.frame(7, 2, &[("mask", &[0b0111, 0])]));
+    bench.fresh(&mut book, &bench.frame(7, 2, &[("mask", &[0b0111, 0])]));
     let mut reply = [0; 448];
     let before = book.clone();
-    let settles = trial.calls.make_move(&mut book, &mut reply);
+    let settles = bench.calls.make_move(&mut book, &mut reply);
     assert_eq!(settles, Ok(Move::Final { height: 2 }));
-    changed(&before, &book, &[trial.head("settled height")]);
-    assert_eq!(book[trial.head("settled height").start], 2);
-    trial.calls.make_move(&mut book, &mut reply).unwrap();
-    assert_eq!(book[trial.head("current height").start], 2);
+    changed(&before, &book, &[bench.head("settled height")]);
+    assert_eq!(book[bench.head("settled height").start], 2);
+    bench.calls.make_move(&mut book, &mut reply).unwrap();
+    assert_eq!(book[bench.head("current height").start], 2);
     let mut register = [0; 16 * 10];
-    assert_eq!(trial.calls.read(&book, &mut register), 16 * 10);
+    assert_eq!(bench.calls.read(&book, &mut register), 16 * 10);
     assert_eq!(register[..32], [[1; 16], [2; 16]].concat());
     assert_eq!(register[32..], [[3; 16]; 8].concat());
 }
 
 /// A byte that is not zero where the page says zero makes a frame refused with 4, in its own fields and in its page's.
-fn zeros_of_pages_and_frames<C: Calls + Copy>(trial: &Trial<C>) {
-    let in_pages = trial.formats.zeros("Page").into_iter().map(|at| at + 48);
-    for (kind, frame) in (1..).zip(trial.one_of_each_kind()) {
+fn zeros_of_pages_and_frames<C: Calls + Copy>(bench: &Bench<C>) {
+    let in_pages = bench.formats.zeros("Page").into_iter().map(|at| at + 48);
+    for (kind, frame) in (1..).zip(bench.one_of_each_kind()) {
         let of_pages = in_pages.clone().filter(|_| kind == 1 || kind == 5);
-        for at in trial.formats.zeros("Frame").into_iter().chain(of_pages) {
+        for at in bench.formats.zeros("Frame").into_iter().chain(of_pages) {
             let mut damaged = frame.clone();
             damaged[at] = 1;
             assert_eq!(
-                trial.calls.deliver(&mut trial.new_book(), &damaged),
+                bench.calls.deliver(&mut bench.new_book(), &damaged),
                 Err(4),
                 "kind {kind}, byte {at}"
             );
@@ -148,12 +148,12 @@ fn zeros_of_pages_and_frames<C: Calls + Copy>(trial: &Trial<C>) {
 }
 
 /// A field that a kind does not use must be zero; one that it uses need not be.
-fn unused_fields<C: Calls + Copy>(trial: &Trial<C>) {
-    for (frame, used) in trial.one_of_each_kind().iter().zip(&trial.formats.kinds) {
+fn unused_fields<C: Calls + Copy>(bench: &Bench<C>) {
+    for (frame, used) in bench.one_of_each_kind().iter().zip(&bench.formats.kinds) {
         for field in ["signer", "mask", "digest", "page"] {
             let mut damaged = frame.clone();
-            damaged[trial.formats.place("Frame", field).end - 1] ^= 1;
-            let refused = trial.calls.deliver(&mut trial.new_book(), &damaged) == Err(4);
+            damaged[bench.formats.place("Frame", field).end - 1] ^= 1;
+            let refused = bench.calls.deliver(&mut bench.new_book(), &damaged) == Err(4);
             assert_eq!(
                 refused,
                 !used.iter().any(|name| name == field),
@@ -165,18 +165,18 @@ fn unused_fields<C: Calls + Copy>(trial: &Trial<C>) {
 }
 
 /// A byte that is not zero where the page says zero makes a book unsound.
-fn zeros_of_books<C: Calls + Copy>(trial: &Trial<C>) {
+fn zeros_of_books<C: Calls + Copy>(bench: &Bench<C>) {
     let rows = (1..=HEIGHTS).flat_map(|height| {
-        trial
+        bench
             .formats
             .zeros("Row of a height")
             .into_iter()
             .map(move |at| 576 + 16 * (height - 1) + at)
     });
-    for at in trial.formats.zeros("Head").into_iter().chain(rows) {
-        let mut book = trial.new_book();
-        assert_eq!(trial.calls.size(&book), Ok(0));
+    for at in bench.formats.zeros("Head").into_iter().chain(rows) {
+        let mut book = bench.new_book();
+        assert_eq!(bench.calls.size(&book), Ok(0));
         book[at] = 1;
-        assert_eq!(trial.calls.size(&book), Err(1), "byte {at}");
+        assert_eq!(bench.calls.size(&book), Err(1), "byte {at}");
     }
 }

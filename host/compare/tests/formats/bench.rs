@@ -16,12 +16,12 @@ pub const OWN: u64 = 2;
 pub const ROLL: [u8; HEIGHTS] = [0, 1, 2];
 
 /// A replica and the page that it is held to.
-pub struct Trial<'a, C> {
+pub struct Bench<'a, C> {
     pub calls: C,
     pub formats: &'a Formats,
 }
 
-impl<C: Calls + Copy> Trial<'_, C> {
+impl<C: Calls + Copy> Bench<'_, C> {
     /// A book opened over old bytes that are not zero.
     pub fn opened(&self, n: u64, own: u64, roll: &[u8]) -> Vec<u8> {
         let mut book = vec![0xa5; 576 + 880 * roll.len()];
@@ -29,7 +29,7 @@ impl<C: Calls + Copy> Trial<'_, C> {
         book
     }
 
-    /// The book that most trials begin with.
+    /// The book that most tests begin with.
     pub fn new_book(&self) -> Vec<u8> {
         self.opened(N, OWN, &ROLL)
     }
