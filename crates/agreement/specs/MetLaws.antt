@@ -1,6 +1,6 @@
 -- The claim is applied to the lists that meet its premises, so that a premise more would have to be met by them.
 use Prim.Native.Nat.{ℕ}
-use mathlib.Core.Path.{_≡_, refl, sym}
+use mathlib.Core.Path.{_≡_, refl}
 use mathlib.Core.Logic.{_⊎_}
 use mathlib.Core.List.{List}
 use Rattle.protocol.specs.Bytes.{Bytes}
