@@ -18,6 +18,9 @@ use Rattle.protocol.specs.Deliver.{deliverCall}
 use Rattle.protocol.specs.Move.{step, moved, moveRows, moveCall, unlessMoveRefused}
 use Rattle.agreement.specs.Lists.{Agreement}
 use Rattle.agreement.specs.AgreementLaws.{agreement}
+use Rattle.agreement.specs.AnyDigest.{AnyDigest}
+use Rattle.agreement.specs.AnyDigestLaws.{any-digest}
+use Rattle.agreement.specs.Turns.{nextBlock}
 use Rattle.conduct.specs.Keeping.{Keeps, AllTallied}
 use Rattle.conduct.specs.KeepingLaws.{deliver-keeps}
 use Rattle.conduct.specs.SoundKept.{Call, bookAfterAll, sound-opened}
@@ -60,3 +63,7 @@ fetches-are-read = fetch-written-read sha256
 -- demand 3: of two logs read in any list of calls from honest replicas one is a beginning of the other
 pub no-fork : Agreement sha256
 no-fork = agreement sha256
+
+-- .. and a list of calls with a dishonest replica meets every premise of it, and reads an entry at two honest replicas
+pub no-fork-is-met : AnyDigest sha256
+no-fork-is-met = any-digest sha256 (sha256-length nextBlock)
