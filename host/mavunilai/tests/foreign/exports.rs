@@ -11,7 +11,7 @@ const RULES: Rules = Rules::SHA256;
 
 thread_local! {
     /// The interface that this library claims to be of; each test's thread has its own.
-    pub static CLAIMED: Cell<u64> = const { Cell::new(1) };
+    pub static CLAIMED: Cell<u64> = const { Cell::new(crate::foreign::INTERFACE) };
 }
 
 #[unsafe(no_mangle)]
