@@ -1,5 +1,6 @@
--- The number of the interface for C. It goes up with each change to a call's arguments or to how its answer is packed, and the header's goes with it.
+-- The number of the interface for C.
 use Prim.Native.Nat.{ℕ}
 
+-- goes up with each change to a call's arguments or to what its answer may be; the header's MAVUNILAI_INTERFACE with it
 unfoldable pub interfaceNumber : ℕ
 interfaceNumber = 1
