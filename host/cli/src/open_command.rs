@@ -4,8 +4,7 @@ use crate::arguments::Arguments;
 use crate::chosen::REPLICA;
 use crate::problem::Problem;
 use crate::words;
-use types::refusal::meaning;
-use types::Book;
+use types::{Book, Refusal};
 
 /// Writes the bytes of a new book.
 pub fn run(words: &[String], output: &mut Vec<u8>) -> Result<(), Problem> {
@@ -14,7 +13,8 @@ pub fn run(words: &[String], output: &mut Vec<u8>) -> Result<(), Problem> {
     let roll = words::numbers("roll", arguments.needed("roll")?)?;
     let (n, own) = (arguments.byte("n")?, arguments.byte("own")?);
     let book = Book::open(REPLICA, n.into(), own.into(), &roll);
-    let refused = |number| Problem::input(format!("refused with {number}: {}", meaning(number)));
+    let refused =
+        |refusal: Refusal| Problem::input(format!("refused with {}: {refusal}", refusal.number()));
     output.extend_from_slice(book.map_err(refused)?.bytes());
     Ok(())
 }

@@ -3,7 +3,7 @@
 use crate::problem::Problem;
 use crate::words::{entry, hex, members};
 use reference::sha256;
-use types::{Block, Book, Frame, FRAME, MOST_HEIGHTS, MOST_REPLICAS};
+use types::{Block, Book, Frame, Refusal, FRAME, MOST_HEIGHTS, MOST_REPLICAS};
 
 /// The lines about a frame.
 pub fn text(bytes: &[u8]) -> Result<String, Problem> {
@@ -35,7 +35,7 @@ fn strange(bytes: &[u8; FRAME]) -> String {
 fn is_refused_for_form(bytes: &[u8]) -> bool {
     let leaders = [0; MOST_HEIGHTS as usize];
     let book = Book::open(reference::Rules::SHA256, MOST_REPLICAS.into(), 0, &leaders);
-    book.and_then(|mut book| book.deliver(bytes)) == Err(4)
+    book.and_then(|mut book| book.deliver(bytes)) == Err(Refusal::Malformed)
 }
 
 /// The lines for each kind.

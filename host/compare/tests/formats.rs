@@ -33,7 +33,7 @@ fn the_reference_has_the_formats_of_the_page() {
 #[cfg(feature = "proved")]
 #[test]
 fn the_proved_replica_has_the_formats_of_the_page() {
-    holds(replica::Proved);
+    holds(mavunilai::Proved);
 }
 
 /// Opening writes each number to its place in the head and each leader to its row; all else is zero.

@@ -2,11 +2,22 @@
 #![allow(unsafe_code)]
 
 use reference::Rules;
+use std::cell::Cell;
 use std::slice::{from_raw_parts, from_raw_parts_mut};
 use types::packing::{pack_delivered, pack_done, pack_move, pack_size};
 use types::Calls;
 
 const RULES: Rules = Rules::SHA256;
+
+thread_local! {
+    /// The interface that this library claims to be of; each test's thread has its own.
+    pub static CLAIMED: Cell<u64> = const { Cell::new(crate::foreign::INTERFACE) };
+}
+
+#[unsafe(no_mangle)]
+extern "C" fn mavunilai_interface() -> u64 {
+    CLAIMED.get()
+}
 
 // SAFETY, for all below: only the wrapper calls these, with the parts of slices that it was lent.
 

@@ -16,6 +16,7 @@ fn main() {
     if archive.is_file() {
         println!("cargo::rustc-link-search=native={}", folder.display());
         println!("cargo::rustc-link-lib=static=replica_c");
+        println!("cargo::rustc-env=MAVUNILAI_ARCHIVE={}", archive.display()); // for the tests in C
         return;
     }
     println!(
@@ -26,10 +27,15 @@ fn main() {
     );
 }
 
-/// The folder that the environment names, else that of the repository.
+/// The folder that the environment names, else that of the repository. A relative name is taken from where cargo was
+/// called, which the shell says in PWD; cargo itself runs this in the package's folder.
 fn folder() -> PathBuf {
-    match std::env::var_os("MAVUNILAI_LIB") {
-        Some(folder) => PathBuf::from(folder),
-        None => Path::new(env!("CARGO_MANIFEST_DIR")).join("../../target/staticlib"),
+    let Some(named) = std::env::var_os("MAVUNILAI_LIB").map(PathBuf::from) else {
+        return Path::new(env!("CARGO_MANIFEST_DIR")).join("../../target/staticlib");
+    };
+    if named.is_absolute() {
+        return named;
     }
+    println!("cargo::rerun-if-env-changed=PWD");
+    std::env::var_os("PWD").map(PathBuf::from).unwrap_or_default().join(named)
 }
