@@ -1,9 +1,10 @@
 #!/usr/bin/env python3
-"""The other side of `mavunilai try`: reads one call a line and answers each with one line, as docs/EXCHANGE.md has them.
+"""The other side of `mavunilai try`: reads one call a line and answers each with a line (docs/EXCHANGE.md).
 
     mavunilai try -- python3 host/example/theirs.py
 
-Put your replica in the place of `replica`. The one below knows only how to open a book, so that `try` finds a difference soon.
+Put your replica in the place of `replica`. The one below knows only how to open a book, so that `try` finds a
+difference soon.
 """
 import sys
 

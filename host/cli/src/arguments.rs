@@ -11,8 +11,8 @@ pub struct Arguments {
 }
 
 impl Arguments {
-    /// Sorts words by these names of options and switches, given without the dashes. The value of an option stands behind
-    /// it or, after `=`, in the same word.
+    /// Sorts words by these names of options and switches, given without the dashes. The value of an
+    /// option stands behind it or, after `=`, in the same word.
     pub fn sort(
         words: &[String],
         options: &[&str],

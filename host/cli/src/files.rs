@@ -17,7 +17,7 @@ pub fn read(name: &str) -> Result<Vec<u8>, Problem> {
 /// The same for a file that may have so many bytes.
 fn read_some(name: &str, most: usize) -> Result<Vec<u8>, Problem> {
     let mut bytes = Vec::new();
-    let bound = most as u64 + 1;
+    let bound = (most as u64).saturating_add(1);
     let outcome = match name {
         "-" => std::io::stdin().take(bound).read_to_end(&mut bytes),
         _ => std::fs::File::open(name).and_then(|file| file.take(bound).read_to_end(&mut bytes)),
@@ -49,8 +49,8 @@ pub fn read_bytes(name: &str) -> Result<Vec<u8>, Problem> {
     }
 }
 
-/// The words of a text of hexadecimal digits: one if it has digits alone, however they are wrapped over lines; else each
-/// is a piece of a list, with its `+` and `*`.
+/// The words of a text of hexadecimal digits: one if it has digits alone, however they are wrapped
+/// over lines; else each is written as in a list, with its `+` and `*`.
 fn digits(text: &str) -> Option<Vec<String>> {
     let is_digit = |c: char| c.is_ascii_hexdigit() || "+*".contains(c) || c.is_ascii_whitespace();
     let words: Vec<String> = text.split_ascii_whitespace().map(str::to_string).collect();

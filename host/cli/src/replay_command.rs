@@ -3,7 +3,7 @@
 use crate::arguments::Arguments;
 use crate::chosen::{NAME, REPLICA};
 use crate::problem::Problem;
-use crate::{files, unmet};
+use crate::{files, unmet, words};
 use exchange::{List, Replayed, Stage, Tally};
 use std::path::Path;
 
@@ -23,9 +23,9 @@ pub fn run(words: &[String], output: &mut Vec<u8>) -> Result<(), Problem> {
     let mut tally = Tally::default();
     for name in names {
         let replayed = replay(name, last, keep)?;
-        let calls = replayed.tally.calls();
+        let calls = words::count(replayed.tally.calls() as usize, "call", "calls");
         let end = last.map_or(String::new(), |line| format!(" up to line {line}"));
-        let line = format!("{name}: {calls} calls on {NAME}{end}, all as expected\n");
+        let line = format!("{name}: {calls} on {NAME}{end}, all as expected\n");
         output.extend(line.into_bytes());
         tally.add(&replayed.tally);
     }

@@ -16,7 +16,9 @@ pub fn run(words: &[String], output: &mut Vec<u8>) -> Result<(), Problem> {
             return Err(Problem::input(sentence));
         }
         _ => {
-            let sentence = "expected here: `frame` or `book`, then a file or - for standard input, or `books` and files";
+            let sentence =
+                "expected here: `frame` or `book`, then a file or - for standard input; \
+                            or `books` and files";
             return Err(Problem::input(sentence));
         }
     };

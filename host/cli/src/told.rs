@@ -7,11 +7,11 @@ use exchange::Call;
 /// The most fields that are told one by one.
 const MOST: usize = 30;
 
-/// The lines about a call: as a list has it, and its frame in words.
-pub fn call(call: &Call) -> Vec<String> {
-    let mut lines = vec![format!("the call: {}", call.words("book", "buffer"))];
+/// The lines about a call on buffers of these names: as a list has it, and its frame in words.
+pub fn call(call: &Call, book: &str, buffer: &str) -> Vec<String> {
+    let mut lines = vec![format!("the call: {}", call.words(book, buffer))];
     if let Call::Deliver { frame } = call {
-        let text = show_frame::text(frame).map_or_else(|problem| problem.sentence, |text| text);
+        let text = show_frame::text(frame).unwrap_or_else(|problem| problem.sentence);
         lines.push(format!("its frame: {}", text.trim_end().replace('\n', ", ")));
     }
     lines

@@ -80,7 +80,7 @@ fn sentence(program: &str, stop: &Stop) -> String {
         Some(_) => format!("{place}: it differs from {NAME}"),
         None => format!("{place}: {}", stop.sentence),
     }];
-    lines.extend(told::call(&difference.call));
+    lines.extend(told::call(&difference.call, "book", "buffer"));
     let one = &difference.one;
     match &difference.two {
         None => lines.push(format!("the answer of {NAME}: {}", one.answer)),

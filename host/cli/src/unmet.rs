@@ -11,7 +11,7 @@ type Other = (&'static str, Vec<Vec<u8>>);
 pub fn lines(unmet: &Unmet) -> Vec<String> {
     let Line::Call { call, book, buffer, .. } = &unmet.step else { return Vec::new() };
     let bytes = |name: &str| unmet.stage.bytes(name).unwrap_or(&[]);
-    let mut lines = told::call(call);
+    let mut lines = told::call(call, book, buffer);
     let (name, other) = match expected(unmet, call) {
         Some(other) => other,
         None => {

@@ -138,6 +138,8 @@ fn settled(book: &[u8]) -> Option<Fault> {
 }
 
 #[cfg(test)]
+#[allow(clippy::indexing_slicing, clippy::arithmetic_side_effects)] // a test may panic
+#[allow(clippy::unwrap_used, clippy::panic)]
 mod tests {
     use super::*;
     use compare::{walk, Pair, Second};

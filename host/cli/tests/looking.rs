@@ -21,35 +21,7 @@ fn season(name: &str, more: &str) -> String {
 #[test]
 fn a_book_with_votes_pages_and_entries() {
     let shown = text(&format!("show book {}/book0", season("season", "")), &[]);
-    let expected = r#"Book of station 0 of 4: 5 heights, settled height 4, 1 pending entry; a quorum is 3 or more.
-
-height  leader  proposal                  page votes                          page                      page certificate  blank           finalise  linked  settled  in register
-1       0       787bd73d on 0, 1 entry    0 1 2 for 787bd73d                  787bd73d on 0, 1 entry    0 1 2             -               0 1 2     yes     yes      yes
-2       1       27d0bde5 on 1, 2 entries  0 1 2 for 27d0bde5                  27d0bde5 on 1, 2 entries  0 1 2             2               0 1       yes     -        yes
-3       3       6da63811 on 2, 1 entry    0 3 for 6da63811; 1 2 for e485dc63  -                         -                 0 1 3 (quorum)  -         -       -        -
-4       2       08150dc2 on 2, 1 entry    0 2 3 for 08150dc2                  08150dc2 on 2, 1 entry    0 2 3             -               0 1 2     yes     yes      yes
-5       0       -                         -                                   -                         -                 -               -         -       -        -            <- current
-
-Pending entries:
-  737761702041313220746f2042343020  "swap A12 to B40 "
-
-Entries of pages:
-  height 1, page 787bd73d, in the register:
-    737761702041313220746f2042343020  "swap A12 to B40 "
-  height 2, page 27d0bde5, in the register:
-    73656564206c6f7420373720746f2033  "seed lot 77 to 3"
-    756e646f2041313220746f2042343020  "undo A12 to B40 "
-  height 3, proposal 6da63811:
-    6c6f74203920746f20706c6f74203520  "lot 9 to plot 5 "
-  height 4, page 08150dc2, in the register:
-    706c6f742043372066616c6c6f772020  "plot C7 fallow  "
-
-The current height is 5: those below it are passed.
-Done at this height so far: proposed.
-No proposal is held and no page is notarised; 0 page votes are kept.
-It is not blank: 0 of 3 blank votes.
-The next move is: idle.
-"#;
+    let expected = include_str!("expected/season-book0.txt");
     assert_eq!(shown, expected);
 }
 

@@ -4,7 +4,7 @@ mod common;
 
 use common::{fine, folder, list, refused, run, Ended};
 
-/// The rehearsal of station 2 of 4 up to its first call, with bytes in full.
+/// A timer fires at station 2 of 4, and it moves.
 const CALLS: &str = "\
 mavunilai exchange 1
 
@@ -29,7 +29,7 @@ fn fields_are_told_where_the_list_has_bytes() {
     assert_eq!(ended.status, 1);
     let expected = "\
 mavunilai: -, line 8: the bytes of the book are not the expected ones (case \"The timer fires\")
-the call: move book buffer
+the call: move book reply
 books: 1 field of expected and here differ
   flags of the current height (byte 3): expected 1 (timer fired), here 3 (timer fired, blank vote cast)
 replies: the same
@@ -54,7 +54,8 @@ fn with_digests_alone_what_the_call_changed_is_told() {
     let expected = "\
 mavunilai: -, line 7: the bytes of the book are not the expected ones (case \"The timer fires\")
 the call: signal book 1
-the list has digests alone, so that the expected bytes are not known (`record --full` writes them); what the call changed:
+the list has digests alone, so that the expected bytes are not known (`record --full` writes them); \
+what the call changed:
 books: 1 field of before and here differ
   flags of the current height (byte 3): before 0, here 1 (timer fired)
 ";
@@ -70,7 +71,8 @@ fn a_wrong_answer_is_told_with_its_frame() {
     let ended = run("replay -", text.replacen("= fresh ", "= known ", 1).as_bytes());
     assert_eq!(ended.status, 1);
     let expected = "\
-mavunilai: -, line 6: the answer is 'fresh', expected is 'known' (case \"The rehearsal: replica 2 of 4, three heights, own frames not fed back.\")
+mavunilai: -, line 6: the answer is 'fresh', expected is 'known' \
+(case \"The rehearsal: replica 2 of 4, three heights, own frames not fed back.\")
 the call: deliver book 030001+00*221
 its frame: blank vote (kind 3), signer 0, height 1
 books: the same

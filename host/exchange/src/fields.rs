@@ -199,6 +199,8 @@ fn told(sort: Sort, one: &[u8], two: &[u8]) -> [String; 2] {
 }
 
 #[cfg(test)]
+#[allow(clippy::indexing_slicing, clippy::arithmetic_side_effects)] // a test may panic
+#[allow(clippy::unwrap_used, clippy::panic)]
 mod tests {
     use super::*;
     use types::{Area, Layout};

@@ -1,6 +1,7 @@
 //! Exchange files: lists of calls with the expected answers and the digests of all buffers, as plain text.
 //!
-//! docs/EXCHANGE.md describes the format, and the lines that `mavunilai try` exchanges with a program. A list is replayed against any [`types::Calls`], and recorded from one.
+//! docs/EXCHANGE.md describes the format, and the lines that `mavunilai try` exchanges with a program. A list is
+//! replayed against any [`types::Calls`], and recorded from one.
 
 #![warn(clippy::indexing_slicing, clippy::arithmetic_side_effects)]
 #![warn(clippy::unwrap_used, clippy::expect_used, clippy::panic)]

@@ -1,7 +1,7 @@
 //! The lines of `mavunilai try`: a call with the bytes of its buffers, and what a program answers to it.
 //!
-//! A call stands there as in a list, with the bytes of each buffer in the place of its name. The answer is what a list has
-//! behind `==`: the answer, the bytes of the book after the call, and those of the second buffer if one is lent.
+//! A call stands there as in a list, with the bytes of each buffer in the place of its name. The answer is what a list
+//! has behind `==`: the answer, the bytes of the book after the call, and those of the second buffer if one is lent.
 
 use crate::{bytes, line, Answer, Call, Expected};
 
@@ -45,6 +45,8 @@ pub fn parse_answer(call: &Call, text: &str) -> Result<Expected, String> {
 }
 
 #[cfg(test)]
+#[allow(clippy::indexing_slicing, clippy::arithmetic_side_effects)] // a test may panic
+#[allow(clippy::unwrap_used, clippy::panic)]
 mod tests {
     use super::*;
     use types::Move;
