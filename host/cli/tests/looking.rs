@@ -66,6 +66,11 @@ fn settled(entry: &[u8; 16]) -> Vec<u8> {
     book.bytes().to_vec()
 }
 
+/// The bytes of a new book of station 1 with these leaders.
+fn opened(leaders: &[u8]) -> Vec<u8> {
+    Book::open(Rules::SHA256, 4, 1, leaders).unwrap().bytes().to_vec()
+}
+
 #[test]
 fn books_of_another_season_and_forks_are_told() {
     let at = folder("forks").to_str().unwrap().to_string();
@@ -74,9 +79,9 @@ fn books_of_another_season_and_forks_are_told() {
     write("b", &settled(b"another entry   "));
     let shown = text(&format!("show books {at}/a {at}/b"), &[]).replace(&format!("{at}/"), "");
     assert!(shown.ends_with("\nTHE REGISTERS FORK: a and b.\n"), "{shown}");
-    write("c", &fine("open --n 4 --own 1 --roll 1", &[]));
+    write("c", &opened(&[1]));
     refused(&format!("show books {at}/a {at}/c"), &[], "have not the same roll");
-    write("d", &fine("open --n 4 --own 1 --roll 0,0", &[]));
+    write("d", &opened(&[0, 0]));
     refused(&format!("show books {at}/a {at}/d"), &[], "have not the same number of heights");
     write("e", &[0; 1456]);
     refused(&format!("show books {at}/a {at}/e"), &[], "/e: refused with 1");
