@@ -35,22 +35,24 @@ const COMMON: &str = "\
 mavunilai COMMAND ..
 
   frame      make a frame out of words
-  show       show frames or books in words
-  diff       tell the fields in which two books differ
+  show       show a frame or a book in words
   open       write a new book
   call       make one call on a book that is kept in a file
   replay     make the calls of a list and compare answers and digests
   record     write a list with its answers and digests
+  diff       tell the fields in which two books differ
   try        try a replica of your own against this one, with random calls
   answer     answer the calls of `try`
   rehearsal  read frames from standard input, print a line for each event
 
-`mavunilai help COMMAND` tells more; `mavunilai --version` tells the version and which
-replica this is. The value of an option stands behind it or after =, as in --n=4.
-The status is 0 if all is well, 1 if a list or another replica does not come out as
-expected or two books differ, 2 if the input is bad; a sentence then says why.
+`mavunilai help COMMAND` tells more. The status is 0 if all is well, 1 if a list does
+not come out as expected, 2 if the input is bad; a sentence then says why.
 Calls, lists, new books and the rehearsal use the proved replica if this program was built
 with the cargo feature `proved`, else the reference replica.
+
+`mavunilai --version` tells the version and which replica this is. The value of an
+option stands behind it or after =, as in --n=4. `try` and `diff` end with status 1 where
+they find a difference.
 ";
 
 const FRAME: &str = "\
