@@ -5,6 +5,22 @@ use crate::words::{entry, hex, members};
 use reference::sha256;
 use types::{Block, Book, Frame, Refusal, FRAME, MOST_HEIGHTS, MOST_REPLICAS};
 
+/// The lines about one frame or several, with an empty line between two.
+pub fn all(bytes: &[u8]) -> Result<String, Problem> {
+    let frames = bytes.chunks_exact(FRAME);
+    if !frames.remainder().is_empty() || frames.len() < 2 {
+        return text(bytes);
+    }
+    let number = |(at, frame): (usize, _)| {
+        let wrong = |problem: Problem| Problem {
+            sentence: format!("frame {at}: {}", problem.sentence),
+            ..problem
+        };
+        text(frame).map_err(wrong)
+    };
+    Ok((1..).zip(frames).map(number).collect::<Result<Vec<_>, _>>()?.join("\n"))
+}
+
 /// The lines about a frame.
 pub fn text(bytes: &[u8]) -> Result<String, Problem> {
     let Ok(bytes) = <&[u8; FRAME]>::try_from(bytes) else {

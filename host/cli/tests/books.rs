@@ -69,8 +69,9 @@ fn a_page_that_does_not_stand() {
     assert!(text.contains("All heights are passed; only settling is left.\n"), "{text}");
     let row = text.lines().find(|line| line.starts_with('3')).unwrap();
     let cells: Vec<&str> = row.split_whitespace().collect();
-    assert_eq!(cells[..8], ["3", "2", "-", "-", "on", "1,", "0", "entries"], "{row}");
-    assert_eq!(cells[cells.len() - 2..], ["yes", "-"], "{row}");
+    assert_eq!(cells[..4], ["3", "2", "-", "-"], "{row}");
+    assert_eq!(cells[5..9], ["on", "1,", "0", "entries"], "{row}");
+    assert_eq!(cells[cells.len() - 3..], ["yes", "-", "-"], "{row}");
 }
 
 #[test]

@@ -67,7 +67,7 @@ fn bad_words_get_a_sentence() {
     refused(&format!("call {book} move now"), &[], "'move' with so many words is no call");
     refused(&format!("call {book} signal one"), &[], "'one' is no number");
     refused(&format!("call {book} deliver -"), &[3, 0, 1], "refused with 4");
-    refused(&format!("call {book} submit 0123456789abcdefg"), &[], "more than 16 characters");
+    refused(&format!("call {book} submit 0123456789abcdefg"), &[], "more than 16 bytes");
     let spoilt = folder("calls").join("spoilt");
     std::fs::write(&spoilt, [0; 1456]).unwrap();
     refused(&format!("call {} move", spoilt.to_str().unwrap()), &[], "refused with 1");
