@@ -18,6 +18,7 @@ mod replay_command;
 mod show_book;
 mod show_command;
 mod show_frame;
+mod station;
 mod table;
 mod why;
 mod words;
