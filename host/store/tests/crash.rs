@@ -3,13 +3,19 @@
 mod common;
 
 use common::fake::{Fake, Fault, Forgotten};
-use common::life::Station;
+use common::life::{Station, Way, BOOK};
 use common::random::Random;
 use common::script::script;
+use reference::Rules;
+use store::{Error, FileBook};
+use types::{Book, FRAME};
+
+/// The ways in which a station can move and send.
+const WAYS: [Way; 3] = [Way::Takes, Way::Bare, Way::Hands];
 
 /// What a station must come to: its book and all that it says, as in a life without a fault.
-fn undisturbed(seed: u64, takes: bool) -> (Vec<u8>, Vec<[u8; types::FRAME]>) {
-    let mut station = Station::new(Fake::default(), script(seed), takes);
+fn undisturbed(seed: u64, way: Way) -> (Vec<u8>, Vec<[u8; FRAME]>) {
+    let mut station = Station::new(Fake::default(), script(seed), way);
     let book = station.live_on(&mut Random::new(0), |_| None).unwrap();
     assert_eq!(station.broken, None);
     (book, station.said)
@@ -19,12 +25,12 @@ fn undisturbed(seed: u64, takes: bool) -> (Vec<u8>, Vec<[u8; types::FRAME]>) {
 fn broken_by(
     files: Fake,
     seed: u64,
-    takes: bool,
+    way: Way,
     random: &mut Random,
     next: impl FnMut(&mut Random) -> Option<(usize, Fault)>,
 ) -> Option<String> {
-    let (book, said) = undisturbed(seed, takes);
-    let mut station = Station::new(files, script(seed), takes);
+    let (book, said) = undisturbed(seed, way);
+    let mut station = Station::new(files, script(seed), way);
     let ended = station.live_on(random, next);
     let other = || (ended != Some(book)).then(|| "the book is another".to_string());
     let lost = || (station.said != said).then(|| "other frames were sent".to_string());
@@ -33,7 +39,7 @@ fn broken_by(
 
 #[test]
 fn the_scripts_make_every_move() {
-    let said: Vec<_> = (0..8).flat_map(|seed| undisturbed(seed, true).1).collect();
+    let said: Vec<_> = (0..8).flat_map(|seed| undisturbed(seed, Way::Takes).1).collect();
     for kind in 1..=6 {
         assert!(said.iter().any(|frame| frame[0] == kind), "{kind}");
     }
@@ -43,18 +49,16 @@ fn the_scripts_make_every_move() {
 #[test]
 fn an_end_at_every_step() {
     for fault in [Fault::Process, Fault::Machine, Fault::Refusal] {
-        for (seed, takes) in [(1, true), (2, false)] {
+        for (seed, way) in (1..).zip(WAYS) {
             for at in 0.. {
                 let mut random = Random::new(at as u64);
-                let mut first = Some((at, fault));
-                let mut reached = false;
-                let broken = broken_by(Fake::default(), seed, takes, &mut random, |_| {
-                    let next = first.take();
-                    reached |= next.is_none();
-                    next
+                let mut lives = 0;
+                let broken = broken_by(Fake::default(), seed, way, &mut random, |_| {
+                    lives += 1;
+                    (lives == 1).then_some((at, fault))
                 });
-                assert_eq!(broken, None, "{fault:?} at step {at}, script {seed}");
-                if !reached {
+                assert_eq!(broken, None, "{fault:?} at step {at}, script {seed}, {way:?}");
+                if lives == 1 {
                     break;
                 }
             }
@@ -71,11 +75,38 @@ fn often(random: &mut Random) -> Option<(usize, Fault)> {
 
 #[test]
 fn ends_at_random() {
-    for seed in 0..400 {
+    for seed in 0..360 {
         let mut random = Random::new(seed);
-        let broken = broken_by(Fake::default(), seed % 40, seed % 2 == 0, &mut random, often);
+        let way = WAYS[random.below(3)];
+        let broken = broken_by(Fake::default(), seed % 40, way, &mut random, often);
         assert_eq!(broken, None, "seed {seed}");
     }
+}
+
+/// A station that comes back finds that its timer fired: what the life before was about to say must not have been said.
+#[test]
+fn a_timer_that_fires_between_two_lives() {
+    for seed in 0..360 {
+        let mut random = Random::new(seed);
+        let mut station = Station::new(Fake::default(), script(seed % 40), WAYS[random.below(3)]);
+        station.timer = true;
+        station.live_on(&mut random, often);
+        assert_eq!(station.broken, None, "seed {seed}");
+    }
+}
+
+/// A call that could not be committed may be, or not: the book must be opened again.
+#[test]
+fn a_failed_commit_is_not_gone_over() {
+    let new = Book::open(Rules::SHA256, 4, 2, &[0]).unwrap();
+    let files = Fake::default();
+    let mut book = FileBook::create_in(files.clone(), new, BOOK.as_ref()).unwrap();
+    files.fault(6, Fault::Refusal);
+    assert!(matches!(book.signal(1), Err(Error::Files { .. })));
+    assert!(matches!(book.make_move(), Err(Error::Stale)));
+    drop(book);
+    let mut again = FileBook::open_in(files, Rules::SHA256, BOOK.as_ref()).unwrap();
+    assert!(matches!(again.signal(1), Err(Error::Refused(14))));
 }
 
 /// The tests above can fail: a file system that does not sync what it is told to is found out.
@@ -84,7 +115,7 @@ fn a_step_left_out_is_noticed() {
     for forgotten in [Forgotten::Files, Forgotten::Folders] {
         let noticed = (0..100).filter(|seed| {
             let files = Fake::forgetting(Some(forgotten));
-            broken_by(files, seed % 40, true, &mut Random::new(*seed), often).is_some()
+            broken_by(files, seed % 40, Way::Takes, &mut Random::new(*seed), often).is_some()
         });
         assert!(noticed.count() > 50, "{forgotten:?}");
     }

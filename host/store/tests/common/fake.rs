@@ -108,6 +108,13 @@ impl Fake {
         state.steps > at
     }
 
+    /// The text of a file that is there, looked at from outside.
+    pub fn text(&self, path: &Path) -> String {
+        let state = self.0.borrow();
+        let file = state.file(path).unwrap();
+        String::from_utf8(state.contents[file].last().unwrap().clone()).unwrap()
+    }
+
     /// Whether the name and the bytes of a file are synced, and are these.
     pub fn synced(&self, path: &Path, bytes: &[u8]) -> bool {
         let state = self.0.borrow();

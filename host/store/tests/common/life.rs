@@ -8,8 +8,20 @@ use std::path::Path;
 use store::{Error, FileBook};
 use types::{Book, Frame, Move, FRAME};
 
-/// The path of the book.
+/// The path of the book, and of the file that frames are handed to.
 pub const BOOK: &str = "folder/book";
+const PILE: &str = "folder/pile";
+
+/// How a station makes moves and sends frames.
+#[derive(Clone, Copy, Debug, PartialEq, Eq)]
+pub enum Way {
+    /// Own frames are not delivered to it.
+    Bare,
+    /// Each move delivers them in the same commit.
+    Takes,
+    /// So too, and they are handed to a file.
+    Hands,
+}
 
 /// A station: what it has of the script behind it, and what has left it.
 #[derive(Debug)]
@@ -17,8 +29,10 @@ pub struct Station {
     pub files: Fake,
     script: Vec<Input>,
     done: usize,
-    /// Whether its own frames are delivered to it with each move.
-    takes: bool,
+    way: Way,
+    /// Whether timers fire between two lives, and whether one has.
+    pub timer: bool,
+    late: bool,
     pub said: Vec<[u8; FRAME]>,
     /// The first rule that was broken.
     pub broken: Option<String>,
@@ -26,48 +40,59 @@ pub struct Station {
 
 impl Station {
     /// A station with a new book that is synced.
-    pub fn new(files: Fake, script: Vec<Input>, takes: bool) -> Station {
+    pub fn new(files: Fake, script: Vec<Input>, way: Way) -> Station {
         let new = Book::open(Rules::SHA256, 4, 2, &LEADERS).unwrap();
         FileBook::create_in(files.clone(), new, Path::new(BOOK)).unwrap();
-        Station { files, script, done: 0, takes, said: Vec::new(), broken: None }
+        let (said, broken) = (Vec::new(), None);
+        Station { files, script, done: 0, way, timer: false, late: false, said, broken }
     }
 
     /// One life: from the unsent frames to the end of the script, or to an error.
     pub fn live(&mut self) -> Result<Vec<u8>, Error> {
         let mut book = FileBook::open_in(self.files.clone(), Rules::SHA256, Path::new(BOOK))?;
         self.send(&mut book)?;
+        if self.late {
+            let current = book.book().current().into();
+            let signalled = book.signal(current);
+            taken(signalled)?;
+        }
         while let Some(input) = self.script.get(self.done).cloned() {
             let answer = match input {
                 Input::Deliver(frame) => book.deliver(&frame.bytes()).map(|_| ()),
                 Input::Signal(height) => book.signal(height),
                 Input::Submit(entry) => book.submit(&entry),
             };
-            match answer {
-                Ok(()) | Err(Error::Refused(2..)) => {}
-                Err(error) => return Err(error),
-            }
+            taken(answer)?;
             self.move_until_idle(&mut book)?;
             self.done += 1;
+        }
+        if self.way == Way::Hands {
+            let pile = self.files.text(Path::new(PILE));
+            let kept: Vec<_> = pile.lines().map(frame).collect();
+            if self.said.iter().any(|frame| !kept.contains(frame)) {
+                self.complain("frames are lost that were handed on".to_string());
+            }
         }
         Ok(book.book().bytes().to_vec())
     }
 
-    /// Lives until the script is done, each life with the fault that is asked for, the last one with none.
+    /// Lives until the script is done, each life with the fault that is asked for; none if the book cannot be used.
     pub fn live_on(
         &mut self,
         random: &mut Random,
         mut next: impl FnMut(&mut Random) -> Option<(usize, Fault)>,
     ) -> Option<Vec<u8>> {
         loop {
-            let fault = next(random);
-            if let Some((steps, fault)) = fault {
+            if let Some((steps, fault)) = next(random) {
                 self.files.fault(steps, fault);
             }
             let ended = self.live();
-            match (self.files.revive(random), ended) {
-                (_, Ok(book)) => return Some(book),
-                (true, Err(_)) => {}
-                (false, Err(error)) => {
+            let faulty = self.files.revive(random);
+            self.late = self.timer;
+            match ended {
+                Ok(book) => return Some(book),
+                Err(_) if faulty => {}
+                Err(error) => {
                     self.complain(format!("the book cannot be used: {error}"));
                     return None;
                 }
@@ -78,7 +103,10 @@ impl Station {
     /// Moves until idle, and sends what each move wrote.
     fn move_until_idle(&mut self, book: &mut FileBook<Rules, Fake>) -> Result<(), Error> {
         loop {
-            let made = if self.takes { book.move_and_take()? } else { book.make_move()? };
+            let made = match self.way {
+                Way::Bare => book.make_move()?,
+                Way::Takes | Way::Hands => book.move_and_take()?,
+            };
             self.send(book)?;
             if made == Move::Idle {
                 return Ok(());
@@ -93,6 +121,12 @@ impl Station {
         }
         if !self.files.synced(Path::new(BOOK), book.book().bytes()) {
             self.complain("a frame left before the book that cast it was synced".to_string());
+        }
+        if self.way == Way::Hands {
+            book.hand_to(PILE)?;
+            let text = self.files.text(Path::new(PILE));
+            text.lines().for_each(|line| self.say(&frame(line)));
+            return Ok(());
         }
         for frame in book.unsent() {
             self.say(frame);
@@ -124,4 +158,18 @@ impl Station {
     fn complain(&mut self, sentence: String) {
         self.broken.get_or_insert(sentence);
     }
+}
+
+/// A call that was done or refused; that the book is not sound is neither.
+fn taken(answer: Result<(), Error>) -> Result<(), Error> {
+    match answer {
+        Ok(()) | Err(Error::Refused(2..)) => Ok(()),
+        Err(error) => Err(error),
+    }
+}
+
+/// The frame of a line of digits.
+fn frame(line: &str) -> [u8; FRAME] {
+    assert_eq!(line.len(), 2 * FRAME);
+    std::array::from_fn(|at| u8::from_str_radix(&line[2 * at..2 * at + 2], 16).unwrap())
 }
