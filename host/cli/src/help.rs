@@ -104,11 +104,12 @@ status 3; of several frames each has its line, and `deny` and a number if refuse
 synced and replaced as a whole, and holds nothing but such lines.
 
 A process may end at any time, and others may call at the same time. The book is locked
-(BOOK.lock, which stays) from reading to writing, after all input is there. Frames wait
-in BOOK.frames from before the book is replaced until they are printed or in FILE. If
-that fails the next deliver, signal, submit, move or run begins with the line `unsent`
-and these frames; size, read and fetch leave them alone. Frames may go out twice, which
-is harmless. A pipe has them once it takes them, read or not: --out is safer.
+(BOOK.lock, which stays) from reading to writing, after all input is there; a call waits
+while another program has it. Frames wait in BOOK.frames from before the book is
+replaced until they are printed or in FILE. If that fails the next deliver, signal,
+submit, move or run begins with the line `unsent` and these frames; size, read and fetch
+leave them alone. Frames may go out twice, which is harmless. A pipe has them once it
+takes them, read or not: --out is safer.
 
 Example: mavunilai frame blank-vote --signer 0 --height 1 | mavunilai call book deliver -
 ";

@@ -17,7 +17,8 @@ impl Problem {
     }
 
     /// The replica refuses the call.
-    pub fn refused(number: u8) -> Problem {
+    pub fn refused(refusal: impl Into<u8>) -> Problem {
+        let number = refusal.into();
         Problem { status: 3, sentence: format!("refused with {number}: {}", meaning(number)) }
     }
 

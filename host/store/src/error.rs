@@ -39,9 +39,10 @@ impl Error {
     }
 }
 
-impl From<u8> for Error {
-    fn from(number: u8) -> Error {
-        Error::Refused(number)
+impl<R: Into<u8>> From<R> for Error {
+    /// A refusal, by its number.
+    fn from(refusal: R) -> Error {
+        Error::Refused(refusal.into())
     }
 }
 

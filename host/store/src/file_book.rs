@@ -1,7 +1,8 @@
 //! A book in a file.
 
+use crate::outbox::Outbox;
 use crate::place::Place;
-use crate::{pile, Disk, Error, Files, Outbox};
+use crate::{pile, Disk, Error, Files};
 use std::path::Path;
 use types::{book_length, Book, Calls, Delivered, Move, Written, ENTRY, FRAME, MOST_HEIGHTS};
 

@@ -54,4 +54,3 @@ pub use disk::Disk;
 pub use error::Error;
 pub use file_book::{read, FileBook};
 pub use files::Files;
-pub use outbox::Outbox;

@@ -5,7 +5,7 @@ mod common;
 use common::fake::{Fake, Fault, Forgotten};
 use common::life::{Station, Way, BOOK};
 use common::random::Random;
-use common::script::script;
+use common::script::{script, Input};
 use reference::Rules;
 use store::{Error, FileBook};
 use types::{Book, FRAME};
@@ -13,33 +13,41 @@ use types::{Book, FRAME};
 /// The ways in which a station can move and send.
 const WAYS: [Way; 3] = [Way::Takes, Way::Bare, Way::Hands];
 
-/// What a station must come to: its book and all that it says, as in a life without a fault.
-fn undisturbed(seed: u64, way: Way) -> (Vec<u8>, Vec<[u8; FRAME]>) {
-    let mut station = Station::new(Fake::default(), script(seed), way);
+/// A script and what a station must come to: its book and all that it says, as in a life without a fault.
+struct Expected {
+    script: Vec<Input>,
+    way: Way,
+    book: Vec<u8>,
+    said: Vec<[u8; FRAME]>,
+}
+
+/// The script of a seed, and a life without a fault.
+fn undisturbed(seed: u64, way: Way) -> Expected {
+    let script = script(seed);
+    let mut station = Station::new(Fake::default(), script.clone(), way);
     let book = station.live_on(&mut Random::new(0), |_| None).unwrap();
     assert_eq!(station.broken, None);
-    (book, station.said)
+    Expected { script, way, book, said: station.said }
 }
 
 /// The rule that is broken if faults come as `next` says; that frames are lost or invented is one.
 fn broken_by(
     files: Fake,
-    seed: u64,
-    way: Way,
+    expected: &Expected,
     random: &mut Random,
     next: impl FnMut(&mut Random) -> Option<(usize, Fault)>,
 ) -> Option<String> {
-    let (book, said) = undisturbed(seed, way);
-    let mut station = Station::new(files, script(seed), way);
+    let mut station = Station::new(files, expected.script.clone(), expected.way);
     let ended = station.live_on(random, next);
-    let other = || (ended != Some(book)).then(|| "the book is another".to_string());
-    let lost = || (station.said != said).then(|| "other frames were sent".to_string());
+    let same = ended.as_ref() == Some(&expected.book);
+    let other = || (!same).then(|| "the book is another".to_string());
+    let lost = || (station.said != expected.said).then(|| "other frames were sent".to_string());
     station.broken.clone().or_else(other).or_else(lost)
 }
 
 #[test]
 fn the_scripts_make_every_move() {
-    let said: Vec<_> = (0..8).flat_map(|seed| undisturbed(seed, Way::Takes).1).collect();
+    let said: Vec<_> = (0..8).flat_map(|seed| undisturbed(seed, Way::Takes).said).collect();
     for kind in 1..=6 {
         assert!(said.iter().any(|frame| frame[0] == kind), "{kind}");
     }
@@ -50,10 +58,11 @@ fn the_scripts_make_every_move() {
 fn an_end_at_every_step() {
     for fault in [Fault::Process, Fault::Machine, Fault::Refusal] {
         for (seed, way) in (1..).zip(WAYS) {
+            let expected = undisturbed(seed, way);
             for at in 0.. {
                 let mut random = Random::new(at as u64);
                 let mut lives = 0;
-                let broken = broken_by(Fake::default(), seed, way, &mut random, |_| {
+                let broken = broken_by(Fake::default(), &expected, &mut random, |_| {
                     lives += 1;
                     (lives == 1).then_some((at, fault))
                 });
@@ -77,8 +86,8 @@ fn often(random: &mut Random) -> Option<(usize, Fault)> {
 fn ends_at_random() {
     for seed in 0..360 {
         let mut random = Random::new(seed);
-        let way = WAYS[random.below(3)];
-        let broken = broken_by(Fake::default(), seed % 40, way, &mut random, often);
+        let expected = undisturbed(seed % 40, WAYS[random.below(3)]);
+        let broken = broken_by(Fake::default(), &expected, &mut random, often);
         assert_eq!(broken, None, "seed {seed}");
     }
 }
@@ -115,7 +124,8 @@ fn a_step_left_out_is_noticed() {
     for forgotten in [Forgotten::Files, Forgotten::Folders] {
         let noticed = (0..100).filter(|seed| {
             let files = Fake::forgetting(Some(forgotten));
-            broken_by(files, seed % 40, Way::Takes, &mut Random::new(*seed), often).is_some()
+            let expected = undisturbed(seed % 40, Way::Takes);
+            broken_by(files, &expected, &mut Random::new(*seed), often).is_some()
         });
         assert!(noticed.count() > 50, "{forgotten:?}");
     }
