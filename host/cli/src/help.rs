@@ -101,7 +101,8 @@ characters. A call that is refused changes nothing, says the number and ends wit
 status 3; of several frames each has its line, and `deny` and a number if refused.
 
 --out adds the frames to FILE, a line for each, in place of printing them. FILE is
-synced and replaced as a whole, and holds nothing but such lines.
+synced and replaced as a whole, and holds nothing but such lines. Who sends them moves
+FILE away first.
 
 A process may end at any time, and others may call at the same time. The book is locked
 (BOOK.lock, which stays) from reading to writing, after all input is there; a call waits

@@ -3,7 +3,8 @@
 use store::Error;
 use types::refusal::meaning;
 
-/// A sentence and a status: 1 for a list that does not come out as expected, 2 for bad input or output, 3 for a refusal.
+/// A sentence and a status: 1 for a list that does not come out as expected, 2 for bad input or output, 3 for a
+/// refusal.
 #[derive(Clone, Debug)]
 pub struct Problem {
     pub status: u8,

@@ -9,8 +9,9 @@ use types::{book_length, Book, Calls, Delivered, Move, Written, ENTRY, FRAME, MO
 /// The ending of the file of the frames that wait.
 const FRAMES: &str = ".frames";
 
-/// A book that is kept in a file and locked until this value is dropped. Every call that changes the book is committed
-/// when it returns; one that returns an error of [`Error::Files`] may be, which who opens the book again will see.
+/// A book that is kept in a file and locked until this value is dropped. Every call that changes the book is
+/// committed when it returns; one that returns an error of [`Error::Files`] may be, which who opens the book again
+/// will see.
 #[derive(Debug)]
 pub struct FileBook<C, F: Files = Disk> {
     book: Book<C>,
@@ -36,7 +37,8 @@ impl<C: Calls + Clone> FileBook<C> {
         FileBook::overwrite_in(Disk, book, path.as_ref())
     }
 
-    /// Opens the book in a file; waits while another has it open. What [`FileBook::unsent`] gives is to be sent first.
+    /// Opens the book in a file; waits while another has it open. What [`FileBook::unsent`] gives is to be sent
+    /// first.
     pub fn open(calls: C, path: impl AsRef<Path>) -> Result<FileBook<C>, Error> {
         FileBook::open_in(Disk, calls, path.as_ref())
     }
@@ -88,7 +90,8 @@ impl<C: Calls + Clone, F: Files> FileBook<C, F> {
         &self.book
     }
 
-    /// The frames that are to be sent: the book that cast them is synced. Until they are acknowledged no call is made.
+    /// The frames that are to be sent: the book that cast them is synced. Until they are acknowledged no call is
+    /// made.
     pub fn unsent(&self) -> &[[u8; FRAME]] {
         &self.unsent
     }
@@ -102,8 +105,8 @@ impl<C: Calls + Clone, F: Files> FileBook<C, F> {
         Ok(())
     }
 
-    /// Adds the unsent frames to a file, as lines of digits, syncs it and acknowledges them. The file is replaced as a
-    /// whole, and locked meanwhile by one of its name with `.lock` behind it. Without frames it is only looked at.
+    /// Adds the unsent frames to a file, as lines of digits, syncs it and acknowledges them. The file is replaced as
+    /// a whole, and locked meanwhile by one of its name with `.lock` behind it. Without frames it is only looked at.
     pub fn hand_to(&mut self, path: impl AsRef<Path>) -> Result<(), Error>
     where
         F: Clone,
@@ -137,8 +140,8 @@ impl<C: Calls + Clone, F: Files> FileBook<C, F> {
         self.change(|book| Ok(book.make_move()?))
     }
 
-    /// Makes the first move that applies and delivers its frames here, in one commit, so that no end of the process comes
-    /// between the two. A frame of its own that the book refuses is not taken, and is to be sent all the same.
+    /// Makes the first move that applies and delivers its frames here, in one commit, so that no end of the process
+    /// comes between the two. A frame of its own that the book refuses is not taken, and is to be sent all the same.
     pub fn move_and_take(&mut self) -> Result<Move, Error> {
         self.change(|book| {
             let (made, frames) = book.make_move()?;

@@ -7,8 +7,8 @@ use types::FRAME;
 /// A file with so many bytes is too long.
 const MOST: usize = 1 << 26;
 
-/// Adds frames to the file. It is replaced as a whole, so that no reader sees a part of a frame; one who takes it away
-/// meanwhile may get frames twice, but misses none. A file that holds anything else is left alone.
+/// Adds frames to the file. It is replaced as a whole, so that no reader sees a part of a frame; one who moves it
+/// away meanwhile may get frames twice, but misses none. A file that holds anything else is left alone.
 pub fn append<F: Files>(place: &Place<F>, frames: &[[u8; FRAME]]) -> Result<(), Error> {
     read(place)?;
     if frames.is_empty() {

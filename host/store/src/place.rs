@@ -24,8 +24,8 @@ impl<F: Files> Place<F> {
         name.into()
     }
 
-    /// Waits for the lock. What is locked is another file than the one that is replaced, since a lock does not follow a
-    /// name, and it is never removed, since one who waits has it open already.
+    /// Waits for the lock. What is locked is another file than the one that is replaced, since a lock does not
+    /// follow a name, and it is never removed, since one who waits has it open already.
     pub fn lock(&self) -> Result<F::Lock, Error> {
         let path = self.beside(".lock");
         self.files.lock(&path).map_err(Error::files("locked", &path))

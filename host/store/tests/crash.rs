@@ -92,7 +92,8 @@ fn ends_at_random() {
     }
 }
 
-/// A station that comes back finds that its timer fired: what the life before was about to say must not have been said.
+/// A station that comes back finds that its timer fired: what the life before was about to say must not have been
+/// said.
 #[test]
 fn a_timer_that_fires_between_two_lives() {
     for seed in 0..360 {

@@ -1,7 +1,8 @@
 //! A file system that keeps what is synced, may lose the rest, and can end the process at any step.
 //!
-//! Every name and every file has a history since it was last synced. When the machine ends, each name becomes any one of
-//! its history, whatever becomes of the others, and each file has any contents of its own, or a part of the last.
+//! Every name and every file has a history since it was last synced. When the machine ends, each name becomes any
+//! one of its history, whatever becomes of the others, and each file has any contents of its own, or a part of the
+//! last.
 
 use super::random::Random;
 use std::cell::RefCell;
