@@ -36,8 +36,8 @@ mavunilai COMMAND ..
 
   frame      make a frame out of words
   show       show a frame or a book in words
-  open       write a new book
-  call       make one call on a book that is kept in a file
+  open       keep a new book in a file
+  call       make calls on a book that is kept in a file
   replay     make the calls of a list and compare answers and digests
   record     write a list with its answers and digests
   diff       tell the fields in which two books differ
@@ -46,7 +46,8 @@ mavunilai COMMAND ..
   rehearsal  read frames from standard input, print a line for each event
 
 `mavunilai help COMMAND` tells more. The status is 0 if all is well, 1 if a list does
-not come out as expected, 2 if the input is bad; a sentence then says why.
+not come out as expected, 2 if words, files or the output are bad, 3 if the replica
+refuses the call; a sentence then says why.
 Calls, lists, new books and the rehearsal use the proved replica if this program was built
 with the cargo feature `proved`, else the reference replica.
 
@@ -96,28 +97,46 @@ each height, a column for each station, <- at its current height.
 ";
 
 const OPEN: &str = "\
-mavunilai open --n N --own S --roll L,L,..
+mavunilai open FILE --n N --own S --roll L,L,.. [--force]
 
-Writes the bytes of a new book for station S of N, with one leader L for each height.
+Keeps a new book in FILE, for station S of N, with one leader L for each height. A file
+that is there is left alone, unless --force begins a new book in its place: a station
+that forgets what it said may say another thing, so do this for a new season only.
+FILE may be - for standard output.
 
-Example: mavunilai open --n 4 --own 2 --roll 0,1,2 > book
+Example: mavunilai open book --n 4 --own 2 --roll 0,1,2
 ";
 
 const CALL: &str = "\
-mavunilai call BOOK deliver FRAME
-mavunilai call BOOK move
-mavunilai call BOOK signal HEIGHT
-mavunilai call BOOK submit ENTRY
+mavunilai call BOOK deliver FRAMES [--out FILE]
+mavunilai call BOOK signal HEIGHT [--out FILE]
+mavunilai call BOOK submit ENTRY [--out FILE]
+mavunilai call BOOK move [--out FILE]
+mavunilai call BOOK run [--out FILE]
 mavunilai call BOOK size
 mavunilai call BOOK read
 mavunilai call BOOK fetch KIND HEIGHT
 
-Makes one call on the book in the file BOOK, prints the answer in the words of a list
+Makes a call on the book in the file BOOK, prints the answer in the words of a list
 (docs/EXCHANGE.md), and keeps the book in its file if it changed. The frames that move
 and fetch write follow as hexadecimal digits, one to a line; read prints the entries.
-FRAME is a file, or - for standard input, with the bytes or the digits of a frame;
-ENTRY is 32 hexadecimal digits or up to 16 characters. A call that is refused changes
-nothing, says the number and ends with status 2.
+run moves until idle, and delivers what it writes to the book itself.
+FRAMES is a file, or - for standard input, with the bytes or the digits of a frame, or
+of several, which are delivered in order; ENTRY is 32 hexadecimal digits or up to 16
+characters. A call that is refused changes nothing, says the number and ends with
+status 3; of several frames each has its line, and `deny` and a number if refused.
+
+--out adds the frames to FILE, a line for each, in place of printing them. FILE is
+synced and replaced as a whole, and holds nothing but such lines. Who sends them moves
+FILE away first.
+
+A process may end at any time, and others may call at the same time. The book is locked
+(BOOK.lock, which stays) from reading to writing, after all input is there; a call waits
+while another program has it. Frames wait in BOOK.frames from before the book is
+replaced until they are printed or in FILE. If that fails the next deliver, signal,
+submit, move or run begins with the line `unsent` and these frames; size, read and fetch
+leave them alone. Frames may go out twice, which is harmless. A pipe has them once it
+takes them, read or not: --out is safer.
 
 Example: mavunilai frame blank-vote --signer 0 --height 1 | mavunilai call book deliver -
 ";

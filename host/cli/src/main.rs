@@ -24,6 +24,7 @@ mod show_book;
 mod show_books;
 mod show_command;
 mod show_frame;
+mod station;
 mod table;
 mod theirs;
 mod told;

@@ -2,7 +2,7 @@
 
 mod common;
 
-use common::{fine, refused};
+use common::{denied, fine, refused};
 use reference::Rules;
 use types::{Block, Book, Frame};
 
@@ -20,7 +20,7 @@ fn shown(book: &Book<Rules>) -> String {
 
 #[test]
 fn a_new_book() {
-    let bytes = fine("open --n 4 --own 2 --roll 0,1,2", &[]);
+    let bytes = fine("open - --n 4 --own 2 --roll 0,1,2", &[]);
     assert_eq!(bytes, book(&[]).bytes());
     let text = shown(&book(&[]));
     let head = "Book of station 2 of 4: 3 heights, settled height 0, 0 pending entries; a quorum is 3 or more.";
@@ -80,8 +80,9 @@ fn bad_input_gets_a_sentence() {
     refused("show book -", &[], "(0 bytes)");
     refused("show", &[], "`frame` or `book`");
     refused("show page -", &[], "cannot be shown");
-    refused("open --n 4 --own 4 --roll 0", &[], "refused with 2");
-    refused("open --n 4 --own 1 --roll 0,,1", &[], "no numbers with commas");
-    refused("open --n 4 --own 1", &[], "--roll is missing");
-    refused("open --n 4 --own 1 --roll 0 more", &[], "options alone");
+    denied("open - --n 4 --own 4 --roll 0", &[], "refused with 2");
+    refused("open - --n 4 --own 1 --roll 0,,1", &[], "no numbers with commas");
+    refused("open - --n 4 --own 1", &[], "--roll is missing");
+    refused("open --n 4 --own 1 --roll 0", &[], "the file of the new book");
+    refused("open - --n 4 --own 1 --roll 0 --force", &[], "needs no --force");
 }

@@ -30,6 +30,8 @@ mod foreign;
 
 #[cfg(feature = "proved")]
 pub use foreign::{fits, Proved, INTERFACE};
+/// A book in a file: locked while it is open, each call committed together with its frames.
+pub use store;
 pub use types::{
     book_length, Block, Book, Calls, Certificate, Delivered, Frame, Move, Refusal, Written, BLOCK,
     ENTRY, FRAME, MOST_HEIGHTS, MOST_REPLICAS,

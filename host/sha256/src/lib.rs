@@ -1,5 +1,8 @@
 //! SHA-256 of FIPS 180-4, for messages of whole bytes.
 
+#![warn(clippy::indexing_slicing, clippy::arithmetic_side_effects)]
+#![warn(clippy::unwrap_used, clippy::expect_used, clippy::panic)]
+
 /// The round constants: from the fractions of the cube roots of the first 64 primes.
 const K: [u32; 64] = [
     0x428a2f98, 0x71374491, 0xb5c0fbcf, 0xe9b5dba5, 0x3956c25b, 0x59f111f1, 0x923f82a4, 0xab1c5ed5,
