@@ -21,11 +21,11 @@ use Rattle.protocol.specs.View.{extends}
 use Rattle.simplex.specs.Idle.{NoMove, IdleMeansNoMove, afterMoves, IdleWithin, MovesEnd}
 
 module _ (digest : Bytes → Bytes) where
-  no-move-idle : (s : State) → NoMove digest s → step digest s .move ≡ idle
+  pub no-move-idle : (s : State) → NoMove digest s → step digest s .move ≡ idle
   unfolding step firstStep idleStep
   no-move-idle s q = rw (q .no-dummy-vote, q .no-output, q .no-pass, q .no-proposal, q .no-block-vote)
 
-  idle-no-move : (s : State) → step digest s .move ≡ idle → NoMove digest s
+  pub idle-no-move : (s : State) → step digest s .move ≡ idle → NoMove digest s
   unfolding dummyVoteStep outputStep passStep proposeStep blockVoteStep moveNumber
   idle-no-move s = step-cases digest s (λ (st : Step). st .move ≡ idle → NoMove digest s)
       (λ _ q. absurd (omega (arith, ap moveNumber q)))
