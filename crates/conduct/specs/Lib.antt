@@ -2,6 +2,9 @@
 pub mod SoundKept
 pub mod WrittenRead
 pub mod Keeping
+pub mod KeptBytes
+pub mod KeepsStateLaws
+pub mod KeptBytesLaws
 pub mod KeepingLaws
 pub mod Tallying
 pub mod TallyingLaws
