@@ -6,6 +6,10 @@ pub mod KeptBytes
 pub mod KeepsStateLaws
 pub mod KeptBytesLaws
 pub mod KeepingLaws
+pub mod Refusals
+pub mod RefusalsLaws
+pub mod BookBytes
+pub mod BookBytesLaws
 pub mod Tallying
 pub mod TallyingLaws
 pub mod Fields

@@ -32,7 +32,7 @@ use Rattle.simplex.specs.Paper.{lastBlock, linearize, Sequence, addDummy
 use Rattle.simplex.specs.Blockchains.{ChainEndingAt, ParentOf, InThePapersTerms, LinkedIsSeen, ParentIsSeen, ParentIsLargest, FinalizedIsSeen, ExtendsIsFollowing}
 use Rattle.simplex.specs.BlockchainsLaws.{in-the-papers-terms}
 use Rattle.simplex.specs.Idle.{NoMove}
-use Rattle.simplex.specs.IdleLaws.{idle-no-move, no-move-idle}
+use Rattle.simplex.specs.IdleLaws.{idle-no-move, no-move-idle, step-idle}
 use Rattle.simplex.specs.Steps.{FiveSteps, Running, Makes, Offers, MayPropose, LeaderProposal, MayVoteDummy, DummyBlocks, Sent, MayPass, NextIteration, MayVoteBlock, NotarizingProposals, MayOutput, FinalizedOutputs, NoStep, Idling, OneOfSix, itIdles, itVotesDummy, itOutputs, itPasses, itProposes, itVotesBlock}
 
 module _ (digest : Bytes → Bytes) (s : State) where
@@ -340,15 +340,11 @@ module _ (digest : Bytes → Bytes) (s : State) where
       no-block-vote = not-passed _ (λ e. q .no-block-vote (block-when e));
     }
 
-    step-idle : NoMove digest s → step digest s ≡ idleStep s
-    unfolding step firstStep
-    step-idle q = rw (q .no-dummy-vote, q .no-output, q .no-pass, q .no-proposal, q .no-block-vote)
-
     pub idling : Idling digest s
     unfolding Idling idleStep
     idling = (
       ((λ e. no-step (idle-no-move digest s e)), λ q. no-move-idle digest s (no-move q)),
-      λ q. makes (no-move-idle digest s (no-move q)) (step-idle (no-move q)),
+      λ q. makes (no-move-idle digest s (no-move q)) (step-idle digest s (no-move q)),
     )
 
     module _ (digest-size : (block : Bytes) → length (digest block) ≡ 32) where
