@@ -125,7 +125,6 @@ module _ (digest : Bytes → Bytes) (v : View) (news : Delivery) (k : ℕ) (fram
   }
 
 module _ (digest : Bytes → Bytes) (v : View) (k : ℕ) (counts : (k ≡ 1) ⊎ (k ≡ 2)) (frame : Bytes) (x : Height) where
-
   -- after a proposal or a vote was kept in `z`, its votes are counted
   module _ (z : Height) (other : eqb k 5 ≡ false) (status : isNotarized z ≡ isNotarized x) (block : z .notarized ≡ x .notarized) (mask : z .certificateMask ≡ x .certificateMask) where
     by-votes : holdsProposal z ≡ true → quorum v (voters digest v z) ≡ true → ByVotes digest v (withNotarized z (voters digest v z) (z .proposal))

@@ -10,6 +10,6 @@ use Rattle.protocol.specs.Tests.{Row, firstRefusal}
 use Rattle.protocol.specs.Answer.{Answer, refused}
 
 -- a call with these rows: its answer, and the bytes lent to it, before and after
-pub record Refuses {A : Type 0} (rows : List Row) (answer : Answer A) (before after : List Bytes) : Type 0 where
+pub record Refuses (A : Type 0) (rows : List Row) (answer : Answer A) (before after : List Bytes) : Type 0 where
   pub by-number : (number : ℕ) → (answer ≡ refused number) ↔ (firstRefusal rows ≡ some number)
   pub unchanged : (number : ℕ) → answer ≡ refused number → after ≡ before

@@ -71,9 +71,10 @@ module _ (digest : Bytes → Bytes) (book reply : Bytes) (ok : sound digest book
   idles-just-then = record {
     just-then = (idle-move, λ q. ap (λ (o : MoveOutcome). o .answer) (idle-made q));
     unchanged = λ small e.
-        let made = idle-made (idle-move e) in
-        (ap (λ (o : MoveOutcome). o .book) made ∙ encode-decode digest book ok small,
-        ap (λ (o : MoveOutcome). o .reply) made ∙ unfold zeros in front-none reply);
+        let made = idle-made (idle-move e) in (
+          ap (λ (o : MoveOutcome). o .book) made ∙ encode-decode digest book ok small,
+          ap (λ (o : MoveOutcome). o .reply) made ∙ unfold zeros in front-none reply,
+        );
   }
 
 -- ---- moving until idle ends
