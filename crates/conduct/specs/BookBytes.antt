@@ -1,5 +1,5 @@
--- What Open, Signal, Submit and Move leave of a book's bytes where they are not refused: what they write, and every other byte as it was.
--- What Deliver leaves is in `Keeping`.
+-- What Open, Signal, Submit and Move leave of a book's bytes where they are not refused: what they write, and every
+-- other byte as it was. What Deliver leaves is in `Keeping`.
 use Prim.Native.Nat.{ℕ, _+_, _-_, _*_, _≤_}
 use mathlib.Core.Path.{_≡_}
 use mathlib.Core.Bool.{false}
@@ -13,7 +13,8 @@ use Rattle.protocol.specs.Submit.{stillPending}
 -- Open: n, own number, H, flags 0, c 1, g 0, no pending entry, edition 1; for each height its leader; and zeros
 unfoldable pub openedBook : ℕ → ℕ → ℕ → Bytes → Bytes
 openedBook n own heights leaders =
-    (n ∷ own ∷ heights ∷ 0 ∷ 1 ∷ 0 ∷ 0 ∷ 1 ∷ zeros 568) ++ (join (map (λ leader. leader ∷ zeros 15) leaders) ++ zeros (864 * heights))
+    (n ∷ own ∷ heights ∷ 0 ∷ 1 ∷ 0 ∷ 0 ∷ 1 ∷ zeros 568) ++
+    (join (map (λ leader. leader ∷ zeros 15) leaders) ++ zeros (864 * heights))
 
 -- Signal: flag 1 was clear and is added to byte 3; the height is the current one
 pub record Signals (book : Bytes) (h : ℕ) (after : Bytes) : Type 0 where

@@ -160,9 +160,11 @@ module _ (digest : Bytes → Bytes) (s : State) (is : SoundState digest s) (fram
       go (inr e) = let range = in-range 5 7 (kind frame) e in (omega (arith, range .0), range .1)
 
   pub by-kind : (P : ℕ → Option Height → Type 0) →
-      (kind frame ≡ 1 → P 1 (keepProposal digest v x frame)) → (kind frame ≡ 2 → P 2 (keepBlockVote digest v x frame)) →
+      (kind frame ≡ 1 → P 1 (keepProposal digest v x frame)) →
+      (kind frame ≡ 2 → P 2 (keepBlockVote digest v x frame)) →
       (kind frame ≡ 3 → P 3 (keepDummyVote x frame)) → (kind frame ≡ 4 → P 4 (keepFinalize x frame)) →
-      (kind frame ≡ 5 → P 5 (keepBlockCertificate x frame)) → (kind frame ≡ 6 → P 6 (keepDummyCertificate (v .n) x frame)) →
+      (kind frame ≡ 5 → P 5 (keepBlockCertificate x frame)) →
+      (kind frame ≡ 6 → P 6 (keepDummyCertificate (v .n) x frame)) →
       (kind frame ≡ 7 → P 7 (keepFinalizeCertificate (v .n) x frame)) → P (kind frame) (keep digest s frame)
   unfolding keep view
   by-kind P p1 p2 p3 p4 p5 p6 p7 =

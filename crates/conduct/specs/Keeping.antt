@@ -1,6 +1,7 @@
--- What a delivery that is not refused leaves, beside document 01's "Deliver": the statements that its frame makes are kept, all that was
--- kept before stays, and no other byte changes; the answer says whether a byte did; and a block is notarized just where a
--- certificate says so, or where a proposal or vote is newly kept and the kept votes for the held proposal are a quorum.
+-- What a delivery that is not refused leaves, beside document 01's "Deliver": the statements that its frame makes are
+-- kept, all that was kept before stays, and no other byte changes; the answer says whether a byte did. A block is
+-- notarized just where a certificate says so, or where a proposal or a vote is newly kept and the kept votes for the
+-- held proposal are a quorum.
 use Prim.Native.Nat.{ℕ, _≤_, _<_}
 use mathlib.Core.Path.{_≡_}
 use mathlib.Core.Logic.{_⊎_, _≢_}
@@ -84,8 +85,9 @@ module _ (digest : Bytes → Bytes) (v : View) where
 abbrev pub AllTallied : (Bytes → Bytes) → State → Type 0
 AllTallied digest s = (h : ℕ) → 1 ≤ h → Tallied digest (view s) (at s h)
 
--- ---- a state and the one after a delivery: only the frame's height has changed, and there what the frame states is kept
-pub record KeepsState (digest : Bytes → Bytes) (s : State) (frame : Bytes) (news : Delivery) (s′ : State) : Type 0 where
+-- ---- a state, and the one after a delivery that answered `news`: only the frame's height has changed, and there
+-- what the frame states is kept
+pub record KeepsState (digest : Bytes → Bytes) (s s′ : State) (frame : Bytes) (news : Delivery) : Type 0 where
   pub elsewhere : s′ ≡ withHeight s (frameHeight frame) (at s′ (frameHeight frame))
   pub here :
       KeepsAt digest (view s) news (kind frame) frame (at s (frameHeight frame)) (at s′ (frameHeight frame))
@@ -95,9 +97,9 @@ pub record Keeps (digest : Bytes → Bytes) (book frame : Bytes) (news : Deliver
   -- known: no byte has changed; fresh: one has
   pub known-same : news ≡ known → after ≡ book
   pub fresh-differs : news ≡ fresh → (i : ℕ) × (i < length book) × (byteAt after i ≢ byteAt book i)
-  -- only the bytes that the table of `KeptBytes` has for the frame may have changed; a book's numbers are bytes, as in a byte slice
+  -- only the bytes that `KeptBytes` lists for the frame may have changed (a book's numbers are bytes, as in a slice)
   pub other-bytes : AreBytes book → SameOutside (deliveryParts book frame after) book after
   pub same-length : length after ≡ length book
-  -- and they hold what the frame states: no mask has a bit from n up and no state is above 3, as in every sound book
-  pub keeps : KeepsState digest (decode book) frame news (decode after)
+  -- and they hold what the frame states, with no bit of a mask from n up and no state above 3, as in each sound book
+  pub keeps : KeepsState digest (decode book) (decode after) frame news
   pub stays-sound : sound digest after ≡ true

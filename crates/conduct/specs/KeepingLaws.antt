@@ -65,7 +65,8 @@ module _ (digest : Bytes → Bytes) (book frame : Bytes) (passes : firstRefusal 
     sound-after = keep-sound digest s state frame (facts digest book frame passes) y e
 
     size-after : length (encode s′) ≡ length book
-    size-after = length-encode s′ (sound-after .shaped) ∙ rw (placed-last, last-decode book) (sym (exact digest book was-sound))
+    size-after = length-encode s′ (sound-after .shaped) ∙
+        rw (placed-last, last-decode book) (sym (exact digest book was-sound))
       where
         placed-last : last s′ ≡ last s
         placed-last = unfold last withHeight in length-set (s .heights) (h - 1) y
@@ -76,15 +77,20 @@ module _ (digest : Bytes → Bytes) (book frame : Bytes) (passes : firstRefusal 
         at-placed s h y (facts digest book frame passes .low) (facts digest book frame passes .high)
 
     changed : encode s′ ≢ book
-    changed same = keep-other digest s state frame (facts digest book frame passes) y e (sym here ∙ ap (λ (b : Bytes). at (decode b) h) same)
+    changed same = keep-other digest s state frame (facts digest book frame passes) y e
+        (sym here ∙ ap (λ (b : Bytes). at (decode b) h) same)
 
     untouched : AreBytes book → SameOutside (deliveryParts book frame (encode s′)) book (encode s′)
     unfolding deliveryParts
     untouched small =
-        let before : encode (withHeight s h (at s h)) ≡ book = ap encode (placed-same s h (facts digest book frame passes .low)) ∙ encode-decode digest book was-sound small in
-        rw (here, ← last-decode book) (from-same before (keep-only digest s state frame (facts digest book frame passes) y e))
+        let before : encode (withHeight s h (at s h)) ≡ book =
+        ap encode (placed-same s h (facts digest book frame passes .low)) ∙
+        encode-decode digest book was-sound small in
+        rw (here, ← last-decode book) (from-same before
+        (keep-only digest s state frame (facts digest book frame passes) y e))
 
-  all-kept : (o : Option Height) → keep digest s frame ≡ o → Keeps digest book frame (newsOf o) (kept digest book frame o .book)
+  all-kept : (o : Option Height) → keep digest s frame ≡ o →
+      Keeps digest book frame (newsOf o) (kept digest book frame o .book)
   unfolding kept newsOf
   all-kept none e = record {
     known-same = λ _. refl;
@@ -120,9 +126,11 @@ deliver-keeps digest book frame news = go (firstRefusal (deliverRows digest book
     same-news : {a b : Delivery} → accepted a ≡ accepted b → a ≡ b
     same-news e = cc
 
-    go : (r : Option ℕ) → firstRefusal (deliverRows digest book frame) ≡ r → done r .answer ≡ accepted news → Keeps digest book frame news (done r .book)
+    go : (r : Option ℕ) → firstRefusal (deliverRows digest book frame) ≡ r → done r .answer ≡ accepted news →
+        Keeps digest book frame news (done r .book)
     go none e accepts = unfold unlessRefused in
         let o : Option Height = keep digest (decode book) frame in
         let said : newsOf o ≡ news = same-news (sym (answered digest book frame e o) ∙ accepts) in
-        subst (λ (z : Delivery). Keeps digest book frame z (kept digest book frame o .book)) said (all-kept digest book frame e o refl)
+        subst (λ (z : Delivery). Keeps digest book frame z (kept digest book frame o .book)) said
+        (all-kept digest book frame e o refl)
     go (some number) e accepts = absurd (refused≢accepted number news (unfold unlessRefused in accepts))

@@ -12,16 +12,16 @@ use lib.Dec.{eqb, leb}
 use borrow.Author.Tests.{eqb-true, eqb-false, eq-eqb, leb-true, leb-false, le-leb, not-true}
 use Rattle.protocol.specs.Bytes.{Bytes, same}
 use Rattle.protocol.specs.Tests.{allOf, implies, inRange, firstRefusal}
-use Rattle.protocol.specs.Answer.{Outcome, refused, accepted, Delivery, known, fresh, unlessRefused}
+use Rattle.protocol.specs.Answer.{refused, accepted, Delivery, known, fresh}
 use Rattle.protocol.specs.Mask.{inMask, union}
-use Rattle.protocol.specs.Frame.{kind, signer, frameHeight, signerMask, frameDigest, frameBlock, frameWellFormed, isStatement, isCertificate}
+use Rattle.protocol.specs.Frame.{kind, signer, frameHeight, signerMask, frameDigest, frameBlock, isStatement}
 use Rattle.protocol.specs.State.{State, Height, at, last, withHeight, decode, holdsProposal, isNotarized, voteOf}
 use Rattle.protocol.specs.View.{View, quorum}
-use Rattle.protocol.specs.Deliver.{withProposal, withNotarized, withMasks, withVote, votersFor, notarize, keepProposal, keepBlockVote, keepDummyVote, keepFinalize, keepBlockCertificate, keepDummyCertificate, keepFinalizeCertificate, keep, kept, readRows, clashRows, deliverRows, deliverCall}
+use Rattle.protocol.specs.Deliver.{withProposal, withNotarized, withMasks, withVote, votersFor, notarize, keepProposal, keepBlockVote, keepDummyVote, keepFinalize, keepBlockCertificate, keepDummyCertificate, keepFinalizeCertificate, keep, kept, readRows, clashRows, deliverRows}
 use Rattle.protocol.specs.MaskLaws.{inMask-add-self, inMask-add-other}
 use Rattle.protocol.specs.UnionLaws.{union-bit}
-use Rattle.protocol.specs.TestsLaws.{cond-elim, eqb-self, or-true}
-use Rattle.protocol.specs.RowLaws.{row, row-passes, same-eq, in-range}
+use Rattle.protocol.specs.TestsLaws.{cond-elim, eqb-self}
+use Rattle.protocol.specs.RowLaws.{row, row-passes, same-eq}
 use Rattle.protocol.specs.Sound.{view, sound}
 use Rattle.protocol.specs.StateLaws.{ShapedHeight, decode-encode}
 use Rattle.protocol.specs.PlaceLaws.{with-at, at-with}
@@ -75,7 +75,8 @@ pub is-notarized : (x : Height) (mask : ℕ) (block : Bytes) → isNotarized (wi
 unfolding isNotarized withNotarized
 is-notarized x mask block = le-leb 2 (x .status + 2) (omega arith)
 
-pub proposal-status : (x : Height) (block : Bytes) → holdsProposal x ≡ false → isNotarized (withProposal x block) ≡ isNotarized x
+pub proposal-status : (x : Height) (block : Bytes) → holdsProposal x ≡ false →
+    isNotarized (withProposal x block) ≡ isNotarized x
 unfolding holdsProposal isNotarized withProposal
 proposal-status x block free = go (leb 2 (x .status)) refl
   where
@@ -114,7 +115,8 @@ module _ (n k : ℕ) (frame : Bytes) (x y : Height) where
 
 module _ (digest : Bytes → Bytes) (v : View) (news : Delivery) (k : ℕ) (frame : Bytes) (x : Height) where
   same-block : (y : Height) → eqb k 5 ≡ false → isNotarized y ≡ isNotarized x → y .notarized ≡ x .notarized → y .certificateMask ≡ x .certificateMask →
-      ((k ≡ 1) ⊎ (k ≡ 2) → news ≡ fresh → Tallied digest v y) → (Tallied digest v x → Tallied digest v y) → KeepsBlock digest v news k frame x y
+      ((k ≡ 1) ⊎ (k ≡ 2) → news ≡ fresh → Tallied digest v y) → (Tallied digest v x → Tallied digest v y) →
+      KeepsBlock digest v news k frame x y
   same-block y other e e′ e″ count tally = record {
     first-block = λ has. (e ∙ has, e′, e″);
     this-block = λ is. absurd (eqb-false k 5 other is);
@@ -142,7 +144,8 @@ module _ (digest : Bytes → Bytes) (v : View) (k : ℕ) (counts : (k ≡ 1) ⊎
     counted : KeepsBlock digest v fresh k frame x (notarize digest v z)
     unfolding notarize Tallied
     counted =
-        cond-elim (KeepsBlock digest v fresh k frame x) (allOf (not (isNotarized z) ∷ holdsProposal z ∷ quorum v (voters digest v z) ∷ []))
+        cond-elim (KeepsBlock digest v fresh k frame x)
+        (allOf (not (isNotarized z) ∷ holdsProposal z ∷ quorum v (voters digest v z) ∷ []))
         (λ e. record {
           first-block = λ has. absurd (true≢false (sym (status ∙ has) ∙ not-true _ (row _ 0 e)));
           this-block = λ is. absurd (eqb-false k 5 other is);
@@ -193,11 +196,13 @@ module _ (digest : Bytes → Bytes) (v : View) (frame : Bytes) (x : Height) wher
       cond-elim (Before k) (allOf (not (isNotarized z) ∷ holdsProposal z ∷ quorum v (voters digest v z) ∷ []))
       (λ _. notarized-too k z (voters digest v z) (z .proposal) is) (λ _. is)
 
-  whole : {news : Delivery} (k : ℕ) (y : Height) → Before k y → KeepsBlock digest v news k frame x y → KeepsAt digest v news k frame x y
+  whole : {news : Delivery} (k : ℕ) (y : Height) → Before k y → KeepsBlock digest v news k frame x y →
+      KeepsAt digest v news k frame x y
   whole k y is block = record { leader = is .leader; masks = is .masks; votes = is .votes; proposal = is .proposal; block = block }
 
   known-block : (k : ℕ) → eqb k 5 ≡ false → KeepsBlock digest v known k frame x x
-  known-block k other = same-block digest v known k frame x x other refl refl refl (λ _ e. absurd (known≢fresh e)) (λ t. t)
+  known-block k other = same-block digest v known k frame x x other refl refl refl (λ _ e. absurd (known≢fresh e))
+      (λ t. t)
 
   -- ---- kind 1
   new-proposal : holdsProposal x ≡ false → Before 1 (withProposal x (frameBlock frame))
@@ -230,7 +235,8 @@ module _ (digest : Bytes → Bytes) (v : View) (frame : Bytes) (x : Height) wher
       (known-block 1 refl))
       (λ free. whole 1 (notarize digest v (withProposal x (frameBlock frame)))
       (notarize-too 1 (withProposal x (frameBlock frame)) (new-proposal free))
-      (counted digest v 1 (inl refl) frame x (withProposal x (frameBlock frame)) refl (proposal-status x (frameBlock frame) free) (unfold withProposal in refl) (unfold withProposal in refl)))
+      (counted digest v 1 (inl refl) frame x (withProposal x (frameBlock frame)) refl
+      (proposal-status x (frameBlock frame) free) (unfold withProposal in refl) (unfold withProposal in refl)))
 
   -- ---- kind 2
   module _ (shaped : ShapedHeight x) (few : signer frame < 16) (sized : length (frameDigest frame) ≡ 32) where
@@ -265,7 +271,8 @@ module _ (digest : Bytes → Bytes) (v : View) (frame : Bytes) (x : Height) wher
         (known-block 2 refl))
         (λ free. whole 2 (notarize digest v (withVote x (signer frame) (frameDigest frame)))
         (notarize-too 2 (withVote x (signer frame) (frameDigest frame)) (new-vote free))
-        (counted digest v 2 (inr refl) frame x (withVote x (signer frame) (frameDigest frame)) refl (unfold withVote isNotarized in refl) (unfold withVote in refl) (unfold withVote in refl)))
+        (counted digest v 2 (inr refl) frame x (withVote x (signer frame) (frameDigest frame)) refl
+        (unfold withVote isNotarized in refl) (unfold withVote in refl) (unfold withVote in refl)))
 
   -- ---- kinds 3, 4, 6 and 7: one of two masks grows
   new-masks : (k a b : ℕ) → eqb k 1 ≡ false → eqb k 2 ≡ false → eqb k 5 ≡ false →
@@ -276,14 +283,16 @@ module _ (digest : Bytes → Bytes) (v : View) (frame : Bytes) (x : Height) wher
     masks = masks;
     votes = same-votes (v .n) k frame x (withMasks x a b) two refl refl;
     proposal = same-proposal (v .n) k frame x (withMasks x a b) one refl refl;
-    block = same-block digest v fresh k frame x (withMasks x a b) five refl refl refl (λ is _. absurd (no-vote is)) (λ t. t);
+    block = same-block digest v fresh k frame x (withMasks x a b) five refl refl refl (λ is _. absurd (no-vote is))
+        (λ t. t);
   }
     where
       no-vote : (k ≡ 1) ⊎ (k ≡ 2) → ⊥
       no-vote (inl e) = eqb-false k 1 one e
       no-vote (inr e) = eqb-false k 2 two e
 
-  old-masks : (k : ℕ) → eqb k 1 ≡ false → eqb k 2 ≡ false → eqb k 5 ≡ false → KeepsMasks (v .n) k frame x x → KeepsAt digest v known k frame x x
+  old-masks : (k : ℕ) → eqb k 1 ≡ false → eqb k 2 ≡ false → eqb k 5 ≡ false → KeepsMasks (v .n) k frame x x →
+      KeepsAt digest v known k frame x x
   old-masks k one two five masks = record {
     leader = refl;
     masks = masks;
@@ -391,7 +400,8 @@ module _ (digest : Bytes → Bytes) (s : State) (is : SoundState digest s) (fram
   keep-keeps : Kept digest (view s) frame x (kind frame) (keep digest s frame)
   keep-keeps = by-kind digest s is frame facts (Kept digest (view s) frame x)
       (λ e. proposal-keeps digest (view s) frame x (proposal-agrees e))
-      (λ e. vote-keeps digest (view s) frame x (shaped digest s is frame facts) (few e) (digest-size digest s is frame facts) (vote-agrees e))
+      (λ e. vote-keeps digest (view s) frame x (shaped digest s is frame facts) (few e)
+      (digest-size digest s is frame facts) (vote-agrees e))
       (λ e. dummy-keeps digest (view s) frame x)
       (λ e. finalize-keeps digest (view s) frame x)
       (λ e. certificate-keeps digest (view s) frame x (block-agrees e))
@@ -401,7 +411,7 @@ module _ (digest : Bytes → Bytes) (s : State) (is : SoundState digest s) (fram
   abbrev after : State
   after = withHeight s (frameHeight frame) (left x (keep digest s frame))
 
-  keeps : KeepsState digest s frame (newsOf (keep digest s frame)) after
+  keeps : KeepsState digest s after frame (newsOf (keep digest s frame))
   keeps =
       let found = at-placed s (frameHeight frame) (left x (keep digest s frame)) (facts .low) (facts .high) in
       record {
@@ -433,15 +443,19 @@ module _ (digest : Bytes → Bytes) (book frame : Bytes) (passes : firstRefusal 
       let r7 = row-passes _ _ (r5 .1) in
       row-passes _ _ (r7 .1) .1
 
-  answered : (o : Option Height) → keep digest s frame ≡ o → KeepsState digest s frame (newsOf o) (after digest s state frame facts clash)
-  answered o e = subst (λ (z : Option Height). KeepsState digest s frame (newsOf z) (after digest s state frame facts clash)) e (keeps digest s state frame facts clash)
+  answered : (o : Option Height) → keep digest s frame ≡ o →
+      KeepsState digest s (after digest s state frame facts clash) frame (newsOf o)
+  answered o e =
+      subst (λ (z : Option Height). KeepsState digest s (after digest s state frame facts clash) frame (newsOf z)) e
+      (keeps digest s state frame facts clash)
 
-  pub outcome : (o : Option Height) → keep digest s frame ≡ o → KeepsState digest s frame (newsOf o) (decode (kept digest book frame o .book))
+  pub outcome : (o : Option Height) → keep digest s frame ≡ o →
+      KeepsState digest s (decode (kept digest book frame o .book)) frame (newsOf o)
   unfolding kept left
   outcome none e =
       let same : after digest s state frame facts clash ≡ s = rw e (placed-same s (frameHeight frame) (facts .low)) in
-      subst (λ (z : State). KeepsState digest s frame (newsOf none) z) same (answered none e)
+      subst (λ (z : State). KeepsState digest s z frame (newsOf none)) same (answered none e)
   outcome (some y) e =
       let same : after digest s state frame facts clash ≡ withHeight s (frameHeight frame) y = rw e refl in
       let back = decode-encode (withHeight s (frameHeight frame) y) (keep-sound digest s state frame facts y e .shaped) in
-      subst (λ (z : State). KeepsState digest s frame (newsOf (some y)) z) (same ∙ sym back) (answered (some y) e)
+      subst (λ (z : State). KeepsState digest s z frame (newsOf (some y))) (same ∙ sym back) (answered (some y) e)

@@ -1,4 +1,4 @@
--- Which bytes of a book a delivery writes, by the kind of its frame. A part of a book is its first byte and how many bytes it has.
+-- Which bytes of a book a delivery writes, by the kind of its frame.
 use Prim.Native.Nat.{ℕ, _+_, _-_, _*_}
 use mathlib.Core.Path.{_≡_}
 use mathlib.Core.Bool.{Bool, false, _&&_, _||_, not, cond}
@@ -8,6 +8,7 @@ use Rattle.protocol.specs.Bytes.{Bytes, byteAt}
 use Rattle.protocol.specs.Frame.{kind, signer, frameHeight}
 use Rattle.protocol.specs.State.{Height, at, decode, isNotarized, bookHeights}
 
+-- a part of a book: its first byte, and how many bytes it has
 abbrev pub Part : Type 0
 Part = ℕ × ℕ
 
@@ -22,7 +23,7 @@ pub record SameOutside (parts : List Part) (before after : Bytes) : Type 0 where
 
 -- ---- where height `h` stands in a book of `heights` heights
 module _ (heights h : ℕ) where
-  -- its contents: 0 leader, 1 state, 2 certificate mask, 4 dummy votes, 6 finalizes, 8 voters for blocks, 10 to 15 zero
+  -- its contents: 0 leader, 1 state, 2 certificate mask, 4 dummy votes, 6 finalizes, 8 block voters, 10 to 15 zero
   abbrev pub contentAt : ℕ
   contentAt = 576 + 16 * (h - 1)
 

@@ -1,5 +1,5 @@
--- Refusals: a call tries its rows in order. It is refused if and only if one fails, by the number of the first that does, and then no
--- lent byte changes.
+-- Refusals: a call tries its rows in order. It is refused if and only if one fails, by the number of the first that
+-- does, and then no byte lent to it changes.
 use Prim.Native.Nat.{ℕ}
 use mathlib.Core.Path.{_≡_}
 use mathlib.Core.Logic.{_↔_}

@@ -139,7 +139,7 @@ module _ (digest : Bytes → Bytes) where
         same-tally (view s) (view (withHeight s (suc i) y)) (at (withHeight s (suc i) y) h) (unfold view withHeight in refl)
         (each-height s i high y (λ (k : ℕ) (z : Height). Tallied digest (view s) z) new all h from)
 
-    delivered : {news : Delivery} (frame : Bytes) (after : State) → KeepsState digest s frame news after →
+    delivered : {news : Delivery} (frame : Bytes) (after : State) → KeepsState digest s after frame news →
         1 ≤ frameHeight frame → frameHeight frame ≤ last s → AllTallied digest after
     delivered frame after keeps low high =
         let new = keeps .here .block .tallied (all (frameHeight frame) low) in

@@ -1,6 +1,6 @@
 -- The demands at SHA-256, over the bytes of books: nothing is asked of the digest here, and nothing is left open.
 --
--- Demand 1 is the contracts: each call's function answers, and leaves in every byte lent to it, what its definition says of any bytes.
+-- Demand 1 is the contracts: each function answers, and leaves in every byte lent to it, what its definition says.
 --
 --   call            definition, in protocol                    function, in replica
 --   Open            Open.openCall                              open::open
@@ -13,8 +13,8 @@
 --                   Read.readBuffer sha256, every byte         read::read_into
 --   Fetch           Fetch.fetchCall sha256                     fetch::fetch
 --
--- What these definitions say follows, demand by demand. A premise `AreBytes book` says that each number of the book is below 256,
--- as in a byte slice.
+-- What these definitions say follows, demand by demand. A premise `AreBytes book` says that each number of the book is
+-- below 256, as in a byte slice.
 use Prim.Native.Nat.{ℕ, _≤_}
 use mathlib.Core.Path.{_≡_}
 use mathlib.Core.Bool.{true}
@@ -106,7 +106,8 @@ pub signal-writes : (book : Bytes) → AreBytes book → (h : ℕ) → signalCal
     Signals book h (signalCall sha256 book h .book)
 signal-writes = signal-bytes sha256
 
-pub submit-writes : (book : Bytes) → AreBytes book → (entry : Bytes) → submitCall sha256 book entry .answer ≡ accepted done →
+pub submit-writes : (book : Bytes) → AreBytes book → (entry : Bytes) →
+    submitCall sha256 book entry .answer ≡ accepted done →
     Submits book entry (submitCall sha256 book entry .book)
 submit-writes = submit-bytes sha256
 
@@ -115,11 +116,13 @@ pub move-writes : (book : Bytes) → AreBytes book → (reply : Bytes) → sound
 move-writes = move-bytes sha256
 
 -- every call leaves a sound book sound, and Open makes a sound one of any bytes
-pub sound-stays : (call : Call) (book : Bytes) → sound sha256 book ≡ true → sound sha256 (bookAfter sha256 call book) ≡ true
+pub sound-stays : (call : Call) (book : Bytes) → sound sha256 book ≡ true →
+    sound sha256 (bookAfter sha256 call book) ≡ true
 sound-stays = sound-kept sha256
 
 pub open-makes-sound : (book : Bytes) (n own heights : ℕ) (leaders : Bytes) →
-    openCall book n own heights leaders .answer ≡ accepted done → sound sha256 (openCall book n own heights leaders .book) ≡ true
+    openCall book n own heights leaders .answer ≡ accepted done →
+    sound sha256 (openCall book n own heights leaders .book) ≡ true
 open-makes-sound = sound-opened sha256
 
 -- ---- demand 2: the five steps
@@ -134,7 +137,8 @@ pub the-five-steps : (book : Bytes) → sound sha256 book ≡ true → FiveSteps
 the-five-steps book ok = five-steps sha256 sha256-length (decode book) (sound-decode sha256 book ok)
 
 -- Move answers idle if and only if none of document 01's moves applies, and moving until idle ends
-pub idle-just-then : (book reply : Bytes) → sound sha256 book ≡ true → 448 ≤ length reply → IdlesJustThen sha256 book reply
+pub idle-just-then : (book reply : Bytes) → sound sha256 book ≡ true → 448 ≤ length reply →
+    IdlesJustThen sha256 book reply
 idle-just-then = idles-just-then sha256
 
 pub moving-ends : (book : Bytes) → MovesEnd sha256 (decode book)
@@ -146,7 +150,7 @@ pub deliveries-keep : (book frame : Bytes) (news : Delivery) → deliverCall sha
     Keeps sha256 book frame news (deliverCall sha256 book frame .book)
 deliveries-keep = deliver-keeps sha256
 
--- on every book that calls make from an opened one, a proposal held with a quorum of kept votes has its height notarized
+-- on every book that calls make from an opened one, a proposal held with a quorum of kept votes is notarized
 pub votes-are-tallied : (book : Bytes) (n own heights : ℕ) (leaders : Bytes) (calls : List Call) →
     openCall book n own heights leaders .answer ≡ accepted done →
     AllTallied sha256 (decode (bookAfterAll sha256 calls (openCall book n own heights leaders .book)))

@@ -169,13 +169,15 @@ module _ (bytes new : Bytes) (i : ℕ) (fits : i + length new ≤ length bytes) 
   unfolding put
   put-below k below =
       let s = before-size in
-      List·getD-append (take i bytes) (new ++ drop (i + length new) bytes) 0 k (omega arith) ∙ getD-take i bytes k 0 below
+      List·getD-append (take i bytes) (new ++ drop (i + length new) bytes) 0 k (omega arith) ∙
+      getD-take i bytes k 0 below
 
   put-above : (m : ℕ) → byteAt (put bytes i new) (i + (length new + m)) ≡ byteAt bytes (i + (length new + m))
   unfolding put
   put-above m =
       let past = getD-append-add (take i bytes) (new ++ drop (i + length new) bytes) (length new + m) 0 in
-      rw before-size at past ∙ getD-append-add new (drop (i + length new) bytes) m 0 ∙ getD-drop (i + length new) bytes m 0
+      rw before-size at past ∙ getD-append-add new (drop (i + length new) bytes) m 0 ∙
+      getD-drop (i + length new) bytes m 0
       ∙ ap (λ (p : ℕ). byteAt bytes p) (let e : i + length new + m ≡ i + (length new + m) = omega arith in e)
 
   pub put-other : (k : ℕ) → (k < i) ⊎ (i + length new ≤ k) → byteAt (put bytes i new) k ≡ byteAt bytes k
@@ -187,5 +189,6 @@ module _ (bytes new : Bytes) (i : ℕ) (fits : i + length new ≤ length bytes) 
   pub put-there : part (put bytes i new) i (length new) ≡ new
   unfolding put
   put-there =
-      let inner = middle-part (take i bytes) new (drop (i + length new) bytes) i before-size 0 (length new) (omega arith) in
+      let inner = middle-part (take i bytes) new (drop (i + length new) bytes) i before-size 0 (length new)
+      (omega arith) in
       rw add-zero at inner ∙ unfold part in take-length new

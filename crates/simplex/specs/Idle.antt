@@ -22,7 +22,7 @@ module _ (digest : Bytes → Bytes) where
   unfoldable pub IdleMeansNoMove : State → Type 0
   IdleMeansNoMove s = (step digest s .move ≡ idle → NoMove s) × (NoMove s → step digest s .move ≡ idle)
 
-  -- over bytes: the call answers idle if and only if no move applies, and then changes no byte of the book or the reply
+  -- over bytes: Move answers idle if and only if no move applies, and then no byte of the book or the reply changes
   pub record IdlesJustThen (book reply : Bytes) : Type 0 where
     pub just-then : (moveCall digest book reply .answer ≡ accepted idle) ↔ NoMove (decode book)
     pub unchanged : AreBytes book → moveCall digest book reply .answer ≡ accepted idle →

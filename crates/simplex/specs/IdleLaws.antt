@@ -48,7 +48,8 @@ pub step-idle : (digest : Bytes → Bytes) (s : State) → NoMove digest s → s
 unfolding step firstStep
 step-idle digest s q = rw (q .no-dummy-vote, q .no-output, q .no-pass, q .no-proposal, q .no-block-vote)
 
-module _ (digest : Bytes → Bytes) (book reply : Bytes) (ok : sound digest book ≡ true) (room : 448 ≤ length reply) where
+module _ (digest : Bytes → Bytes) (book reply : Bytes) (ok : sound digest book ≡ true)
+    (room : 448 ≤ length reply) where
   move-made : moveCall digest book reply ≡ moved reply (step digest (decode book))
   unfolding moveCall moveRows firstRefusal unlessMoveRefused
   move-made = rw (ok, le-leb 448 (length reply) room)

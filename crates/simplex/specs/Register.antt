@@ -1,4 +1,4 @@
--- What Register size and Read give of a book: the linearization of the finalized blockchain that ends at g, or nothing.
+-- What Register size and Read give: the linearization of the finalized blockchain that ends at g, or nothing.
 use Prim.Native.Nat.{ℕ, _*_, _<_}
 use mathlib.Core.Path.{_≡_}
 use mathlib.Core.Logic.{_⊎_}
@@ -28,4 +28,5 @@ pub record ReadsChain (digest : Bytes → Bytes) (book buffer : Bytes) (size : �
 -- size refuses, or the buffer is shorter than the size
 unfoldable pub CannotRead : (Bytes → Bytes) → Bytes → Bytes → Type 0
 CannotRead digest book buffer =
-    ((number : ℕ) × (sizeCall digest book ≡ refused number)) ⊎ ((size : ℕ) × (sizeCall digest book ≡ accepted size) × (length buffer < size))
+    ((number : ℕ) × (sizeCall digest book ≡ refused number)) ⊎
+    ((size : ℕ) × (sizeCall digest book ≡ accepted size) × (length buffer < size))

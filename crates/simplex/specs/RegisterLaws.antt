@@ -33,7 +33,8 @@ module _ (digest : Bytes → Bytes) (book : Bytes) where
       go true e = (e, refl)
       go false e = e
 
-  pub reads-chain : (buffer : Bytes) (size : ℕ) → sizeCall digest book ≡ accepted size → size ≤ length buffer → ReadsChain digest book buffer size
+  pub reads-chain : (buffer : Bytes) (size : ℕ) → sizeCall digest book ≡ accepted size → size ≤ length buffer →
+      ReadsChain digest book buffer size
   unfolding readPart readBuffer overFront Said
   reads-chain buffer size e fits =
       let (ok, is) = said (accepted size) e in
@@ -41,7 +42,8 @@ module _ (digest : Bytes → Bytes) (book : Bytes) where
       let chain = in-the-papers-terms digest (decode book) state .log-is in
       let found : leb (logSize book) (length buffer) ≡ true = le-leb (logSize book) (length buffer) (omega arith) in
       let part : readPart digest book buffer ≡ join (log (decode book)) = rw (ok, found) in
-      let bytes : length (join (log (decode book))) ≡ size = log-bytes digest (decode book) state ∙ sym (is ∙ unfold logSize in refl) in
+      let bytes : length (join (log (decode book))) ≡ size = log-bytes digest (decode book) state ∙
+      sym (is ∙ unfold logSize in refl) in
       record {
         sequence = chain .sequence;
         finalized = chain .finalized;
@@ -53,7 +55,8 @@ module _ (digest : Bytes → Bytes) (book : Bytes) where
       }
 
   -- else nothing is returned and nothing written
-  pub reads-nothing : (buffer : Bytes) → CannotRead digest book buffer → (readPart digest book buffer ≡ []) × (readBuffer digest book buffer ≡ buffer)
+  pub reads-nothing : (buffer : Bytes) → CannotRead digest book buffer →
+      (readPart digest book buffer ≡ []) × (readBuffer digest book buffer ≡ buffer)
   unfolding CannotRead readBuffer
   reads-nothing buffer cannot = let e = empty cannot in (e, rw e (front-none buffer))
     where

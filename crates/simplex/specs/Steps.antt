@@ -41,7 +41,8 @@ module _ (digest : Bytes → Bytes) (s : State) where
   -- the replica leads, has not proposed, and has seen a notarized blockchain of the height before
   abbrev pub MayPropose : Type 0
   MayPropose =
-      Running × (at s (s .current) .leader ≡ s .own) × (flag 8 s ≡ false) × SeenOfHeight digest (view s) (s .current - 1)
+      Running × (at s (s .current) .leader ≡ s .own) × (flag 8 s ≡ false) ×
+      SeenOfHeight digest (view s) (s .current - 1)
 
   unfoldable pub LeaderProposal : Type 0
   LeaderProposal =
@@ -95,7 +96,8 @@ module _ (digest : Bytes → Bytes) (s : State) where
   unfoldable pub NextIteration : Type 0
   NextIteration =
       dummyVoteApplies s ≡ false → outputApplies digest s ≡ false →
-      (((certificate : Certificate) × (finalized : Bool) × (step digest s .move ≡ pass (s .current) certificate finalized)) ↔ MayPass) ×
+      (((certificate : Certificate) × (finalized : Bool) ×
+      (step digest s .move ≡ pass (s .current) certificate finalized)) ↔ MayPass) ×
       (Running → SeenWithBlock digest (view s) (s .current) → Passes onBlock) ×
       (Running → SeenOfHeight digest (view s) (s .current) → (SeenWithBlock digest (view s) (s .current) → ⊥) → Passes onDummy)
 
@@ -125,7 +127,7 @@ module _ (digest : Bytes → Bytes) (s : State) where
   unfoldable pub Idling : Type 0
   Idling = ((step digest s .move ≡ idle) ↔ NoStep) × (NoStep → Makes idle [] s)
 
-  -- ---- a move is one of these six: each names the current height, but an output the new finalized height, and idle none
+  -- ---- a move is one of six: each names the current height, but an output the new finalized height, and idle none
   pub data OneOfSix : Move → Type 0 where
     itIdles : OneOfSix idle
     itVotesDummy : OneOfSix (voteDummy (s .current))

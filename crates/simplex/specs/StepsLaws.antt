@@ -334,7 +334,8 @@ module _ (digest : Bytes → Bytes) (s : State) where
     no-move : NoStep digest s → NoMove digest s
     no-move q = record {
       no-dummy-vote = not-passed _ (λ e. q .no-dummy-vote (dummy-when e));
-      no-output = not-passed _ (λ e. q .no-output (newFinalized digest s, output-seen e .0, largest .within, output-seen e .1, output-seen e .2));
+      no-output = not-passed _ (λ e. q .no-output
+          (newFinalized digest s, output-seen e .0, largest .within, output-seen e .1, output-seen e .2));
       no-pass = not-passed _ (λ e. q .no-pass (pass-seen e));
       no-proposal = not-passed _ (λ e. q .no-proposal (propose-when e));
       no-block-vote = not-passed _ (λ e. q .no-block-vote (block-when e));
