@@ -44,12 +44,13 @@ module _ (n k : ℕ) (frame : Bytes) (x y : Height) where
     pub this-proposal : k ≡ 1 → y .proposal ≡ frameBlock frame
 
 module _ (digest : Bytes → Bytes) (v : View) where
-  abbrev pub voters : Height → ℕ
-  voters x = votersFor x (digest (x .proposal)) (v .n)
+  -- the replicas whose kept vote is for the held proposal
+  abbrev pub heldVoters : Height → ℕ
+  heldVoters x = votersFor x (digest (x .proposal)) (v .n)
 
-  -- the replicas whose kept vote is for the held proposal are a quorum
+  -- they are a quorum
   unfoldable pub Voted : Height → Type 0
-  Voted x = (holdsProposal x ≡ true) × (quorum v (voters x) ≡ true)
+  Voted x = (holdsProposal x ≡ true) × (quorum v (heldVoters x) ≡ true)
 
   -- no such quorum is overlooked, as where no proposal is held
   unfoldable pub Tallied : Height → Type 0
@@ -57,7 +58,7 @@ module _ (digest : Bytes → Bytes) (v : View) where
 
   -- the notarized block is the held proposal, and its certificate is signed by all who voted for it
   unfoldable pub ByVotes : Height → Type 0
-  ByVotes y = Voted y × (y .notarized ≡ y .proposal) × (y .certificateMask ≡ voters y)
+  ByVotes y = Voted y × (y .notarized ≡ y .proposal) × (y .certificateMask ≡ heldVoters y)
 
   -- the notarized block
   pub record KeepsBlock (news : Delivery) (k : ℕ) (frame : Bytes) (x y : Height) : Type 0 where

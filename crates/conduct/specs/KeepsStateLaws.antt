@@ -28,7 +28,7 @@ use Rattle.protocol.specs.PlaceLaws.{with-at, at-with}
 use Rattle.protocol.specs.SoundLaws.{SoundState, sound-decode}
 use Rattle.protocol.specs.VoteLaws.{vote-same, vote-other}
 use Rattle.conduct.specs.DeliverKeptLaws.{ReadFacts, read-facts, by-kind, keep-sound, shaped, digest-size, signer-small}
-use Rattle.conduct.specs.Keeping.{says, KeepsState, KeepsMasks, KeepsVotes, KeepsProposal, KeepsBlock, KeepsAt, Voted, Tallied, ByVotes, voters}
+use Rattle.conduct.specs.Keeping.{says, KeepsState, KeepsMasks, KeepsVotes, KeepsProposal, KeepsBlock, KeepsAt, Voted, Tallied, ByVotes, heldVoters}
 
 pub refused≢accepted : {A : Type 0} (number : ℕ) (answer : A) → refused number ≡ accepted answer → ⊥
 refused≢accepted number answer e = true≢false (let impossible : true ≡ false = cc in impossible)
@@ -129,11 +129,11 @@ module _ (digest : Bytes → Bytes) (v : View) (news : Delivery) (k : ℕ) (fram
 module _ (digest : Bytes → Bytes) (v : View) (k : ℕ) (counts : (k ≡ 1) ⊎ (k ≡ 2)) (frame : Bytes) (x : Height) where
   -- after a proposal or a vote was kept in `z`, its votes are counted
   module _ (z : Height) (other : eqb k 5 ≡ false) (status : isNotarized z ≡ isNotarized x) (block : z .notarized ≡ x .notarized) (mask : z .certificateMask ≡ x .certificateMask) where
-    by-votes : holdsProposal z ≡ true → quorum v (voters digest v z) ≡ true → ByVotes digest v (withNotarized z (voters digest v z) (z .proposal))
+    by-votes : holdsProposal z ≡ true → quorum v (heldVoters digest v z) ≡ true → ByVotes digest v (withNotarized z (heldVoters digest v z) (z .proposal))
     unfolding ByVotes Voted withNotarized votersFor voteOf
-    by-votes held enough = ((holds-notarized z (voters digest v z) (z .proposal) ∙ held, enough), refl, refl)
+    by-votes held enough = ((holds-notarized z (heldVoters digest v z) (z .proposal) ∙ held, enough), refl, refl)
 
-    overlooked : allOf (not (isNotarized z) ∷ holdsProposal z ∷ quorum v (voters digest v z) ∷ []) ≡ false → Tallied digest v z
+    overlooked : allOf (not (isNotarized z) ∷ holdsProposal z ∷ quorum v (heldVoters digest v z) ∷ []) ≡ false → Tallied digest v z
     unfolding Tallied Voted allOf
     overlooked e (held, enough) = go (isNotarized z) refl
       where
@@ -145,7 +145,7 @@ module _ (digest : Bytes → Bytes) (v : View) (k : ℕ) (counts : (k ≡ 1) ⊎
     unfolding notarize Tallied
     counted =
         cond-elim (KeepsBlock digest v fresh k frame x)
-        (allOf (not (isNotarized z) ∷ holdsProposal z ∷ quorum v (voters digest v z) ∷ []))
+        (allOf (not (isNotarized z) ∷ holdsProposal z ∷ quorum v (heldVoters digest v z) ∷ []))
         (λ e. record {
           first-block = λ has. absurd (true≢false (sym (status ∙ has) ∙ not-true _ (row _ 0 e)));
           this-block = λ is. absurd (eqb-false k 5 other is);
@@ -193,8 +193,8 @@ module _ (digest : Bytes → Bytes) (v : View) (frame : Bytes) (x : Height) wher
   notarize-too : (k : ℕ) (z : Height) → Before k z → Before k (notarize digest v z)
   unfolding notarize
   notarize-too k z is =
-      cond-elim (Before k) (allOf (not (isNotarized z) ∷ holdsProposal z ∷ quorum v (voters digest v z) ∷ []))
-      (λ _. notarized-too k z (voters digest v z) (z .proposal) is) (λ _. is)
+      cond-elim (Before k) (allOf (not (isNotarized z) ∷ holdsProposal z ∷ quorum v (heldVoters digest v z) ∷ []))
+      (λ _. notarized-too k z (heldVoters digest v z) (z .proposal) is) (λ _. is)
 
   whole : {news : Delivery} (k : ℕ) (y : Height) → Before k y → KeepsBlock digest v news k frame x y →
       KeepsAt digest v news k frame x y
