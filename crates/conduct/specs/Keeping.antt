@@ -5,7 +5,7 @@
 use Prim.Native.Nat.{ℕ, _≤_, _<_}
 use mathlib.Core.Path.{_≡_}
 use mathlib.Core.Logic.{_⊎_, _≢_}
-use mathlib.Core.Bool.{Bool, true, _&&_, _||_, cond}
+use mathlib.Core.Bool.{Bool, true, false, _&&_, _||_, cond}
 use lib.Dec.{eqb}
 use lib.ListN.{length}
 use Rattle.protocol.specs.Bytes.{Bytes, byteAt}
@@ -23,6 +23,11 @@ use Rattle.conduct.specs.KeptBytes.{SameOutside, deliveryParts}
 unfoldable pub says : (k statement certificate : ℕ) → Bytes → ℕ → Bool
 says k statement certificate frame t =
     cond (eqb k statement) (eqb (signer frame) t) (eqb k certificate && inMask (signerMask frame) t)
+
+-- a proposal where none is held, or a replica's first vote for a block
+unfoldable pub NewlyKept : ℕ → Bytes → Height → Type 0
+NewlyKept k frame x =
+    ((k ≡ 1) × (holdsProposal x ≡ false)) ⊎ ((k ≡ 2) × (inMask (x .voterMask) (signer frame) ≡ false))
 
 -- ---- one height, `x` before and `y` after a frame of kind `k`
 module _ (n k : ℕ) (frame : Bytes) (x y : Height) where
@@ -61,37 +66,35 @@ module _ (digest : Bytes → Bytes) (v : View) where
   ByVotes y = Voted y × (y .notarized ≡ y .proposal) × (y .certificateMask ≡ heldVoters y)
 
   -- the notarized block
-  pub record KeepsBlock (news : Delivery) (k : ℕ) (frame : Bytes) (x y : Height) : Type 0 where
+  pub record KeepsBlock (k : ℕ) (frame : Bytes) (x y : Height) : Type 0 where
     -- the first one stays, with its certificate
     pub first-block : isNotarized x ≡ true →
         (isNotarized y ≡ true) × (y .notarized ≡ x .notarized) × (y .certificateMask ≡ x .certificateMask)
-    -- a certificate's block is notarized, and one that is news is kept with the signers that the frame names
+    -- a certificate's block is notarized, where none was with the signers that the frame names
     pub this-block : k ≡ 5 → (isNotarized y ≡ true) × (y .notarized ≡ frameBlock frame)
-    pub this-certificate : k ≡ 5 → news ≡ fresh → y .certificateMask ≡ signerMask frame
+    pub this-certificate : k ≡ 5 → isNotarized x ≡ false → y .certificateMask ≡ signerMask frame
     -- when a proposal or a vote is newly kept the votes are counted, and no quorum that was counted is lost
-    pub counted : (k ≡ 1) ⊎ (k ≡ 2) → news ≡ fresh → Tallied y
+    pub counted : NewlyKept k frame x → Tallied y
     pub tallied : Tallied x → Tallied y
     -- and nothing else notarizes
     pub only-so : isNotarized y ≡ true →
-        (isNotarized x ≡ true) ⊎ ((k ≡ 5) ⊎ (((k ≡ 1) ⊎ (k ≡ 2)) × ByVotes y))
+        (isNotarized x ≡ true) ⊎ ((k ≡ 5) ⊎ (NewlyKept k frame x × ByVotes y))
 
-  pub record KeepsAt (news : Delivery) (k : ℕ) (frame : Bytes) (x y : Height) : Type 0 where
+  pub record KeepsAt (k : ℕ) (frame : Bytes) (x y : Height) : Type 0 where
     pub leader : y .leader ≡ x .leader
     pub masks : KeepsMasks (v .n) k frame x y
     pub votes : KeepsVotes (v .n) k frame x y
     pub proposal : KeepsProposal (v .n) k frame x y
-    pub block : KeepsBlock news k frame x y
+    pub block : KeepsBlock k frame x y
 
 -- every height of a state is tallied
 abbrev pub AllTallied : (Bytes → Bytes) → State → Type 0
 AllTallied digest s = (h : ℕ) → 1 ≤ h → Tallied digest (view s) (at s h)
 
--- ---- a state, and the one after a delivery that answered `news`: only the frame's height has changed, and there
--- what the frame states is kept
-pub record KeepsState (digest : Bytes → Bytes) (s s′ : State) (frame : Bytes) (news : Delivery) : Type 0 where
+-- ---- a state, and the one after a delivery: only the frame's height has changed, and there its statement is kept
+pub record KeepsState (digest : Bytes → Bytes) (s s′ : State) (frame : Bytes) : Type 0 where
   pub elsewhere : s′ ≡ withHeight s (frameHeight frame) (at s′ (frameHeight frame))
-  pub here :
-      KeepsAt digest (view s) news (kind frame) frame (at s (frameHeight frame)) (at s′ (frameHeight frame))
+  pub here : KeepsAt digest (view s) (kind frame) frame (at s (frameHeight frame)) (at s′ (frameHeight frame))
 
 -- ---- the bytes of a book, and those after a delivery that answered `news`
 pub record Keeps (digest : Bytes → Bytes) (book frame : Bytes) (news : Delivery) (after : Bytes) : Type 0 where
@@ -102,5 +105,5 @@ pub record Keeps (digest : Bytes → Bytes) (book frame : Bytes) (news : Deliver
   pub other-bytes : AreBytes book → SameOutside (deliveryParts book frame after) book after
   pub same-length : length after ≡ length book
   -- and they hold what the frame states, with no bit of a mask from n up and no state above 3, as in each sound book
-  pub keeps : KeepsState digest (decode book) (decode after) frame news
+  pub keeps : KeepsState digest (decode book) (decode after) frame
   pub stays-sound : sound digest after ≡ true

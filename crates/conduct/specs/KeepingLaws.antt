@@ -5,13 +5,13 @@ use native.Mathlib.Decide.{ℕ-discrete}
 use mathlib.Core.Path.{_≡_, refl, sym, ap, subst, _∙_}
 use mathlib.Core.Logic.{_≢_}
 use mathlib.Core.List.{List, [], _∷_}
-use mathlib.Core.Bool.{true}
+use mathlib.Core.Bool.{true, false, true≢false}
 use mathlib.Core.Option.{Option, some, none}
 use lib.ListN.{length, length-set}
 use Rattle.protocol.specs.Bytes.{Bytes, byteAt}
 use Rattle.protocol.specs.Tests.{firstRefusal}
 use Rattle.protocol.specs.BytesLaws.{AreBytes}
-use Rattle.protocol.specs.Answer.{Outcome, accepted, Delivery, unlessRefused}
+use Rattle.protocol.specs.Answer.{Outcome, accepted, Delivery, known, fresh, unlessRefused}
 use Rattle.protocol.specs.Frame.{frameHeight}
 use Rattle.protocol.specs.State.{State, Height, at, last, withHeight, encode, decode}
 use Rattle.protocol.specs.Sound.{sound}
@@ -24,7 +24,7 @@ use Rattle.protocol.specs.SoundLaws.{SoundState, exact, sound-decode, encode-de
 use Rattle.conduct.specs.DeliverKeptLaws.{keep-sound}
 use Rattle.conduct.specs.KeptBytes.{Part, SameOutside, deliveryParts}
 use Rattle.conduct.specs.KeptBytesLaws.{keep-only, keep-other}
-use Rattle.conduct.specs.KeepsStateLaws.{refused≢accepted, known≢fresh, newsOf, at-placed, placed-same, facts, outcome}
+use Rattle.conduct.specs.KeepsStateLaws.{refused≢accepted, at-placed, placed-same, facts, outcome}
 use Rattle.conduct.specs.Keeping.{Keeps}
 
 -- two byte strings of the same length that are not the same differ at a byte
@@ -41,6 +41,14 @@ differ (x ∷ xs) (y ∷ ys) size other = go (ℕ-discrete x y) (λ e. differ xs
 
 from-same : {parts : List Part} {a b c : Bytes} → a ≡ b → SameOutside parts a c → SameOutside parts b c
 from-same {parts} {c = c} e same = subst (λ (z : Bytes). SameOutside parts z c) e same
+
+known≢fresh : known ≡ fresh → ⊥
+known≢fresh e = true≢false (let impossible : true ≡ false = cc in impossible)
+
+-- the answer where a height changes to another, and where none does
+newsOf : Option Height → Delivery
+newsOf none = known
+newsOf (some y) = fresh
 
 module _ (digest : Bytes → Bytes) (book frame : Bytes) (passes : firstRefusal (deliverRows digest book frame) ≡ none) where
   abbrev s : State

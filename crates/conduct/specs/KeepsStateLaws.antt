@@ -12,7 +12,7 @@ use lib.Dec.{eqb, leb}
 use borrow.Author.Tests.{eqb-true, eqb-false, eq-eqb, leb-true, leb-false, le-leb, not-true}
 use Rattle.protocol.specs.Bytes.{Bytes, same}
 use Rattle.protocol.specs.Tests.{allOf, implies, inRange, firstRefusal}
-use Rattle.protocol.specs.Answer.{refused, accepted, Delivery, known, fresh}
+use Rattle.protocol.specs.Answer.{refused, accepted}
 use Rattle.protocol.specs.Mask.{inMask, union}
 use Rattle.protocol.specs.Frame.{kind, signer, frameHeight, signerMask, frameDigest, frameBlock, isStatement}
 use Rattle.protocol.specs.State.{State, Height, at, last, withHeight, decode, holdsProposal, isNotarized, voteOf}
@@ -28,13 +28,10 @@ use Rattle.protocol.specs.PlaceLaws.{with-at, at-with}
 use Rattle.protocol.specs.SoundLaws.{SoundState, sound-decode}
 use Rattle.protocol.specs.VoteLaws.{vote-same, vote-other}
 use Rattle.conduct.specs.DeliverKeptLaws.{ReadFacts, read-facts, by-kind, keep-sound, shaped, digest-size, signer-small}
-use Rattle.conduct.specs.Keeping.{says, KeepsState, KeepsMasks, KeepsVotes, KeepsProposal, KeepsBlock, KeepsAt, Voted, Tallied, ByVotes, heldVoters}
+use Rattle.conduct.specs.Keeping.{says, NewlyKept, KeepsState, KeepsMasks, KeepsVotes, KeepsProposal, KeepsBlock, KeepsAt, Voted, Tallied, ByVotes, heldVoters}
 
 pub refused≢accepted : {A : Type 0} (number : ℕ) (answer : A) → refused number ≡ accepted answer → ⊥
 refused≢accepted number answer e = true≢false (let impossible : true ≡ false = cc in impossible)
-
-pub known≢fresh : known ≡ fresh → ⊥
-known≢fresh e = true≢false (let impossible : true ≡ false = cc in impossible)
 
 -- ---- bits of masks
 or-none : (b : Bool) → b ≡ (b || false)
@@ -113,10 +110,10 @@ module _ (n k : ℕ) (frame : Bytes) (x y : Height) where
     this-proposal = λ is. absurd (eqb-false k 1 other is);
   }
 
-module _ (digest : Bytes → Bytes) (v : View) (news : Delivery) (k : ℕ) (frame : Bytes) (x : Height) where
+module _ (digest : Bytes → Bytes) (v : View) (k : ℕ) (frame : Bytes) (x : Height) where
   same-block : (y : Height) → eqb k 5 ≡ false → isNotarized y ≡ isNotarized x → y .notarized ≡ x .notarized → y .certificateMask ≡ x .certificateMask →
-      ((k ≡ 1) ⊎ (k ≡ 2) → news ≡ fresh → Tallied digest v y) → (Tallied digest v x → Tallied digest v y) →
-      KeepsBlock digest v news k frame x y
+      (NewlyKept k frame x → Tallied digest v y) → (Tallied digest v x → Tallied digest v y) →
+      KeepsBlock digest v k frame x y
   same-block y other e e′ e″ count tally = record {
     first-block = λ has. (e ∙ has, e′, e″);
     this-block = λ is. absurd (eqb-false k 5 other is);
@@ -126,7 +123,7 @@ module _ (digest : Bytes → Bytes) (v : View) (news : Delivery) (k : ℕ) (fram
     only-so = λ has. inl (sym e ∙ has);
   }
 
-module _ (digest : Bytes → Bytes) (v : View) (k : ℕ) (counts : (k ≡ 1) ⊎ (k ≡ 2)) (frame : Bytes) (x : Height) where
+module _ (digest : Bytes → Bytes) (v : View) (k : ℕ) (frame : Bytes) (x : Height) (new : NewlyKept k frame x) where
   -- after a proposal or a vote was kept in `z`, its votes are counted
   module _ (z : Height) (other : eqb k 5 ≡ false) (status : isNotarized z ≡ isNotarized x) (block : z .notarized ≡ x .notarized) (mask : z .certificateMask ≡ x .certificateMask) where
     by-votes : holdsProposal z ≡ true → quorum v (heldVoters digest v z) ≡ true → ByVotes digest v (withNotarized z (heldVoters digest v z) (z .proposal))
@@ -141,34 +138,30 @@ module _ (digest : Bytes → Bytes) (v : View) (k : ℕ) (counts : (k ≡ 1) ⊎
         go true f = f
         go false f = absurd (true≢false (rw (f, held, enough) at e))
 
-    counted : KeepsBlock digest v fresh k frame x (notarize digest v z)
+    counted : KeepsBlock digest v k frame x (notarize digest v z)
     unfolding notarize Tallied
     counted =
-        cond-elim (KeepsBlock digest v fresh k frame x)
+        cond-elim (KeepsBlock digest v k frame x)
         (allOf (not (isNotarized z) ∷ holdsProposal z ∷ quorum v (heldVoters digest v z) ∷ []))
         (λ e. record {
           first-block = λ has. absurd (true≢false (sym (status ∙ has) ∙ not-true _ (row _ 0 e)));
           this-block = λ is. absurd (eqb-false k 5 other is);
           this-certificate = λ is _. absurd (eqb-false k 5 other is);
-          counted = λ _ _ _. is-notarized z _ _;
+          counted = λ _ _. is-notarized z _ _;
           tallied = λ _ _. is-notarized z _ _;
-          only-so = λ has. inr (inr (counts, by-votes (row _ 1 e) (row _ 2 e)));
+          only-so = λ has. inr (inr (new, by-votes (row _ 1 e) (row _ 2 e)));
         })
-        (λ e. same-block digest v fresh k frame x z other status block mask (λ _ _. overlooked e) (λ _. overlooked e))
+        (λ e. same-block digest v k frame x z other status block mask (λ _. overlooked e) (λ _. overlooked e))
 
 -- ---- each kind of frame, for a height that may be kept as it is
--- the answer, and the height after a delivery: the new one, or the old one where the frame is known
-unfoldable pub newsOf : Option Height → Delivery
-newsOf none = known
-newsOf (some y) = fresh
-
+-- the height after a delivery: the new one, or the old one where the frame is known
 unfoldable left : Height → Option Height → Height
 left x none = x
 left x (some y) = y
 
 module _ (digest : Bytes → Bytes) (v : View) (frame : Bytes) (x : Height) where
   abbrev Kept : ℕ → Option Height → Type 0
-  Kept k o = KeepsAt digest v (newsOf o) k frame x (left x o)
+  Kept k o = KeepsAt digest v k frame x (left x o)
 
   -- the parts that counting the votes leaves alone
   pub record Before (k : ℕ) (y : Height) : Type 0 where
@@ -196,13 +189,18 @@ module _ (digest : Bytes → Bytes) (v : View) (frame : Bytes) (x : Height) wher
       cond-elim (Before k) (allOf (not (isNotarized z) ∷ holdsProposal z ∷ quorum v (heldVoters digest v z) ∷ []))
       (λ _. notarized-too k z (heldVoters digest v z) (z .proposal) is) (λ _. is)
 
-  whole : {news : Delivery} (k : ℕ) (y : Height) → Before k y → KeepsBlock digest v news k frame x y →
-      KeepsAt digest v news k frame x y
+  whole : (k : ℕ) (y : Height) → Before k y → KeepsBlock digest v k frame x y → KeepsAt digest v k frame x y
   whole k y is block = record { leader = is .leader; masks = is .masks; votes = is .votes; proposal = is .proposal; block = block }
 
-  known-block : (k : ℕ) → eqb k 5 ≡ false → KeepsBlock digest v known k frame x x
-  known-block k other = same-block digest v known k frame x x other refl refl refl (λ _ e. absurd (known≢fresh e))
-      (λ t. t)
+  known-block : (k : ℕ) → eqb k 5 ≡ false → (NewlyKept k frame x → ⊥) → KeepsBlock digest v k frame x x
+  known-block k other known = same-block digest v k frame x x other refl refl refl (λ new. absurd (known new)) (λ t. t)
+
+  -- a proposal where one is held, or a vote of a replica that voted, is not newly kept; nor is a frame of another kind
+  not-new : (k : ℕ) → (k ≡ 1 → holdsProposal x ≡ true) → (k ≡ 2 → inMask (x .voterMask) (signer frame) ≡ true) →
+      NewlyKept k frame x → ⊥
+  unfolding NewlyKept
+  not-new k held voted (inl (e, free)) = true≢false (sym (held e) ∙ free)
+  not-new k held voted (inr (e, free)) = true≢false (sym (voted e) ∙ free)
 
   -- ---- kind 1
   new-proposal : holdsProposal x ≡ false → Before 1 (withProposal x (frameBlock frame))
@@ -222,7 +220,7 @@ module _ (digest : Bytes → Bytes) (v : View) (frame : Bytes) (x : Height) wher
       odd = eqb-false _ _ free
 
   proposal-keeps : (holdsProposal x ≡ true → x .proposal ≡ frameBlock frame) → Kept 1 (keepProposal digest v x frame)
-  unfolding keepProposal left newsOf says
+  unfolding keepProposal left says
   proposal-keeps agrees =
       cond-elim (Kept 1) (holdsProposal x)
       (λ held. whole 1 x
@@ -232,10 +230,10 @@ module _ (digest : Bytes → Bytes) (v : View) (frame : Bytes) (x : Height) wher
         votes = same-votes (v .n) 1 frame x x refl refl refl;
         proposal = record { holds = rw held; first-proposal = λ _. refl; this-proposal = λ _. agrees held };
       })
-      (known-block 1 refl))
+      (known-block 1 refl (not-new 1 (λ _. held) (λ e. absurd (omega arith)))))
       (λ free. whole 1 (notarize digest v (withProposal x (frameBlock frame)))
       (notarize-too 1 (withProposal x (frameBlock frame)) (new-proposal free))
-      (counted digest v 1 (inl refl) frame x (withProposal x (frameBlock frame)) refl
+      (counted digest v 1 frame x (unfold NewlyKept in inl (refl, free)) (withProposal x (frameBlock frame)) refl
       (proposal-status x (frameBlock frame) free) (unfold withProposal in refl) (unfold withProposal in refl)))
 
   -- ---- kind 2
@@ -254,7 +252,7 @@ module _ (digest : Bytes → Bytes) (v : View) (frame : Bytes) (x : Height) wher
     }
 
     vote-keeps : (inMask (x .voterMask) (signer frame) ≡ true → voteOf x (signer frame) ≡ frameDigest frame) → Kept 2 (keepBlockVote digest v x frame)
-    unfolding keepBlockVote left newsOf says
+    unfolding keepBlockVote left says
     vote-keeps agrees =
         cond-elim (Kept 2) (inMask (x .voterMask) (signer frame))
         (λ has. whole 2 x
@@ -268,41 +266,40 @@ module _ (digest : Bytes → Bytes) (v : View) (frame : Bytes) (x : Height) wher
           };
           proposal = same-proposal (v .n) 2 frame x x refl refl refl;
         })
-        (known-block 2 refl))
+        (known-block 2 refl (not-new 2 (λ e. absurd (omega arith)) (λ _. has))))
         (λ free. whole 2 (notarize digest v (withVote x (signer frame) (frameDigest frame)))
         (notarize-too 2 (withVote x (signer frame) (frameDigest frame)) (new-vote free))
-        (counted digest v 2 (inr refl) frame x (withVote x (signer frame) (frameDigest frame)) refl
+        (counted digest v 2 frame x (unfold NewlyKept in inr (refl, free)) (withVote x (signer frame) (frameDigest frame)) refl
         (unfold withVote isNotarized in refl) (unfold withVote in refl) (unfold withVote in refl)))
 
   -- ---- kinds 3, 4, 6 and 7: one of two masks grows
+  other-kind : (k : ℕ) → eqb k 1 ≡ false → eqb k 2 ≡ false → NewlyKept k frame x → ⊥
+  other-kind k one two = not-new k (λ e. absurd (eqb-false k 1 one e)) (λ e. absurd (eqb-false k 2 two e))
+
   new-masks : (k a b : ℕ) → eqb k 1 ≡ false → eqb k 2 ≡ false → eqb k 5 ≡ false →
-      KeepsMasks (v .n) k frame x (withMasks x a b) → KeepsAt digest v fresh k frame x (withMasks x a b)
+      KeepsMasks (v .n) k frame x (withMasks x a b) → KeepsAt digest v k frame x (withMasks x a b)
   unfolding withMasks holdsProposal isNotarized voteOf votersFor Tallied Voted
   new-masks k a b one two five masks = record {
     leader = refl;
     masks = masks;
     votes = same-votes (v .n) k frame x (withMasks x a b) two refl refl;
     proposal = same-proposal (v .n) k frame x (withMasks x a b) one refl refl;
-    block = same-block digest v fresh k frame x (withMasks x a b) five refl refl refl (λ is _. absurd (no-vote is))
+    block = same-block digest v k frame x (withMasks x a b) five refl refl refl (λ new. absurd (other-kind k one two new))
         (λ t. t);
   }
-    where
-      no-vote : (k ≡ 1) ⊎ (k ≡ 2) → ⊥
-      no-vote (inl e) = eqb-false k 1 one e
-      no-vote (inr e) = eqb-false k 2 two e
 
   old-masks : (k : ℕ) → eqb k 1 ≡ false → eqb k 2 ≡ false → eqb k 5 ≡ false → KeepsMasks (v .n) k frame x x →
-      KeepsAt digest v known k frame x x
+      KeepsAt digest v k frame x x
   old-masks k one two five masks = record {
     leader = refl;
     masks = masks;
     votes = same-votes (v .n) k frame x x two refl refl;
     proposal = same-proposal (v .n) k frame x x one refl refl;
-    block = known-block k five;
+    block = known-block k five (other-kind k one two);
   }
 
   dummy-keeps : Kept 3 (keepDummyVote x frame)
-  unfolding keepDummyVote left newsOf says withMasks
+  unfolding keepDummyVote left says withMasks
   dummy-keeps =
       cond-elim (Kept 3) (inMask (x .dummyMask) (signer frame))
       (λ has. old-masks 3 refl refl refl (record { dummies = λ t l. known-bit (x .dummyMask) (signer frame) t has; finalizes = λ t l. or-none _ }))
@@ -310,7 +307,7 @@ module _ (digest : Bytes → Bytes) (v : View) (frame : Bytes) (x : Height) wher
       (record { dummies = λ t l. new-bit (x .dummyMask) (signer frame) t free; finalizes = λ t l. or-none _ }))
 
   finalize-keeps : Kept 4 (keepFinalize x frame)
-  unfolding keepFinalize left newsOf says withMasks
+  unfolding keepFinalize left says withMasks
   finalize-keeps =
       cond-elim (Kept 4) (inMask (x .finalizeMask) (signer frame))
       (λ has. old-masks 4 refl refl refl (record { dummies = λ t l. or-none _; finalizes = λ t l. known-bit (x .finalizeMask) (signer frame) t has }))
@@ -318,7 +315,7 @@ module _ (digest : Bytes → Bytes) (v : View) (frame : Bytes) (x : Height) wher
       (record { dummies = λ t l. or-none _; finalizes = λ t l. new-bit (x .finalizeMask) (signer frame) t free }))
 
   dummy-certificate-keeps : Kept 6 (keepDummyCertificate (v .n) x frame)
-  unfolding keepDummyCertificate left newsOf says withMasks
+  unfolding keepDummyCertificate left says withMasks
   dummy-certificate-keeps =
       cond-elim (Kept 6) (eqb (union (v .n) (x .dummyMask) (signerMask frame)) (x .dummyMask))
       (λ e. old-masks 6 refl refl refl (record { dummies = λ t l. known-bits (x .dummyMask) (signerMask frame) t l (eqb-true _ _ e); finalizes = λ t l. or-none _ }))
@@ -326,7 +323,7 @@ module _ (digest : Bytes → Bytes) (v : View) (frame : Bytes) (x : Height) wher
       (record { dummies = λ t l. union-bit (v .n) (x .dummyMask) (signerMask frame) t l; finalizes = λ t l. or-none _ }))
 
   finalize-certificate-keeps : Kept 7 (keepFinalizeCertificate (v .n) x frame)
-  unfolding keepFinalizeCertificate left newsOf says withMasks
+  unfolding keepFinalizeCertificate left says withMasks
   finalize-certificate-keeps =
       cond-elim (Kept 7) (eqb (union (v .n) (x .finalizeMask) (signerMask frame)) (x .finalizeMask))
       (λ e. old-masks 7 refl refl refl (record { dummies = λ t l. or-none _; finalizes = λ t l. known-bits (x .finalizeMask) (signerMask frame) t l (eqb-true _ _ e) }))
@@ -335,15 +332,15 @@ module _ (digest : Bytes → Bytes) (v : View) (frame : Bytes) (x : Height) wher
 
   -- ---- kind 5
   certificate-keeps : (isNotarized x ≡ true → x .notarized ≡ frameBlock frame) → Kept 5 (keepBlockCertificate x frame)
-  unfolding keepBlockCertificate left newsOf says Tallied
+  unfolding keepBlockCertificate left says Tallied
   certificate-keeps agrees =
       cond-elim (Kept 5) (isNotarized x)
       (λ has. whole 5 x same-parts
       (record {
         first-block = λ is. (is, refl, refl);
         this-block = λ _. (has, agrees has);
-        this-certificate = λ _ e. absurd (known≢fresh e);
-        counted = λ _ e. absurd (known≢fresh e);
+        this-certificate = λ _ free. absurd (true≢false (sym has ∙ free));
+        counted = λ new. absurd (other-kind 5 refl refl new);
         tallied = λ t. t;
         only-so = λ is. inl is;
       }))
@@ -353,7 +350,7 @@ module _ (digest : Bytes → Bytes) (v : View) (frame : Bytes) (x : Height) wher
         first-block = λ has. absurd (true≢false (sym has ∙ free));
         this-block = λ _. (is-notarized x (signerMask frame) (frameBlock frame), unfold withNotarized in refl);
         this-certificate = λ _ _. unfold withNotarized in refl;
-        counted = λ _ _ _. is-notarized x (signerMask frame) (frameBlock frame);
+        counted = λ _ _. is-notarized x (signerMask frame) (frameBlock frame);
         tallied = λ _ _. is-notarized x (signerMask frame) (frameBlock frame);
         only-so = λ _. inr (inl refl);
       }))
@@ -411,7 +408,7 @@ module _ (digest : Bytes → Bytes) (s : State) (is : SoundState digest s) (fram
   abbrev after : State
   after = withHeight s (frameHeight frame) (left x (keep digest s frame))
 
-  keeps : KeepsState digest s after frame (newsOf (keep digest s frame))
+  keeps : KeepsState digest s after frame
   keeps =
       let found = at-placed s (frameHeight frame) (left x (keep digest s frame)) (facts .low) (facts .high) in
       record {
@@ -443,19 +440,14 @@ module _ (digest : Bytes → Bytes) (book frame : Bytes) (passes : firstRefusal 
       let r7 = row-passes _ _ (r5 .1) in
       row-passes _ _ (r7 .1) .1
 
-  answered : (o : Option Height) → keep digest s frame ≡ o →
-      KeepsState digest s (after digest s state frame facts clash) frame (newsOf o)
-  answered o e =
-      subst (λ (z : Option Height). KeepsState digest s (after digest s state frame facts clash) frame (newsOf z)) e
-      (keeps digest s state frame facts clash)
-
   pub outcome : (o : Option Height) → keep digest s frame ≡ o →
-      KeepsState digest s (decode (kept digest book frame o .book)) frame (newsOf o)
+      KeepsState digest s (decode (kept digest book frame o .book)) frame
   unfolding kept left
   outcome none e =
       let same : after digest s state frame facts clash ≡ s = rw e (placed-same s (frameHeight frame) (facts .low)) in
-      subst (λ (z : State). KeepsState digest s z frame (newsOf none)) same (answered none e)
+      subst (λ (z : State). KeepsState digest s z frame) same (keeps digest s state frame facts clash)
   outcome (some y) e =
       let same : after digest s state frame facts clash ≡ withHeight s (frameHeight frame) y = rw e refl in
       let back = decode-encode (withHeight s (frameHeight frame) y) (keep-sound digest s state frame facts y e .shaped) in
-      subst (λ (z : State). KeepsState digest s z frame (newsOf (some y))) (same ∙ sym back) (answered (some y) e)
+      subst (λ (z : State). KeepsState digest s z frame) (same ∙ sym back)
+      (keeps digest s state frame facts clash)

@@ -13,7 +13,7 @@ use Rattle.protocol.specs.State.{State, Height, noHeight, at, last, decode, enc
 use Rattle.protocol.specs.Frame.{frameHeight}
 use Rattle.protocol.specs.View.{View, quorum}
 use Rattle.protocol.specs.Sound.{view, sound}
-use Rattle.protocol.specs.Answer.{Outcome, accepted, Done, done, Delivery, unlessRefused}
+use Rattle.protocol.specs.Answer.{Outcome, accepted, Done, done, unlessRefused}
 use Rattle.protocol.specs.Open.{newHeight, newState, openRows, openCall}
 use Rattle.protocol.specs.Deliver.{votersFor, keep, kept, deliverRows, deliverCall}
 use Rattle.protocol.specs.Move.{step, moved, unlessMoveRefused, moveRows, moveCall}
@@ -139,7 +139,7 @@ module _ (digest : Bytes → Bytes) where
         same-tally (view s) (view (withHeight s (suc i) y)) (at (withHeight s (suc i) y) h) (unfold view withHeight in refl)
         (each-height s i high y (λ (k : ℕ) (z : Height). Tallied digest (view s) z) new all h from)
 
-    delivered : {news : Delivery} (frame : Bytes) (after : State) → KeepsState digest s after frame news →
+    delivered : (frame : Bytes) (after : State) → KeepsState digest s after frame →
         1 ≤ frameHeight frame → frameHeight frame ≤ last s → AllTallied digest after
     delivered frame after keeps low high =
         let new = keeps .here .block .tallied (all (frameHeight frame) low) in
