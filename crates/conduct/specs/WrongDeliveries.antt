@@ -4,13 +4,13 @@ use Prim.Native.Nat.{ℕ, _≤_, _<_}
 use native.Mathlib.Omega.{arith}
 use mathlib.Core.Path.{_≡_, refl, ap}
 use mathlib.Core.Logic.{_⊎_, inl, inr}
-use mathlib.Core.Bool.{true}
+use mathlib.Core.Bool.{true, false, true≢false, false≢true}
 use mathlib.Core.List.{[], _∷_}
 use lib.ListN.{length, set, List·getD-eq-default}
 use lib.Dec.{ltb}
 use borrow.Author.Tests.{ltb-true}
 use Rattle.protocol.specs.Bytes.{Bytes, byteAt, zeros, all}
-use Rattle.protocol.specs.BytesLaws.{AreBytes}
+use Rattle.protocol.specs.BytesLaws.{AreBytes, put}
 use Rattle.protocol.specs.TestsLaws.{le-or-lt}
 use Rattle.protocol.specs.RowLaws.{all-at}
 use Rattle.protocol.specs.Block.{newBlock}
@@ -18,10 +18,10 @@ use Rattle.protocol.specs.Frame.{blockCertificate, dummyVote, proposal}
 use Rattle.protocol.specs.State.{encode, decode, withHeight, at}
 use Rattle.protocol.specs.Deliver.{withNotarized, deliverCall}
 use Rattle.protocol.specs.Open.{openCall}
-use Rattle.protocol.specs.Answer.{Delivery, known, fresh}
+use Rattle.protocol.specs.Answer.{Delivery, known, fresh, accepted}
 use Rattle.protocol.specs.Computing.{everything}
 use Rattle.conduct.specs.KeptBytes.{inParts, proposalParts, dummyParts, keptParts, newlyNotarized, deliveryParts}
-use Rattle.conduct.specs.Keeping.{Keeps}
+use Rattle.conduct.specs.Keeping.{Keeps, NewlyKept}
 
 standIn : Bytes → Bytes
 standIn bytes = zeros 32
@@ -93,3 +93,26 @@ always-known k =
 always-fresh : Wrong vote fresh book
 unfolding Wrong
 always-fresh k = let (i, inside, differs) = k .fresh-differs refl in differs refl
+
+-- ---- a proposal that is known already, at a height whose votes were never counted, as no run leaves it: nothing is
+-- newly kept, so nothing is notarized
+only-new : {A : Type 0} →
+    (false ≡ true) ⊎ ((_≡_ {A = ℕ} 1 5) ⊎
+    ((((_≡_ {A = ℕ} 1 1) × (true ≡ false)) ⊎ ((_≡_ {A = ℕ} 1 2) × (true ≡ false))) × A)) → ⊥
+only-new (inl e) = false≢true e
+only-new (inr (inl e)) = omega arith
+only-new (inr (inr (inl (e, held), by))) = true≢false held
+only-new (inr (inr (inr (e, voted), by))) = omega arith
+
+uncounted : Bytes
+uncounted = put (set (set (openCall (zeros 1456) 1 0 1 (0 ∷ []) .book) 577 1) 584 1) 592 block
+
+late-count : Keeps standIn uncounted (proposal 0 1 block) fresh
+    (encode (withHeight (decode uncounted) 1 (withNotarized (at (decode uncounted) 1) 1 block))) → ⊥
+unfolding everything standIn block uncounted put NewlyKept
+late-count k = only-new (k .keeps .here .block .only-so refl)
+
+-- its book is sound, and document 01's replica answers known
+uncounted-known : deliverCall standIn uncounted (proposal 0 1 block) .answer ≡ accepted known
+unfolding everything standIn block uncounted put
+uncounted-known = refl
