@@ -1,7 +1,7 @@
 -- What a delivery that is not refused leaves, beside document 01's "Deliver": the statements that its frame makes are
 -- kept, all that was kept before stays, and no other byte changes; the answer says whether a byte did. A block is
 -- notarized just where a certificate says so, or where a proposal or a vote is newly kept and the kept votes for the
--- held proposal are a quorum.
+-- held proposal are a quorum. That this leaves no choice is `KeepsExactLaws.keeps-exact`.
 use Prim.Native.Nat.{ℕ, _≤_, _<_}
 use mathlib.Core.Path.{_≡_}
 use mathlib.Core.Logic.{_⊎_, _≢_}

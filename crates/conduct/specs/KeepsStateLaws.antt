@@ -126,11 +126,13 @@ module _ (digest : Bytes → Bytes) (v : View) (k : ℕ) (frame : Bytes) (x : He
 module _ (digest : Bytes → Bytes) (v : View) (k : ℕ) (frame : Bytes) (x : Height) (new : NewlyKept k frame x) where
   -- after a proposal or a vote was kept in `z`, its votes are counted
   module _ (z : Height) (other : eqb k 5 ≡ false) (status : isNotarized z ≡ isNotarized x) (block : z .notarized ≡ x .notarized) (mask : z .certificateMask ≡ x .certificateMask) where
-    by-votes : holdsProposal z ≡ true → quorum v (heldVoters digest v z) ≡ true → ByVotes digest v (withNotarized z (heldVoters digest v z) (z .proposal))
+    by-votes : holdsProposal z ≡ true → quorum v (heldVoters digest v z) ≡ true →
+        ByVotes digest v (withNotarized z (heldVoters digest v z) (z .proposal))
     unfolding ByVotes Voted withNotarized votersFor voteOf
     by-votes held enough = ((holds-notarized z (heldVoters digest v z) (z .proposal) ∙ held, enough), refl, refl)
 
-    overlooked : allOf (not (isNotarized z) ∷ holdsProposal z ∷ quorum v (heldVoters digest v z) ∷ []) ≡ false → Tallied digest v z
+    overlooked : allOf (not (isNotarized z) ∷ holdsProposal z ∷ quorum v (heldVoters digest v z) ∷ []) ≡ false →
+        Tallied digest v z
     unfolding Tallied Voted allOf
     overlooked e (held, enough) = go (isNotarized z) refl
       where
@@ -269,7 +271,8 @@ module _ (digest : Bytes → Bytes) (v : View) (frame : Bytes) (x : Height) wher
         (known-block 2 refl (not-new 2 (λ e. absurd (omega arith)) (λ _. has))))
         (λ free. whole 2 (notarize digest v (withVote x (signer frame) (frameDigest frame)))
         (notarize-too 2 (withVote x (signer frame) (frameDigest frame)) (new-vote free))
-        (counted digest v 2 frame x (unfold NewlyKept in inr (refl, free)) (withVote x (signer frame) (frameDigest frame)) refl
+        (counted digest v 2 frame x (unfold NewlyKept in inr (refl, free))
+        (withVote x (signer frame) (frameDigest frame)) refl
         (unfold withVote isNotarized in refl) (unfold withVote in refl) (unfold withVote in refl)))
 
   -- ---- kinds 3, 4, 6 and 7: one of two masks grows
@@ -284,7 +287,8 @@ module _ (digest : Bytes → Bytes) (v : View) (frame : Bytes) (x : Height) wher
     masks = masks;
     votes = same-votes (v .n) k frame x (withMasks x a b) two refl refl;
     proposal = same-proposal (v .n) k frame x (withMasks x a b) one refl refl;
-    block = same-block digest v k frame x (withMasks x a b) five refl refl refl (λ new. absurd (other-kind k one two new))
+    block = same-block digest v k frame x (withMasks x a b) five refl refl refl
+        (λ new. absurd (other-kind k one two new))
         (λ t. t);
   }
 
@@ -424,7 +428,7 @@ module _ (digest : Bytes → Bytes) (book frame : Bytes) (passes : firstRefusal 
   unfolding deliverRows
   is-sound = row-passes _ _ passes .0
 
-  state : SoundState digest s
+  pub state : SoundState digest s
   state = sound-decode digest book is-sound
 
   pub facts : ReadFacts s frame

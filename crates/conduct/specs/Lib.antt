@@ -6,6 +6,7 @@ pub mod KeptBytes
 pub mod KeepsStateLaws
 pub mod KeptBytesLaws
 pub mod KeepingLaws
+pub mod KeepsExactLaws
 pub mod WrongDeliveries
 pub mod Refusals
 pub mod RefusalsLaws

@@ -45,6 +45,7 @@ use Rattle.conduct.specs.BookBytes.{openedBook, Signals, Submits, headOf}
 use Rattle.conduct.specs.BookBytesLaws.{open-bytes, signal-bytes, submit-bytes, move-bytes}
 use Rattle.conduct.specs.Keeping.{Keeps, AllTallied}
 use Rattle.conduct.specs.KeepingLaws.{deliver-keeps}
+use Rattle.conduct.specs.KeepsExactLaws.{keeps-exact}
 use Rattle.conduct.specs.SoundKept.{Call, bookAfter, bookAfterAll, sound-kept, sound-opened}
 use Rattle.conduct.specs.Tallying.{tallied-kept-all, tallied-opened}
 use Rattle.conduct.specs.Readable.{SameSetting}
@@ -149,6 +150,13 @@ moving-ends book = moves-end sha256 (decode book)
 pub deliveries-keep : (book frame : Bytes) (news : Delivery) → deliverCall sha256 book frame .answer ≡ accepted news →
     Keeps sha256 book frame news (deliverCall sha256 book frame .book)
 deliveries-keep = deliver-keeps sha256
+
+-- .. and that leaves no choice: an answer and bytes that meet it are those of Deliver
+pub nothing-else-keeps : (book frame : Bytes) (news : Delivery) → deliverCall sha256 book frame .answer ≡ accepted news →
+    AreBytes book → AreBytes (deliverCall sha256 book frame .book) →
+    (news′ : Delivery) (after : Bytes) → AreBytes after → Keeps sha256 book frame news′ after →
+    (news′ ≡ news) × (after ≡ deliverCall sha256 book frame .book)
+nothing-else-keeps = keeps-exact sha256
 
 -- on every book that calls make from an opened one, a proposal held with a quorum of kept votes is notarized
 pub votes-are-tallied : (book : Bytes) (n own heights : ℕ) (leaders : Bytes) (calls : List Call) →
