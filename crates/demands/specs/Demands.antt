@@ -152,8 +152,8 @@ pub deliveries-keep : (book frame : Bytes) (news : Delivery) → deliverCall sha
 deliveries-keep = deliver-keeps sha256
 
 -- .. and that leaves no choice: an answer and bytes that meet it are those of Deliver
-pub nothing-else-keeps : (book frame : Bytes) (news : Delivery) → deliverCall sha256 book frame .answer ≡ accepted news →
-    AreBytes book → AreBytes (deliverCall sha256 book frame .book) →
+pub nothing-else-keeps : (book frame : Bytes) (news : Delivery) →
+    deliverCall sha256 book frame .answer ≡ accepted news → AreBytes book → AreBytes (deliverCall sha256 book frame .book) →
     (news′ : Delivery) (after : Bytes) → AreBytes after → Keeps sha256 book frame news′ after →
     (news′ ≡ news) × (after ≡ deliverCall sha256 book frame .book)
 nothing-else-keeps = keeps-exact sha256
