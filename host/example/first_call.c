@@ -10,42 +10,76 @@
 
 #define HEIGHTS 3
 
-/* Delivers the blank vote of a signer at height 1 and says what became of it. */
-static void deliver_blank_vote(uint8_t *book, uint8_t signer) {
-    uint8_t frame[MAVUNILAI_FRAME] = {3, signer, 1};
-    uint64_t answer = mavunilai_deliver(book, MAVUNILAI_BOOK(HEIGHTS), frame, sizeof frame);
-    printf("blank vote of %u: refusal %u, fresh %u\n", (unsigned)signer, MAVUNILAI_REFUSAL(answer),
-           MAVUNILAI_FRESH(answer));
+/* Says why a call was refused; 1 if it was, else 0. */
+static int is_refused(const char *call, mavunilai_answer answer) {
+    unsigned refusal = mavunilai_refusal(answer);
+    if (refusal == 0) {
+        return 0;
+    }
+    fprintf(stderr, "%s: refused with %u: %s\n", call, refusal, mavunilai_refusal_text(refusal));
+    return 1;
 }
 
-/* Moves until idle and says each move. */
-static void move_until_idle(uint8_t *book) {
+/* Delivers the blank vote of a signer at height 1 and says what became of it; 0 if it was taken. */
+static int deliver_blank_vote(uint8_t *book, uint8_t signer) {
+    uint8_t frame[MAVUNILAI_FRAME] = {MAVUNILAI_KIND_BLANK_VOTE, signer, 1};
+    mavunilai_answer answer = mavunilai_deliver(book, MAVUNILAI_BOOK(HEIGHTS), frame, sizeof frame);
+    if (is_refused("deliver", answer)) {
+        return 1;
+    }
+    printf("blank vote of %u: %s\n", (unsigned)signer, mavunilai_fresh(answer) ? "fresh" : "known");
+    return 0;
+}
+
+/* Moves until idle and says each move; 0 if none was refused. */
+static int move_until_idle(uint8_t *book) {
     uint8_t reply[MAVUNILAI_MOVE_REPLY];
     for (;;) {
-        uint64_t answer = mavunilai_move(book, MAVUNILAI_BOOK(HEIGHTS), reply, sizeof reply);
-        if (MAVUNILAI_REFUSAL(answer) != 0 || MAVUNILAI_MOVE(answer) == MAVUNILAI_IDLE) {
-            return;
+        mavunilai_answer answer = mavunilai_move(book, MAVUNILAI_BOOK(HEIGHTS), reply, sizeof reply);
+        if (is_refused("move", answer)) {
+            return 1;
         }
-        printf("move %u at height %u: certificate %u, second frame %u\n", MAVUNILAI_MOVE(answer),
-               MAVUNILAI_HEIGHT(answer), MAVUNILAI_CERTIFICATE(answer), MAVUNILAI_FINALISE(answer));
+        if (mavunilai_made(answer) == MAVUNILAI_MOVE_IDLE) {
+            return 0;
+        }
+        printf("move %u at height %u: %u frames, certificate %u, finalise %u\n", mavunilai_made(answer),
+               mavunilai_height(answer), mavunilai_frames(answer), mavunilai_certificate(answer),
+               mavunilai_finalise(answer));
     }
 }
 
-int main(void) {
+/* Opens the book and makes the calls; 0 if all were taken. */
+static int run(uint8_t *book) {
     static const uint8_t roll[HEIGHTS] = {0, 1, 2};
-    uint8_t *book = malloc(MAVUNILAI_BOOK(HEIGHTS));
     uint8_t signer;
-    if (book == NULL || mavunilai_open(book, MAVUNILAI_BOOK(HEIGHTS), 4, 2, HEIGHTS, roll, sizeof roll) != 0) {
-        fprintf(stderr, "the book could not be opened\n");
-        free(book);
+    if (is_refused("open", mavunilai_open(book, MAVUNILAI_BOOK(HEIGHTS), 4, 2, HEIGHTS, roll, sizeof roll))) {
         return 1;
     }
     for (signer = 0; signer < 3; signer++) {
-        deliver_blank_vote(book, signer);
+        if (deliver_blank_vote(book, signer) != 0) {
+            return 1;
+        }
     }
-    move_until_idle(book);
-    printf("register size %llu\n",
-           (unsigned long long)MAVUNILAI_SIZE(mavunilai_size(book, MAVUNILAI_BOOK(HEIGHTS))));
-    free(book);
+    if (move_until_idle(book) != 0) {
+        return 1;
+    }
+    printf("current height %u, settled height %u\n", mavunilai_current(book), mavunilai_settled(book));
     return 0;
+}
+
+int main(void) {
+    uint8_t *book;
+    int status;
+    if (!mavunilai_fits()) {
+        fprintf(stderr, "the library's interface is not that of the header, %u\n", MAVUNILAI_INTERFACE);
+        return 1;
+    }
+    book = (uint8_t *)malloc(MAVUNILAI_BOOK(HEIGHTS));
+    if (book == NULL) {
+        fprintf(stderr, "no memory\n");
+        return 1;
+    }
+    status = run(book);
+    free(book);
+    return status;
 }

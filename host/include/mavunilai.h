@@ -7,28 +7,21 @@
  * What you owe for each pointer and the length behind it, and nothing checks:
  *   - So many bytes are there, readable, and writable too where the pointer is not const. No alignment is needed.
  *   - Nobody else writes them during the call, and bytes that the call may write overlap with no others lent to it.
- *   - The pointer is not null. With a length of 0 nothing is read or written through it, and the address of any object
- *     will do, but what a null pointer does then is promised nowhere.
+ * With a length of 0 nothing is read or written through the pointer, so it may be null, as that of an empty vector is.
  * All else is checked: bytes, lengths and numbers may have any value. Bytes behind a const pointer never change.
  *
- * The library is for x86-64 Linux, where size_t and uint64_t are the same, and needs nothing but memset.
+ * The library is for x86-64 Linux, where size_t and uint64_t are the same, and needs nothing but memset. Before its
+ * first call a program asks mavunilai_fits() whether library and header are of one interface.
  *
- * Every answer's lowest byte is the number of a refusal, 0 if the call was not refused:
- *
- *    1 the book is not sound (open: its length does not fit H)     8 another proposal or page vote is kept
- *    2 n, own number, H, roll length or a leader out of range      9 the certificate's mask is no quorum
- *    3 the reply is too short                                     10 another page is notarised
- *    4 frame, kind to fetch or entry not of the required form     11 no such certificate in the book
- *    5 signer or mask bit not below n                             12 32 entries are pending, none in the register
- *    6 height 0 or above H                                        13 the entry is pending or in the register
- *    7 the proposer does not lead the height                      14 signal not for the current height, or repeated
- *
- * A refused call leaves every byte of every buffer as it was, and its answer is that number alone. Bytes of a reply or
- * buffer past what a call writes keep their values. A call that is refused for several reasons answers the first in
- * the order given with it. What stands above the lowest byte is told at each call; where nothing is told it is 0.
+ * Every packed answer's lowest byte is the number of a refusal, 0 if the call was not refused; MAVUNILAI_REFUSED_..
+ * below names them. A refused call leaves every byte of every buffer as it was, and its answer is that number alone.
+ * Bytes of a reply or buffer past what a call writes keep their values. A call that is refused for several reasons
+ * answers the first in the order given with it. What stands above the lowest byte is told at each call; where nothing
+ * is told it is 0.
  *
  * The packing is defined in crates/replica_c/specs/Packing.antt, and the contracts in crates/replica_c/src/lib.rt say
- * that each call returns the packed answer of document 01's call and leaves its bytes; docs/GUIDE.md leads there.
+ * that each call returns the packed answer of document 01's call and leaves its bytes; docs/GUIDE.md leads there. The
+ * names and the functions with a body in this file are not proved; the host's tests hold them to the library.
  */
 #ifndef MAVUNILAI_H
 #define MAVUNILAI_H
@@ -40,73 +33,234 @@
 extern "C" {
 #endif
 
-/* Lengths in bytes. */
+/* The number of the interface that this header declares. It goes up whenever a call's arguments or answers change. */
+#define MAVUNILAI_INTERFACE 1u
+
+/* The number of the interface that the library has. */
+uint64_t mavunilai_interface(void);
+
+/* 1 if library and header are of one interface, else 0: then make no other call. */
+static inline int mavunilai_fits(void) {
+    return mavunilai_interface() == MAVUNILAI_INTERFACE;
+}
+
+/* ---- Lengths in bytes ---- */
+
+#define MAVUNILAI_BOOK(heights) (576u + 880u * (size_t)(heights))
 #define MAVUNILAI_FRAME 224u
+#define MAVUNILAI_PAGE 176u
 #define MAVUNILAI_ENTRY 16u
+#define MAVUNILAI_DIGEST 32u
 #define MAVUNILAI_MOVE_REPLY 448u
 #define MAVUNILAI_FETCH_REPLY 224u
-#define MAVUNILAI_BOOK(heights) (576u + 880u * (size_t)(heights))
 
-/* Parts of an answer. */
-#define MAVUNILAI_REFUSAL(answer) ((unsigned)((answer) & 255u))
-#define MAVUNILAI_FRESH(answer) ((unsigned)(((answer) >> 8) & 255u))
-#define MAVUNILAI_MOVE(answer) ((unsigned)(((answer) >> 8) & 255u))
-#define MAVUNILAI_HEIGHT(answer) ((unsigned)(((answer) >> 16) & 255u))
-#define MAVUNILAI_CERTIFICATE(answer) ((unsigned)(((answer) >> 24) & 255u))
-#define MAVUNILAI_FINALISE(answer) ((unsigned)(((answer) >> 32) & 255u))
-#define MAVUNILAI_SIZE(answer) ((uint64_t)(answer) >> 8)
+/* ---- The most there can be ---- */
 
-/* The moves, as MAVUNILAI_MOVE gives them. */
-#define MAVUNILAI_IDLE 0u       /* no move applies; nothing is written */
-#define MAVUNILAI_BLANK_VOTE 1u /* one frame of kind 3 */
-#define MAVUNILAI_SETTLE 2u     /* the settled height grew; nothing is written */
-#define MAVUNILAI_PASS 3u       /* a certificate, then a finalise or 224 zero bytes */
-#define MAVUNILAI_PROPOSAL 4u   /* one frame of kind 1 */
-#define MAVUNILAI_PAGE_VOTE 5u  /* one frame of kind 2 */
+#define MAVUNILAI_MOST_STATIONS 16u
+#define MAVUNILAI_MOST_HEIGHTS 63u
+#define MAVUNILAI_MOST_PENDING 32u     /* entries */
+#define MAVUNILAI_MOST_PAGE_ENTRIES 8u /* entries of one page */
+#define MAVUNILAI_MOST_REGISTER 8064u  /* bytes: 63 pages of 8 entries of 16 */
+#define MAVUNILAI_MOST_BOOK 56016u     /* bytes: MAVUNILAI_BOOK(63) */
 
-/* How many frames a move wrote to the front of the reply: 0, 1 or 2. */
-#define MAVUNILAI_FRAMES(answer)                                                                  \
-    (MAVUNILAI_MOVE(answer) == MAVUNILAI_IDLE || MAVUNILAI_MOVE(answer) == MAVUNILAI_SETTLE ? 0u  \
-     : MAVUNILAI_FINALISE(answer) != 0 ? 2u                                                       \
-                                       : 1u)
+/* ---- Refusals ---- */
+
+#define MAVUNILAI_REFUSED_UNSOUND 1u          /* the book is not sound (open: its length does not fit H) */
+#define MAVUNILAI_REFUSED_OUT_OF_RANGE 2u     /* n, own number, H, roll length or a leader out of range */
+#define MAVUNILAI_REFUSED_SHORT_REPLY 3u      /* the reply is too short */
+#define MAVUNILAI_REFUSED_MALFORMED 4u        /* frame, kind to fetch or entry not of the required form */
+#define MAVUNILAI_REFUSED_NO_SUCH_SIGNER 5u   /* signer or mask bit not below n */
+#define MAVUNILAI_REFUSED_NO_SUCH_HEIGHT 6u   /* height 0 or above H */
+#define MAVUNILAI_REFUSED_NOT_LEADER 7u       /* the proposer does not lead the height */
+#define MAVUNILAI_REFUSED_OTHER_KEPT 8u       /* another proposal or page vote is kept */
+#define MAVUNILAI_REFUSED_NO_QUORUM 9u        /* the certificate's mask is no quorum */
+#define MAVUNILAI_REFUSED_OTHER_NOTARISED 10u /* another page is notarised */
+#define MAVUNILAI_REFUSED_NO_CERTIFICATE 11u  /* no such certificate in the book */
+#define MAVUNILAI_REFUSED_PENDING_FULL 12u    /* 32 entries are pending, none in the register */
+#define MAVUNILAI_REFUSED_ENTRY_KNOWN 13u     /* the entry is pending or in the register */
+#define MAVUNILAI_REFUSED_NOT_DUE 14u         /* signal not for the current height, or repeated */
+
+/* What a refusal means, for people: one sentence without the full stop. */
+static inline const char *mavunilai_refusal_text(unsigned refusal) {
+    switch (refusal) {
+    case 0: return "not refused";
+    case MAVUNILAI_REFUSED_UNSOUND: return "the book is not sound, or its length does not fit the number of heights";
+    case MAVUNILAI_REFUSED_OUT_OF_RANGE: return "n, own number, number of heights or a leader is out of range";
+    case MAVUNILAI_REFUSED_SHORT_REPLY: return "the reply buffer is too short";
+    case MAVUNILAI_REFUSED_MALFORMED: return "the frame, entry or kind does not have the required form";
+    case MAVUNILAI_REFUSED_NO_SUCH_SIGNER: return "a signer or a bit of the mask names no station";
+    case MAVUNILAI_REFUSED_NO_SUCH_HEIGHT: return "the height is 0 or above the last one";
+    case MAVUNILAI_REFUSED_NOT_LEADER: return "the proposer does not lead that height";
+    case MAVUNILAI_REFUSED_OTHER_KEPT: return "another proposal or vote is kept already";
+    case MAVUNILAI_REFUSED_NO_QUORUM: return "the certificate's signers are no quorum";
+    case MAVUNILAI_REFUSED_OTHER_NOTARISED: return "another page is notarised at that height";
+    case MAVUNILAI_REFUSED_NO_CERTIFICATE: return "the book holds no such certificate";
+    case MAVUNILAI_REFUSED_PENDING_FULL: return "all 32 pending places are taken";
+    case MAVUNILAI_REFUSED_ENTRY_KNOWN: return "the entry is pending or in the register already";
+    case MAVUNILAI_REFUSED_NOT_DUE: return "the signal is not for the current height, or came before";
+    default: return "this is no number of the table of refusals";
+    }
+}
+
+/* ---- Frames: where their fields are, and the kinds ---- */
+
+#define MAVUNILAI_FRAME_KIND 0u
+#define MAVUNILAI_FRAME_SIGNER 1u  /* kinds 1 to 4 */
+#define MAVUNILAI_FRAME_HEIGHT 2u
+#define MAVUNILAI_FRAME_MASK 4u    /* kinds 5 to 7; two bytes, the low one first, bit i for station i */
+#define MAVUNILAI_FRAME_DIGEST 16u /* kind 2; 32 bytes */
+#define MAVUNILAI_FRAME_PAGE 48u   /* kinds 1 and 5; 176 bytes */
+
+/* Within a page. */
+#define MAVUNILAI_PAGE_HEIGHT 0u
+#define MAVUNILAI_PAGE_BACK_HEIGHT 2u
+#define MAVUNILAI_PAGE_COUNT 4u
+#define MAVUNILAI_PAGE_BACK_DIGEST 16u
+#define MAVUNILAI_PAGE_ENTRIES 48u
+
+#define MAVUNILAI_KIND_PROPOSAL 1u
+#define MAVUNILAI_KIND_PAGE_VOTE 2u
+#define MAVUNILAI_KIND_BLANK_VOTE 3u
+#define MAVUNILAI_KIND_FINALISE 4u
+#define MAVUNILAI_KIND_PAGE_CERTIFICATE 5u
+#define MAVUNILAI_KIND_BLANK_CERTIFICATE 6u
+#define MAVUNILAI_KIND_FINALISE_CERTIFICATE 7u
+
+/* ---- The book: where its head's fields are, and readers of them ---- */
+
+#define MAVUNILAI_HEAD_STATIONS 0u /* n */
+#define MAVUNILAI_HEAD_OWN 1u
+#define MAVUNILAI_HEAD_HEIGHTS 2u  /* H */
+#define MAVUNILAI_HEAD_FLAGS 3u    /* of the current height */
+#define MAVUNILAI_HEAD_CURRENT 4u  /* c */
+#define MAVUNILAI_HEAD_SETTLED 5u  /* g */
+#define MAVUNILAI_HEAD_PENDING 6u  /* how many entries are pending */
+#define MAVUNILAI_HEAD_EDITION 7u
+#define MAVUNILAI_PENDING_AT 64u   /* the pending entries, 16 bytes each */
+#define MAVUNILAI_CONTENTS_AT 576u /* the rows, 16 bytes for each height; a row's first byte is the leader */
+#define MAVUNILAI_ROW 16u
+
+#define MAVUNILAI_FLAG_TIMER 1u
+#define MAVUNILAI_FLAG_BLANK_VOTE 2u
+#define MAVUNILAI_FLAG_PAGE_VOTE 4u
+#define MAVUNILAI_FLAG_PROPOSED 8u
+
+/* These three read bytes of a book and check nothing: they are for a book that a call has taken, so not refused with
+ * 1, and that no other hand has changed since. Bytes that no call has taken may be too few to be read at all. */
+
+/* The current height, 1 to H + 1: the one whose timer is to run. At H + 1 all heights are passed. */
+static inline unsigned mavunilai_current(const uint8_t *book) {
+    return book[MAVUNILAI_HEAD_CURRENT];
+}
+
+/* The settled height, 0 to H. */
+static inline unsigned mavunilai_settled(const uint8_t *book) {
+    return book[MAVUNILAI_HEAD_SETTLED];
+}
+
+/* The leader of a height, 1 to H. */
+static inline unsigned mavunilai_leader(const uint8_t *book, unsigned height) {
+    return book[MAVUNILAI_CONTENTS_AT + (size_t)MAVUNILAI_ROW * (height - 1u)];
+}
+
+/* ---- Answers ---- */
+
+/* A packed answer. It has a type of its own so that no plain number passes for one, nor two are mixed: the functions
+ * below take it apart. Calls return it where they return a uint64_t, in one register. */
+typedef struct mavunilai_answer {
+    uint64_t packed;
+} mavunilai_answer;
+
+/* The refusal's number; 0 if the call was not refused. Ask it first: what the others give for a refused call is 0. */
+static inline unsigned mavunilai_refusal(mavunilai_answer answer) {
+    return (unsigned)(answer.packed & 255u);
+}
+
+/* Deliver: 1 if the frame was fresh, 0 if it was known. */
+static inline unsigned mavunilai_fresh(mavunilai_answer answer) {
+    return (unsigned)(answer.packed >> 8 & 255u);
+}
+
+/* Move: which move it was. */
+static inline unsigned mavunilai_made(mavunilai_answer answer) {
+    return (unsigned)(answer.packed >> 8 & 255u);
+}
+
+#define MAVUNILAI_MOVE_IDLE 0u       /* no move applies; nothing is written */
+#define MAVUNILAI_MOVE_BLANK_VOTE 1u /* one frame of kind 3 */
+#define MAVUNILAI_MOVE_SETTLE 2u     /* the settled height grew; nothing is written */
+#define MAVUNILAI_MOVE_PASS 3u       /* a certificate, then a finalise or 224 zero bytes */
+#define MAVUNILAI_MOVE_PROPOSAL 4u   /* one frame of kind 1 */
+#define MAVUNILAI_MOVE_PAGE_VOTE 5u  /* one frame of kind 2 */
+
+/* Move: its height. */
+static inline unsigned mavunilai_height(mavunilai_answer answer) {
+    return (unsigned)(answer.packed >> 16 & 255u);
+}
+
+/* Move: of a pass the kind of the first frame. */
+static inline unsigned mavunilai_certificate(mavunilai_answer answer) {
+    return (unsigned)(answer.packed >> 24 & 255u);
+}
+
+/* Move: of a pass 4 if the second frame is a finalise. */
+static inline unsigned mavunilai_finalise(mavunilai_answer answer) {
+    return (unsigned)(answer.packed >> 32 & 255u);
+}
+
+/* Move: how many frames it wrote to the front of the reply, 0, 1 or 2. */
+static inline unsigned mavunilai_frames(mavunilai_answer answer) {
+    unsigned made = mavunilai_made(answer);
+    if (made == MAVUNILAI_MOVE_IDLE || made == MAVUNILAI_MOVE_SETTLE) {
+        return 0;
+    }
+    return mavunilai_finalise(answer) != 0 ? 2 : 1;
+}
+
+/* Size: the register's length in bytes. */
+static inline uint64_t mavunilai_bytes(mavunilai_answer answer) {
+    return answer.packed >> 8;
+}
+
+/* ---- The calls ---- */
 
 /* Makes a new book for station `own` of `n`, with `heights` heights; byte h - 1 of `leaders` leads height h, so
  * `leaders_len` must equal `heights`, and `book_len` MAVUNILAI_BOOK(heights). The book's old bytes do not matter.
  * Refusals: 2, 1. After 0 the book is new: n, own number, heights, current height 1, edition 1 and the leaders stand in
  * it, and every other byte is 0. */
-uint64_t mavunilai_open(uint8_t *book, size_t book_len, uint64_t n, uint64_t own, uint64_t heights,
-                        const uint8_t *leaders, size_t leaders_len);
+mavunilai_answer mavunilai_open(uint8_t *book, size_t book_len, uint64_t n, uint64_t own, uint64_t heights,
+                                const uint8_t *leaders, size_t leaders_len);
 
 /* Takes one frame of 224 bytes whose signatures you have checked; a station's own frames too.
- * Refusals: 1, 4, 6, 5, 7, 9, 8, 10. Else byte 1 of the answer (MAVUNILAI_FRESH) is 1 if the frame was fresh: the book
+ * Refusals: 1, 4, 6, 5, 7, 9, 8, 10. Else byte 1 of the answer (mavunilai_fresh) is 1 if the frame was fresh: the book
  * now holds what it states; 0 if it was known: the book is as before. Of the book only the frame's height changes: its
  * row of the contents and its body. */
-uint64_t mavunilai_deliver(uint8_t *book, size_t book_len, const uint8_t *frame, size_t frame_len);
+mavunilai_answer mavunilai_deliver(uint8_t *book, size_t book_len, const uint8_t *frame, size_t frame_len);
 
 /* Makes the first move that applies; call it until it is idle. The reply needs 448 bytes or more.
  * Refusals: 1, 3. Else the answer's bytes are
- *   1 (MAVUNILAI_MOVE)         the move, 0 to 5
- *   2 (MAVUNILAI_HEIGHT)       its height; for move 2 the new settled height; 0 if idle
- *   3 (MAVUNILAI_CERTIFICATE)  for a pass the kind of the first frame, 5 page or 6 blank certificate; else 0
- *   4 (MAVUNILAI_FINALISE)     for a pass 4 if the second frame is a finalise, else 0
+ *   1 (mavunilai_made)         the move, 0 to 5
+ *   2 (mavunilai_height)       its height; for move 2 the new settled height; 0 if idle
+ *   3 (mavunilai_certificate)  for a pass the kind of the first frame, 5 page or 6 blank certificate; else 0
+ *   4 (mavunilai_finalise)     for a pass 4 if the second frame is a finalise, else 0
  * Moves 1, 4 and 5 write bytes 0 to 223 of the reply, one frame. Move 3 writes bytes 0 to 447: the certificate, then
  * the finalise or zeros, which are no frame. Moves 0 and 2 write none. Of the book only bytes of the head change: the
  * flags (moves 1, 4, 5), the settled height (2), the current height and the flags (3), none if idle. What a move wrote
  * enters the book when you deliver it. */
-uint64_t mavunilai_move(uint8_t *book, size_t book_len, uint8_t *reply, size_t reply_len);
+mavunilai_answer mavunilai_move(uint8_t *book, size_t book_len, uint8_t *reply, size_t reply_len);
 
-/* Tells the book that the timer of a height fired. Refusals: 1, 6, 14. After 0 flag 1 of the current height is set, and
- * no other byte has changed. */
-uint64_t mavunilai_signal(uint8_t *book, size_t book_len, uint64_t height);
+/* Tells the book that the timer of a height fired. Refusals: 1, 6, 14. After 0 flag 1 of the current height is set,
+ * and no other byte has changed. */
+mavunilai_answer mavunilai_signal(uint8_t *book, size_t book_len, uint64_t height);
 
 /* Adds an entry of 16 bytes to the pending ones; those that the register holds by now are dropped.
  * Refusals: 1, 4, 13, 12. After 0 the entry is the last pending one, the pending places after it are 0, the count fits,
  * and no other byte has changed. */
-uint64_t mavunilai_submit(uint8_t *book, size_t book_len, const uint8_t *entry, size_t entry_len);
+mavunilai_answer mavunilai_submit(uint8_t *book, size_t book_len, const uint8_t *entry, size_t entry_len);
 
-/* The register's length in bytes: MAVUNILAI_SIZE of the answer, which is the refusal plus 256 times the size.
+/* The register's length in bytes: mavunilai_bytes of the answer, which is the refusal plus 256 times the size.
  * Refusals: 1. No byte changes. The largest size is 63 * 8 * 16 = 8064. */
-uint64_t mavunilai_size(const uint8_t *book, size_t book_len);
+mavunilai_answer mavunilai_size(const uint8_t *book, size_t book_len);
 
 /* Writes the register to the front of the buffer, oldest page first, and returns the number of bytes of the part read.
  * This is no packed answer: it returns 0, and writes nothing, where the book is not sound or the buffer is shorter
@@ -116,8 +270,8 @@ uint64_t mavunilai_read(const uint8_t *book, size_t book_len, uint8_t *buffer, s
 
 /* Writes the certificate of kind 5, 6 or 7 of a height to bytes 0 to 223 of the reply, which needs 224 or more.
  * Refusals: 1, 4, 6, 3, 11. Bytes of the reply past 223 keep their values. */
-uint64_t mavunilai_fetch(const uint8_t *book, size_t book_len, uint64_t kind, uint64_t height, uint8_t *reply,
-                         size_t reply_len);
+mavunilai_answer mavunilai_fetch(const uint8_t *book, size_t book_len, uint64_t kind, uint64_t height, uint8_t *reply,
+                                 size_t reply_len);
 
 #ifdef __cplusplus
 }

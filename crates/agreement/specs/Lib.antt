@@ -1,4 +1,4 @@
--- Demand 3: the claim over lists of calls, its proof, and a list that meets every premise.
+-- Demand 3: the claim over lists of calls, its proof, and two lists that meet every premise.
 pub mod Lists
 pub mod GrantsLaws
 pub mod BackingLaws
@@ -11,7 +11,13 @@ pub mod OpeningLaws
 pub mod ReplicaLaws
 pub mod ChainsLaws
 pub mod AgreementLaws
+pub mod Met
+pub mod MetLaws
 pub mod ListTests
 pub mod ListTestsLaws
+pub mod Turns
+pub mod TurnsLaws
 pub mod Witness
 pub mod WitnessLaws
+pub mod AnyDigest
+pub mod AnyDigestLaws

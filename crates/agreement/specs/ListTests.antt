@@ -106,3 +106,13 @@ module _ (digest : Bytes → Bytes) where
   readsPart part book (signalling h) = false
   readsPart part book (submitting entry) = false
   readsPart part book (reading buffer) = same part (readPart digest book buffer)
+
+  -- ---- members of replica `s`: one that reads this part, one to which this frame is delivered, one that writes it
+  unfoldable pub readsAt : Bytes → ℕ → Member → Bool
+  readsAt part s m = eqb (m .replica) s && readsPart part (m .book) (m .call)
+
+  unfoldable pub hearsAt : Bytes → ℕ → Member → Bool
+  hearsAt frame s m = eqb (m .replica) s && holds frame (delivers digest m)
+
+  unfoldable pub writesAt : Bytes → ℕ → Member → Bool
+  writesAt frame s m = eqb (m .replica) s && holds frame (writes digest m)

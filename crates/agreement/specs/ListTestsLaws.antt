@@ -3,7 +3,7 @@ use Prim.Native.Nat.{ℕ, zero, suc, _<_, _≤_}
 use native.Mathlib.Omega.{arith}
 use mathlib.Core.Path.{_≡_, refl, sym, ap, subst, _∙_}
 use mathlib.Core.Logic.{_⊎_, inl, inr}
-use mathlib.Core.Bool.{Bool, true, false, not, cond, false≢true}
+use mathlib.Core.Bool.{Bool, true, false, _&&_, not, cond, false≢true}
 use mathlib.Core.List.{List, [], _∷_, _++_, append-nil, List·Memᴰ, List·Memᴰ·head, List·Memᴰ·tail, List·Memᴰ·not-nil, List·Memᴰ·cases-cons, List·Memᴰ·append-cases, List·Memᴰ·eq-of-singleton, Memᴰ·append-right}
 use mathlib.Core.Option.{Option, some, none}
 use lib.ListN.{drop}
@@ -16,10 +16,10 @@ use Rattle.protocol.specs.Read.{readPart}
 use Rattle.protocol.specs.RowLaws.{eq-same, implies-true, same-eq}
 use Rattle.protocol.specs.Tests.{implies}
 use Rattle.protocol.specs.TestsLaws.{and-true, le-or-lt, or-true}
-use Rattle.agreement.specs.ListTests.{deliversBacked, everyHonest, everyIn, follows, isAmong, isBacked, isHonest, keepsOneBook, noCollision, notForged, opensFor, readsPart, shows, showsOnly, signed, signedIn, someIn, statementBytes}
+use Rattle.agreement.specs.ListTests.{deliversBacked, everyHonest, everyIn, follows, hearsAt, isAmong, isBacked, isHonest, keepsOneBook, noCollision, notForged, opensFor, readsAt, readsPart, shows, showsOnly, signed, signedIn, someIn, statementBytes, writesAt}
 use Rattle.agreement.specs.Lists.{Call, Continues, Follows, HonestIn, KeepsOneBook, Member, NoCollision, NotForged, Opens, Reads, Shows, Statement, Wrote, blockIn, delivers, delivery, finalizes, lastLeft, leftBy, moving, opening, orElse, proposes, reading, signalling, statementOf, submitting, votesBlock, votesDummy, writes}
+use Rattle.agreement.specs.Met.{Hears, MemberOf}
 use Rattle.agreement.specs.RunLaws.{or-else-assoc, or-else-none, wrote-more}
-use Rattle.agreement.specs.Witness.{entry}
 
 -- ---- over lists and replicas
 pub every-in : {A : Type 0} (test : A → Bool) (l : List A) → everyIn test l ≡ true → (x : A) → List·Memᴰ x l → test x ≡ true
@@ -244,6 +244,15 @@ module _ (digest : Bytes → Bytes) where
         (shown-among blocks l t m′ p′ i′ hm′ w′) in
         same-eq p p′ (implies-true _ _ r (eq-same (digest p) (digest p′) e))
 
+    -- where one block alone is shown, nothing has to be known of its digest
+    pub one-block-sound : (block : Bytes) (l : List Member) → showsOnly digest n dishonest (block ∷ []) l ≡ true →
+        NoCollision digest (HonestIn n dishonest) l
+    unfolding NoCollision
+    one-block-sound block l t m m′ p p′ i i′ hm hm′ w w′ e =
+        let q = List·Memᴰ·eq-of-singleton (shown-among (block ∷ []) l t m p i hm w) in
+        let q′ = List·Memᴰ·eq-of-singleton (shown-among (block ∷ []) l t m′ p′ i′ hm′ w′) in
+        q ∙ sym q′
+
   -- ---- readings
   pub reads-sound : (m : Member) (part : Bytes) → readsPart digest part (m .book) (m .call) ≡ true → Reads digest m part
   unfolding Reads readsPart
@@ -257,3 +266,27 @@ module _ (digest : Bytes → Bytes) where
       go (signalling h) e q = absurd (false≢true q)
       go (submitting x) e q = absurd (false≢true q)
       go (reading buffer) e q = (buffer, e, same-eq part (readPart digest (m .book) buffer) q)
+
+  -- ---- members of a replica
+  found : (list : List Member) (s : ℕ) (test : Member → Bool) (P : Member → Type 0) →
+      ((m : Member) → test m ≡ true → P m) → someIn (λ m. eqb (m .replica) s && test m) list ≡ true → MemberOf list s P
+  found list s test P f e =
+      let (m, i, t) = some-in (λ (m : Member). eqb (m .replica) s && test m) list e in
+      let q = and-true (eqb (m .replica) s) (test m) t in
+      (m, i, eqb-true (m .replica) s (q .0), f m (q .1))
+
+  pub reads-found : (list : List Member) (part : Bytes) (s : ℕ) → someIn (readsAt digest part s) list ≡ true →
+      MemberOf list s (λ m. Reads digest m part)
+  unfolding readsAt
+  reads-found list part s e = found list s _ _ (λ m t. reads-sound m part t) e
+
+  pub hears-found : (list : List Member) (frame : Bytes) (s t : ℕ) (st : Statement) →
+      statementOf digest frame t ≡ some st → someIn (hearsAt digest frame s) list ≡ true →
+      MemberOf list s (Hears digest t st)
+  unfolding hearsAt
+  hears-found list frame s t st says e = found list s _ _ (λ m r. (frame, holds-member _ _ r, says)) e
+
+  pub writes-found : (list : List Member) (frame : Bytes) (s : ℕ) → someIn (writesAt digest frame s) list ≡ true →
+      MemberOf list s (λ m. List·Memᴰ frame (writes digest m))
+  unfolding writesAt
+  writes-found list frame s e = found list s _ _ (λ m t. holds-member frame (writes digest m) t) e

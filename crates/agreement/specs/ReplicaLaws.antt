@@ -13,7 +13,6 @@ use Rattle.protocol.specs.State.{decode}
 use Rattle.agreement.specs.Lists.{Call, Continues, Follows, HonestIn, KeepsOneBook, Member, NotForged, Opens, Wrote, bookAfter, deliveredBy, delivery, lastLeft, leftBy, moving, opening, opensBook, orElse, reading, signalling, submitting, writtenBy}
 use Rattle.agreement.specs.OpeningLaws.{opening-good, submit-good}
 use Rattle.agreement.specs.RunLaws.{Good, GoodBytes, Honest, delivery-good, last-left-snoc, move-good, nothing-new, reopening-good, signal-good, unchanged}
-use Rattle.agreement.specs.Witness.{leaders}
 
 module _ (digest : Bytes → Bytes) (n dishonest : ℕ) (l : List Member)
     (keeps : (s : ℕ) → HonestIn n dishonest s → KeepsOneBook digest n l s)

@@ -1,25 +1,26 @@
 -- Deliver leaves a sound state.
 use Prim.Native.Nat.{ℕ, zero, suc, _+_, _^_, _≤_, _<_}
 use native.Mathlib.Omega.{arith}
-use mathlib.Core.Path.{_≡_, refl, ap, subst, _∙_}
+use mathlib.Core.Path.{_≡_, refl, sym, ap, subst, _∙_}
+use mathlib.Core.Logic.{_⊎_, inl, inr, _≢_}
 use mathlib.Core.Bool.{Bool, true, false, _||_, cond}
 use mathlib.Core.List.{List, _++_}
 use mathlib.Core.Option.{Option, some, none}
 use lib.ListN.{length}
 use lib.Dec.{eqb, ltb}
-use borrow.Author.Tests.{eqb-true, ltb-true}
+use borrow.Author.Tests.{eqb-true, eqb-false, eq-eqb, ltb-true}
 use Rattle.protocol.specs.Bytes.{Bytes}
 use Rattle.protocol.specs.Tests.{implies, inRange, Row, firstRefusal}
 use Rattle.protocol.specs.Block.{blockWellFormed}
 use Rattle.protocol.specs.Mask.{inMask, union, belowBit}
-use Rattle.protocol.specs.Frame.{kind, signer, frameHeight, signerMask, frameDigest, frameBlock, frameWellFormed, isStatement, carriesBlock}
+use Rattle.protocol.specs.Frame.{kind, signer, frameHeight, signerMask, frameDigest, frameBlock, frameWellFormed, isStatement, isCertificate, carriesBlock}
 use Rattle.protocol.specs.State.{State, Height, at, last, holdsProposal, isNotarized, withHeight}
 use Rattle.protocol.specs.View.{View, quorum}
 use Rattle.protocol.specs.Sound.{view}
 use Rattle.protocol.specs.Deliver.{keepDummyVote, keepFinalize, keepBlockCertificate, keepDummyCertificate, keepFinalizeCertificate, keepProposal, keepBlockVote, keep, readRows, withProposal, withVote}
 use Rattle.protocol.specs.MaskLaws.{Within, inMask-add-keep, add-below, below-lt}
 use Rattle.protocol.specs.UnionLaws.{union-left, union-lt}
-use Rattle.protocol.specs.TestsLaws.{cond-elim}
+use Rattle.protocol.specs.TestsLaws.{cond-elim, or-true}
 use Rattle.protocol.specs.RowLaws.{row, row-passes, in-range}
 use Rattle.protocol.specs.BytesLaws.{length-part}
 use Rattle.protocol.specs.StateLaws.{ShapedHeight}
@@ -48,7 +49,7 @@ read-facts s frame rest e =
     record { formed = r4 .0; low = range .0; high = range .1; members = r5 .0; enough = r9 .0 }
 
 -- a fact of what there is, if there is something
-OnSome : (Height → Type 0) → Option Height → Type 0
+unfoldable pub OnSome : (Height → Type 0) → Option Height → Type 0
 OnSome P none = Unit {0}
 OnSome P (some x) = P x
 
@@ -65,7 +66,7 @@ module _ (digest : Bytes → Bytes) (s : State) (is : SoundState digest s) (fram
   abbrev Fits : Height → Type 0
   Fits y = Replaces v h x y
 
-  here : SoundHeight v h x
+  pub here : SoundHeight v h x
   here = is .each h (facts .low) (facts .high)
 
   pub shaped : ShapedHeight x
@@ -95,7 +96,7 @@ module _ (digest : Bytes → Bytes) (s : State) (is : SoundState digest s) (fram
   mask-enough : (k : ℕ) → kind frame ≡ k → isStatement k ≡ false → quorum v (signerMask frame) ≡ true
   mask-enough k e statement = subst (λ (b : Bool). (b || quorum v (signerMask frame)) ≡ true) (ap isStatement e ∙ statement) (facts .enough)
 
-  block-good : (k : ℕ) → kind frame ≡ k → carriesBlock k ≡ true → blockWellFormed h (frameBlock frame) ≡ true
+  pub block-good : (k : ℕ) → kind frame ≡ k → carriesBlock k ≡ true → blockWellFormed h (frameBlock frame) ≡ true
   unfolding frameWellFormed implies
   block-good k e carries = subst (λ (b : Bool). implies b (blockWellFormed h (frameBlock frame)) ≡ true) (ap carriesBlock e ∙ carries) (row _ 8 (facts .formed))
 
@@ -149,15 +150,45 @@ module _ (digest : Bytes → Bytes) (s : State) (is : SoundState digest s) (fram
       (union-lt (v .n) (x .finalizeMask) (signerMask frame))
       (same-mask (x .dummyMask)) (λ t l m. union-left (v .n) (x .finalizeMask) (signerMask frame) t l m))
 
-  keep-fits : OnSome Fits (keep digest s frame)
+  -- ---- by the kind of the frame, which is one of seven
+  known-kind : (1 ≤ kind frame) × (kind frame ≤ 7)
+  unfolding frameWellFormed isStatement isCertificate
+  known-kind = go (or-true (isStatement (kind frame)) (isCertificate (kind frame)) (row _ 1 (facts .formed)))
+    where
+      go : (isStatement (kind frame) ≡ true) ⊎ (isCertificate (kind frame) ≡ true) → (1 ≤ kind frame) × (kind frame ≤ 7)
+      go (inl e) = let range = in-range 1 4 (kind frame) e in (range .0, omega (arith, range .1))
+      go (inr e) = let range = in-range 5 7 (kind frame) e in (omega (arith, range .0), range .1)
+
+  pub by-kind : (P : ℕ → Option Height → Type 0) →
+      (kind frame ≡ 1 → P 1 (keepProposal digest v x frame)) →
+      (kind frame ≡ 2 → P 2 (keepBlockVote digest v x frame)) →
+      (kind frame ≡ 3 → P 3 (keepDummyVote x frame)) → (kind frame ≡ 4 → P 4 (keepFinalize x frame)) →
+      (kind frame ≡ 5 → P 5 (keepBlockCertificate x frame)) →
+      (kind frame ≡ 6 → P 6 (keepDummyCertificate (v .n) x frame)) →
+      (kind frame ≡ 7 → P 7 (keepFinalizeCertificate (v .n) x frame)) → P (kind frame) (keep digest s frame)
   unfolding keep view
-  keep-fits =
-      cond-elim (OnSome Fits) (eqb (kind frame) 1) (λ e. proposal-kept (eqb-true _ _ e)) λ _.
-      cond-elim (OnSome Fits) (eqb (kind frame) 2) (λ e. vote-kept (eqb-true _ _ e)) λ _.
-      cond-elim (OnSome Fits) (eqb (kind frame) 3) (λ e. dummy-kept (eqb-true _ _ e)) λ _.
-      cond-elim (OnSome Fits) (eqb (kind frame) 4) (λ e. finalize-kept (eqb-true _ _ e)) λ _.
-      cond-elim (OnSome Fits) (eqb (kind frame) 5) (λ e. block-certificate-kept (eqb-true _ _ e)) λ _.
-      cond-elim (OnSome Fits) (eqb (kind frame) 6) (λ _. dummy-certificate-kept) λ _. finalize-certificate-kept
+  by-kind P p1 p2 p3 p4 p5 p6 p7 =
+      cond-elim (P (kind frame)) (eqb (kind frame) 1) (λ e. of 1 e p1) λ one.
+      cond-elim (P (kind frame)) (eqb (kind frame) 2) (λ e. of 2 e p2) λ two.
+      cond-elim (P (kind frame)) (eqb (kind frame) 3) (λ e. of 3 e p3) λ three.
+      cond-elim (P (kind frame)) (eqb (kind frame) 4) (λ e. of 4 e p4) λ four.
+      cond-elim (P (kind frame)) (eqb (kind frame) 5) (λ e. of 5 e p5) λ five.
+      cond-elim (P (kind frame)) (eqb (kind frame) 6) (λ e. of 6 e p6) λ six.
+      let a : kind frame ≢ 1 = eqb-false _ _ one in
+      let b : kind frame ≢ 2 = eqb-false _ _ two in
+      let c : kind frame ≢ 3 = eqb-false _ _ three in
+      let d : kind frame ≢ 4 = eqb-false _ _ four in
+      let e : kind frame ≢ 5 = eqb-false _ _ five in
+      let f : kind frame ≢ 6 = eqb-false _ _ six in
+      let k : kind frame ≡ 7 = omega (arith, known-kind .0, known-kind .1) in
+      of 7 (eq-eqb _ _ k) p7
+    where
+      of : (k : ℕ) {o : Option Height} → eqb (kind frame) k ≡ true → (kind frame ≡ k → P k o) → P (kind frame) o
+      of k {o} e p = let q = eqb-true (kind frame) k e in subst (λ (z : ℕ). P z o) (sym q) (p q)
+
+  keep-fits : OnSome Fits (keep digest s frame)
+  keep-fits = by-kind (λ _. OnSome Fits) proposal-kept vote-kept dummy-kept finalize-kept block-certificate-kept
+      (λ _. dummy-certificate-kept) (λ _. finalize-certificate-kept)
 
   placed : (k : ℕ) → 1 ≤ k → k ≤ last s → (y : Height) → Replaces v k (at s k) y → SoundState digest (withHeight s k y)
   placed zero low high y fits = absurd (omega arith)

@@ -1,459 +1,144 @@
--- Deliver keeps what `Keeping` says, kind by kind.
-use Prim.Native.Nat.{ℕ, zero, suc, _+_, _%_, _^_, _≤_, _<_}
+-- Deliver leaves what `Keeping` says.
+use Prim.Native.Nat.{ℕ, suc, _-_, _<_}
 use native.Mathlib.Omega.{arith}
 use native.Mathlib.Decide.{ℕ-discrete}
 use mathlib.Core.Path.{_≡_, refl, sym, ap, subst, _∙_}
-use mathlib.Core.Logic.{_⊎_, inl, inr, _≢_}
-use mathlib.Core.Bool.{Bool, true, false, _||_, not, true≢false}
-use mathlib.Core.List.{[], _∷_}
+use mathlib.Core.Logic.{_≢_}
+use mathlib.Core.List.{List, [], _∷_}
+use mathlib.Core.Bool.{true, false, true≢false}
 use mathlib.Core.Option.{Option, some, none}
-use lib.ListN.{length}
-use lib.Dec.{eqb, leb}
-use borrow.Author.Tests.{eqb-true, eqb-false, eq-eqb, leb-true, leb-false, le-leb, not-true}
-use Rattle.protocol.specs.Bytes.{Bytes, same}
-use Rattle.protocol.specs.Tests.{allOf, implies, inRange, firstRefusal}
-use Rattle.protocol.specs.Answer.{Outcome, refused, accepted, Delivery, unlessRefused}
-use Rattle.protocol.specs.Mask.{inMask, union}
-use Rattle.protocol.specs.Frame.{kind, signer, frameHeight, signerMask, frameDigest, frameBlock, frameWellFormed, isStatement, isCertificate}
-use Rattle.protocol.specs.State.{State, Height, at, last, withHeight, decode, holdsProposal, isNotarized, voteOf}
-use Rattle.protocol.specs.View.{View, quorum}
-use Rattle.protocol.specs.Deliver.{withProposal, withNotarized, withMasks, withVote, votersFor, notarize, keepProposal, keepBlockVote, keepDummyVote, keepFinalize, keepBlockCertificate, keepDummyCertificate, keepFinalizeCertificate, keep, kept, readRows, clashRows, deliverRows, deliverCall}
-use Rattle.protocol.specs.MaskLaws.{inMask-add-self, inMask-add-other}
-use Rattle.protocol.specs.UnionLaws.{union-bit}
-use Rattle.protocol.specs.TestsLaws.{cond-elim, eqb-self, or-true}
-use Rattle.protocol.specs.RowLaws.{row, row-passes, same-eq, in-range}
-use Rattle.protocol.specs.Sound.{view}
-use Rattle.protocol.specs.StateLaws.{ShapedHeight, decode-encode}
-use Rattle.protocol.specs.PlaceLaws.{with-at, at-with}
-use Rattle.protocol.specs.SoundLaws.{SoundState, sound-decode}
-use Rattle.protocol.specs.VoteLaws.{vote-same, vote-other}
-use Rattle.conduct.specs.DeliverKeptLaws.{ReadFacts, read-facts, keep-sound, shaped, digest-size, signer-small}
-use Rattle.conduct.specs.Keeping.{says, Keeps, KeepsMasks, KeepsVotes, KeepsProposal, KeepsBlock, KeepsAt, Voted, Tallied, ByVotes, voters}
+use lib.ListN.{length, length-set}
+use Rattle.protocol.specs.Bytes.{Bytes, byteAt}
+use Rattle.protocol.specs.Tests.{firstRefusal}
+use Rattle.protocol.specs.BytesLaws.{AreBytes}
+use Rattle.protocol.specs.Answer.{Outcome, accepted, Delivery, known, fresh, unlessRefused}
+use Rattle.protocol.specs.Frame.{frameHeight}
+use Rattle.protocol.specs.State.{State, Height, at, last, withHeight, encode, decode}
+use Rattle.protocol.specs.Sound.{sound}
+use Rattle.protocol.specs.Deliver.{keep, kept, deliverRows, deliverCall}
+use Rattle.protocol.specs.RowLaws.{row-passes}
+use Rattle.protocol.specs.StateLaws.{decode-encode}
+use Rattle.protocol.specs.PlaceLaws.{length-encode}
+use Rattle.protocol.specs.CodecLaws.{last-decode}
+use Rattle.protocol.specs.SoundLaws.{SoundState, exact, sound-decode, encode-decode, sound-encode}
+use Rattle.conduct.specs.DeliverKeptLaws.{keep-sound}
+use Rattle.conduct.specs.KeptBytes.{Part, SameOutside, deliveryParts}
+use Rattle.conduct.specs.KeptBytesLaws.{keep-only, keep-other}
+use Rattle.conduct.specs.KeepsStateLaws.{refused≢accepted, at-placed, placed-same, facts, outcome}
+use Rattle.conduct.specs.Keeping.{Keeps}
 
-pub refused≢accepted : {A : Type 0} (number : ℕ) (answer : A) → refused number ≡ accepted answer → ⊥
-refused≢accepted number answer e = true≢false (let impossible : true ≡ false = cc in impossible)
-
--- ---- bits of masks
-or-none : (b : Bool) → b ≡ (b || false)
-or-none true = refl
-or-none false = refl
-
-or-known : (b c : Bool) → (c ≡ true → b ≡ true) → b ≡ (b || c)
-or-known true c e = refl
-or-known false true e = absurd (true≢false (sym (e refl)))
-or-known false false e = refl
-
--- a bit that the mask has already
-known-bit : (m s t : ℕ) → inMask m s ≡ true → inMask m t ≡ (inMask m t || eqb s t)
-known-bit m s t has = or-known _ _ (λ e. rw (← eqb-true s t e) has)
-
--- bits that the mask has already
-known-bits : {n : ℕ} (m more t : ℕ) → t < n → union n m more ≡ m → inMask m t ≡ (inMask m t || inMask more t)
-known-bits {n} m more t l e = ap (λ (z : ℕ). inMask z t) (sym e) ∙ union-bit n m more t l
-
--- a bit that joins the mask
-new-bit : (m s t : ℕ) → inMask m s ≡ false → inMask (m + 2 ^ s) t ≡ (inMask m t || eqb s t)
-new-bit m s t free = go (ℕ-discrete t s)
+-- two byte strings of the same length that are not the same differ at a byte
+differ : (a b : Bytes) → length a ≡ length b → a ≢ b → (i : ℕ) × (i < length b) × (byteAt a i ≢ byteAt b i)
+differ [] [] size other = absurd (other refl)
+differ [] (y ∷ ys) size other = absurd (omega arith)
+differ (x ∷ xs) [] size other = absurd (omega arith)
+differ (x ∷ xs) (y ∷ ys) size other = go (ℕ-discrete x y) (λ e. differ xs ys (omega arith) e)
   where
-    go : Dec (t ≡ s) → inMask (m + 2 ^ s) t ≡ (inMask m t || eqb s t)
-    go (yes e) = rw (e, free, eqb-self s) (inMask-add-self m s free)
-    go (no e) = rw (distinct (eqb s t) refl) (inMask-add-other m s t free e ∙ or-none _)
-      where
-        distinct : (b : Bool) → eqb s t ≡ b → eqb s t ≡ false
-        distinct true f = absurd (e (sym (eqb-true s t f)))
-        distinct false f = f
+    go : Dec (x ≡ y) → (xs ≢ ys → (i : ℕ) × (i < length ys) × (byteAt xs i ≢ byteAt ys i)) →
+        (i : ℕ) × (i < suc (length ys)) × (byteAt (x ∷ xs) i ≢ byteAt (y ∷ ys) i)
+    go (no e) later = (0, omega arith, e)
+    go (yes e) later = let (i, l, d) = later (λ same. other (rw (e, same))) in (suc i, omega arith, d)
 
--- ---- statuses
-holds-notarized : (x : Height) (mask : ℕ) (block : Bytes) → holdsProposal (withNotarized x mask block) ≡ holdsProposal x
-unfolding holdsProposal withNotarized
-holds-notarized x mask block = let even : (x .status + 2) % 2 ≡ x .status % 2 = omega arith in ap (λ (r : ℕ). eqb r 1) even
+from-same : {parts : List Part} {a b c : Bytes} → a ≡ b → SameOutside parts a c → SameOutside parts b c
+from-same {parts} {c = c} e same = subst (λ (z : Bytes). SameOutside parts z c) e same
 
-is-notarized : (x : Height) (mask : ℕ) (block : Bytes) → isNotarized (withNotarized x mask block) ≡ true
-unfolding isNotarized withNotarized
-is-notarized x mask block = le-leb 2 (x .status + 2) (omega arith)
+known≢fresh : known ≡ fresh → ⊥
+known≢fresh e = true≢false (let impossible : true ≡ false = cc in impossible)
 
-proposal-status : (x : Height) (block : Bytes) → holdsProposal x ≡ false → isNotarized (withProposal x block) ≡ isNotarized x
-unfolding holdsProposal isNotarized withProposal
-proposal-status x block free = go (leb 2 (x .status)) refl
-  where
-    even : x .status % 2 ≡ 0
-    even = let odd : x .status % 2 ≢ 1 = eqb-false _ _ free in omega arith
-
-    go : (b : Bool) → leb 2 (x .status) ≡ b → leb 2 (x .status + 1) ≡ leb 2 (x .status)
-    go true e = le-leb 2 (x .status + 1) (omega (arith, leb-true 2 (x .status) e)) ∙ sym e
-    go false e =
-        let none-yet : x .status ≡ 0 = omega (arith, even, leb-false 2 (x .status) e) in
-        rw none-yet
-
--- ---- what is as it was
-module _ (n k : ℕ) (frame : Bytes) (x y : Height) where
-  same-masks : ((t : ℕ) → says k 3 6 frame t ≡ false) → ((t : ℕ) → says k 4 7 frame t ≡ false) →
-      y .dummyMask ≡ x .dummyMask → y .finalizeMask ≡ x .finalizeMask → KeepsMasks n k frame x y
-  same-masks other others e e′ = record {
-    dummies = λ t l. rw (e, other t) (or-none _);
-    finalizes = λ t l. rw (e′, others t) (or-none _);
-  }
-
-  same-votes : eqb k 2 ≡ false → y .voterMask ≡ x .voterMask → y .voteDigests ≡ x .voteDigests → KeepsVotes n k frame x y
-  unfolding voteOf
-  same-votes other e e′ = record {
-    voters = λ t l. rw (e, other) (or-none _);
-    first-vote = λ t has. rw e′;
-    this-vote = λ is. absurd (eqb-false k 2 other is);
-  }
-
-  same-proposal : eqb k 1 ≡ false → holdsProposal y ≡ holdsProposal x → y .proposal ≡ x .proposal → KeepsProposal n k frame x y
-  same-proposal other e e′ = record {
-    holds = rw (other, e) (or-none _);
-    first-proposal = λ has. e′;
-    this-proposal = λ is. absurd (eqb-false k 1 other is);
-  }
-
-module _ (digest : Bytes → Bytes) (v : View) (k : ℕ) (frame : Bytes) (x : Height) where
-  same-block : (y : Height) → eqb k 5 ≡ false → isNotarized y ≡ isNotarized x → y .notarized ≡ x .notarized → y .certificateMask ≡ x .certificateMask →
-      (Tallied digest v x → Tallied digest v y) → KeepsBlock digest v k frame x y
-  same-block y other e e′ e″ tally = record {
-    first-block = λ has. (e ∙ has, e′, e″);
-    this-block = λ is. absurd (eqb-false k 5 other is);
-    tallied = tally;
-    only-so = λ has. inl (sym e ∙ has);
-  }
-
-  -- after a proposal or a vote was kept in `z`, its votes are counted
-  module _ (z : Height) (other : eqb k 5 ≡ false) (status : isNotarized z ≡ isNotarized x) (block : z .notarized ≡ x .notarized) (mask : z .certificateMask ≡ x .certificateMask) where
-    by-votes : holdsProposal z ≡ true → quorum v (voters digest v z) ≡ true → ByVotes digest v (withNotarized z (voters digest v z) (z .proposal))
-    unfolding ByVotes Voted withNotarized votersFor voteOf
-    by-votes held enough = ((holds-notarized z (voters digest v z) (z .proposal) ∙ held, enough), refl, refl)
-
-    overlooked : allOf (not (isNotarized z) ∷ holdsProposal z ∷ quorum v (voters digest v z) ∷ []) ≡ false → Tallied digest v z
-    unfolding Tallied Voted allOf
-    overlooked e (held, enough) = go (isNotarized z) refl
-      where
-        go : (b : Bool) → isNotarized z ≡ b → isNotarized z ≡ true
-        go true f = f
-        go false f = absurd (true≢false (rw (f, held, enough) at e))
-
-    counted : KeepsBlock digest v k frame x (notarize digest v z)
-    unfolding notarize Tallied
-    counted =
-        cond-elim (KeepsBlock digest v k frame x) (allOf (not (isNotarized z) ∷ holdsProposal z ∷ quorum v (voters digest v z) ∷ []))
-        (λ e. record {
-          first-block = λ has. absurd (true≢false (sym (status ∙ has) ∙ not-true _ (row _ 0 e)));
-          this-block = λ is. absurd (eqb-false k 5 other is);
-          tallied = λ _ _. is-notarized z _ _;
-          only-so = λ has. inr (inr (by-votes (row _ 1 e) (row _ 2 e)));
-        })
-        (λ e. same-block z other status block mask (λ _. overlooked e))
-
--- ---- each kind of frame, for a height that may be kept as it is
--- the height after a delivery: the new one, or the old one where the frame is known
-unfoldable left : Height → Option Height → Height
-left x none = x
-left x (some y) = y
-
-module _ (digest : Bytes → Bytes) (v : View) (frame : Bytes) (x : Height) where
-  abbrev Kept : ℕ → Option Height → Type 0
-  Kept k o = KeepsAt digest v k frame x (left x o)
-
-  -- the parts that counting the votes leaves alone
-  pub record Before (k : ℕ) (y : Height) : Type 0 where
-    pub leader : y .leader ≡ x .leader
-    pub masks : KeepsMasks (v .n) k frame x y
-    pub votes : KeepsVotes (v .n) k frame x y
-    pub proposal : KeepsProposal (v .n) k frame x y
-
-  notarized-too : (k : ℕ) (z : Height) (mask : ℕ) (block : Bytes) → Before k z → Before k (withNotarized z mask block)
-  unfolding withNotarized voteOf
-  notarized-too k z mask block is = record {
-    leader = is .leader;
-    masks = record { dummies = is .masks .dummies; finalizes = is .masks .finalizes };
-    votes = record { voters = is .votes .voters; first-vote = is .votes .first-vote; this-vote = is .votes .this-vote };
-    proposal = record {
-      holds = holds-notarized z mask block ∙ is .proposal .holds;
-      first-proposal = is .proposal .first-proposal;
-      this-proposal = is .proposal .this-proposal;
-    };
-  }
-
-  notarize-too : (k : ℕ) (z : Height) → Before k z → Before k (notarize digest v z)
-  unfolding notarize
-  notarize-too k z is =
-      cond-elim (Before k) (allOf (not (isNotarized z) ∷ holdsProposal z ∷ quorum v (voters digest v z) ∷ []))
-      (λ _. notarized-too k z (voters digest v z) (z .proposal) is) (λ _. is)
-
-  whole : (k : ℕ) (y : Height) → Before k y → KeepsBlock digest v k frame x y → KeepsAt digest v k frame x y
-  whole k y is block = record { leader = is .leader; masks = is .masks; votes = is .votes; proposal = is .proposal; block = block }
-
-  known-block : (k : ℕ) → eqb k 5 ≡ false → KeepsBlock digest v k frame x x
-  known-block k other = same-block digest v k frame x x other refl refl refl (λ t. t)
-
-  -- ---- kind 1
-  new-proposal : holdsProposal x ≡ false → Before 1 (withProposal x (frameBlock frame))
-  unfolding withProposal holdsProposal voteOf says
-  new-proposal free = record {
-    leader = refl;
-    masks = same-masks (v .n) 1 frame x (withProposal x (frameBlock frame)) (λ t. refl) (λ t. refl) refl refl;
-    votes = same-votes (v .n) 1 frame x (withProposal x (frameBlock frame)) refl refl refl;
-    proposal = record {
-      holds = rw free (eq-eqb ((x .status + 1) % 2) 1 (omega (arith, odd)));
-      first-proposal = λ held. absurd (true≢false (sym held ∙ free));
-      this-proposal = λ _. refl;
-    };
-  }
-    where
-      odd : x .status % 2 ≢ 1
-      odd = eqb-false _ _ free
-
-  proposal-keeps : (holdsProposal x ≡ true → x .proposal ≡ frameBlock frame) → Kept 1 (keepProposal digest v x frame)
-  unfolding keepProposal left says
-  proposal-keeps agrees =
-      cond-elim (Kept 1) (holdsProposal x)
-      (λ held. whole 1 x
-      (record {
-        leader = refl;
-        masks = same-masks (v .n) 1 frame x x (λ t. refl) (λ t. refl) refl refl;
-        votes = same-votes (v .n) 1 frame x x refl refl refl;
-        proposal = record { holds = rw held; first-proposal = λ _. refl; this-proposal = λ _. agrees held };
-      })
-      (known-block 1 refl))
-      (λ free. whole 1 (notarize digest v (withProposal x (frameBlock frame)))
-      (notarize-too 1 (withProposal x (frameBlock frame)) (new-proposal free))
-      (counted digest v 1 frame x (withProposal x (frameBlock frame)) refl (proposal-status x (frameBlock frame) free) (unfold withProposal in refl) (unfold withProposal in refl)))
-
-  -- ---- kind 2
-  module _ (shaped : ShapedHeight x) (few : signer frame < 16) (sized : length (frameDigest frame) ≡ 32) where
-    new-vote : inMask (x .voterMask) (signer frame) ≡ false → Before 2 (withVote x (signer frame) (frameDigest frame))
-    unfolding says
-    new-vote free = record {
-      leader = unfold withVote in refl;
-      masks = same-masks (v .n) 2 frame x (withVote x (signer frame) (frameDigest frame)) (λ t. refl) (λ t. refl) (unfold withVote in refl) (unfold withVote in refl);
-      votes = record {
-        voters = λ t l. unfold withVote in new-bit (x .voterMask) (signer frame) t free;
-        first-vote = λ t has. vote-other x (signer frame) (frameDigest frame) shaped few sized t (λ e. true≢false (sym has ∙ rw e free));
-        this-vote = λ _. vote-same x (signer frame) (frameDigest frame) shaped few sized;
-      };
-      proposal = same-proposal (v .n) 2 frame x (withVote x (signer frame) (frameDigest frame)) refl (unfold withVote holdsProposal in refl) (unfold withVote in refl);
-    }
-
-    vote-keeps : (inMask (x .voterMask) (signer frame) ≡ true → voteOf x (signer frame) ≡ frameDigest frame) → Kept 2 (keepBlockVote digest v x frame)
-    unfolding keepBlockVote left says
-    vote-keeps agrees =
-        cond-elim (Kept 2) (inMask (x .voterMask) (signer frame))
-        (λ has. whole 2 x
-        (record {
-          leader = refl;
-          masks = same-masks (v .n) 2 frame x x (λ t. refl) (λ t. refl) refl refl;
-          votes = record {
-            voters = λ t l. known-bit (x .voterMask) (signer frame) t has;
-            first-vote = λ t _. refl;
-            this-vote = λ _. agrees has;
-          };
-          proposal = same-proposal (v .n) 2 frame x x refl refl refl;
-        })
-        (known-block 2 refl))
-        (λ free. whole 2 (notarize digest v (withVote x (signer frame) (frameDigest frame)))
-        (notarize-too 2 (withVote x (signer frame) (frameDigest frame)) (new-vote free))
-        (counted digest v 2 frame x (withVote x (signer frame) (frameDigest frame)) refl (unfold withVote isNotarized in refl) (unfold withVote in refl) (unfold withVote in refl)))
-
-  -- ---- kinds 3, 4, 6 and 7: one of two masks grows
-  new-masks : (k a b : ℕ) → eqb k 1 ≡ false → eqb k 2 ≡ false → eqb k 5 ≡ false →
-      KeepsMasks (v .n) k frame x (withMasks x a b) → KeepsAt digest v k frame x (withMasks x a b)
-  unfolding withMasks holdsProposal isNotarized voteOf votersFor Tallied Voted
-  new-masks k a b one two five masks = record {
-    leader = refl;
-    masks = masks;
-    votes = same-votes (v .n) k frame x (withMasks x a b) two refl refl;
-    proposal = same-proposal (v .n) k frame x (withMasks x a b) one refl refl;
-    block = same-block digest v k frame x (withMasks x a b) five refl refl refl (λ t. t);
-  }
-
-  old-masks : (k : ℕ) → eqb k 1 ≡ false → eqb k 2 ≡ false → eqb k 5 ≡ false → KeepsMasks (v .n) k frame x x → KeepsAt digest v k frame x x
-  old-masks k one two five masks = record {
-    leader = refl;
-    masks = masks;
-    votes = same-votes (v .n) k frame x x two refl refl;
-    proposal = same-proposal (v .n) k frame x x one refl refl;
-    block = known-block k five;
-  }
-
-  dummy-keeps : Kept 3 (keepDummyVote x frame)
-  unfolding keepDummyVote left says withMasks
-  dummy-keeps =
-      cond-elim (Kept 3) (inMask (x .dummyMask) (signer frame))
-      (λ has. old-masks 3 refl refl refl (record { dummies = λ t l. known-bit (x .dummyMask) (signer frame) t has; finalizes = λ t l. or-none _ }))
-      (λ free. new-masks 3 (x .dummyMask + 2 ^ signer frame) (x .finalizeMask) refl refl refl
-      (record { dummies = λ t l. new-bit (x .dummyMask) (signer frame) t free; finalizes = λ t l. or-none _ }))
-
-  finalize-keeps : Kept 4 (keepFinalize x frame)
-  unfolding keepFinalize left says withMasks
-  finalize-keeps =
-      cond-elim (Kept 4) (inMask (x .finalizeMask) (signer frame))
-      (λ has. old-masks 4 refl refl refl (record { dummies = λ t l. or-none _; finalizes = λ t l. known-bit (x .finalizeMask) (signer frame) t has }))
-      (λ free. new-masks 4 (x .dummyMask) (x .finalizeMask + 2 ^ signer frame) refl refl refl
-      (record { dummies = λ t l. or-none _; finalizes = λ t l. new-bit (x .finalizeMask) (signer frame) t free }))
-
-  dummy-certificate-keeps : Kept 6 (keepDummyCertificate (v .n) x frame)
-  unfolding keepDummyCertificate left says withMasks
-  dummy-certificate-keeps =
-      cond-elim (Kept 6) (eqb (union (v .n) (x .dummyMask) (signerMask frame)) (x .dummyMask))
-      (λ e. old-masks 6 refl refl refl (record { dummies = λ t l. known-bits (x .dummyMask) (signerMask frame) t l (eqb-true _ _ e); finalizes = λ t l. or-none _ }))
-      (λ _. new-masks 6 (union (v .n) (x .dummyMask) (signerMask frame)) (x .finalizeMask) refl refl refl
-      (record { dummies = λ t l. union-bit (v .n) (x .dummyMask) (signerMask frame) t l; finalizes = λ t l. or-none _ }))
-
-  finalize-certificate-keeps : Kept 7 (keepFinalizeCertificate (v .n) x frame)
-  unfolding keepFinalizeCertificate left says withMasks
-  finalize-certificate-keeps =
-      cond-elim (Kept 7) (eqb (union (v .n) (x .finalizeMask) (signerMask frame)) (x .finalizeMask))
-      (λ e. old-masks 7 refl refl refl (record { dummies = λ t l. or-none _; finalizes = λ t l. known-bits (x .finalizeMask) (signerMask frame) t l (eqb-true _ _ e) }))
-      (λ _. new-masks 7 (x .dummyMask) (union (v .n) (x .finalizeMask) (signerMask frame)) refl refl refl
-      (record { dummies = λ t l. or-none _; finalizes = λ t l. union-bit (v .n) (x .finalizeMask) (signerMask frame) t l }))
-
-  -- ---- kind 5
-  certificate-keeps : (isNotarized x ≡ true → x .notarized ≡ frameBlock frame) → Kept 5 (keepBlockCertificate x frame)
-  unfolding keepBlockCertificate left says Tallied
-  certificate-keeps agrees =
-      cond-elim (Kept 5) (isNotarized x)
-      (λ has. whole 5 x same-parts
-      (record {
-        first-block = λ is. (is, refl, refl);
-        this-block = λ _. (has, agrees has);
-        tallied = λ t. t;
-        only-so = λ is. inl is;
-      }))
-      (λ free. whole 5 (withNotarized x (signerMask frame) (frameBlock frame))
-      (notarized-too 5 x (signerMask frame) (frameBlock frame) same-parts)
-      (record {
-        first-block = λ has. absurd (true≢false (sym has ∙ free));
-        this-block = λ _. (is-notarized x (signerMask frame) (frameBlock frame), unfold withNotarized in refl);
-        tallied = λ _ _. is-notarized x (signerMask frame) (frameBlock frame);
-        only-so = λ _. inr (inl refl);
-      }))
-    where
-      same-parts : Before 5 x
-      same-parts = record {
-        leader = refl;
-        masks = same-masks (v .n) 5 frame x x (λ t. refl) (λ t. refl) refl refl;
-        votes = same-votes (v .n) 5 frame x x refl refl refl;
-        proposal = same-proposal (v .n) 5 frame x x refl refl refl;
-      }
-
--- ---- the whole delivery
-module _ (digest : Bytes → Bytes) (s : State) (is : SoundState digest s) (frame : Bytes) (facts : ReadFacts s frame) (clash : firstRefusal (clashRows s frame) ≡ none) where
-  abbrev x : Height
-  x = at s (frameHeight frame)
-
-  proposal-agrees : kind frame ≡ 1 → holdsProposal x ≡ true → x .proposal ≡ frameBlock frame
-  unfolding clashRows implies
-  proposal-agrees e held = same-eq _ _ (rw (e, held) at (row-passes _ _ clash .0))
-
-  vote-agrees : kind frame ≡ 2 → inMask (x .voterMask) (signer frame) ≡ true → voteOf x (signer frame) ≡ frameDigest frame
-  unfolding clashRows implies
-  vote-agrees e has = same-eq _ _ (rw (e, has) at (row-passes _ _ (row-passes _ _ clash .1) .0))
-
-  block-agrees : kind frame ≡ 5 → isNotarized x ≡ true → x .notarized ≡ frameBlock frame
-  unfolding clashRows implies
-  block-agrees e has = same-eq _ _ (rw (e, has) at (row-passes _ _ (row-passes _ _ (row-passes _ _ clash .1) .1) .0))
-
-  known-kind : (1 ≤ kind frame) × (kind frame ≤ 7)
-  unfolding frameWellFormed isStatement isCertificate
-  known-kind = go (or-true (isStatement (kind frame)) (isCertificate (kind frame)) (row _ 1 (facts .formed)))
-    where
-      go : (isStatement (kind frame) ≡ true) ⊎ (isCertificate (kind frame) ≡ true) → (1 ≤ kind frame) × (kind frame ≤ 7)
-      go (inl e) = let range = in-range 1 4 (kind frame) e in (range .0, omega (arith, range .1))
-      go (inr e) = let range = in-range 5 7 (kind frame) e in (omega (arith, range .0), range .1)
-
-  few : kind frame ≡ 2 → signer frame < 16
-  unfolding view
-  few e = omega (arith, signer-small digest s is frame facts 2 e (unfold isStatement inRange in refl), is .n-high)
-
-  -- by the kind: the statement for the kind's number, put back at the frame's own kind
-  abbrev Here : Option Height → Type 0
-  Here o = KeepsAt digest (view s) (kind frame) frame x (left x o)
-
-  of-kind : (k : ℕ) (o : Option Height) → kind frame ≡ k → KeepsAt digest (view s) k frame x (left x o) → Here o
-  of-kind k o e kept = subst (λ (z : ℕ). KeepsAt digest (view s) z frame x (left x o)) (sym e) kept
-
-  keep-keeps : Here (keep digest s frame)
-  unfolding keep view
-  keep-keeps =
-      cond-elim Here (eqb (kind frame) 1) (λ e. let k = eqb-true _ _ e in of-kind 1 _ k (proposal-keeps digest (view s) frame x (proposal-agrees k))) λ one.
-      cond-elim Here (eqb (kind frame) 2) (λ e. let k = eqb-true _ _ e in of-kind 2 _ k (vote-keeps digest (view s) frame x (shaped digest s is frame facts) (few k) (digest-size digest s is frame facts) (vote-agrees k))) λ two.
-      cond-elim Here (eqb (kind frame) 3) (λ e. of-kind 3 _ (eqb-true _ _ e) (dummy-keeps digest (view s) frame x)) λ three.
-      cond-elim Here (eqb (kind frame) 4) (λ e. of-kind 4 _ (eqb-true _ _ e) (finalize-keeps digest (view s) frame x)) λ four.
-      cond-elim Here (eqb (kind frame) 5) (λ e. let k = eqb-true _ _ e in of-kind 5 _ k (certificate-keeps digest (view s) frame x (block-agrees k))) λ five.
-      cond-elim Here (eqb (kind frame) 6) (λ e. of-kind 6 _ (eqb-true _ _ e) (dummy-certificate-keeps digest (view s) frame x)) λ six.
-      of-kind 7 _ (seven one two three four five six) (finalize-certificate-keeps digest (view s) frame x)
-    where
-      seven : eqb (kind frame) 1 ≡ false → eqb (kind frame) 2 ≡ false → eqb (kind frame) 3 ≡ false → eqb (kind frame) 4 ≡ false →
-          eqb (kind frame) 5 ≡ false → eqb (kind frame) 6 ≡ false → kind frame ≡ 7
-      seven a b c d e f =
-          let a′ : kind frame ≢ 1 = eqb-false _ _ a in
-          let b′ : kind frame ≢ 2 = eqb-false _ _ b in
-          let c′ : kind frame ≢ 3 = eqb-false _ _ c in
-          let d′ : kind frame ≢ 4 = eqb-false _ _ d in
-          let e′ : kind frame ≢ 5 = eqb-false _ _ e in
-          let f′ : kind frame ≢ 6 = eqb-false _ _ f in
-          omega (arith, known-kind .0, known-kind .1)
-
-  abbrev after : State
-  after = withHeight s (frameHeight frame) (left x (keep digest s frame))
-
-  at-after : (h : ℕ) (y : Height) → 1 ≤ h → h ≤ last s → at (withHeight s h y) h ≡ y
-  at-after zero y low high = absurd (omega arith)
-  at-after (suc i) y low high = at-with s i y high
-
-  same-after : (h : ℕ) → 1 ≤ h → withHeight s h (at s h) ≡ s
-  same-after zero low = absurd (omega arith)
-  same-after (suc i) low = with-at s i
-
-  keeps : Keeps digest s after frame
-  keeps =
-      let found = at-after (frameHeight frame) (left x (keep digest s frame)) (facts .low) (facts .high) in
-      record {
-        elsewhere = ap (λ (y : Height). withHeight s (frameHeight frame) y) (sym found);
-        here = rw found keep-keeps;
-      }
+-- the answer where a height changes to another, and where none does
+newsOf : Option Height → Delivery
+newsOf none = known
+newsOf (some y) = fresh
 
 module _ (digest : Bytes → Bytes) (book frame : Bytes) (passes : firstRefusal (deliverRows digest book frame) ≡ none) where
   abbrev s : State
   s = decode book
 
+  abbrev h : ℕ
+  h = frameHeight frame
+
+  was-sound : sound digest book ≡ true
+  unfolding deliverRows
+  was-sound = row-passes _ _ passes .0
+
   state : SoundState digest s
-  unfolding deliverRows
-  state = sound-decode digest book (row-passes _ _ passes .0)
+  state = sound-decode digest book was-sound
 
-  pub facts : ReadFacts s frame
-  unfolding deliverRows
-  facts = read-facts s frame (clashRows s frame) (row-passes _ _ passes .1)
+  -- the frame is news: its height becomes `y`
+  module _ (y : Height) (e : keep digest s frame ≡ some y) where
+    abbrev s′ : State
+    s′ = withHeight s h y
 
-  clash : firstRefusal (clashRows s frame) ≡ none
-  unfolding deliverRows readRows
-  clash =
-      let r4 = row-passes _ _ (row-passes _ _ passes .1) in
-      let r6 = row-passes _ _ (r4 .1) in
-      let r5 = row-passes _ _ (r6 .1) in
-      let r7 = row-passes _ _ (r5 .1) in
-      row-passes _ _ (r7 .1) .1
+    sound-after : SoundState digest s′
+    sound-after = keep-sound digest s state frame (facts digest book frame passes) y e
 
-  pub outcome : (o : Option Height) → keep digest s frame ≡ o → Keeps digest s (decode (kept digest book frame o .book)) frame
-  unfolding kept left
-  outcome none e =
-      let same : after digest s state frame facts clash ≡ s = rw e (same-after digest s state frame facts clash (frameHeight frame) (facts .low)) in
-      subst (λ (z : State). Keeps digest s z frame) same (keeps digest s state frame facts clash)
-  outcome (some y) e =
-      let same : after digest s state frame facts clash ≡ withHeight s (frameHeight frame) y = rw e refl in
-      let back = decode-encode (withHeight s (frameHeight frame) y) (keep-sound digest s state frame facts y e .shaped) in
-      subst (λ (z : State). Keeps digest s z frame) (same ∙ sym back) (keeps digest s state frame facts clash)
+    size-after : length (encode s′) ≡ length book
+    size-after = length-encode s′ (sound-after .shaped) ∙
+        rw (placed-last, last-decode book) (sym (exact digest book was-sound))
+      where
+        placed-last : last s′ ≡ last s
+        placed-last = unfold last withHeight in length-set (s .heights) (h - 1) y
+
+    here : at (decode (encode s′)) h ≡ y
+    here =
+        ap (λ (z : State). at z h) (decode-encode s′ (sound-after .shaped)) ∙
+        at-placed s h y (facts digest book frame passes .low) (facts digest book frame passes .high)
+
+    changed : encode s′ ≢ book
+    changed same = keep-other digest s state frame (facts digest book frame passes) y e
+        (sym here ∙ ap (λ (b : Bytes). at (decode b) h) same)
+
+    untouched : AreBytes book → SameOutside (deliveryParts book frame (encode s′)) book (encode s′)
+    unfolding deliveryParts
+    untouched small =
+        let before : encode (withHeight s h (at s h)) ≡ book =
+        ap encode (placed-same s h (facts digest book frame passes .low)) ∙
+        encode-decode digest book was-sound small in
+        rw (here, ← last-decode book) (from-same before
+        (keep-only digest s state frame (facts digest book frame passes) y e))
+
+  all-kept : (o : Option Height) → keep digest s frame ≡ o →
+      Keeps digest book frame (newsOf o) (kept digest book frame o .book)
+  unfolding kept newsOf
+  all-kept none e = record {
+    known-same = λ _. refl;
+    fresh-differs = λ is. absurd (known≢fresh is);
+    other-bytes = λ _. record { same-byte = λ _ _. refl };
+    same-length = refl;
+    keeps = outcome digest book frame passes none e;
+    stays-sound = was-sound;
+  }
+  all-kept (some y) e = record {
+    known-same = λ is. absurd (known≢fresh (sym is));
+    fresh-differs = λ _. differ (encode (withHeight s h y)) book (size-after y e) (changed y e);
+    other-bytes = untouched y e;
+    same-length = size-after y e;
+    keeps = outcome digest book frame passes (some y) e;
+    stays-sound = sound-encode digest (withHeight s h y) (sound-after y e);
+  }
+
+  answered : (o : Option Height) → kept digest book frame o .answer ≡ accepted (newsOf o)
+  unfolding kept newsOf
+  answered none = refl
+  answered (some y) = refl
 
 -- a delivery that is not refused keeps what its frame states, and changes nothing else
 pub deliver-keeps : (digest : Bytes → Bytes) (book frame : Bytes) (news : Delivery) → deliverCall digest book frame .answer ≡ accepted news →
-    Keeps digest (decode book) (decode (deliverCall digest book frame .book)) frame
+    Keeps digest book frame news (deliverCall digest book frame .book)
 unfolding deliverCall
 deliver-keeps digest book frame news = go (firstRefusal (deliverRows digest book frame)) refl
   where
     done : Option ℕ → Outcome Delivery
     done r = unlessRefused r book (kept digest book frame (keep digest (decode book) frame))
 
-    go : (r : Option ℕ) → firstRefusal (deliverRows digest book frame) ≡ r → done r .answer ≡ accepted news → Keeps digest (decode book) (decode (done r .book)) frame
-    go none e accepts = unfold unlessRefused in outcome digest book frame e (keep digest (decode book) frame) refl
+    same-news : {a b : Delivery} → accepted a ≡ accepted b → a ≡ b
+    same-news e = cc
+
+    go : (r : Option ℕ) → firstRefusal (deliverRows digest book frame) ≡ r → done r .answer ≡ accepted news →
+        Keeps digest book frame news (done r .book)
+    go none e accepts = unfold unlessRefused in
+        let o : Option Height = keep digest (decode book) frame in
+        let said : newsOf o ≡ news = same-news (sym (answered digest book frame e o) ∙ accepts) in
+        subst (λ (z : Delivery). Keeps digest book frame z (kept digest book frame o .book)) said
+        (all-kept digest book frame e o refl)
     go (some number) e accepts = absurd (refused≢accepted number news (unfold unlessRefused in accepts))

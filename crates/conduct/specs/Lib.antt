@@ -2,7 +2,16 @@
 pub mod SoundKept
 pub mod WrittenRead
 pub mod Keeping
+pub mod KeptBytes
+pub mod KeepsStateLaws
+pub mod KeptBytesLaws
 pub mod KeepingLaws
+pub mod KeepsExactLaws
+pub mod WrongDeliveries
+pub mod Refusals
+pub mod RefusalsLaws
+pub mod BookBytes
+pub mod BookBytesLaws
 pub mod Tallying
 pub mod TallyingLaws
 pub mod Fields

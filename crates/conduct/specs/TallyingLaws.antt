@@ -30,8 +30,8 @@ use Rattle.conduct.specs.MoveKeptLaws.{step-sound}
 use Rattle.conduct.specs.SubmitKeptLaws.{submit-sound}
 use Rattle.conduct.specs.GrowsLaws.{same-quorum, views-alike}
 use Rattle.conduct.specs.Grows.{SameReplicas}
-use Rattle.conduct.specs.Keeping.{Voted, Tallied, AllTallied, Keeps}
-use Rattle.conduct.specs.KeepingLaws.{refused≢accepted, facts, outcome}
+use Rattle.conduct.specs.Keeping.{Voted, Tallied, AllTallied, KeepsState}
+use Rattle.conduct.specs.KeepsStateLaws.{refused≢accepted, facts, outcome}
 use Rattle.conduct.specs.HeightKeptLaws.{each-height}
 
 module _ (digest : Bytes → Bytes) where
@@ -141,7 +141,8 @@ module _ (digest : Bytes → Bytes) where
         same-tally (view s) (view (withHeight s (suc i) y)) (at (withHeight s (suc i) y) h) (views-alike s (withHeight s (suc i) y) (unfold withHeight in refl))
         (each-height s i high y (λ (k : ℕ) (z : Height). Tallied digest (view s) z) new all h from)
 
-    delivered : (frame : Bytes) (after : State) → Keeps digest s after frame → 1 ≤ frameHeight frame → frameHeight frame ≤ last s → AllTallied digest after
+    delivered : (frame : Bytes) (after : State) → KeepsState digest s after frame →
+        1 ≤ frameHeight frame → frameHeight frame ≤ last s → AllTallied digest after
     delivered frame after keeps low high =
         let new = keeps .here .block .tallied (all (frameHeight frame) low) in
         subst (AllTallied digest) (sym (keeps .elsewhere)) (placed (frameHeight frame) (at after (frameHeight frame)) low high new)

@@ -1,55 +1,181 @@
 -- The demands at SHA-256, over the bytes of books: nothing is asked of the digest here, and nothing is left open.
+--
+-- Demand 1 is the contracts: each function answers, and leaves in every byte lent to it, what its definition says.
+--
+--   call            definition, in protocol                    function, in replica
+--   Open            Open.openCall                              open::open
+--   Deliver         Deliver.deliverCall sha256                 deliver::deliver
+--   Move            Move.moveCall sha256                       make_move::make_move
+--   Signal          Signal.signalCall sha256                   signal::signal
+--   Submit          Submit.submitCall sha256                   submit::submit
+--   Register size   Read.sizeCall sha256                       read::size
+--   Read            Read.readPart sha256, the part returned    read::read
+--                   Read.readBuffer sha256, every byte         read::read_into
+--   Fetch           Fetch.fetchCall sha256                     fetch::fetch
+--
+-- What these definitions say follows, demand by demand. A premise `AreBytes book` says that each number of the book is
+-- below 256, as in a byte slice.
 use Prim.Native.Nat.{ℕ, _≤_}
 use mathlib.Core.Path.{_≡_}
 use mathlib.Core.Bool.{true}
-use mathlib.Core.List.{List}
+use mathlib.Core.List.{List, [], _∷_}
 use lib.ListN.{length}
 use borrow.Author.Tests.{le-leb}
 use Rattle.sha256.specs.Digest.{sha256}
 use Rattle.sha256.specs.DigestLaws.{sha256-length}
 use Rattle.protocol.specs.Bytes.{Bytes}
+use Rattle.protocol.specs.BytesLaws.{AreBytes}
 use Rattle.protocol.specs.Tests.{firstRefusal}
 use Rattle.protocol.specs.State.{decode}
 use Rattle.protocol.specs.Sound.{sound}
 use Rattle.protocol.specs.SoundLaws.{sound-decode}
-use Rattle.protocol.specs.Answer.{Delivery, accepted, done}
-use Rattle.protocol.specs.Open.{openCall}
-use Rattle.protocol.specs.Deliver.{deliverCall}
+use Rattle.protocol.specs.Answer.{Done, Delivery, Move, accepted, done}
+use Rattle.protocol.specs.Open.{openRows, openCall}
+use Rattle.protocol.specs.Deliver.{deliverRows, deliverCall}
 use Rattle.protocol.specs.Move.{step, moved, moveRows, moveCall, unlessMoveRefused}
+use Rattle.protocol.specs.Signal.{signalRows, signalCall}
+use Rattle.protocol.specs.Submit.{submitRows, submitCall}
+use Rattle.protocol.specs.Read.{sizeCall, readPart, readBuffer}
+use Rattle.protocol.specs.Fetch.{fetchRows, fetchCall}
 use Rattle.agreement.specs.Lists.{Agreement}
 use Rattle.agreement.specs.AgreementLaws.{agreement}
+use Rattle.agreement.specs.AnyDigest.{AnyDigest}
+use Rattle.agreement.specs.AnyDigestLaws.{any-digest}
+use Rattle.agreement.specs.Turns.{nextBlock}
+use Rattle.conduct.specs.Refusals.{Refuses}
+use Rattle.conduct.specs.RefusalsLaws.{open-refuses, deliver-refuses, move-refuses, signal-refuses, submit-refuses, size-refuses, fetch-refuses}
+use Rattle.conduct.specs.BookBytes.{openedBook, Signals, Submits, headOf}
+use Rattle.conduct.specs.BookBytesLaws.{open-bytes, signal-bytes, submit-bytes, move-bytes}
 use Rattle.conduct.specs.Keeping.{Keeps, AllTallied}
 use Rattle.conduct.specs.KeepingLaws.{deliver-keeps}
-use Rattle.conduct.specs.SoundKept.{Call, bookAfterAll, sound-opened}
+use Rattle.conduct.specs.KeepsExactLaws.{keeps-exact}
+use Rattle.conduct.specs.SoundKept.{Call, bookAfter, bookAfterAll, sound-kept, sound-opened}
 use Rattle.conduct.specs.Tallying.{tallied-kept-all, tallied-opened}
 use Rattle.conduct.specs.Readable.{SameSetting}
 use Rattle.conduct.specs.WrittenRead.{MoveWritten, move-written-read, FetchWritten, fetch-written-read}
 use Rattle.simplex.specs.Steps.{FiveSteps}
 use Rattle.simplex.specs.StepsLaws.{five-steps}
+use Rattle.simplex.specs.Idle.{IdlesJustThen, MovesEnd}
+use Rattle.simplex.specs.IdleLaws.{idles-just-then, moves-end}
+use Rattle.simplex.specs.Register.{ReadsChain, CannotRead}
+use Rattle.simplex.specs.RegisterLaws.{reads-chain, reads-nothing}
 
--- demand 2: on a sound book and a reply that is long enough Move does the step of the state that the book says ..
+-- ---- demand 1: refusals
+-- each call is refused by the number of its first row that fails, if one does, and then no byte lent to it changes
+pub open-refused : (book : Bytes) (n own heights : ℕ) (leaders : Bytes) →
+    Refuses Done (openRows book n own heights leaders) (openCall book n own heights leaders .answer)
+    (book ∷ []) (openCall book n own heights leaders .book ∷ [])
+open-refused = open-refuses
+
+pub deliver-refused : (book frame : Bytes) →
+    Refuses Delivery (deliverRows sha256 book frame) (deliverCall sha256 book frame .answer)
+    (book ∷ []) (deliverCall sha256 book frame .book ∷ [])
+deliver-refused = deliver-refuses sha256
+
+pub move-refused : (book reply : Bytes) →
+    Refuses Move (moveRows sha256 book reply) (moveCall sha256 book reply .answer)
+    (book ∷ reply ∷ []) (moveCall sha256 book reply .book ∷ moveCall sha256 book reply .reply ∷ [])
+move-refused = move-refuses sha256
+
+pub signal-refused : (book : Bytes) (h : ℕ) →
+    Refuses Done (signalRows sha256 book h) (signalCall sha256 book h .answer)
+    (book ∷ []) (signalCall sha256 book h .book ∷ [])
+signal-refused = signal-refuses sha256
+
+pub submit-refused : (book entry : Bytes) →
+    Refuses Done (submitRows sha256 book entry) (submitCall sha256 book entry .answer)
+    (book ∷ []) (submitCall sha256 book entry .book ∷ [])
+submit-refused = submit-refuses sha256
+
+pub size-refused : (book : Bytes) → Refuses ℕ ((1, sound sha256 book) ∷ []) (sizeCall sha256 book) [] []
+size-refused = size-refuses sha256
+
+pub fetch-refused : (book : Bytes) (k h : ℕ) (reply : Bytes) →
+    Refuses Done (fetchRows sha256 book k h reply) (fetchCall sha256 book k h reply .answer)
+    (reply ∷ []) (fetchCall sha256 book k h reply .reply ∷ [])
+fetch-refused = fetch-refuses sha256
+
+-- Read, where size refuses or the buffer is shorter: the empty part, and no byte of the buffer changes
+pub read-refused : (book buffer : Bytes) → CannotRead sha256 book buffer →
+    (readPart sha256 book buffer ≡ []) × (readBuffer sha256 book buffer ≡ buffer)
+read-refused = reads-nothing sha256
+
+-- ---- demand 1: the bytes of the book where a call is not refused; those of a delivery are in `deliveries-keep` below
+pub open-writes : (book : Bytes) (n own heights : ℕ) (leaders : Bytes) →
+    openCall book n own heights leaders .answer ≡ accepted done →
+    openCall book n own heights leaders .book ≡ openedBook n own heights leaders
+open-writes = open-bytes
+
+pub signal-writes : (book : Bytes) → AreBytes book → (h : ℕ) → signalCall sha256 book h .answer ≡ accepted done →
+    Signals book h (signalCall sha256 book h .book)
+signal-writes = signal-bytes sha256
+
+pub submit-writes : (book : Bytes) → AreBytes book → (entry : Bytes) →
+    submitCall sha256 book entry .answer ≡ accepted done →
+    Submits book entry (submitCall sha256 book entry .book)
+submit-writes = submit-bytes sha256
+
+pub move-writes : (book : Bytes) → AreBytes book → (reply : Bytes) → sound sha256 book ≡ true → 448 ≤ length reply →
+    moveCall sha256 book reply .book ≡ headOf book (step sha256 (decode book) .after)
+move-writes = move-bytes sha256
+
+-- every call leaves a sound book sound, and Open makes a sound one of any bytes
+pub sound-stays : (call : Call) (book : Bytes) → sound sha256 book ≡ true →
+    sound sha256 (bookAfter sha256 call book) ≡ true
+sound-stays = sound-kept sha256
+
+pub open-makes-sound : (book : Bytes) (n own heights : ℕ) (leaders : Bytes) →
+    openCall book n own heights leaders .answer ≡ accepted done →
+    sound sha256 (openCall book n own heights leaders .book) ≡ true
+open-makes-sound = sound-opened sha256
+
+-- ---- demand 2: the five steps
+-- on a sound book and a reply that is long enough Move does the step of the state that the book says ..
 pub move-is-the-step : (book reply : Bytes) → sound sha256 book ≡ true → 448 ≤ length reply →
     moveCall sha256 book reply ≡ moved reply (step sha256 (decode book))
 unfolding moveCall moveRows firstRefusal unlessMoveRefused
 move-is-the-step book reply ok room = rw (ok, le-leb 448 (length reply) room)
 
--- .. and that step is what the paper's five steps ask
+-- .. and that step is what the paper's five steps ask, idle where they ask for none
 pub the-five-steps : (book : Bytes) → sound sha256 book ≡ true → FiveSteps sha256 (decode book)
 the-five-steps book ok = five-steps sha256 sha256-length (decode book) (sound-decode sha256 book ok)
 
--- demand 2: a delivery that is not refused keeps what its frame states, all that was kept before, and nothing else
+-- Move answers idle if and only if none of document 01's moves applies, and moving until idle ends
+pub idle-just-then : (book reply : Bytes) → sound sha256 book ≡ true → 448 ≤ length reply →
+    IdlesJustThen sha256 book reply
+idle-just-then = idles-just-then sha256
+
+pub moving-ends : (book : Bytes) → MovesEnd sha256 (decode book)
+moving-ends book = moves-end sha256 (decode book)
+
+-- ---- demand 2: what is kept
+-- a delivery that is not refused keeps what its frame states, all that was kept before, and nothing else
 pub deliveries-keep : (book frame : Bytes) (news : Delivery) → deliverCall sha256 book frame .answer ≡ accepted news →
-    Keeps sha256 (decode book) (decode (deliverCall sha256 book frame .book)) frame
+    Keeps sha256 book frame news (deliverCall sha256 book frame .book)
 deliveries-keep = deliver-keeps sha256
 
--- demand 2: on every book that calls make from an opened one, a proposal held with a quorum of kept votes has its height notarized
+-- .. and that leaves no choice: an answer and bytes that meet it are those of Deliver
+pub nothing-else-keeps : (book frame : Bytes) (news : Delivery) →
+    deliverCall sha256 book frame .answer ≡ accepted news → AreBytes book → AreBytes (deliverCall sha256 book frame .book) →
+    (news′ : Delivery) (after : Bytes) → AreBytes after → Keeps sha256 book frame news′ after →
+    (news′ ≡ news) × (after ≡ deliverCall sha256 book frame .book)
+nothing-else-keeps = keeps-exact sha256
+
+-- on every book that calls make from an opened one, a proposal held with a quorum of kept votes is notarized
 pub votes-are-tallied : (book : Bytes) (n own heights : ℕ) (leaders : Bytes) (calls : List Call) →
     openCall book n own heights leaders .answer ≡ accepted done →
     AllTallied sha256 (decode (bookAfterAll sha256 calls (openCall book n own heights leaders .book)))
 votes-are-tallied book n own heights leaders calls opened =
-    tallied-kept-all sha256 calls _ (sound-opened sha256 book n own heights leaders opened) (tallied-opened sha256 book n own heights leaders opened)
+    tallied-kept-all sha256 calls _ (sound-opened sha256 book n own heights leaders opened)
+    (tallied-opened sha256 book n own heights leaders opened)
 
--- demand 2: each frame written is read over every book of the same n, H and leaders as the same statement
+-- ---- demand 2: what is read
+-- Read gives the linearization of the finalized blockchain that ends at g
+pub the-register : (book buffer : Bytes) (size : ℕ) → sizeCall sha256 book ≡ accepted size → size ≤ length buffer →
+    ReadsChain sha256 book buffer size
+the-register = reads-chain sha256
+
+-- each frame written is read over every book of the same n, H and leaders as the same statement
 pub moves-are-read : (book reply other : Bytes) → SameSetting (decode book) (decode other) → MoveWritten sha256 book reply other
 moves-are-read = move-written-read sha256 sha256-length
 
@@ -57,6 +183,10 @@ pub fetches-are-read : (book : Bytes) (k h : ℕ) (reply other : Bytes) → Same
     FetchWritten sha256 book k h reply other
 fetches-are-read = fetch-written-read sha256
 
--- demand 3: of two logs read in any list of calls from honest replicas one is a beginning of the other
+-- ---- demand 3: of two logs read in any list of calls from honest replicas one is a beginning of the other
 pub no-fork : Agreement sha256
 no-fork = agreement sha256
+
+-- .. and a list of calls with a dishonest replica meets every premise of it, and reads an entry at two honest replicas
+pub no-fork-is-met : AnyDigest sha256
+no-fork-is-met = any-digest sha256 (sha256-length nextBlock)

@@ -1,14 +1,15 @@
 -- Byte strings in three parts, equal pieces joined, and lists whose numbers are all bytes.
-use Prim.Native.Nat.{ℕ, zero, suc, _+_, _*_, _/_, _%_, _≤_, _<_}
+use Prim.Native.Nat.{ℕ, zero, suc, _+_, _-_, _*_, _/_, _%_, _≤_, _<_}
 use native.Mathlib.Omega.{arith}
 use native.Mathlib.Nat.{add-assoc, add-zero, zero-add, suc-add}
 use native.Mathlib.Numerals.{add-one}
 use mathlib.Core.Path.{_≡_, refl, sym, ap, _∙_}
+use mathlib.Core.Logic.{_⊎_, inl, inr}
 use mathlib.Core.Bool.{true}
 use mathlib.Core.List.{[], _∷_, _++_, append-assoc, append-nil}
 use lib.Dec.{lit<}
-use lib.ListN.{length, take, drop, set, length-append, length-take, length-drop, length-replicate, drop-of-length-le, replicate-append-replicate}
-use lib.Seq.{paste, take-length, take-take, take-append-le, take-append-add, take-append-seam, drop-at, drop-cons, drop-drop, drop-append-add, drop-append-le, getD-drop, getD-take, set-append-left, set-split, sets-eq, length-take-le}
+use lib.ListN.{length, take, drop, set, length-append, length-take, length-drop, length-replicate, drop-of-length-le, replicate-append-replicate, List·getD-append}
+use lib.Seq.{paste, take-length, take-take, take-append-le, take-append-add, take-append-seam, drop-at, drop-cons, drop-drop, drop-append-add, drop-append-le, getD-drop, getD-take, getD-append-add, set-append-left, set-split, sets-eq, length-take-le}
 use Rattle.protocol.specs.Bytes.{Bytes, byteAt, word16, le16, part, zeros, isZero}
 use Rattle.protocol.specs.RowLaws.{is-zero-zeros}
 
@@ -158,3 +159,36 @@ module _ (front middle back : Bytes) (k : ℕ) (size : length front ≡ k) where
         drop-append-le (j + length new) middle back h,
       )
       (simp append-assoc)
+
+-- ---- the other bytes keep their values, and the new ones are read back
+module _ (bytes new : Bytes) (i : ℕ) (fits : i + length new ≤ length bytes) where
+  before-size : length (take i bytes) ≡ i
+  before-size = simp length-take (omega arith)
+
+  put-below : (k : ℕ) → k < i → byteAt (put bytes i new) k ≡ byteAt bytes k
+  unfolding put
+  put-below k below =
+      let s = before-size in
+      List·getD-append (take i bytes) (new ++ drop (i + length new) bytes) 0 k (omega arith) ∙
+      getD-take i bytes k 0 below
+
+  put-above : (m : ℕ) → byteAt (put bytes i new) (i + (length new + m)) ≡ byteAt bytes (i + (length new + m))
+  unfolding put
+  put-above m =
+      let past = getD-append-add (take i bytes) (new ++ drop (i + length new) bytes) (length new + m) 0 in
+      rw before-size at past ∙ getD-append-add new (drop (i + length new) bytes) m 0 ∙
+      getD-drop (i + length new) bytes m 0
+      ∙ ap (λ (p : ℕ). byteAt bytes p) (let e : i + length new + m ≡ i + (length new + m) = omega arith in e)
+
+  pub put-other : (k : ℕ) → (k < i) ⊎ (i + length new ≤ k) → byteAt (put bytes i new) k ≡ byteAt bytes k
+  put-other k (inl below) = put-below k below
+  put-other k (inr above) =
+      let e : i + (length new + (k - (i + length new))) ≡ k = omega arith in
+      rw e at (put-above (k - (i + length new)))
+
+  pub put-there : part (put bytes i new) i (length new) ≡ new
+  unfolding put
+  put-there =
+      let inner = middle-part (take i bytes) new (drop (i + length new) bytes) i before-size 0 (length new)
+      (omega arith) in
+      rw add-zero at inner ∙ unfold part in take-length new

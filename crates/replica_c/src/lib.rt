@@ -19,6 +19,7 @@ ghost use Rattle.protocol.specs.Submit.{submitCall};
 ghost use Rattle.protocol.specs.Fetch.{fetchCall};
 ghost use Rattle.protocol.specs.Read.{readPart, readBuffer, sizeCall};
 ghost use Rattle.answers.specs.Answers.{doneAnswer, deliveredAnswer, certificateOf, movedAnswer, sizeAnswer};
+ghost use Rattle.replica_c.specs.Interface.{interfaceNumber};
 ghost use Rattle.replica_c.specs.Packing.{packedDone, packedDelivery, packedMove, packedSize, answeredHeight, answeredSize};
 
 // The number for an answer that says no more than done or refused.
@@ -187,4 +188,12 @@ pub extern "C" fn mavunilai_size(book: &[u8]) -> usize
     ensures { λ r. ⌜ r ≡ packedSize (sizeCall sha256 (now (book .entry))) ⌝ }
 {
     size_number(replica::read::size(book))
+}
+
+// The number of this interface, which a program compares with its header's before it makes another call.
+#[no_mangle]
+pub extern "C" fn mavunilai_interface() -> usize
+    ensures { λ r. ⌜ r ≡ interfaceNumber ⌝ }
+{
+    1
 }

@@ -1,11 +1,13 @@
 -- Nothing idles: a replica answers idle just where no move applies, and moving until idle ends within a known number of moves.
 use Prim.Native.Nat.{ℕ, zero, suc, _+_, _-_, _≤_}
 use mathlib.Core.Path.{_≡_}
+use mathlib.Core.Logic.{_↔_}
 use mathlib.Core.Bool.{false}
 use Rattle.protocol.specs.Bytes.{Bytes}
-use Rattle.protocol.specs.State.{State, last}
-use Rattle.protocol.specs.Answer.{idle}
-use Rattle.protocol.specs.Move.{step, dummyVoteApplies, outputApplies, passApplies, proposeApplies, blockVoteApplies}
+use Rattle.protocol.specs.State.{State, decode, last}
+use Rattle.protocol.specs.BytesLaws.{AreBytes}
+use Rattle.protocol.specs.Answer.{accepted, idle}
+use Rattle.protocol.specs.Move.{step, moveCall, dummyVoteApplies, outputApplies, passApplies, proposeApplies, blockVoteApplies}
 
 module _ (digest : Bytes → Bytes) where
   -- none of the five moves applies
@@ -19,6 +21,12 @@ module _ (digest : Bytes → Bytes) where
   -- the move is idle if and only if no move applies
   unfoldable pub IdleMeansNoMove : State → Type 0
   IdleMeansNoMove s = (step digest s .move ≡ idle → NoMove s) × (NoMove s → step digest s .move ≡ idle)
+
+  -- over bytes: Move answers idle if and only if no move applies, and then no byte of the book or the reply changes
+  pub record IdlesJustThen (book reply : Bytes) : Type 0 where
+    pub just-then : (moveCall digest book reply .answer ≡ accepted idle) ↔ NoMove (decode book)
+    pub unchanged : AreBytes book → moveCall digest book reply .answer ≡ accepted idle →
+        (moveCall digest book reply .book ≡ book) × (moveCall digest book reply .reply ≡ reply)
 
   -- the state after a number of moves
   unfoldable pub afterMoves : ℕ → State → State

@@ -1,31 +1,34 @@
 -- Proofs of `Idle`: each move lowers a number that is at most H + 4 − c.
 use Prim.Native.Nat.{ℕ, zero, suc, _+_, _-_, _≤_, _<_}
 use native.Mathlib.Omega.{arith}
-use mathlib.Core.Path.{_≡_, refl, ap, _∙_}
+use mathlib.Core.Path.{_≡_, refl, sym, ap, _∙_}
 use mathlib.Core.Logic.{_⊎_, inl, inr}
 use mathlib.Core.Bool.{Bool, true, false, _&&_, not, and-false}
 use mathlib.Core.List.{List, [], _∷_}
+use lib.ListN.{length}
 use lib.Dec.{eqb, leb}
-use borrow.Author.Tests.{not-true, leb-true, lt-leb}
-use Rattle.protocol.specs.Bytes.{Bytes}
-use Rattle.protocol.specs.Tests.{allOf}
+use borrow.Author.Tests.{not-true, leb-true, le-leb, lt-leb}
+use Rattle.protocol.specs.Bytes.{Bytes, zeros, join}
+use Rattle.protocol.specs.Tests.{allOf, firstRefusal}
+use Rattle.protocol.specs.FrontLaws.{front-none}
+use Rattle.protocol.specs.SoundLaws.{encode-decode}
 use Rattle.protocol.specs.TestsLaws.{and-true}
 use Rattle.protocol.specs.FlagLaws.{flag-set, flag-kept}
 use Rattle.protocol.specs.MoveLaws.{step-cases}
 use Rattle.protocol.specs.RowLaws.{row}
-use Rattle.protocol.specs.State.{State, last, at, flag, withHead, holdsProposal}
-use Rattle.protocol.specs.Sound.{view}
-use Rattle.protocol.specs.Answer.{idle, moveNumber}
-use Rattle.protocol.specs.Move.{Step, step, firstStep, isRunning, idleStep, dummyVoteApplies, dummyVoteStep, outputApplies, outputStep, passApplies, passStep, proposeApplies, proposeStep, blockVoteApplies, blockVoteStep, newFinalized, parentBelow, passesAt, isSome}
+use Rattle.protocol.specs.State.{State, decode, last, at, flag, withHead, holdsProposal}
+use Rattle.protocol.specs.Sound.{view, sound}
+use Rattle.protocol.specs.Answer.{accepted, Move, idle, moveNumber}
+use Rattle.protocol.specs.Move.{MoveOutcome, moveRows, moveCall, unlessMoveRefused, moved, written, unused, Step, step, firstStep, isRunning, idleStep, dummyVoteApplies, dummyVoteStep, outputApplies, outputStep, passApplies, passStep, proposeApplies, proposeStep, blockVoteApplies, blockVoteStep, newFinalized, parentBelow, passesAt, isSome}
 use Rattle.protocol.specs.View.{extends}
-use Rattle.simplex.specs.Idle.{NoMove, IdleMeansNoMove, afterMoves, IdleWithin, MovesEnd}
+use Rattle.simplex.specs.Idle.{NoMove, IdleMeansNoMove, IdlesJustThen, afterMoves, IdleWithin, MovesEnd}
 
 module _ (digest : Bytes → Bytes) where
-  no-move-idle : (s : State) → NoMove digest s → step digest s .move ≡ idle
+  pub no-move-idle : (s : State) → NoMove digest s → step digest s .move ≡ idle
   unfolding step firstStep idleStep
   no-move-idle s q = rw (q .no-dummy-vote, q .no-output, q .no-pass, q .no-proposal, q .no-block-vote)
 
-  idle-no-move : (s : State) → step digest s .move ≡ idle → NoMove digest s
+  pub idle-no-move : (s : State) → step digest s .move ≡ idle → NoMove digest s
   unfolding dummyVoteStep outputStep passStep proposeStep blockVoteStep moveNumber
   idle-no-move s = step-cases digest s (λ (st : Step). st .move ≡ idle → NoMove digest s)
       (λ _ q. absurd (omega (arith, ap moveNumber q)))
@@ -38,6 +41,42 @@ module _ (digest : Bytes → Bytes) where
   pub idle-means-no-move : (s : State) → IdleMeansNoMove digest s
   unfolding IdleMeansNoMove
   idle-means-no-move s = (idle-no-move s, no-move-idle s)
+
+-- ---- over bytes
+-- the step taken where no move applies
+pub step-idle : (digest : Bytes → Bytes) (s : State) → NoMove digest s → step digest s ≡ idleStep s
+unfolding step firstStep
+step-idle digest s q = rw (q .no-dummy-vote, q .no-output, q .no-pass, q .no-proposal, q .no-block-vote)
+
+module _ (digest : Bytes → Bytes) (book reply : Bytes) (ok : sound digest book ≡ true)
+    (room : 448 ≤ length reply) where
+  move-made : moveCall digest book reply ≡ moved reply (step digest (decode book))
+  unfolding moveCall moveRows firstRefusal unlessMoveRefused
+  move-made = rw (ok, le-leb 448 (length reply) room)
+
+  answer-made : moveCall digest book reply .answer ≡ accepted (step digest (decode book) .move)
+  unfolding moved
+  answer-made = ap (λ (o : MoveOutcome). o .answer) move-made
+
+  same-move : {m n : Move} → accepted m ≡ accepted n → m ≡ n
+  same-move e = cc
+
+  idle-move : moveCall digest book reply .answer ≡ accepted idle → NoMove digest (decode book)
+  idle-move e = idle-no-move digest (decode book) (same-move (sym answer-made ∙ e))
+
+  idle-made : NoMove digest (decode book) → moveCall digest book reply ≡ moved reply (idleStep (decode book))
+  idle-made q = move-made ∙ ap (moved reply) (step-idle digest (decode book) q)
+
+  pub idles-just-then : IdlesJustThen digest book reply
+  unfolding moved idleStep written join unused
+  idles-just-then = record {
+    just-then = (idle-move, λ q. ap (λ (o : MoveOutcome). o .answer) (idle-made q));
+    unchanged = λ small e.
+        let made = idle-made (idle-move e) in (
+          ap (λ (o : MoveOutcome). o .book) made ∙ encode-decode digest book ok small,
+          ap (λ (o : MoveOutcome). o .reply) made ∙ unfold zeros in front-none reply,
+        );
+  }
 
 -- ---- moving until idle ends
 bit : Bool → ℕ

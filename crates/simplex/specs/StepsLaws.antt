@@ -12,7 +12,7 @@ use Rattle.protocol.specs.Bytes.{Bytes}
 use Rattle.protocol.specs.Block.{blockHeight, parentHeight, newBlock, blockWellFormed}
 use Rattle.protocol.specs.Frame.{finalize}
 use Rattle.protocol.specs.TestsLaws.{and-true, or-true, or-right}
-use Rattle.protocol.specs.RowLaws.{row, all-of, true-and}
+use Rattle.protocol.specs.RowLaws.{row, all-of, true-and, not-passed}
 use Rattle.protocol.specs.PiecesLaws.{Sized}
 use Rattle.protocol.specs.BlockLaws.{digest-back, entries-back, new-block-good}
 use Rattle.protocol.specs.MoveLaws.{step-cases}
@@ -31,7 +31,9 @@ use Rattle.protocol.specs.Move.{Step, step, firstStep, without, offered, propos
 use Rattle.simplex.specs.Paper.{lastBlock, linearize, Sequence, addDummy, addBlock, height, NotarizedBlockchain, SeenOfHeight, SeenWithBlock, Finalization}
 use Rattle.simplex.specs.Blockchains.{ChainEndingAt, ParentOf, InThePapersTerms, LinkedIsSeen, ParentIsSeen, ParentIsLargest, FinalizedIsSeen, ExtendsIsFollowing}
 use Rattle.simplex.specs.BlockchainsLaws.{in-the-papers-terms}
-use Rattle.simplex.specs.Steps.{FiveSteps, Running, Makes, Offers, LeaderProposal, DummyBlocks, Sent, NextIteration, NotarizingProposals, FinalizedOutputs}
+use Rattle.simplex.specs.Idle.{NoMove}
+use Rattle.simplex.specs.IdleLaws.{idle-no-move, no-move-idle, step-idle}
+use Rattle.simplex.specs.Steps.{FiveSteps, Running, Makes, Offers, MayPropose, LeaderProposal, MayVoteDummy, DummyBlocks, Sent, MayPass, NextIteration, MayVoteBlock, NotarizingProposals, MayOutput, FinalizedOutputs, NoStep, Idling, OneOfSix, itIdles, itVotesDummy, itOutputs, itPasses, itProposes, itVotesBlock}
 
 module _ (digest : Bytes → Bytes) (s : State) where
   -- what an answer says of the row that was taken
@@ -70,6 +72,14 @@ module _ (digest : Bytes → Bytes) (s : State) where
   unfolding blockVoteStep
   block-move e = ap (λ (st : Step). st .move) e
 
+  -- each move names its height
+  pub one-of-six : OneOfSix digest s (step digest s .move)
+  unfolding dummyVoteStep outputStep passStep proposeStep blockVoteStep idleStep withHead
+  one-of-six = step-cases digest s (λ (st : Step). step digest s ≡ st → OneOfSix digest s (st .move))
+      (λ _ _. itVotesDummy)
+      (λ _ _ q. subst (λ (g : ℕ). OneOfSix digest s (output g)) (ap (λ (st : Step). st .after .finalized) q) itOutputs)
+      (λ _ _ _ _. itPasses _ _) (λ _ _ _ _ _. itProposes) (λ _ _ _ _ _ _. itVotesBlock) (λ _ _ _ _ _ _. itIdles) refl
+
   makes : {st : Step} {move : Move} → step digest s .move ≡ move → step digest s ≡ st → Makes digest s move (st .frames) (st .after)
   makes e q = record { answers = e; writes = ap (λ (x : Step). x .frames) q; leaves = ap (λ (x : Step). x .after) q }
 
@@ -82,11 +92,11 @@ module _ (digest : Bytes → Bytes) (s : State) where
   is-running e = le-leb (s .current) (last s) e
 
   -- ---- step 2
-  dummy-applies : (Running digest s × (flag 1 s ≡ true) × (flag 2 s ≡ false)) → dummyVoteApplies s ≡ true
+  dummy-applies : MayVoteDummy digest s → dummyVoteApplies s ≡ true
   unfolding dummyVoteApplies
   dummy-applies (r, f, g) = all-of (Every.one (is-running r) (Every.one f (Every.one (rw g) Every.none)))
 
-  dummy-when : dummyVoteApplies s ≡ true → Running digest s × (flag 1 s ≡ true) × (flag 2 s ≡ false)
+  dummy-when : dummyVoteApplies s ≡ true → MayVoteDummy digest s
   unfolding dummyVoteApplies
   dummy-when e = (running (row _ 0 e), row _ 1 e, not-true (flag 2 s) (row _ 2 e))
 
@@ -152,7 +162,7 @@ module _ (digest : Bytes → Bytes) (s : State) where
     not-above h low high seen final =
         largest .most h low high (finalized-sound digest (view s) h (finalized-seen h low .1 (seen, final)))
 
-    output-applies : (h : ℕ) × (s .finalized < h) × (h ≤ last s) × SeenWithBlock digest (view s) h × Finalization (view s) h → outputApplies digest s ≡ true
+    output-applies : MayOutput digest s → outputApplies digest s ≡ true
     unfolding outputApplies
     output-applies (h, above, high, seen, final) =
         let q = not-above h (omega arith) high seen final in
@@ -173,7 +183,7 @@ module _ (digest : Bytes → Bytes) (s : State) where
     unfolding FinalizedOutputs outputStep
     finalized-outputs no-vote = ((forth, λ q. (newFinalized digest s, output-move (step-output no-vote (output-applies q)))), kept)
       where
-        forth : (g : ℕ) × (step digest s .move ≡ output g) → (h : ℕ) × (s .finalized < h) × (h ≤ last s) × SeenWithBlock digest (view s) h × Finalization (view s) h
+        forth : (g : ℕ) × (step digest s .move ≡ output g) → MayOutput digest s
         forth (g, e) = let q = output-seen (took-output g e .0) in (newFinalized digest s, q .0, largest .within, q .1, q .2)
 
         kept : (g : ℕ) → step digest s .move ≡ output g →
@@ -189,7 +199,7 @@ module _ (digest : Bytes → Bytes) (s : State) where
             (q .1, q .2, not-above, makes (output-move (t .2)) (t .2))
 
     -- ---- step 4
-    pass-seen : passApplies digest s ≡ true → Running digest s × SeenOfHeight digest (view s) (s .current)
+    pass-seen : passApplies digest s ≡ true → MayPass digest s
     unfolding passApplies
     pass-seen e =
         let q = and-true (isRunning s) (passesAt digest (view s) (s .current)) e in
@@ -270,16 +280,13 @@ module _ (digest : Bytes → Bytes) (s : State) where
         subst (λ (c : ℕ). (extends digest (view s) c (at s (s .current) .proposal) ≡ true) ↔ ParentOf digest (view s) (s .current - 1) (at s (s .current) .proposal)) before
         (terms .extends-is (s .current - 1) (at s (s .current) .proposal) its)
 
-    abbrev MayVote : Type 0
-    MayVote = Running digest s × (flag 4 s ≡ false) × (holdsProposal (at s (s .current)) ≡ true) × ParentOf digest (view s) (s .current - 1) (at s (s .current) .proposal)
-
-    block-when : blockVoteApplies digest s ≡ true → MayVote
+    block-when : blockVoteApplies digest s ≡ true → MayVoteBlock digest s
     unfolding blockVoteApplies
     block-when e =
         let r = running (row _ 0 e) in
         (r, not-true (flag 4 s) (row _ 1 e), row _ 2 e, extends-seen (row _ 2 e) r .0 (row _ 3 e))
 
-    block-applies : MayVote → blockVoteApplies digest s ≡ true
+    block-applies : MayVoteBlock digest s → blockVoteApplies digest s ≡ true
     unfolding blockVoteApplies
     block-applies (r, f, held, q) =
         all-of (Every.one (is-running r) (Every.one (rw f) (Every.one held (Every.one (extends-seen held r .1 q) Every.none))))
@@ -298,14 +305,11 @@ module _ (digest : Bytes → Bytes) (s : State) where
         took e = unfold Taken in taken (voteBlock (s .current)) e
 
     -- ---- step 1
-    abbrev MayPropose : Type 0
-    MayPropose = Running digest s × (at s (s .current) .leader ≡ s .own) × (flag 8 s ≡ false) × SeenOfHeight digest (view s) (s .current - 1)
-
-    propose-when : proposeApplies digest s ≡ true → MayPropose
+    propose-when : proposeApplies digest s ≡ true → MayPropose digest s
     unfolding proposeApplies
     propose-when e = (running (row _ 0 e), eqb-true _ _ (row _ 1 e), not-true (flag 8 s) (row _ 2 e), parent-seen (s .current - 1) .0 (row _ 3 e))
 
-    propose-applies : MayPropose → proposeApplies digest s ≡ true
+    propose-applies : MayPropose digest s → proposeApplies digest s ≡ true
     unfolding proposeApplies
     propose-applies (r, l, f, q) =
         all-of (Every.one (is-running r) (Every.one (eq-eqb _ _ l) (Every.one (rw f) (Every.one (parent-seen (s .current - 1) .1 q) Every.none))))
@@ -313,6 +317,36 @@ module _ (digest : Bytes → Bytes) (s : State) where
     step-propose : dummyVoteApplies s ≡ false → outputApplies digest s ≡ false → passApplies digest s ≡ false → proposeApplies digest s ≡ true → step digest s ≡ proposeStep digest s
     unfolding step firstStep
     step-propose e1 e2 e3 e4 = rw (e1, e2, e3, e4)
+
+    -- ---- no step
+    no-step : NoMove digest s → NoStep digest s
+    no-step q = record {
+      no-proposal = λ may. never (propose-applies may) (q .no-proposal);
+      no-dummy-vote = λ may. never (dummy-applies may) (q .no-dummy-vote);
+      no-block-vote = λ may. never (block-applies may) (q .no-block-vote);
+      no-pass = λ may. never (pass-applies (may .0) (may .1)) (q .no-pass);
+      no-output = λ may. never (output-applies may) (q .no-output);
+    }
+      where
+        never : {b : Bool} → b ≡ true → b ≡ false → ⊥
+        never e e′ = false≢true (sym e′ ∙ e)
+
+    no-move : NoStep digest s → NoMove digest s
+    no-move q = record {
+      no-dummy-vote = not-passed _ (λ e. q .no-dummy-vote (dummy-when e));
+      no-output = not-passed _ (λ e. q .no-output
+          (newFinalized digest s, output-seen e .0, largest .within, output-seen e .1, output-seen e .2));
+      no-pass = not-passed _ (λ e. q .no-pass (pass-seen e));
+      no-proposal = not-passed _ (λ e. q .no-proposal (propose-when e));
+      no-block-vote = not-passed _ (λ e. q .no-block-vote (block-when e));
+    }
+
+    pub idling : Idling digest s
+    unfolding Idling idleStep
+    idling = (
+      ((λ e. no-step (idle-no-move digest s e)), λ q. no-move-idle digest s (no-move q)),
+      λ q. makes (no-move-idle digest s (no-move q)) (step-idle digest s (no-move q)),
+    )
 
     module _ (digest-size : (block : Bytes) → length (digest block) ≡ 32) where
       -- the block on the chain with the largest last block
@@ -387,4 +421,6 @@ five-steps digest size s sound =
       notarizing-proposals = notarizing-proposals digest s sound terms;
       next-iteration = next-iteration digest s sound terms;
       finalized-outputs = finalized-outputs digest s sound terms;
+      idling = idling digest s sound terms;
+      one-of-six = one-of-six digest s;
     }

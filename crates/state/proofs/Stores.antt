@@ -1,17 +1,15 @@
 -- What a store to a memory leaves known, and the start of a run of dummies.
 use Prim.Native.Nat.{ℕ, zero, suc, _+_, _-_, _*_, _≤_, _<_}
 use native.Mathlib.Omega.{arith}
-use native.Mathlib.Numerals.{unary-clauses}
 use mathlib.Core.Path.{_≡_, refl, sym, ap, subst, _∙_}
 use mathlib.Core.Logic.{_⊎_, inl, inr, ⊎-elim}
 use mathlib.Core.Bool.{Bool, true, false, _&&_, cond, and-true, and-false}
-use mathlib.Core.List.{_++_}
-use lib.ListN.{length, take, drop, set, length-set, length-take, List·getD-append}
+use lib.ListN.{length, set, length-set}
 use lib.Dec.{eqb, leb}
-use lib.Seq.{getD-set-same, getD-set-other, getD-take, getD-drop, getD-append-add, take-length, ext-getD}
+use lib.Seq.{getD-set-same, getD-set-other, ext-getD}
 use borrow.Author.Tests.{eqb-false, eqb-true, le-leb, lt-leb}
 use Rattle.protocol.specs.Bytes.{Bytes, byteAt, part}
-use Rattle.protocol.specs.BytesLaws.{put, length-put, length-part, byte-part, middle-part}
+use Rattle.protocol.specs.BytesLaws.{put, length-put, length-part, byte-part, put-other, put-there}
 use Rattle.protocol.specs.View.{View, linked, isDummy, dummyRun}
 use Rattle.protocol.specs.TestsLaws.{le-or-lt}
 use Rattle.sha256.specs.Digest.{sha256}
@@ -74,34 +72,6 @@ module _ (v : View) (known : Bytes) (memo : Known v known) (h : ℕ) (inside : h
       (λ k p. let same-height : k ≡ h = omega arith in rw (e, same-height))
 
 -- ---- a digest is stored
-module _ (bytes new : Bytes) (i : ℕ) (fits : i + length new ≤ length bytes) where
-  put-below : (k : ℕ) → k < i → byteAt (put bytes i new) k ≡ byteAt bytes k
-  unfolding put
-  put-below k below =
-      let s : length (take i bytes) ≡ i = simp length-take (omega arith) in
-      List·getD-append (take i bytes) (new ++ drop (i + length new) bytes) 0 k (omega arith) ∙ getD-take i bytes k 0 below
-
-  put-above : (m : ℕ) → byteAt (put bytes i new) (i + (length new + m)) ≡ byteAt bytes (i + (length new + m))
-  unfolding put
-  put-above m =
-      let s : length (take i bytes) ≡ i = simp length-take (omega arith) in
-      let past = getD-append-add (take i bytes) (new ++ drop (i + length new) bytes) (length new + m) 0 in
-      subst (λ (p : ℕ). byteAt (take i bytes ++ (new ++ drop (i + length new) bytes)) (p + (length new + m)) ≡ byteAt bytes (i + (length new + m))) s
-      (past ∙ getD-append-add new (drop (i + length new) bytes) m 0 ∙ getD-drop (i + length new) bytes m 0
-      ∙ ap (λ (p : ℕ). byteAt bytes p) (let e : i + length new + m ≡ i + (length new + m) = omega arith in e))
-
-  pub put-other : (k : ℕ) → (k < i) ⊎ (i + length new ≤ k) → byteAt (put bytes i new) k ≡ byteAt bytes k
-  put-other k place = ⊎-elim (λ below. put-below k below)
-      (λ (above : i + length new ≤ k). subst (λ (p : ℕ). byteAt (put bytes i new) p ≡ byteAt bytes p) (let e : i + (length new + (k - (i + length new))) ≡ k = omega arith in e) (put-above (k - (i + length new)))) place
-
-  pub put-there : part (put bytes i new) i (length new) ≡ new
-  unfolding put part
-  put-there =
-      let s : length (take i bytes) ≡ i = simp length-take (omega arith) in
-      let inner : part (take i bytes ++ (new ++ drop (i + length new) bytes)) (i + 0) (length new) ≡ part new 0 (length new) =
-      middle-part (take i bytes) new (drop (i + length new) bytes) i s 0 (length new) (omega arith) in
-      simp unary-clauses at (inner ∙ take-length new)
-
 module _ (v : View) (known : Bytes) (memo : Known v known) (j : ℕ) (inside : j < 64) (new : Bytes) (whole : length new ≡ 32) where
   abbrev after : Bytes
   after = put known (192 + 32 * j) new

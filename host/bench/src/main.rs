@@ -56,7 +56,7 @@ fn arguments(words: &[String]) -> Result<Options, String> {
 /// Measures and prints.
 #[cfg(feature = "proved")]
 fn bench(options: &Options) -> ExitCode {
-    match bench::run(&replica::Proved, &reference::Rules::SHA256, options) {
+    match bench::run(&mavunilai::Proved, &reference::Rules::SHA256, options) {
         Ok(()) => ExitCode::SUCCESS,
         Err(sentence) => {
             eprintln!("{sentence}");

@@ -11,7 +11,8 @@ pub struct Arguments {
 }
 
 impl Arguments {
-    /// Sorts words by these names of options and switches, given without the dashes.
+    /// Sorts words by these names of options and switches, given without the dashes. The value of an
+    /// option stands behind it or, after `=`, in the same word.
     pub fn sort(
         words: &[String],
         options: &[&str],
@@ -20,16 +21,25 @@ impl Arguments {
         let mut sorted = Arguments::default();
         let mut words = words.iter();
         while let Some(word) = words.next() {
-            match word.strip_prefix("--") {
-                None => sorted.plain.push(word.clone()),
-                Some(name) if switches.contains(&name) => sorted.switches.push(name.to_string()),
-                Some(name) if options.contains(&name) => {
-                    let value = words.next();
-                    let value =
-                        value.ok_or_else(|| Problem::input(format!("{word} needs a value")))?;
-                    sorted.options.push((name.to_string(), value.clone()));
+            let Some(text) = word.strip_prefix("--") else {
+                sorted.plain.push(word.clone());
+                continue;
+            };
+            let (name, value) = match text.split_once('=') {
+                Some((name, value)) => (name, Some(value.to_string())),
+                None => (text, None),
+            };
+            if switches.contains(&name) {
+                if value.is_some() {
+                    return Err(Problem::input(format!("--{name} takes no value")));
                 }
-                Some(_) => return Err(Problem::input(format!("'{word}' is not known here"))),
+                sorted.switches.push(name.to_string());
+            } else if options.contains(&name) {
+                let value = value.or_else(|| words.next().cloned());
+                let missing = || Problem::input(format!("--{name} needs a value"));
+                sorted.options.push((name.to_string(), value.ok_or_else(missing)?));
+            } else {
+                return Err(Problem::input(format!("'{word}' is not known here")));
             }
         }
         Ok(sorted)
@@ -71,6 +81,20 @@ impl Arguments {
     /// The value of an option that must stand once.
     pub fn needed(&self, name: &str) -> Result<&str, Problem> {
         self.value(name)?.ok_or_else(|| Problem::input(format!("--{name} is missing")))
+    }
+
+    /// An option that may stand once and is a number.
+    pub fn number(&self, name: &str) -> Result<Option<u64>, Problem> {
+        let wrong = |value| move |_| Problem::input(format!("--{name} {value}: no number"));
+        self.value(name)?.map(|value| value.parse().map_err(wrong(value))).transpose()
+    }
+
+    /// Refuses options that would be ignored beside another one.
+    pub fn none_beside(&self, other: &str, names: &[&str]) -> Result<(), Problem> {
+        match names.iter().find(|name| self.values(name).next().is_some()) {
+            Some(name) => Err(Problem::input(format!("beside --{other}, --{name} says nothing"))),
+            None => Ok(()),
+        }
     }
 
     /// An option that is a byte.

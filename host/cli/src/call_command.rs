@@ -1,46 +1,51 @@
-//! `call`: makes one call on a book that is kept in a file.
+//! `call`: makes calls on a book that is kept in a file.
 
 use crate::arguments::Arguments;
 use crate::chosen::REPLICA;
 use crate::page_options::entry;
 use crate::problem::Problem;
-use crate::{files, words};
+use crate::{files, station, words};
 use exchange::{Answer, Call};
-use types::refusal::meaning;
-use types::{Calls, Move, ENTRY, FRAME};
+use types::{Calls, ENTRY, FRAME};
 
-/// Makes the call, prints its answer and what it wrote, and keeps the book if it changed.
+/// What is asked for; all input is read before the book is.
+enum Request {
+    /// Frames to deliver one by one, as they are given: one, or whole ones.
+    Deliver(Vec<Vec<u8>>),
+    /// Another call.
+    One(Call),
+    /// An entry to add.
+    Submit([u8; ENTRY]),
+    /// Moves until idle, own frames delivered.
+    Run,
+}
+
+/// Makes the calls, prints what they answer and write, and keeps the book if it changed.
 pub fn run(words: &[String], output: &mut Vec<u8>) -> Result<(), Problem> {
-    let arguments = Arguments::sort(words, &[], &[])?;
+    let arguments = Arguments::sort(words, &["out"], &[])?;
     let [file, name, rest @ ..] = arguments.words() else {
         return Err(Problem::input("expected here: the file of a book, then a call"));
     };
-    let mut book = std::fs::read(file)
-        .map_err(|error| Problem::input(format!("{file} cannot be read: {error}")))?;
-    let before = book.clone();
-    let call = call(name, rest)?;
-    let refused = |number| Problem::input(format!("refused with {number}: {}", meaning(number)));
-    let mut reply = vec![0; length(&call, &book).map_err(refused)?];
-    let answer = call.make(&REPLICA, &mut book, &mut reply);
-    if let Answer::Deny(number) = answer {
-        return Err(refused(number));
+    let out = arguments.value("out")?;
+    match (request(name, rest)?, out) {
+        (Request::Deliver(frames), _) => station::open(file, out)?.deliver(&frames),
+        (Request::Run, _) => station::open(file, out)?.run(),
+        (Request::One(Call::Move), _) => station::open(file, out)?.make_move(),
+        (Request::One(Call::Signal { height }), _) => station::open(file, out)?.signal(height),
+        (Request::Submit(entry), _) => station::open(file, out)?.submit(&entry),
+        (Request::One(_), Some(_)) => Err(Problem::input(format!("{name} has no --out"))),
+        (Request::One(call), None) => ask(&call, file, output),
     }
-    if book != before {
-        std::fs::write(file, &book)
-            .map_err(|error| Problem::input(format!("{file} cannot be written: {error}")))?;
-    }
-    output.extend(format!("{answer}\n").into_bytes());
-    written(answer, &reply).iter().for_each(|line| output.extend(format!("{line}\n").into_bytes()));
-    Ok(())
 }
 
-/// The call that the words name.
-fn call(name: &str, rest: &[String]) -> Result<Call, Problem> {
-    Ok(match (name, rest) {
-        ("deliver", [frame]) => Call::Deliver { frame: files::read_bytes(frame)? },
+/// What the words ask for.
+fn request(name: &str, rest: &[String]) -> Result<Request, Problem> {
+    Ok(Request::One(match (name, rest) {
+        ("run", []) => return Ok(Request::Run),
+        ("submit", [text]) => return Ok(Request::Submit(entry(text)?)),
+        ("deliver", [file]) => return Ok(Request::Deliver(frames(files::read_bytes(file)?))),
         ("move", []) => Call::Move,
         ("signal", [height]) => Call::Signal { height: number(height)? },
-        ("submit", [text]) => Call::Submit { entry: entry(text)?.to_vec() },
         ("size", []) => Call::Size,
         ("read", []) => Call::Read,
         ("fetch", [kind, height]) => Call::Fetch { kind: number(kind)?, height: number(height)? },
@@ -49,7 +54,15 @@ fn call(name: &str, rest: &[String]) -> Result<Call, Problem> {
                 format!("'{name}' with so many words is no call; try `mavunilai help call`");
             return Err(Problem::input(sentence));
         }
-    })
+    }))
+}
+
+/// The frames in some bytes: several if the length is theirs, else one, whatever it is.
+fn frames(bytes: Vec<u8>) -> Vec<Vec<u8>> {
+    match bytes.as_chunks::<FRAME>() {
+        (frames @ [_, ..], []) => frames.iter().map(|frame| frame.to_vec()).collect(),
+        _ => vec![bytes],
+    }
 }
 
 /// A number as an argument.
@@ -57,27 +70,26 @@ fn number(word: &str) -> Result<u64, Problem> {
     word.parse().map_err(|_| Problem::input(format!("'{word}' is no number")))
 }
 
+/// Makes a call that changes nothing; no lock is needed, since a book is replaced as a whole.
+fn ask(call: &Call, file: &str, output: &mut Vec<u8>) -> Result<(), Problem> {
+    let mut book = store::read(file)?;
+    let mut reply = vec![0; length(call, &book).map_err(Problem::refused)?];
+    let answer = call.make(&REPLICA, &mut book, &mut reply);
+    let lines: Vec<String> = match answer {
+        Answer::Deny(number) => return Err(Problem::refused(number)),
+        Answer::Part(_) => reply.as_chunks::<ENTRY>().0.iter().map(|e| words::entry(e)).collect(),
+        _ => reply.chunks_exact(FRAME).map(words::hex).collect(),
+    };
+    output.extend(format!("{answer}\n").into_bytes());
+    lines.iter().for_each(|line| output.extend(format!("{line}\n").into_bytes()));
+    Ok(())
+}
+
 /// The length of the reply or buffer to lend; a register has none where size is refused.
 fn length(call: &Call, book: &[u8]) -> Result<usize, u8> {
     Ok(match call {
-        Call::Move => 2 * FRAME,
         Call::Fetch { .. } => FRAME,
         Call::Read => usize::try_from(Calls::size(&REPLICA, book)?).unwrap_or(0),
         _ => 0,
     })
-}
-
-/// What the call wrote: frames as digits, or the entries that were read.
-fn written(answer: Answer, reply: &[u8]) -> Vec<String> {
-    match answer {
-        Answer::Moved(made) => frames(reply, Move::frames(made)),
-        Answer::Done => frames(reply, 1),
-        Answer::Part(_) => reply.as_chunks::<ENTRY>().0.iter().map(|e| words::entry(e)).collect(),
-        _ => Vec::new(),
-    }
-}
-
-/// The first frames of a reply, as digits.
-fn frames(reply: &[u8], count: usize) -> Vec<String> {
-    reply.chunks_exact(FRAME).take(count).map(words::hex).collect()
 }

@@ -2,7 +2,7 @@
 
 /// The replica.
 #[cfg(feature = "proved")]
-pub const REPLICA: replica::Proved = replica::Proved;
+pub const REPLICA: mavunilai::Proved = mavunilai::Proved;
 
 /// The replica.
 #[cfg(not(feature = "proved"))]

@@ -59,6 +59,7 @@ fn page_vote(arguments: &Arguments) -> Result<Frame, Problem> {
     let signer = arguments.byte("signer")?;
     match arguments.value("digest")? {
         Some(text) => {
+            arguments.none_beside("digest", &page_options::NAMES)?;
             let (height, digest) = (arguments.byte("height")?, words::bytes("digest", text)?);
             Ok(Frame::BlockVote { signer, height, digest })
         }
@@ -73,6 +74,7 @@ fn page_vote(arguments: &Arguments) -> Result<Frame, Problem> {
 /// The mask: a number, or the signers one by one.
 fn mask(arguments: &Arguments) -> Result<u16, Problem> {
     if let Some(text) = arguments.value("mask")? {
+        arguments.none_beside("mask", &["signers"])?;
         let wrong = |_| Problem::input(format!("--mask {text}: no number from 0 to 65535"));
         return text.parse().map_err(wrong);
     }

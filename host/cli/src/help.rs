@@ -2,6 +2,15 @@
 
 use crate::problem::Problem;
 
+/// Writes the help text that the words ask for.
+pub fn run(words: &[String], output: &mut Vec<u8>) -> Result<(), Problem> {
+    match words {
+        [] => print("", output),
+        [name] => print(name, output),
+        _ => Err(Problem::input("expected here: the name of one command")),
+    }
+}
+
 /// Writes the help text of a command, the common one for no name.
 pub fn print(name: &str, output: &mut Vec<u8>) -> Result<(), Problem> {
     let text = match name {
@@ -13,6 +22,9 @@ pub fn print(name: &str, output: &mut Vec<u8>) -> Result<(), Problem> {
         "replay" => REPLAY,
         "record" => RECORD,
         "rehearsal" => REHEARSAL,
+        "try" => TRY,
+        "answer" => ANSWER,
+        "diff" => DIFF,
         _ => return Err(Problem::input(format!("'{name}' is no command; try `mavunilai help`"))),
     };
     output.extend_from_slice(text.as_bytes());
@@ -24,16 +36,24 @@ mavunilai COMMAND ..
 
   frame      make a frame out of words
   show       show a frame or a book in words
-  open       write a new book
-  call       make one call on a book that is kept in a file
+  open       keep a new book in a file
+  call       make calls on a book that is kept in a file
   replay     make the calls of a list and compare answers and digests
   record     write a list with its answers and digests
+  diff       tell the fields in which two books differ
+  try        try a replica of your own against this one, with random calls
+  answer     answer the calls of `try`
   rehearsal  read frames from standard input, print a line for each event
 
 `mavunilai help COMMAND` tells more. The status is 0 if all is well, 1 if a list does
-not come out as expected, 2 if the input is bad; a sentence then says why.
+not come out as expected, 2 if words, files or the output are bad, 3 if the replica
+refuses the call; a sentence then says why.
 Calls, lists, new books and the rehearsal use the proved replica if this program was built
 with the cargo feature `proved`, else the reference replica.
+
+`mavunilai --version` tells the version and which replica this is. The value of an
+option stands behind it or after =, as in --n=4. `try` and `diff` end with status 1 where
+they find a difference.
 ";
 
 const FRAME: &str = "\
@@ -51,9 +71,10 @@ Writes the 224 bytes of a frame, or 448 hexadecimal digits with --hex.
 
 SIGNERS is --signers 0,1,2 or --mask 7. PAGE is --page HEX with the 176 bytes, or
 --height H, if it has a back page --back J --back-digest HEX, and up to eight times
---entry, 32 hexadecimal digits or up to 16 characters. A page vote for a PAGE is for
-its digest. Nothing is checked but the form of the words: frames that a replica
-refuses can be made too.
+--entry, 32 hexadecimal digits or text of up to 16 bytes, which is filled up with
+blanks. A page vote for a PAGE is for its digest. Nothing is checked but the form of the
+words: frames that a replica refuses can be made too. An option that would be ignored
+is an error.
 
 Example: mavunilai frame blank-vote --signer 0 --height 1 --hex
 ";
@@ -61,61 +82,89 @@ Example: mavunilai frame blank-vote --signer 0 --height 1 --hex
 const SHOW: &str = "\
 mavunilai show frame FILE
 mavunilai show book FILE
+mavunilai show books FILE FILE ..
 
-Shows a frame or a book in words; FILE may be - for standard input, and may hold the
-bytes as they are or as hexadecimal text. A book is shown as a table of heights
-(leader, held proposal, page votes, notarised page, signers of the page certificate,
-blank and finalise signers, whether it is linked and settled), with the reason why
-the current height is where it is, and the next move.
+Shows frames or books in words; FILE may be - for standard input, and may hold the
+bytes as they are or as hexadecimal digits, wrapped over lines or not. A file may have
+several frames, one behind the other. A book is shown as a table of heights (leader,
+held proposal, page votes, notarised page, signers of the page certificate, blank and
+finalise signers, whether it is linked, settled and in the register), with its pending
+entries and those of its pages, the reason why the current height is where it is, and
+the next move of the replica at hand. Pages and votes are named by the first eight
+digits of the digest. Of a book that is not sound the first byte is told that breaks a
+rule. Several books, of stations with the same roll, are shown side by side: a row for
+each height, a column for each station, <- at its current height.
 ";
 
 const OPEN: &str = "\
-mavunilai open --n N --own S --roll L,L,..
+mavunilai open FILE --n N --own S --roll L,L,.. [--force]
 
-Writes the bytes of a new book for station S of N, with one leader L for each height.
+Keeps a new book in FILE, for station S of N, with one leader L for each height. A file
+that is there is left alone, unless --force begins a new book in its place: a station
+that forgets what it said may say another thing, so do this for a new season only.
+FILE may be - for standard output.
 
-Example: mavunilai open --n 4 --own 2 --roll 0,1,2 > book
+Example: mavunilai open book --n 4 --own 2 --roll 0,1,2
 ";
 
 const CALL: &str = "\
-mavunilai call BOOK deliver FRAME
-mavunilai call BOOK move
-mavunilai call BOOK signal HEIGHT
-mavunilai call BOOK submit ENTRY
+mavunilai call BOOK deliver FRAMES [--out FILE]
+mavunilai call BOOK signal HEIGHT [--out FILE]
+mavunilai call BOOK submit ENTRY [--out FILE]
+mavunilai call BOOK move [--out FILE]
+mavunilai call BOOK run [--out FILE]
 mavunilai call BOOK size
 mavunilai call BOOK read
 mavunilai call BOOK fetch KIND HEIGHT
 
-Makes one call on the book in the file BOOK, prints the answer in the words of a list
+Makes a call on the book in the file BOOK, prints the answer in the words of a list
 (docs/EXCHANGE.md), and keeps the book in its file if it changed. The frames that move
 and fetch write follow as hexadecimal digits, one to a line; read prints the entries.
-FRAME is a file, or - for standard input, with the bytes or the digits of a frame;
-ENTRY is 32 hexadecimal digits or up to 16 characters. A call that is refused changes
-nothing, says the number and ends with status 2.
+run moves until idle, and delivers what it writes to the book itself.
+FRAMES is a file, or - for standard input, with the bytes or the digits of a frame, or
+of several, which are delivered in order; ENTRY is 32 hexadecimal digits or up to 16
+characters. A call that is refused changes nothing, says the number and ends with
+status 3; of several frames each has its line, and `deny` and a number if refused.
+
+--out adds the frames to FILE, a line for each, in place of printing them. FILE is
+synced and replaced as a whole, and holds nothing but such lines. Who sends them moves
+FILE away first.
+
+A process may end at any time, and others may call at the same time. The book is locked
+(BOOK.lock, which stays) from reading to writing, after all input is there; a call waits
+while another program has it. Frames wait in BOOK.frames from before the book is
+replaced until they are printed or in FILE. If that fails the next deliver, signal,
+submit, move or run begins with the line `unsent` and these frames; size, read and fetch
+leave them alone. Frames may go out twice, which is harmless. A pipe has them once it
+takes them, read or not: --out is safer.
 
 Example: mavunilai frame blank-vote --signer 0 --height 1 | mavunilai call book deliver -
 ";
 
 const REPLAY: &str = "\
-mavunilai replay FILE .. [--counts] [--keep FOLDER]
+mavunilai replay FILE .. [--counts]
+mavunilai replay FILE [--stop-at LINE] [--keep FOLDER] [--counts]
 
 Makes the calls of each list (docs/EXCHANGE.md has the format; - is standard input)
-and compares every answer and the digest of every buffer. At the first difference it
-says the line and ends with status 1. --counts prints how often each refusal, move and
-kind of pass occurred. --keep writes the buffers, as the lists left them, to files.
+and compares every answer and every buffer. At the first difference it says the line,
+the case and the fields that differ, and ends with status 1. --counts prints how often
+each refusal, move and kind of pass occurred. --stop-at ends behind that line of the
+list. --keep writes the buffers to files, as the list left them or the call that differs.
 
 Example: mavunilai replay exchange/season.txt --keep kept; mavunilai show book kept/book0
 ";
 
 const RECORD: &str = "\
-mavunilai record FILE
-mavunilai record --scenario NAME
+mavunilai record FILE [--full]
+mavunilai record --scenario NAME [--full]
+mavunilai record --random SEED [--count N] [--full]
 mavunilai record --folder FOLDER
 
 Prints the list of FILE (- is standard input) with the answers and digests that the
 replica gives now; the calls may stand there without any. --scenario prints a ready list:
-refusals, orders, moves, corners, rehearsal, season or books. --folder writes all ready
-lists there.
+refusals, orders, moves, corners, rehearsal, season or books. --random prints N calls
+(1000 if not said) as `try` makes them from this seed. With --full the list has the bytes
+of the buffers and not their digests. --folder writes all ready lists there.
 ";
 
 const REHEARSAL: &str = "\
@@ -125,4 +174,34 @@ Station 2 of 4, three heights led by 0, 1, 2. Delivers the frames of standard in
 by one, a short last one too, and moves until idle after each. Prints `take` or `same`
 with kind, height and signer, or `deny` and a number; then `dummy`, `final`, `pass`,
 `offer` and `vote` for the moves.
+";
+
+const TRY: &str = "\
+mavunilai try [--seed S] [--count N] [--seconds T] -- PROGRAM WORDS ..
+
+Starts PROGRAM, a replica of your own, and asks it for N calls (10000 if not said), one
+to a line; it answers each with one line. docs/EXCHANGE.md has the form of both. The
+seed S (1 if not said) decides the calls: lists on single books, sound, damaged and
+others, and whole networks with dishonest stations. Every answer and every byte of the
+book and of the reply is held against the replica at hand. At the first difference it
+says the case and the call, both answers and the fields in which the books and replies
+differ, prints a list of that one call that `replay` takes, and ends with status 1; so it
+does if PROGRAM ends, prints what is no answer or too much, or says nothing for T seconds
+(10 if not said). What PROGRAM writes to its standard error goes by.
+
+Example: mavunilai try --count 1000 -- mavunilai answer
+";
+
+const ANSWER: &str = "\
+mavunilai answer < CALLS
+
+Reads a call from each line of standard input and prints a line with its answer, on the
+replica at hand: the other side of `mavunilai try`, and a pattern for yours.
+";
+
+const DIFF: &str = "\
+mavunilai diff BOOK BOOK
+
+Prints the fields in which two books differ, with the byte at which each begins, and
+ends with status 1; with status 0 if they are the same. The books need not be sound.
 ";

@@ -1,24 +1,36 @@
-//! The command `mavunilai`: makes and shows frames and books, makes calls, replays and records lists, runs the rehearsal.
+//! The command `mavunilai`: makes and shows frames and books, makes calls, replays and records lists, tries
+//! other replicas, runs the rehearsal.
 
 #![warn(clippy::indexing_slicing, clippy::arithmetic_side_effects)]
 #![warn(clippy::unwrap_used, clippy::expect_used, clippy::panic)]
 
+mod answer_command;
 mod arguments;
+mod bounded_line;
 mod call_command;
 mod chosen;
+mod diff_command;
 mod files;
 mod frame_command;
 mod help;
 mod open_command;
 mod page_options;
+mod pages;
 mod problem;
 mod record_command;
 mod rehearsal_command;
 mod replay_command;
 mod show_book;
+mod show_books;
 mod show_command;
 mod show_frame;
+mod station;
 mod table;
+mod theirs;
+mod told;
+mod try_command;
+mod unmet;
+mod unsound;
 mod why;
 mod words;
 
@@ -57,7 +69,7 @@ fn run(words: &[String], output: &mut Vec<u8>) -> Result<(), Problem> {
         Some((name, rest)) => (name.as_str(), rest),
     };
     let asked = |word: &String| word == "--help" || word == "-h";
-    if rest.iter().any(asked) {
+    if rest.iter().take_while(|word| *word != "--").any(asked) {
         return help::print(name, output);
     }
     match name {
@@ -68,7 +80,21 @@ fn run(words: &[String], output: &mut Vec<u8>) -> Result<(), Problem> {
         "replay" => replay_command::run(rest, output),
         "record" => record_command::run(rest, output),
         "rehearsal" => rehearsal_command::run(rest, output),
-        "help" | "--help" | "-h" => help::print(rest.first().map_or("", String::as_str), output),
+        "try" => try_command::run(rest, output),
+        "answer" => answer_command::run(rest),
+        "diff" => diff_command::run(rest, output),
+        "--version" | "version" => version(rest, output),
+        "help" | "--help" | "-h" => help::run(rest, output),
         _ => Err(Problem::input(format!("'{name}' is no command; try `mavunilai help`"))),
     }
+}
+
+/// Prints the version, and which replica this program has.
+fn version(rest: &[String], output: &mut Vec<u8>) -> Result<(), Problem> {
+    if !rest.is_empty() {
+        return Err(Problem::input("expected here: --version alone"));
+    }
+    let (version, name) = (env!("CARGO_PKG_VERSION"), chosen::NAME);
+    output.extend(format!("mavunilai {version}, with {name}\n").into_bytes());
+    Ok(())
 }

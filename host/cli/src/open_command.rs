@@ -1,20 +1,34 @@
-//! `open`: writes a new book.
+//! `open`: keeps a new book in a file.
 
 use crate::arguments::Arguments;
 use crate::chosen::REPLICA;
 use crate::problem::Problem;
 use crate::words;
-use types::refusal::meaning;
+use store::{Error, FileBook};
 use types::Book;
 
-/// Writes the bytes of a new book.
+/// Writes a new book to a file, to one that is there only if it is forced to, or to standard output.
 pub fn run(words: &[String], output: &mut Vec<u8>) -> Result<(), Problem> {
-    let arguments = Arguments::sort(words, &["n", "own", "roll"], &[])?;
-    let [] = arguments.plain("options alone: --n, --own, --roll")?;
+    let arguments = Arguments::sort(words, &["n", "own", "roll"], &["force"])?;
+    let [file] = arguments.plain("the file of the new book, or - for standard output")?;
     let roll = words::numbers("roll", arguments.needed("roll")?)?;
     let (n, own) = (arguments.byte("n")?, arguments.byte("own")?);
-    let book = Book::open(REPLICA, n.into(), own.into(), &roll);
-    let refused = |number| Problem::input(format!("refused with {number}: {}", meaning(number)));
-    output.extend_from_slice(book.map_err(refused)?.bytes());
-    Ok(())
+    let book = Book::open(REPLICA, n.into(), own.into(), &roll)
+        .map_err(|refusal| Problem::refused(refusal.number()))?;
+    let kept = match (file.as_str(), arguments.has("force")) {
+        ("-", true) => return Err(Problem::input("standard output needs no --force")),
+        ("-", false) => {
+            output.extend_from_slice(book.bytes());
+            return Ok(());
+        }
+        (_, true) => FileBook::overwrite(book, file),
+        (_, false) => FileBook::create(book, file),
+    };
+    match kept {
+        Ok(_) => Ok(()),
+        Err(error @ Error::Exists(_)) => {
+            Err(Problem::input(format!("{error}; --force begins a new book in its place")))
+        }
+        Err(error) => Err(error.into()),
+    }
 }

@@ -29,18 +29,25 @@ pub fn page(arguments: &Arguments, height: u8) -> Result<Block, Problem> {
 /// The page of the options, or the bytes of `--page`, which then say the height.
 pub fn page_bytes(arguments: &Arguments) -> Result<[u8; BLOCK], Problem> {
     match arguments.value("page")? {
-        Some(text) => words::bytes("page", text),
+        Some(text) => {
+            arguments.none_beside("page", &["height", "back", "back-digest", "entry"])?;
+            words::bytes("page", text)
+        }
         None => Ok(page(arguments, arguments.byte("height")?)?.bytes()),
     }
 }
 
-/// An entry: 32 hexadecimal digits, or up to 16 characters of text, filled up with blanks.
+/// An entry: 32 hexadecimal digits, or text of up to 16 bytes, filled up with blanks.
 pub fn entry(text: &str) -> Result<[u8; ENTRY], Problem> {
-    if text.len() == 32 {
+    if text.len() == 32 && text.chars().all(|digit| digit.is_ascii_hexdigit()) {
         return words::bytes("entry", text);
     }
     if text.len() > ENTRY {
-        let sentence = format!("--entry '{text}': more than 16 characters, and not 32 digits");
+        let length = text.len();
+        let sentence = format!(
+            "entry '{text}': its {length} bytes are more than 16 bytes of text (a letter may have more than one), and \
+             are not 32 hexadecimal digits"
+        );
         return Err(Problem::input(sentence));
     }
     let mut entry = [b' '; ENTRY];

@@ -4,7 +4,7 @@ use crate::arguments::Arguments;
 use crate::chosen::REPLICA;
 use crate::files;
 use crate::problem::Problem;
-use types::{Book, Calls, Delivered, Move, FRAME};
+use types::{Book, Calls, Delivered, Move, Refusal, FRAME};
 
 /// The roll; its replica is 2 of 4.
 const ROLL: [u8; 3] = [0, 1, 2];
@@ -13,7 +13,9 @@ const ROLL: [u8; 3] = [0, 1, 2];
 pub fn run(words: &[String], output: &mut Vec<u8>) -> Result<(), Problem> {
     let arguments = Arguments::sort(words, &[], &[])?;
     let [] = arguments.plain("nothing: the frames come from standard input")?;
-    let refused = |number| Problem::input(format!("the rehearsal was refused with {number}"));
+    let refused = |refusal: Refusal| {
+        Problem::input(format!("the rehearsal was refused with {}", refusal.number()))
+    };
     let mut book = Book::open(REPLICA, 4, 2, &ROLL).map_err(refused)?;
     for frame in files::read("-")?.chunks(FRAME) {
         print(output, delivery(&mut book, frame));
@@ -39,7 +41,7 @@ fn delivery(book: &mut Book<impl Calls>, frame: &[u8]) -> String {
     let word = match book.deliver(frame) {
         Ok(Delivered::Fresh) => "take",
         Ok(Delivered::Known) => "same",
-        Err(number) => return format!("deny {number}"),
+        Err(refusal) => return format!("deny {}", refusal.number()),
     };
     match frame {
         [kind, signer, height, ..] => format!("{word} {kind} {height} {signer}"),

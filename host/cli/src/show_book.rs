@@ -1,23 +1,38 @@
-//! A book in words: its head, a table of heights, and why the current height is where it is.
+//! A book in words: its head, a table of heights, its entries, and why the current height is where it is.
 
+use crate::pages::{self, Page};
 use crate::problem::Problem;
-use crate::words::{count, members};
-use crate::{table, why};
+use crate::words::{count, entry, members};
+use crate::{table, unsound, why};
 use reference::inspect::{inspect, Height, Inspection};
 use types::refusal::meaning;
+use types::Area;
 
 /// The lines about a book.
 pub fn text(bytes: &[u8]) -> Result<String, Problem> {
-    let refused = |number| {
-        let length = bytes.len();
-        Problem::input(format!("refused with {number}: {} ({length} bytes)", meaning(number)))
-    };
-    let book = inspect(bytes).map_err(refused)?;
+    let book = told(bytes)?;
     let mut rows = vec![HEADINGS.map(str::to_string).to_vec()];
-    rows.extend((1..).zip(&book.heights).map(|(height, slot)| row(&book, height, slot)));
-    let table = table::print(&rows);
-    let reasons = why::lines(&book, bytes).join("\n");
-    Ok(format!("{}\n\n{table}\n{reasons}\n", head(&book)))
+    let register = pages::register(bytes);
+    rows.extend((1..).zip(&book.heights).map(|(height, slot)| {
+        let listed = register.contains(&height);
+        row(&book, bytes, height, slot, listed)
+    }));
+    let parts = [
+        vec![head(&book), String::new(), table::print(&rows)],
+        pending(&book, bytes),
+        entries(bytes, &book, &register),
+        why::lines(&book, bytes),
+    ];
+    Ok(parts.concat().join("\n") + "\n")
+}
+
+/// What a book tells; a sentence about the first rule that it breaks, if it is not sound.
+pub fn told(bytes: &[u8]) -> Result<Inspection, Problem> {
+    inspect(bytes).map_err(|number| {
+        let (length, why) = (bytes.len(), unsound::reason(bytes).unwrap_or_default());
+        let meaning = meaning(number);
+        Problem::input(format!("refused with {number}: {meaning} ({length} bytes): {why}"))
+    })
 }
 
 /// The first line.
@@ -34,7 +49,7 @@ fn head(book: &Inspection) -> String {
 }
 
 /// The headings of the table.
-const HEADINGS: [&str; 11] = [
+const HEADINGS: [&str; 12] = [
     "height",
     "leader",
     "proposal",
@@ -45,17 +60,13 @@ const HEADINGS: [&str; 11] = [
     "finalise",
     "linked",
     "settled",
+    "in register",
     "",
 ];
 
 /// The row of a height.
-fn row(book: &Inspection, height: u8, slot: &Height) -> Vec<String> {
-    let page = |page: Option<(u8, u8)>| match page {
-        None => "-".to_string(),
-        Some((back, entries)) => {
-            format!("on {back}, {}", count(entries.into(), "entry", "entries"))
-        }
-    };
+fn row(book: &Inspection, bytes: &[u8], height: u8, slot: &Height, listed: bool) -> Vec<String> {
+    let page = |area| pages::page(bytes, height, area).map_or("-".to_string(), |page| page.told());
     let yes = |yes: bool| if yes { "yes" } else { "-" }.to_string();
     let [certificate, blank, finalise] = slot.masks;
     let quorum = if slot.dummy { " (quorum)" } else { "" };
@@ -64,14 +75,52 @@ fn row(book: &Inspection, height: u8, slot: &Height) -> Vec<String> {
     vec![
         height.to_string(),
         slot.leader.to_string(),
-        page(slot.held),
-        members(slot.voters),
-        page(slot.notarized),
+        page(Area::Held),
+        pages::votes(bytes, height, slot.voters),
+        page(Area::Notarized),
         certificate,
         format!("{}{quorum}", members(blank)),
         members(finalise),
         yes(slot.linked),
         yes(slot.finalized),
+        yes(listed),
         mark.to_string(),
     ]
+}
+
+/// The pending entries.
+fn pending(book: &Inspection, bytes: &[u8]) -> Vec<String> {
+    let entries = pages::pending(bytes, book.pending);
+    let lines: Vec<String> = entries.iter().map(|bytes| format!("  {}", entry(bytes))).collect();
+    match lines.is_empty() {
+        true => Vec::new(),
+        false => [vec!["Pending entries:".to_string()], lines, vec![String::new()]].concat(),
+    }
+}
+
+/// The entries of all pages that have some, height by height; a page that is held and notarised stands once.
+fn entries(bytes: &[u8], book: &Inspection, register: &[u8]) -> Vec<String> {
+    let mut lines = Vec::new();
+    for (height, _) in (1..).zip(&book.heights) {
+        let [held, notarized] =
+            [Area::Held, Area::Notarized].map(|area| pages::page(bytes, height, area));
+        let held = held.filter(|held| notarized.as_ref() != Some(held));
+        let listed = if register.contains(&height) { ", in the register" } else { "" };
+        lines.extend(held.iter().flat_map(|page| page_lines(height, "proposal", page, "")));
+        lines.extend(notarized.iter().flat_map(|page| page_lines(height, "page", page, listed)));
+    }
+    match lines.is_empty() {
+        true => Vec::new(),
+        false => [vec!["Entries of pages:".to_string()], lines, vec![String::new()]].concat(),
+    }
+}
+
+/// The entries of a page, if it has some.
+fn page_lines(height: u8, what: &str, page: &Page, listed: &str) -> Vec<String> {
+    if page.block.entries.is_empty() {
+        return Vec::new();
+    }
+    let first = format!("  height {height}, {what} {}{listed}:", page.short());
+    let entries = page.block.entries.iter().map(|bytes| format!("    {}", entry(bytes)));
+    [vec![first], entries.collect()].concat()
 }

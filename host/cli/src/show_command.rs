@@ -1,18 +1,25 @@
-//! `show`: a frame or a book in words.
+//! `show`: frames or books in words.
 
 use crate::arguments::Arguments;
 use crate::problem::Problem;
-use crate::{files, show_book, show_frame};
+use crate::{files, show_book, show_books, show_frame};
 
-/// Shows what the first word says, out of the file that the second names.
+/// Shows what the first word says, out of the files that the others name.
 pub fn run(words: &[String], output: &mut Vec<u8>) -> Result<(), Problem> {
     let arguments = Arguments::sort(words, &[], &[])?;
-    let [what, file] = arguments.plain("`frame` or `book`, then a file or - for standard input")?;
-    let text = match what.as_str() {
-        "frame" => show_frame::text(&files::read_bytes(file)?)?,
-        "book" => show_book::text(&files::read_bytes(file)?)?,
+    let text = match arguments.words() {
+        [what, file] if what == "frame" => show_frame::all(&files::read_bytes(file)?)?,
+        [what, file] if what == "book" => show_book::text(&files::read_bytes(file)?)?,
+        [what, files @ ..] if what == "books" => show_books::text(files)?,
+        [what, ..] if !["frame", "book"].contains(&what.as_str()) => {
+            let sentence = format!("'{what}' cannot be shown; `frame`, `book` and `books` can");
+            return Err(Problem::input(sentence));
+        }
         _ => {
-            return Err(Problem::input(format!("'{what}' cannot be shown; `frame` and `book` can")))
+            let sentence =
+                "expected here: `frame` or `book`, then a file or - for standard input; \
+                            or `books` and files";
+            return Err(Problem::input(sentence));
         }
     };
     output.extend(text.into_bytes());

@@ -3,7 +3,23 @@
 use crate::problem::Problem;
 use crate::words::{entry, hex, members};
 use reference::sha256;
-use types::{Block, Book, Frame, FRAME, MOST_HEIGHTS, MOST_REPLICAS};
+use types::{Block, Book, Frame, Refusal, FRAME, MOST_HEIGHTS, MOST_REPLICAS};
+
+/// The lines about one frame or several, with an empty line between two.
+pub fn all(bytes: &[u8]) -> Result<String, Problem> {
+    let frames = bytes.chunks_exact(FRAME);
+    if !frames.remainder().is_empty() || frames.len() < 2 {
+        return text(bytes);
+    }
+    let number = |(at, frame): (usize, _)| {
+        let wrong = |problem: Problem| Problem {
+            sentence: format!("frame {at}: {}", problem.sentence),
+            ..problem
+        };
+        text(frame).map_err(wrong)
+    };
+    Ok((1..).zip(frames).map(number).collect::<Result<Vec<_>, _>>()?.join("\n"))
+}
 
 /// The lines about a frame.
 pub fn text(bytes: &[u8]) -> Result<String, Problem> {
@@ -35,7 +51,7 @@ fn strange(bytes: &[u8; FRAME]) -> String {
 fn is_refused_for_form(bytes: &[u8]) -> bool {
     let leaders = [0; MOST_HEIGHTS as usize];
     let book = Book::open(reference::Rules::SHA256, MOST_REPLICAS.into(), 0, &leaders);
-    book.and_then(|mut book| book.deliver(bytes)) == Err(4)
+    book.and_then(|mut book| book.deliver(bytes)) == Err(Refusal::Malformed)
 }
 
 /// The lines for each kind.

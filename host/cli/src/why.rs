@@ -1,12 +1,9 @@
 //! Why the current height of a book is where it is, and what the next move will be.
 
+use crate::chosen::REPLICA;
 use crate::words::count;
 use reference::inspect::{Height, Inspection};
 use types::{Calls, FRAME};
-
-/// The flags of the current height, in words.
-const FLAGS: [(u8, &str); 4] =
-    [(1, "timer fired"), (2, "blank vote cast"), (4, "page vote cast"), (8, "proposed")];
 
 /// The fewest stations that are a quorum of n.
 pub fn quorum(n: u8) -> u32 {
@@ -39,8 +36,7 @@ fn place(current: u8) -> String {
 
 /// What happened at this height so far.
 fn flags(flags: u8) -> String {
-    let set = FLAGS.iter().filter(|(flag, _)| flags & flag != 0).map(|(_, name)| *name);
-    let names: Vec<&str> = set.collect();
+    let names = exchange::words::flags(flags);
     match names.is_empty() {
         true => "Done at this height so far: nothing, and the timer has not fired.".to_string(),
         false => format!("Done at this height so far: {}.", names.join(", ")),
@@ -107,10 +103,10 @@ fn blank(book: &Inspection, slot: &Height) -> String {
     }
 }
 
-/// What a move would do, tried on a copy.
+/// What a move of the replica at hand would do, tried on a copy.
 fn next_move(bytes: &[u8]) -> String {
     let mut copy = bytes.to_vec();
-    let made = Calls::make_move(&reference::Rules::SHA256, &mut copy, &mut [0; 2 * FRAME]);
+    let made = Calls::make_move(&REPLICA, &mut copy, &mut [0; 2 * FRAME]);
     match made {
         Ok(made) => format!("The next move is: {made}."),
         Err(number) => format!("A move is refused with {number}."),

@@ -2,7 +2,7 @@
 
 mod common;
 
-use common::{fine, refused};
+use common::{denied, fine, refused};
 use reference::Rules;
 use types::{Block, Book, Frame};
 
@@ -20,7 +20,7 @@ fn shown(book: &Book<Rules>) -> String {
 
 #[test]
 fn a_new_book() {
-    let bytes = fine("open --n 4 --own 2 --roll 0,1,2", &[]);
+    let bytes = fine("open - --n 4 --own 2 --roll 0,1,2", &[]);
     assert_eq!(bytes, book(&[]).bytes());
     let text = shown(&book(&[]));
     let head = "Book of station 2 of 4: 3 heights, settled height 0, 0 pending entries; a quorum is 3 or more.";
@@ -69,8 +69,9 @@ fn a_page_that_does_not_stand() {
     assert!(text.contains("All heights are passed; only settling is left.\n"), "{text}");
     let row = text.lines().find(|line| line.starts_with('3')).unwrap();
     let cells: Vec<&str> = row.split_whitespace().collect();
-    assert_eq!(cells[..8], ["3", "2", "-", "-", "on", "1,", "0", "entries"], "{row}");
-    assert_eq!(cells[cells.len() - 2..], ["yes", "-"], "{row}");
+    assert_eq!(cells[..4], ["3", "2", "-", "-"], "{row}");
+    assert_eq!(cells[5..9], ["on", "1,", "0", "entries"], "{row}");
+    assert_eq!(cells[cells.len() - 3..], ["yes", "-", "-"], "{row}");
 }
 
 #[test]
@@ -79,8 +80,9 @@ fn bad_input_gets_a_sentence() {
     refused("show book -", &[], "(0 bytes)");
     refused("show", &[], "`frame` or `book`");
     refused("show page -", &[], "cannot be shown");
-    refused("open --n 4 --own 4 --roll 0", &[], "refused with 2");
-    refused("open --n 4 --own 1 --roll 0,,1", &[], "no numbers with commas");
-    refused("open --n 4 --own 1", &[], "--roll is missing");
-    refused("open --n 4 --own 1 --roll 0 more", &[], "options alone");
+    denied("open - --n 4 --own 4 --roll 0", &[], "refused with 2");
+    refused("open - --n 4 --own 1 --roll 0,,1", &[], "no numbers with commas");
+    refused("open - --n 4 --own 1", &[], "--roll is missing");
+    refused("open --n 4 --own 1 --roll 0", &[], "the file of the new book");
+    refused("open - --n 4 --own 1 --roll 0 --force", &[], "needs no --force");
 }

@@ -2,14 +2,15 @@
 
 mod common;
 
-use common::{fine, folder, refused, run_words};
+use common::{denied, fine, folder, refused, run, run_words};
 use types::Frame;
 
 /// The path of a new book for one station of so many, with two heights that station 0 leads.
 fn book(name: &str, n: u8) -> String {
     let path = folder("calls").join(name);
-    std::fs::write(&path, fine(&format!("open --n {n} --own 0 --roll 0,0"), &[])).unwrap();
-    path.to_str().unwrap().to_string()
+    let path = path.to_str().unwrap().to_string();
+    assert!(fine(&format!("open {path} --n {n} --own 0 --roll 0,0 --force"), &[]).is_empty());
+    path
 }
 
 /// The lines that a call prints.
@@ -51,8 +52,8 @@ fn the_file_changes_only_where_the_book_does() {
     assert_eq!(lines(&format!("call {book} deliver -"), &vote), ["fresh"]);
     let kept = std::fs::read(&book).unwrap();
     assert_eq!(lines(&format!("call {book} deliver -"), &vote), ["known"]);
-    refused(&format!("call {book} signal 2"), &[], "refused with 14");
-    refused(&format!("call {book} fetch 6 1"), &[], "refused with 11");
+    denied(&format!("call {book} signal 2"), &[], "refused with 14");
+    denied(&format!("call {book} fetch 6 1"), &[], "refused with 11");
     assert_eq!(std::fs::read(&book).unwrap(), kept);
     assert_eq!(lines(&format!("call {book} signal 1"), &[]), ["done"]);
     assert_ne!(std::fs::read(&book).unwrap(), kept);
@@ -66,10 +67,44 @@ fn bad_words_get_a_sentence() {
     refused(&format!("call {book} dance"), &[], "'dance' with so many words is no call");
     refused(&format!("call {book} move now"), &[], "'move' with so many words is no call");
     refused(&format!("call {book} signal one"), &[], "'one' is no number");
-    refused(&format!("call {book} deliver -"), &[3, 0, 1], "refused with 4");
-    refused(&format!("call {book} submit 0123456789abcdefg"), &[], "more than 16 characters");
+    refused(&format!("call {book} size --out frames"), &[], "size has no --out");
+    denied(&format!("call {book} deliver -"), &[3, 0, 1], "refused with 4");
+    denied(&format!("call {book} deliver -"), &[], "refused with 4");
+    refused(&format!("call {book} submit 0123456789abcdefg"), &[], "more than 16 bytes");
     let spoilt = folder("calls").join("spoilt");
     std::fs::write(&spoilt, [0; 1456]).unwrap();
-    refused(&format!("call {} move", spoilt.to_str().unwrap()), &[], "refused with 1");
-    refused(&format!("call {} read", spoilt.to_str().unwrap()), &[], "refused with 1");
+    denied(&format!("call {} move", spoilt.to_str().unwrap()), &[], "refused with 1");
+    denied(&format!("call {} read", spoilt.to_str().unwrap()), &[], "refused with 1");
+}
+
+#[test]
+fn several_frames_are_delivered_in_order() {
+    let book = book("several", 4);
+    let vote = |signer| Frame::DummyVote { signer, height: 1 }.bytes();
+    let frames = [vote(1), vote(9), vote(1), vote(2)].concat();
+    let ended = run(&format!("call {book} deliver -"), &frames);
+    assert_eq!((ended.status, ended.text().as_str()), (3, "fresh\ndeny 5\nknown\nfresh\n"));
+    assert_eq!(ended.complaint, "mavunilai: 1 of 4 frames were refused\n");
+    assert_eq!(lines(&format!("call {book} deliver -"), &frames[..224]), ["known"]);
+    denied(&format!("call {book} deliver -"), &frames[..225], "refused with 4");
+}
+
+#[test]
+fn a_run_delivers_what_it_writes_to_itself() {
+    let (one, two) = (book("printed", 1), book("handed", 1));
+    let printed = lines(&format!("call {one} run"), &[]);
+    let frames = format!("{two}.pile");
+    _ = std::fs::remove_file(&frames);
+    let answers = lines(&format!("call {two} run --out {frames}"), &[]);
+    let moves = ["offer 1", "vote 1", "pass 1 5 4", "final 1", "offer 2", "vote 2", "pass 2 5 4"];
+    assert_eq!(answers[..7], moves.map(str::to_string));
+    assert_eq!(answers[7..], ["final 2", "idle"].map(str::to_string));
+    let is_frame = |line: &&String| line.len() == 448;
+    let digits: Vec<&String> = printed.iter().filter(is_frame).collect();
+    let handed = std::fs::read_to_string(&frames).unwrap();
+    assert_eq!(handed.lines().collect::<Vec<_>>(), digits);
+    assert_eq!(digits.len(), 8);
+    assert_eq!(std::fs::read(one).unwrap(), std::fs::read(&two).unwrap());
+    assert_eq!(lines(&format!("call {two} run --out {frames}"), &[]), ["idle"]);
+    assert_eq!(std::fs::read_to_string(&frames).unwrap(), handed);
 }

@@ -82,6 +82,84 @@ fn every_kind_is_shown_from_bytes_and_from_digits() {
 }
 
 #[test]
+fn a_value_may_stand_behind_an_equals_sign() {
+    let frame = Frame::DummyVote { signer: 0, height: 1 };
+    assert_eq!(fine("frame blank-vote --signer=0 --height=1", &[]), frame.bytes());
+    let words = ["frame", "proposal", "--signer", "0", "--height=1", "--entry=a=b"];
+    let bytes = common::run_words(&words, &[]).output;
+    assert_eq!(&bytes[96..112], b"a=b             ");
+    refused("frame blank-vote --signer=0 --height=1 --hex=yes", &[], "--hex takes no value");
+    refused("frame blank-vote --signer= --height=1", &[], "no number");
+}
+
+#[test]
+fn options_that_would_be_ignored_are_errors() {
+    let page = "00".repeat(176);
+    let proposal = format!("frame proposal --signer 0 --page {page}");
+    refused(&format!("{proposal} --height 1"), &[], "beside --page, --height says nothing");
+    refused(&format!("{proposal} --entry a"), &[], "beside --page, --entry says nothing");
+    let vote = format!("frame page-vote --signer 0 --height 1 --digest {}", "00".repeat(32));
+    refused(&format!("{vote} --back 0"), &[], "beside --digest, --back says nothing");
+    let certificate = "frame blank-certificate --height 1 --mask 7 --signers 0,1";
+    refused(certificate, &[], "beside --mask, --signers says nothing");
+}
+
+#[test]
+fn entries_are_counted_in_bytes() {
+    let made = |entry: &str| {
+        common::run_words(
+            &["frame", "proposal", "--signer", "0", "--height", "1", "--entry", entry],
+            &[],
+        )
+    };
+    let eight = "é".repeat(8);
+    assert_eq!(&made(&eight).output[96..112], eight.as_bytes());
+    assert_eq!(
+        made(&"é".repeat(9)).complaint,
+        "mavunilai: entry 'ééééééééé': its 18 bytes are more than 16 bytes of text (a letter may have more than \
+         one), and are not 32 hexadecimal digits\n"
+    );
+    assert!(made(&"no digits, 32 letters".repeat(2)[..32]).complaint.contains("its 32 bytes"));
+}
+
+#[test]
+fn short_entries_are_filled_up_alike_by_tests_frames() {
+    let root = std::path::PathBuf::from(env!("CARGO_MANIFEST_DIR")).join("../..");
+    let file = common::folder("frames").join("proposal.txt");
+    std::fs::write(&file, "proposal signer 1 height 1 entry 'swap A1' entry plot\n").unwrap();
+    let made =
+        std::process::Command::new("python3").arg(root.join("tests/frames")).arg(&file).output();
+    let words =
+        ["frame", "proposal", "--signer=1", "--height=1", "--entry=swap A1", "--entry=plot"];
+    assert_eq!(made.unwrap().stdout, common::run_words(&words, &[]).output);
+}
+
+#[test]
+fn digits_may_be_wrapped_and_frames_may_follow_one_another() {
+    let digits =
+        String::from_utf8(fine("frame blank-vote --signer 0 --height 1 --hex", &[])).unwrap();
+    let one = fine("show frame -", digits.as_bytes());
+    let letters: Vec<char> = digits.trim().chars().collect();
+    let lines: Vec<String> = letters.chunks(61).map(|line| line.iter().collect()).collect();
+    assert_eq!(fine("show frame -", (lines.join("\r\n") + "\n\n").as_bytes()), one);
+    let two = "blank vote (kind 3)\nsigner 0\nheight 1\n\nfinalise (kind 4)\nsigner 1\nheight 2\n";
+    let other = fine("frame finalise --signer 1 --height 2 --hex", &[]);
+    let both = [digits.as_bytes(), &other].concat();
+    assert_eq!(String::from_utf8(fine("show frame -", &both)).unwrap(), two);
+    let shortened = b"030001+00*221\n040102+00*221\n";
+    assert_eq!(String::from_utf8(fine("show frame -", shortened)).unwrap(), two);
+    let mut bytes =
+        [Frame::DummyVote { signer: 0, height: 1 }, Frame::Finalize { signer: 1, height: 2 }]
+            .map(|frame| frame.bytes())
+            .concat();
+    assert_eq!(String::from_utf8(fine("show frame -", &bytes)).unwrap(), two);
+    bytes[224] = 9;
+    refused("show frame -", &bytes, "frame 2: 9 is no kind");
+    bytes.pop();
+    refused("show frame -", &bytes, "224 bytes, these are 447");
+}
+
+#[test]
 fn bad_words_get_a_sentence() {
     refused("frame", &[], "one kind of frame");
     refused("frame dummy-vote --signer 0 --height 1", &[], "no kind of frame");
@@ -97,7 +175,7 @@ fn bad_words_get_a_sentence() {
     refused("frame blank-certificate --height 1 --mask 65536", &[], "no number");
     refused("frame page-vote --signer 0 --height 1 --digest 00", &[], "32 bytes are needed");
     refused("frame proposal --signer 0 --height 2 --back 1", &[], "--back-digest");
-    refused("frame proposal --signer 0 --height 1 --entry 12345678901234567", &[], "16 characters");
+    refused("frame proposal --signer 0 --height 1 --entry 12345678901234567", &[], "its 17 bytes");
     let many = " --entry a".repeat(9);
     refused(&format!("frame proposal --signer 0 --height 1{many}"), &[], "eight entries");
 }

@@ -34,12 +34,22 @@ fn the_rehearsal_is_that_of_the_reference() {
 fn every_command_has_a_help_text() {
     let common = String::from_utf8(fine("help", &[])).unwrap();
     assert_eq!(fine("--help", &[]), common.as_bytes());
-    for name in ["frame", "show", "open", "call", "replay", "record", "rehearsal"] {
+    let names =
+        ["frame", "show", "diff", "open", "call", "replay", "record", "try", "answer", "rehearsal"];
+    for name in names {
         assert!(common.contains(&format!("\n  {name} ")), "{name}");
         let text = fine(&format!("help {name}"), &[]);
         assert_eq!(fine(&format!("{name} --help"), &[]), text);
         assert!(text.starts_with(format!("mavunilai {name}").as_bytes()), "{name}");
     }
+}
+
+#[test]
+fn the_version_says_which_replica_it_is() {
+    let name =
+        if cfg!(feature = "proved") { "the proved replica" } else { "the reference replica" };
+    let expected = format!("mavunilai {}, with {name}\n", env!("CARGO_PKG_VERSION"));
+    assert_eq!(String::from_utf8(fine("--version", &[])).unwrap(), expected);
 }
 
 #[test]
@@ -57,5 +67,7 @@ fn other_words_get_a_sentence() {
     refused("", &[], "a command is missing");
     refused("dance", &[], "'dance' is no command");
     refused("help dance", &[], "'dance' is no command");
+    refused("help call move", &[], "the name of one command");
+    refused("--version now", &[], "--version alone");
     refused("rehearsal now", &[], "standard input");
 }

@@ -1,12 +1,14 @@
 //! Compares two replicas on random lists of calls: every answer and every byte of every buffer, after every call.
 //!
-//! Half of the calls go to single books, new, strange, damaged and garbage ones; the other half run whole networks, with
-//! the check that no two honest logs fork. The seed decides everything.
+//! Half of the calls go to single books, new, strange, damaged and garbage ones; the other half run whole networks,
+//! with the check that no two honest logs fork. The seed decides everything. The second of the two may be a program
+//! that is asked line by line, or a [`Scribe`] that writes the calls down.
 
 #![warn(clippy::unwrap_used, clippy::expect_used, clippy::panic)]
 
 mod books;
 mod choose;
+mod difference;
 mod frames;
 mod guarded;
 mod kinds;
@@ -16,11 +18,16 @@ mod pair;
 mod random;
 mod report;
 mod run;
+mod scribe;
+mod second;
 mod single;
 mod traits;
 
+pub use difference::{Difference, Halt, Outcome, Stop};
 pub use kinds::Kinds;
-pub use pair::{Difference, Pair};
+pub use pair::Pair;
 pub use random::Random;
 pub use report::Report;
-pub use run::{run, LARGE};
+pub use run::{run, walk, LARGE};
+pub use scribe::Scribe;
+pub use second::Second;

@@ -54,7 +54,7 @@ fn arguments(words: &[String]) -> Result<(u64, u64), String> {
 /// Compares the two and prints what came of it.
 #[cfg(feature = "proved")]
 fn compare(seed: u64, count: u64) -> ExitCode {
-    match compare::run(reference::Rules::SHA256, replica::Proved, seed, count) {
+    match compare::run(reference::Rules::SHA256, mavunilai::Proved, seed, count) {
         Ok(report) => {
             print!("{report}");
             ExitCode::SUCCESS

@@ -2,10 +2,11 @@
 
 use crate::frames::{any_entry, byte};
 use crate::network::Network;
+use crate::Second;
 use reference::{is_quorum, sha256};
 use types::{field, Block, Calls, Frame};
 
-impl<A: Calls, B: Calls> Network<'_, A, B> {
+impl<A: Calls, B: Second> Network<'_, A, B> {
     /// One act of the dishonest replicas, at a height near an honest one's.
     pub fn mischief(&mut self) {
         let seen = self.random.index(self.books.len());

@@ -3,7 +3,7 @@
 use crate::books::{any_heights, any_replicas};
 use crate::frames::{any_entry, byte};
 use crate::Random;
-use crate::{Difference, Pair};
+use crate::{Halt, Pair, Second};
 use exchange::{Answer, Call};
 use types::{book_length, field, Block, Calls, Delivered, Frame, Move, BLOCK, FRAME};
 
@@ -31,20 +31,21 @@ pub struct Network<'a, A, B> {
     pub held_together: u64,
 }
 
-/// Nothing, or what the two replicas differ in.
-pub type Outcome = Result<(), Box<Difference>>;
+/// Nothing, or why it ends here.
+pub type Outcome = Result<(), Halt>;
 
-impl<'a, A: Calls, B: Calls> Network<'a, A, B> {
+impl<'a, A: Calls, B: Second> Network<'a, A, B> {
     /// Opens the honest books over junk; fewer than a third of the replicas are dishonest.
     pub fn open(
         pair: &'a mut Pair<A, B>,
         random: &'a mut Random,
-    ) -> Result<Network<'a, A, B>, Box<Difference>> {
+    ) -> Result<Network<'a, A, B>, Halt> {
         let n = if random.one_in(3) { 4 } else { any_replicas(random) };
         let bound = n.saturating_sub(1) / 3 + 1;
         let dishonest = random.byte_below(bound).max(random.byte_below(bound));
         let honest = n.saturating_sub(dishonest);
         let heights = any_heights(random).max(3);
+        pair.begin(&format!("a network of {n} stations, {dishonest} of them dishonest"));
         let leaders: Vec<u8> = (0..heights).map(|_| random.byte_below(n)).collect();
         let (books, logs) = (Vec::new(), vec![Vec::new(); honest.into()]);
         let (wire, spoken, blocks) = Default::default();
@@ -88,12 +89,7 @@ impl<'a, A: Calls, B: Calls> Network<'a, A, B> {
     }
 
     /// Makes a call on a replica's book.
-    pub fn call(
-        &mut self,
-        replica: usize,
-        call: &Call,
-        buffer: &mut [u8],
-    ) -> Result<Answer, Box<Difference>> {
+    pub fn call(&mut self, replica: usize, call: &Call, buffer: &mut [u8]) -> Result<Answer, Halt> {
         let Some(book) = self.books.get_mut(replica) else {
             return Ok(Answer::Done);
         };
@@ -207,7 +203,7 @@ impl<'a, A: Calls, B: Calls> Network<'a, A, B> {
     }
 
     /// Reads all logs: none may have shrunk, and of any two one must begin the other.
-    pub fn check(&mut self) -> Result<Option<&'static str>, Box<Difference>> {
+    pub fn check(&mut self) -> Result<Option<&'static str>, Halt> {
         let mut buffer = vec![0xbb; LONGEST];
         for replica in 0..self.books.len() {
             let answer = self.call(replica, &Call::Read, &mut buffer)?;

@@ -1,9 +1,8 @@
 //! One call made on two replicas, and everything about it compared.
 
 use crate::guarded::Guarded;
-use crate::Kinds;
+use crate::{Difference, Halt, Kinds, Outcome, Second};
 use exchange::{Answer, Call, Line, List, Tally};
-use std::fmt;
 use types::Calls;
 
 /// Two replicas, the counts of what they were given and answered, and room for copies.
@@ -11,6 +10,9 @@ use types::Calls;
 pub struct Pair<A, B> {
     one: A,
     two: B,
+    most: u64,
+    part: String,
+    case: String,
     tally: Tally,
     /// How often each kind of input occurred.
     pub kinds: Kinds,
@@ -18,31 +20,47 @@ pub struct Pair<A, B> {
     other: [Guarded; 2],
 }
 
-/// What differed, and a list of one call that shows it.
-#[derive(Clone, Debug)]
-pub struct Difference {
-    /// What differed.
-    pub sentence: String,
-    /// The buffers before the call, and the call with what the first replica made of it.
-    pub list: List,
-}
-
-impl fmt::Display for Difference {
-    fn fmt(&self, to: &mut fmt::Formatter<'_>) -> fmt::Result {
-        write!(to, "{}\n{}", self.sentence, self.list)
-    }
-}
-
-impl<A: Calls, B: Calls> Pair<A, B> {
+impl<A: Calls, B: Second> Pair<A, B> {
     /// Two replicas that have not been called yet.
     pub fn new(one: A, two: B) -> Pair<A, B> {
-        let (tally, kinds, before, other) = Default::default();
-        Pair { one, two, tally, kinds, before, other }
+        Pair::limited(one, two, u64::MAX)
+    }
+
+    /// The same, and after so many calls it is enough.
+    pub fn limited(one: A, two: B, most: u64) -> Pair<A, B> {
+        let (part, case, tally, kinds, before, other) = Default::default();
+        Pair { one, two, most, part, case, tally, kinds, before, other }
     }
 
     /// The counts so far.
     pub fn tally(&self) -> &Tally {
         &self.tally
+    }
+
+    /// The second of the two.
+    pub fn second(&self) -> &B {
+        &self.two
+    }
+
+    /// The second of the two, when no more calls are made.
+    pub fn into_second(self) -> B {
+        self.two
+    }
+
+    /// The name of the case that was begun last.
+    pub fn case(&self) -> &str {
+        &self.case
+    }
+
+    /// The next cases belong to this part of the comparison.
+    pub fn part(&mut self, name: String) {
+        self.part = name;
+    }
+
+    /// A case of the part begins.
+    pub fn begin(&mut self, what: &str) {
+        self.case = format!("{}, {what}", self.part);
+        self.two.begin(&self.case);
     }
 
     /// Makes a call on both; the lent bytes become what the first replica leaves.
@@ -51,7 +69,10 @@ impl<A: Calls, B: Calls> Pair<A, B> {
         call: &Call,
         book: &mut [u8],
         buffer: &mut [u8],
-    ) -> Result<Answer, Box<Difference>> {
+    ) -> Result<Answer, Halt> {
+        if self.tally.calls() >= self.most {
+            return Err(Halt::Enough);
+        }
         for (keep, bytes) in self.before.iter_mut().zip([&*book, &*buffer]) {
             keep.clear();
             keep.extend_from_slice(bytes);
@@ -60,17 +81,20 @@ impl<A: Calls, B: Calls> Pair<A, B> {
         other_book.load(book);
         other_buffer.load(buffer);
         let answer = call.make(&self.one, book, buffer);
-        let other = call.make(&self.two, other_book.part(), other_buffer.part());
+        let other = self.two.make(call, other_book.part(), other_buffer.part());
         self.tally.count(&answer);
         let [book_before, buffer_before] = &self.before;
         self.kinds.see(call, book_before, buffer_before.len(), answer);
-        if answer != other {
-            return Err(self.difference(call, format!("the answers are '{answer}' and '{other}'")));
-        }
-        match self.fault(call, answer, book, buffer) {
-            None => Ok(answer),
-            Some(sentence) => Err(self.difference(call, sentence.to_string())),
-        }
+        let one = || Outcome { answer, book: book.to_vec(), buffer: buffer.to_vec() };
+        let sentence = match &other {
+            Err(sentence) => sentence.clone(),
+            Ok(other) if answer != *other => format!("the answers are '{answer}' and '{other}'"),
+            Ok(_) => match self.fault(call, answer, book, buffer) {
+                None => return Ok(answer),
+                Some(sentence) => sentence.to_string(),
+            },
+        };
+        Err(self.difference(call, sentence, one(), other.ok()))
     }
 
     /// What is wrong with the bytes after a call, if anything.
@@ -103,7 +127,13 @@ impl<A: Calls, B: Calls> Pair<A, B> {
     }
 
     /// The difference with the list that shows it.
-    fn difference(&self, call: &Call, sentence: String) -> Box<Difference> {
+    fn difference(
+        &mut self,
+        call: &Call,
+        sentence: String,
+        one: Outcome,
+        answer: Option<Answer>,
+    ) -> Halt {
         let [book, buffer] = self.before.clone();
         let mut lines = vec![Line::Give { name: "book".to_string(), bytes: book }];
         let mut lent = String::new();
@@ -115,6 +145,8 @@ impl<A: Calls, B: Calls> Pair<A, B> {
         lines.push(Line::Call { call: call.clone(), book, buffer: lent, expected: None });
         let list = List { lines };
         let list = exchange::record(&list, &self.one).unwrap_or(list);
-        Box::new(Difference { sentence, list })
+        let [book, buffer] = self.other.each_mut().map(|bytes| bytes.part().to_vec());
+        let two = answer.map(|answer| Outcome { answer, book, buffer });
+        Halt::Differs(Box::new(Difference { sentence, list, call: call.clone(), one, two }))
     }
 }

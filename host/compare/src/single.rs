@@ -4,34 +4,45 @@ use crate::books::{any_heights, arguments_for, damage, garbage, strange_book};
 use crate::choose::{any_call, any_open, Recent};
 use crate::frames::byte;
 use crate::Random;
-use crate::{traits, Difference, Pair};
+use crate::{traits, Halt, Pair, Second};
 use exchange::Call;
 use reference::Rules;
 use types::{book_length, field, Calls, MOST_HEIGHTS};
 
-/// Nothing, or what the two replicas differ in.
-type Outcome = Result<(), Box<Difference>>;
+/// Nothing, or why it ends here.
+type Outcome = Result<(), Halt>;
 
 /// Runs one list of calls on one book, of whatever sort; now and then a short list for every number of heights.
-pub fn list<A: Calls, B: Calls>(pair: &mut Pair<A, B>, random: &mut Random) -> Outcome {
+pub fn list<A: Calls, B: Second>(pair: &mut Pair<A, B>, random: &mut Random) -> Outcome {
     let heights = any_heights(random);
     match random.below(40) {
-        0 => every_size(pair, random),
+        0 => {
+            pair.begin("books of every size");
+            every_size(pair, random)
+        }
         1..=14 => {
+            pair.begin("a new book");
             let count = random.below(400);
             from_new(pair, random, heights, count)
         }
         15..=29 => {
+            pair.begin("a sound book that no run makes");
             let count = random.below(60);
             from_strange(pair, random, heights, count)
         }
-        30..=34 => from_damaged(pair, random, heights),
-        _ => from_garbage(pair, random),
+        30..=34 => {
+            pair.begin("a sound book, damaged");
+            from_damaged(pair, random, heights)
+        }
+        _ => {
+            pair.begin("bytes that are no book");
+            from_garbage(pair, random)
+        }
     }
 }
 
 /// A few calls on a new book and on a strange one for every number of heights.
-fn every_size<A: Calls, B: Calls>(pair: &mut Pair<A, B>, random: &mut Random) -> Outcome {
+fn every_size<A: Calls, B: Second>(pair: &mut Pair<A, B>, random: &mut Random) -> Outcome {
     (1..=MOST_HEIGHTS).try_for_each(|heights| {
         from_new(pair, random, heights, 1)?;
         from_strange(pair, random, heights, 2)
@@ -39,7 +50,7 @@ fn every_size<A: Calls, B: Calls>(pair: &mut Pair<A, B>, random: &mut Random) ->
 }
 
 /// Opens a book over junk and goes on from there.
-fn from_new<A: Calls, B: Calls>(
+fn from_new<A: Calls, B: Second>(
     pair: &mut Pair<A, B>,
     random: &mut Random,
     heights: u8,
@@ -55,7 +66,7 @@ fn from_new<A: Calls, B: Calls>(
 }
 
 /// Begins with a sound book that no run makes.
-fn from_strange<A: Calls, B: Calls>(
+fn from_strange<A: Calls, B: Second>(
     pair: &mut Pair<A, B>,
     random: &mut Random,
     heights: u8,
@@ -72,7 +83,7 @@ fn from_strange<A: Calls, B: Calls>(
 }
 
 /// Begins with a sound book in which something was damaged, again and again.
-fn from_damaged<A: Calls, B: Calls>(
+fn from_damaged<A: Calls, B: Second>(
     pair: &mut Pair<A, B>,
     random: &mut Random,
     heights: u8,
@@ -95,7 +106,7 @@ fn from_damaged<A: Calls, B: Calls>(
 }
 
 /// Begins with bytes of any kind; opening may make a book of them.
-fn from_garbage<A: Calls, B: Calls>(pair: &mut Pair<A, B>, random: &mut Random) -> Outcome {
+fn from_garbage<A: Calls, B: Second>(pair: &mut Pair<A, B>, random: &mut Random) -> Outcome {
     let mut book = garbage(random);
     pair.kinds.saw(match (1..=MOST_HEIGHTS).any(|heights| book_length(heights) == book.len()) {
         true => "book: garbage of a book's length",
@@ -108,7 +119,7 @@ fn from_garbage<A: Calls, B: Calls>(pair: &mut Pair<A, B>, random: &mut Random) 
 }
 
 /// So many random calls on a book, each with a buffer of junk.
-fn calls<A: Calls, B: Calls>(
+fn calls<A: Calls, B: Second>(
     pair: &mut Pair<A, B>,
     random: &mut Random,
     book: &mut [u8],

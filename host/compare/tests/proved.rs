@@ -2,8 +2,8 @@
 #![cfg(feature = "proved")]
 
 use compare::{run, LARGE};
+use mavunilai::Proved;
 use reference::Rules;
-use replica::Proved;
 
 #[test]
 fn the_proved_replica_and_the_reference_agree() {

@@ -7,8 +7,11 @@ use std::fmt::Write;
 /// Runs of this many equal bytes or more are shortened when written.
 const RUN: usize = 8;
 
+/// A text of more letters is cut in messages.
+const SHORT: usize = 40;
+
 /// The most bytes that one literal may stand for, so that a typing error does not fill the memory.
-const MOST: usize = 1 << 20;
+pub const MOST: usize = 1 << 20;
 
 /// The text of some bytes.
 pub fn print(bytes: &[u8]) -> String {
@@ -81,10 +84,11 @@ fn pairs(digits: &str) -> Result<Vec<u8>, String> {
     digits.as_bytes().chunks(2).map(|two| pair(two).ok_or_else(wrong)).collect()
 }
 
-/// The beginning of a long text, for messages.
-fn shorten(text: &str) -> String {
-    let mut short: String = text.chars().take(24).collect();
-    if short.len() < text.len() {
+/// The beginning of a long text, for messages; what cannot be printed becomes `?`.
+pub fn shorten(text: &str) -> String {
+    let printable = |letter: char| if letter.is_control() { '?' } else { letter };
+    let mut short: String = text.chars().take(SHORT).map(printable).collect();
+    if text.chars().nth(SHORT).is_some() {
         short.push_str("..");
     }
     short

@@ -1,6 +1,7 @@
 //! Exchange files: lists of calls with the expected answers and the digests of all buffers, as plain text.
 //!
-//! docs/EXCHANGE.md describes the format. A list is replayed against any [`types::Calls`], and recorded from one.
+//! docs/EXCHANGE.md describes the format, and the lines that `mavunilai try` exchanges with a program. A list is
+//! replayed against any [`types::Calls`], and recorded from one.
 
 #![warn(clippy::indexing_slicing, clippy::arithmetic_side_effects)]
 #![warn(clippy::unwrap_used, clippy::expect_used, clippy::panic)]
@@ -8,20 +9,25 @@
 mod answer;
 pub mod bytes;
 mod call;
+mod failure;
+pub mod fields;
 mod line;
 mod list;
 mod recorder;
 mod replay;
+pub mod request;
 pub mod scenarios;
 
 mod stage;
 mod tally;
+pub mod words;
 
 pub use answer::Answer;
 pub use call::Call;
+pub use failure::{Failure, Unmet};
 pub use line::{Expected, Line};
 pub use list::{List, Problem, HEADING};
 pub use recorder::Recorder;
-pub use replay::{record, replay, Replayed};
+pub use replay::{record, record_in_full, replay, replay_until, Replayed};
 pub use stage::Stage;
 pub use tally::Tally;

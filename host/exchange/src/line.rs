@@ -1,15 +1,32 @@
 //! One line of a list: a remark, bytes given to a buffer, or a call with what is expected of it.
 
-use crate::{bytes, Answer, Call};
+use crate::bytes::{self, shorten};
+use crate::{Answer, Call};
+use reference::sha256;
 use std::fmt;
 
-/// What a call must answer and the digests of its buffers afterwards: the book, then the second buffer if any.
+/// What a call must answer and its buffers afterwards: the book, then the second buffer if any.
 #[derive(Clone, Debug, PartialEq, Eq)]
 pub struct Expected {
     /// The answer.
     pub answer: Answer,
     /// The digests.
     pub digests: Vec<[u8; 32]>,
+    /// The bytes, if the list has them in full.
+    pub bytes: Option<Vec<Vec<u8>>>,
+}
+
+impl Expected {
+    /// What is expected, with the bytes of the buffers in full.
+    pub fn in_full(answer: Answer, bytes: Vec<Vec<u8>>) -> Expected {
+        let digests = bytes.iter().map(|bytes| sha256::digest(bytes)).collect();
+        Expected { answer, digests, bytes: Some(bytes) }
+    }
+
+    /// Whether a call came to this: the same answer and the same bytes.
+    pub fn is_met_by(&self, found: &Expected) -> bool {
+        (self.answer, &self.digests) == (found.answer, &found.digests)
+    }
 }
 
 /// A line of a list.
@@ -32,7 +49,10 @@ impl fmt::Display for Line {
             Line::Give { name, bytes } => write!(to, "give {name} {}", bytes::print(bytes)),
             Line::Call { call, book, buffer, expected } => {
                 write!(to, "{}", call.words(book, buffer))?;
-                expected.iter().try_for_each(|expected| write!(to, " = {expected}"))
+                expected.iter().try_for_each(|expected| match expected.bytes {
+                    None => write!(to, " = {expected}"),
+                    Some(_) => write!(to, " {FULL} {expected}"),
+                })
             }
         }
     }
@@ -41,6 +61,9 @@ impl fmt::Display for Line {
 impl fmt::Display for Expected {
     fn fmt(&self, to: &mut fmt::Formatter<'_>) -> fmt::Result {
         write!(to, "{}", self.answer)?;
+        if let Some(all) = &self.bytes {
+            return all.iter().try_for_each(|bytes| write!(to, " {}", bytes::print(bytes)));
+        }
         for digest in &self.digests {
             write!(to, " ")?;
             digest.iter().try_for_each(|byte| write!(to, "{byte:02x}"))?;
@@ -63,18 +86,29 @@ impl Line {
         if let ["give", name, literal] = *words {
             return Ok(Line::Give { name: name.to_string(), bytes: bytes::parse(literal)? });
         }
-        let mut halves = words.split(|word| *word == "=");
+        let is_sign = |word: &&str| [PLAIN, FULL].contains(word);
+        let mut halves = words.split(is_sign);
         let (call, book, buffer) = call(halves.next().unwrap_or(&[]))?;
-        let expected = halves.next().map(|half| expected(half, &call)).transpose()?;
+        if book == buffer {
+            return Err("a call needs two different buffers".to_string());
+        }
+        let full = words.contains(&FULL);
+        let expected = halves.next().map(|half| expected(half, &call, full)).transpose()?;
         match halves.next() {
-            Some(_) => Err("a line has one '=' at most".to_string()),
+            Some(_) => Err("a line has one '=' or '==' at most".to_string()),
             None => Ok(Line::Call { call, book, buffer, expected }),
         }
     }
 }
 
-/// The call before the equals sign, with the names of its buffers.
-fn call(words: &[&str]) -> Result<(Call, String, String), String> {
+/// Stands before an answer with digests.
+const PLAIN: &str = "=";
+
+/// Stands before an answer with the bytes in full.
+const FULL: &str = "==";
+
+/// The call before the equals sign, with the words that stand for its buffers.
+pub(crate) fn call(words: &[&str]) -> Result<(Call, String, String), String> {
     let mut second = "";
     let (call, book) = match *words {
         ["open", book, n, own, heights, leaders] => {
@@ -97,25 +131,33 @@ fn call(words: &[&str]) -> Result<(Call, String, String), String> {
             second = buffer;
             (Call::Fetch { kind: number(kind)?, height: number(height)? }, book)
         }
-        _ => return Err(format!("'{}' is no call with its arguments", words.join(" "))),
+        _ => {
+            let words = shorten(&words.join(" "));
+            return Err(format!("'{words}' is no call with its arguments"));
+        }
     };
-    if book == second {
-        return Err("a call needs two different buffers".to_string());
-    }
     Ok((call, book.to_string(), second.to_string()))
 }
 
-/// What stands behind the equals sign.
-fn expected(words: &[&str], call: &Call) -> Result<Expected, String> {
-    let buffers = if call.lends() { 2 } else { 1 };
-    let (answer, digests) = words
+/// What stands behind the equals sign: an answer and digests, or bytes in full.
+pub(crate) fn expected(words: &[&str], call: &Call, full: bool) -> Result<Expected, String> {
+    let (buffers, what) = match (call.lends(), full) {
+        (false, false) => (1, "1 digest"),
+        (true, false) => (2, "2 digests"),
+        (false, true) => (1, "the bytes of 1 buffer"),
+        (true, true) => (2, "the bytes of 2 buffers"),
+    };
+    let (answer, rest) = words
         .split_at_checked(words.len().saturating_sub(buffers))
         .ok_or_else(|| "the answer is missing".to_string())?;
-    let answer = Answer::parse(answer).ok_or_else(|| {
-        format!("'{}' is no answer followed by {buffers} digests", words.join(" "))
-    })?;
-    let digests = digests.iter().map(|word| digest(word)).collect::<Result<_, _>>()?;
-    Ok(Expected { answer, digests })
+    let wrong = || format!("'{}' is no answer followed by {what}", shorten(&words.join(" ")));
+    let answer = Answer::parse(answer).ok_or_else(wrong)?;
+    if full {
+        let all = rest.iter().map(|word| bytes::parse(word)).collect::<Result<_, _>>()?;
+        return Ok(Expected::in_full(answer, all));
+    }
+    let digests = rest.iter().map(|word| digest(word)).collect::<Result<_, _>>()?;
+    Ok(Expected { answer, digests, bytes: None })
 }
 
 /// A digest of 64 digits.

@@ -48,6 +48,21 @@ impl List {
         });
         Ok(List { lines: parsed.collect::<Result<_, _>>()? })
     }
+
+    /// The name of the case that a line of the text belongs to: the words of the last remark up to it that follows the
+    /// heading or an empty line.
+    pub fn case(&self, line: usize) -> Option<&str> {
+        let mut name = None;
+        let mut begins = true;
+        for step in self.lines.iter().take(line.saturating_sub(1)) {
+            match step {
+                Line::Remark(text) if text.is_empty() => begins = true,
+                Line::Remark(text) if begins => (name, begins) = (Some(text.as_str()), false),
+                _ => begins = false,
+            }
+        }
+        name
+    }
 }
 
 /// The line, if all buffers that it names have been given; a line that gives one adds its name.

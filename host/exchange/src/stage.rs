@@ -44,7 +44,7 @@ impl Stage {
             self.give(buffer, lent);
         }
         let answer: Answer = answer.ok_or_else(|| missing(book))?;
-        Ok(Expected { answer, digests })
+        Ok(Expected { answer, digests, bytes: None })
     }
 
     /// Takes a buffer away, to lend it beside the book.

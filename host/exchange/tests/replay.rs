@@ -1,6 +1,6 @@
 //! Replaying finds every kind of difference, and bad lists get a sentence with the line.
 
-use exchange::{record, replay, List, Problem, HEADING};
+use exchange::{record, record_in_full, replay, replay_until, List, Problem, HEADING};
 use reference::Rules;
 
 /// A list of these lines.
@@ -16,8 +16,15 @@ fn sample() -> String {
 
 /// The problem that replaying a text ends with.
 fn problem(text: &str) -> Option<String> {
-    let replayed = List::parse(text).and_then(|list| replay(&list, &Rules::SHA256));
-    replayed.err().map(|problem| problem.to_string())
+    match List::parse(text) {
+        Ok(list) => replay(&list, &Rules::SHA256).err().map(|failure| failure.to_string()),
+        Err(problem) => Some(problem.to_string()),
+    }
+}
+
+/// The same list with bytes in full.
+fn full_sample() -> String {
+    record_in_full(&List::parse(&sample()).unwrap(), &Rules::SHA256).unwrap().to_string()
 }
 
 #[test]
@@ -45,6 +52,52 @@ fn other_bytes_are_found() {
         problem(&text).as_deref(),
         Some("line 5: the bytes of the book are not the expected ones")
     );
+}
+
+#[test]
+fn a_list_in_full_has_bytes_and_replays() {
+    let text = full_sample();
+    assert_eq!(problem(&text), None);
+    assert!(text.contains("\nsignal book 1 == done 0402010101000001+00*1448\n"), "{text}");
+    assert!(text.contains(" == dummy 1 04020103") && text.contains(" 030201+00*221+aa*224\n"));
+    let list = List::parse(&text).unwrap();
+    assert_eq!(list.to_string(), text);
+    assert_eq!(record(&list, &Rules::SHA256), Ok(list));
+}
+
+#[test]
+fn other_bytes_in_full_are_found_with_both_books() {
+    let text = full_sample().replacen("== done 04020101", "== done 04020100", 1);
+    let list = List::parse(&text).unwrap();
+    let failure = replay(&list, &Rules::SHA256).unwrap_err();
+    assert_eq!(failure.to_string(), "line 5: the bytes of the book are not the expected ones");
+    let unmet = failure.unmet.unwrap();
+    let expected = &unmet.expected.bytes.unwrap()[0];
+    let book = unmet.stage.bytes("book").unwrap();
+    assert_eq!((unmet.before[0][3], book[3], expected[3]), (0, 1, 0));
+    assert_eq!(unmet.before[0], *expected);
+}
+
+#[test]
+fn a_case_is_the_remark_behind_an_empty_line_or_the_heading() {
+    let lines = "# All\ngive book 00*576\n\n# First\n# more words\nsize book\n# no case\nsize book\n\nsize book";
+    let list = list(lines).unwrap();
+    let names = |range: std::ops::RangeInclusive<usize>| range.map(|line| list.case(line));
+    assert_eq!(list.case(1), None);
+    assert!(names(2..=4).all(|name| name == Some("All")));
+    assert!(names(5..=11).all(|name| name == Some("First")));
+    let wrong = lines.replacen("size book", &format!("size book = size 1 {}", "0".repeat(64)), 1);
+    assert_eq!(
+        problem(&format!("{HEADING}\n{wrong}")).as_deref(),
+        Some("line 7: the answer is 'deny 1', expected is 'size 1' (case \"First\")")
+    );
+}
+
+#[test]
+fn replaying_stops_behind_a_line() {
+    let list = List::parse(&sample()).unwrap();
+    let calls = |last| replay_until(&list, &Rules::SHA256, last).unwrap().tally.calls();
+    assert_eq!([1, 3, 4, 5, 7, 8].map(calls), [0, 0, 1, 2, 4, 4]);
 }
 
 #[test]
@@ -84,6 +137,9 @@ fn bad_lists_get_a_sentence() {
         "size book = size 0",
         "size book = size 0 00",
         "size book = done = done",
+        "size book == size 0",
+        "size book == size 0 0",
+        "size book == size 0 00 = size 0 00",
         "size missing",
         "move book missing",
         &with_two,

@@ -1,6 +1,7 @@
 //! A book that owns its bytes, over any implementation of the calls.
 
-use crate::{book_length, field, Calls, Delivered, Move, ENTRY, FRAME};
+use crate::refusal::Refusal;
+use crate::{book_length, field, Area, Calls, Delivered, Layout, Move, ENTRY, FRAME};
 
 /// The bytes of a book together with the replica that works on them.
 #[derive(Clone, Debug)]
@@ -14,16 +15,17 @@ pub type Written = Vec<[u8; FRAME]>;
 
 impl<C: Calls> Book<C> {
     /// A new book for replica `own` of `n`; the leaders are one for each height.
-    pub fn open(calls: C, n: u64, own: u64, leaders: &[u8]) -> Result<Book<C>, u8> {
+    pub fn open(calls: C, n: u64, own: u64, leaders: &[u8]) -> Result<Book<C>, Refusal> {
         let heights = u8::try_from(leaders.len()).unwrap_or(u8::MAX);
         let mut bytes = vec![0; book_length(heights)];
-        calls.open(&mut bytes, n, own, leaders.len() as u64, leaders)?;
+        let opened = calls.open(&mut bytes, n, own, leaders.len() as u64, leaders);
+        opened.map_err(Refusal::of)?;
         Ok(Book { calls, bytes })
     }
 
-    /// A book kept elsewhere, as bytes; refused with 1 if they are no sound book.
-    pub fn from_bytes(calls: C, bytes: Vec<u8>) -> Result<Book<C>, u8> {
-        calls.size(&bytes)?;
+    /// A book kept elsewhere, as bytes; [`Refusal::Unsound`] if they are no sound book.
+    pub fn from_bytes(calls: C, bytes: Vec<u8>) -> Result<Book<C>, Refusal> {
+        calls.size(&bytes).map_err(Refusal::of)?;
         Ok(Book { calls, bytes })
     }
 
@@ -32,41 +34,76 @@ impl<C: Calls> Book<C> {
         &self.bytes
     }
 
-    /// The current height; one above the last once all are passed.
-    pub fn current(&self) -> u8 {
-        self.bytes.get(field::CURRENT).copied().unwrap_or(0)
+    /// The number of replicas.
+    pub fn n(&self) -> u8 {
+        self.byte(field::N)
     }
 
-    /// The finalized height (document 01: settled height).
+    /// The replica's own number, below n.
+    pub fn own(&self) -> u8 {
+        self.byte(field::OWN)
+    }
+
+    /// The number of heights, H.
+    pub fn heights(&self) -> u8 {
+        self.byte(field::HEIGHTS)
+    }
+
+    /// The current height, c: the one whose timer is to run; one above the last once all are passed.
+    pub fn current(&self) -> u8 {
+        self.byte(field::CURRENT)
+    }
+
+    /// The finalized height, g (document 01: settled height).
     pub fn finalized(&self) -> u8 {
-        self.bytes.get(field::FINALIZED).copied().unwrap_or(0)
+        self.byte(field::FINALIZED)
+    }
+
+    /// The leader of a height; none for a height that the book does not have.
+    pub fn leader(&self, height: u8) -> Option<u8> {
+        let row = Layout::new(self.heights()).area(height, Area::Row);
+        (1..=self.heights()).contains(&height).then(|| self.byte(row.start))
+    }
+
+    /// The pending entries, the oldest first.
+    pub fn pending(&self) -> &[[u8; ENTRY]] {
+        let places = self.bytes.get(Layout::new(self.heights()).pending()).unwrap_or(&[]);
+        let places = places.as_chunks::<ENTRY>().0;
+        places.get(..self.byte(field::PENDING).into()).unwrap_or(places)
+    }
+
+    /// A byte of the book; 0 past the end.
+    fn byte(&self, at: usize) -> u8 {
+        self.bytes.get(at).copied().unwrap_or(0)
     }
 
     /// Takes a frame whose signatures hold.
-    pub fn deliver(&mut self, frame: &[u8]) -> Result<Delivered, u8> {
-        self.calls.deliver(&mut self.bytes, frame)
+    pub fn deliver(&mut self, frame: &[u8]) -> Result<Delivered, Refusal> {
+        self.calls.deliver(&mut self.bytes, frame).map_err(Refusal::of)
     }
 
     /// Makes the first move that applies; the frames are to be sent, and delivered here as well.
-    pub fn make_move(&mut self) -> Result<(Move, Written), u8> {
+    pub fn make_move(&mut self) -> Result<(Move, Written), Refusal> {
         let mut reply = [[0; FRAME]; 2];
-        let made = self.calls.make_move(&mut self.bytes, reply.as_flattened_mut())?;
+        let made = self.calls.make_move(&mut self.bytes, reply.as_flattened_mut());
+        let made = made.map_err(Refusal::of)?;
         Ok((made, reply.into_iter().take(made.frames()).collect()))
     }
 
     /// Tells that the timer of a height fired.
-    pub fn signal(&mut self, height: u64) -> Result<(), u8> {
-        self.calls.signal(&mut self.bytes, height)
+    pub fn signal(&mut self, height: u64) -> Result<(), Refusal> {
+        self.calls.signal(&mut self.bytes, height).map_err(Refusal::of)
     }
 
     /// Adds a pending entry.
-    pub fn submit(&mut self, entry: &[u8; ENTRY]) -> Result<(), u8> {
-        self.calls.submit(&mut self.bytes, entry)
+    pub fn submit(&mut self, entry: &[u8; ENTRY]) -> Result<(), Refusal> {
+        self.calls.submit(&mut self.bytes, entry).map_err(Refusal::of)
     }
 
     /// The log as a list of entries (document 01: the register).
-    pub fn log(&self) -> Result<Vec<[u8; ENTRY]>, u8> {
-        let size = usize::try_from(self.calls.size(&self.bytes)?).unwrap_or(0);
+    pub fn log(&self) -> Result<Vec<[u8; ENTRY]>, Refusal> {
+        let size = self.calls.size(&self.bytes).map_err(Refusal::of)?;
+        let size = usize::try_from(size).unwrap_or(0);
         let mut buffer = vec![0; size];
         let part = usize::try_from(self.calls.read(&self.bytes, &mut buffer)).unwrap_or(0);
         buffer.truncate(part);
@@ -74,17 +111,16 @@ impl<C: Calls> Book<C> {
     }
 
     /// The certificate of kind 5, 6 or 7 of a height.
-    pub fn fetch(&self, kind: u64, height: u64) -> Result<[u8; FRAME], u8> {
+    pub fn fetch(&self, kind: u64, height: u64) -> Result<[u8; FRAME], Refusal> {
         let mut reply = [0; FRAME];
-        self.calls.fetch(&self.bytes, kind, height, &mut reply)?;
+        self.calls.fetch(&self.bytes, kind, height, &mut reply).map_err(Refusal::of)?;
         Ok(reply)
     }
 
     /// All certificates that the book holds: what goes out with each pass and each proposal.
     pub fn certificates(&self) -> Written {
-        let heights = self.bytes.get(field::HEIGHTS).copied().unwrap_or(0);
-        let wanted =
-            (1..=u64::from(heights)).flat_map(|height| [(5, height), (6, height), (7, height)]);
+        let heights = 1..=u64::from(self.heights());
+        let wanted = heights.flat_map(|height| [(5, height), (6, height), (7, height)]);
         wanted.filter_map(|(kind, height)| self.fetch(kind, height).ok()).collect()
     }
 }

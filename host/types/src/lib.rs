@@ -21,3 +21,4 @@ pub use book::{Book, Written};
 pub use calls::Calls;
 pub use frame::{Frame, FRAME};
 pub use layout::{book_length, field, mask_at, Area, Layout, ENTRY, MOST_HEIGHTS, MOST_REPLICAS};
+pub use refusal::Refusal;

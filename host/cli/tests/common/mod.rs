@@ -50,8 +50,18 @@ pub fn fine(words: &str, input: &[u8]) -> Vec<u8> {
 
 /// A command that must be refused with a sentence, status 2 and no output.
 pub fn refused(words: &str, input: &[u8], part: &str) {
+    ends_with(2, words, input, part);
+}
+
+/// A call that the replica must refuse: a sentence, status 3 and no output.
+pub fn denied(words: &str, input: &[u8], part: &str) {
+    ends_with(3, words, input, part);
+}
+
+/// A command that must end with this status, a sentence and no output.
+fn ends_with(status: i32, words: &str, input: &[u8], part: &str) {
     let ended = run(words, input);
-    assert_eq!((ended.status, ended.output.len()), (2, 0), "{words}");
+    assert_eq!((ended.status, ended.output.len()), (status, 0), "{words}");
     let sentence = ended.complaint.trim_end();
     assert!(sentence.starts_with("mavunilai: ") && sentence.lines().count() == 1, "{sentence}");
     assert!(sentence.contains(part), "{words}: {sentence}");

@@ -1,0 +1,44 @@
+-- What a list must show so that demand 3 is not vacuous: it meets every premise, and two honest replicas read an
+-- entry or more.
+use Prim.Native.Nat.{ℕ}
+use mathlib.Core.Path.{_≡_}
+use mathlib.Core.Logic.{_≢_}
+use mathlib.Core.List.{List, [], List·Memᴰ}
+use mathlib.Core.Option.{some}
+use Rattle.protocol.specs.Bytes.{Bytes}
+use Rattle.agreement.specs.Lists.{Member, Statement, statementOf, delivers, HonestIn, FewDishonest, KeepsOneBook, NotForged, NoCollision, Reads}
+
+-- a member of the list, of this replica, with a property
+abbrev pub MemberOf : List Member → ℕ → (Member → Type 0) → Type 0
+MemberOf list s P = (m : Member) × List·Memᴰ m list × (m .replica ≡ s) × P m
+
+module _ (digest : Bytes → Bytes) where
+  -- a frame that makes this statement in the name of replica `s` is delivered to a member
+  abbrev pub Hears : ℕ → Statement → Member → Type 0
+  Hears s statement m =
+      (frame : Bytes) × List·Memᴰ frame (delivers digest m) × (statementOf digest frame s ≡ some statement)
+
+  -- demand 3 with any other conclusion about the two parts that are read; with its own it is `Agreement` (MetLaws)
+  unfoldable pub Claim : (Bytes → Bytes → Type 0) → Type 0
+  Claim Conclusion =
+      (n dishonest : ℕ) (list : List Member) →
+      FewDishonest n dishonest →
+      ((s : ℕ) → HonestIn n dishonest s → KeepsOneBook digest n list s) →
+      NotForged digest (HonestIn n dishonest) list →
+      NoCollision digest (HonestIn n dishonest) list →
+      (m m′ : Member) (part part′ : Bytes) → List·Memᴰ m list → List·Memᴰ m′ list →
+      HonestIn n dishonest (m .replica) → HonestIn n dishonest (m′ .replica) →
+      Reads digest m part → Reads digest m′ part′ → Conclusion part part′
+
+  pub record Met (n dishonest : ℕ) (list : List Member) (part : Bytes) : Type 0 where
+    -- the premises
+    pub few : FewDishonest n dishonest
+    pub keeps : (s : ℕ) → HonestIn n dishonest s → KeepsOneBook digest n list s
+    pub unforged : NotForged digest (HonestIn n dishonest) list
+    pub collisionless : NoCollision digest (HonestIn n dishonest) list
+    -- replicas 0 and 1 are honest, and read this part, which is not empty
+    pub honest-0 : HonestIn n dishonest 0
+    pub honest-1 : HonestIn n dishonest 1
+    pub reads-0 : MemberOf list 0 (λ m. Reads digest m part)
+    pub reads-1 : MemberOf list 1 (λ m. Reads digest m part)
+    pub not-empty : part ≢ []

@@ -1,0 +1,81 @@
+//! The pages, votes and entries of a sound book, read from its bytes.
+
+use crate::words::{count, members, short};
+use reference::sha256;
+use types::{field, Area, Block, Layout, BLOCK, ENTRY};
+
+/// A page with its digest.
+#[derive(Clone, Debug, PartialEq, Eq)]
+pub struct Page {
+    pub digest: [u8; 32],
+    pub block: Block,
+}
+
+impl Page {
+    /// The first digits of its digest.
+    pub fn short(&self) -> String {
+        short(&self.digest)
+    }
+
+    /// The page in a few words.
+    pub fn told(&self) -> String {
+        let entries = count(self.block.entries.len(), "entry", "entries");
+        format!("{} on {}, {entries}", self.short(), self.block.parent)
+    }
+}
+
+/// The bytes of an area of a height.
+fn area(book: &[u8], height: u8, area: Area) -> &[u8] {
+    let heights = book.get(field::HEIGHTS).copied().unwrap_or(0);
+    book.get(Layout::new(heights).area(height, area)).unwrap_or(&[])
+}
+
+/// The held proposal or the notarised page of a height, if it has one.
+pub fn page(book: &[u8], height: u8, which: Area) -> Option<Page> {
+    let bit = if which == Area::Held { 1 } else { 2 };
+    let state = area(book, height, Area::Row).get(1).copied().unwrap_or(0);
+    let bytes: &[u8; BLOCK] = area(book, height, which).try_into().ok()?;
+    let page = Page { digest: sha256::digest(bytes), block: Block::parts(bytes) };
+    (state & bit != 0).then_some(page)
+}
+
+/// Who voted for which digest, as `0 1 for 3fa2c9d1; 2 for 77ab0122`; `-` if nobody did.
+pub fn votes(book: &[u8], height: u8, voters: u16) -> String {
+    let digests = area(book, height, Area::Votes).as_chunks::<32>().0;
+    let mut groups: Vec<(&[u8; 32], u16)> = Vec::new();
+    for (station, digest) in (0..).zip(digests) {
+        let bit = 1_u16.checked_shl(station).unwrap_or(0) & voters;
+        match groups.iter_mut().find(|(of, _)| *of == digest) {
+            _ if bit == 0 => {}
+            Some((_, mask)) => *mask |= bit,
+            None => groups.push((digest, bit)),
+        }
+    }
+    let told =
+        groups.iter().map(|(digest, mask)| format!("{} for {}", members(*mask), short(*digest)));
+    let told: Vec<String> = told.collect();
+    if told.is_empty() {
+        return "-".to_string();
+    }
+    told.join("; ")
+}
+
+/// The heights whose pages are in the register: the chain that ends at the settled height.
+pub fn register(book: &[u8]) -> Vec<u8> {
+    let mut heights = Vec::new();
+    let mut height = book.get(field::FINALIZED).copied().unwrap_or(0);
+    while let Some(page) = page(book, height, Area::Notarized) {
+        heights.push(height);
+        if page.block.parent >= height {
+            break;
+        }
+        height = page.block.parent;
+    }
+    heights
+}
+
+/// The pending entries of a book that has so many.
+pub fn pending(book: &[u8], count: u8) -> Vec<[u8; ENTRY]> {
+    let places = book.get(Layout::new(0).pending()).unwrap_or(&[]).as_chunks::<ENTRY>().0;
+    places.iter().take(count.into()).copied().collect()
+}

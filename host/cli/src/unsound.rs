@@ -1,0 +1,182 @@
+//! Why bytes are no sound book: the first rule that is broken, with its height and its byte.
+
+use exchange::fields;
+use reference::inspect::inspect;
+use reference::is_quorum;
+use types::{book_length, field, mask_at, Area, Layout, BLOCK, ENTRY, MOST_HEIGHTS, MOST_REPLICAS};
+
+/// A byte, and what is wrong with it.
+type Fault = (usize, String);
+
+/// A sentence about the first rule that these bytes break; none if they are a sound book.
+pub fn reason(book: &[u8]) -> Option<String> {
+    let fitting = (1..=MOST_HEIGHTS).find(|heights| book_length(*heights) == book.len());
+    let Some(fitting) = fitting else {
+        let length = book.len();
+        return Some(format!("the length {length} is not 576 + 880 H for any H from 1 to 63"));
+    };
+    let (byte, rule) = head(book, fitting)
+        .or_else(|| (1..=fitting).find_map(|height| slot(book, height)))
+        .or_else(|| settled(book))?;
+    let place = match fields::place(book, byte) {
+        Some((name, _)) if at(book, field::HEIGHTS) == fitting => format!(" ({name})"),
+        _ => String::new(),
+    };
+    Some(format!("byte {byte}{place}: {rule}"))
+}
+
+/// A byte of the book.
+fn at(book: &[u8], byte: usize) -> u8 {
+    book.get(byte).copied().unwrap_or(0)
+}
+
+/// The first byte of a range that is not zero, as a fault.
+fn zeros(book: &[u8], mut range: std::ops::Range<usize>) -> Option<Fault> {
+    let byte = range.find(|byte| at(book, *byte) != 0)?;
+    Some((byte, format!("it is {}, and must be zero", at(book, byte))))
+}
+
+/// What is wrong with the head of a book with the length of so many heights; the settled height aside.
+fn head(book: &[u8], fitting: u8) -> Option<Fault> {
+    let value = |byte| at(book, byte);
+    let (n, own, heights) = (value(field::N), value(field::OWN), value(field::HEIGHTS));
+    let (flags, current) = (value(field::FLAGS), value(field::CURRENT));
+    let (pending, edition) = (value(field::PENDING), value(field::EDITION));
+    let last = fitting.saturating_add(1);
+    let rules = [
+        (
+            heights != fitting,
+            field::HEIGHTS,
+            format!("it says {heights} heights, the length is that of {fitting}"),
+        ),
+        (!(1..=MOST_REPLICAS).contains(&n), field::N, format!("n is {n}, not 1 to 16")),
+        (own >= n, field::OWN, format!("own number {own} is not below n, which is {n}")),
+        (flags > 15, field::FLAGS, format!("flags {flags} are not below 16")),
+        (
+            !(1..=last).contains(&current),
+            field::CURRENT,
+            format!("the current height is {current}, not 1 to {last}"),
+        ),
+        (pending > 32, field::PENDING, format!("{pending} entries are pending, 32 at most can be")),
+        (edition != 1, field::EDITION, format!("the edition is {edition}, not 1")),
+    ];
+    let broken = rules.into_iter().find(|(broken, ..)| *broken);
+    broken.map(|(_, byte, rule)| (byte, rule)).or_else(|| zeros(book, 8..64))
+}
+
+/// What is wrong with a height by itself.
+fn slot(book: &[u8], height: u8) -> Option<Fault> {
+    let layout = Layout::new(at(book, field::HEIGHTS));
+    let [row, held, notarized] =
+        [Area::Row, Area::Held, Area::Notarized].map(|area| layout.area(height, area).start);
+    let (n, leader) = (at(book, field::N), at(book, row));
+    let place = |offset: usize| row.saturating_add(offset);
+    let state = at(book, place(1));
+    if leader >= n {
+        return Some((row, format!("leader {leader} is not below n, which is {n}")));
+    }
+    if state > 3 {
+        return Some((place(1), format!("the state is {state}, above 3")));
+    }
+    let strange = |offset: &usize| mask_at(book, place(*offset)).checked_shr(n.into()) > Some(0);
+    if let Some(offset) = [2, 4, 6, 8].into_iter().find(strange) {
+        return Some((
+            place(offset),
+            format!("the mask has a bit that is not below n, which is {n}"),
+        ));
+    }
+    let certificate = mask_at(book, place(2));
+    let short = state & 2 != 0 && !is_quorum(certificate, n);
+    let quorum = || {
+        let rule = "a page is notarised, and the signers of its certificate are no quorum";
+        short.then(|| (place(2), rule.to_string()))
+    };
+    let page =
+        |bit: u8, start: usize| if state & bit != 0 { page(book, height, start) } else { None };
+    zeros(book, place(10)..place(16))
+        .or_else(|| page(1, held))
+        .or_else(|| page(2, notarized))
+        .or_else(quorum)
+}
+
+/// What is wrong with a page of a height that begins at a byte.
+fn page(book: &[u8], height: u8, start: usize) -> Option<Fault> {
+    let place = |offset: usize| start.saturating_add(offset);
+    let value = |offset| at(book, place(offset));
+    let (own, back, count) = (value(0), value(2), value(4));
+    let rules = [
+        (own != height, 0, format!("the page says height {own}, and stands at {height}")),
+        (back >= height, 2, format!("its back height {back} is not below {height}")),
+        (count > 8, 4, format!("it says {count} entries, 8 at most can be")),
+    ];
+    if let Some((_, offset, rule)) = rules.into_iter().find(|(broken, ..)| *broken) {
+        return Some((place(offset), rule));
+    }
+    let past = usize::from(count).saturating_mul(ENTRY).saturating_add(48);
+    let digest = if back == 0 { place(16)..place(48) } else { 0..0 };
+    [place(1)..place(2), place(3)..place(4), place(5)..place(16), digest, place(past)..place(BLOCK)]
+        .into_iter()
+        .find_map(|range| zeros(book, range))
+}
+
+/// What is wrong with the settled height of a book in which all else is right.
+fn settled(book: &[u8]) -> Option<Fault> {
+    let settled = at(book, field::FINALIZED);
+    let mut copy = book.to_vec();
+    copy.get_mut(field::FINALIZED).into_iter().for_each(|byte| *byte = 0);
+    let told = inspect(&copy).ok()?;
+    let height = told.heights.get(usize::from(settled).checked_sub(1)?);
+    let rule = match height {
+        Some(height) if height.finalized => return None,
+        None => format!("the settled height is {settled}, above the last one"),
+        Some(height) if !height.linked => {
+            format!("height {settled} is not settled: it is not linked")
+        }
+        Some(_) => format!("height {settled} is not settled: its finalises are no quorum"),
+    };
+    Some((field::FINALIZED, rule))
+}
+
+#[cfg(test)]
+#[allow(clippy::indexing_slicing, clippy::arithmetic_side_effects)] // a test may panic
+#[allow(clippy::unwrap_used, clippy::panic)]
+mod tests {
+    use super::*;
+    use compare::{walk, Pair, Second};
+    use exchange::{Answer, Call};
+    use reference::Rules;
+    use types::Calls;
+
+    /// Holds each book of a comparison against the reference: a reason is there where it is not sound, and only there.
+    #[derive(Default)]
+    struct Reasons {
+        sound: u32,
+        not: u32,
+    }
+
+    impl Second for Reasons {
+        fn make(
+            &mut self,
+            call: &Call,
+            book: &mut [u8],
+            buffer: &mut [u8],
+        ) -> Result<Answer, String> {
+            match (reason(book), Calls::size(&Rules::SHA256, book)) {
+                (None, Ok(_)) => self.sound += 1,
+                (Some(_), Err(1)) => self.not += 1,
+                (found, size) => return Err(format!("{found:?} and {size:?}")),
+            }
+            Ok(call.make(&Rules::SHA256, book, buffer))
+        }
+    }
+
+    #[test]
+    fn a_reason_is_there_if_and_only_if_the_book_is_not_sound() {
+        let mut pair = Pair::new(Rules::SHA256, Reasons::default());
+        if let Err(stop) = walk(&mut pair, 9, 20_000) {
+            panic!("{}", stop.sentence);
+        }
+        let seen = pair.second();
+        assert!(seen.sound > 1000 && seen.not > 200, "{} {}", seen.sound, seen.not);
+    }
+}

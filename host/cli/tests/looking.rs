@@ -1,0 +1,164 @@
+//! `show book`, `show books` and `diff`: entries, votes, the register, several books, books that are not sound.
+
+mod common;
+
+use common::{fine, folder, list, refused, run};
+use reference::Rules;
+use types::{Area, Block, Book, Calls, Frame, Layout};
+
+/// The text that a command prints.
+fn text(words: &str, input: &[u8]) -> String {
+    String::from_utf8(fine(words, input)).unwrap()
+}
+
+/// The folder with the books that the season's list leaves, or leaves at a line.
+fn season(name: &str, more: &str) -> String {
+    let kept = folder(name).to_str().unwrap().to_string();
+    fine(&format!("replay {} --keep {kept}{more}", list("season.txt")), &[]);
+    kept
+}
+
+#[test]
+fn a_book_with_votes_pages_and_entries() {
+    let shown = text(&format!("show book {}/book0", season("season", "")), &[]);
+    let expected = include_str!("expected/season-book0.txt");
+    assert_eq!(shown, expected);
+}
+
+#[test]
+fn several_books_side_by_side() {
+    let kept = season("some", " --stop-at 40");
+    let files = [0, 1, 2, 3].map(|station| format!("{kept}/book{station}"));
+    let shown =
+        text(&format!("show books {}", files.join(" ")), &[]).replace(&format!("{kept}/"), "");
+    let expected = "\
+4 books of 4 stations: 5 heights; a quorum is 3 or more.
+Station 0 (book0): current height 2, settled height 0, 1 pending entry.
+Station 1 (book1): current height 2, settled height 0, 2 pending entries.
+Station 2 (book2): current height 1, settled height 0, 0 pending entries.
+Station 3 (book3): current height 1, settled height 0, 0 pending entries.
+
+height  leader  station 0             station 1             station 2                station 3
+1       0       page 787bd73d linked  page 787bd73d linked  page 787bd73d linked <-  - <-
+2       1       - <-                  - <-                  -                        -
+3       3       -                     -                     -                        -
+4       2       -                     -                     -                        -
+5       0       -                     -                     -                        -
+
+Of any two registers one begins the other.
+";
+    assert_eq!(shown, expected);
+    let kept = season("whole", "");
+    let shown = text(&format!("show books {kept}/book0 {kept}/book3"), &[]);
+    let row = shown.lines().find(|line| line.starts_with('3')).unwrap();
+    assert_eq!(row, "3       3       proposal 6da63811, blank   blank");
+    let row = shown.lines().find(|line| line.starts_with('4')).unwrap();
+    assert_eq!(row, "4       2       page 08150dc2 in register  page 08150dc2 in register");
+}
+
+/// The bytes of a book of station 0 with one height, whose page with this entry is settled.
+fn settled(entry: &[u8; 16]) -> Vec<u8> {
+    let mut book = Book::open(Rules::SHA256, 4, 0, &[0]).unwrap();
+    let block = Block { height: 1, entries: vec![*entry], ..Block::default() };
+    book.deliver(&Frame::BlockCertificate { mask: 7, block }.bytes()).unwrap();
+    book.deliver(&Frame::FinalizeCertificate { mask: 7, height: 1 }.bytes()).unwrap();
+    book.make_move().unwrap();
+    book.bytes().to_vec()
+}
+
+/// The bytes of a new book of station 1 with these leaders.
+fn opened(leaders: &[u8]) -> Vec<u8> {
+    Book::open(Rules::SHA256, 4, 1, leaders).unwrap().bytes().to_vec()
+}
+
+#[test]
+fn books_of_another_season_and_forks_are_told() {
+    let at = folder("forks").to_str().unwrap().to_string();
+    let write = |name: &str, bytes: &[u8]| std::fs::write(format!("{at}/{name}"), bytes).unwrap();
+    write("a", &settled(b"one entry       "));
+    write("b", &settled(b"another entry   "));
+    let shown = text(&format!("show books {at}/a {at}/b"), &[]).replace(&format!("{at}/"), "");
+    assert!(shown.ends_with("\nTHE REGISTERS FORK: a and b.\n"), "{shown}");
+    write("c", &opened(&[1]));
+    refused(&format!("show books {at}/a {at}/c"), &[], "have not the same roll");
+    write("d", &opened(&[0, 0]));
+    refused(&format!("show books {at}/a {at}/d"), &[], "have not the same number of heights");
+    write("e", &[0; 1456]);
+    refused(&format!("show books {at}/a {at}/e"), &[], "/e: refused with 1");
+    refused("show books", &[], "the files of books are missing");
+}
+
+#[test]
+fn the_rule_that_a_book_breaks_is_told_with_its_byte() {
+    let sound = settled(b"one entry       ");
+    assert!(Calls::size(&Rules::SHA256, &sound).is_ok());
+    let page = Layout::new(1).area(1, Area::Notarized).start;
+    let cases: [(usize, u8, &str); 16] = [
+        (0, 17, "byte 0 (number of stations): n is 17, not 1 to 16"),
+        (1, 4, "byte 1 (own number): own number 4 is not below n, which is 4"),
+        (2, 2, "byte 2: it says 2 heights, the length is that of 1"),
+        (3, 16, "byte 3 (flags of the current height): flags 16 are not below 16"),
+        (4, 3, "byte 4 (current height): the current height is 3, not 1 to 2"),
+        (5, 2, "byte 5 (settled height): the settled height is 2, above the last one"),
+        (6, 33, "byte 6 (number of pending entries): 33 entries are pending, 32 at most can be"),
+        (7, 2, "byte 7 (edition): the edition is 2, not 1"),
+        (9, 1, "byte 9 (zeros of the head): it is 1, and must be zero"),
+        (576, 4, "byte 576 (height 1, leader): leader 4 is not below n, which is 4"),
+        (577, 4, "byte 577 (height 1, state): the state is 4, above 3"),
+        (581, 1, "byte 580 (height 1, blank votes): the mask has a bit that is not below n, which is 4"),
+        (578, 3, "byte 578 (height 1, signers of the page certificate): a page is notarised, and the signers"),
+        (582, 3, "byte 5 (settled height): height 1 is not settled: its finalises are no quorum"),
+        (page + 4, 0, "notarised page, entry 1): it is 111, and must be zero"),
+        (page + 2, 1, "notarised page, back height): its back height 1 is not below 1"),
+    ];
+    for (byte, value, told) in cases {
+        let mut book = sound.clone();
+        book[byte] = value;
+        refused("show book -", &book, told);
+    }
+    refused(
+        "show book -",
+        &sound[1..],
+        "the length 1455 is not 576 + 880 H for any H from 1 to 63",
+    );
+}
+
+#[test]
+fn two_books_are_held_against_each_other() {
+    let at = folder("diff").to_str().unwrap().to_string();
+    let mut book = Book::open(Rules::SHA256, 4, 2, &[0]).unwrap();
+    std::fs::write(format!("{at}/one"), book.bytes()).unwrap();
+    book.deliver(&Frame::DummyVote { signer: 1, height: 1 }.bytes()).unwrap();
+    book.signal(1).unwrap();
+    std::fs::write(format!("{at}/two"), book.bytes()).unwrap();
+    let ended = run(&format!("diff {at}/one {at}/two"), &[]);
+    assert_eq!(ended.status, 1);
+    assert_eq!(ended.complaint, format!("mavunilai: {at}/one and {at}/two differ in 2 fields\n"));
+    let rows: Vec<String> = ended.text().lines().map(str::to_string).collect();
+    let cells = |row: &str| {
+        row.split("  ")
+            .map(str::trim)
+            .filter(|cell| !cell.is_empty())
+            .collect::<Vec<_>>()
+            .join(" | ")
+    };
+    assert_eq!(cells(&rows[0]), format!("field | byte | {at}/one | {at}/two"));
+    assert_eq!(cells(&rows[1]), "flags of the current height | 3 | 0 | 1 (timer fired)");
+    assert_eq!(cells(&rows[2]), "height 1, blank votes | 580 | - | 1");
+    assert_eq!(
+        text(&format!("diff {at}/one {at}/one"), &[]),
+        format!("{at}/one and {at}/one are the same\n")
+    );
+    refused(&format!("diff {at}/one"), &[], "the files of two books");
+}
+
+#[test]
+fn reading_has_a_limit() {
+    refused(
+        "show book /dev/zero",
+        &[],
+        "/dev/zero has more than 16777216 bytes, which is too much",
+    );
+    refused("show frame /dev/zero", &[], "more than 16777216 bytes");
+    refused("replay /dev/zero", &[], "/dev/zero has more than 268435456 bytes, which is too much");
+}

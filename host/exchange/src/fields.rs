@@ -1,0 +1,271 @@
+//! The fields of books, replies and reading buffers by name, and which of them differ.
+
+use crate::{bytes, words};
+use std::ops::Range;
+use types::{book_length, field, mask_at, BLOCK, ENTRY, FRAME, MOST_REPLICAS};
+
+/// What bytes stand for.
+#[derive(Clone, Copy, Debug, PartialEq, Eq)]
+pub enum Shape {
+    /// A book.
+    Book,
+    /// The reply of move or fetch: frames.
+    Reply,
+    /// The buffer of read: entries.
+    Register,
+}
+
+/// A field in which two buffers differ.
+#[derive(Clone, Debug, PartialEq, Eq)]
+pub struct Change {
+    /// Which field it is.
+    pub place: String,
+    /// Where it begins.
+    pub byte: usize,
+    /// What the first buffer has there.
+    pub one: String,
+    /// What the second has there.
+    pub two: String,
+}
+
+/// How a field is told.
+#[derive(Clone, Copy, Debug, PartialEq, Eq)]
+enum Sort {
+    Number,
+    Flags,
+    State,
+    Mask,
+    Entry,
+    Digest,
+    Bytes,
+}
+
+/// A field: its name, its place and how it is told.
+#[derive(Clone, Debug)]
+struct Field {
+    name: String,
+    range: Range<usize>,
+    sort: Sort,
+}
+
+/// The fields in which two buffers differ, each with both values; the length first, if that differs.
+pub fn differences(shape: Shape, one: &[u8], two: &[u8]) -> Vec<Change> {
+    let mut changes = Vec::new();
+    if one.len() != two.len() {
+        let [one, two] = [one, two].map(|bytes| words::count(bytes.len(), "byte", "bytes"));
+        changes.push(Change { place: "length".to_string(), byte: 0, one, two });
+    }
+    for field in fields(shape, one, two) {
+        let part = |bytes: &[u8]| {
+            let end = field.range.end.min(bytes.len());
+            bytes.get(field.range.start.min(end)..end).unwrap_or(&[]).to_vec()
+        };
+        let (one, two) = (part(one), part(two));
+        if one != two {
+            let [one, two] = told(field.sort, &one, &two);
+            changes.push(Change { place: field.name, byte: field.range.start, one, two });
+        }
+    }
+    changes
+}
+
+/// The name and the first byte of the field of a book that a byte belongs to.
+pub fn place(book: &[u8], byte: usize) -> Option<(String, usize)> {
+    let field = fields(Shape::Book, book, book).into_iter().find(|f| f.range.contains(&byte))?;
+    Some((field.name, field.range.start))
+}
+
+/// The fields of two buffers of a shape; what is no whole book, frame or entry is bytes alone.
+fn fields(shape: Shape, one: &[u8], two: &[u8]) -> Vec<Field> {
+    let length = one.len().max(two.len());
+    let mut fields = Fields::default();
+    let heights = [one, two].map(|book| book.get(field::HEIGHTS).copied().unwrap_or(0));
+    match (shape, heights) {
+        (Shape::Book, [h, other])
+            if h == other && [one.len(), two.len()] == [book_length(h); 2] =>
+        {
+            fields.book(h)
+        }
+        (Shape::Book, _) => {}
+        (Shape::Reply, _) => {
+            let names = ["first frame", "second frame"].into_iter().take(length / FRAME);
+            names.for_each(|name| fields.frame(name));
+        }
+        (Shape::Register, _) => {
+            let names = (1..=length / ENTRY).map(|at| format!("entry {at}"));
+            names.for_each(|name| fields.add(name, ENTRY, Sort::Entry));
+        }
+    }
+    let rest = length.saturating_sub(fields.end);
+    fields.add(if fields.end == 0 { "bytes" } else { "bytes behind" }, rest, Sort::Bytes);
+    fields.list
+}
+
+/// Fields one behind the other.
+#[derive(Default)]
+struct Fields {
+    list: Vec<Field>,
+    end: usize,
+}
+
+impl Fields {
+    /// Adds a field of so many bytes.
+    fn add(&mut self, name: impl Into<String>, length: usize, sort: Sort) {
+        let end = self.end.saturating_add(length);
+        self.list.push(Field { name: name.into(), range: self.end..end, sort });
+        self.end = end;
+    }
+
+    /// The fields of a book.
+    fn book(&mut self, heights: u8) {
+        self.add("number of stations", 1, Sort::Number);
+        self.add("own number", 1, Sort::Number);
+        self.add("number of heights", 1, Sort::Number);
+        self.add("flags of the current height", 1, Sort::Flags);
+        self.add("current height", 1, Sort::Number);
+        self.add("settled height", 1, Sort::Number);
+        self.add("number of pending entries", 1, Sort::Number);
+        self.add("edition", 1, Sort::Number);
+        self.add("zeros of the head", 56, Sort::Bytes);
+        (1..=32).for_each(|at| self.add(format!("pending place {at}"), ENTRY, Sort::Entry));
+        (1..=heights).for_each(|height| self.row(&format!("height {height}")));
+        (1..=heights).for_each(|height| self.body(&format!("height {height}")));
+    }
+
+    /// The row of a height in the contents.
+    fn row(&mut self, of: &str) {
+        self.add(format!("{of}, leader"), 1, Sort::Number);
+        self.add(format!("{of}, state"), 1, Sort::State);
+        self.add(format!("{of}, signers of the page certificate"), 2, Sort::Mask);
+        self.add(format!("{of}, blank votes"), 2, Sort::Mask);
+        self.add(format!("{of}, finalises"), 2, Sort::Mask);
+        self.add(format!("{of}, page voters"), 2, Sort::Mask);
+        self.add(format!("{of}, zeros of the contents"), 6, Sort::Bytes);
+    }
+
+    /// The body of a height.
+    fn body(&mut self, of: &str) {
+        self.page(&format!("{of}, held proposal"));
+        self.page(&format!("{of}, notarised page"));
+        let stations = 0..MOST_REPLICAS;
+        stations.for_each(|at| self.add(format!("{of}, page vote of {at}"), 32, Sort::Digest));
+    }
+
+    /// A page.
+    fn page(&mut self, of: &str) {
+        let end = self.end.saturating_add(BLOCK);
+        self.add(format!("{of}, height"), 1, Sort::Number);
+        self.add(format!("{of}, zero behind the height"), 1, Sort::Bytes);
+        self.add(format!("{of}, back height"), 1, Sort::Number);
+        self.add(format!("{of}, zero behind the back height"), 1, Sort::Bytes);
+        self.add(format!("{of}, number of entries"), 1, Sort::Number);
+        self.add(format!("{of}, zeros behind the number of entries"), 11, Sort::Bytes);
+        self.add(format!("{of}, back digest"), 32, Sort::Digest);
+        let entries = 1..=end.saturating_sub(self.end) / ENTRY;
+        entries.for_each(|at| self.add(format!("{of}, entry {at}"), ENTRY, Sort::Entry));
+    }
+
+    /// A frame.
+    fn frame(&mut self, of: &str) {
+        self.add(format!("{of}, kind"), 1, Sort::Number);
+        self.add(format!("{of}, signer"), 1, Sort::Number);
+        self.add(format!("{of}, height"), 1, Sort::Number);
+        self.add(format!("{of}, zero behind the height"), 1, Sort::Bytes);
+        self.add(format!("{of}, mask"), 2, Sort::Mask);
+        self.add(format!("{of}, zeros behind the mask"), 10, Sort::Bytes);
+        self.add(format!("{of}, digest"), 32, Sort::Digest);
+        self.page(&format!("{of}, page"));
+    }
+}
+
+/// Two values of a field in words.
+fn told(sort: Sort, one: &[u8], two: &[u8]) -> [String; 2] {
+    let bits = |part: &[u8], names: fn(u8) -> Vec<&'static str>| match part {
+        [bits] if names(*bits).is_empty() => bits.to_string(),
+        [bits] => format!("{bits} ({})", names(*bits).join(", ")),
+        _ => bytes::print(part),
+    };
+    if sort == Sort::Digest && one.get(..4) != two.get(..4) {
+        return [one, two].map(words::short);
+    }
+    [one, two].map(|part| match (sort, part) {
+        (Sort::Number, [number]) => number.to_string(),
+        (Sort::Flags, _) => bits(part, words::flags),
+        (Sort::State, _) => bits(part, words::state),
+        (Sort::Mask, [_, _]) => words::members(mask_at(part, 0)),
+        (Sort::Entry, [_, ..]) => words::entry(part),
+        _ => bytes::print(part),
+    })
+}
+
+#[cfg(test)]
+#[allow(clippy::indexing_slicing, clippy::arithmetic_side_effects)] // a test may panic
+#[allow(clippy::unwrap_used, clippy::panic)]
+mod tests {
+    use super::*;
+    use types::{Area, Layout};
+
+    #[test]
+    fn fields_fill_a_book_and_lie_where_the_layout_has_them() {
+        for heights in [1, 3, 63] {
+            let mut book = vec![0; book_length(heights)];
+            book[field::HEIGHTS] = heights;
+            let fields = fields(Shape::Book, &book, &book);
+            let ends: Vec<usize> = fields.iter().map(|field| field.range.end).collect();
+            assert!(fields.iter().skip(1).zip(&ends).all(|(field, end)| field.range.start == *end));
+            assert_eq!(ends.last(), Some(&book.len()));
+            let layout = Layout::new(heights);
+            for (area, name) in [
+                (Area::Row, "leader"),
+                (Area::Held, "held proposal, height"),
+                (Area::Notarized, "notarised page, height"),
+                (Area::Votes, "page vote of 0"),
+            ] {
+                let at = layout.area(heights, area).start;
+                let expected = (format!("height {heights}, {name}"), at);
+                assert_eq!(place(&book, at), Some(expected));
+            }
+        }
+    }
+
+    #[test]
+    fn each_changed_field_is_told() {
+        let mut one = vec![0; book_length(1)];
+        one[field::HEIGHTS] = 1;
+        let mut two = one.clone();
+        two[field::FLAGS] = 3;
+        two[576 + 4] = 7;
+        two[64..80].copy_from_slice(b"swap A12 to B40 ");
+        two[592 + 352..592 + 384].fill(0xab);
+        let told: Vec<String> = differences(Shape::Book, &one, &two)
+            .iter()
+            .map(|c| format!("{} ({}): {} | {}", c.place, c.byte, c.one, c.two))
+            .collect();
+        assert_eq!(
+            told,
+            [
+                "flags of the current height (3): 0 | 3 (timer fired, blank vote cast)",
+                "pending place 1 (64): 00000000000000000000000000000000 | \
+                 737761702041313220746f2042343020  \"swap A12 to B40 \"",
+                "height 1, blank votes (580): - | 0 1 2",
+                "height 1, page vote of 0 (944): 00000000 | abababab",
+            ]
+        );
+        assert_eq!(differences(Shape::Book, &one, &one), []);
+    }
+
+    #[test]
+    fn every_byte_of_a_book_and_of_a_reply_counts() {
+        for (shape, length) in [(Shape::Book, book_length(2)), (Shape::Reply, 449)] {
+            let mut one = vec![0; length];
+            one[field::HEIGHTS] = 2;
+            for at in 0..length {
+                let mut two = one.clone();
+                two[at] ^= 1;
+                assert_eq!(differences(shape, &one, &two).len(), 1, "{shape:?} {at}");
+            }
+        }
+        assert_eq!(differences(Shape::Register, &[0; 40], &[1; 40]).len(), 3);
+        assert_eq!(differences(Shape::Book, &[0; 3], &[0; 4]).len(), 2);
+    }
+}

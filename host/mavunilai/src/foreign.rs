@@ -1,0 +1,123 @@
+//! The calls of the C interface, made safe: slices become pointers and lengths, numbers become answers.
+#![allow(unsafe_code)] // the one place that calls into the static library
+
+use types::packing::{unpack_delivered, unpack_done, unpack_move, unpack_size, UNKNOWN};
+use types::{Calls, Delivered, Move};
+
+// As host/include/mavunilai.h declares them.
+unsafe extern "C" {
+    safe fn mavunilai_interface() -> u64;
+    fn mavunilai_open(
+        book: *mut u8,
+        book_len: usize,
+        n: u64,
+        own: u64,
+        heights: u64,
+        leaders: *const u8,
+        leaders_len: usize,
+    ) -> u64;
+    fn mavunilai_deliver(book: *mut u8, book_len: usize, frame: *const u8, frame_len: usize)
+        -> u64;
+    fn mavunilai_move(book: *mut u8, book_len: usize, reply: *mut u8, reply_len: usize) -> u64;
+    fn mavunilai_signal(book: *mut u8, book_len: usize, height: u64) -> u64;
+    fn mavunilai_submit(book: *mut u8, book_len: usize, entry: *const u8, entry_len: usize) -> u64;
+    fn mavunilai_size(book: *const u8, book_len: usize) -> u64;
+    fn mavunilai_read(book: *const u8, book_len: usize, buffer: *mut u8, buffer_len: usize) -> u64;
+    fn mavunilai_fetch(
+        book: *const u8,
+        book_len: usize,
+        kind: u64,
+        height: u64,
+        reply: *mut u8,
+        reply_len: usize,
+    ) -> u64;
+}
+
+/// The number of the interface that this crate knows, as MAVUNILAI_INTERFACE of the header.
+pub const INTERFACE: u64 = 1;
+
+/// Whether the library is of that interface. Each call of [`Proved`] asks this first.
+pub fn fits() -> bool {
+    mavunilai_interface() == INTERFACE
+}
+
+/// What a call returns, or [`UNKNOWN`] where the library is of another interface and must not be called.
+fn fitting(call: impl FnOnce() -> u64) -> u64 {
+    if fits() {
+        return call();
+    }
+    UNKNOWN.into()
+}
+
+/// The proved replica behind the C interface.
+///
+/// Every call lends slices for its duration: the pointers are valid for their lengths, those written through come
+/// from exclusive borrows, and the library keeps none of them. A library of another interface is not called; its
+/// calls, and an answer that the packing does not know, become the error [`types::packing::UNKNOWN`], and what is read
+/// from it is empty.
+#[derive(Clone, Copy, Debug, Default)]
+pub struct Proved;
+
+impl Calls for Proved {
+    fn open(
+        &self,
+        book: &mut [u8],
+        n: u64,
+        own: u64,
+        heights: u64,
+        leaders: &[u8],
+    ) -> Result<(), u8> {
+        let (at, length) = (leaders.as_ptr(), leaders.len());
+        // SAFETY: see Proved.
+        unpack_done(fitting(|| unsafe {
+            mavunilai_open(book.as_mut_ptr(), book.len(), n, own, heights, at, length)
+        }))
+    }
+
+    fn deliver(&self, book: &mut [u8], frame: &[u8]) -> Result<Delivered, u8> {
+        // SAFETY: see Proved.
+        unpack_delivered(fitting(|| unsafe {
+            mavunilai_deliver(book.as_mut_ptr(), book.len(), frame.as_ptr(), frame.len())
+        }))
+    }
+
+    fn make_move(&self, book: &mut [u8], reply: &mut [u8]) -> Result<Move, u8> {
+        // SAFETY: see Proved.
+        unpack_move(fitting(|| unsafe {
+            mavunilai_move(book.as_mut_ptr(), book.len(), reply.as_mut_ptr(), reply.len())
+        }))
+    }
+
+    fn signal(&self, book: &mut [u8], height: u64) -> Result<(), u8> {
+        // SAFETY: see Proved.
+        unpack_done(fitting(|| unsafe { mavunilai_signal(book.as_mut_ptr(), book.len(), height) }))
+    }
+
+    fn submit(&self, book: &mut [u8], entry: &[u8]) -> Result<(), u8> {
+        // SAFETY: see Proved.
+        unpack_done(fitting(|| unsafe {
+            mavunilai_submit(book.as_mut_ptr(), book.len(), entry.as_ptr(), entry.len())
+        }))
+    }
+
+    fn size(&self, book: &[u8]) -> Result<u64, u8> {
+        // SAFETY: see Proved.
+        unpack_size(fitting(|| unsafe { mavunilai_size(book.as_ptr(), book.len()) }))
+    }
+
+    fn read(&self, book: &[u8], buffer: &mut [u8]) -> u64 {
+        if !fits() {
+            return 0;
+        }
+        // SAFETY: see Proved.
+        unsafe { mavunilai_read(book.as_ptr(), book.len(), buffer.as_mut_ptr(), buffer.len()) }
+    }
+
+    fn fetch(&self, book: &[u8], kind: u64, height: u64, reply: &mut [u8]) -> Result<(), u8> {
+        let (at, length) = (reply.as_mut_ptr(), reply.len());
+        // SAFETY: see Proved.
+        unpack_done(fitting(|| unsafe {
+            mavunilai_fetch(book.as_ptr(), book.len(), kind, height, at, length)
+        }))
+    }
+}

@@ -1,0 +1,44 @@
+//! The proved replica as a Rust library: a book that owns its bytes, typed answers, frames by name.
+//!
+//! With the feature `proved` the static library of the proved replica is linked, and `Proved` makes its calls. A
+//! program that can do without it uses [`Book`] over another implementation of [`Calls`]. A call that is refused gives
+//! a [`Refusal`], which is an error that says why. No input makes a call panic.
+//!
+//! ```
+//! # fn main() -> Result<(), mavunilai::Refusal> {
+//! use mavunilai::{Book, Frame, Refusal};
+//! // With the feature: mavunilai::open(4, 2, &[0, 1, 2])?
+//! let mut book = Book::open(reference::Rules::SHA256, 4, 2, &[0, 1, 2])?;
+//! for signer in [0, 1, 2] {
+//!     book.deliver(&Frame::DummyVote { signer, height: 1 }.bytes())?;
+//! }
+//! let (made, frames) = book.make_move()?;
+//! assert_eq!(made.to_string(), "pass 1 6 4");
+//! assert_eq!(frames[0], Frame::DummyCertificate { mask: 7, height: 1 }.bytes());
+//! assert_eq!(frames[1], Frame::Finalize { signer: 2, height: 1 }.bytes());
+//! assert_eq!((book.current(), book.leader(2)), (2, Some(1)));
+//! assert_eq!(book.signal(1), Err(Refusal::NotDue)); // height 1 is passed: a late timer
+//! # Ok(())
+//! # }
+//! ```
+
+#![warn(clippy::indexing_slicing, clippy::arithmetic_side_effects)]
+#![warn(clippy::unwrap_used, clippy::expect_used, clippy::panic)]
+
+#[cfg(feature = "proved")]
+mod foreign;
+
+#[cfg(feature = "proved")]
+pub use foreign::{fits, Proved, INTERFACE};
+/// A book in a file: locked while it is open, each call committed together with its frames.
+pub use store;
+pub use types::{
+    book_length, Block, Book, Calls, Certificate, Delivered, Frame, Move, Refusal, Written, BLOCK,
+    ENTRY, FRAME, MOST_HEIGHTS, MOST_REPLICAS,
+};
+
+/// A new book of the proved replica for replica `own` of `n`, with one leader for each height.
+#[cfg(feature = "proved")]
+pub fn open(n: u64, own: u64, leaders: &[u8]) -> Result<Book<Proved>, Refusal> {
+    Book::open(Proved, n, own, leaders)
+}

@@ -1,0 +1,128 @@
+/* What the header promises of the library, tried: the interface's number, null pointers with length 0, and that the
+ * parts of an answer and of a book are read as they are told. Says what fails, and ends with the count of it. */
+#include <stdio.h>
+#include <string.h>
+
+#include "mavunilai.h"
+
+#define HEIGHTS 2
+#define LENGTH MAVUNILAI_BOOK(HEIGHTS)
+
+static int failures;
+
+/* Notes a fact that does not hold. */
+static void expect(int holds, const char *what) {
+    if (!holds) {
+        printf("not so: %s\n", what);
+        failures++;
+    }
+}
+
+#define EXPECT(fact) expect((fact) != 0, #fact)
+#define REFUSED(call) mavunilai_refusal(call)
+
+/* A new book of a station alone. */
+static void open_alone(uint8_t *book) {
+    static const uint8_t leaders[HEIGHTS] = {0, 0};
+    EXPECT(REFUSED(mavunilai_open(book, LENGTH, 1, 0, HEIGHTS, leaders, sizeof leaders)) == 0);
+}
+
+/* Moves until idle and delivers what is written; the number of frames. */
+static unsigned run(uint8_t *book) {
+    uint8_t reply[MAVUNILAI_MOVE_REPLY];
+    unsigned total = 0;
+    for (;;) {
+        mavunilai_answer answer = mavunilai_move(book, LENGTH, reply, sizeof reply);
+        unsigned frames = mavunilai_frames(answer), at;
+        EXPECT(mavunilai_refusal(answer) == 0);
+        if (mavunilai_refusal(answer) != 0 || mavunilai_made(answer) == MAVUNILAI_MOVE_IDLE) {
+            return total;
+        }
+        for (at = 0; at < frames; at++) {
+            const uint8_t *frame = reply + at * MAVUNILAI_FRAME;
+            EXPECT(REFUSED(mavunilai_deliver(book, LENGTH, frame, MAVUNILAI_FRAME)) == 0);
+        }
+        total += frames;
+    }
+}
+
+/* A book of no bytes behind a null pointer is refused as any book that is not sound. */
+static void no_book(void) {
+    static const uint8_t leaders[1] = {0};
+    uint8_t frame[MAVUNILAI_FRAME] = {MAVUNILAI_KIND_BLANK_VOTE, 0, 1}, reply[MAVUNILAI_MOVE_REPLY], buffer[16];
+    EXPECT(REFUSED(mavunilai_open(NULL, 0, 1, 0, 1, leaders, 1)) == MAVUNILAI_REFUSED_UNSOUND);
+    EXPECT(REFUSED(mavunilai_open(NULL, 0, 1, 0, 0, NULL, 0)) == MAVUNILAI_REFUSED_OUT_OF_RANGE);
+    EXPECT(REFUSED(mavunilai_deliver(NULL, 0, frame, sizeof frame)) == MAVUNILAI_REFUSED_UNSOUND);
+    EXPECT(REFUSED(mavunilai_deliver(NULL, 0, NULL, 0)) == MAVUNILAI_REFUSED_UNSOUND);
+    EXPECT(REFUSED(mavunilai_move(NULL, 0, reply, sizeof reply)) == MAVUNILAI_REFUSED_UNSOUND);
+    EXPECT(REFUSED(mavunilai_move(NULL, 0, NULL, 0)) == MAVUNILAI_REFUSED_UNSOUND);
+    EXPECT(REFUSED(mavunilai_signal(NULL, 0, 1)) == MAVUNILAI_REFUSED_UNSOUND);
+    EXPECT(REFUSED(mavunilai_submit(NULL, 0, frame, MAVUNILAI_ENTRY)) == MAVUNILAI_REFUSED_UNSOUND);
+    EXPECT(REFUSED(mavunilai_submit(NULL, 0, NULL, 0)) == MAVUNILAI_REFUSED_UNSOUND);
+    EXPECT(REFUSED(mavunilai_size(NULL, 0)) == MAVUNILAI_REFUSED_UNSOUND);
+    EXPECT(mavunilai_read(NULL, 0, buffer, sizeof buffer) == 0);
+    EXPECT(mavunilai_read(NULL, 0, NULL, 0) == 0);
+    EXPECT(REFUSED(mavunilai_fetch(NULL, 0, 5, 1, reply, sizeof reply)) == MAVUNILAI_REFUSED_UNSOUND);
+    EXPECT(REFUSED(mavunilai_fetch(NULL, 0, 5, 1, NULL, 0)) == MAVUNILAI_REFUSED_UNSOUND);
+}
+
+/* With a sound book every other pointer may be null, and the book stays as it is. */
+static void null_beside(uint8_t *book, unsigned expected_read) {
+    uint8_t before[LENGTH];
+    memcpy(before, book, LENGTH);
+    EXPECT(REFUSED(mavunilai_open(book, LENGTH, 1, 0, HEIGHTS, NULL, 0)) == MAVUNILAI_REFUSED_OUT_OF_RANGE);
+    EXPECT(REFUSED(mavunilai_deliver(book, LENGTH, NULL, 0)) == MAVUNILAI_REFUSED_MALFORMED);
+    EXPECT(REFUSED(mavunilai_move(book, LENGTH, NULL, 0)) == MAVUNILAI_REFUSED_SHORT_REPLY);
+    EXPECT(REFUSED(mavunilai_submit(book, LENGTH, NULL, 0)) == MAVUNILAI_REFUSED_MALFORMED);
+    EXPECT(REFUSED(mavunilai_fetch(book, LENGTH, 5, 1, NULL, 0)) == MAVUNILAI_REFUSED_SHORT_REPLY);
+    EXPECT(mavunilai_read(book, LENGTH, NULL, 0) == 0);
+    EXPECT(mavunilai_bytes(mavunilai_size(book, LENGTH)) == expected_read);
+    EXPECT(memcmp(before, book, LENGTH) == 0);
+}
+
+/* One move makes one: the functions take their argument once. And the flags are as they are named. */
+static void flags(const uint8_t *opened) {
+    uint8_t reply[MAVUNILAI_MOVE_REPLY], book[LENGTH];
+    memcpy(book, opened, LENGTH);
+    EXPECT(mavunilai_frames(mavunilai_move(book, LENGTH, reply, sizeof reply)) == 1);
+    EXPECT(book[MAVUNILAI_HEAD_FLAGS] == MAVUNILAI_FLAG_PROPOSED);
+    EXPECT(reply[MAVUNILAI_FRAME_KIND] == MAVUNILAI_KIND_PROPOSAL && reply[MAVUNILAI_FRAME_HEIGHT] == 1);
+    EXPECT(mavunilai_fresh(mavunilai_deliver(book, LENGTH, reply, MAVUNILAI_FRAME)) == 1);
+    EXPECT(mavunilai_made(mavunilai_move(book, LENGTH, reply, sizeof reply)) == MAVUNILAI_MOVE_PAGE_VOTE);
+    EXPECT(book[MAVUNILAI_HEAD_FLAGS] == (MAVUNILAI_FLAG_PROPOSED | MAVUNILAI_FLAG_PAGE_VOTE));
+
+    memcpy(book, opened, LENGTH);
+    EXPECT(REFUSED(mavunilai_signal(book, LENGTH, 1)) == 0);
+    EXPECT(book[MAVUNILAI_HEAD_FLAGS] == MAVUNILAI_FLAG_TIMER);
+    EXPECT(mavunilai_made(mavunilai_move(book, LENGTH, reply, sizeof reply)) == MAVUNILAI_MOVE_BLANK_VOTE);
+    EXPECT(book[MAVUNILAI_HEAD_FLAGS] == (MAVUNILAI_FLAG_TIMER | MAVUNILAI_FLAG_BLANK_VOTE));
+}
+
+/* The parts of answers and books, through two heights of a station alone. */
+static void parts(uint8_t *book) {
+    uint8_t buffer[MAVUNILAI_MOST_REGISTER];
+    open_alone(book);
+    EXPECT(mavunilai_current(book) == 1 && mavunilai_settled(book) == 0 && mavunilai_leader(book, 2) == 0);
+    EXPECT(book[MAVUNILAI_HEAD_STATIONS] == 1 && book[MAVUNILAI_HEAD_HEIGHTS] == HEIGHTS);
+    null_beside(book, 0);
+    EXPECT(REFUSED(mavunilai_submit(book, LENGTH, (const uint8_t *)"swap A12 to B40 ", MAVUNILAI_ENTRY)) == 0);
+    EXPECT(book[MAVUNILAI_HEAD_PENDING] == 1);
+    EXPECT(memcmp(book + MAVUNILAI_PENDING_AT, "swap A12 to B40 ", MAVUNILAI_ENTRY) == 0);
+
+    flags(book);
+    EXPECT(run(book) == 8);
+    EXPECT(mavunilai_current(book) == 3 && mavunilai_settled(book) == 2);
+    null_beside(book, 16);
+    EXPECT(mavunilai_read(book, LENGTH, buffer, sizeof buffer) == 16);
+    EXPECT(memcmp(buffer, "swap A12 to B40 ", 16) == 0);
+}
+
+int main(void) {
+    uint8_t book[LENGTH];
+    EXPECT(mavunilai_interface() == MAVUNILAI_INTERFACE);
+    EXPECT(mavunilai_fits());
+    EXPECT(MAVUNILAI_BOOK(MAVUNILAI_MOST_HEIGHTS) == MAVUNILAI_MOST_BOOK);
+    no_book();
+    parts(book);
+    return failures == 0 ? 0 : 1;
+}

@@ -1,0 +1,121 @@
+//! The wrapper: on the static library, or without it on functions of the same names made here over the reference.
+
+#[cfg(not(feature = "proved"))]
+#[path = "foreign/exports.rs"]
+mod exports;
+#[cfg(not(feature = "proved"))]
+#[path = "../src/foreign.rs"]
+mod foreign;
+
+#[cfg(not(feature = "proved"))]
+use foreign::{fits, Proved, INTERFACE};
+#[cfg(feature = "proved")]
+use mavunilai::{fits, Proved};
+use types::{Book, Calls, Certificate, Delivered, Frame, Move, Refusal};
+
+/// Replica 2 of 4 with three heights.
+fn book() -> Book<Proved> {
+    Book::open(Proved, 4, 2, &[0, 1, 2]).unwrap()
+}
+
+#[test]
+fn a_pass_on_dummy_votes() {
+    let mut book = book();
+    for signer in 0..3 {
+        let vote = Frame::DummyVote { signer, height: 1 }.bytes();
+        assert_eq!(book.deliver(&vote), Ok(Delivered::Fresh));
+        assert_eq!(book.deliver(&vote), Ok(Delivered::Known));
+    }
+    let pass = Move::Pass { height: 1, certificate: Certificate::Dummy, finalized: true };
+    let frames = vec![
+        Frame::DummyCertificate { mask: 7, height: 1 }.bytes(),
+        Frame::Finalize { signer: 2, height: 1 }.bytes(),
+    ];
+    assert_eq!(book.make_move(), Ok((pass, frames.clone())));
+    assert_eq!(book.make_move(), Ok((Move::Idle, vec![])));
+    assert_eq!(book.fetch(6, 1), Ok(frames[0]));
+    assert_eq!(book.certificates(), vec![frames[0]]);
+    assert_eq!((book.current(), book.finalized()), (2, 0));
+}
+
+/// The book of a replica alone, after all its moves on one entry.
+fn logged() -> Book<Proved> {
+    let mut book = Book::open(Proved, 1, 0, &[0, 0]).unwrap();
+    assert_eq!(book.submit(&[7; 16]), Ok(()));
+    assert_eq!(book.submit(&[7; 16]), Err(Refusal::EntryKnown));
+    assert_eq!(book.pending(), [[7; 16]]);
+    while let Ok((made, frames)) = book.make_move() {
+        if made == Move::Idle {
+            break;
+        }
+        frames.iter().for_each(|frame| assert!(book.deliver(frame).is_ok()));
+    }
+    book
+}
+
+#[test]
+fn a_log_of_one_replica() {
+    let book = logged();
+    assert_eq!(book.log(), Ok(vec![[7; 16]]));
+    assert_eq!(Proved.size(book.bytes()), Ok(16));
+    assert_eq!(book.finalized(), 2);
+}
+
+#[test]
+fn refusals_come_through() {
+    assert_eq!(Book::open(Proved, 4, 4, &[0]).err(), Some(Refusal::OutOfRange));
+    assert_eq!(Book::open(Proved, 4, 0, &[0; 300]).err(), Some(Refusal::OutOfRange));
+    assert_eq!(Book::from_bytes(Proved, vec![]).err(), Some(Refusal::Unsound));
+    assert_eq!(Proved.make_move(&mut [], &mut []), Err(1));
+    let mut book = book();
+    assert_eq!(book.deliver(&[]), Err(Refusal::Malformed));
+    assert_eq!(book.signal(2), Err(Refusal::NotDue));
+    assert_eq!(book.signal(u64::MAX), Err(Refusal::NoSuchHeight));
+    assert_eq!(book.signal(1), Ok(()));
+    assert_eq!(book.fetch(5, 1), Err(Refusal::NoCertificate));
+    assert!(Book::from_bytes(Proved, book.bytes().to_vec()).is_ok());
+    let mut bytes = book.bytes().to_vec();
+    assert_eq!(Proved.make_move(&mut bytes, &mut [0; 447]), Err(3));
+    assert_eq!(Proved.read(&bytes, &mut []), 0);
+}
+
+#[test]
+fn the_head_is_read() {
+    let mut book = Book::open(Proved, 7, 3, &[6, 5, 4]).unwrap();
+    assert_eq!((book.n(), book.own(), book.heights()), (7, 3, 3));
+    assert_eq!((book.current(), book.finalized()), (1, 0));
+    let leaders: Vec<_> = (0..=4).map(|height| book.leader(height)).collect();
+    assert_eq!(leaders, [None, Some(6), Some(5), Some(4), None]);
+    assert!(book.pending().is_empty());
+    (0..32).for_each(|number| book.submit(&[number; 16]).unwrap());
+    assert_eq!(book.submit(&[32; 16]), Err(Refusal::PendingFull));
+    assert_eq!(book.pending(), Vec::from_iter((0..32).map(|number| [number; 16])));
+}
+
+#[test]
+fn the_library_fits() {
+    assert!(fits());
+}
+
+/// Only here can the library be made to claim something else.
+#[test]
+#[cfg(not(feature = "proved"))]
+fn a_library_of_another_interface_is_not_called() {
+    let (mut book, logged) = (book(), logged());
+    let before = book.bytes().to_vec();
+    assert_eq!(Proved.read(logged.bytes(), &mut [0; 16]), 16);
+    exports::CLAIMED.set(INTERFACE + 1);
+    assert!(!fits());
+    assert_eq!(Book::open(Proved, 4, 2, &[0]).err(), Some(Refusal::OtherInterface));
+    let vote = Frame::DummyVote { signer: 0, height: 1 }.bytes();
+    assert_eq!(book.deliver(&vote), Err(Refusal::OtherInterface));
+    assert_eq!(book.make_move(), Err(Refusal::OtherInterface));
+    assert_eq!(book.signal(1), Err(Refusal::OtherInterface));
+    assert_eq!(book.submit(&[7; 16]), Err(Refusal::OtherInterface));
+    assert_eq!(book.log(), Err(Refusal::OtherInterface));
+    assert_eq!(book.fetch(6, 1), Err(Refusal::OtherInterface));
+    assert_eq!(Proved.read(logged.bytes(), &mut [0; 16]), 0);
+    assert_eq!(book.bytes(), before);
+    exports::CLAIMED.set(INTERFACE);
+    assert_eq!(book.deliver(&vote), Ok(Delivered::Fresh));
+}

@@ -1,0 +1,76 @@
+//! Why a book in a file did not do what it was asked.
+
+use std::fmt;
+use std::io;
+use std::path::{Path, PathBuf};
+use types::refusal::meaning;
+
+/// What went wrong. Only a refusal comes from the replica; the book is then as it was.
+#[derive(Debug)]
+pub enum Error {
+    /// The replica refused with this number.
+    Refused(u8),
+    /// Frames wait to be sent and acknowledged; nothing was done.
+    Unsent,
+    /// An earlier call could not be committed; the book must be opened again.
+    Stale,
+    /// There is a file already, and it is not to be overwritten.
+    Exists(PathBuf),
+    /// The file beside a book is not one that this crate wrote, or the file to hand frames to holds other things.
+    Foreign(PathBuf),
+    /// The frames were to be handed to the book itself, or to a file beside it that has another purpose.
+    Own(PathBuf),
+    /// The file system failed.
+    Files {
+        /// The file.
+        path: PathBuf,
+        /// What could not be done, as `read`.
+        what: &'static str,
+        /// What the system says.
+        error: io::Error,
+    },
+}
+
+impl Error {
+    /// Names the file and what could not be done.
+    pub(crate) fn files(what: &'static str, path: &Path) -> impl FnOnce(io::Error) -> Error {
+        let path = path.to_path_buf();
+        move |error| Error::Files { path, what, error }
+    }
+}
+
+impl<R: Into<u8>> From<R> for Error {
+    /// A refusal, by its number.
+    fn from(refusal: R) -> Error {
+        Error::Refused(refusal.into())
+    }
+}
+
+impl fmt::Display for Error {
+    fn fmt(&self, to: &mut fmt::Formatter<'_>) -> fmt::Result {
+        match self {
+            Error::Refused(number) => write!(to, "refused with {number}: {}", meaning(*number)),
+            Error::Unsent => write!(to, "frames of an earlier move wait to be sent"),
+            Error::Stale => write!(to, "an earlier call was not committed; open the book again"),
+            Error::Exists(path) => write!(to, "{} is there already", path.display()),
+            Error::Foreign(path) => {
+                write!(to, "{} holds something else than frames", path.display())
+            }
+            Error::Own(path) => {
+                write!(to, "{} is the book or belongs to it, and takes no frames", path.display())
+            }
+            Error::Files { path, what, error } => {
+                write!(to, "{} cannot be {what}: {error}", path.display())
+            }
+        }
+    }
+}
+
+impl std::error::Error for Error {
+    fn source(&self) -> Option<&(dyn std::error::Error + 'static)> {
+        match self {
+            Error::Files { error, .. } => Some(error),
+            _ => None,
+        }
+    }
+}

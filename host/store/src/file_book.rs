@@ -1,0 +1,205 @@
+//! A book in a file.
+
+use crate::outbox::Outbox;
+use crate::place::Place;
+use crate::{pile, Disk, Error, Files};
+use std::path::Path;
+use types::{book_length, Book, Calls, Delivered, Move, Written, ENTRY, FRAME, MOST_HEIGHTS};
+
+/// The ending of the file of the frames that wait.
+const FRAMES: &str = ".frames";
+
+/// A book that is kept in a file and locked until this value is dropped. Every call that changes the book is
+/// committed when it returns; one that returns an error of [`Error::Files`] may be, which who opens the book again
+/// will see.
+#[derive(Debug)]
+pub struct FileBook<C, F: Files = Disk> {
+    book: Book<C>,
+    unsent: Written,
+    stale: bool,
+    place: Place<F>,
+    _lock: F::Lock,
+}
+
+/// The bytes of a book in a file, without a lock: they are whole, but may be old by the time they are looked at.
+pub fn read(path: impl AsRef<Path>) -> Result<Vec<u8>, Error> {
+    read_book(&Place::resolve(Disk, path.as_ref())?)
+}
+
+impl<C: Calls + Clone> FileBook<C> {
+    /// Keeps a new book in a file that is not there yet.
+    pub fn create(book: Book<C>, path: impl AsRef<Path>) -> Result<FileBook<C>, Error> {
+        FileBook::create_in(Disk, book, path.as_ref())
+    }
+
+    /// Keeps a book in a file in place of what was there, frames that wait included.
+    pub fn overwrite(book: Book<C>, path: impl AsRef<Path>) -> Result<FileBook<C>, Error> {
+        FileBook::overwrite_in(Disk, book, path.as_ref())
+    }
+
+    /// Opens the book in a file; waits while another has it open. What [`FileBook::unsent`] gives is to be sent
+    /// first.
+    pub fn open(calls: C, path: impl AsRef<Path>) -> Result<FileBook<C>, Error> {
+        FileBook::open_in(Disk, calls, path.as_ref())
+    }
+}
+
+impl<C: Calls + Clone, F: Files> FileBook<C, F> {
+    /// [`FileBook::create`] in another file system.
+    pub fn create_in(files: F, book: Book<C>, path: &Path) -> Result<FileBook<C, F>, Error> {
+        let place = Place::resolve(files, path)?;
+        let free = |place: &Place<F>| match place.read(0)? {
+            None => Ok(()),
+            Some(_) => Err(Error::Exists(path.to_path_buf())),
+        };
+        free(&place)?;
+        let lock = place.lock()?;
+        free(&place)?;
+        FileBook::begin(place, lock, book)
+    }
+
+    /// [`FileBook::overwrite`] in another file system.
+    pub fn overwrite_in(files: F, book: Book<C>, path: &Path) -> Result<FileBook<C, F>, Error> {
+        let place = Place::resolve(files, path)?;
+        let lock = place.lock()?;
+        FileBook::begin(place, lock, book)
+    }
+
+    /// [`FileBook::open`] in another file system.
+    pub fn open_in(files: F, calls: C, path: &Path) -> Result<FileBook<C, F>, Error> {
+        let place = Place::resolve(files, path)?;
+        read_book(&place)?;
+        let lock = place.lock()?;
+        let book = Book::from_bytes(calls, read_book(&place)?)?;
+        // Who had it before may have ended between renaming and syncing: nothing is answered from a name that is not.
+        place.sync_folder()?;
+        let unsent = waiting(&place, book.bytes())?;
+        Ok(FileBook { book, unsent, stale: false, place, _lock: lock })
+    }
+
+    /// Puts the first bytes of a book in its place. Frames that waited belong to another book: they go after it has
+    /// gone, so that they are not lost while it is there.
+    fn begin(place: Place<F>, lock: F::Lock, book: Book<C>) -> Result<FileBook<C, F>, Error> {
+        place.replace(book.bytes())?;
+        place.remove_beside(FRAMES)?;
+        Ok(FileBook { book, unsent: Vec::new(), stale: false, place, _lock: lock })
+    }
+
+    /// The book as it is in the file, for everything that changes nothing.
+    pub fn book(&self) -> &Book<C> {
+        &self.book
+    }
+
+    /// The frames that are to be sent: the book that cast them is synced. Until they are acknowledged no call is
+    /// made.
+    pub fn unsent(&self) -> &[[u8; FRAME]] {
+        &self.unsent
+    }
+
+    /// Acknowledges that the frames are sent, or are in other hands that will not lose them.
+    pub fn sent(&mut self) -> Result<(), Error> {
+        if !self.unsent.is_empty() {
+            self.place.remove_beside(FRAMES)?;
+            self.unsent.clear();
+        }
+        Ok(())
+    }
+
+    /// Adds the unsent frames to a file, as lines of digits, syncs it and acknowledges them. The file is replaced as
+    /// a whole, and locked meanwhile by one of its name with `.lock` behind it. Without frames it is only looked at.
+    pub fn hand_to(&mut self, path: impl AsRef<Path>) -> Result<(), Error>
+    where
+        F: Clone,
+    {
+        let pile = Place::resolve(self.place.files.clone(), path.as_ref())?;
+        let endings = ["", ".lock", ".new", FRAMES, ".frames.new"];
+        if endings.iter().any(|ending| self.place.beside(ending) == pile.path) {
+            return Err(Error::Own(pile.path));
+        }
+        pile::append(&pile, &self.unsent)?;
+        self.sent()
+    }
+
+    /// Takes a frame whose signatures hold.
+    pub fn deliver(&mut self, frame: &[u8]) -> Result<Delivered, Error> {
+        self.change(|book| Ok((book.deliver(frame)?, Vec::new())))
+    }
+
+    /// Tells that the timer of a height fired.
+    pub fn signal(&mut self, height: u64) -> Result<(), Error> {
+        self.change(|book| Ok((book.signal(height)?, Vec::new())))
+    }
+
+    /// Adds a pending entry.
+    pub fn submit(&mut self, entry: &[u8; ENTRY]) -> Result<(), Error> {
+        self.change(|book| Ok((book.submit(entry)?, Vec::new())))
+    }
+
+    /// Makes the first move that applies. Its frames are [`FileBook::unsent`] now; they are to be delivered here too.
+    pub fn make_move(&mut self) -> Result<Move, Error> {
+        self.change(|book| Ok(book.make_move()?))
+    }
+
+    /// Makes the first move that applies and delivers its frames here, in one commit, so that no end of the process
+    /// comes between the two. A frame of its own that the book refuses is not taken, and is to be sent all the same.
+    pub fn move_and_take(&mut self) -> Result<Move, Error> {
+        self.change(|book| {
+            let (made, frames) = book.make_move()?;
+            frames.iter().for_each(|frame| _ = book.deliver(frame));
+            Ok((made, frames))
+        })
+    }
+
+    /// Makes calls on a copy, and commits it with the frames that they wrote.
+    fn change<A>(
+        &mut self,
+        calls: impl FnOnce(&mut Book<C>) -> Result<(A, Written), Error>,
+    ) -> Result<A, Error> {
+        if self.stale {
+            return Err(Error::Stale);
+        }
+        if !self.unsent.is_empty() {
+            return Err(Error::Unsent);
+        }
+        let mut book = self.book.clone();
+        let (answer, frames) = calls(&mut book)?;
+        self.stale = true;
+        self.commit(&book, &frames)?;
+        (self.stale, self.book, self.unsent) = (false, book, frames);
+        Ok(answer)
+    }
+
+    /// The order of the page above: the frames beside the book, then the book.
+    fn commit(&self, book: &Book<C>, frames: &[[u8; FRAME]]) -> Result<(), Error> {
+        if !frames.is_empty() {
+            let outbox = Outbox::new(book.bytes(), frames);
+            self.place.put_beside(FRAMES, outbox.text().as_bytes())?;
+        }
+        if frames.is_empty() && book.bytes() == self.book.bytes() {
+            return Ok(());
+        }
+        self.place.replace(book.bytes())
+    }
+}
+
+/// The book's bytes; a file that is longer than any book gives one byte too many.
+fn read_book<F: Files>(place: &Place<F>) -> Result<Vec<u8>, Error> {
+    let bytes = place.read(book_length(MOST_HEIGHTS).saturating_add(1))?;
+    let missing = || std::io::Error::from(std::io::ErrorKind::NotFound);
+    bytes.ok_or_else(|| Error::files("read", &place.path)(missing()))
+}
+
+/// The frames that an earlier life left beside this book. Those of another book were never cast: they are dropped.
+fn waiting<F: Files>(place: &Place<F>, book: &[u8]) -> Result<Written, Error> {
+    let path = place.beside(FRAMES);
+    let text = place.files.read(&path, 1 << 12).map_err(Error::files("read", &path))?;
+    let Some(text) = text else {
+        return Ok(Vec::new());
+    };
+    let outbox = Outbox::parse(&text).ok_or(Error::Foreign(path))?;
+    if outbox.names(book) {
+        return Ok(outbox.frames);
+    }
+    place.remove_beside(FRAMES)?;
+    Ok(Vec::new())
+}

@@ -1,0 +1,58 @@
+//! A book in a file: locked while it is open, each call committed together with the frames that it wrote.
+//!
+//! Two rules hold, whenever the process or the machine ends. A frame leaves only after the book that cast it is
+//! synced: else the station could forget what it said, and say another thing. And once that book is synced its
+//! frames are not lost: they wait in a file beside the book until they are acknowledged. Frames may go out twice,
+//! which is harmless.
+//!
+//! Beside a book `b` there are `b.lock`, which processes lock and which stays; `b.frames` while frames wait; `b.new`
+//! and `b.frames.new`, which are being written, and of no account after a crash. The order of a call that writes
+//! frames:
+//!
+//! 1. `b.frames` is written and synced; it names the book after the call by its SHA-256;
+//! 2. the new book is written to `b.new` and synced, and the folder is synced;
+//! 3. `b.new` is renamed to `b`, which is the commit, and the folder is synced;
+//! 4. the frames are handed to the caller, who sends them and acknowledges: `b.frames` goes.
+//!
+//! Who opens the book finds `b.frames` of an earlier life: frames of the book that is there are to be sent first,
+//! those of another book were never cast, and are dropped.
+//!
+//! ```
+//! # let folder = std::env::temp_dir().join(format!("store{}", std::process::id()));
+//! # std::fs::create_dir_all(&folder).unwrap();
+//! # let path = folder.join("book");
+//! # fn send(_: &[[u8; types::FRAME]]) {}
+//! use store::FileBook;
+//! // Over the proved replica: mavunilai::Proved in place of the reference.
+//! let new = types::Book::open(reference::Rules::SHA256, 1, 0, &[0, 0])?;
+//! FileBook::create(new, &path)?;
+//!
+//! let mut book = FileBook::open(reference::Rules::SHA256, &path)?;
+//! send(book.unsent());
+//! book.sent()?;
+//! book.submit(b"swap A12 to B40 ")?;
+//! while book.move_and_take()? != types::Move::Idle {
+//!     send(book.unsent());
+//!     book.sent()?;
+//! }
+//! assert_eq!(book.book().log()?.len(), 1);
+//! # std::fs::remove_dir_all(&folder).unwrap();
+//! # Ok::<(), store::Error>(())
+//! ```
+
+#![warn(clippy::indexing_slicing, clippy::arithmetic_side_effects)]
+#![warn(clippy::unwrap_used, clippy::expect_used, clippy::panic)]
+
+mod digits;
+mod disk;
+mod error;
+mod file_book;
+mod files;
+mod outbox;
+mod pile;
+mod place;
+
+pub use disk::Disk;
+pub use error::Error;
+pub use file_book::{read, FileBook};
+pub use files::Files;

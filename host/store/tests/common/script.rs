@@ -1,0 +1,50 @@
+//! What comes to a station: frames of the others, timers and entries, in an order that a seed determines.
+
+use super::random::Random;
+use types::{Block, Frame};
+
+/// One thing that comes to the station.
+#[derive(Clone, Debug)]
+pub enum Input {
+    Deliver(Frame),
+    Signal(u64),
+    Submit([u8; 16]),
+}
+
+/// The leaders of the heights; the station is 2 of 4.
+pub const LEADERS: [u8; 4] = [0, 2, 1, 2];
+
+/// A script of three others who propose, vote, give up and finalise at each height, not all of them and not in order.
+pub fn script(seed: u64) -> Vec<Input> {
+    let mut random = Random::new(seed);
+    let mut parent = Block::default();
+    let mut script = Vec::new();
+    for (height, leader) in (1..).zip(LEADERS) {
+        let digest = if height == 1 { [0; 32] } else { sha256::digest(&parent.bytes()) };
+        let block = Block { height, parent: height - 1, digest, entries: Vec::new() };
+        script.extend(at_height(height, leader, &block, &mut random));
+        parent = block;
+    }
+    script
+}
+
+/// What comes at a height: about three of four things that could.
+fn at_height(height: u8, leader: u8, block: &Block, random: &mut Random) -> Vec<Input> {
+    let digest = sha256::digest(&block.bytes());
+    let mut inputs = vec![Input::Signal(height.into()), Input::Submit([height; 16])];
+    let mut frames = Vec::new();
+    if leader != 2 {
+        frames.push(Frame::Proposal { signer: leader, block: block.clone() });
+    }
+    for signer in [0, 1, 3] {
+        frames.push(Frame::BlockVote { signer, height, digest });
+        frames.push(Frame::DummyVote { signer, height });
+        frames.push(Frame::Finalize { signer, height });
+    }
+    inputs.extend(frames.into_iter().map(Input::Deliver));
+    inputs.retain(|_| random.below(4) > 0);
+    for at in (1..inputs.len()).rev() {
+        inputs.swap(at, random.below(at + 1));
+    }
+    inputs
+}

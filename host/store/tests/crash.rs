@@ -1,0 +1,133 @@
+//! The process or the machine ends at any step of any call: what was said is kept, and nothing else is said.
+
+mod common;
+
+use common::fake::{Fake, Fault, Forgotten};
+use common::life::{Station, Way, BOOK};
+use common::random::Random;
+use common::script::{script, Input};
+use reference::Rules;
+use store::{Error, FileBook};
+use types::{Book, FRAME};
+
+/// The ways in which a station can move and send.
+const WAYS: [Way; 3] = [Way::Takes, Way::Bare, Way::Hands];
+
+/// A script and what a station must come to: its book and all that it says, as in a life without a fault.
+struct Expected {
+    script: Vec<Input>,
+    way: Way,
+    book: Vec<u8>,
+    said: Vec<[u8; FRAME]>,
+}
+
+/// The script of a seed, and a life without a fault.
+fn undisturbed(seed: u64, way: Way) -> Expected {
+    let script = script(seed);
+    let mut station = Station::new(Fake::default(), script.clone(), way);
+    let book = station.live_on(&mut Random::new(0), |_| None).unwrap();
+    assert_eq!(station.broken, None);
+    Expected { script, way, book, said: station.said }
+}
+
+/// The rule that is broken if faults come as `next` says; that frames are lost or invented is one.
+fn broken_by(
+    files: Fake,
+    expected: &Expected,
+    random: &mut Random,
+    next: impl FnMut(&mut Random) -> Option<(usize, Fault)>,
+) -> Option<String> {
+    let mut station = Station::new(files, expected.script.clone(), expected.way);
+    let ended = station.live_on(random, next);
+    let same = ended.as_ref() == Some(&expected.book);
+    let other = || (!same).then(|| "the book is another".to_string());
+    let lost = || (station.said != expected.said).then(|| "other frames were sent".to_string());
+    station.broken.clone().or_else(other).or_else(lost)
+}
+
+#[test]
+fn the_scripts_make_every_move() {
+    let said: Vec<_> = (0..8).flat_map(|seed| undisturbed(seed, Way::Takes).said).collect();
+    for kind in 1..=6 {
+        assert!(said.iter().any(|frame| frame[0] == kind), "{kind}");
+    }
+}
+
+/// Every step of a script comes to grief once, in each way.
+#[test]
+fn an_end_at_every_step() {
+    for fault in [Fault::Process, Fault::Machine, Fault::Refusal] {
+        for (seed, way) in (1..).zip(WAYS) {
+            let expected = undisturbed(seed, way);
+            for at in 0.. {
+                let mut random = Random::new(at as u64);
+                let mut lives = 0;
+                let broken = broken_by(Fake::default(), &expected, &mut random, |_| {
+                    lives += 1;
+                    (lives == 1).then_some((at, fault))
+                });
+                assert_eq!(broken, None, "{fault:?} at step {at}, script {seed}, {way:?}");
+                if lives == 1 {
+                    break;
+                }
+            }
+        }
+    }
+}
+
+/// Many ends in one script, some of them while the life before is being made good.
+fn often(random: &mut Random) -> Option<(usize, Fault)> {
+    let faults = [Fault::Process, Fault::Machine, Fault::Machine, Fault::Refusal];
+    let steps = [12, 40, 200][random.below(3)];
+    Some((random.below(steps), faults[random.below(4)]))
+}
+
+#[test]
+fn ends_at_random() {
+    for seed in 0..360 {
+        let mut random = Random::new(seed);
+        let expected = undisturbed(seed % 40, WAYS[random.below(3)]);
+        let broken = broken_by(Fake::default(), &expected, &mut random, often);
+        assert_eq!(broken, None, "seed {seed}");
+    }
+}
+
+/// A station that comes back finds that its timer fired: what the life before was about to say must not have been
+/// said.
+#[test]
+fn a_timer_that_fires_between_two_lives() {
+    for seed in 0..360 {
+        let mut random = Random::new(seed);
+        let mut station = Station::new(Fake::default(), script(seed % 40), WAYS[random.below(3)]);
+        station.timer = true;
+        station.live_on(&mut random, often);
+        assert_eq!(station.broken, None, "seed {seed}");
+    }
+}
+
+/// A call that could not be committed may be, or not: the book must be opened again.
+#[test]
+fn a_failed_commit_is_not_gone_over() {
+    let new = Book::open(Rules::SHA256, 4, 2, &[0]).unwrap();
+    let files = Fake::default();
+    let mut book = FileBook::create_in(files.clone(), new, BOOK.as_ref()).unwrap();
+    files.fault(6, Fault::Refusal);
+    assert!(matches!(book.signal(1), Err(Error::Files { .. })));
+    assert!(matches!(book.make_move(), Err(Error::Stale)));
+    drop(book);
+    let mut again = FileBook::open_in(files, Rules::SHA256, BOOK.as_ref()).unwrap();
+    assert!(matches!(again.signal(1), Err(Error::Refused(14))));
+}
+
+/// The tests above can fail: a file system that does not sync what it is told to is found out.
+#[test]
+fn a_step_left_out_is_noticed() {
+    for forgotten in [Forgotten::Files, Forgotten::Folders] {
+        let noticed = (0..100).filter(|seed| {
+            let files = Fake::forgetting(Some(forgotten));
+            let expected = undisturbed(seed % 40, Way::Takes);
+            broken_by(files, &expected, &mut Random::new(*seed), often).is_some()
+        });
+        assert!(noticed.count() > 50, "{forgotten:?}");
+    }
+}

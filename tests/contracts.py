@@ -1,0 +1,136 @@
+"""The public functions of a crate with their contracts, and the types of its src/, read from its files."""
+import re
+
+from specs import Unreadable, Use, Words, readable
+
+# the crates whose public functions are for others to call
+PUBLIC = ("replica", "replica_c", "sha256", "sha256_c")
+
+ITEM = re.compile(
+    r"(?P<head>(?:^[ ]*(?://|#\[).*\n)*)^[ ]*(?P<pub>pub )?(?P<extern>extern \"C\" )?"
+    r"(?P<sort>fn|enum|struct|type|const) (?P<name>\w+)", re.M)
+CLAUSE = re.compile(r"(?:^|\s)(requires|ensures|ghost|measure|decreases)(?:\s+\w+)?\s*$")
+IMPORT = re.compile(r"^(pub )?use ([\w:]+)(?: as (\w+))?;$", re.M)
+
+
+def closing(text, at):
+    """The place behind the brace that closes the one at `at`."""
+    depth = 0
+    for i in range(at, len(text)):
+        depth += {"{": 1, "}": -1}.get(text[i], 0)
+        if depth == 0:
+            return i + 1
+    raise Unreadable("a brace that nothing closes")
+
+
+class Item:
+    """A function up to its body, with the comment and the attributes above it, or a type."""
+
+    def __init__(self, file, text, bare, m):
+        self.file, self.name, self.names, self.sort = file, m["name"], [m["name"]], m["sort"]
+        self.public, self.exported = bool(m["pub"]), bool(m["extern"])
+        self.clauses, self.types = [], set()
+        end = self.function(bare, m.end()) if self.sort == "fn" else self.type_of(bare, m.end())
+        self.whole = text[m.start() : end].rstrip()
+        self.used = Words(" ".join(body for sort, body in self.clauses))
+
+    def function(self, text, at):
+        """The signature is the language's own; what stands in a clause's braces is antt's."""
+        while True:
+            brace = re.compile(r"[{;](?![^\[]*\])").search(text, at).start()
+            between = text[at:brace]
+            self.types.update(re.findall(r"\w+(?:::\w+)*", between))
+            clause = CLAUSE.search(between)
+            if not clause:
+                return brace
+            at = closing(text, brace)
+            self.clauses.append((clause[1], text[brace + 1 : at - 1].strip()))
+
+    def type_of(self, text, at):
+        end = re.compile(r"[{;](?![^\[\n]*\])").search(text, at).start()
+        end = closing(text, end) if text[end] == "{" else end + 1
+        self.types.update(re.findall(r"\w+(?:::\w+)*", text[at:end]))
+        return end
+
+    def text(self, whole=True):
+        return self.whole
+
+    def words(self, whole=True):
+        return self.used
+
+    def demands(self):
+        """The clauses by which the function asks something of its caller."""
+        return [body for sort, body in self.clauses if sort == "requires"]
+
+
+class SourceFile:
+    """A file of src/: its imports, the modules that it names, its functions and types."""
+
+    def __init__(self, text, place):
+        self.place, self.uses, self.imports = place, [], []
+        readable(text, place)
+        if re.search(r"^ *(pub )?mod \w+ \{", text, re.M) or "/*" in text:
+            raise Unreadable(f"{place}: a module or a comment in braces")
+        for line in re.findall(r"^ *((?:ghost |pub )*use .*)", text, re.M):
+            self.takes(line)
+        self.modules = {m[2]: bool(m[1]) for m in re.finditer(r"^(pub )?mod (\w+);", text, re.M)}
+        bare = re.sub(r"//.*", lambda m: " " * len(m[0]), text)
+        self.items = [Item(self, text, bare, m) for m in ITEM.finditer(text)]
+        known = {item.name for item in self.items if item.sort == "fn"}
+        strange = [name for name in re.findall(r"\bfn (\w+)", bare) if name not in known]
+        if strange:
+            raise Unreadable(f"{place}: a function of another form: {strange[0]}")
+
+    def takes(self, line):
+        """An import, of antt's names or of the code's."""
+        if line.startswith("ghost "):
+            self.uses.append(Use(line, {use.alias: use.module for use in self.uses if use.alias}))
+            return
+        m = IMPORT.match(line)
+        if not m:
+            raise Unreadable(f"{self.place}: an import of another form: {line}")
+        path = m[2].split("::")
+        self.imports.append((m[0], bool(m[1]), path, m[3] or path[-1]))
+
+    def find(self, name):
+        return [item for item in self.items if item.name == name]
+
+    def passes_on(self, name):
+        return None
+
+
+class Crate:
+    """The files of a crate's src/, and which of its functions others can call."""
+
+    def __init__(self, folder):
+        self.name, self.files = folder.name, {}
+        for path in sorted((folder / "src").glob("*.rt")):
+            place = f"crates/{self.name}/src/{path.name}"
+            self.files[path.stem] = SourceFile(path.read_text(), place)
+        deeper = [p for p in (folder / "src").glob("*/**/*.rt")]
+        if deeper:
+            raise Unreadable(f"{deeper[0]}: a file in a folder of src/")
+
+    def functions(self):
+        """Each function that others can call, by its path: of a public module, passed on by one, or exported."""
+        root = self.files.get("lib")
+        if root is None:
+            raise Unreadable(f"crates/{self.name}: no src/lib.rt")
+        found = {}
+        for stem, file in self.files.items():
+            path = [self.name] if stem == "lib" else [self.name, stem]
+            open_to_all = stem == "lib" or root.modules.get(stem, False)
+            for item in file.items:
+                if item.sort == "fn" and (item.exported or (item.public and open_to_all)):
+                    found["::".join([*path, item.name])] = item
+            if open_to_all:
+                found.update({"::".join([*path, short]): item for short, item in self.passed_on(file)})
+        return found
+
+    def passed_on(self, file):
+        """The functions that a `pub use` passes on, from a private module too."""
+        for line, public, path, short in file.imports:
+            at = path[1:] if path[0] in ("crate", "self") else path
+            target = self.files.get(at[-2] if len(at) > 1 else "lib")
+            if public and target is not None:
+                yield from ((short, item) for item in target.find(at[-1]) if item.sort == "fn")
