@@ -29,13 +29,13 @@ use Rattle.protocol.specs.Move.{Step, firstStep, step, dummyVoteApplies, dummyV
 use Rattle.protocol.specs.Move.{passApplies, passCertificate, passStep, proposeApplies, proposeStep}
 use Rattle.protocol.specs.Move.{blockVoteApplies, blockVoteStep, idleStep}
 use Rattle.protocol.specs.Move.{MoveOutcome, moved, unlessMoveRefused, moveRows, moveCall}
+use Rattle.answers.specs.MoveNumbers.{answerNumbers, moveCertificate, moveFinalize}
 use Rattle.replica_c.specs.Packing.{packedDone, packedDelivery, packedMove, packedSize}
 use Rattle.replica_c.specs.Packing.{passKinds, answeredHeight, answeredSize}
 use Rattle.replica_c.specs.PackingLaws.{move-height-low}
 use Rattle.replica_c.specs.Unpacking.{unpackedRefusal, unpackedFresh, unpackedMove, unpackedHeight}
 use Rattle.replica_c.specs.Unpacking.{unpackedCertificate, unpackedFinalize, unpackedSize, unpackedFrames}
-use Rattle.replica_c.specs.Unpacking.{answeredFresh, answeredMove, answeredCertificate, answeredFinalize}
-use Rattle.replica_c.specs.Unpacking.{moveCertificate, moveFinalize}
+use Rattle.replica_c.specs.Unpacking.{answeredFresh}
 use Rattle.replica_c.specs.Unpacking.{Numbered, DoneRead, DeliveryRead, MoveRead, SizeRead}
 
 -- ---- bytes of a number
@@ -141,7 +141,7 @@ kinds (propose h) = (refl, omega arith, omega arith)
 kinds (voteBlock h) = (refl, omega arith, omega arith)
 
 move-read-back : (a : Answer Move) → Numbered a → answeredHeight a ≤ 63 → MoveRead (packedMove a) a
-unfolding packedMove refusalNumber answeredMove answeredHeight answeredCertificate answeredFinalize
+unfolding packedMove answeredHeight answerNumbers
 move-read-back (refused number) ok low =
     unfold unpackedRefusal unpackedMove unpackedHeight unpackedCertificate unpackedFinalize in
     let fits : number ≤ 14 = ok number refl .1 in
@@ -280,15 +280,16 @@ module _ (digest : Bytes → Bytes) where
         cond-elim Counted (blockVoteApplies digest s) (λ _. refl) λ _. refl
 
   abbrev AllCounted : MoveOutcome → Type 0
-  AllCounted m = frameCount (answeredMove (m .answer)) (answeredFinalize (m .answer)) ≡ length (m .frames)
+  AllCounted m =
+      frameCount (answerNumbers (m .answer) .move) (answerNumbers (m .answer) .finalize) ≡ length (m .frames)
 
   move-counted : (book reply : Bytes) → AllCounted (moveCall digest book reply)
   unfolding moveCall
   move-counted book reply = go _
     where
       go : (r : Option ℕ) → AllCounted (unlessMoveRefused r book reply (step digest (decode book)))
-      go none = unfold unlessMoveRefused moved answeredMove answeredFinalize in step-counted (decode book)
-      go (some number) = unfold unlessMoveRefused answeredMove answeredFinalize in refl
+      go none = unfold unlessMoveRefused moved answerNumbers in step-counted (decode book)
+      go (some number) = unfold unlessMoveRefused answerNumbers in refl
 
   pub frames-read : (book reply : Bytes) →
       unpackedFrames (packedMove (moveCall digest book reply .answer)) ≡ length (moveCall digest book reply .frames)
