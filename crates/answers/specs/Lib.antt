@@ -1,2 +1,4 @@
--- What each case of an answer means.
+-- What each case of an answer means, and document 01's numbers of a move.
 pub mod Answers
+pub mod MoveNumbers
+pub mod MoveNumbersLaws

@@ -30,7 +30,7 @@ same-length-2 c = search needs
 returns : tie.Need-returns
 returns c =
     let told = c .before .before .before .before .before .make-move in
-    (c .moved-number .ensures ∙ ap packedMove (told .ensures .0), (told .ensures .1 .0, told .ensures .1 .1))
+    (c .moved-number .ensures ∙ ap packedMove (told .ensures .0), (told .ensures .1 .0, told .ensures .1 .1 .0))
 
 pub mavunilai-move-spec : {M : Type 1} → statement M
 mavunilai-move-spec =

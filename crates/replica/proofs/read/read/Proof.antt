@@ -1,4 +1,5 @@
--- `read` meets its contract: the part that was written is the front of the buffer.
+-- `read` meets its contract: the part that was written is the front of the buffer, and begins where the buffer does.
+use mathlib.Core.Path.{refl}
 use Rattle.replica.specs.ReadLaws.{read-front, read-length}
 use borrow.Author.Needs.{needs}
 use Rattle.replica.proofs.read.read.Statement.{statement}
@@ -9,13 +10,13 @@ read-into-requires c κs = search needs
 
 slice-aggregate-result : tie.Need-slice-aggregate-result
 slice-aggregate-result c =
-    let z = c .before .before .before .before .before .before .before in
-    read-length (z .args .book .now) (z .args .buffer .now) _ _ (c .before .before .before .read-into .ensures .0) (c .before .before .before .read-into .ensures .1)
+    let told = c .before .before .before .read-into .ensures in
+    read-length _ _ _ _ (told .0) (told .1)
 
 returns : tie.Need-returns
 returns c =
-    let z = c .before .before .before .before .before .before .before in
-    read-front (z .args .book .now) (z .args .buffer .now) _ _ (c .before .before .before .read-into .ensures .0) (c .before .before .before .read-into .ensures .1)
+    let told = c .before .before .before .read-into .ensures in
+    (read-front _ _ _ _ (told .0) (told .1), refl)
 
 pub read-spec : {M : Type 1} → statement M
 read-spec = tie.close (tie.spec read-into-requires slice-aggregate-result returns)

@@ -1,0 +1,26 @@
+-- `make_move` meets its contract: its answer is that of the moves, and so are the answer's numbers.
+use mathlib.Core.Path.{ap, _∙_}
+use Rattle.answers.specs.MoveNumbers.{answerNumbers}
+use Rattle.answers.specs.MoveNumbersLaws.{moved-numbers}
+use borrow.Author.Needs.{needs}
+use Rattle.replica.proofs.make_move.make_move.Statement.{statement}
+use Rattle.replica.proofs.make_move.make_move.Tie as tie
+
+make-move-requires : tie.Need-make-move-requires
+make-move-requires c κs = search needs
+
+same-length : tie.Need-same-length
+same-length c = search needs
+
+same-length-2 : tie.Need-same-length-2
+same-length-2 c = search needs
+
+returns : tie.Need-returns
+returns c =
+    let told = c .before .before .before .before .make-move in (
+      told .ensures .0,
+      (told .ensures .1 .0, (told .ensures .1 .1, moved-numbers _ ∙ ap answerNumbers (told .ensures .0))),
+    )
+
+pub make-move-spec : {M : Type 1} → statement M
+make-move-spec = tie.close (tie.spec make-move-requires same-length same-length-2 returns)
