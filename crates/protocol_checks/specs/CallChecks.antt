@@ -62,6 +62,16 @@ signalled : disagreement 1 (quiet 14 2)
 unfolding calls
 signalled = refl
 
+-- the timer's flag alone changes where the log and the pending entries are not empty
+signalled-on-a-log : disagreement 1 (splice 4 (1 ∷ []) (settled 3 (entriesFrom 5 3)))
+    (expect (signalling 1) (0 ∷ []) ((3, 1 ∷ []) ∷ []) [] ∷
+    expect (moving (replicate 448 9)) (0 ∷ 1 ∷ 1 ∷ []) ((3, 3 ∷ []) ∷ []) (dummyVote 2 1 ++ replicate 224 9) ∷
+    expect (moving (replicate 448 9)) (0 ∷ 3 ∷ 1 ∷ 5 ∷ 0 ∷ []) ((3, 0 ∷ 2 ∷ []) ∷ [])
+    (blockCertificate 1 11 first ++ zeros 224) ∷
+    expect (moving (replicate 448 9)) (0 ∷ 0 ∷ 0 ∷ []) [] (replicate 448 9) ∷ []) ≡ 0
+unfolding calls
+signalled-on-a-log = refl
+
 -- ---- Submit
 -- 13 for an entry that is pending, first or last, or in the log, first or last; 4 for other lengths, before 13; stale
 -- places are not pending

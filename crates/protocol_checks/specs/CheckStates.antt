@@ -45,7 +45,8 @@ passing test (x ∷ xs) =
 -- ---- heights and states
 -- a height with its leader, state, four masks, held proposal, notarized block and vote digests
 unfoldable pub height :
-    (leader status certificateMask dummyMask finalizeMask voterMask : ℕ) (proposal notarized voteDigests : Bytes) → Height
+    (leader status certificateMask dummyMask finalizeMask voterMask : ℕ)
+    (proposal notarized voteDigests : Bytes) → Height
 height leader status certificateMask dummyMask finalizeMask voterMask proposal notarized voteDigests = record {
   leader = leader;
   status = status;

@@ -31,6 +31,10 @@ of n lastReplica = state n 0 0 1 0 0 [] (vacant 0 ∷ vacant 1 ∷ vacant lastRe
 with : Height → State
 with x = state 4 0 0 1 0 0 [] (x ∷ [])
 
+-- sixteen replicas with this at height 1
+ofSixteen : Height → State
+ofSixteen x = state 16 0 0 1 0 0 [] (x ∷ [])
+
 first : Bytes
 first = newBlock 1 0 (zeros 32) (entry 1 ∷ [])
 
@@ -44,7 +48,7 @@ third : Bytes
 third = newBlock 3 0 (zeros 32) []
 
 unfoldable deliveries : Unit {0}
-unfolding stateTools number refusals of with first other second third
+unfolding stateTools number refusals of with ofSixteen first other second third
 deliveries = tt
 
 -- ---- 6: heights 0, 1, 3 and 4 of three, for each kind; a block of height 0 is malformed
@@ -125,11 +129,11 @@ digests = splice 480 (replicate 32 15) (splice 96 (replicate 32 3) (splice 32 (r
 
 -- sixteen replicas, of whom 0, 3 and 15 voted; a proposal is held and another block notarized
 busy : State
-busy = state 16 0 0 1 0 0 [] (height 0 3 65535 0 0 32777 first other digests ∷ [])
+busy = ofSixteen (height 0 3 65535 0 0 32777 first other digests)
 
 -- the same bytes where nothing is held, notarized or voted
 stale : State
-stale = state 16 0 0 1 0 0 [] (height 0 0 65535 0 0 0 first other digests ∷ [])
+stale = ofSixteen (height 0 0 65535 0 0 0 first other digests)
 
 clashes : map (λ s. refusals s
     (proposal 0 1 first ∷ proposal 0 1 other ∷ proposal 0 1 (splice 175 (1 ∷
@@ -174,17 +178,17 @@ unfolding deliveries numbersOf bodiesOf kept bodies
 keeping = tt
 
 -- single votes set a bit; a set one is known; the first and the last replica
-masks : kept (height 0 0 0 6 9 0 [] [] [])
+masks : kept (height 2 1 3 6 9 5 [] [] [])
     (dummyVote 0 1 ∷ dummyVote 1 1 ∷ dummyVote 2 1 ∷ dummyVote 3 1 ∷ finalize 0 1 ∷ finalize 1 1 ∷ finalize 2 1 ∷
     finalize 3 1 ∷
     dummyCertificate 1 14 ∷ dummyCertificate 1 7 ∷ dummyCertificate 1 15 ∷ finalizeCertificate 1 11 ∷
     finalizeCertificate 1 13 ∷
     finalizeCertificate 1 7 ∷ []) ≡
-    (0 ∷ 0 ∷ 0 ∷ 7 ∷ 9 ∷ 0 ∷ []) ∷ [] ∷ [] ∷ (0 ∷ 0 ∷ 0 ∷ 14 ∷ 9 ∷ 0 ∷ []) ∷
-    [] ∷ (0 ∷ 0 ∷ 0 ∷ 6 ∷ 11 ∷ 0 ∷ []) ∷ (0 ∷ 0 ∷ 0 ∷ 6 ∷ 13 ∷ 0 ∷ []) ∷ [] ∷
-    (0 ∷ 0 ∷ 0 ∷ 14 ∷ 9 ∷ 0 ∷ []) ∷ (0 ∷ 0 ∷ 0 ∷ 7 ∷ 9 ∷ 0 ∷ []) ∷ (0 ∷ 0 ∷ 0 ∷ 15 ∷ 9 ∷ 0 ∷ []) ∷
-    (0 ∷ 0 ∷ 0 ∷ 6 ∷ 11 ∷ 0 ∷ []) ∷ (0 ∷ 0 ∷ 0 ∷ 6 ∷ 13 ∷ 0 ∷ []) ∷
-    (0 ∷ 0 ∷ 0 ∷ 6 ∷ 15 ∷ 0 ∷ []) ∷ []
+    (2 ∷ 1 ∷ 3 ∷ 7 ∷ 9 ∷ 5 ∷ []) ∷ [] ∷ [] ∷ (2 ∷ 1 ∷ 3 ∷ 14 ∷ 9 ∷ 5 ∷ []) ∷
+    [] ∷ (2 ∷ 1 ∷ 3 ∷ 6 ∷ 11 ∷ 5 ∷ []) ∷ (2 ∷ 1 ∷ 3 ∷ 6 ∷ 13 ∷ 5 ∷ []) ∷ [] ∷
+    (2 ∷ 1 ∷ 3 ∷ 14 ∷ 9 ∷ 5 ∷ []) ∷ (2 ∷ 1 ∷ 3 ∷ 7 ∷ 9 ∷ 5 ∷ []) ∷ (2 ∷ 1 ∷ 3 ∷ 15 ∷ 9 ∷ 5 ∷ []) ∷
+    (2 ∷ 1 ∷ 3 ∷ 6 ∷ 11 ∷ 5 ∷ []) ∷ (2 ∷ 1 ∷ 3 ∷ 6 ∷ 13 ∷ 5 ∷ []) ∷
+    (2 ∷ 1 ∷ 3 ∷ 6 ∷ 15 ∷ 5 ∷ []) ∷ []
 unfolding keeping
 masks = refl
 
@@ -196,12 +200,12 @@ unfolding keeping
 known-masks = refl
 
 -- a proposal and a certified block where there is none, the other or both; masks of the other kinds stay
-blocks : map (λ status. kept (height 0 status 13 1 2 0 first other (zeros 512)) (proposal 0 1 first ∷
+blocks : map (λ status. kept (height 2 status 13 1 2 4 first other (zeros 512)) (proposal 0 1 first ∷
     blockCertificate 1 7 other ∷ []))
     (counting 0 4) ≡
-    ((0 ∷ 1 ∷ 13 ∷ 1 ∷ 2 ∷ 0 ∷ []) ∷ (0 ∷ 2 ∷ 7 ∷ 1 ∷ 2 ∷ 0 ∷ []) ∷ []) ∷
-    ([] ∷ (0 ∷ 3 ∷ 7 ∷ 1 ∷ 2 ∷ 0 ∷ []) ∷ []) ∷
-    ((0 ∷ 3 ∷ 13 ∷ 1 ∷ 2 ∷ 0 ∷ []) ∷ [] ∷ []) ∷
+    ((2 ∷ 1 ∷ 13 ∷ 1 ∷ 2 ∷ 4 ∷ []) ∷ (2 ∷ 2 ∷ 7 ∷ 1 ∷ 2 ∷ 4 ∷ []) ∷ []) ∷
+    ([] ∷ (2 ∷ 3 ∷ 7 ∷ 1 ∷ 2 ∷ 4 ∷ []) ∷ []) ∷
+    ((2 ∷ 3 ∷ 13 ∷ 1 ∷ 2 ∷ 4 ∷ []) ∷ [] ∷ []) ∷
     ([] ∷ [] ∷ []) ∷ []
 unfolding keeping
 blocks = refl
@@ -215,7 +219,8 @@ unfolding keeping
 block-places = refl
 
 -- a vote's digest at its signer's place, the first, a middle one and the last of sixteen; the others stay
-vote-places : map (λ s. bodiesOf (keep standIn (state 16 0 0 1 0 0 [] (height 0 0 0 0 0 16 [] [] (replicate 512 5) ∷ [])) (blockVote s 1 (counting 1 32))))
+vote-places : map
+    (λ s. bodiesOf (keep standIn (ofSixteen (height 0 0 0 0 0 16 [] [] (replicate 512 5))) (blockVote s 1 (counting 1 32))))
     (0 ∷ 3 ∷ 4 ∷ 15 ∷ []) ≡
     ([] ∷ [] ∷ (counting 1 32 ++ replicate 480 5) ∷ []) ∷
     ([] ∷ [] ∷ (replicate 96 5 ++ (counting 1 32 ++ replicate 384 5)) ∷ []) ∷
@@ -224,10 +229,10 @@ vote-places : map (λ s. bodiesOf (keep standIn (state 16 0 0 1 0 0 [] (height 0
 unfolding keeping
 vote-places = refl
 
-voter-masks : map (λ s. numbersOf (keep standIn (state 16 0 0 1 0 0 [] (height 0 0 0 0 0 16 [] [] (zeros 512) ∷
+voter-masks : map (λ s. numbersOf (keep standIn (state 16 0 0 1 0 0 [] (height 2 1 3 5 6 16 [] [] (zeros 512) ∷
     [])) (blockVote s 1 (zeros 32))))
     (0 ∷ 3 ∷ 4 ∷ 15 ∷ []) ≡
-    (0 ∷ 0 ∷ 0 ∷ 0 ∷ 0 ∷ 17 ∷ []) ∷ (0 ∷ 0 ∷ 0 ∷ 0 ∷ 0 ∷ 24 ∷ []) ∷ [] ∷ (0 ∷ 0 ∷ 0 ∷ 0 ∷ 0 ∷ 32784 ∷ []) ∷ []
+    (2 ∷ 1 ∷ 3 ∷ 5 ∷ 6 ∷ 17 ∷ []) ∷ (2 ∷ 1 ∷ 3 ∷ 5 ∷ 6 ∷ 24 ∷ []) ∷ [] ∷ (2 ∷ 1 ∷ 3 ∷ 5 ∷ 6 ∷ 32784 ∷ []) ∷ []
 unfolding keeping
 voter-masks = refl
 
@@ -241,8 +246,12 @@ repeated : ℕ → Bytes → Bytes
 repeated zero bytes = []
 repeated (suc count) bytes = bytes ++ repeated count bytes
 
+-- the last ten of sixteen replicas voted for the held proposal
+ballotsOfSixteen : Height
+ballotsOfSixteen = height 0 1 0 0 0 65472 first [] (repeated 16 (standIn first))
+
 unfoldable tallying : Unit {0}
-unfolding keeping ballots repeated
+unfolding keeping ballots repeated ballotsOfSixteen
 tallying = tt
 
 tallies : kept (height 0 0 0 0 0 7 [] [] ballots) (proposal 0 1 first ∷ blockVote 3 1 (standIn first) ∷ []) ++
@@ -269,10 +278,10 @@ tallied : bodies (height 0 1 0 0 0 7 first (zeros 176) ballots) (blockVote 3 1 (
 unfolding tallying
 tallied = refl
 
--- other frames do not notarize, even where the votes are a quorum; sixteen replicas with the last eleven
+-- other frames do not notarize, even where the votes are a quorum; the eleventh vote of sixteen does
 other-frames : kept (height 0 1 0 0 0 11 first [] ballots) (dummyVote 0 1 ∷ finalize 0 1 ∷ dummyCertificate 1 7 ∷
     finalizeCertificate 1 7 ∷ []) ++
-    map (λ s. numbersOf (keep standIn (state 16 0 0 1 0 0 [] (height 0 1 0 0 0 65472 first [] (repeated 16 (standIn first)) ∷ [])) (blockVote s 1 (standIn first))))
+    map (λ s. numbersOf (keep standIn (ofSixteen ballotsOfSixteen) (blockVote s 1 (standIn first))))
     (0 ∷ 5 ∷ []) ≡
     (0 ∷ 1 ∷ 0 ∷ 1 ∷ 0 ∷ 11 ∷ []) ∷ (0 ∷ 1 ∷ 0 ∷ 0 ∷ 1 ∷ 11 ∷ []) ∷ (0 ∷ 1 ∷ 0 ∷ 7 ∷ 0 ∷ 11 ∷ []) ∷ (0 ∷ 1 ∷ 0 ∷
     0 ∷ 7 ∷ 11 ∷ []) ∷

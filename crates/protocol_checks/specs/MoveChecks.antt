@@ -24,9 +24,9 @@ told s =
 overFlags : (ℕ → State) → List (List ℕ)
 overFlags make = map (λ flags. told (make flags)) (counting 0 16)
 
--- replica 2 of four with these heights, at a height, its log ending at another, no pending entries
+-- replica 2 of four with these heights, at a height, its log ending at another, five pending entries
 at : (flags current finalized : ℕ) → List Height → State
-at flags current finalized heights = state 4 2 flags current finalized 0 [] heights
+at flags current finalized heights = state 4 2 flags current finalized 5 (entriesFrom 20 5) heights
 
 -- three heights that others lead
 quiet : List Height
@@ -182,12 +182,15 @@ proposal-heights : map told
     at 0 3 0 (notarizedBy7 first ∷ dummied 7 ∷ vacant 3 ∷ []) ∷
     at 0 3 0 (notarizedBy7 first ∷ dummied 3 ∷ vacant 2 ∷ []) ∷
     at 0 2 0 (height 2 2 7 0 0 0 [] first [] ∷ vacant 1 ∷ vacant 2 ∷ []) ∷
+    -- with a log
+    at 0 2 1 (finalizedBy 7 first ∷ vacant 2 ∷ []) ∷
     -- replica 0 after the last height, which nobody leads
     state 4 0 0 3 0 0 [] (dummied 7 ∷ dummied 7 ∷ []) ∷ []) ≡
     (4 ∷ 3 ∷ 8 ∷ 3 ∷ 0 ∷ []) ∷
     (0 ∷ 0 ∷ 0 ∷ 3 ∷ 0 ∷ []) ∷
     (0 ∷ 0 ∷ 0 ∷ 3 ∷ 0 ∷ []) ∷
     (0 ∷ 0 ∷ 0 ∷ 2 ∷ 0 ∷ []) ∷
+    (4 ∷ 2 ∷ 8 ∷ 2 ∷ 1 ∷ []) ∷
     (0 ∷ 0 ∷ 0 ∷ 3 ∷ 0 ∷ []) ∷ []
 unfolding moves
 proposal-heights = refl
@@ -223,13 +226,16 @@ vote-heights : map told
     -- a notarized block that is not linked beside a proposal that is held and stands, and beside bytes that are not
     -- held
     at 0 1 0 (height 0 3 7 0 0 0 first second [] ∷ []) ∷
-    at 0 1 0 (height 0 2 7 0 0 0 first second [] ∷ []) ∷ []) ≡
+    at 0 1 0 (height 0 2 7 0 0 0 first second [] ∷ []) ∷
+    -- with a log
+    at 0 2 1 (finalizedBy 7 first ∷ holding second ∷ []) ∷ []) ≡
     (5 ∷ 3 ∷ 4 ∷ 3 ∷ 0 ∷ []) ∷
     (0 ∷ 0 ∷ 0 ∷ 2 ∷ 0 ∷ []) ∷
     (0 ∷ 0 ∷ 0 ∷ 2 ∷ 0 ∷ []) ∷
     (0 ∷ 0 ∷ 0 ∷ 1 ∷ 0 ∷ []) ∷
     (5 ∷ 1 ∷ 4 ∷ 1 ∷ 0 ∷ []) ∷
-    (0 ∷ 0 ∷ 0 ∷ 1 ∷ 0 ∷ []) ∷ []
+    (0 ∷ 0 ∷ 0 ∷ 1 ∷ 0 ∷ []) ∷
+    (5 ∷ 2 ∷ 4 ∷ 2 ∷ 1 ∷ []) ∷ []
 unfolding moves
 vote-heights = refl
 
