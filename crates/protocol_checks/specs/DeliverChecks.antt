@@ -272,6 +272,19 @@ tallies : kept (height 0 0 0 0 0 7 [] [] ballots) (proposal 0 1 first ∷ blockV
 unfolding tallying
 tallies = refl
 
+-- a digest that differs in its first or its last byte is another: with such votes of 1 and 2 there is no quorum
+nearBallots : Bytes
+nearBallots =
+    standIn first ++
+    (splice 0 (0 ∷ []) (standIn first) ++ (splice 31 (0 ∷ []) (standIn first) ++ (standIn first ++ zeros 384)))
+
+near-tallies : kept (height 0 1 0 0 0 3 first [] nearBallots) (blockVote 3 1 (standIn first) ∷ []) ++
+    (kept (height 0 1 0 0 0 5 first [] nearBallots) (blockVote 3 1 (standIn first) ∷ []) ++
+    kept (height 0 1 0 0 0 1 first [] nearBallots) (blockVote 3 1 (standIn first) ∷ [])) ≡
+    (0 ∷ 1 ∷ 0 ∷ 0 ∷ 0 ∷ 11 ∷ []) ∷ (0 ∷ 1 ∷ 0 ∷ 0 ∷ 0 ∷ 13 ∷ []) ∷ (0 ∷ 1 ∷ 0 ∷ 0 ∷ 0 ∷ 9 ∷ []) ∷ []
+unfolding tallying nearBallots
+near-tallies = refl
+
 -- the notarized block is the held one
 tallied : bodies (height 0 1 0 0 0 7 first (zeros 176) ballots) (blockVote 3 1 (standIn first)) ≡ first ∷ first ∷
     ballots ∷ []

@@ -130,14 +130,33 @@ linked-runs : map linkedHeights
 unfolding blocks linkedHeights
 linked-runs = refl
 
--- ---- stands: a block that no height holds, over the first two heights of a chain
-standing : passing (λ h. extends standIn (viewOf (notarizedBy7 first ∷ notarizedBy7 second ∷
-    [])) h third) (counting 1 4) ∷
-    passing (λ h. extends standIn (viewOf (onlyHeld ∷ notarizedBy7 second ∷ [])) h third) (counting 1 4) ∷
-    passing (λ h. extends standIn (viewOf (vacant 0 ∷ [])) h first) (counting 1 4) ∷ [] ≡ (3 ∷ []) ∷ [] ∷ (1 ∷
-    []) ∷ []
-unfolding blocks
+-- ---- stands: a block that no height holds, at heights 1 to 4
+unlinked : Bytes
+unlinked = newBlock 2 1 wrongLast []
+
+standsAt : List Height → Bytes → List ℕ
+standsAt heights block = passing (λ h. extends standIn (viewOf heights) h block) (counting 1 4)
+
+-- on a chain, and not where its first block is held alone; on height 0; on a block that is not linked, above one that is;
+-- on a linked block above heights that are not
+standing : standsAt (notarizedBy7 first ∷ notarizedBy7 second ∷ []) third ∷
+    standsAt (onlyHeld ∷ notarizedBy7 second ∷ []) third ∷
+    standsAt (vacant 0 ∷ []) first ∷
+    standsAt (notarizedBy7 first ∷ notarizedBy7 unlinked ∷ []) (newBlock 3 2 (standIn unlinked) []) ∷
+    standsAt (dummied 7 ∷ dummied 7 ∷ notarizedBy7 thirdAlone ∷ []) (newBlock 4 3 (standIn thirdAlone) []) ∷ [] ≡
+    (3 ∷ []) ∷ [] ∷ (1 ∷ []) ∷ [] ∷ (4 ∷ []) ∷ []
+unfolding blocks unlinked standsAt
 standing = refl
+
+-- ---- what a view has of each height
+distinct : View
+distinct = viewOf (height 1 2 3 4 5 6 first second [] ∷ height 6 1 8 9 10 11 second first [] ∷ [])
+
+viewed : map (λ h. distinct .certificateMask h) (counting 1 2) ++
+    (map (λ h. distinct .dummyMask h) (counting 1 2) ++ map (λ h. distinct .finalizeMask h) (counting 1 2)) ≡
+    3 ∷ 8 ∷ 4 ∷ 9 ∷ 5 ∷ 10 ∷ []
+unfolding blocks distinct
+viewed = refl
 
 -- ---- finalized: linked, with a quorum of finalizes
 finalizes : ℕ → Bytes → Height
