@@ -269,6 +269,9 @@ frames : writes
     at 3 1 1 (height 1 3 11 1 2 4 second first [] ∷ []) ∷
     at 0 1 0 (height 1 1 2 13 1 4 second first [] ∷ []) ∷
     at 3 1 0 (height 1 1 2 13 1 4 second first [] ∷ []) ∷
+    at 0 2 0 (notarizedBy7 first ∷ height 1 3 11 1 2 4 first second [] ∷ []) ∷
+    at 0 2 0 (notarizedBy7 first ∷ height 1 1 2 13 1 4 first third [] ∷ []) ∷
+    at 0 2 0 (notarizedBy7 first ∷ holding second ∷ []) ∷
     -- a vote for the held proposal and not for the notarized block, which is not linked
     at 0 1 0 (height 1 3 7 0 0 0 first second [] ∷ []) ∷
     at 0 1 0 quiet ∷ []) ≡
@@ -278,6 +281,9 @@ frames : writes
     (blockCertificate 1 11 first ++ zeros 224) ∷
     (dummyCertificate 1 13 ++ finalize 2 1) ∷
     (dummyCertificate 1 13 ++ zeros 224) ∷
+    (blockCertificate 2 11 second ++ finalize 2 2) ∷
+    (dummyCertificate 2 13 ++ finalize 2 2) ∷
+    blockVote 2 2 (standIn second) ∷
     blockVote 2 1 (standIn first) ∷
     [] ∷ []
 unfolding moves ended writes
