@@ -106,7 +106,8 @@ room = refl
 
 -- what is dropped, closed up, appended and zeroed: the first, a middle and the last of the pending entries are in the
 -- log
-submitted : disagreement 1 (settled 5 (entry 1 ++ (entry 7 ++ (entry 2 ++ (entry 8 ++ (entry 1 ++ replicate 32 5))))))
+submitted : disagreement 1
+    (splice 3 (13 ∷ []) (settled 5 (entry 1 ++ (entry 7 ++ (entry 2 ++ (entry 8 ++ (entry 1 ++ replicate 32 5)))))))
     (expect (submitting (entry 9)) (0 ∷ []) ((6, 3 ∷ []) ∷ (64, entry 7 ++ (entry 8 ++ (entry 9 ++ zeros 464))) ∷
     []) [] ∷
     expect (submitting (entry 10)) (0 ∷ []) ((6, 4 ∷ []) ∷ (112, entry 10) ∷ []) [] ∷
