@@ -154,6 +154,16 @@ clashes : map (λ s. refusals s
 unfolding deliveries digests busy stale
 clashes = refl
 
+-- blocks of eight entries that differ in their last byte
+crowded : Bytes
+crowded = newBlock 1 0 (zeros 32) (replicate 8 (entry 1))
+
+near-clashes : refusals (with (height 0 3 7 0 0 0 crowded crowded []))
+    (proposal 0 1 crowded ∷ proposal 0 1 (splice 175 (2 ∷ []) crowded) ∷ blockCertificate 1 7 crowded ∷
+    blockCertificate 1 7 (splice 175 (2 ∷ []) crowded) ∷ []) ≡ 0 ∷ 8 ∷ 0 ∷ 10 ∷ []
+unfolding deliveries crowded
+near-clashes = refl
+
 -- ---- what is kept
 -- a height's numbers: leader, state, masks of the certificate, dummies, finalizes and voters; none where the frame is
 -- known
