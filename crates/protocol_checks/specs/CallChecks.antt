@@ -9,6 +9,7 @@ use Rattle.protocol.specs.Bytes.{Bytes, zeros, part}
 use Rattle.protocol.specs.Tests.{allOf}
 use Rattle.protocol.specs.Block.{newBlock}
 use Rattle.protocol.specs.Frame.{dummyVote, finalize, blockCertificate, dummyCertificate, finalizeCertificate}
+use Rattle.protocol.specs.Fetch.{fetchCall}
 use Rattle.protocol_checks.specs.CheckCalls.{standIn, Call, delivery, moving, signalling, submitting, sizing, reading, fetching, Result, perform, refuses, splice, expect, disagreement}
 use Rattle.protocol_checks.specs.CheckStates.{entry, counting, entriesFrom, stateTools}
 
@@ -162,6 +163,12 @@ fetches : disagreement 1 unlinked
     expect (fetching 7 2 (replicate 224 9)) (11 ∷ []) [] (replicate 224 9) ∷ []) ≡ 0
 unfolding calls unlinked
 fetches = refl
+
+-- the frames written, as a list: that one, or none
+fetched-frames : fetchCall standIn unlinked 6 1 (zeros 224) .frames ++ fetchCall standIn unlinked 6 2 (zeros 224) .frames ≡
+    dummyCertificate 1 11 ∷ []
+unfolding calls unlinked
+fetched-frames = refl
 
 -- 4 for kinds outside 5 to 7, 6 for heights outside 1 to H, 3 for replies below 224; in this order, and 11 after them
 fetch-refusals : map (λ k. answer unlinked (fetching k 1 (zeros 224))) (counting 0 9) ++
