@@ -1,0 +1,332 @@
+-- The five moves over small states: each condition of each move where it alone decides, their order, what each writes
+-- and leaves.
+use Prim.Native.Nat.{ℕ, zero, suc}
+use mathlib.Core.Path.{_≡_, refl}
+use mathlib.Core.List.{List, [], _∷_, _++_, map}
+use lib.ListN.{replicate}
+use Rattle.protocol.specs.Bytes.{Bytes, zeros, join}
+use Rattle.protocol.specs.Block.{newBlock}
+use Rattle.protocol.specs.Frame.{proposal, blockVote, dummyVote, finalize, blockCertificate, dummyCertificate}
+use Rattle.protocol.specs.State.{State, Height}
+use Rattle.protocol.specs.Move.{Step, step, written}
+use Rattle.protocol_checks.specs.CheckCalls.{standIn, moveNumbers}
+use Rattle.protocol_checks.specs.CheckStates.{entry, counting, entriesFrom, height, vacant, dummied, notarizedBy7, state, stateTools}
+
+-- ---- states and what a move says of them
+-- the move's numbers (document 01's number, the height, and of a pass its certificate and 4 or 0), then the flags, c
+-- and g after it
+told : State → List ℕ
+told s =
+    let st : Step = step standIn s in
+    moveNumbers (st .move) ++ (st .after .flags ∷ st .after .current ∷ st .after .finalized ∷ [])
+
+-- the same for a state with each value of its flags
+overFlags : (ℕ → State) → List (List ℕ)
+overFlags make = map (λ flags. told (make flags)) (counting 0 16)
+
+-- replica 2 of four with these heights, at a height, its log ending at another, five pending entries
+at : (flags current finalized : ℕ) → List Height → State
+at flags current finalized heights = state 4 2 flags current finalized 5 (entriesFrom 20 5) heights
+
+-- three heights that others lead
+quiet : List Height
+quiet = vacant 0 ∷ vacant 1 ∷ vacant 3 ∷ []
+
+first : Bytes
+first = newBlock 1 0 (zeros 32) (entry 1 ∷ [])
+
+second : Bytes
+second = newBlock 2 1 (standIn first) (entry 2 ∷ [])
+
+third : Bytes
+third = newBlock 3 2 (standIn second) []
+
+-- a height with a block and a mask of finalizes; one that replica 2 leads; one where a proposal is held
+finalizedBy : ℕ → Bytes → Height
+finalizedBy mask block = height 0 2 7 0 mask 0 [] block []
+
+holding : Bytes → Height
+holding block = height 0 1 0 0 0 0 block [] []
+
+unfoldable moves : Unit {0}
+unfolding stateTools told overFlags at quiet first second third finalizedBy holding
+moves = tt
+
+-- ---- move 1: c ≤ H, the timer fired (flag 1), no dummy vote cast (flag 2)
+dummy-votes : overFlags (λ flags. at flags 1 0 quiet) ≡
+    (0 ∷ 0 ∷ 0 ∷ 1 ∷ 0 ∷ []) ∷
+    (1 ∷ 1 ∷ 3 ∷ 1 ∷ 0 ∷ []) ∷
+    (0 ∷ 0 ∷ 2 ∷ 1 ∷ 0 ∷ []) ∷
+    (0 ∷ 0 ∷ 3 ∷ 1 ∷ 0 ∷ []) ∷
+    (0 ∷ 0 ∷ 4 ∷ 1 ∷ 0 ∷ []) ∷
+    (1 ∷ 1 ∷ 7 ∷ 1 ∷ 0 ∷ []) ∷
+    (0 ∷ 0 ∷ 6 ∷ 1 ∷ 0 ∷ []) ∷
+    (0 ∷ 0 ∷ 7 ∷ 1 ∷ 0 ∷ []) ∷
+    (0 ∷ 0 ∷ 8 ∷ 1 ∷ 0 ∷ []) ∷
+    (1 ∷ 1 ∷ 11 ∷ 1 ∷ 0 ∷ []) ∷
+    (0 ∷ 0 ∷ 10 ∷ 1 ∷ 0 ∷ []) ∷
+    (0 ∷ 0 ∷ 11 ∷ 1 ∷ 0 ∷ []) ∷
+    (0 ∷ 0 ∷ 12 ∷ 1 ∷ 0 ∷ []) ∷
+    (1 ∷ 1 ∷ 15 ∷ 1 ∷ 0 ∷ []) ∷
+    (0 ∷ 0 ∷ 14 ∷ 1 ∷ 0 ∷ []) ∷
+    (0 ∷ 0 ∷ 15 ∷ 1 ∷ 0 ∷ []) ∷ []
+unfolding moves
+dummy-votes = refl
+
+-- at the last height, and after it
+dummy-vote-heights : told (at 1 2 0 quiet) ∷ told (at 1 3 0 quiet) ∷ told (at 1 4 0 quiet) ∷ [] ≡
+    (1 ∷ 2 ∷ 3 ∷ 2 ∷ 0 ∷ []) ∷ (1 ∷ 3 ∷ 3 ∷ 3 ∷ 0 ∷ []) ∷ (0 ∷ 0 ∷ 1 ∷ 4 ∷ 0 ∷ []) ∷ []
+unfolding moves
+dummy-vote-heights = refl
+
+-- ---- move 2: the largest finalized height exceeds g; at any c, above it and after the last
+ended : List Height
+ended = finalizedBy 7 first ∷ finalizedBy 3 second ∷ finalizedBy 14 third ∷ []
+
+outputs : map told
+    (at 0 4 0 ended ∷ at 15 4 1 ended ∷ at 3 4 2 ended ∷ at 0 4 3 ended ∷
+    at 6 1 0 ended ∷ at 6 1 3 ended ∷
+    at 0 4 0 (finalizedBy 7 first ∷ vacant 0 ∷ vacant 0 ∷ []) ∷
+    at 0 4 1 (finalizedBy 7 first ∷ vacant 0 ∷ vacant 0 ∷ []) ∷
+    -- finalizes without a block
+    at 0 4 0 (height 0 1 0 0 15 0 first [] [] ∷ []) ∷ []) ≡
+    (2 ∷ 3 ∷ 0 ∷ 4 ∷ 3 ∷ []) ∷
+    (2 ∷ 3 ∷ 15 ∷ 4 ∷ 3 ∷ []) ∷
+    (2 ∷ 3 ∷ 3 ∷ 4 ∷ 3 ∷ []) ∷
+    (0 ∷ 0 ∷ 0 ∷ 4 ∷ 3 ∷ []) ∷
+    (2 ∷ 3 ∷ 6 ∷ 1 ∷ 3 ∷ []) ∷
+    (3 ∷ 1 ∷ 5 ∷ 4 ∷ 0 ∷ 2 ∷ 3 ∷ []) ∷
+    (2 ∷ 1 ∷ 0 ∷ 4 ∷ 1 ∷ []) ∷
+    (0 ∷ 0 ∷ 0 ∷ 4 ∷ 1 ∷ []) ∷
+    (0 ∷ 0 ∷ 0 ∷ 4 ∷ 0 ∷ []) ∷ []
+unfolding moves ended
+outputs = refl
+
+-- ---- move 3: c ≤ H, and c is linked, or c is dummy and some chain of height c − 1 exists
+-- with each value of the flags: flag 1 alone decides on the finalize, and no flag is left
+passes : overFlags (λ flags. at flags 1 0 (notarizedBy7 first ∷ [])) ≡
+    (3 ∷ 1 ∷ 5 ∷ 4 ∷ 0 ∷ 2 ∷ 0 ∷ []) ∷
+    (1 ∷ 1 ∷ 3 ∷ 1 ∷ 0 ∷ []) ∷
+    (3 ∷ 1 ∷ 5 ∷ 4 ∷ 0 ∷ 2 ∷ 0 ∷ []) ∷
+    (3 ∷ 1 ∷ 5 ∷ 0 ∷ 0 ∷ 2 ∷ 0 ∷ []) ∷
+    (3 ∷ 1 ∷ 5 ∷ 4 ∷ 0 ∷ 2 ∷ 0 ∷ []) ∷
+    (1 ∷ 1 ∷ 7 ∷ 1 ∷ 0 ∷ []) ∷
+    (3 ∷ 1 ∷ 5 ∷ 4 ∷ 0 ∷ 2 ∷ 0 ∷ []) ∷
+    (3 ∷ 1 ∷ 5 ∷ 0 ∷ 0 ∷ 2 ∷ 0 ∷ []) ∷
+    (3 ∷ 1 ∷ 5 ∷ 4 ∷ 0 ∷ 2 ∷ 0 ∷ []) ∷
+    (1 ∷ 1 ∷ 11 ∷ 1 ∷ 0 ∷ []) ∷
+    (3 ∷ 1 ∷ 5 ∷ 4 ∷ 0 ∷ 2 ∷ 0 ∷ []) ∷
+    (3 ∷ 1 ∷ 5 ∷ 0 ∷ 0 ∷ 2 ∷ 0 ∷ []) ∷
+    (3 ∷ 1 ∷ 5 ∷ 4 ∷ 0 ∷ 2 ∷ 0 ∷ []) ∷
+    (1 ∷ 1 ∷ 15 ∷ 1 ∷ 0 ∷ []) ∷
+    (3 ∷ 1 ∷ 5 ∷ 4 ∷ 0 ∷ 2 ∷ 0 ∷ []) ∷
+    (3 ∷ 1 ∷ 5 ∷ 0 ∷ 0 ∷ 2 ∷ 0 ∷ []) ∷ []
+unfolding moves
+passes = refl
+
+pass-heights : map told
+    -- on the block of the last height, and none after it; on a dummy after height 0, after a dummy, after a block
+    (at 0 3 0 (notarizedBy7 first ∷ notarizedBy7 second ∷ notarizedBy7 third ∷ []) ∷
+    at 0 4 0 (notarizedBy7 first ∷ notarizedBy7 second ∷ notarizedBy7 third ∷ []) ∷
+    at 3 1 0 (dummied 7 ∷ []) ∷
+    at 0 2 0 (dummied 7 ∷ dummied 11 ∷ []) ∷
+    at 0 3 0 (notarizedBy7 first ∷ dummied 7 ∷ dummied 13 ∷ []) ∷
+    at 0 4 0 (notarizedBy7 first ∷ dummied 7 ∷ dummied 13 ∷ []) ∷
+    -- a dummy without a chain below it; two dummy votes of four; a block that is not linked, and a dummy beside it
+    at 0 2 0 (vacant 0 ∷ dummied 7 ∷ []) ∷
+    at 0 3 0 (notarizedBy7 first ∷ vacant 0 ∷ dummied 7 ∷ []) ∷
+    at 0 1 0 (dummied 3 ∷ []) ∷
+    at 0 2 0 (dummied 7 ∷ notarizedBy7 second ∷ []) ∷
+    at 0 2 0 (dummied 7 ∷ height 0 2 7 7 0 0 [] second [] ∷ []) ∷
+    -- a linked block beside dummies, with a chain below it or by its parent alone
+    at 0 1 0 (height 0 2 7 7 0 0 [] first [] ∷ []) ∷ []) ≡
+    (3 ∷ 3 ∷ 5 ∷ 4 ∷ 0 ∷ 4 ∷ 0 ∷ []) ∷
+    (0 ∷ 0 ∷ 0 ∷ 4 ∷ 0 ∷ []) ∷
+    (3 ∷ 1 ∷ 6 ∷ 0 ∷ 0 ∷ 2 ∷ 0 ∷ []) ∷
+    (3 ∷ 2 ∷ 6 ∷ 4 ∷ 0 ∷ 3 ∷ 0 ∷ []) ∷
+    (3 ∷ 3 ∷ 6 ∷ 4 ∷ 0 ∷ 4 ∷ 0 ∷ []) ∷
+    (0 ∷ 0 ∷ 0 ∷ 4 ∷ 0 ∷ []) ∷
+    (0 ∷ 0 ∷ 0 ∷ 2 ∷ 0 ∷ []) ∷
+    (0 ∷ 0 ∷ 0 ∷ 3 ∷ 0 ∷ []) ∷
+    (0 ∷ 0 ∷ 0 ∷ 1 ∷ 0 ∷ []) ∷
+    (0 ∷ 0 ∷ 0 ∷ 2 ∷ 0 ∷ []) ∷
+    (3 ∷ 2 ∷ 6 ∷ 4 ∷ 0 ∷ 3 ∷ 0 ∷ []) ∷
+    (3 ∷ 1 ∷ 5 ∷ 4 ∷ 0 ∷ 2 ∷ 0 ∷ []) ∷ []
+unfolding moves
+pass-heights = refl
+
+-- ---- move 4: c ≤ H, own number leads c, not proposed (flag 8), some chain of height c − 1 exists
+proposals : overFlags (λ flags. at flags 1 0 (vacant 2 ∷ [])) ≡
+    (4 ∷ 1 ∷ 8 ∷ 1 ∷ 0 ∷ []) ∷
+    (1 ∷ 1 ∷ 3 ∷ 1 ∷ 0 ∷ []) ∷
+    (4 ∷ 1 ∷ 10 ∷ 1 ∷ 0 ∷ []) ∷
+    (4 ∷ 1 ∷ 11 ∷ 1 ∷ 0 ∷ []) ∷
+    (4 ∷ 1 ∷ 12 ∷ 1 ∷ 0 ∷ []) ∷
+    (1 ∷ 1 ∷ 7 ∷ 1 ∷ 0 ∷ []) ∷
+    (4 ∷ 1 ∷ 14 ∷ 1 ∷ 0 ∷ []) ∷
+    (4 ∷ 1 ∷ 15 ∷ 1 ∷ 0 ∷ []) ∷
+    (0 ∷ 0 ∷ 8 ∷ 1 ∷ 0 ∷ []) ∷
+    (1 ∷ 1 ∷ 11 ∷ 1 ∷ 0 ∷ []) ∷
+    (0 ∷ 0 ∷ 10 ∷ 1 ∷ 0 ∷ []) ∷
+    (0 ∷ 0 ∷ 11 ∷ 1 ∷ 0 ∷ []) ∷
+    (0 ∷ 0 ∷ 12 ∷ 1 ∷ 0 ∷ []) ∷
+    (1 ∷ 1 ∷ 15 ∷ 1 ∷ 0 ∷ []) ∷
+    (0 ∷ 0 ∷ 14 ∷ 1 ∷ 0 ∷ []) ∷
+    (0 ∷ 0 ∷ 15 ∷ 1 ∷ 0 ∷ []) ∷ []
+unfolding moves
+proposals = refl
+
+proposal-heights : map told
+    -- at the last height; where another leads; without a chain below; where it leads the heights beside c alone
+    (at 0 3 0 (notarizedBy7 first ∷ dummied 7 ∷ vacant 2 ∷ []) ∷
+    at 0 3 0 (notarizedBy7 first ∷ dummied 7 ∷ vacant 3 ∷ []) ∷
+    at 0 3 0 (notarizedBy7 first ∷ dummied 3 ∷ vacant 2 ∷ []) ∷
+    at 0 2 0 (height 2 2 7 0 0 0 [] first [] ∷ vacant 1 ∷ vacant 2 ∷ []) ∷
+    -- with a log
+    at 0 2 1 (finalizedBy 7 first ∷ vacant 2 ∷ []) ∷
+    -- replica 0 after the last height, which nobody leads
+    state 4 0 0 3 0 0 [] (dummied 7 ∷ dummied 7 ∷ []) ∷ []) ≡
+    (4 ∷ 3 ∷ 8 ∷ 3 ∷ 0 ∷ []) ∷
+    (0 ∷ 0 ∷ 0 ∷ 3 ∷ 0 ∷ []) ∷
+    (0 ∷ 0 ∷ 0 ∷ 3 ∷ 0 ∷ []) ∷
+    (0 ∷ 0 ∷ 0 ∷ 2 ∷ 0 ∷ []) ∷
+    (4 ∷ 2 ∷ 8 ∷ 2 ∷ 1 ∷ []) ∷
+    (0 ∷ 0 ∷ 0 ∷ 3 ∷ 0 ∷ []) ∷ []
+unfolding moves
+proposal-heights = refl
+
+-- ---- move 5: c ≤ H, no block vote cast (flag 4), the held proposal of c stands
+votes : overFlags (λ flags. at flags 1 0 (holding first ∷ [])) ≡
+    (5 ∷ 1 ∷ 4 ∷ 1 ∷ 0 ∷ []) ∷
+    (1 ∷ 1 ∷ 3 ∷ 1 ∷ 0 ∷ []) ∷
+    (5 ∷ 1 ∷ 6 ∷ 1 ∷ 0 ∷ []) ∷
+    (5 ∷ 1 ∷ 7 ∷ 1 ∷ 0 ∷ []) ∷
+    (0 ∷ 0 ∷ 4 ∷ 1 ∷ 0 ∷ []) ∷
+    (1 ∷ 1 ∷ 7 ∷ 1 ∷ 0 ∷ []) ∷
+    (0 ∷ 0 ∷ 6 ∷ 1 ∷ 0 ∷ []) ∷
+    (0 ∷ 0 ∷ 7 ∷ 1 ∷ 0 ∷ []) ∷
+    (5 ∷ 1 ∷ 12 ∷ 1 ∷ 0 ∷ []) ∷
+    (1 ∷ 1 ∷ 11 ∷ 1 ∷ 0 ∷ []) ∷
+    (5 ∷ 1 ∷ 14 ∷ 1 ∷ 0 ∷ []) ∷
+    (5 ∷ 1 ∷ 15 ∷ 1 ∷ 0 ∷ []) ∷
+    (0 ∷ 0 ∷ 12 ∷ 1 ∷ 0 ∷ []) ∷
+    (1 ∷ 1 ∷ 15 ∷ 1 ∷ 0 ∷ []) ∷
+    (0 ∷ 0 ∷ 14 ∷ 1 ∷ 0 ∷ []) ∷
+    (0 ∷ 0 ∷ 15 ∷ 1 ∷ 0 ∷ []) ∷ []
+unfolding moves
+votes = refl
+
+vote-heights : map told
+    -- at the last height; a proposal at another height; one whose parent is not notarized; bytes that no state bit
+    -- covers
+    (at 0 3 0 (notarizedBy7 first ∷ notarizedBy7 second ∷ holding third ∷ []) ∷
+    at 0 2 0 (notarizedBy7 first ∷ vacant 0 ∷ holding third ∷ []) ∷
+    at 0 2 0 (holding first ∷ holding second ∷ []) ∷
+    at 0 1 0 (height 0 0 0 0 0 0 first [] [] ∷ []) ∷
+    -- a notarized block that is not linked beside a proposal that is held and stands, and beside bytes that are not
+    -- held
+    at 0 1 0 (height 0 3 7 0 0 0 first second [] ∷ []) ∷
+    at 0 1 0 (height 0 2 7 0 0 0 first second [] ∷ []) ∷
+    -- with a log
+    at 0 2 1 (finalizedBy 7 first ∷ holding second ∷ []) ∷ []) ≡
+    (5 ∷ 3 ∷ 4 ∷ 3 ∷ 0 ∷ []) ∷
+    (0 ∷ 0 ∷ 0 ∷ 2 ∷ 0 ∷ []) ∷
+    (0 ∷ 0 ∷ 0 ∷ 2 ∷ 0 ∷ []) ∷
+    (0 ∷ 0 ∷ 0 ∷ 1 ∷ 0 ∷ []) ∷
+    (5 ∷ 1 ∷ 4 ∷ 1 ∷ 0 ∷ []) ∷
+    (0 ∷ 0 ∷ 0 ∷ 1 ∷ 0 ∷ []) ∷
+    (5 ∷ 2 ∷ 4 ∷ 2 ∷ 1 ∷ []) ∷ []
+unfolding moves
+vote-heights = refl
+
+-- ---- the order: where all five apply, then without the first, and so on
+orders : map told
+    (at 1 1 0 (height 2 3 7 0 7 0 first first [] ∷ []) ∷
+    at 3 1 0 (height 2 3 7 0 7 0 first first [] ∷ []) ∷
+    at 3 1 1 (height 2 3 7 0 7 0 first first [] ∷ []) ∷
+    at 3 1 0 (height 2 1 7 0 7 0 first first [] ∷ []) ∷
+    at 11 1 0 (height 2 1 7 0 7 0 first first [] ∷ []) ∷
+    at 15 1 0 (height 2 1 7 0 7 0 first first [] ∷ []) ∷ []) ≡
+    (1 ∷ 1 ∷ 3 ∷ 1 ∷ 0 ∷ []) ∷
+    (2 ∷ 1 ∷ 3 ∷ 1 ∷ 1 ∷ []) ∷
+    (3 ∷ 1 ∷ 5 ∷ 0 ∷ 0 ∷ 2 ∷ 1 ∷ []) ∷
+    (4 ∷ 1 ∷ 11 ∷ 1 ∷ 0 ∷ []) ∷
+    (5 ∷ 1 ∷ 15 ∷ 1 ∷ 0 ∷ []) ∷
+    (0 ∷ 0 ∷ 15 ∷ 1 ∷ 0 ∷ []) ∷ []
+unfolding moves
+orders = refl
+
+-- ---- what each writes
+writes : List State → List Bytes
+writes states = map (λ s. written (step standIn s)) states
+
+frames : writes
+    (at 1 2 0 quiet ∷
+    at 0 4 0 ended ∷
+    -- a pass on a block, whose mask is not that of the dummies, finalizes or voters; on dummies; each with and
+    -- without a finalize
+    at 0 1 1 (height 1 3 11 1 2 4 second first [] ∷ []) ∷
+    at 3 1 1 (height 1 3 11 1 2 4 second first [] ∷ []) ∷
+    at 0 1 0 (height 1 1 2 13 1 4 second first [] ∷ []) ∷
+    at 3 1 0 (height 1 1 2 13 1 4 second first [] ∷ []) ∷
+    at 0 2 0 (notarizedBy7 first ∷ height 1 3 11 1 2 4 first second [] ∷ []) ∷
+    at 0 2 0 (notarizedBy7 first ∷ height 1 1 2 13 1 4 first third [] ∷ []) ∷
+    at 0 2 0 (notarizedBy7 first ∷ holding second ∷ []) ∷
+    -- a vote for the held proposal and not for the notarized block, which is not linked
+    at 0 1 0 (height 1 3 7 0 0 0 first second [] ∷ []) ∷
+    at 0 1 0 quiet ∷ []) ≡
+    dummyVote 2 2 ∷
+    [] ∷
+    (blockCertificate 1 11 first ++ finalize 2 1) ∷
+    (blockCertificate 1 11 first ++ zeros 224) ∷
+    (dummyCertificate 1 13 ++ finalize 2 1) ∷
+    (dummyCertificate 1 13 ++ zeros 224) ∷
+    (blockCertificate 2 11 second ++ finalize 2 2) ∷
+    (dummyCertificate 2 13 ++ finalize 2 2) ∷
+    blockVote 2 2 (standIn second) ∷
+    blockVote 2 1 (standIn first) ∷
+    [] ∷ []
+unfolding moves ended writes
+frames = refl
+
+-- ---- what a proposal carries
+-- replica 2 leads the last of these heights and is there, with so many pending entries: of bytes 1, 2, 3 and so on
+offering : ℕ → ℕ → List Height → State
+offering current count heights = state 4 2 0 current 0 count (entriesFrom 1 32) heights
+
+offers : writes
+    -- none; one; eight; nine; 32 pending, with nothing in the chain
+    (offering 1 0 (vacant 2 ∷ []) ∷
+    offering 1 1 (vacant 2 ∷ []) ∷
+    offering 1 8 (vacant 2 ∷ []) ∷
+    offering 1 9 (vacant 2 ∷ []) ∷
+    offering 1 32 (vacant 2 ∷ []) ∷
+    -- entries 1 and 2 in the chain: first those are left out, then eight are taken
+    offering 3 9 (notarizedBy7 first ∷ notarizedBy7 second ∷ vacant 2 ∷ []) ∷
+    offering 3 10 (notarizedBy7 first ∷ notarizedBy7 second ∷ vacant 2 ∷ []) ∷
+    offering 3 11 (notarizedBy7 first ∷ notarizedBy7 second ∷ vacant 2 ∷ []) ∷
+    -- the parent is the largest linked height; on the dummies above height 1, entry 1 alone is in the chain
+    offering 3 3 (notarizedBy7 first ∷ dummied 7 ∷ vacant 2 ∷ []) ∷
+    -- a block that is not linked is no part of the chain
+    offering 3 3 (dummied 7 ∷ height 0 2 7 7 0 0 [] second [] ∷ vacant 2 ∷ []) ∷ []) ≡
+    proposal 2 1 (newBlock 1 0 (zeros 32) []) ∷
+    proposal 2 1 (newBlock 1 0 (zeros 32) (entry 1 ∷ [])) ∷
+    proposal 2 1 (newBlock 1 0 (zeros 32) (map entry (counting 1 8))) ∷
+    proposal 2 1 (newBlock 1 0 (zeros 32) (map entry (counting 1 8))) ∷
+    proposal 2 1 (newBlock 1 0 (zeros 32) (map entry (counting 1 8))) ∷
+    proposal 2 3 (newBlock 3 2 (standIn second) (map entry (counting 3 7))) ∷
+    proposal 2 3 (newBlock 3 2 (standIn second) (map entry (counting 3 8))) ∷
+    proposal 2 3 (newBlock 3 2 (standIn second) (map entry (counting 3 8))) ∷
+    proposal 2 3 (newBlock 3 1 (standIn first) (map entry (counting 2 2))) ∷
+    proposal 2 3 (newBlock 3 0 (zeros 32) (map entry (counting 1 3))) ∷ []
+unfolding moves writes offering
+offers = refl
+
+-- pending entries that are alike are all offered; those in the chain are left out wherever they stand
+repeats : writes
+    (state 4 2 0 1 0 3 (entry 9 ++ (entry 9 ++ entry 9)) (vacant 2 ∷ []) ∷
+    state 4 2 0 2 0 4 (entry 9 ++ (entry 1 ++ (entry 8 ++ entry 1))) (notarizedBy7 first ∷ vacant 2 ∷ []) ∷ []) ≡
+    proposal 2 1 (newBlock 1 0 (zeros 32) (entry 9 ∷ entry 9 ∷ entry 9 ∷ [])) ∷
+    proposal 2 2 (newBlock 2 1 (standIn first) (entry 9 ∷ entry 8 ∷ [])) ∷ []
+unfolding moves writes
+repeats = refl
