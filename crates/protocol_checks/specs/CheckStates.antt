@@ -72,6 +72,7 @@ notarizedBy7 block = height 0 2 7 0 0 0 [] block []
 -- a state with its number of replicas, own number, flags, current and finalized height, pending entries and heights
 unfoldable pub state : (n own flags current finalized pendingCount : ℕ) → Bytes → List Height → State
 state n own flags current finalized pendingCount pool heights = record {
+  edition = 1;
   n = n;
   own = own;
   flags = flags;
