@@ -18,46 +18,59 @@ use Rattle.protocol.specs.ChainLaws.{log-suc, log-length, log-bound}
 use Rattle.protocol.specs.PiecesLaws.{join-append}
 use Rattle.fields.proofs.Places.{cut-part}
 use Rattle.sha256.specs.Digest.{sha256}
-use Rattle.state.specs.Walkable.{Walkable}
+use Rattle.state.specs.Walkable.{Walkable, WalkableAs}
+use Rattle.fields.specs.Shown.{viewOf}
+use Rattle.fields.specs.declared.kind.Kind.{Kind}
+use Rattle.fields.specs.declared.kind.Kind.the-variants.{Replica}
 use Rattle.protocol.specs.EntriesLaws.{log-start, entries-next, entries-done, entries-length, join-entries, holds-first, holds-next, holds-none, holds-back, holds-front}
 use Rattle.protocol.specs.FrontLaws.{front-join, front-none}
 
-pub record Step (book : Bytes) (h : ℕ) (block : Bytes) : Type 0 where
-  pub parent : Walkable book (byteAt block 2)
+-- a replica's book is walkable as its kind
+pub replica-walkable : {book : Bytes} {h : ℕ} → Walkable book h → WalkableAs Replica book h
+unfolding decode
+replica-walkable w = record {
+  shown = record { sized = w .readable .sized; replicas = w .readable .replicas; heights = w .readable .heights };
+  high = w .high;
+  is-linked = w .is-linked;
+  formed = w .formed;
+}
+
+pub record Step (kind : Kind) (book : Bytes) (h : ℕ) (block : Bytes) : Type 0 where
+  pub parent : WalkableAs kind book (byteAt block 2)
   pub below : byteAt block 2 < h
   pub size : length block ≡ 176
   pub few : byteAt block 4 ≤ 8
-  pub log : logAt (view (decode book)) h ≡ logAt (view (decode book)) (byteAt block 2) ++ entries block
+  pub log : logAt (viewOf kind book) h ≡ logAt (viewOf kind book) (byteAt block 2) ++ entries block
 
-pub walk-step : {book : Bytes} {h : ℕ} {block : Bytes} → Walkable book h → 0 < h → block ≡ at (decode book) h .notarized → Step book h block
+pub walk-step : {kind : Kind} {book : Bytes} {h : ℕ} {block : Bytes} → WalkableAs kind book h → 0 < h → block ≡ viewOf kind book .block h → Step kind book h block
 unfolding view parentHeight entryCount
 walk-step {h = zero} w low e = absurd (omega arith)
-walk-step {book} {h = suc i} w low e =
-    let (has, parent, on) = linked-parent sha256 (view (decode book)) i (w .is-linked) in
+walk-step {kind} {book} {h = suc i} w low e =
+    let (has, parent, on) = linked-parent sha256 (viewOf kind book) i (w .is-linked) in
     let lower = on .below in
-    let f : Formed (suc i) (at (decode book) (suc i) .notarized) = formed (suc i) _ (w .formed (suc i) (omega arith) has) in
+    let f : Formed (suc i) (viewOf kind book .block (suc i)) = formed (suc i) _ (w .formed (suc i) (omega arith) has) in
     let h-high = w .high in
-    subst (λ (b : Bytes). Step book (suc i) b) (sym e)
+    subst (λ (b : Bytes). Step kind book (suc i) b) (sym e)
     (record {
-      parent = record { readable = w .readable; high = omega arith; is-linked = parent; formed = w .formed };
+      parent = record { shown = w .shown; high = omega arith; is-linked = parent; formed = w .formed };
       below = lower;
       size = f .size;
       few = f .few-entries;
-      log = log-suc sha256 (view (decode book)) i (w .is-linked);
+      log = log-suc sha256 (viewOf kind book) i (w .is-linked);
     })
 
-pub walk-few : {book : Bytes} {h : ℕ} → Walkable book h → length (logAt (view (decode book)) h) ≤ 504
-walk-few {book} {h} w =
-    let bound = log-bound sha256 (view (decode book)) (w .formed) h (w .is-linked) in
+pub walk-few : {kind : Kind} {book : Bytes} {h : ℕ} → WalkableAs kind book h → length (logAt (viewOf kind book) h) ≤ 504
+walk-few {kind} {book} {h} w =
+    let bound = log-bound sha256 (viewOf kind book) (w .formed) h (w .is-linked) in
     let high = w .high in
-    let heights = w .readable .heights in
+    let heights = w .shown .heights in
     omega arith
 
-pub walk-parent : {book : Bytes} {h j : ℕ} {block : Bytes} → Step book h block → j ≡ byteAt block 2 → Walkable book j
-walk-parent {book} s e = subst (λ (k : ℕ). Walkable book k) (sym e) (s .parent)
+pub walk-parent : {kind : Kind} {book : Bytes} {h j : ℕ} {block : Bytes} → Step kind book h block → j ≡ byteAt block 2 → WalkableAs kind book j
+walk-parent {kind} {book} s e = subst (λ (k : ℕ). WalkableAs kind book k) (sym e) (s .parent)
 
-pub walk-count : {book : Bytes} {h j k : ℕ} {block : Bytes} → Step book h block → j ≡ byteAt block 2 → k ≡ byteAt block 4 →
-    length (logAt (view (decode book)) h) ≡ length (logAt (view (decode book)) j) + k
+pub walk-count : {kind : Kind} {book : Bytes} {h j k : ℕ} {block : Bytes} → Step kind book h block → j ≡ byteAt block 2 → k ≡ byteAt block 4 →
+    length (logAt (viewOf kind book) h) ≡ length (logAt (viewOf kind book) j) + k
 walk-count {block = block} s p q = rw (p, q) (ap length (s .log) ∙ rw (length-append, entries-length block))
 
 -- ---- whether the chain has an entry
@@ -75,13 +88,13 @@ module _ (x block : Bytes) (k : ℕ) where
   pub entries-over : byteAt block 4 ≤ k → holds x (drop k (entries block)) ≡ false
   entries-over h = ap (holds x) (entries-done block k h) ∙ holds-none x
 
-pub walk-found : {book : Bytes} {h : ℕ} {block : Bytes} (x : Bytes) → Step book h block → holds x (entries block) ≡ true → holds x (logAt (view (decode book)) h) ≡ true
-walk-found {book} {block = block} x s e = ap (holds x) (s .log) ∙ holds-back x (logAt (view (decode book)) (byteAt block 2)) (entries block) e
+pub walk-found : {kind : Kind} {book : Bytes} {h : ℕ} {block : Bytes} (x : Bytes) → Step kind book h block → holds x (entries block) ≡ true → holds x (logAt (viewOf kind book) h) ≡ true
+walk-found {kind} {book} {block = block} x s e = ap (holds x) (s .log) ∙ holds-back x (logAt (viewOf kind book) (byteAt block 2)) (entries block) e
 
-pub walk-on : {book : Bytes} {h j : ℕ} {block : Bytes} (x : Bytes) → Step book h block → j ≡ byteAt block 2 → holds x (entries block) ≡ false →
-    holds x (logAt (view (decode book)) h) ≡ holds x (logAt (view (decode book)) j)
-walk-on {book} {block = block} x s p e =
-    rw p (ap (holds x) (s .log) ∙ holds-front x (logAt (view (decode book)) (byteAt block 2)) (entries block) e)
+pub walk-on : {kind : Kind} {book : Bytes} {h j : ℕ} {block : Bytes} (x : Bytes) → Step kind book h block → j ≡ byteAt block 2 → holds x (entries block) ≡ false →
+    holds x (logAt (viewOf kind book) h) ≡ holds x (logAt (viewOf kind book) j)
+walk-on {kind} {book} {block = block} x s p e =
+    rw p (ap (holds x) (s .log) ∙ holds-front x (logAt (viewOf kind book) (byteAt block 2)) (entries block) e)
 
 -- ---- the entries of a block in one piece
 pub piece : (block : Bytes) (k : ℕ) → k ≡ byteAt block 4 → take (48 + 16 * k - 48) (drop 48 block) ≡ join (entries block)
@@ -93,13 +106,13 @@ piece-length block k size few =
     rw e (unfold part in length-part block 48 (16 * k) (omega arith))
 
 -- what is left to copy, and what is copied, make the whole
-pub copy-more : {book : Bytes} {h j k : ℕ} {block : Bytes} → Step book h block → j ≡ byteAt block 2 → k ≡ byteAt block 4 →
-    (buffer : Bytes) {end : ℕ} {after whole : Bytes} → end ≡ length (logAt (view (decode book)) h) → 16 * end ≤ length buffer →
-    overFront (join (logAt (view (decode book)) h)) buffer ≡ whole →
+pub copy-more : {kind : Kind} {book : Bytes} {h j k : ℕ} {block : Bytes} → Step kind book h block → j ≡ byteAt block 2 → k ≡ byteAt block 4 →
+    (buffer : Bytes) {end : ℕ} {after whole : Bytes} → end ≡ length (logAt (viewOf kind book) h) → 16 * end ≤ length buffer →
+    overFront (join (logAt (viewOf kind book) h)) buffer ≡ whole →
     after ≡ put buffer (16 * (end - k)) (take (48 + 16 * k - 48) (drop 48 block)) →
-    overFront (join (logAt (view (decode book)) j)) after ≡ whole
-copy-more {book} {h} {j} {k} {block} s p q buffer {end} {after} {whole} size room rest copied =
-    let v = view (decode book) in
+    overFront (join (logAt (viewOf kind book) j)) after ≡ whole
+copy-more {kind} {book} {h} {j} {k} {block} s p q buffer {end} {after} {whole} size room rest copied =
+    let v = viewOf kind book in
     let w = walk-parent s p in
     let count = walk-count s p q in
     let new = take (48 + 16 * k - 48) (drop 48 block) in

@@ -1,5 +1,5 @@
-// The entries of a chain: counting them, looking for one, and copying them out. Each walks back through parent heights once
-// and computes no digest.
+// The entries of a replica's book: those of its chains, and its pending ones, in what a chain lacks.
+use fields::kind::Kind;
 ghost use mathlib.Core.Path.{_≡_};
 ghost use mathlib.Core.List.{[], _∷_, _++_};
 ghost use Prim.Native.Nat.{_*_, _<_, _≤_};
@@ -14,73 +14,30 @@ ghost use Rattle.protocol.specs.Submit.{stillPending, withPending};
 ghost use Rattle.fields.specs.Ready.{Sized, Ready};
 ghost use Rattle.state.specs.Walkable.{Walkable};
 
-// How many entries the chain that ends in height `h` has. Reads two bytes of each of its blocks, 63 at most.
+// How many entries the chain that ends in height `h` has.
 pub fn chain_entries(book: &[u8], h: usize) -> usize
     requires { ⌜ Walkable (now book) h ⌝ }
     ensures { λ r. ⌜ (r ≡ length (logAt (view (decode (now (book .entry)))) h)) × (r ≤ 504) ⌝ }
 {
-    let mut sum = 0;
-    let mut at = h;
-    while 0 < at {
-        let block = fields::height::notarized(book, at);
-        sum += wire::bytes::byte(block, 4);
-        at = wire::bytes::byte(block, 2);
-    }
-    sum
+    crate::chains::chain_entries(Kind::Replica, book, h)
 }
 
-// Whether a block has this entry. Compares at most eight entries.
-fn block_holds(block: &[u8], entry: &[u8]) -> bool
-    requires { ⌜ (length (now block) ≡ 176) × (byteAt (now block) 4 ≤ 8) ⌝ }
-    ensures { λ r. ⌜ r ≡ holds (now (entry .entry)) (entries (now (block .entry))) ⌝ }
-{
-    let count = wire::bytes::byte(block, 4);
-    let mut k = 0;
-    while k < count {
-        let from = 48 + 16 * k;
-        if wire::bytes::same_bytes(entry, &block[from..from + 16]) {
-            return true;
-        } else {
-            k += 1;
-        }
-    }
-    false
-}
-
-// Whether the chain that ends in height `h` has this entry. Looks at each of its blocks, 63 at most, newest first.
+// Whether the chain that ends in height `h` has this entry.
 pub fn chain_holds(book: &[u8], h: usize, entry: &[u8]) -> bool
     requires { ⌜ Walkable (now book) h ⌝ }
     ensures { λ r. ⌜ r ≡ holds (now (entry .entry)) (logAt (view (decode (now (book .entry)))) h) ⌝ }
 {
-    let mut at = h;
-    while 0 < at {
-        let block = fields::height::notarized(book, at);
-        if block_holds(block, entry) {
-            return true;
-        } else {
-            at = wire::bytes::byte(block, 2);
-        }
-    }
-    false
+    crate::chains::chain_holds(Kind::Replica, book, h, entry)
 }
 
-// Copies the `count` entries of the chain that ends in height `h` to the front of the buffer, oldest first. Walks back from
-// the newest block, 63 blocks at most, and copies the entries of each at once to their place.
+// Copies the `count` entries of the chain that ends in height `h` to the front of the buffer, oldest first.
 pub fn copy_chain(book: &[u8], h: usize, count: usize, buffer: &mut [u8])
     requires { ⌜ Walkable (now book) h ⌝ }
     requires { ⌜ count ≡ length (logAt (view (decode (now book))) h) ⌝ }
     requires { ⌜ 16 * count ≤ length (now buffer) ⌝ }
     ensures { λ _. ⌜ now (buffer .exit) ≡ overFront (join (logAt (view (decode (now (book .entry)))) h)) (now (buffer .entry)) ⌝ }
 {
-    let mut end = count;
-    let mut at = h;
-    while 0 < at {
-        let block = fields::height::notarized(book, at);
-        let size = wire::bytes::byte(block, 4);
-        end -= size;
-        wire::bytes::copy_to(buffer, 16 * end, &block[48..48 + 16 * size]);
-        at = wire::bytes::byte(block, 2);
-    }
+    crate::chains::copy_chain(Kind::Replica, book, h, count, buffer)
 }
 
 // Makes the block of height `c` on the block of height `j`, with the first eight pending entries that the chain ending in

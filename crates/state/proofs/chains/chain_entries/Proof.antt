@@ -6,61 +6,63 @@ use lib.ListN.{length}
 use Rattle.protocol.specs.State.{decode}
 use Rattle.protocol.specs.Sound.{view}
 use Rattle.protocol.specs.View.{logAt}
-use Rattle.state.specs.Walkable.{Walkable}
+use Rattle.state.specs.Walkable.{WalkableAs}
+use Rattle.fields.specs.Shown.{viewOf}
 use Rattle.protocol.specs.EntriesLaws.{log-start}
 use Rattle.state.proofs.ChainWalk.{walk-step, walk-few, walk-parent, walk-count}
-use Rattle.state.proofs.entries.chain_entries.Statement.{statement}
-use Rattle.state.proofs.entries.chain_entries.Tie as tie
+use Rattle.state.proofs.chains.chain_entries.Statement.{statement}
+use Rattle.state.proofs.chains.chain_entries.Tie as tie
 
 abbrev Inv-loop : tie.InvT-loop
-Inv-loop book h sum₀ at₀ sum at = Walkable book at × (sum + length (logAt (view (decode book)) at) ≡ length (logAt (view (decode book)) h))
+Inv-loop kind book h sum₀ at₀ sum at = WalkableAs kind book at × (sum + length (logAt (viewOf kind book) at) ≡ length (logAt (viewOf kind book) h))
 
 abbrev μ-loop : tie.MeasureT-loop
-μ-loop book h sum₀ at₀ sum at = at
+μ-loop kind book h sum₀ at₀ sum at = at
 
 loop-holds : tie.Need-loop-holds Inv-loop μ-loop
 loop-holds c = (c .before .pre, omega arith)
 
-notarized-requires : tie.Need-notarized-requires Inv-loop μ-loop
-notarized-requires c κs =
+block-requires : tie.Need-block-requires Inv-loop μ-loop
+block-requires c κs =
     let w = c .before .loop .inv .0 in
     let high = w .high in
-    (w .readable .sized, record { low = omega arith; high = high })
+    (w .shown, record { low = omega arith; high = high })
 
 byte-requires : tie.Need-byte-requires Inv-loop μ-loop
 byte-requires c κs =
-    let step = walk-step (c .before .before .loop .inv .0) (c .before .loop-test .taken) (c .notarized .ensures) in
+    let step = walk-step (c .before .before .loop .inv .0) (c .before .loop-test .taken) (c .block .ensures .0) in
     omega arith
 
 add-sum : tie.Need-add-sum Inv-loop μ-loop
 add-sum c =
     let at = c .before .before .before in
-    let step = walk-step (at .loop .inv .0) (c .before .before .loop-test .taken) (c .before .notarized .ensures) in
+    let step = walk-step (at .loop .inv .0) (c .before .before .loop-test .taken) (c .before .block .ensures .0) in
     let few = walk-few (at .before .before .pre) in
     omega arith
 
 byte-requires-2 : tie.Need-byte-requires-2 Inv-loop μ-loop
 byte-requires-2 c κs =
-    let step = walk-step (c .before .before .before .loop .inv .0) (c .before .before .loop-test .taken) (c .before .notarized .ensures) in
+    let step = walk-step (c .before .before .before .loop .inv .0) (c .before .before .loop-test .taken) (c .before .block .ensures .0) in
     omega arith
 
 loop-less : tie.Need-loop-less Inv-loop μ-loop
 loop-less c =
     let turn = c .before .before in
-    let step = walk-step (turn .before .before .loop .inv .0) (turn .before .loop-test .taken) (turn .notarized .ensures) in
+    let step = walk-step (turn .before .before .loop .inv .0) (turn .before .loop-test .taken) (turn .block .ensures .0) in
     omega arith
 
 loop-again : tie.Need-loop-again Inv-loop μ-loop
 loop-again c =
     let turn = c .before .before in
-    let step = walk-step (turn .before .before .loop .inv .0) (turn .before .loop-test .taken) (turn .notarized .ensures) in
+    let step = walk-step (turn .before .before .loop .inv .0) (turn .before .loop-test .taken) (turn .block .ensures .0) in
     let count = walk-count step (c .byte2 .ensures .0) (c .before .byte .ensures .0) in
     (walk-parent step (c .byte2 .ensures .0), omega arith)
 
 returns : tie.Need-returns Inv-loop μ-loop
 returns c =
+    let kind = c .before .before .before .args .kind in
     let book = c .before .before .before .args .book .now in
-    let none = ap length (log-start (view (decode book)) (c .before .loop .at) (c .loop-test .left)) in
+    let none = ap length (log-start (viewOf kind book) (c .before .loop .at) (c .loop-test .left)) in
     let few = walk-few (c .before .before .before .pre) in
     omega arith
 
@@ -71,7 +73,7 @@ chain-entries-spec =
     Inv-loop
     μ-loop
     loop-holds
-    notarized-requires
+    block-requires
     byte-requires
     add-sum
     byte-requires-2

@@ -7,8 +7,8 @@ use lib.ListN.{drop}
 use Rattle.protocol.specs.Bytes.{byteAt, holds}
 use Rattle.protocol.specs.Block.{entries}
 use Rattle.state.proofs.ChainWalk.{entry-found, entry-differs, entries-over}
-use Rattle.state.proofs.entries.block_holds.Statement.{statement}
-use Rattle.state.proofs.entries.block_holds.Tie as tie
+use Rattle.state.proofs.chains.block_holds.Statement.{statement}
+use Rattle.state.proofs.chains.block_holds.Tie as tie
 
 abbrev Inv-loop : tie.InvT-loop
 Inv-loop block entry count k₀ k = (k ≤ count) × (holds entry (entries block) ≡ holds entry (drop k (entries block)))
