@@ -37,5 +37,6 @@ for signer in range(3):
     fresh, *_ = taken(call("deliver", book, bytes([3, signer, 1]).ljust(224, b"\0")))
     print(f"blank vote of {signer}: {'fresh' if fresh else 'known'}")
 while (move := taken(call("move", book, reply)))[0]:
-    print(f"move {move[0]} at height {move[1]}: certificate {move[2]}, finalise {move[3]}")
+    made, low, high, certificate, finalise, *_ = move
+    print(f"move {made} at height {low + 256 * high}: certificate {certificate}, finalise {finalise}")
 print(f"current height {book.raw[4]}, settled height {book.raw[5]}")

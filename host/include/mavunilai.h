@@ -196,17 +196,17 @@ static inline unsigned mavunilai_made(mavunilai_answer answer) {
 
 /* Move: its height. */
 static inline unsigned mavunilai_height(mavunilai_answer answer) {
-    return (unsigned)(answer.packed >> 16 & 255u);
+    return (unsigned)(answer.packed >> 16 & 65535u);
 }
 
 /* Move: of a pass the kind of the first frame. */
 static inline unsigned mavunilai_certificate(mavunilai_answer answer) {
-    return (unsigned)(answer.packed >> 24 & 255u);
+    return (unsigned)(answer.packed >> 32 & 255u);
 }
 
 /* Move: of a pass 4 if the second frame is a finalise. */
 static inline unsigned mavunilai_finalise(mavunilai_answer answer) {
-    return (unsigned)(answer.packed >> 32 & 255u);
+    return (unsigned)(answer.packed >> 40 & 255u);
 }
 
 /* Move: how many frames it wrote to the front of the reply, 0, 1 or 2. */

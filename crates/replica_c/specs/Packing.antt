@@ -22,10 +22,11 @@ passKinds (pass h certificate finalized) = certificateKind certificate + 256 * f
 passKinds (propose h) = 0
 passKinds (voteBlock h) = 0
 
--- Move: byte 1 is the move's number, byte 2 its height (at most 63), byte 3 the certificate's kind, byte 4 the finalize's kind
+-- Move: byte 1 is the move's number, bytes 2 and 3 its height (at most 63), byte 4 the certificate's kind, byte 5 the
+-- finalize's kind
 unfoldable pub packedMove : Answer Move → ℕ
 packedMove (refused number) = number
-packedMove (accepted move) = 256 * moveNumber move + 65536 * moveHeight move + 16777216 * passKinds move
+packedMove (accepted move) = 256 * moveNumber move + 65536 * moveHeight move + 4294967296 * passKinds move
 
 -- the height that an answer of Move names, and 0 for a refusal; at most 63 (PackingLaws)
 unfoldable pub answeredHeight : Answer Move → ℕ

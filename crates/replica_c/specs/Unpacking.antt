@@ -25,15 +25,15 @@ unpackedMove answer = bitAnd (answer / 2 ^ 8) 255
 
 -- mavunilai_height
 unfoldable pub unpackedHeight : ℕ → ℕ
-unpackedHeight answer = bitAnd (answer / 2 ^ 16) 255
+unpackedHeight answer = bitAnd (answer / 2 ^ 16) 65535
 
 -- mavunilai_certificate
 unfoldable pub unpackedCertificate : ℕ → ℕ
-unpackedCertificate answer = bitAnd (answer / 2 ^ 24) 255
+unpackedCertificate answer = bitAnd (answer / 2 ^ 32) 255
 
 -- mavunilai_finalise
 unfoldable pub unpackedFinalize : ℕ → ℕ
-unpackedFinalize answer = bitAnd (answer / 2 ^ 32) 255
+unpackedFinalize answer = bitAnd (answer / 2 ^ 40) 255
 
 -- mavunilai_bytes
 unfoldable pub unpackedSize : ℕ → ℕ

@@ -42,6 +42,9 @@ use Rattle.replica_c.specs.Unpacking.{Numbered, DoneRead, DeliveryRead, 
 byte : (n : ℕ) → bitAnd n 255 ≡ n % 256
 byte n = and-mask n 8
 
+two-bytes : (n : ℕ) → bitAnd n 65535 ≡ n % 65536
+two-bytes n = and-mask n 16
+
 -- a refusal's number is in the lowest byte, and the bytes above it are 0
 module _ (number : ℕ) (low : number ≤ 14) where
   refusal-low : bitAnd number 255 ≡ number
@@ -51,6 +54,11 @@ module _ (number : ℕ) (low : number ≤ 14) where
   refusal-above place high =
       let none-left : number / place ≡ 0 = div-eq-of-lt (omega arith) in
       rw none-left (byte 0)
+
+  refusal-height : bitAnd (number / 2 ^ 16) 65535 ≡ 0
+  refusal-height =
+      let none-left : number / 2 ^ 16 ≡ 0 = div-eq-of-lt (omega arith) in
+      rw none-left (two-bytes 0)
 
 -- ---- numbers of refusals
 -- the number of every row is one of document 01's
@@ -149,9 +157,9 @@ move-read-back (refused number) ok low =
       numbered = ok;
       refusal = refusal-low number fits;
       move = refusal-above number fits (2 ^ 8) (omega arith);
-      height = refusal-above number fits (2 ^ 16) (omega arith);
-      certificate = refusal-above number fits (2 ^ 24) (omega arith);
-      finalize = refusal-above number fits (2 ^ 32) (omega arith);
+      height = refusal-height number fits;
+      certificate = refusal-above number fits (2 ^ 32) (omega arith);
+      finalize = refusal-above number fits (2 ^ 40) (omega arith);
     }
 move-read-back (accepted m) ok low =
     unfold unpackedRefusal unpackedMove unpackedHeight unpackedCertificate unpackedFinalize in
@@ -162,7 +170,7 @@ move-read-back (accepted m) ok low =
       numbered = ok;
       refusal = rw byte (omega arith);
       move = rw byte (omega arith);
-      height = rw byte (omega arith);
+      height = rw two-bytes (omega arith);
       certificate = rw byte (omega arith);
       finalize = rw byte (omega arith);
     })

@@ -131,12 +131,12 @@ fn finalized_number(finalised: bool) -> usize
     if finalised { 4 } else { 0 }
 }
 
-// A move's place in document 01's list, its height and the kinds of a pass's frames, each at its byte of the answer.
+// A move's place in document 01's list, its height and the kinds of a pass's frames, each at its place in the answer.
 fn move_number(number: usize, height: usize, kinds: usize) -> usize
     requires { ⌜ (number < 8) × (height ≤ 63) × (kinds < 65536) ⌝ }
-    ensures { λ r. ⌜ r ≡ 256 * number + 65536 * height + 16777216 * kinds ⌝ }
+    ensures { λ r. ⌜ r ≡ 256 * number + 65536 * height + 4294967296 * kinds ⌝ }
 {
-    256 * number + 65536 * height + 16777216 * kinds
+    256 * number + 65536 * height + 4294967296 * kinds
 }
 
 // The number for the answer of Move. No answer of Move names a height above 63 (specs/PackingLaws), so the sum fits.
@@ -170,7 +170,8 @@ fn size_number(answer: Size) -> usize
 }
 
 // Move: makes the first move that applies, and writes its frames to the front of the reply.
-// Returns in byte 1 the move's number, in byte 2 its height, in bytes 3 and 4 the kinds of a pass's frames; 0 where it is idle (`packedMove`).
+// Returns in byte 1 the move's number, in bytes 2 and 3 its height, in bytes 4 and 5 the kinds of a pass's frames; 0 where it is
+// idle (`packedMove`).
 // Refusals: 1, 3 (`moveCall`). Test for a refusal first: the bytes above it are 0, and 0 is idle's number too.
 #[no_mangle]
 pub extern "C" fn mavunilai_move(book: &mut [u8], reply: &mut [u8]) -> usize

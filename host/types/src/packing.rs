@@ -41,7 +41,8 @@ pub fn unpack_delivered(number: u64) -> Result<Delivered, u8> {
     }
 }
 
-/// The answer of move: bytes 1 to 4 are move, height, kind of certificate, kind of the second frame.
+/// The answer of move: byte 1 is the move, bytes 2 and 3 its height, byte 4 the kind of certificate, byte 5 the kind of
+/// the second frame.
 pub fn pack_move(answer: Result<Move, u8>) -> u64 {
     let made = match answer {
         Ok(made) => made,
@@ -53,12 +54,12 @@ pub fn pack_move(answer: Result<Move, u8>) -> u64 {
         }
         _ => (0, 0),
     };
-    u64::from_le_bytes([0, made.number(), made.height(), certificate, second, 0, 0, 0])
+    u64::from_le_bytes([0, made.number(), made.height(), 0, certificate, second, 0, 0])
 }
 
 /// What [`pack_move`] packed.
 pub fn unpack_move(number: u64) -> Result<Move, u8> {
-    let [_, made, height, certificate, second, ..] = number.to_le_bytes();
+    let [_, made, height, _, certificate, second, ..] = number.to_le_bytes();
     let kind = if certificate == 5 { Certificate::Block } else { Certificate::Dummy };
     let made = match made {
         0 => Move::Idle,
@@ -135,7 +136,7 @@ mod tests {
     #[test]
     fn the_bytes_are_where_the_header_has_them() {
         let pass = Move::Pass { height: 2, certificate: Certificate::Dummy, finalized: true };
-        assert_eq!(pack_move(Ok(pass)), 0x04_06_02_03_00);
+        assert_eq!(pack_move(Ok(pass)), 0x04_06_00_02_03_00);
         assert_eq!(pack_delivered(Ok(Delivered::Fresh)), 0x100);
         assert_eq!(pack_size(Ok(16)), 0x1000);
     }
@@ -146,7 +147,7 @@ mod tests {
             assert_eq!(unpack_delivered(number), Err(UNKNOWN));
             assert_eq!(unpack_done(number), Err(UNKNOWN));
         }
-        for number in [0x06_00, 0x05_06_02_03_00, 0x07_02_03_00, 1 << 40, 0x01_00_00] {
+        for number in [0x06_00, 0x05_06_00_02_03_00, 0x07_00_02_03_00, 1 << 48, 0x01_00_00] {
             assert_eq!(unpack_move(number), Err(UNKNOWN));
         }
         assert_eq!(unpack_size(0x10f), Err(UNKNOWN));

@@ -88,7 +88,7 @@ unfolding packedMove passKinds moveNumber moveHeight movedAnswer
 returns-4 c =
     let h = c .before .before .before .before .answer3 .given .0 .0 in
     c .move-number3 .ensures
-    ∙ ap₂ (λ (a b : ℕ). 256 * 3 + 65536 * h + 16777216 * (a + 256 * b)) (c .before .before .certificate-number .ensures .0) (c .before .finalized-number .ensures .0)
+    ∙ ap₂ (λ (a b : ℕ). 256 * 3 + 65536 * h + 4294967296 * (a + 256 * b)) (c .before .before .certificate-number .ensures .0) (c .before .finalized-number .ensures .0)
     ∙ ap (λ (a : Moved). packedMove (movedAnswer a)) (sym (c .before .before .before .before .answer3 .given .1))
 
 returns-5 : tie.Need-returns-5
