@@ -121,7 +121,7 @@ fn unsent_frames_go_to_the_file_that_the_next_call_names() {
     // A question leaves them alone.
     assert_eq!(lines(&format!("call {book} size")), ["size 0"]);
     let bad = format!("call {book} deliver - --out {book}.frames");
-    refused(&bad, &Frame::Finalize { signer: 0, height: 1 }.bytes(), "takes no frames");
+    refused(&bad, &Frame::Finalize { signer: 0, height: 1 }.bytes(), "a file beside a book");
     assert_eq!(lines(&format!("call {book} submit entry --out {pile}")), ["unsent", "done"]);
     let certificate = digits(&Frame::DummyCertificate { mask: 11, height: 1 });
     let finalise = digits(&Frame::Finalize { signer: 2, height: 1 });

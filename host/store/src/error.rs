@@ -18,8 +18,10 @@ pub enum Error {
     Exists(PathBuf),
     /// The file beside a book is not one that this crate wrote, or the file to hand frames to holds other things.
     Foreign(PathBuf),
-    /// The frames were to be handed to the book itself, or to a file beside it that has another purpose.
+    /// The frames were to be handed to the book itself.
     Own(PathBuf),
+    /// The name is one that a file beside a book may have, and would be written over.
+    Reserved(PathBuf),
     /// The file system failed.
     Files {
         /// The file.
@@ -57,7 +59,11 @@ impl fmt::Display for Error {
                 write!(to, "{} holds something else than frames", path.display())
             }
             Error::Own(path) => {
-                write!(to, "{} is the book or belongs to it, and takes no frames", path.display())
+                write!(to, "{} is the book itself, and takes no frames", path.display())
+            }
+            Error::Reserved(path) => {
+                let path = path.display();
+                write!(to, "{path} has the name of a file beside a book (.lock, .new, .frames)")
             }
             Error::Files { path, what, error } => {
                 write!(to, "{} cannot be {what}: {error}", path.display())

@@ -54,5 +54,5 @@ mod place;
 
 pub use disk::Disk;
 pub use error::Error;
-pub use file_book::{read, FileBook};
+pub use file_book::{read, read_in, FileBook};
 pub use files::Files;

@@ -119,6 +119,23 @@ fn a_failed_commit_is_not_gone_over() {
     assert!(matches!(again.signal(1), Err(Error::Refused(14))));
 }
 
+/// Who only looks may come between renaming and syncing, and what is answered then must not be lost either.
+#[test]
+fn what_is_read_is_synced() {
+    let mut ends = 0;
+    for steps in 0..9 {
+        let new = Book::open(Rules::SHA256, 4, 2, &[0]).unwrap();
+        let files = Fake::default();
+        let mut book = FileBook::create_in(files.clone(), new, BOOK.as_ref()).unwrap();
+        files.fault(steps, Fault::Process);
+        ends += usize::from(book.signal(1).is_err());
+        files.revive(&mut Random::new(0));
+        let seen = store::read_in(files.clone(), BOOK.as_ref()).unwrap();
+        assert!(files.synced(BOOK.as_ref(), &seen), "after {steps} steps");
+    }
+    assert!((1..9).contains(&ends));
+}
+
 /// The tests above can fail: a file system that does not sync what it is told to is found out.
 #[test]
 fn a_step_left_out_is_noticed() {

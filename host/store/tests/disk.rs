@@ -114,6 +114,24 @@ fn a_new_book_takes_no_place_that_is_taken() {
 }
 
 #[test]
+fn no_book_has_the_name_of_a_file_beside_another() {
+    let folder = folder("beside");
+    let path = folder.join("book");
+    let mut book = passable(&path);
+    for ending in ["lock", "new", "frames", "frames.new"] {
+        let beside = path.with_extension(ending);
+        assert!(matches!(FileBook::create(new(), &beside), Err(Error::Reserved(_))));
+        assert!(matches!(FileBook::open(Rules::SHA256, &beside), Err(Error::Reserved(_))));
+        assert!(matches!(book.hand_to(&beside), Err(Error::Reserved(_))));
+    }
+    assert!(matches!(book.hand_to(&path), Err(Error::Own(_))));
+    let link = folder.join("link");
+    symlink("book.new", &link).unwrap();
+    fs::write(path.with_extension("new"), new().bytes()).unwrap();
+    assert!(matches!(FileBook::open(Rules::SHA256, &link), Err(Error::Reserved(_))));
+}
+
+#[test]
 fn what_is_no_book_is_left_alone() {
     let folder = folder("none");
     let missing = folder.join("missing");
