@@ -42,7 +42,7 @@ impl<C: Calls + Clone> Station<'_, C> {
         let (mut text, mut refused) = (String::new(), 0_usize);
         for frame in frames {
             let answer = match self.book.deliver(frame) {
-                Err(Error::Refused(number)) if frames.len() > 1 => Answer::Deny(number),
+                Err(Error::Refused(refusal)) if frames.len() > 1 => Answer::Deny(refusal.number()),
                 answer => Answer::Delivered(answer?),
             };
             refused = refused.saturating_add(matches!(answer, Answer::Deny(_)).into());

@@ -8,7 +8,7 @@ use common::random::Random;
 use common::script::{script, Input};
 use reference::Rules;
 use store::{Error, FileBook};
-use types::{Book, FRAME};
+use types::{Book, Refusal, FRAME};
 
 /// The ways in which a station can move and send.
 const WAYS: [Way; 3] = [Way::Takes, Way::Bare, Way::Hands];
@@ -116,7 +116,7 @@ fn a_failed_commit_is_not_gone_over() {
     assert!(matches!(book.make_move(), Err(Error::Stale)));
     drop(book);
     let mut again = FileBook::open_in(files, Rules::SHA256, BOOK.as_ref()).unwrap();
-    assert!(matches!(again.signal(1), Err(Error::Refused(14))));
+    assert!(matches!(again.signal(1), Err(Error::Refused(Refusal::NotDue))));
 }
 
 /// Who only looks may come between renaming and syncing, and what is answered then must not be lost either.

@@ -5,7 +5,7 @@ use std::fs;
 use std::os::unix::fs::{symlink, PermissionsExt};
 use std::path::PathBuf;
 use store::{Error, FileBook};
-use types::{Book, Frame, Move};
+use types::{Book, Frame, Move, Refusal};
 
 /// An empty folder for a test alone.
 fn folder(name: &str) -> PathBuf {
@@ -139,6 +139,6 @@ fn what_is_no_book_is_left_alone() {
     assert!(matches!(FileBook::open(Rules::SHA256, "/dev/zero"), Err(Error::Files { .. })));
     let long = folder.join("long");
     fs::write(&long, vec![0; 1 << 20]).unwrap();
-    assert!(matches!(FileBook::open(Rules::SHA256, &long), Err(Error::Refused(1))));
+    assert!(matches!(FileBook::open(Rules::SHA256, &long), Err(Error::Refused(Refusal::Unsound))));
     assert!(!folder.join("missing.lock").exists());
 }
