@@ -68,7 +68,7 @@ Writes the 224 bytes of a frame, or 448 hexadecimal digits with --hex.
 
 SIGNERS is --signers 0,1,2 or --mask 7. PAGE is --page HEX with the 176 bytes, or
 --height H, if it has a back page --back J --back-digest HEX, and up to eight times
---entry, 32 hexadecimal digits or text of up to 16 bytes, which is filled up with
+--entry, 32 hexadecimal digits or text of 1 to 16 bytes, which is filled up with
 blanks. A page vote for a PAGE is for its digest. Nothing is checked but the form of the
 words: frames that a replica refuses can be made too. An option that would be ignored
 is an error.
@@ -120,7 +120,7 @@ and fetch write follow as hexadecimal digits, one to a line; read prints the ent
 run moves until idle, and delivers what it writes to the book itself.
 FRAMES is a file, or - for standard input, with the bytes or the digits of a frame, or
 of several, which are delivered in order; ENTRY is as for `frame`: 32 hexadecimal
-digits, or text of up to 16 bytes, which is filled up with blanks. A call that is
+digits, or text of 1 to 16 bytes, which is filled up with blanks. A call that is
 refused changes nothing, says the number and ends with status 3; of several frames each
 has its line, and `deny` and a number if refused.
 
