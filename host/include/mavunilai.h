@@ -10,8 +10,9 @@
  * With a length of 0 nothing is read or written through the pointer, so it may be null, as that of an empty vector is.
  * All else is checked: bytes, lengths and numbers may have any value. Bytes behind a const pointer never change.
  *
- * The library is for x86-64 Linux, where size_t and uint64_t are the same, and needs nothing but memset. Before its
- * first call a program asks mavunilai_fits() whether library and header are of one interface.
+ * This header is for C99 or later and for C++. The library is for x86-64 Linux, where size_t and uint64_t are the same,
+ * and needs nothing but memset. Before its first call a program asks mavunilai_fits() whether library and header are of
+ * one interface.
  *
  * Every packed answer's lowest byte is the number of a refusal, 0 if the call was not refused; MAVUNILAI_REFUSED_..
  * below names them. A refused call leaves every byte of every buffer as it was, and its answer is that number alone.

@@ -46,14 +46,11 @@ mavunilai COMMAND ..
   rehearsal  read frames from standard input, print a line for each event
 
 `mavunilai help COMMAND` tells more. The status is 0 if all is well, 1 if a list does
-not come out as expected, 2 if words, files or the output are bad, 3 if the replica
-refuses the call; a sentence then says why.
-Calls, lists, new books and the rehearsal use the proved replica if this program was built
-with the cargo feature `proved`, else the reference replica.
-
-`mavunilai --version` tells the version and which replica this is. The value of an
-option stands behind it or after =, as in --n=4. `try` and `diff` end with status 1 where
-they find a difference.
+not come out as expected or `try` or `diff` finds a difference, 2 if words, files or the
+output are bad, 3 if the replica refuses the call; a sentence then says why.
+The replica is the proved one if this program was built with the cargo feature `proved`,
+else the reference; `mavunilai --version` tells which. The value of an option stands
+behind it or after =, as in --n=4.
 ";
 
 const FRAME: &str = "\
@@ -71,7 +68,7 @@ Writes the 224 bytes of a frame, or 448 hexadecimal digits with --hex.
 
 SIGNERS is --signers 0,1,2 or --mask 7. PAGE is --page HEX with the 176 bytes, or
 --height H, if it has a back page --back J --back-digest HEX, and up to eight times
---entry, 32 hexadecimal digits or text of up to 16 bytes, which is filled up with
+--entry, 32 hexadecimal digits or text of 1 to 16 bytes, which is filled up with
 blanks. A page vote for a PAGE is for its digest. Nothing is checked but the form of the
 words: frames that a replica refuses can be made too. An option that would be ignored
 is an error.
@@ -122,13 +119,14 @@ Makes a call on the book in the file BOOK, prints the answer in the words of a l
 and fetch write follow as hexadecimal digits, one to a line; read prints the entries.
 run moves until idle, and delivers what it writes to the book itself.
 FRAMES is a file, or - for standard input, with the bytes or the digits of a frame, or
-of several, which are delivered in order; ENTRY is 32 hexadecimal digits or up to 16
-characters. A call that is refused changes nothing, says the number and ends with
-status 3; of several frames each has its line, and `deny` and a number if refused.
+of several, which are delivered in order; ENTRY is as for `frame`: 32 hexadecimal
+digits, or text of 1 to 16 bytes, which is filled up with blanks. A call that is
+refused changes nothing, says the number and ends with status 3; of several frames each
+has its line, and `deny` and a number if refused.
 
 --out adds the frames to FILE, a line for each, in place of printing them. FILE is
 synced and replaced as a whole, and holds nothing but such lines. Who sends them moves
-FILE away first.
+FILE away first. Neither BOOK nor FILE may end in .lock, .new or .frames.
 
 A process may end at any time, and others may call at the same time. The book is locked
 (BOOK.lock, which stays) from reading to writing, after all input is there; a call waits

@@ -50,6 +50,9 @@ pub fn entry(text: &str) -> Result<[u8; ENTRY], Problem> {
         );
         return Err(Problem::input(sentence));
     }
+    if text.is_empty() {
+        return Err(Problem::input("an entry is empty; one of blanks can be written as digits"));
+    }
     let mut entry = [b' '; ENTRY];
     entry.iter_mut().zip(text.bytes()).for_each(|(to, from)| *to = from);
     Ok(entry)

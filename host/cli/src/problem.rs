@@ -1,7 +1,7 @@
 //! Why a command ended early: a sentence for people and the status of the program.
 
 use store::Error;
-use types::refusal::meaning;
+use types::Refusal;
 
 /// A sentence and a status: 1 for a list that does not come out as expected, 2 for bad input or output, 3 for a
 /// refusal.
@@ -20,7 +20,7 @@ impl Problem {
     /// The replica refuses the call.
     pub fn refused(refusal: impl Into<u8>) -> Problem {
         let number = refusal.into();
-        Problem { status: 3, sentence: format!("refused with {number}: {}", meaning(number)) }
+        Problem { status: 3, sentence: format!("refused with {number}: {}", Refusal::of(number)) }
     }
 
     /// The replica refuses some of several frames.

@@ -1,5 +1,6 @@
 //! Books of several stations side by side: one row for each height, one column for each station.
 
+use crate::chosen::REPLICA;
 use crate::problem::Problem;
 use crate::words::count;
 use crate::{files, pages, show_book, table, why};
@@ -118,9 +119,9 @@ fn rank(book: &Shown, height: u8, slot: &Height) -> &'static str {
 /// Whether of any two registers one begins the other.
 fn registers(books: &[Shown]) -> String {
     let log = |book: &Shown| {
-        let size = Calls::size(&reference::Rules::SHA256, &book.bytes).unwrap_or(0);
+        let size = Calls::size(&REPLICA, &book.bytes).unwrap_or(0);
         let mut log = vec![0; usize::try_from(size).unwrap_or(0)];
-        Calls::read(&reference::Rules::SHA256, &book.bytes, &mut log);
+        Calls::read(&REPLICA, &book.bytes, &mut log);
         log
     };
     let logs: Vec<Vec<u8>> = books.iter().map(log).collect();

@@ -42,7 +42,7 @@ impl<C: Calls + Clone> Station<'_, C> {
         let (mut text, mut refused) = (String::new(), 0_usize);
         for frame in frames {
             let answer = match self.book.deliver(frame) {
-                Err(Error::Refused(number)) if frames.len() > 1 => Answer::Deny(number),
+                Err(Error::Refused(refusal)) if frames.len() > 1 => Answer::Deny(refusal.number()),
                 answer => Answer::Delivered(answer?),
             };
             refused = refused.saturating_add(matches!(answer, Answer::Deny(_)).into());
@@ -101,7 +101,7 @@ impl<C: Calls + Clone> Station<'_, C> {
             None => print(&format!("{heading}\n{}", lines(frames))),
         };
         if let Err(Problem { status, sentence }) = handed {
-            let file = self.file;
+            let file = behind_link(self.file);
             let sentence =
                 format!("{sentence}; the frames wait in {file}.frames for the next call");
             return Err(Problem { status, sentence });
@@ -112,6 +112,12 @@ impl<C: Calls + Clone> Station<'_, C> {
         }
         Ok(())
     }
+}
+
+/// The file as it is named, or the one that a link of this name leads to.
+fn behind_link(file: &str) -> String {
+    let end = std::fs::read_link(file).and_then(|_| std::fs::canonicalize(file));
+    end.map_or_else(|_| file.to_string(), |path| path.display().to_string())
 }
 
 /// Frames as lines of digits.

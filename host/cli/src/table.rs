@@ -10,8 +10,10 @@ pub fn print(rows: &[Vec<String>]) -> String {
     let widths: Vec<usize> = (0..columns).map(width).collect();
     let mut text = String::new();
     for row in rows {
-        let cells = row.iter().zip(&widths).map(|(cell, width)| format!("{cell:width$}"));
-        let line = cells.collect::<Vec<_>>().join("  ");
+        let filled = |(cell, width): (&String, &usize)| {
+            cell.clone() + &" ".repeat(width.saturating_sub(cell.chars().count()))
+        };
+        let line = row.iter().zip(&widths).map(filled).collect::<Vec<_>>().join("  ");
         text.push_str(line.trim_end());
         text.push('\n');
     }

@@ -54,10 +54,12 @@ fn positive(arguments: &Arguments, name: &str, unsaid: u64) -> Result<u64, Probl
 /// What was tried, where nothing differed.
 fn summary(program: &str, report: &Report) -> String {
     let calls = words::count(report.tally.calls() as usize, "call", "calls");
-    let (seed, lists, networks) = (report.seed, report.lists, report.networks);
+    let seed = report.seed;
+    let lists = words::count(report.lists as usize, "list", "lists");
+    let networks = words::count(report.networks as usize, "whole network", "whole networks");
     let dishonest = report.kinds.count("network: with dishonest stations");
     format!(
-        "{program}: {calls} as on {NAME} (seed {seed}: {lists} lists on single books, {networks} whole networks, \
+        "{program}: {calls} as on {NAME} (seed {seed}: {lists} on single books, {networks}, \
          {dishonest} with dishonest stations)\n"
     )
 }

@@ -176,6 +176,7 @@ fn bad_words_get_a_sentence() {
     refused("frame page-vote --signer 0 --height 1 --digest 00", &[], "32 bytes are needed");
     refused("frame proposal --signer 0 --height 2 --back 1", &[], "--back-digest");
     refused("frame proposal --signer 0 --height 1 --entry 12345678901234567", &[], "its 17 bytes");
+    refused("frame proposal --signer 0 --height 1 --entry=", &[], "an entry is empty");
     let many = " --entry a".repeat(9);
     refused(&format!("frame proposal --signer 0 --height 1{many}"), &[], "eight entries");
 }

@@ -150,6 +150,12 @@ fn two_books_are_held_against_each_other() {
         format!("{at}/one and {at}/one are the same\n")
     );
     refused(&format!("diff {at}/one"), &[], "the files of two books");
+    // What is far too long for a book is told in short, too.
+    std::fs::write(format!("{at}/long"), (0..1 << 18).map(|at| at as u8).collect::<Vec<_>>())
+        .unwrap();
+    let ended = run(&format!("diff {at}/one {at}/long"), &[]);
+    assert_eq!((ended.status, ended.text().lines().count()), (1, 3));
+    assert!(ended.text().len() < 1000);
 }
 
 #[test]

@@ -98,6 +98,20 @@ fn after_a_lost_output(name: &str, output: Stdio) {
 }
 
 #[test]
+fn frames_of_a_linked_book_wait_beside_the_book() {
+    let book = book("behind", 1, &[0, 1, 3]);
+    let link = folder("safety").join("link");
+    _ = std::fs::remove_file(&link);
+    std::os::unix::fs::symlink(&book, &link).unwrap();
+    let full = File::options().write(true).open("/dev/full").unwrap();
+    let mut command = Command::new(env!("CARGO_BIN_EXE_mavunilai"));
+    let failed = command.arg("call").arg(&link).arg("move").stdout(full).output().unwrap();
+    let complaint = String::from_utf8(failed.stderr).unwrap();
+    assert!(complaint.contains("safety/behind.frames for the next call"), "{complaint}");
+    assert!(std::path::Path::new(&format!("{book}.frames")).exists());
+}
+
+#[test]
 fn frames_outlive_a_full_output() {
     after_a_lost_output("full", File::options().write(true).open("/dev/full").unwrap().into());
 }
@@ -121,7 +135,7 @@ fn unsent_frames_go_to_the_file_that_the_next_call_names() {
     // A question leaves them alone.
     assert_eq!(lines(&format!("call {book} size")), ["size 0"]);
     let bad = format!("call {book} deliver - --out {book}.frames");
-    refused(&bad, &Frame::Finalize { signer: 0, height: 1 }.bytes(), "takes no frames");
+    refused(&bad, &Frame::Finalize { signer: 0, height: 1 }.bytes(), "a file beside a book");
     assert_eq!(lines(&format!("call {book} submit entry --out {pile}")), ["unsent", "done"]);
     let certificate = digits(&Frame::DummyCertificate { mask: 11, height: 1 });
     let finalise = digits(&Frame::Finalize { signer: 2, height: 1 });

@@ -4,6 +4,9 @@ use crate::{bytes, words};
 use std::ops::Range;
 use types::{book_length, field, mask_at, BLOCK, ENTRY, FRAME, MOST_REPLICAS};
 
+/// Of bytes that are no field of their own so many are told, from the first that differs.
+const MOST_TOLD: usize = 32;
+
 /// What bytes stand for.
 #[derive(Clone, Copy, Debug, PartialEq, Eq)]
 pub enum Shape {
@@ -62,11 +65,23 @@ pub fn differences(shape: Shape, one: &[u8], two: &[u8]) -> Vec<Change> {
         };
         let (one, two) = (part(one), part(two));
         if one != two {
-            let [one, two] = told(field.sort, &one, &two);
-            changes.push(Change { place: field.name, byte: field.range.start, one, two });
+            let same = if field.range.len() > MOST_TOLD { alike(&one, &two) } else { 0 };
+            let [one, two] = told(field.sort, rest(&one, same), rest(&two, same));
+            let byte = field.range.start.saturating_add(same);
+            changes.push(Change { place: field.name, byte, one, two });
         }
     }
     changes
+}
+
+/// How many bytes are the same from the beginning.
+fn alike(one: &[u8], two: &[u8]) -> usize {
+    one.iter().zip(two).take_while(|(one, two)| one == two).count()
+}
+
+/// The bytes behind so many.
+fn rest(bytes: &[u8], same: usize) -> &[u8] {
+    bytes.get(same..).unwrap_or(&[])
 }
 
 /// The name and the first byte of the field of a book that a byte belongs to.
@@ -194,7 +209,10 @@ fn told(sort: Sort, one: &[u8], two: &[u8]) -> [String; 2] {
         (Sort::State, _) => bits(part, words::state),
         (Sort::Mask, [_, _]) => words::members(mask_at(part, 0)),
         (Sort::Entry, [_, ..]) => words::entry(part),
-        _ => bytes::print(part),
+        _ => match part.get(..MOST_TOLD) {
+            Some(first) if part.len() > MOST_TOLD => format!("{} ..", bytes::print(first)),
+            _ => bytes::print(part),
+        },
     })
 }
 
@@ -267,5 +285,17 @@ mod tests {
         }
         assert_eq!(differences(Shape::Register, &[0; 40], &[1; 40]).len(), 3);
         assert_eq!(differences(Shape::Book, &[0; 3], &[0; 4]).len(), 2);
+    }
+
+    #[test]
+    fn of_many_bytes_the_first_that_differ_are_told() {
+        let (one, mut two) = (vec![0; book_length(1)], vec![0; 1 << 20]);
+        two[1000] = 1;
+        let changes = differences(Shape::Book, &one, &two);
+        let told =
+            |at: usize| (changes[at].byte, changes[at].one.as_str(), changes[at].two.as_str());
+        assert_eq!(told(0), (0, "1456 bytes", "1048576 bytes"));
+        assert_eq!(told(1), (1000, "00*32 ..", "01+00*31 .."));
+        assert_eq!(changes.len(), 2);
     }
 }

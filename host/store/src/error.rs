@@ -3,13 +3,13 @@
 use std::fmt;
 use std::io;
 use std::path::{Path, PathBuf};
-use types::refusal::meaning;
+use types::Refusal;
 
 /// What went wrong. Only a refusal comes from the replica; the book is then as it was.
 #[derive(Debug)]
 pub enum Error {
-    /// The replica refused with this number.
-    Refused(u8),
+    /// The replica refused.
+    Refused(Refusal),
     /// Frames wait to be sent and acknowledged; nothing was done.
     Unsent,
     /// An earlier call could not be committed; the book must be opened again.
@@ -18,8 +18,10 @@ pub enum Error {
     Exists(PathBuf),
     /// The file beside a book is not one that this crate wrote, or the file to hand frames to holds other things.
     Foreign(PathBuf),
-    /// The frames were to be handed to the book itself, or to a file beside it that has another purpose.
+    /// The frames were to be handed to the book itself.
     Own(PathBuf),
+    /// The name is one that a file beside a book may have, and would be written over.
+    Reserved(PathBuf),
     /// The file system failed.
     Files {
         /// The file.
@@ -39,17 +41,18 @@ impl Error {
     }
 }
 
-impl<R: Into<u8>> From<R> for Error {
-    /// A refusal, by its number.
-    fn from(refusal: R) -> Error {
-        Error::Refused(refusal.into())
+impl From<Refusal> for Error {
+    fn from(refusal: Refusal) -> Error {
+        Error::Refused(refusal)
     }
 }
 
 impl fmt::Display for Error {
     fn fmt(&self, to: &mut fmt::Formatter<'_>) -> fmt::Result {
         match self {
-            Error::Refused(number) => write!(to, "refused with {number}: {}", meaning(*number)),
+            Error::Refused(refusal) => {
+                write!(to, "refused with {}: {refusal}", refusal.number())
+            }
             Error::Unsent => write!(to, "frames of an earlier move wait to be sent"),
             Error::Stale => write!(to, "an earlier call was not committed; open the book again"),
             Error::Exists(path) => write!(to, "{} is there already", path.display()),
@@ -57,7 +60,11 @@ impl fmt::Display for Error {
                 write!(to, "{} holds something else than frames", path.display())
             }
             Error::Own(path) => {
-                write!(to, "{} is the book or belongs to it, and takes no frames", path.display())
+                write!(to, "{} is the book itself, and takes no frames", path.display())
+            }
+            Error::Reserved(path) => {
+                let path = path.display();
+                write!(to, "{path} has the name of a file beside a book (.lock, .new, .frames)")
             }
             Error::Files { path, what, error } => {
                 write!(to, "{} cannot be {what}: {error}", path.display())

@@ -21,9 +21,19 @@ pub struct FileBook<C, F: Files = Disk> {
     _lock: F::Lock,
 }
 
-/// The bytes of a book in a file, without a lock: they are whole, but may be old by the time they are looked at.
+/// The bytes of a book in a file, without a lock: they are whole and synced, but may be old by the time they are
+/// looked at.
 pub fn read(path: impl AsRef<Path>) -> Result<Vec<u8>, Error> {
-    read_book(&Place::resolve(Disk, path.as_ref())?)
+    read_in(Disk, path.as_ref())
+}
+
+/// [`read`] in another file system.
+pub fn read_in<F: Files>(files: F, path: &Path) -> Result<Vec<u8>, Error> {
+    let place = Place::resolve(files, path)?;
+    let bytes = read_book(&place)?;
+    // Who has it open may be between renaming and syncing: nothing is answered from a name that is not synced.
+    place.sync_folder()?;
+    Ok(bytes)
 }
 
 impl<C: Calls + Clone> FileBook<C> {
@@ -112,8 +122,7 @@ impl<C: Calls + Clone, F: Files> FileBook<C, F> {
         F: Clone,
     {
         let pile = Place::resolve(self.place.files.clone(), path.as_ref())?;
-        let endings = ["", ".lock", ".new", FRAMES, ".frames.new"];
-        if endings.iter().any(|ending| self.place.beside(ending) == pile.path) {
+        if pile.path == self.place.path {
             return Err(Error::Own(pile.path));
         }
         pile::append(&pile, &self.unsent)?;

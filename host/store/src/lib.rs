@@ -6,8 +6,8 @@
 //! which is harmless.
 //!
 //! Beside a book `b` there are `b.lock`, which processes lock and which stays; `b.frames` while frames wait; `b.new`
-//! and `b.frames.new`, which are being written, and of no account after a crash. The order of a call that writes
-//! frames:
+//! and `b.frames.new`, which are being written, and of no account after a crash. So no book has a name that ends as
+//! theirs. The order of a call that writes frames:
 //!
 //! 1. `b.frames` is written and synced; it names the book after the call by its SHA-256;
 //! 2. the new book is written to `b.new` and synced, and the folder is synced;
@@ -54,5 +54,5 @@ mod place;
 
 pub use disk::Disk;
 pub use error::Error;
-pub use file_book::{read, FileBook};
+pub use file_book::{read, read_in, FileBook};
 pub use files::Files;

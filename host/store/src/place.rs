@@ -3,6 +3,9 @@
 use crate::{Error, Files};
 use std::path::{Path, PathBuf};
 
+/// The endings of the files beside one that is replaced.
+const BESIDE: [&str; 3] = [".lock", ".new", ".frames"];
+
 /// A file, by its one path, in a file system.
 #[derive(Clone, Debug)]
 pub struct Place<F> {
@@ -11,9 +14,14 @@ pub struct Place<F> {
 }
 
 impl<F: Files> Place<F> {
-    /// The place of a file, whichever path leads to it.
+    /// The place of a file, whichever path leads to it. A name as of a file beside another is refused: that other
+    /// file would remove it when it is replaced.
     pub fn resolve(files: F, path: &Path) -> Result<Place<F>, Error> {
         let path = files.resolve(path).map_err(Error::files("read", path))?;
+        let name = path.as_os_str().as_encoded_bytes();
+        if BESIDE.iter().any(|ending| name.ends_with(ending.as_bytes())) {
+            return Err(Error::Reserved(path));
+        }
         Ok(Place { files, path })
     }
 

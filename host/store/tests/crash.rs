@@ -8,7 +8,7 @@ use common::random::Random;
 use common::script::{script, Input};
 use reference::Rules;
 use store::{Error, FileBook};
-use types::{Book, FRAME};
+use types::{Book, Refusal, FRAME};
 
 /// The ways in which a station can move and send.
 const WAYS: [Way; 3] = [Way::Takes, Way::Bare, Way::Hands];
@@ -116,7 +116,24 @@ fn a_failed_commit_is_not_gone_over() {
     assert!(matches!(book.make_move(), Err(Error::Stale)));
     drop(book);
     let mut again = FileBook::open_in(files, Rules::SHA256, BOOK.as_ref()).unwrap();
-    assert!(matches!(again.signal(1), Err(Error::Refused(14))));
+    assert!(matches!(again.signal(1), Err(Error::Refused(Refusal::NotDue))));
+}
+
+/// Who only looks may come between renaming and syncing, and what is answered then must not be lost either.
+#[test]
+fn what_is_read_is_synced() {
+    let mut ends = 0;
+    for steps in 0..9 {
+        let new = Book::open(Rules::SHA256, 4, 2, &[0]).unwrap();
+        let files = Fake::default();
+        let mut book = FileBook::create_in(files.clone(), new, BOOK.as_ref()).unwrap();
+        files.fault(steps, Fault::Process);
+        ends += usize::from(book.signal(1).is_err());
+        files.revive(&mut Random::new(0));
+        let seen = store::read_in(files.clone(), BOOK.as_ref()).unwrap();
+        assert!(files.synced(BOOK.as_ref(), &seen), "after {steps} steps");
+    }
+    assert!((1..9).contains(&ends));
 }
 
 /// The tests above can fail: a file system that does not sync what it is told to is found out.

@@ -5,7 +5,7 @@ use std::fs;
 use std::os::unix::fs::{symlink, PermissionsExt};
 use std::path::PathBuf;
 use store::{Error, FileBook};
-use types::{Book, Frame, Move};
+use types::{Book, Frame, Move, Refusal};
 
 /// An empty folder for a test alone.
 fn folder(name: &str) -> PathBuf {
@@ -114,6 +114,24 @@ fn a_new_book_takes_no_place_that_is_taken() {
 }
 
 #[test]
+fn no_book_has_the_name_of_a_file_beside_another() {
+    let folder = folder("beside");
+    let path = folder.join("book");
+    let mut book = passable(&path);
+    for ending in ["lock", "new", "frames", "frames.new"] {
+        let beside = path.with_extension(ending);
+        assert!(matches!(FileBook::create(new(), &beside), Err(Error::Reserved(_))));
+        assert!(matches!(FileBook::open(Rules::SHA256, &beside), Err(Error::Reserved(_))));
+        assert!(matches!(book.hand_to(&beside), Err(Error::Reserved(_))));
+    }
+    assert!(matches!(book.hand_to(&path), Err(Error::Own(_))));
+    let link = folder.join("link");
+    symlink("book.new", &link).unwrap();
+    fs::write(path.with_extension("new"), new().bytes()).unwrap();
+    assert!(matches!(FileBook::open(Rules::SHA256, &link), Err(Error::Reserved(_))));
+}
+
+#[test]
 fn what_is_no_book_is_left_alone() {
     let folder = folder("none");
     let missing = folder.join("missing");
@@ -121,6 +139,6 @@ fn what_is_no_book_is_left_alone() {
     assert!(matches!(FileBook::open(Rules::SHA256, "/dev/zero"), Err(Error::Files { .. })));
     let long = folder.join("long");
     fs::write(&long, vec![0; 1 << 20]).unwrap();
-    assert!(matches!(FileBook::open(Rules::SHA256, &long), Err(Error::Refused(1))));
+    assert!(matches!(FileBook::open(Rules::SHA256, &long), Err(Error::Refused(Refusal::Unsound))));
     assert!(!folder.join("missing.lock").exists());
 }

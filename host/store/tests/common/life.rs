@@ -6,7 +6,7 @@ use super::script::{Input, LEADERS};
 use reference::Rules;
 use std::path::Path;
 use store::{Error, FileBook};
-use types::{Book, Frame, Move, FRAME};
+use types::{Book, Frame, Move, Refusal, FRAME};
 
 /// The path of the book, and of the file that frames are handed to.
 pub const BOOK: &str = "folder/book";
@@ -163,7 +163,8 @@ impl Station {
 /// A call that was done or refused; that the book is not sound is neither.
 fn taken(answer: Result<(), Error>) -> Result<(), Error> {
     match answer {
-        Ok(()) | Err(Error::Refused(2..)) => Ok(()),
+        Err(Error::Refused(refusal)) if refusal != Refusal::Unsound => Ok(()),
+        Ok(()) => Ok(()),
         Err(error) => Err(error),
     }
 }
