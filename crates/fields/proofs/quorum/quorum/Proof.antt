@@ -1,6 +1,7 @@
 -- `quorum` meets its contract: it counts the mask and compares as the definition does.
 use mathlib.Core.Path.{refl, sym, _∙_}
 use Rattle.protocol.specs.QuorumLaws.{quorum-even}
+use Rattle.protocol.specs.State.{decode}
 use Rattle.protocol.specs.Sound.{view}
 use borrow.Author.Needs.{needs}
 use Rattle.fields.proofs.quorum.quorum.Statement.{statement}
@@ -20,7 +21,10 @@ mul-result-2 c = search needs
 
 returns : tie.Need-returns
 unfolding view
-returns c = rw (c .count .ensures .0, c .before .replicas .ensures .0) (sym (quorum-even _ _ _ refl))
+returns c =
+    let start = c .before .before .before in
+    let s = decode (start .args .book .now) in
+    rw (c .count .ensures .0, c .before .replicas .ensures .0) (sym (quorum-even (view s) (s .n) (start .args .mask) refl))
 
 pub quorum-spec : {M : Type 1} → statement M
 quorum-spec = tie.close (tie.spec replicas-requires mul-result count-requires mul-result-2 returns)
