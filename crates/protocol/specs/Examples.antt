@@ -59,7 +59,7 @@ unfoldable pub frameIn : Bytes → ℕ → Bytes
 frameIn reply zero = part reply 0 224
 frameIn reply (suc i) = part reply 224 224
 
--- with `n` replicas, every mask of at least `enough` signers is a quorum, and no smaller one
+-- with `n` replicas of weight 1, every mask of at least `enough` signers is a quorum, and no smaller one
 unfoldable pub quorumFrom : ℕ → ℕ → Type 0
 quorumFrom n enough =
     (v : View) (mask : ℕ) → v .weights ≡ replicate n 1 →
