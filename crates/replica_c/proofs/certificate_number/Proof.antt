@@ -10,12 +10,6 @@ use Rattle.replica_c.proofs.certificate_number.Tie as tie
 use Rattle.replica_c.proofs.certificate_number.Reads as reads
 use Rattle.replica_c.proofs.certificate_number.Lts as lts
 
-enum-told : tie.Need-enum-told
-enum-told c = search needs
-
-enum-told-2 : tie.Need-enum-told-2
-enum-told-2 c = search needs
-
 returns : tie.Need-returns
 unfolding certificateKind certificateOf
 returns c = (ap (λ (k : Certificate). certificateKind (certificateOf k)) (sym (c .enum-told .given .1)), omega arith)
@@ -25,4 +19,4 @@ unfolding certificateKind certificateOf
 returns-2 c = (ap (λ (k : Certificate). certificateKind (certificateOf k)) (sym (c .enum-told2 .given .1)), omega arith)
 
 pub certificate-number-spec : {M : Type 1} → statement M
-certificate-number-spec = tie.close (tie.spec enum-told enum-told-2 returns returns-2)
+certificate-number-spec = tie.close (tie.spec (λ c. search needs) (λ c. search needs) returns returns-2)

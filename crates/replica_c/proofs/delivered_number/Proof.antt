@@ -9,15 +9,6 @@ use Rattle.replica_c.proofs.delivered_number.Tie as tie
 use Rattle.replica_c.proofs.delivered_number.Reads as reads
 use Rattle.replica_c.proofs.delivered_number.Lts as lts
 
-enum-told : tie.Need-enum-told
-enum-told c = search needs
-
-enum-told-2 : tie.Need-enum-told-2
-enum-told-2 c = search needs
-
-enum-known-answer : tie.Need-enum-known-answer
-enum-known-answer c = search needs
-
 returns : tie.Need-returns
 unfolding packedDelivery deliveredAnswer
 returns c = ap (λ (a : Delivered). packedDelivery (deliveredAnswer a)) (sym (c .enum-told .given .1))
@@ -32,4 +23,4 @@ returns-3 c = ap (λ (a : Delivered). packedDelivery (deliveredAnswer a)) (sym (
 
 pub delivered-number-spec : {M : Type 1} → statement M
 delivered-number-spec =
-    tie.close (tie.spec enum-told enum-told-2 enum-known-answer returns returns-2 returns-3)
+    tie.close (tie.spec (λ c. search needs) (λ c. search needs) (λ c. search needs) returns returns-2 returns-3)

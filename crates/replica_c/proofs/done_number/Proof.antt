@@ -9,12 +9,6 @@ use Rattle.replica_c.proofs.done_number.Tie as tie
 use Rattle.replica_c.proofs.done_number.Reads as reads
 use Rattle.replica_c.proofs.done_number.Lts as lts
 
-enum-told : tie.Need-enum-told
-enum-told c = search needs
-
-enum-known-answer : tie.Need-enum-known-answer
-enum-known-answer c = search needs
-
 returns : tie.Need-returns
 unfolding packedDone doneAnswer
 returns c = ap (λ (a : Answer). packedDone (doneAnswer a)) (sym (c .enum-told .given .1))
@@ -24,4 +18,4 @@ unfolding packedDone doneAnswer
 returns-2 c = ap (λ (a : Answer). packedDone (doneAnswer a)) (sym (c .before .answer .given .1))
 
 pub done-number-spec : {M : Type 1} → statement M
-done-number-spec = tie.close (tie.spec enum-told enum-known-answer returns returns-2)
+done-number-spec = tie.close (tie.spec (λ c. search needs) (λ c. search needs) returns returns-2)

@@ -9,15 +9,6 @@ use Rattle.replica_c.proofs.mavunilai_deliver.Lts as lts
 use Rattle.replica.proofs.deliver.deliver.Reads as deliver-reads
 use Rattle.replica_c.proofs.delivered_number.Reads as delivered-number-reads
 
-deliver-requires : tie.Need-deliver-requires
-deliver-requires c κs = search needs
-
-delivered-number-requires : tie.Need-delivered-number-requires
-delivered-number-requires c κs = search needs
-
-same-length : tie.Need-same-length
-same-length c = search needs
-
 returns : tie.Need-returns
 returns c =
     let told = c .before .before .before .deliver in
@@ -25,4 +16,4 @@ returns c =
 
 pub mavunilai-deliver-spec : {M : Type 1} → statement M
 mavunilai-deliver-spec =
-    tie.close (tie.spec deliver-requires delivered-number-requires same-length returns)
+    tie.close (tie.spec (λ c κs. search needs) (λ c κs. search needs) (λ c. search needs) returns)

@@ -9,19 +9,10 @@ use Rattle.replica_c.proofs.mavunilai_fetch.Lts as lts
 use Rattle.replica.proofs.fetch.fetch.Reads as fetch-reads
 use Rattle.replica_c.proofs.done_number.Reads as done-number-reads
 
-fetch-requires : tie.Need-fetch-requires
-fetch-requires c κs = search needs
-
-done-number-requires : tie.Need-done-number-requires
-done-number-requires c κs = search needs
-
-same-length : tie.Need-same-length
-same-length c = search needs
-
 returns : tie.Need-returns
 returns c =
     let told = c .before .before .before .fetch in
     (c .done-number .ensures ∙ ap packedDone (told .ensures .0), told .ensures .1)
 
 pub mavunilai-fetch-spec : {M : Type 1} → statement M
-mavunilai-fetch-spec = tie.close (tie.spec fetch-requires done-number-requires same-length returns)
+mavunilai-fetch-spec = tie.close (tie.spec (λ c κs. search needs) (λ c κs. search needs) (λ c. search needs) returns)

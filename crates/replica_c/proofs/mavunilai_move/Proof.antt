@@ -13,19 +13,10 @@ use Rattle.replica_c.proofs.mavunilai_move.Lts as lts
 use Rattle.replica.proofs.make_move.make_move.Reads as make-move-reads
 use Rattle.replica_c.proofs.moved_number.Reads as moved-number-reads
 
-make-move-requires : tie.Need-make-move-requires
-make-move-requires c κs = search needs
-
 moved-number-requires : tie.Need-moved-number-requires
 moved-number-requires c κs =
     let told = c .before .before .before .before .make-move in
     subst (λ (a : Answer Move). answeredHeight a ≤ 63) (sym (told .ensures .0)) (move-height-low sha256 _ _)
-
-same-length : tie.Need-same-length
-same-length c = search needs
-
-same-length-2 : tie.Need-same-length-2
-same-length-2 c = search needs
 
 returns : tie.Need-returns
 returns c =
@@ -34,4 +25,4 @@ returns c =
 
 pub mavunilai-move-spec : {M : Type 1} → statement M
 mavunilai-move-spec =
-    tie.close (tie.spec make-move-requires moved-number-requires same-length same-length-2 returns)
+    tie.close (tie.spec (λ c κs. search needs) moved-number-requires (λ c. search needs) (λ c. search needs) returns)

@@ -9,15 +9,6 @@ use Rattle.replica_c.proofs.mavunilai_signal.Lts as lts
 use Rattle.replica.proofs.signal.signal.Reads as signal-reads
 use Rattle.replica_c.proofs.done_number.Reads as done-number-reads
 
-signal-requires : tie.Need-signal-requires
-signal-requires c κs = search needs
-
-done-number-requires : tie.Need-done-number-requires
-done-number-requires c κs = search needs
-
-same-length : tie.Need-same-length
-same-length c = search needs
-
 returns : tie.Need-returns
 returns c =
     let told = c .before .before .before .signal in
@@ -25,4 +16,4 @@ returns c =
 
 pub mavunilai-signal-spec : {M : Type 1} → statement M
 mavunilai-signal-spec =
-    tie.close (tie.spec signal-requires done-number-requires same-length returns)
+    tie.close (tie.spec (λ c κs. search needs) (λ c κs. search needs) (λ c. search needs) returns)

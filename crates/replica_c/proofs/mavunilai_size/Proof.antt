@@ -13,9 +13,6 @@ use Rattle.replica_c.proofs.mavunilai_size.Lts as lts
 use Rattle.replica.proofs.read.size.Reads as size-reads
 use Rattle.replica_c.proofs.size_number.Reads as size-number-reads
 
-size-requires : tie.Need-size-requires
-size-requires c κs = search needs
-
 size-number-requires : tie.Need-size-number-requires
 size-number-requires c κs =
     subst (λ (a : Answer ℕ). answeredSize a ≤ 8064) (sym (c .size .ensures)) (size-low sha256 _)
@@ -24,4 +21,4 @@ returns : tie.Need-returns
 returns c = c .size-number .ensures ∙ ap packedSize (c .before .size .ensures)
 
 pub mavunilai-size-spec : {M : Type 1} → statement M
-mavunilai-size-spec = tie.close (tie.spec size-requires size-number-requires returns)
+mavunilai-size-spec = tie.close (tie.spec (λ c κs. search needs) size-number-requires returns)

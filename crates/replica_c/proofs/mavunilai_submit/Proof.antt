@@ -9,15 +9,6 @@ use Rattle.replica_c.proofs.mavunilai_submit.Lts as lts
 use Rattle.replica.proofs.submit.submit.Reads as submit-reads
 use Rattle.replica_c.proofs.done_number.Reads as done-number-reads
 
-submit-requires : tie.Need-submit-requires
-submit-requires c κs = search needs
-
-done-number-requires : tie.Need-done-number-requires
-done-number-requires c κs = search needs
-
-same-length : tie.Need-same-length
-same-length c = search needs
-
 returns : tie.Need-returns
 returns c =
     let told = c .before .before .before .submit in
@@ -25,4 +16,4 @@ returns c =
 
 pub mavunilai-submit-spec : {M : Type 1} → statement M
 mavunilai-submit-spec =
-    tie.close (tie.spec submit-requires done-number-requires same-length returns)
+    tie.close (tie.spec (λ c κs. search needs) (λ c κs. search needs) (λ c. search needs) returns)

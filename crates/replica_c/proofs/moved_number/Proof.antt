@@ -18,58 +18,25 @@ use Rattle.replica_c.proofs.move_number.Reads as move-number-reads
 low : {answer given : Moved} → answer ≡ given → answeredHeight (movedAnswer answer) ≤ 63 → answeredHeight (movedAnswer given) ≤ 63
 low e = subst (λ (a : Moved). answeredHeight (movedAnswer a) ≤ 63) e
 
-enum-told : tie.Need-enum-told
-enum-told c = search needs
-
-enum-known-answer : tie.Need-enum-known-answer
-enum-known-answer c = search needs
-
 move-number-requires : tie.Need-move-number-requires
 unfolding answeredHeight moveHeight movedAnswer
 move-number-requires c κs = (search needs, low (c .before .answer .given .1) (c .before .before .before .pre), search needs)
-
-enum-known-answer-2 : tie.Need-enum-known-answer-2
-enum-known-answer-2 c = search needs
 
 move-number-requires-2 : tie.Need-move-number-requires-2
 unfolding answeredHeight moveHeight movedAnswer
 move-number-requires-2 c κs = (search needs, low (c .before .answer2 .given .1) (c .before .before .before .pre), search needs)
 
-enum-known-answer-3 : tie.Need-enum-known-answer-3
-enum-known-answer-3 c = search needs
-
-certificate-number-requires : tie.Need-certificate-number-requires
-certificate-number-requires c κs = search needs
-
-finalized-number-requires : tie.Need-finalized-number-requires
-finalized-number-requires c κs = search needs
-
-mul-kinds : tie.Need-mul-kinds
-mul-kinds c = search needs
-
-add-kinds : tie.Need-add-kinds
-add-kinds c = search needs
-
 move-number-requires-3 : tie.Need-move-number-requires-3
 unfolding answeredHeight moveHeight movedAnswer
 move-number-requires-3 c κs = (search needs, low (c .before .before .before .answer3 .given .1) (c .before .before .before .before .before .pre), search needs)
-
-enum-known-answer-4 : tie.Need-enum-known-answer-4
-enum-known-answer-4 c = search needs
 
 move-number-requires-4 : tie.Need-move-number-requires-4
 unfolding answeredHeight moveHeight movedAnswer
 move-number-requires-4 c κs = (search needs, low (c .before .answer4 .given .1) (c .before .before .before .pre), search needs)
 
-enum-known-answer-5 : tie.Need-enum-known-answer-5
-enum-known-answer-5 c = search needs
-
 move-number-requires-5 : tie.Need-move-number-requires-5
 unfolding answeredHeight moveHeight movedAnswer
 move-number-requires-5 c κs = (search needs, low (c .before .answer5 .given .1) (c .before .before .before .pre), search needs)
-
-enum-known-answer-6 : tie.Need-enum-known-answer-6
-enum-known-answer-6 c = search needs
 
 returns : tie.Need-returns
 unfolding packedMove passKinds moveNumber moveHeight movedAnswer
@@ -107,22 +74,22 @@ pub moved-number-spec : {M : Type 1} → statement M
 moved-number-spec =
     tie.close
     (tie.spec
-    enum-told
-    enum-known-answer
+    (λ c. search needs)
+    (λ c. search needs)
     move-number-requires
-    enum-known-answer-2
+    (λ c. search needs)
     move-number-requires-2
-    enum-known-answer-3
-    certificate-number-requires
-    finalized-number-requires
-    mul-kinds
-    add-kinds
+    (λ c. search needs)
+    (λ c κs. search needs)
+    (λ c κs. search needs)
+    (λ c. search needs)
+    (λ c. search needs)
     move-number-requires-3
-    enum-known-answer-4
+    (λ c. search needs)
     move-number-requires-4
-    enum-known-answer-5
+    (λ c. search needs)
     move-number-requires-5
-    enum-known-answer-6
+    (λ c. search needs)
     returns
     returns-2
     returns-3

@@ -10,15 +10,9 @@ use Rattle.replica_c.proofs.size_number.Tie as tie
 use Rattle.replica_c.proofs.size_number.Reads as reads
 use Rattle.replica_c.proofs.size_number.Lts as lts
 
-enum-known-answer : tie.Need-enum-known-answer
-enum-known-answer c = search needs
-
 mul-result : tie.Need-mul-result
 unfolding answeredSize sizeAnswer
 mul-result c = omega (arith, c .before .before .before .pre, ap (λ (a : Size). answeredSize (sizeAnswer a)) (c .before .answer .given .1))
-
-enum-known-answer-2 : tie.Need-enum-known-answer-2
-enum-known-answer-2 c = search needs
 
 returns : tie.Need-returns
 unfolding packedSize sizeAnswer
@@ -30,4 +24,4 @@ returns-2 c = ap (λ (a : Size). packedSize (sizeAnswer a)) (sym (c .before .ans
 
 pub size-number-spec : {M : Type 1} → statement M
 size-number-spec =
-    tie.close (tie.spec enum-known-answer mul-result enum-known-answer-2 returns returns-2)
+    tie.close (tie.spec (λ c. search needs) mul-result (λ c. search needs) returns returns-2)

@@ -32,23 +32,8 @@ returns : tie.Need-returns Inv-loop μ-loop
 unfolding written
 returns c = (sym (lt-leb 32 _ (c .if1 .taken)), rw (lt-leb 32 (length (c .before .before .before .args .out .now)) (c .if1 .taken)))
 
-sha256-requires : tie.Need-sha256-requires Inv-loop μ-loop
-sha256-requires c κs = search needs
-
 loop-holds : tie.Need-loop-holds Inv-loop μ-loop
 loop-holds c = (search needs, refl, refl)
-
-array-read-out : tie.Need-array-read-out Inv-loop μ-loop
-array-read-out c = search needs
-
-slice-write-out : tie.Need-slice-write-out Inv-loop μ-loop
-slice-write-out c = search needs
-
-add-i : tie.Need-add-i Inv-loop μ-loop
-add-i c = search needs
-
-loop-less : tie.Need-loop-less Inv-loop μ-loop
-loop-less c = search needs
 
 loop-again : tie.Need-loop-again Inv-loop μ-loop
 loop-again c =
@@ -84,12 +69,12 @@ sha256-into-spec =
     Inv-loop
     μ-loop
     returns
-    sha256-requires
+    (λ c κs. search needs)
     loop-holds
-    array-read-out
-    slice-write-out
-    add-i
-    loop-less
+    (λ c. search needs)
+    (λ c. search needs)
+    (λ c. search needs)
+    (λ c. search needs)
     loop-again
     same-length
     returns-2)

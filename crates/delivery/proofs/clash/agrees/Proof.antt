@@ -4,9 +4,6 @@ use borrow.Author.Needs.{needs}
 use Rattle.delivery.proofs.clash.agrees.Statement.{statement}
 use Rattle.delivery.proofs.clash.agrees.Tie as tie
 
-same-bytes-requires : tie.Need-same-bytes-requires
-same-bytes-requires c κs = search needs
-
 returns : tie.Need-returns
 unfolding implies
 returns c = rw (c .before .if1 .taken) (c .same-bytes .ensures)
@@ -16,4 +13,4 @@ unfolding implies
 returns-2 c = rw (c .if1 .left)
 
 pub agrees-spec : {M : Type 1} → statement M
-agrees-spec = tie.close (tie.spec same-bytes-requires returns returns-2)
+agrees-spec = tie.close (tie.spec (λ c κs. search needs) returns returns-2)

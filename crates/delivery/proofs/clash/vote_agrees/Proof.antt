@@ -13,15 +13,6 @@ use borrow.Author.Needs.{needs}
 use Rattle.delivery.proofs.clash.vote_agrees.Statement.{statement}
 use Rattle.delivery.proofs.clash.vote_agrees.Tie as tie
 
-frame-kind-requires : tie.Need-frame-kind-requires
-frame-kind-requires c κs = search needs
-
-frame-signer-requires : tie.Need-frame-signer-requires
-frame-signer-requires c κs = search needs
-
-voter-mask-requires : tie.Need-voter-mask-requires
-voter-mask-requires c κs = search needs
-
 in-mask-requires : tie.Need-in-mask-requires
 in-mask-requires c κs =
     let start = c .before .before .before .before .before .before in
@@ -31,12 +22,6 @@ vote-digest-requires : tie.Need-vote-digest-requires
 vote-digest-requires c κs =
     let start = c .before .before .before .before .before .before .before in
     (start .pre .spot .readable .sized, (start .pre .spot .within, omega (arith, start .pre .signer-small (omega (arith, c .before .before .before .before .frame-kind .ensures .0)), start .pre .spot .readable .replicas)))
-
-frame-digest-requires : tie.Need-frame-digest-requires
-frame-digest-requires c κs = search needs
-
-agrees-requires : tie.Need-agrees-requires
-agrees-requires c κs = search needs
 
 returns : tie.Need-returns
 unfolding voteAgrees
@@ -59,12 +44,12 @@ pub vote-agrees-spec : {M : Type 1} → statement M
 vote-agrees-spec =
     tie.close
     (tie.spec
-    frame-kind-requires
-    frame-signer-requires
-    voter-mask-requires
+    (λ c κs. search needs)
+    (λ c κs. search needs)
+    (λ c κs. search needs)
     in-mask-requires
     vote-digest-requires
-    frame-digest-requires
-    agrees-requires
+    (λ c κs. search needs)
+    (λ c κs. search needs)
     returns
     returns-2)

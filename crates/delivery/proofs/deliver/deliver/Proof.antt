@@ -7,20 +7,11 @@ use borrow.Author.Needs.{needs}
 use Rattle.delivery.proofs.deliver.deliver.Statement.{statement}
 use Rattle.delivery.proofs.deliver.deliver.Tie as tie
 
-is-sound-requires : tie.Need-is-sound-requires
-is-sound-requires c κs = search needs
-
 deliver-sound-requires : tie.Need-deliver-sound-requires
 deliver-sound-requires c κs = sym (c .before .before .is-sound .ensures .0) ∙ c .before .if1 .taken
 
-same-length : tie.Need-same-length
-same-length c = search needs
-
 returns : tie.Need-returns
 returns c = c .before .before .deliver-sound .ensures
-
-same-length-2 : tie.Need-same-length-2
-same-length-2 c = search needs
 
 returns-2 : tie.Need-returns-2
 unfolding deliveredAnswer
@@ -31,4 +22,4 @@ returns-2 c =
     rw (call-unsound sha256 book frame (sym (c .before .is-sound .ensures .0) ∙ c .if1 .left)) (refl, refl)
 
 pub deliver-spec : {M : Type 1} → statement M
-deliver-spec = tie.close (tie.spec is-sound-requires deliver-sound-requires same-length returns same-length-2 returns-2)
+deliver-spec = tie.close (tie.spec (λ c κs. search needs) deliver-sound-requires (λ c. search needs) returns (λ c. search needs) returns-2)

@@ -7,15 +7,6 @@ use borrow.Author.Needs.{needs}
 use Rattle.delivery.proofs.deliver.deliver_read.Statement.{statement}
 use Rattle.delivery.proofs.deliver.deliver_read.Tie as tie
 
-clash-refusal-requires : tie.Need-clash-refusal-requires
-clash-refusal-requires c κs = search needs
-
-keep-requires : tie.Need-keep-requires
-keep-requires c κs = search needs
-
-same-length : tie.Need-same-length
-same-length c = search needs
-
 returns : tie.Need-returns
 unfolding deliveredAnswer
 returns c =
@@ -25,9 +16,6 @@ returns c =
     let frame = start .args .frame .now in
     rw (read-kept sha256 book frame (zero-passes _ _ (branch .before .clash-refusal .ensures) (branch .if1 .taken)))
     (kept-fresh sha256 book frame (start .args .h) (start .pre .height) _ _ (sym (c .if2 .taken) ∙ c .before .before .before .keep .ensures .0) (c .before .before .before .keep .ensures .1))
-
-same-length-2 : tie.Need-same-length-2
-same-length-2 c = search needs
 
 returns-2 : tie.Need-returns-2
 unfolding deliveredAnswer
@@ -39,9 +27,6 @@ returns-2 c =
     rw (read-kept sha256 book frame (zero-passes _ _ (branch .before .clash-refusal .ensures) (branch .if1 .taken)))
     (kept-known sha256 book frame (start .args .h) _ _ (sym (c .if2 .left) ∙ c .before .before .before .keep .ensures .0) (c .before .before .before .keep .ensures .1))
 
-same-length-3 : tie.Need-same-length-3
-same-length-3 c = search needs
-
 returns-3 : tie.Need-returns-3
 unfolding deliveredAnswer
 returns-3 c =
@@ -51,4 +36,4 @@ returns-3 c =
     rw (read-refused sha256 book frame _ (number-refuses _ _ (c .before .clash-refusal .ensures) (c .if1 .left))) (refl, refl)
 
 pub deliver-read-spec : {M : Type 1} → statement M
-deliver-read-spec = tie.close (tie.spec clash-refusal-requires keep-requires same-length returns same-length-2 returns-2 same-length-3 returns-3)
+deliver-read-spec = tie.close (tie.spec (λ c κs. search needs) (λ c κs. search needs) (λ c. search needs) returns (λ c. search needs) returns-2 (λ c. search needs) returns-3)

@@ -30,9 +30,6 @@ deliver-read-requires c κs =
     let passes = zero-passes _ _ (c .before .before .before .read-refusal .ensures) (c .before .before .if1 .taken) in
     frame-read sha256 book frame (λ i. omega (arith, c .before .before .before .before .before .before .slice-known .given i)) (start .pre) passes _ (c .frame-height .ensures .0)
 
-same-length : tie.Need-same-length
-same-length c = search needs
-
 returns : tie.Need-returns
 returns c =
     let branch = c .before .before .before .before .before in
@@ -40,9 +37,6 @@ returns c =
     let book = start .args .book .now in
     let frame = start .args .frame .now in
     rw (call-read sha256 book frame (start .pre) (zero-passes _ _ (branch .before .read-refusal .ensures) (branch .if1 .taken))) (c .before .before .deliver-read .ensures)
-
-same-length-2 : tie.Need-same-length-2
-same-length-2 c = search needs
 
 returns-2 : tie.Need-returns-2
 unfolding deliveredAnswer
@@ -59,7 +53,7 @@ deliver-sound-spec =
     read-refusal-requires
     frame-height-requires
     deliver-read-requires
-    same-length
+    (λ c. search needs)
     returns
-    same-length-2
+    (λ c. search needs)
     returns-2)

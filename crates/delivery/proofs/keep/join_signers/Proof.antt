@@ -11,17 +11,11 @@ use borrow.Author.Needs.{needs}
 use Rattle.delivery.proofs.keep.join_signers.Statement.{statement}
 use Rattle.delivery.proofs.keep.join_signers.Tie as tie
 
-mask-at-requires : tie.Need-mask-at-requires
-mask-at-requires c κs = search needs
-
 keep-mask-requires : tie.Need-keep-mask-requires
 keep-mask-requires c κs =
     let start = c .before .before .before .before .before in
     let spot = start .pre .0 in
     (spot .ready, (spot .within, (start .pre .1 .0, or-lt 16 _ _ (c .before .before .mask-at .ensures .1) (start .pre .1 .1))))
-
-same-length : tie.Need-same-length
-same-length c = search needs
 
 returns : tie.Need-returns
 unfolding joinSigners
@@ -30,9 +24,6 @@ returns c =
     let held = c .before .mask-at .ensures .0 in
     let joined = ap (λ (mask : ℕ). bitOr mask (start .args .signers)) held in
     known-frame (start .args .book .now) (start .args .h) _ _ (eq-eqb _ _ (sym joined ∙ c .if1 .taken ∙ held))
-
-same-length-2 : tie.Need-same-length-2
-same-length-2 c = search needs
 
 returns-2 : tie.Need-returns-2
 unfolding joinSigners
@@ -49,4 +40,4 @@ returns-2 c =
 pub join-signers-spec : {M : Type 1} → statement M
 join-signers-spec =
     tie.close
-    (tie.spec mask-at-requires keep-mask-requires same-length returns same-length-2 returns-2)
+    (tie.spec (λ c κs. search needs) keep-mask-requires (λ c. search needs) returns (λ c. search needs) returns-2)

@@ -13,15 +13,6 @@ use borrow.Author.Needs.{needs}
 use Rattle.delivery.proofs.keep.keep.Statement.{statement}
 use Rattle.delivery.proofs.keep.keep.Tie as tie
 
-frame-kind-requires : tie.Need-frame-kind-requires
-frame-kind-requires c κs = search needs
-
-keep-proposal-requires : tie.Need-keep-proposal-requires
-keep-proposal-requires c κs = search needs
-
-same-length : tie.Need-same-length
-same-length c = search needs
-
 returns : tie.Need-returns
 returns c =
     let branch = c .before .before .before .before in
@@ -36,9 +27,6 @@ keep-block-vote-requires c κs =
     let start = c .before .before .before .before .before .before in
     (start .pre, start .pre .signer-small (omega (arith, c .before .before .before .frame-kind .ensures .0, start .pre .kind-low)))
 
-same-length-2 : tie.Need-same-length-2
-same-length-2 c = search needs
-
 returns-2 : tie.Need-returns-2
 returns-2 c =
     let branch = c .before .before .before .before in
@@ -47,12 +35,6 @@ returns-2 c =
     let h = start .args .h in
     let decides = kind-two sha256 book h (start .args .frame .now) (start .pre) (sym (branch .before .before .frame-kind .ensures .0) ∙ branch .if2 .taken) in
     same-kept book h _ _ _ _ decides (c .before .before .keep-block-vote .ensures)
-
-keep-block-certificate-requires : tie.Need-keep-block-certificate-requires
-keep-block-certificate-requires c κs = search needs
-
-same-length-3 : tie.Need-same-length-3
-same-length-3 c = search needs
 
 returns-3 : tie.Need-returns-3
 returns-3 c =
@@ -68,12 +50,6 @@ frame-signers-requires c κs =
     let start = c .before .before .before .before .before .before in
     (start .pre .size, λ l. omega (arith, start .pre .signer-small l, start .pre .spot .readable .replicas))
 
-join-signers-requires : tie.Need-join-signers-requires
-join-signers-requires c κs = search needs
-
-same-length-4 : tie.Need-same-length-4
-same-length-4 c = search needs
-
 returns-4 : tie.Need-returns-4
 returns-4 c =
     let branch = c .before .before .before .before in
@@ -84,12 +60,6 @@ returns-4 c =
     let dummy = sym (ap (λ (kind : ℕ). eqb kind 3 || eqb kind 6) (asked .frame-kind .ensures .0)) ∙ branch .if4 .taken in
     let decides = dummy-joins sha256 book h (start .args .frame .now) (start .pre) dummy ∙ ap (λ (signers : ℕ). joinSigners 1 (at (decode book) h) signers) (sym (branch .before .frame-signers .ensures .0)) in
     same-kept book h _ _ _ _ decides (c .before .before .join-signers .ensures)
-
-join-signers-requires-2 : tie.Need-join-signers-requires-2
-join-signers-requires-2 c κs = search needs
-
-same-length-5 : tie.Need-same-length-5
-same-length-5 c = search needs
 
 returns-5 : tie.Need-returns-5
 returns-5 c =
@@ -110,20 +80,20 @@ pub keep-spec : {M : Type 1} → statement M
 keep-spec =
     tie.close
     (tie.spec
-    frame-kind-requires
-    keep-proposal-requires
-    same-length
+    (λ c κs. search needs)
+    (λ c κs. search needs)
+    (λ c. search needs)
     returns
     keep-block-vote-requires
-    same-length-2
+    (λ c. search needs)
     returns-2
-    keep-block-certificate-requires
-    same-length-3
+    (λ c κs. search needs)
+    (λ c. search needs)
     returns-3
     frame-signers-requires
-    join-signers-requires
-    same-length-4
+    (λ c κs. search needs)
+    (λ c. search needs)
     returns-4
-    join-signers-requires-2
-    same-length-5
+    (λ c κs. search needs)
+    (λ c. search needs)
     returns-5)

@@ -9,23 +9,11 @@ use borrow.Author.Needs.{needs}
 use Rattle.delivery.proofs.keep.keep_block_certificate.Statement.{statement}
 use Rattle.delivery.proofs.keep.keep_block_certificate.Tie as tie
 
-is-notarized-requires : tie.Need-is-notarized-requires
-is-notarized-requires c κs = search needs
-
-frame-mask-requires : tie.Need-frame-mask-requires
-frame-mask-requires c κs = search needs
-
-frame-block-requires : tie.Need-frame-block-requires
-frame-block-requires c κs = search needs
-
 keep-notarized-requires : tie.Need-keep-notarized-requires
 keep-notarized-requires c κs =
     let start = c .before .before .before .before .before .before .before .before in
     let given = start .pre in
     (given .spot .ready, (given .spot .within, (given .spot .status-small, (c .frame-block .ensures .1, c .before .frame-mask .ensures .1))))
-
-same-length : tie.Need-same-length
-same-length c = search needs
 
 returns : tie.Need-returns
 unfolding keepBlockCertificate
@@ -34,9 +22,6 @@ returns c =
     let book = start .args .book .now in
     let h = start .args .h in
     known-frame book h _ _ (sym (c .before .is-notarized .ensures) ∙ c .if1 .taken)
-
-same-length-2 : tie.Need-same-length-2
-same-length-2 c = search needs
 
 returns-2 : tie.Need-returns-2
 unfolding keepBlockCertificate
@@ -55,11 +40,11 @@ pub keep-block-certificate-spec : {M : Type 1} → statement M
 keep-block-certificate-spec =
     tie.close
     (tie.spec
-    is-notarized-requires
-    frame-mask-requires
-    frame-block-requires
+    (λ c κs. search needs)
+    (λ c κs. search needs)
+    (λ c κs. search needs)
     keep-notarized-requires
-    same-length
+    (λ c. search needs)
     returns
-    same-length-2
+    (λ c. search needs)
     returns-2)

@@ -14,21 +14,12 @@ use borrow.Author.Needs.{needs}
 use Rattle.delivery.proofs.keep.keep_block_vote.Statement.{statement}
 use Rattle.delivery.proofs.keep.keep_block_vote.Tie as tie
 
-frame-signer-requires : tie.Need-frame-signer-requires
-frame-signer-requires c κs = search needs
-
-voter-mask-requires : tie.Need-voter-mask-requires
-voter-mask-requires c κs = search needs
-
 in-mask-requires : tie.Need-in-mask-requires
 in-mask-requires c κs =
     let start = c .before .before .before .before .before in
     let given = start .pre .0 in
     let signed = c .before .before .frame-signer .ensures .0 in
     omega (arith, signed, start .pre .1, given .spot .readable .replicas)
-
-frame-digest-requires : tie.Need-frame-digest-requires
-frame-digest-requires c κs = search needs
 
 keep-vote-requires : tie.Need-keep-vote-requires
 keep-vote-requires c κs =
@@ -56,9 +47,6 @@ notarize-requires c κs =
     let fits = shaped-vote x here _ (omega (arith, signed, start .pre .1, given .spot .readable .replicas)) (c .before .before .before .before .frame-digest .ensures .1) (shaped-here book h (given .spot)) in
     spot-after book h (given .spot) _ fits _ (c .before .before .before .keep-vote .ensures) (vote-status x _ _ (given .spot .status-small))
 
-same-length : tie.Need-same-length
-same-length c = search needs
-
 returns : tie.Need-returns
 unfolding keepBlockVote
 returns c =
@@ -69,9 +57,6 @@ returns c =
     let signed = c .before .before .before .before .frame-signer .ensures .0 in
     let there = same-bit held signed (c .before .in-mask .ensures) ∙ c .if1 .taken in
     known-frame book h _ _ there
-
-same-length-2 : tie.Need-same-length-2
-same-length-2 c = search needs
 
 returns-2 : tie.Need-returns-2
 unfolding keepBlockVote
@@ -96,13 +81,13 @@ pub keep-block-vote-spec : {M : Type 1} → statement M
 keep-block-vote-spec =
     tie.close
     (tie.spec
-    frame-signer-requires
-    voter-mask-requires
+    (λ c κs. search needs)
+    (λ c κs. search needs)
     in-mask-requires
-    frame-digest-requires
+    (λ c κs. search needs)
     keep-vote-requires
     notarize-requires
-    same-length
+    (λ c. search needs)
     returns
-    same-length-2
+    (λ c. search needs)
     returns-2)

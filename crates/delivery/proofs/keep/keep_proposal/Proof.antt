@@ -11,21 +11,6 @@ use borrow.Author.Needs.{needs}
 use Rattle.delivery.proofs.keep.keep_proposal.Statement.{statement}
 use Rattle.delivery.proofs.keep.keep_proposal.Tie as tie
 
-holds-proposal-requires : tie.Need-holds-proposal-requires
-holds-proposal-requires c κs = search needs
-
-frame-block-digest-requires : tie.Need-frame-block-digest-requires
-frame-block-digest-requires c κs = search needs
-
-frame-block-requires : tie.Need-frame-block-requires
-frame-block-requires c κs = search needs
-
-keep-proposal-requires : tie.Need-keep-proposal-requires
-keep-proposal-requires c κs = search needs
-
-slice-aggregate-notarize-with : tie.Need-slice-aggregate-notarize-with
-slice-aggregate-notarize-with c = search needs
-
 notarize-with-requires : tie.Need-notarize-with-requires
 notarize-with-requires c κs =
     let branch = c .before .before .before .before .before .before .before .before in
@@ -43,9 +28,6 @@ notarize-with-requires c κs =
       c .before .before .before .before .before .before .before .frame-block-digest .ensures ∙ sym (ap sha256 held),
     )
 
-same-length : tie.Need-same-length
-same-length c = search needs
-
 returns : tie.Need-returns
 unfolding keepProposal
 returns c =
@@ -53,9 +35,6 @@ returns c =
     let book = start .args .book .now in
     let h = start .args .h in
     known-frame book h _ _ (sym (c .before .holds-proposal .ensures) ∙ c .if1 .taken)
-
-same-length-2 : tie.Need-same-length-2
-same-length-2 c = search needs
 
 returns-2 : tie.Need-returns-2
 unfolding keepProposal
@@ -76,13 +55,13 @@ pub keep-proposal-spec : {M : Type 1} → statement M
 keep-proposal-spec =
     tie.close
     (tie.spec
-    holds-proposal-requires
-    frame-block-digest-requires
-    frame-block-requires
-    keep-proposal-requires
-    slice-aggregate-notarize-with
+    (λ c κs. search needs)
+    (λ c κs. search needs)
+    (λ c κs. search needs)
+    (λ c κs. search needs)
+    (λ c. search needs)
     notarize-with-requires
-    same-length
+    (λ c. search needs)
     returns
-    same-length-2
+    (λ c. search needs)
     returns-2)

@@ -8,32 +8,14 @@ use borrow.Author.Needs.{needs}
 use Rattle.delivery.proofs.notarize.notarize.Statement.{statement}
 use Rattle.delivery.proofs.notarize.notarize.Tie as tie
 
-awaits-votes-requires : tie.Need-awaits-votes-requires
-awaits-votes-requires c κs = search needs
-
-proposal-requires : tie.Need-proposal-requires
-proposal-requires c κs = search needs
-
-sha256-requires : tie.Need-sha256-requires
-sha256-requires c κs = search needs
-
-slice-aggregate-notarize-with : tie.Need-slice-aggregate-notarize-with
-slice-aggregate-notarize-with c = search needs
-
 notarize-with-requires : tie.Need-notarize-with-requires
 notarize-with-requires c κs =
     let start = c .before .before .before .before .before .before .before .before .before in
     let hashed = c .before .before .sha256 .ensures ∙ ap sha256 (c .before .before .before .proposal .ensures) in
     (start .pre, hashed)
 
-same-length : tie.Need-same-length
-same-length c = search needs
-
 returns : tie.Need-returns
 returns c = c .before .before .notarize-with .ensures
-
-same-length-2 : tie.Need-same-length-2
-same-length-2 c = search needs
 
 returns-2 : tie.Need-returns-2
 returns-2 c =
@@ -47,12 +29,12 @@ pub notarize-spec : {M : Type 1} → statement M
 notarize-spec =
     tie.close
     (tie.spec
-    awaits-votes-requires
-    proposal-requires
-    sha256-requires
-    slice-aggregate-notarize-with
+    (λ c κs. search needs)
+    (λ c κs. search needs)
+    (λ c κs. search needs)
+    (λ c. search needs)
     notarize-with-requires
-    same-length
+    (λ c. search needs)
     returns
-    same-length-2
+    (λ c. search needs)
     returns-2)

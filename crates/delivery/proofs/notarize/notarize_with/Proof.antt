@@ -10,21 +10,6 @@ use borrow.Author.Needs.{needs}
 use Rattle.delivery.proofs.notarize.notarize_with.Statement.{statement}
 use Rattle.delivery.proofs.notarize.notarize_with.Tie as tie
 
-awaits-votes-requires : tie.Need-awaits-votes-requires
-awaits-votes-requires c κs = search needs
-
-voters-for-requires : tie.Need-voters-for-requires
-voters-for-requires c κs = search needs
-
-quorum-requires : tie.Need-quorum-requires
-quorum-requires c κs = search needs
-
-notarize-held-requires : tie.Need-notarize-held-requires
-notarize-held-requires c κs = search needs
-
-same-length : tie.Need-same-length
-same-length c = search needs
-
 returns : tie.Need-returns
 returns c =
     let inner = c .before .before .before .before in
@@ -39,9 +24,6 @@ returns c =
     let becomes = notarizes sha256 (decode book) x _ tally awaits enough in
     c .before .before .notarize-held .ensures ∙ sym (ap (λ (y : Height). encode (withHeight (decode book) h y)) becomes)
 
-same-length-2 : tie.Need-same-length-2
-same-length-2 c = search needs
-
 returns-2 : tie.Need-returns-2
 returns-2 c =
     let start = c .before .before .before .before .before .before .before .before .before .before in
@@ -52,9 +34,6 @@ returns-2 c =
     let tally = c .before .before .before .voters-for .ensures .0 ∙ ap (λ (digest : Bytes). votersFor x digest (decode book .n)) (start .pre .1) in
     let stays = too-few sha256 (decode book) x _ tally few in
     sym (ap (λ (y : Height). encode (withHeight (decode book) h y)) stays ∙ same-book book h (start .pre .0))
-
-same-length-3 : tie.Need-same-length-3
-same-length-3 c = search needs
 
 returns-3 : tie.Need-returns-3
 returns-3 c =
@@ -68,13 +47,13 @@ pub notarize-with-spec : {M : Type 1} → statement M
 notarize-with-spec =
     tie.close
     (tie.spec
-    awaits-votes-requires
-    voters-for-requires
-    quorum-requires
-    notarize-held-requires
-    same-length
+    (λ c κs. search needs)
+    (λ c κs. search needs)
+    (λ c κs. search needs)
+    (λ c κs. search needs)
+    (λ c. search needs)
     returns
-    same-length-2
+    (λ c. search needs)
     returns-2
-    same-length-3
+    (λ c. search needs)
     returns-3)

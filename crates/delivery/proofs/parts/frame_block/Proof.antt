@@ -4,17 +4,8 @@ use borrow.Author.Needs.{needs}
 use Rattle.delivery.proofs.parts.frame_block.Statement.{statement}
 use Rattle.delivery.proofs.parts.frame_block.Tie as tie
 
-sub-result : tie.Need-sub-result
-sub-result c = search needs
-
-part-result-start : tie.Need-part-result-start
-part-result-start c = search needs
-
-part-result-end : tie.Need-part-result-end
-part-result-end c = search needs
-
 returns : tie.Need-returns
 returns c = block-lent _ (c .before .pre)
 
 pub frame-block-spec : {M : Type 1} → statement M
-frame-block-spec = tie.close (tie.spec sub-result part-result-start part-result-end returns)
+frame-block-spec = tie.close (tie.spec (λ c. search needs) (λ c. search needs) (λ c. search needs) returns)

@@ -7,18 +7,9 @@ use borrow.Author.Needs.{needs}
 use Rattle.delivery.proofs.parts.frame_digest.Statement.{statement}
 use Rattle.delivery.proofs.parts.frame_digest.Tie as tie
 
-sub-result : tie.Need-sub-result
-sub-result c = search needs
-
-part-result-start : tie.Need-part-result-start
-part-result-start c = search needs
-
-part-result-end : tie.Need-part-result-end
-part-result-end c = search needs
-
 returns : tie.Need-returns
 unfolding frameDigest part
 returns c = (refl, digest-lent (c .before .args .frame .now) (c .before .pre))
 
 pub frame-digest-spec : {M : Type 1} → statement M
-frame-digest-spec = tie.close (tie.spec sub-result part-result-start part-result-end returns)
+frame-digest-spec = tie.close (tie.spec (λ c. search needs) (λ c. search needs) (λ c. search needs) returns)

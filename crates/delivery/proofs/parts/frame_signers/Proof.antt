@@ -8,21 +8,12 @@ use borrow.Author.Needs.{needs}
 use Rattle.delivery.proofs.parts.frame_signers.Statement.{statement}
 use Rattle.delivery.proofs.parts.frame_signers.Tie as tie
 
-is-statement-requires : tie.Need-is-statement-requires
-is-statement-requires c κs = search needs
-
-frame-signer-requires : tie.Need-frame-signer-requires
-frame-signer-requires c κs = search needs
-
 bit-requires : tie.Need-bit-requires
 bit-requires c κs =
     let branch = c .before in
     let start = branch .before .before .before in
     let is = sym (branch .before .is-statement .ensures) ∙ branch .if1 .taken in
     omega (arith, c .frame-signer .ensures .0, start .pre .1 (statement-high (start .args .frame .now) is))
-
-frame-mask-requires : tie.Need-frame-mask-requires
-frame-mask-requires c κs = search needs
 
 returns : tie.Need-returns
 returns c =
@@ -46,9 +37,9 @@ pub frame-signers-spec : {M : Type 1} → statement M
 frame-signers-spec =
     tie.close
     (tie.spec
-    is-statement-requires
-    frame-signer-requires
+    (λ c κs. search needs)
+    (λ c κs. search needs)
     bit-requires
-    frame-mask-requires
+    (λ c κs. search needs)
     returns
     returns-2)

@@ -5,12 +5,9 @@ use borrow.Author.Needs.{needs}
 use Rattle.delivery.proofs.parts.is_statement.Statement.{statement}
 use Rattle.delivery.proofs.parts.is_statement.Tie as tie
 
-frame-kind-requires : tie.Need-frame-kind-requires
-frame-kind-requires c κs = search needs
-
 returns : tie.Need-returns
 unfolding isStatement inRange
 returns c = rw (c .frame-kind .ensures .0)
 
 pub is-statement-spec : {M : Type 1} → statement M
-is-statement-spec = tie.close (tie.spec frame-kind-requires returns)
+is-statement-spec = tie.close (tie.spec (λ c κs. search needs) returns)

@@ -8,15 +8,6 @@ use borrow.Author.Needs.{needs}
 use Rattle.delivery.proofs.refuse.leader_signed.Statement.{statement}
 use Rattle.delivery.proofs.refuse.leader_signed.Tie as tie
 
-frame-kind-requires : tie.Need-frame-kind-requires
-frame-kind-requires c κs = search needs
-
-frame-signer-requires : tie.Need-frame-signer-requires
-frame-signer-requires c κs = search needs
-
-leader-requires : tie.Need-leader-requires
-leader-requires c κs = search needs
-
 returns : tie.Need-returns
 unfolding leaderSigned implies
 returns c = rw (sym (c .before .before .before .frame-kind .ensures .0) ∙ c .before .before .if1 .taken, c .before .frame-signer .ensures .0, c .leader .ensures .0)
@@ -26,4 +17,4 @@ unfolding leaderSigned implies
 returns-2 c = rw (ne-eqb (kind (c .before .before .before .before .args .frame .now)) 1 (λ e. c .if1 .left (c .before .frame-kind .ensures .0 ∙ e)))
 
 pub leader-signed-spec : {M : Type 1} → statement M
-leader-signed-spec = tie.close (tie.spec frame-kind-requires frame-signer-requires leader-requires returns returns-2)
+leader-signed-spec = tie.close (tie.spec (λ c κs. search needs) (λ c κs. search needs) (λ c κs. search needs) returns returns-2)

@@ -4,18 +4,6 @@ use borrow.Author.Needs.{needs}
 use Rattle.delivery.proofs.refuse.member_refusal.Statement.{statement}
 use Rattle.delivery.proofs.refuse.member_refusal.Tie as tie
 
-members-fit-requires : tie.Need-members-fit-requires
-members-fit-requires c κs = search needs
-
-leader-signed-requires : tie.Need-leader-signed-requires
-leader-signed-requires c κs = search needs
-
-signers-enough-requires : tie.Need-signers-enough-requires
-signers-enough-requires c κs = search needs
-
-first-refusal-requires : tie.Need-first-refusal-requires
-first-refusal-requires c κs = search needs
-
 returns : tie.Need-returns
 unfolding memberRows
 returns c =
@@ -23,4 +11,4 @@ returns c =
     (c .first-refusal .ensures)
 
 pub member-refusal-spec : {M : Type 1} → statement M
-member-refusal-spec = tie.close (tie.spec members-fit-requires leader-signed-requires signers-enough-requires first-refusal-requires returns)
+member-refusal-spec = tie.close (tie.spec (λ c κs. search needs) (λ c κs. search needs) (λ c κs. search needs) (λ c κs. search needs) returns)

@@ -11,14 +11,8 @@ use borrow.Author.Needs.{needs}
 use Rattle.delivery.proofs.refuse.read_refusal.Statement.{statement}
 use Rattle.delivery.proofs.refuse.read_refusal.Tie as tie
 
-frame-well-formed-requires : tie.Need-frame-well-formed-requires
-frame-well-formed-requires c κs = search needs
-
 frame-height-requires : tie.Need-frame-height-requires
 frame-height-requires c κs = formed-size (c .before .before .before .before .args .frame .now) (sym (c .before .frame-well-formed .ensures) ∙ c .if1 .taken)
-
-heights-requires : tie.Need-heights-requires
-heights-requires c κs = search needs
 
 member-refusal-requires : tie.Need-member-refusal-requires
 member-refusal-requires c κs =
@@ -78,9 +72,9 @@ pub read-refusal-spec : {M : Type 1} → statement M
 read-refusal-spec =
     tie.close
     (tie.spec
-    frame-well-formed-requires
+    (λ c κs. search needs)
     frame-height-requires
-    heights-requires
+    (λ c κs. search needs)
     member-refusal-requires
     returns
     returns-2

@@ -9,15 +9,6 @@ use borrow.Author.Needs.{needs}
 use Rattle.delivery.proofs.refuse.signers_enough.Statement.{statement}
 use Rattle.delivery.proofs.refuse.signers_enough.Tie as tie
 
-is-statement-requires : tie.Need-is-statement-requires
-is-statement-requires c κs = search needs
-
-frame-mask-requires : tie.Need-frame-mask-requires
-frame-mask-requires c κs = search needs
-
-quorum-requires : tie.Need-quorum-requires
-quorum-requires c κs = search needs
-
 returns : tie.Need-returns
 unfolding signersEnough
 returns c = rw (sym (c .before .is-statement .ensures) ∙ c .if1 .taken)
@@ -29,4 +20,4 @@ returns-2 c =
     (c .quorum .ensures ∙ ap (λ (mask : ℕ). quorum (view (decode (c .before .before .before .before .before .before .args .book .now))) mask) (c .before .frame-mask .ensures .0))
 
 pub signers-enough-spec : {M : Type 1} → statement M
-signers-enough-spec = tie.close (tie.spec is-statement-requires frame-mask-requires quorum-requires returns returns-2)
+signers-enough-spec = tie.close (tie.spec (λ c κs. search needs) (λ c κs. search needs) (λ c κs. search needs) returns returns-2)

@@ -6,23 +6,8 @@ use borrow.Author.Needs.{needs}
 use Rattle.fields.proofs.fresh.led_by_zero.Statement.{statement}
 use Rattle.fields.proofs.fresh.led_by_zero.Tie as tie
 
-clear-requires : tie.Need-clear-requires
-clear-requires c κs = search needs
-
-cast-book : tie.Need-cast-book
-cast-book c = search needs
-
-slice-write-book : tie.Need-slice-write-book
-slice-write-book c = search needs
-
-cast-book-2 : tie.Need-cast-book-2
-cast-book-2 c = search needs
-
 slice-write-book-2 : tie.Need-slice-write-book-2
 slice-write-book-2 c = simp length-set (omega arith)
-
-cast-book-3 : tie.Need-cast-book-3
-cast-book-3 c = search needs
 
 slice-write-book-3 : tie.Need-slice-write-book-3
 slice-write-book-3 c = simp length-set (omega arith)
@@ -33,9 +18,6 @@ slice-write-book-4 c = simp length-set (omega arith)
 slice-write-book-5 : tie.Need-slice-write-book-5
 slice-write-book-5 c = simp length-set (omega arith)
 
-same-length : tie.Need-same-length
-same-length c = search needs
-
 returns : tie.Need-returns
 returns c =
     let start = c .before .before .before .before .before in
@@ -45,14 +27,14 @@ pub led-by-zero-spec : {M : Type 1} → statement M
 led-by-zero-spec =
     tie.close
     (tie.spec
-    clear-requires
-    cast-book
-    slice-write-book
-    cast-book-2
+    (λ c κs. search needs)
+    (λ c. search needs)
+    (λ c. search needs)
+    (λ c. search needs)
     slice-write-book-2
-    cast-book-3
+    (λ c. search needs)
     slice-write-book-3
     slice-write-book-4
     slice-write-book-5
-    same-length
+    (λ c. search needs)
     returns)

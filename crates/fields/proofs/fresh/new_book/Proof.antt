@@ -16,9 +16,6 @@ Inv-loop book₀ n own leaders i₀ book i = (i ≤ length leaders) × (book ≡
 abbrev μ-loop : tie.MeasureT-loop
 μ-loop book₀ n own leaders i₀ book i = length leaders - i
 
-led-by-zero-requires : tie.Need-led-by-zero-requires Inv-loop μ-loop
-led-by-zero-requires c κs = search needs
-
 loop-holds : tie.Need-loop-holds Inv-loop μ-loop
 loop-holds c =
     let start = c .before .before .before .before .before .before in
@@ -68,7 +65,7 @@ new-book-spec =
     (tie.spec
     Inv-loop
     μ-loop
-    led-by-zero-requires
+    (λ c κs. search needs)
     loop-holds
     shared-slice-read-book
     mul-book

@@ -6,26 +6,11 @@ use borrow.Author.Needs.{needs}
 use Rattle.fields.proofs.head.set_head.Statement.{statement}
 use Rattle.fields.proofs.head.set_head.Tie as tie
 
-cast-book : tie.Need-cast-book
-cast-book c = search needs
-
-slice-write-book : tie.Need-slice-write-book
-slice-write-book c = search needs
-
-cast-book-2 : tie.Need-cast-book-2
-cast-book-2 c = search needs
-
 slice-write-book-2 : tie.Need-slice-write-book-2
 slice-write-book-2 c = simp length-set (omega arith)
 
-cast-book-3 : tie.Need-cast-book-3
-cast-book-3 c = search needs
-
 slice-write-book-3 : tie.Need-slice-write-book-3
 slice-write-book-3 c = simp length-set (omega arith)
-
-same-length : tie.Need-same-length
-same-length c = search needs
 
 returns : tie.Need-returns
 returns c = book-head (c .args .book .now) (c .pre .0 .whole) (c .args .flags) (c .args .current) (c .args .finalized)
@@ -34,11 +19,11 @@ pub set-head-spec : {M : Type 1} → statement M
 set-head-spec =
     tie.close
     (tie.spec
-    cast-book
-    slice-write-book
-    cast-book-2
+    (λ c. search needs)
+    (λ c. search needs)
+    (λ c. search needs)
     slice-write-book-2
-    cast-book-3
+    (λ c. search needs)
     slice-write-book-3
-    same-length
+    (λ c. search needs)
     returns)

@@ -4,12 +4,9 @@ use borrow.Author.Needs.{needs}
 use Rattle.fields.proofs.height.holds_proposal.Statement.{statement}
 use Rattle.fields.proofs.height.holds_proposal.Tie as tie
 
-status-requires : tie.Need-status-requires
-status-requires c κs = search needs
-
 returns : tie.Need-returns
 unfolding holdsProposal
 returns c = rw (c .status .ensures .0)
 
 pub holds-proposal-spec : {M : Type 1} → statement M
-holds-proposal-spec = tie.close (tie.spec status-requires returns)
+holds-proposal-spec = tie.close (tie.spec (λ c κs. search needs) returns)

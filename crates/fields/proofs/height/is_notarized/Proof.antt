@@ -4,12 +4,9 @@ use borrow.Author.Needs.{needs}
 use Rattle.fields.proofs.height.is_notarized.Statement.{statement}
 use Rattle.fields.proofs.height.is_notarized.Tie as tie
 
-status-requires : tie.Need-status-requires
-status-requires c κs = search needs
-
 returns : tie.Need-returns
 unfolding isNotarized
 returns c = rw (c .status .ensures .0)
 
 pub is-notarized-spec : {M : Type 1} → statement M
-is-notarized-spec = tie.close (tie.spec status-requires returns)
+is-notarized-spec = tie.close (tie.spec (λ c κs. search needs) returns)

@@ -5,16 +5,10 @@ use borrow.Author.Needs.{needs}
 use Rattle.fields.proofs.height.leader.Statement.{statement}
 use Rattle.fields.proofs.height.leader.Tie as tie
 
-content-at-requires : tie.Need-content-at-requires
-content-at-requires c κs = search needs
-
-byte-requires : tie.Need-byte-requires
-byte-requires c κs = search needs
-
 returns : tie.Need-returns
 returns c =
     let start = c .before .before .before in
     (c .byte .ensures .0 ∙ leader-at (start .args .book .now) (start .args .h) (start .pre .1) _ (c .before .content-at .ensures), c .byte .ensures .1)
 
 pub leader-spec : {M : Type 1} → statement M
-leader-spec = tie.close (tie.spec content-at-requires byte-requires returns)
+leader-spec = tie.close (tie.spec (λ c κs. search needs) (λ c κs. search needs) returns)

@@ -4,30 +4,6 @@ use borrow.Author.Needs.{needs}
 use Rattle.fields.proofs.height.vote_digest.Statement.{statement}
 use Rattle.fields.proofs.height.vote_digest.Tie as tie
 
-body-at-requires : tie.Need-body-at-requires
-body-at-requires c κs = search needs
-
-add-from : tie.Need-add-from
-add-from c = search needs
-
-mul-from : tie.Need-mul-from
-mul-from c = search needs
-
-add-from-2 : tie.Need-add-from-2
-add-from-2 c = search needs
-
-add-result : tie.Need-add-result
-add-result c = search needs
-
-sub-result : tie.Need-sub-result
-sub-result c = search needs
-
-part-result-start : tie.Need-part-result-start
-part-result-start c = search needs
-
-part-result-end : tie.Need-part-result-end
-part-result-end c = search needs
-
 returns : tie.Need-returns
 returns c =
     let start = c .before .before .before in
@@ -37,12 +13,12 @@ pub vote-digest-spec : {M : Type 1} → statement M
 vote-digest-spec =
     tie.close
     (tie.spec
-    body-at-requires
-    add-from
-    mul-from
-    add-from-2
-    add-result
-    sub-result
-    part-result-start
-    part-result-end
+    (λ c κs. search needs)
+    (λ c. search needs)
+    (λ c. search needs)
+    (λ c. search needs)
+    (λ c. search needs)
+    (λ c. search needs)
+    (λ c. search needs)
+    (λ c. search needs)
     returns)

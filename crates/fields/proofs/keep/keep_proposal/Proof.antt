@@ -7,27 +7,6 @@ use borrow.Author.Needs.{needs}
 use Rattle.fields.proofs.keep.keep_proposal.Statement.{statement}
 use Rattle.fields.proofs.keep.keep_proposal.Tie as tie
 
-content-at-requires : tie.Need-content-at-requires
-content-at-requires c κs = search needs
-
-body-at-requires : tie.Need-body-at-requires
-body-at-requires c κs = search needs
-
-status-requires : tie.Need-status-requires
-status-requires c κs = search needs
-
-add-book : tie.Need-add-book
-add-book c = search needs
-
-cast-book : tie.Need-cast-book
-cast-book c = search needs
-
-add-book-2 : tie.Need-add-book-2
-add-book-2 c = search needs
-
-slice-write-book : tie.Need-slice-write-book
-slice-write-book c = search needs
-
 copy-to-requires : tie.Need-copy-to-requires
 copy-to-requires c κs = simp length-set (omega (arith, c .before .before .before .before .before .before .before .before))
 
@@ -48,13 +27,13 @@ pub keep-proposal-spec : {M : Type 1} → statement M
 keep-proposal-spec =
     tie.close
     (tie.spec
-    content-at-requires
-    body-at-requires
-    status-requires
-    add-book
-    cast-book
-    add-book-2
-    slice-write-book
+    (λ c κs. search needs)
+    (λ c κs. search needs)
+    (λ c κs. search needs)
+    (λ c. search needs)
+    (λ c. search needs)
+    (λ c. search needs)
+    (λ c. search needs)
     copy-to-requires
     same-length
     returns)

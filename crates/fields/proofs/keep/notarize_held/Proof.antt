@@ -6,26 +6,8 @@ use borrow.Author.Needs.{needs}
 use Rattle.fields.proofs.keep.notarize_held.Statement.{statement}
 use Rattle.fields.proofs.keep.notarize_held.Tie as tie
 
-content-at-requires : tie.Need-content-at-requires
-content-at-requires c κs = search needs
-
-body-at-requires : tie.Need-body-at-requires
-body-at-requires c κs = search needs
-
-status-requires : tie.Need-status-requires
-status-requires c κs = search needs
-
-add-copy-inside : tie.Need-add-copy-inside
-add-copy-inside c = search needs
-
 copy-inside-requires : tie.Need-copy-inside-requires
 copy-inside-requires c κs = (search needs, (search needs, inr (omega arith)))
-
-mark-notarized-requires : tie.Need-mark-notarized-requires
-mark-notarized-requires c κs = search needs
-
-same-length : tie.Need-same-length
-same-length c = search needs
 
 returns : tie.Need-returns
 returns c =
@@ -41,11 +23,11 @@ pub notarize-held-spec : {M : Type 1} → statement M
 notarize-held-spec =
     tie.close
     (tie.spec
-    content-at-requires
-    body-at-requires
-    status-requires
-    add-copy-inside
+    (λ c κs. search needs)
+    (λ c κs. search needs)
+    (λ c κs. search needs)
+    (λ c. search needs)
     copy-inside-requires
-    mark-notarized-requires
-    same-length
+    (λ c κs. search needs)
+    (λ c. search needs)
     returns)

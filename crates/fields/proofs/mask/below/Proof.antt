@@ -4,12 +4,9 @@ use borrow.Author.Needs.{needs}
 use Rattle.fields.proofs.mask.below.Statement.{statement}
 use Rattle.fields.proofs.mask.below.Tie as tie
 
-bit-requires : tie.Need-bit-requires
-bit-requires c κs = search needs
-
 returns : tie.Need-returns
 unfolding belowBit
 returns c = rw (c .bit .ensures .0)
 
 pub below-spec : {M : Type 1} → statement M
-below-spec = tie.close (tie.spec bit-requires returns)
+below-spec = tie.close (tie.spec (λ c κs. search needs) returns)

@@ -5,12 +5,9 @@ use borrow.Author.Needs.{needs}
 use Rattle.fields.proofs.mask.in_mask.Statement.{statement}
 use Rattle.fields.proofs.mask.in_mask.Tie as tie
 
-shr-result : tie.Need-shr-result
-shr-result c = search needs
-
 returns : tie.Need-returns
 unfolding inMask
 returns c = refl
 
 pub in-mask-spec : {M : Type 1} → statement M
-in-mask-spec = tie.close (tie.spec shr-result returns)
+in-mask-spec = tie.close (tie.spec (λ c. search needs) returns)

@@ -7,23 +7,8 @@ use borrow.Author.Needs.{needs}
 use Rattle.fields.proofs.pool.move_entry.Statement.{statement}
 use Rattle.fields.proofs.pool.move_entry.Tie as tie
 
-mul-copy-inside : tie.Need-mul-copy-inside
-mul-copy-inside c = search needs
-
-add-copy-inside : tie.Need-add-copy-inside
-add-copy-inside c = search needs
-
-mul-copy-inside-2 : tie.Need-mul-copy-inside-2
-mul-copy-inside-2 c = search needs
-
-add-copy-inside-2 : tie.Need-add-copy-inside-2
-add-copy-inside-2 c = search needs
-
 copy-inside-requires : tie.Need-copy-inside-requires
 copy-inside-requires c κs = (search needs, (search needs, inl (omega arith)))
-
-same-length : tie.Need-same-length
-same-length c = search needs
 
 returns : tie.Need-returns
 returns c =
@@ -35,10 +20,10 @@ pub move-entry-spec : {M : Type 1} → statement M
 move-entry-spec =
     tie.close
     (tie.spec
-    mul-copy-inside
-    add-copy-inside
-    mul-copy-inside-2
-    add-copy-inside-2
+    (λ c. search needs)
+    (λ c. search needs)
+    (λ c. search needs)
+    (λ c. search needs)
     copy-inside-requires
-    same-length
+    (λ c. search needs)
     returns)

@@ -7,24 +7,6 @@ use borrow.Author.Needs.{needs}
 use Rattle.fields.proofs.pool.pending_entry.Statement.{statement}
 use Rattle.fields.proofs.pool.pending_entry.Tie as tie
 
-mul-from : tie.Need-mul-from
-mul-from c = search needs
-
-add-from : tie.Need-add-from
-add-from c = search needs
-
-add-result : tie.Need-add-result
-add-result c = search needs
-
-sub-result : tie.Need-sub-result
-sub-result c = search needs
-
-part-result-start : tie.Need-part-result-start
-part-result-start c = search needs
-
-part-result-end : tie.Need-part-result-end
-part-result-end c = search needs
-
 returns : tie.Need-returns
 returns c =
     let book = c .before .args .book .now in
@@ -34,4 +16,4 @@ returns c =
 pub pending-entry-spec : {M : Type 1} → statement M
 pending-entry-spec =
     tie.close
-    (tie.spec mul-from add-from add-result sub-result part-result-start part-result-end returns)
+    (tie.spec (λ c. search needs) (λ c. search needs) (λ c. search needs) (λ c. search needs) (λ c. search needs) (λ c. search needs) returns)

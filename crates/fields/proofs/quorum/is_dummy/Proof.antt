@@ -6,15 +6,9 @@ use borrow.Author.Needs.{needs}
 use Rattle.fields.proofs.quorum.is_dummy.Statement.{statement}
 use Rattle.fields.proofs.quorum.is_dummy.Tie as tie
 
-dummy-mask-requires : tie.Need-dummy-mask-requires
-dummy-mask-requires c κs = search needs
-
-quorum-requires : tie.Need-quorum-requires
-quorum-requires c κs = search needs
-
 returns : tie.Need-returns
 unfolding isDummy view
 returns c = c .quorum .ensures ∙ rw (c .before .dummy-mask .ensures .0)
 
 pub is-dummy-spec : {M : Type 1} → statement M
-is-dummy-spec = tie.close (tie.spec dummy-mask-requires quorum-requires returns)
+is-dummy-spec = tie.close (tie.spec (λ c κs. search needs) (λ c κs. search needs) returns)

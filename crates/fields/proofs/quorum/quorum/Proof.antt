@@ -7,18 +7,6 @@ use borrow.Author.Needs.{needs}
 use Rattle.fields.proofs.quorum.quorum.Statement.{statement}
 use Rattle.fields.proofs.quorum.quorum.Tie as tie
 
-replicas-requires : tie.Need-replicas-requires
-replicas-requires c κs = search needs
-
-mul-result : tie.Need-mul-result
-mul-result c = search needs
-
-count-requires : tie.Need-count-requires
-count-requires c κs = search needs
-
-mul-result-2 : tie.Need-mul-result-2
-mul-result-2 c = search needs
-
 returns : tie.Need-returns
 unfolding view
 returns c =
@@ -27,4 +15,4 @@ returns c =
     rw (c .count .ensures .0, c .before .replicas .ensures .0) (sym (quorum-even (view s) (s .n) (start .args .mask) refl))
 
 pub quorum-spec : {M : Type 1} → statement M
-quorum-spec = tie.close (tie.spec replicas-requires mul-result count-requires mul-result-2 returns)
+quorum-spec = tie.close (tie.spec (λ c κs. search needs) (λ c. search needs) (λ c κs. search needs) (λ c. search needs) returns)

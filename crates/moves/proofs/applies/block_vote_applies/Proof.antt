@@ -8,12 +8,6 @@ use borrow.Author.Needs.{needs}
 use Rattle.moves.proofs.applies.block_vote_applies.Statement.{statement}
 use Rattle.moves.proofs.applies.block_vote_applies.Tie as tie
 
-is-running-requires : tie.Need-is-running-requires
-is-running-requires c κs = search needs
-
-flag-requires : tie.Need-flag-requires
-flag-requires c κs = search needs
-
 proposal-extends-requires : tie.Need-proposal-extends-requires
 proposal-extends-requires c κs =
     let start = c .before .before .before .before .before .before .before in
@@ -23,9 +17,6 @@ returns : tie.Need-returns
 returns c =
     let start = c .before .before .before .before .before .before in
     (sym (vote-cast sha256 (decode (start .args .book .now)) (sym (c .before .before .before .is-running .ensures) ∙ c .before .before .if1 .taken) (sym (c .before .flag .ensures) ∙ c .if2 .taken)), start .pre .1)
-
-same-length : tie.Need-same-length
-same-length c = search needs
 
 returns-2 : tie.Need-returns-2
 returns-2 c =
@@ -41,10 +32,10 @@ pub block-vote-applies-spec : {M : Type 1} → statement M
 block-vote-applies-spec =
     tie.close
     (tie.spec
-    is-running-requires
-    flag-requires
+    (λ c κs. search needs)
+    (λ c κs. search needs)
     proposal-extends-requires
     returns
-    same-length
+    (λ c. search needs)
     returns-2
     returns-3)

@@ -7,18 +7,6 @@ use borrow.Author.Needs.{needs}
 use Rattle.moves.proofs.applies.chain_below.Statement.{statement}
 use Rattle.moves.proofs.applies.chain_below.Tie as tie
 
-current-requires : tie.Need-current-requires
-current-requires c κs = search needs
-
-sub-parent-of : tie.Need-sub-parent-of
-sub-parent-of c = search needs
-
-parent-of-requires : tie.Need-parent-of-requires
-parent-of-requires c κs = search needs
-
-same-length : tie.Need-same-length
-same-length c = search needs
-
 returns : tie.Need-returns
 returns c =
     let found = c .before .before .parent-of in
@@ -27,4 +15,4 @@ returns c =
 
 pub chain-below-spec : {M : Type 1} → statement M
 chain-below-spec =
-    tie.close (tie.spec current-requires sub-parent-of parent-of-requires same-length returns)
+    tie.close (tie.spec (λ c κs. search needs) (λ c. search needs) (λ c κs. search needs) (λ c. search needs) returns)

@@ -6,15 +6,6 @@ use borrow.Author.Needs.{needs}
 use Rattle.moves.proofs.applies.dummy_vote_applies.Statement.{statement}
 use Rattle.moves.proofs.applies.dummy_vote_applies.Tie as tie
 
-is-running-requires : tie.Need-is-running-requires
-is-running-requires c κs = search needs
-
-flag-requires : tie.Need-flag-requires
-flag-requires c κs = search needs
-
-flag-requires-2 : tie.Need-flag-requires-2
-flag-requires-2 c κs = search needs
-
 returns : tie.Need-returns
 returns c =
     sym (dummy-cast (decode (c .before .before .before .before .before .before .before .args .book .now)) (sym (c .before .before .before .before .before .is-running .ensures) ∙ c .before .before .before .before .if1 .taken) (sym (c .before .before .before .flag .ensures) ∙ c .before .before .if2 .taken) (sym (c .before .flag2 .ensures) ∙ c .if3 .taken))
@@ -35,9 +26,9 @@ pub dummy-vote-applies-spec : {M : Type 1} → statement M
 dummy-vote-applies-spec =
     tie.close
     (tie.spec
-    is-running-requires
-    flag-requires
-    flag-requires-2
+    (λ c κs. search needs)
+    (λ c κs. search needs)
+    (λ c κs. search needs)
     returns
     returns-2
     returns-3

@@ -4,16 +4,10 @@ use borrow.Author.Needs.{needs}
 use Rattle.moves.proofs.applies.flag.Statement.{statement}
 use Rattle.moves.proofs.applies.flag.Tie as tie
 
-flags-requires : tie.Need-flags-requires
-flags-requires c κs = search needs
-
-div-result : tie.Need-div-result
-div-result c = search needs
-
 returns : tie.Need-returns
 unfolding flag
 returns c =
     rw (c .flags .ensures .0)
 
 pub flag-spec : {M : Type 1} → statement M
-flag-spec = tie.close (tie.spec flags-requires div-result returns)
+flag-spec = tie.close (tie.spec (λ c κs. search needs) (λ c. search needs) returns)

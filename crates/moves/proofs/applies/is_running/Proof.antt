@@ -4,15 +4,9 @@ use borrow.Author.Needs.{needs}
 use Rattle.moves.proofs.applies.is_running.Statement.{statement}
 use Rattle.moves.proofs.applies.is_running.Tie as tie
 
-current-requires : tie.Need-current-requires
-current-requires c κs = search needs
-
-heights-requires : tie.Need-heights-requires
-heights-requires c κs = search needs
-
 returns : tie.Need-returns
 returns c =
     rw (c .before .current .ensures .0, c .heights .ensures .0) (running-is (c .before .before .before .args .book .now))
 
 pub is-running-spec : {M : Type 1} → statement M
-is-running-spec = tie.close (tie.spec current-requires heights-requires returns)
+is-running-spec = tie.close (tie.spec (λ c κs. search needs) (λ c κs. search needs) returns)

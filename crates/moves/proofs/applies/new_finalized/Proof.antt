@@ -7,15 +7,6 @@ use borrow.Author.Needs.{needs}
 use Rattle.moves.proofs.applies.new_finalized.Statement.{statement}
 use Rattle.moves.proofs.applies.new_finalized.Tie as tie
 
-heights-requires : tie.Need-heights-requires
-heights-requires c κs = search needs
-
-largest-finalized-requires : tie.Need-largest-finalized-requires
-largest-finalized-requires c κs = search needs
-
-same-length : tie.Need-same-length
-same-length c = search needs
-
 returns : tie.Need-returns
 returns c =
     let found = c .before .before .largest-finalized in
@@ -24,4 +15,4 @@ returns c =
 
 pub new-finalized-spec : {M : Type 1} → statement M
 new-finalized-spec =
-    tie.close (tie.spec heights-requires largest-finalized-requires same-length returns)
+    tie.close (tie.spec (λ c κs. search needs) (λ c κs. search needs) (λ c. search needs) returns)

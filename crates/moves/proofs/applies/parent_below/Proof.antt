@@ -7,26 +7,11 @@ use borrow.Author.Needs.{needs}
 use Rattle.moves.proofs.applies.parent_below.Statement.{statement}
 use Rattle.moves.proofs.applies.parent_below.Tie as tie
 
-chain-below-requires : tie.Need-chain-below-requires
-chain-below-requires c κs = search needs
-
-enum-known-j : tie.Need-enum-known-j
-enum-known-j c = search needs
-
-enum-told : tie.Need-enum-told
-enum-told c = search needs
-
-same-length : tie.Need-same-length
-same-length c = search needs
-
 returns : tie.Need-returns
 unfolding someOr parentOption
 returns c =
     let found = c .before .before .before .before .before .chain-below in
     (ap (λ (p : Parent). someOr 0 (parentOption p)) (sym (c .before .j .given .1)) ∙ ap (someOr 0) (found .ensures .0), found .ensures .1)
-
-same-length-2 : tie.Need-same-length-2
-same-length-2 c = search needs
 
 returns-2 : tie.Need-returns-2
 unfolding someOr parentOption
@@ -38,10 +23,10 @@ pub parent-below-spec : {M : Type 1} → statement M
 parent-below-spec =
     tie.close
     (tie.spec
-    chain-below-requires
-    enum-known-j
-    enum-told
-    same-length
+    (λ c κs. search needs)
+    (λ c. search needs)
+    (λ c. search needs)
+    (λ c. search needs)
     returns
-    same-length-2
+    (λ c. search needs)
     returns-2)

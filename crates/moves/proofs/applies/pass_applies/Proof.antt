@@ -8,12 +8,6 @@ use borrow.Author.Needs.{needs}
 use Rattle.moves.proofs.applies.pass_applies.Statement.{statement}
 use Rattle.moves.proofs.applies.pass_applies.Tie as tie
 
-is-running-requires : tie.Need-is-running-requires
-is-running-requires c κs = search needs
-
-current-requires : tie.Need-current-requires
-current-requires c κs = search needs
-
 linked-requires : tie.Need-linked-requires
 linked-requires c κs =
     let start = c .before .before .before .before .before .before in
@@ -26,21 +20,12 @@ is-dummy-requires c κs =
     let height = c .before .before .before .before .before .current in
     (start .pre .0 .readable .sized, (start .pre .0 .readable .replicas, current-within (start .args .book .now) (start .pre .0) (sym (c .before .before .before .before .before .before .before .is-running .ensures) ∙ c .before .before .before .before .before .before .if1 .taken) (height .result) (height .ensures .0)))
 
-has-chain-below-requires : tie.Need-has-chain-below-requires
-has-chain-below-requires c κs = search needs
-
-same-length : tie.Need-same-length
-same-length c = search needs
-
 returns : tie.Need-returns
 returns c =
     let start = c .before .before .before .before .before .before .before .before .before .before in
     let height = c .before .before .before .before .before .current in
     let link = c .before .before .before .linked in
     (sym (pass-linked sha256 (decode (start .args .book .now)) (height .result) (height .ensures .0) (sym (c .before .before .before .before .before .before .before .is-running .ensures) ∙ c .before .before .before .before .before .before .if1 .taken) (sym (link .ensures .0) ∙ c .if2 .taken)), link .ensures .1)
-
-same-length-2 : tie.Need-same-length-2
-same-length-2 c = search needs
 
 returns-2 : tie.Need-returns-2
 returns-2 c =
@@ -49,9 +34,6 @@ returns-2 c =
     let link = c .before .before .before .before .before .before .before .before .before .linked in
     let chain = c .before .before .has-chain-below in
     (chain .ensures .0 ∙ sym (pass-chain sha256 (decode (start .args .book .now)) (height .result) (height .ensures .0) (sym (c .before .before .before .before .before .before .before .before .before .before .before .before .before .is-running .ensures) ∙ c .before .before .before .before .before .before .before .before .before .before .before .before .if1 .taken) (sym (link .ensures .0) ∙ c .before .before .before .before .before .before .if2 .left) (sym (c .before .before .before .before .before .is-dummy .ensures) ∙ c .before .before .before .before .if3 .taken)), chain .ensures .1)
-
-same-length-3 : tie.Need-same-length-3
-same-length-3 c = search needs
 
 returns-3 : tie.Need-returns-3
 returns-3 c =
@@ -68,15 +50,15 @@ pub pass-applies-spec : {M : Type 1} → statement M
 pass-applies-spec =
     tie.close
     (tie.spec
-    is-running-requires
-    current-requires
+    (λ c κs. search needs)
+    (λ c κs. search needs)
     linked-requires
     is-dummy-requires
-    has-chain-below-requires
-    same-length
+    (λ c κs. search needs)
+    (λ c. search needs)
     returns
-    same-length-2
+    (λ c. search needs)
     returns-2
-    same-length-3
+    (λ c. search needs)
     returns-3
     returns-4)

@@ -10,15 +10,6 @@ use borrow.Author.Needs.{needs}
 use Rattle.moves.proofs.applies.proposal_extends.Statement.{statement}
 use Rattle.moves.proofs.applies.proposal_extends.Tie as tie
 
-current-requires : tie.Need-current-requires
-current-requires c κs = search needs
-
-holds-proposal-requires : tie.Need-holds-proposal-requires
-holds-proposal-requires c κs = search needs
-
-proposal-requires : tie.Need-proposal-requires
-proposal-requires c κs = search needs
-
 extends-requires : tie.Need-extends-requires
 extends-requires c κs =
     let start = c .before .before .before .before .before .before .before in
@@ -26,9 +17,6 @@ extends-requires c κs =
     let height = c .before .before .before .before .current in
     let inside : Within book (height .result) = within-current book (start .pre .0) (start .pre .1 .1) (height .result) (height .ensures .0) in
     (start .pre .0 .readable, (start .pre .1 .0, (inside, ap length (c .before .proposal .ensures) ∙ proposal-size book (start .pre .0 .readable) (height .result) inside)))
-
-same-length : tie.Need-same-length
-same-length c = search needs
 
 returns : tie.Need-returns
 returns c =
@@ -47,10 +35,10 @@ pub proposal-extends-spec : {M : Type 1} → statement M
 proposal-extends-spec =
     tie.close
     (tie.spec
-    current-requires
-    holds-proposal-requires
-    proposal-requires
+    (λ c κs. search needs)
+    (λ c κs. search needs)
+    (λ c κs. search needs)
     extends-requires
-    same-length
+    (λ c. search needs)
     returns
     returns-2)

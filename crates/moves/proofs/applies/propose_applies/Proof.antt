@@ -8,25 +8,10 @@ use borrow.Author.Needs.{needs}
 use Rattle.moves.proofs.applies.propose_applies.Statement.{statement}
 use Rattle.moves.proofs.applies.propose_applies.Tie as tie
 
-is-running-requires : tie.Need-is-running-requires
-is-running-requires c κs = search needs
-
-current-requires : tie.Need-current-requires
-current-requires c κs = search needs
-
 leader-requires : tie.Need-leader-requires
 leader-requires c κs =
     let start = c .before .before .before .before .before in
     (start .pre .0 .readable .sized, current-within (start .args .book .now) (start .pre .0) (sym (c .before .before .is-running .ensures) ∙ c .before .if1 .taken) (c .current .result) (c .current .ensures .0))
-
-own-requires : tie.Need-own-requires
-own-requires c κs = search needs
-
-flag-requires : tie.Need-flag-requires
-flag-requires c κs = search needs
-
-has-chain-below-requires : tie.Need-has-chain-below-requires
-has-chain-below-requires c κs = search needs
 
 returns : tie.Need-returns
 returns c =
@@ -34,9 +19,6 @@ returns c =
     let s = decode (start .args .book .now) in
     let leads-it = leads sha256 s (c .before .before .before .before .before .current .result) (c .before .before .before .before .before .current .ensures .0) (c .before .before .before .before .leader .result) (c .before .before .before .own .result) (c .before .before .before .before .leader .ensures .0) (c .before .before .before .own .ensures .0) (c .before .before .if2 .taken) in
     (sym (propose-done sha256 s (sym (c .before .before .before .before .before .before .before .is-running .ensures) ∙ c .before .before .before .before .before .before .if1 .taken) leads-it (sym (c .before .flag .ensures) ∙ c .if3 .taken)), start .pre .1)
-
-same-length : tie.Need-same-length
-same-length c = search needs
 
 returns-2 : tie.Need-returns-2
 returns-2 c =
@@ -61,14 +43,14 @@ pub propose-applies-spec : {M : Type 1} → statement M
 propose-applies-spec =
     tie.close
     (tie.spec
-    is-running-requires
-    current-requires
+    (λ c κs. search needs)
+    (λ c κs. search needs)
     leader-requires
-    own-requires
-    flag-requires
-    has-chain-below-requires
+    (λ c κs. search needs)
+    (λ c κs. search needs)
+    (λ c κs. search needs)
     returns
-    same-length
+    (λ c. search needs)
     returns-2
     returns-3
     returns-4)

@@ -7,30 +7,15 @@ use borrow.Author.Needs.{needs}
 use Rattle.moves.proofs.make_move.later_step.Statement.{statement}
 use Rattle.moves.proofs.make_move.later_step.Tie as tie
 
-pass-applies-requires : tie.Need-pass-applies-requires
-pass-applies-requires c κs = search needs
-
 pass-requires : tie.Need-pass-requires
 pass-requires c κs =
     let start = c .before .before .before .before .before .before .before .before .before .before .before .before in
     let book = start .args .book .now in
     (start .pre .0, (c .before .before .before .before .before .before .pass-applies .ensures .1, (running-high book (pass-running (decode book) (sym (c .before .before .before .before .before .before .pass-applies .ensures .0) ∙ c .before .before .before .if1 .taken)), start .pre .1 .1)))
 
-same-length : tie.Need-same-length
-same-length c = search needs
-
-same-length-2 : tie.Need-same-length-2
-same-length-2 c = search needs
-
-same-length-3 : tie.Need-same-length-3
-same-length-3 c = search needs
-
 returns : tie.Need-returns
 returns c =
     took-as (later-pass (decode (c .before .before .before .before .before .before .before .before .before .before .before .before .before .before .before .before .before .before .before .args .book .now)) (sym (c .before .before .before .before .before .before .before .before .before .before .before .before .before .pass-applies .ensures .0) ∙ c .before .before .before .before .before .before .before .before .before .before .if1 .taken)) (c .before .before .before .before .before .before .pass .ensures)
-
-propose-applies-requires : tie.Need-propose-applies-requires
-propose-applies-requires c κs = search needs
 
 propose-requires : tie.Need-propose-requires
 propose-requires c κs =
@@ -39,21 +24,9 @@ propose-requires c κs =
     let applies = (sym (c .before .before .before .before .before .before .propose-applies .ensures .0) ∙ c .before .before .before .if2 .taken) in
     (start .pre .0, (c .before .before .before .before .before .before .propose-applies .ensures .1, (running-high book (propose-running (decode book) applies), (propose-has (decode book) applies, start .pre .1 .1))))
 
-same-length-4 : tie.Need-same-length-4
-same-length-4 c = search needs
-
-same-length-5 : tie.Need-same-length-5
-same-length-5 c = search needs
-
-same-length-6 : tie.Need-same-length-6
-same-length-6 c = search needs
-
 returns-2 : tie.Need-returns-2
 returns-2 c =
     took-as (later-propose (decode (c .before .before .before .before .before .before .before .before .before .before .before .before .before .before .before .before .before .before .before .before .before .before .before .before .before .args .book .now)) (sym (c .before .before .before .before .before .before .before .before .before .before .before .before .before .before .before .before .before .before .before .pass-applies .ensures .0) ∙ c .before .before .before .before .before .before .before .before .before .before .before .before .before .before .before .before .if1 .left) (sym (c .before .before .before .before .before .before .before .before .before .before .before .before .before .propose-applies .ensures .0) ∙ c .before .before .before .before .before .before .before .before .before .before .if2 .taken)) (c .before .before .before .before .before .before .propose .ensures)
-
-block-vote-applies-requires : tie.Need-block-vote-applies-requires
-block-vote-applies-requires c κs = search needs
 
 cast-block-vote-requires : tie.Need-cast-block-vote-requires
 cast-block-vote-requires c κs =
@@ -61,26 +34,11 @@ cast-block-vote-requires c κs =
     let book = start .args .book .now in
     (start .pre .0, (running-high book (vote-running (decode book) (sym (c .before .before .before .before .before .block-vote-applies .ensures .0) ∙ c .before .before .if3 .taken)), start .pre .1 .1))
 
-same-length-7 : tie.Need-same-length-7
-same-length-7 c = search needs
-
-same-length-8 : tie.Need-same-length-8
-same-length-8 c = search needs
-
-same-length-9 : tie.Need-same-length-9
-same-length-9 c = search needs
-
 returns-3 : tie.Need-returns-3
 returns-3 c =
     took-as
     (later-vote (decode (c .before .before .before .before .before .before .before .before .before .before .before .before .before .before .before .before .before .before .before .before .before .before .before .before .before .before .before .before .args .book .now)) (sym (c .before .before .before .before .before .before .before .before .before .before .before .before .before .before .before .before .before .before .before .before .before .before .pass-applies .ensures .0) ∙ c .before .before .before .before .before .before .before .before .before .before .before .before .before .before .before .before .before .before .before .if1 .left) (sym (c .before .before .before .before .before .before .before .before .before .before .before .before .before .before .before .before .propose-applies .ensures .0) ∙ c .before .before .before .before .before .before .before .before .before .before .before .before .before .if2 .left) (sym (c .before .before .before .before .before .before .before .before .before .before .block-vote-applies .ensures .0) ∙ c .before .before .before .before .before .before .before .if3 .taken))
     (c .before .before .before .before .cast-block-vote .ensures)
-
-same-length-10 : tie.Need-same-length-10
-same-length-10 c = search needs
-
-same-length-11 : tie.Need-same-length-11
-same-length-11 c = search needs
 
 returns-4 : tie.Need-returns-4
 returns-4 c =
@@ -94,24 +52,24 @@ pub later-step-spec : {M : Type 1} → statement M
 later-step-spec =
     tie.close
     (tie.spec
-    pass-applies-requires
+    (λ c κs. search needs)
     pass-requires
-    same-length
-    same-length-2
-    same-length-3
+    (λ c. search needs)
+    (λ c. search needs)
+    (λ c. search needs)
     returns
-    propose-applies-requires
+    (λ c κs. search needs)
     propose-requires
-    same-length-4
-    same-length-5
-    same-length-6
+    (λ c. search needs)
+    (λ c. search needs)
+    (λ c. search needs)
     returns-2
-    block-vote-applies-requires
+    (λ c κs. search needs)
     cast-block-vote-requires
-    same-length-7
-    same-length-8
-    same-length-9
+    (λ c. search needs)
+    (λ c. search needs)
+    (λ c. search needs)
     returns-3
-    same-length-10
-    same-length-11
+    (λ c. search needs)
+    (λ c. search needs)
     returns-4)

@@ -10,15 +10,9 @@ use borrow.Author.Needs.{needs}
 use Rattle.moves.proofs.make_move.make_move.Statement.{statement}
 use Rattle.moves.proofs.make_move.make_move.Tie as tie
 
-slice-aggregate-sound : tie.Need-slice-aggregate-sound
-slice-aggregate-sound c = search needs
-
 sound-requires : tie.Need-sound-requires
 unfolding zeros
 sound-requires c κs = refl
-
-slice-aggregate-step : tie.Need-slice-aggregate-step
-slice-aggregate-step c = search needs
 
 step-requires : tie.Need-step-requires
 step-requires c κs =
@@ -28,12 +22,6 @@ step-requires c κs =
     let yes = c .before .before .before .before .if1 .taken in
     (movable book (λ i. omega (arith, c .before .before .before .before .before .before .before .before .before .before .slice-known .given i)) (sym (whether .ensures .0) ∙ yes), (whether .ensures .1 .0 yes, c .before .before .before .if2 .taken))
 
-same-length : tie.Need-same-length
-same-length c = search needs
-
-same-length-2 : tie.Need-same-length-2
-same-length-2 c = search needs
-
 returns : tie.Need-returns
 returns c =
     let start = c .before .before .before .before .before .before .before .before .before .before .before .before .before .before .before .before .before in
@@ -41,17 +29,11 @@ returns c =
     called (start .args .book .now) reply (sym (c .before .before .before .before .before .before .before .before .before .before .before .before .sound .ensures .0) ∙ c .before .before .before .before .before .before .before .before .before .before .if1 .taken) (le-leb 448 (length reply) (c .before .before .before .before .before .before .before .before .before .if2 .taken))
     (c .before .before .before .before .before .step .result) (c .before .before .before .before .before .step .last .0) (c .before .before .before .before .before .step .last .1 .0) (c .before .before .before .before .before .step .ensures)
 
-same-length-3 : tie.Need-same-length-3
-same-length-3 c = search needs
-
 returns-2 : tie.Need-returns-2
 returns-2 c =
     let start = c .before .before .before .before .before .before .before .before in
     let reply = start .args .reply .now in
     called-short (start .args .book .now) reply (sym (c .before .before .before .sound .ensures .0) ∙ c .before .if1 .taken) (lt-leb 448 (length reply) (c .if2 .left))
-
-same-length-4 : tie.Need-same-length-4
-same-length-4 c = search needs
 
 returns-3 : tie.Need-returns-3
 returns-3 c =
@@ -62,14 +44,14 @@ pub make-move-spec : {M : Type 1} → statement M
 make-move-spec =
     tie.close
     (tie.spec
-    slice-aggregate-sound
+    (λ c. search needs)
     sound-requires
-    slice-aggregate-step
+    (λ c. search needs)
     step-requires
-    same-length
-    same-length-2
+    (λ c. search needs)
+    (λ c. search needs)
     returns
-    same-length-3
+    (λ c. search needs)
     returns-2
-    same-length-4
+    (λ c. search needs)
     returns-3)

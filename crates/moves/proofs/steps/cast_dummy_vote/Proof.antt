@@ -5,33 +5,6 @@ use borrow.Author.Needs.{needs}
 use Rattle.moves.proofs.steps.cast_dummy_vote.Statement.{statement}
 use Rattle.moves.proofs.steps.cast_dummy_vote.Tie as tie
 
-current-requires : tie.Need-current-requires
-current-requires c κs = search needs
-
-flags-requires : tie.Need-flags-requires
-flags-requires c κs = search needs
-
-finalized-requires : tie.Need-finalized-requires
-finalized-requires c κs = search needs
-
-own-requires : tie.Need-own-requires
-own-requires c κs = search needs
-
-write-dummy-vote-requires : tie.Need-write-dummy-vote-requires
-write-dummy-vote-requires c κs = search needs
-
-add-set-head : tie.Need-add-set-head
-add-set-head c = search needs
-
-set-head-requires : tie.Need-set-head-requires
-set-head-requires c κs = search needs
-
-same-length : tie.Need-same-length
-same-length c = search needs
-
-same-length-2 : tie.Need-same-length-2
-same-length-2 c = search needs
-
 returns : tie.Need-returns
 returns c =
     let start = c .before .before .before .before .before .before .before .before .before .before .before .before .before .before .before .before .before .before in
@@ -47,13 +20,13 @@ pub cast-dummy-vote-spec : {M : Type 1} → statement M
 cast-dummy-vote-spec =
     tie.close
     (tie.spec
-    current-requires
-    flags-requires
-    finalized-requires
-    own-requires
-    write-dummy-vote-requires
-    add-set-head
-    set-head-requires
-    same-length
-    same-length-2
+    (λ c κs. search needs)
+    (λ c κs. search needs)
+    (λ c κs. search needs)
+    (λ c κs. search needs)
+    (λ c κs. search needs)
+    (λ c. search needs)
+    (λ c κs. search needs)
+    (λ c. search needs)
+    (λ c. search needs)
     returns)

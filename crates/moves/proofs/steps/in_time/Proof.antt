@@ -5,11 +5,8 @@ use borrow.Author.Needs.{needs}
 use Rattle.moves.proofs.steps.in_time.Statement.{statement}
 use Rattle.moves.proofs.steps.in_time.Tie as tie
 
-flag-requires : tie.Need-flag-requires
-flag-requires c κs = search needs
-
 returns : tie.Need-returns
 returns c = ap not (c .flag .ensures)
 
 pub in-time-spec : {M : Type 1} → statement M
-in-time-spec = tie.close (tie.spec flag-requires returns)
+in-time-spec = tie.close (tie.spec (λ c κs. search needs) returns)

@@ -8,41 +8,11 @@ use borrow.Author.Needs.{needs}
 use Rattle.moves.proofs.steps.pass.Statement.{statement}
 use Rattle.moves.proofs.steps.pass.Tie as tie
 
-current-requires : tie.Need-current-requires
-current-requires c κs = search needs
-
-finalized-requires : tie.Need-finalized-requires
-finalized-requires c κs = search needs
-
 linked-requires : tie.Need-linked-requires
 linked-requires c κs =
     let height = c .before .before .before .before in
     let start = height .before .before .before .before .before in
     (start .pre .0 .readable, (start .pre .1 .0, omega (arith, height .current .ensures .0, start .pre .1 .1 .0)))
-
-in-time-requires : tie.Need-in-time-requires
-in-time-requires c κs = search needs
-
-write-pass-certificate-requires : tie.Need-write-pass-certificate-requires
-write-pass-certificate-requires c κs = search needs
-
-write-pass-finalize-requires : tie.Need-write-pass-finalize-requires
-write-pass-finalize-requires c κs = search needs
-
-add-set-head : tie.Need-add-set-head
-add-set-head c = search needs
-
-set-head-requires : tie.Need-set-head-requires
-set-head-requires c κs = search needs
-
-same-length : tie.Need-same-length
-same-length c = search needs
-
-same-length-2 : tie.Need-same-length-2
-same-length-2 c = search needs
-
-same-length-3 : tie.Need-same-length-3
-same-length-3 c = search needs
 
 returns : tie.Need-returns
 returns c =
@@ -65,15 +35,15 @@ pub pass-spec : {M : Type 1} → statement M
 pass-spec =
     tie.close
     (tie.spec
-    current-requires
-    finalized-requires
+    (λ c κs. search needs)
+    (λ c κs. search needs)
     linked-requires
-    in-time-requires
-    write-pass-certificate-requires
-    write-pass-finalize-requires
-    add-set-head
-    set-head-requires
-    same-length
-    same-length-2
-    same-length-3
+    (λ c κs. search needs)
+    (λ c κs. search needs)
+    (λ c κs. search needs)
+    (λ c. search needs)
+    (λ c κs. search needs)
+    (λ c. search needs)
+    (λ c. search needs)
+    (λ c. search needs)
     returns)

@@ -5,18 +5,6 @@ use borrow.Author.Needs.{needs}
 use Rattle.moves.proofs.steps.settle.Statement.{statement}
 use Rattle.moves.proofs.steps.settle.Tie as tie
 
-current-requires : tie.Need-current-requires
-current-requires c κs = search needs
-
-flags-requires : tie.Need-flags-requires
-flags-requires c κs = search needs
-
-set-head-requires : tie.Need-set-head-requires
-set-head-requires c κs = search needs
-
-same-length : tie.Need-same-length
-same-length c = search needs
-
 returns : tie.Need-returns
 returns c =
     let start = c .before .before .before .before .before .before .before .before .before in
@@ -27,4 +15,4 @@ returns c =
 
 pub settle-spec : {M : Type 1} → statement M
 settle-spec =
-    tie.close (tie.spec current-requires flags-requires set-head-requires same-length returns)
+    tie.close (tie.spec (λ c κs. search needs) (λ c κs. search needs) (λ c κs. search needs) (λ c. search needs) returns)

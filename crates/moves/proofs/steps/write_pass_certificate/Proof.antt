@@ -10,15 +10,6 @@ use borrow.Author.Needs.{needs}
 use Rattle.moves.proofs.steps.write_pass_certificate.Statement.{statement}
 use Rattle.moves.proofs.steps.write_pass_certificate.Tie as tie
 
-current-requires : tie.Need-current-requires
-current-requires c κs = search needs
-
-certificate-mask-requires : tie.Need-certificate-mask-requires
-certificate-mask-requires c κs = search needs
-
-notarized-requires : tie.Need-notarized-requires
-notarized-requires c κs = search needs
-
 write-block-certificate-requires : tie.Need-write-block-certificate-requires
 write-block-certificate-requires c κs =
     let start = c .before .before .before .before .before .before .before in
@@ -27,15 +18,6 @@ write-block-certificate-requires c κs =
     let inside = within-current book (start .pre .0) (start .pre .1 .0) (height .result) (height .ensures .0) in
     let room = start .pre .1 .1 in
     (omega (arith, room), ((height .ensures .1, c .before .before .certificate-mask .ensures .1), ap length (c .notarized .ensures) ∙ notarized-size book (start .pre .0 .readable) (height .result) inside))
-
-dummy-mask-requires : tie.Need-dummy-mask-requires
-dummy-mask-requires c κs = search needs
-
-write-dummy-certificate-requires : tie.Need-write-dummy-certificate-requires
-write-dummy-certificate-requires c κs = search needs
-
-same-length : tie.Need-same-length
-same-length c = search needs
 
 returns : tie.Need-returns
 unfolding certificateOf
@@ -51,9 +33,6 @@ returns c =
           (mask .certificate-mask .result) (height .current .ensures .0) (block .notarized .result .now) (choice .if1 .taken) (mask .certificate-mask .ensures .0)
           (block .notarized .ensures) (wrote .write-block-certificate .ensures),
     )
-
-same-length-2 : tie.Need-same-length-2
-same-length-2 c = search needs
 
 returns-2 : tie.Need-returns-2
 unfolding certificateOf
@@ -72,13 +51,13 @@ pub write-pass-certificate-spec : {M : Type 1} → statement M
 write-pass-certificate-spec =
     tie.close
     (tie.spec
-    current-requires
-    certificate-mask-requires
-    notarized-requires
+    (λ c κs. search needs)
+    (λ c κs. search needs)
+    (λ c κs. search needs)
     write-block-certificate-requires
-    dummy-mask-requires
-    write-dummy-certificate-requires
-    same-length
+    (λ c κs. search needs)
+    (λ c κs. search needs)
+    (λ c. search needs)
     returns
-    same-length-2
+    (λ c. search needs)
     returns-2)

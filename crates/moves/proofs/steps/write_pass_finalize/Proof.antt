@@ -11,30 +11,6 @@ use borrow.Author.Needs.{needs}
 use Rattle.moves.proofs.steps.write_pass_finalize.Statement.{statement}
 use Rattle.moves.proofs.steps.write_pass_finalize.Tie as tie
 
-current-requires : tie.Need-current-requires
-current-requires c κs = search needs
-
-own-requires : tie.Need-own-requires
-own-requires c κs = search needs
-
-sub-write-finalize : tie.Need-sub-write-finalize
-sub-write-finalize c = search needs
-
-part-write-finalize-start : tie.Need-part-write-finalize-start
-part-write-finalize-start c = search needs
-
-part-write-finalize-end : tie.Need-part-write-finalize-end
-part-write-finalize-end c = search needs
-
-write-finalize-requires : tie.Need-write-finalize-requires
-write-finalize-requires c κs = search needs
-
-clear-requires : tie.Need-clear-requires
-clear-requires c κs = search needs
-
-same-length : tie.Need-same-length
-same-length c = search needs
-
 returns : tie.Need-returns
 returns c =
     let wrote = c .before .before in
@@ -48,9 +24,6 @@ returns c =
     rw (choice .if1 .taken, wrote .write-finalize .ensures, signer .own .ensures .0, height .current .ensures .0)
     (front-in-part reply (finalize (s .own) (s .current)) 224 (length reply - 224) (omega (arith, room)) (omega (arith, room, finalize-size (s .own) (s .current))))
 
-same-length-2 : tie.Need-same-length-2
-same-length-2 c = search needs
-
 returns-2 : tie.Need-returns-2
 returns-2 c =
     let wrote = c .before .before in
@@ -60,14 +33,14 @@ pub write-pass-finalize-spec : {M : Type 1} → statement M
 write-pass-finalize-spec =
     tie.close
     (tie.spec
-    current-requires
-    own-requires
-    sub-write-finalize
-    part-write-finalize-start
-    part-write-finalize-end
-    write-finalize-requires
-    clear-requires
-    same-length
+    (λ c κs. search needs)
+    (λ c κs. search needs)
+    (λ c. search needs)
+    (λ c. search needs)
+    (λ c. search needs)
+    (λ c κs. search needs)
+    (λ c κs. search needs)
+    (λ c. search needs)
     returns
-    same-length-2
+    (λ c. search needs)
     returns-2)

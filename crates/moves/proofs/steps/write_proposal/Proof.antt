@@ -11,31 +11,10 @@ use borrow.Author.Needs.{needs}
 use Rattle.moves.proofs.steps.write_proposal.Statement.{statement}
 use Rattle.moves.proofs.steps.write_proposal.Tie as tie
 
-current-requires : tie.Need-current-requires
-current-requires c κs = search needs
-
-own-requires : tie.Need-own-requires
-own-requires c κs = search needs
-
 parent-digest-requires : tie.Need-parent-digest-requires
 parent-digest-requires c κs =
     let start = c .before .before .before .before .before .before in
     (start .pre .0 .readable, (start .pre .1 .0, start .pre .1 .1 .0 .high))
-
-write-plain-requires : tie.Need-write-plain-requires
-write-plain-requires c κs = search needs
-
-slice-aggregate-offer : tie.Need-slice-aggregate-offer
-slice-aggregate-offer c = search needs
-
-sub-offer : tie.Need-sub-offer
-sub-offer c = search needs
-
-part-offer-start : tie.Need-part-offer-start
-part-offer-start c = search needs
-
-part-offer-end : tie.Need-part-offer-end
-part-offer-end c = search needs
 
 offer-requires : tie.Need-offer-requires
 offer-requires c κs =
@@ -44,12 +23,6 @@ offer-requires c κs =
     let room = start .pre .1 .1 .1 in
     let kept = plain .kept .0 in
     (start .pre .1 .1 .0, (start .pre .0 .pending-few, (search needs, search needs, simp (length-take, length-drop) (omega arith))))
-
-same-length : tie.Need-same-length
-same-length c = search needs
-
-same-length-2 : tie.Need-same-length-2
-same-length-2 c = search needs
 
 returns : tie.Need-returns
 returns c =
@@ -73,15 +46,15 @@ pub write-proposal-spec : {M : Type 1} → statement M
 write-proposal-spec =
     tie.close
     (tie.spec
-    current-requires
-    own-requires
+    (λ c κs. search needs)
+    (λ c κs. search needs)
     parent-digest-requires
-    write-plain-requires
-    slice-aggregate-offer
-    sub-offer
-    part-offer-start
-    part-offer-end
+    (λ c κs. search needs)
+    (λ c. search needs)
+    (λ c. search needs)
+    (λ c. search needs)
+    (λ c. search needs)
     offer-requires
-    same-length
-    same-length-2
+    (λ c. search needs)
+    (λ c. search needs)
     returns)

@@ -10,17 +10,8 @@ use borrow.Author.Needs.{needs}
 use Rattle.replica.proofs.fetch.fetch.Statement.{statement}
 use Rattle.replica.proofs.fetch.fetch.Tie as tie
 
-is-sound-requires : tie.Need-is-sound-requires
-is-sound-requires c κs = search needs
-
 fetch-sound-requires : tie.Need-fetch-sound-requires
 fetch-sound-requires c κs = sound-book _ (c .before .before .is-sound .ensures .1) (sym (c .before .before .is-sound .ensures .0) ∙ c .before .if1 .taken)
-
-same-length : tie.Need-same-length
-same-length c = search needs
-
-returns : tie.Need-returns
-returns c = search needs
 
 returns-2 : tie.Need-returns-2
 returns-2 c =
@@ -32,8 +23,8 @@ pub fetch-spec : {M : Type 1} → statement M
 fetch-spec =
     tie.close
     (tie.spec
-    is-sound-requires
+    (λ c κs. search needs)
     fetch-sound-requires
-    same-length
-    returns
+    (λ c. search needs)
+    (λ c. search needs)
     returns-2)

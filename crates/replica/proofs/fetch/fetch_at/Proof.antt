@@ -20,9 +20,6 @@ write-certificate-requires c κs =
     let z = c .before .before .before .before .before .before in
     (z .pre .0, (z .pre .1 .0, (certificate-range (z .args .kind) (z .pre .1 .1), c .before .before .before .if1 .taken)))
 
-same-length : tie.Need-same-length
-same-length c = search needs
-
 returns : tie.Need-returns
 returns c =
     let z = c .before .before .before .before .before .before .before .before .before in
@@ -53,7 +50,7 @@ fetch-at-spec =
     (tie.spec
     has-certificate-requires
     write-certificate-requires
-    same-length
+    (λ c. search needs)
     returns
     returns-2
     returns-3)

@@ -7,22 +7,10 @@ use borrow.Author.Needs.{needs}
 use Rattle.replica.proofs.fetch.fetch_sound.Statement.{statement}
 use Rattle.replica.proofs.fetch.fetch_sound.Tie as tie
 
-is-certificate-requires : tie.Need-is-certificate-requires
-is-certificate-requires c κs = search needs
-
-in-book-requires : tie.Need-in-book-requires
-in-book-requires c κs = search needs
-
 fetch-at-requires : tie.Need-fetch-at-requires
 fetch-at-requires c κs =
     let z = c .before .before .before .before .before .before .before in
     (z .pre, (within (z .args .book .now) (z .args .height) (sym (c .before .before .in-book .ensures) ∙ c .before .if2 .taken), sym (c .before .before .before .before .is-certificate .ensures) ∙ c .before .before .before .if1 .taken))
-
-same-length : tie.Need-same-length
-same-length c = search needs
-
-returns : tie.Need-returns
-returns c = search needs
 
 returns-2 : tie.Need-returns-2
 returns-2 c =
@@ -39,10 +27,10 @@ pub fetch-sound-spec : {M : Type 1} → statement M
 fetch-sound-spec =
     tie.close
     (tie.spec
-    is-certificate-requires
-    in-book-requires
+    (λ c κs. search needs)
+    (λ c κs. search needs)
     fetch-at-requires
-    same-length
-    returns
+    (λ c. search needs)
+    (λ c. search needs)
     returns-2
     returns-3)

@@ -10,18 +10,6 @@ use borrow.Author.Needs.{needs}
 use Rattle.replica.proofs.fetch.has_certificate.Statement.{statement}
 use Rattle.replica.proofs.fetch.has_certificate.Tie as tie
 
-is-notarized-requires : tie.Need-is-notarized-requires
-is-notarized-requires c κs = search needs
-
-sub-mask-at : tie.Need-sub-mask-at
-sub-mask-at c = search needs
-
-mask-at-requires : tie.Need-mask-at-requires
-mask-at-requires c κs = search needs
-
-quorum-requires : tie.Need-quorum-requires
-quorum-requires c κs = search needs
-
 returns : tie.Need-returns
 returns c =
     let z = c .before .before .before in
@@ -37,4 +25,4 @@ returns-2 c =
 pub has-certificate-spec : {M : Type 1} → statement M
 has-certificate-spec =
     tie.close
-    (tie.spec is-notarized-requires sub-mask-at mask-at-requires quorum-requires returns returns-2)
+    (tie.spec (λ c κs. search needs) (λ c. search needs) (λ c κs. search needs) (λ c κs. search needs) returns returns-2)

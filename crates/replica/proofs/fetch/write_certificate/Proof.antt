@@ -11,15 +11,6 @@ use borrow.Author.Needs.{needs}
 use Rattle.replica.proofs.fetch.write_certificate.Statement.{statement}
 use Rattle.replica.proofs.fetch.write_certificate.Tie as tie
 
-sub-mask-at : tie.Need-sub-mask-at
-sub-mask-at c = search needs
-
-mask-at-requires : tie.Need-mask-at-requires
-mask-at-requires c κs = search needs
-
-notarized-requires : tie.Need-notarized-requires
-notarized-requires c κs = search needs
-
 write-block-certificate-requires : tie.Need-write-block-certificate-requires
 write-block-certificate-requires c κs =
     let z = c .before .before .before .before .before .before in
@@ -31,12 +22,6 @@ write-block-certificate-requires c κs =
       ),
     )
 
-write-plain-requires : tie.Need-write-plain-requires
-write-plain-requires c κs = search needs
-
-same-length : tie.Need-same-length
-same-length c = search needs
-
 returns : tie.Need-returns
 returns c =
     let branch = c .before .before .before .before .before in
@@ -44,9 +29,6 @@ returns c =
     c .before .before .write-block-certificate .ensures
     ∙ ap (λ (frame : Bytes). overFront frame (z .args .reply .now))
     (frame-block (decode (z .args .book .now)) (z .args .kind) (z .args .height) _ (branch .before .mask-at .ensures .0) _ (branch .if1 .taken) (c .before .before .before .before .notarized .ensures))
-
-same-length-2 : tie.Need-same-length-2
-same-length-2 c = search needs
 
 returns-2 : tie.Need-returns-2
 returns-2 c =
@@ -60,12 +42,12 @@ pub write-certificate-spec : {M : Type 1} → statement M
 write-certificate-spec =
     tie.close
     (tie.spec
-    sub-mask-at
-    mask-at-requires
-    notarized-requires
+    (λ c. search needs)
+    (λ c κs. search needs)
+    (λ c κs. search needs)
     write-block-certificate-requires
-    write-plain-requires
-    same-length
+    (λ c κs. search needs)
+    (λ c. search needs)
     returns
-    same-length-2
+    (λ c. search needs)
     returns-2)

@@ -6,15 +6,6 @@ use borrow.Author.Needs.{needs}
 use Rattle.replica.proofs.make_move.make_move.Statement.{statement}
 use Rattle.replica.proofs.make_move.make_move.Tie as tie
 
-make-move-requires : tie.Need-make-move-requires
-make-move-requires c κs = search needs
-
-same-length : tie.Need-same-length
-same-length c = search needs
-
-same-length-2 : tie.Need-same-length-2
-same-length-2 c = search needs
-
 returns : tie.Need-returns
 returns c =
     let told = c .before .before .before .before .make-move in (
@@ -23,4 +14,4 @@ returns c =
     )
 
 pub make-move-spec : {M : Type 1} → statement M
-make-move-spec = tie.close (tie.spec make-move-requires same-length same-length-2 returns)
+make-move-spec = tie.close (tie.spec (λ c κs. search needs) (λ c. search needs) (λ c. search needs) returns)

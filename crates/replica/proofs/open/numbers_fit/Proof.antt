@@ -4,11 +4,8 @@ use borrow.Author.Needs.{needs}
 use Rattle.replica.proofs.open.numbers_fit.Statement.{statement}
 use Rattle.replica.proofs.open.numbers_fit.Tie as tie
 
-leaders-below-requires : tie.Need-leaders-below-requires
-leaders-below-requires c κs = search needs
-
 returns : tie.Need-returns
 returns c = let z = c .before .before in open-fits (z .args .n) (z .args .own) (z .args .heights) (z .args .leaders .now) (c .leaders-below .result) (c .leaders-below .ensures)
 
 pub numbers-fit-spec : {M : Type 1} → statement M
-numbers-fit-spec = tie.close (tie.spec leaders-below-requires returns)
+numbers-fit-spec = tie.close (tie.spec (λ c κs. search needs) returns)

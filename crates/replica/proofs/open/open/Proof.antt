@@ -10,9 +10,6 @@ use borrow.Author.Needs.{needs}
 use Rattle.replica.proofs.open.open.Statement.{statement}
 use Rattle.replica.proofs.open.open.Tie as tie
 
-numbers-fit-requires : tie.Need-numbers-fit-requires
-numbers-fit-requires c κs = search needs
-
 mul-if2 : tie.Need-mul-if2
 mul-if2 c =
     let z = c .before .before .before .before in
@@ -32,9 +29,6 @@ new-book-requires c κs =
     let size : length (z .args .book .now) ≡ 576 + 880 * length (z .args .leaders .now) = omega arith in
     let few : length (z .args .leaders .now) ≤ 63 = omega arith in
     (size, (few, (omega arith, omega arith)))
-
-same-length : tie.Need-same-length
-same-length c = search needs
 
 returns : tie.Need-returns
 returns c =
@@ -56,11 +50,11 @@ pub open-spec : {M : Type 1} → statement M
 open-spec =
     tie.close
     (tie.spec
-    numbers-fit-requires
+    (λ c κs. search needs)
     mul-if2
     add-if2
     new-book-requires
-    same-length
+    (λ c. search needs)
     returns
     returns-2
     returns-3)

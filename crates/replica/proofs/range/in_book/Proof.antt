@@ -4,11 +4,8 @@ use borrow.Author.Needs.{needs}
 use Rattle.replica.proofs.range.in_book.Statement.{statement}
 use Rattle.replica.proofs.range.in_book.Tie as tie
 
-heights-requires : tie.Need-heights-requires
-heights-requires c κs = search needs
-
 returns : tie.Need-returns
 returns c = let z = c .before .before in in-book (z .args .book .now) (z .args .h) (c .heights .result) (c .heights .ensures .0)
 
 pub in-book-spec : {M : Type 1} → statement M
-in-book-spec = tie.close (tie.spec heights-requires returns)
+in-book-spec = tie.close (tie.spec (λ c κs. search needs) returns)

@@ -7,9 +7,6 @@ use borrow.Author.Needs.{needs}
 use Rattle.replica.proofs.read.log_count.Statement.{statement}
 use Rattle.replica.proofs.read.log_count.Tie as tie
 
-finalized-requires : tie.Need-finalized-requires
-finalized-requires c κs = search needs
-
 chain-entries-requires : tie.Need-chain-entries-requires
 chain-entries-requires c κs =
     let z = c .before .before in
@@ -21,4 +18,4 @@ returns c =
     (c .chain-entries .ensures .0 ∙ ap length (log-at (decode (z .args .book .now)) _ (c .before .finalized .ensures .0)), c .chain-entries .ensures .1)
 
 pub log-count-spec : {M : Type 1} → statement M
-log-count-spec = tie.close (tie.spec finalized-requires chain-entries-requires returns)
+log-count-spec = tie.close (tie.spec (λ c κs. search needs) chain-entries-requires returns)

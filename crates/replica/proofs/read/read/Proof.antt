@@ -5,9 +5,6 @@ use borrow.Author.Needs.{needs}
 use Rattle.replica.proofs.read.read.Statement.{statement}
 use Rattle.replica.proofs.read.read.Tie as tie
 
-read-into-requires : tie.Need-read-into-requires
-read-into-requires c κs = search needs
-
 slice-aggregate-result : tie.Need-slice-aggregate-result
 slice-aggregate-result c =
     let told = c .before .before .before .read-into .ensures in
@@ -19,4 +16,4 @@ returns c =
     (read-front _ _ _ _ (told .0) (told .1), refl)
 
 pub read-spec : {M : Type 1} → statement M
-read-spec = tie.close (tie.spec read-into-requires slice-aggregate-result returns)
+read-spec = tie.close (tie.spec (λ c κs. search needs) slice-aggregate-result returns)

@@ -7,15 +7,6 @@ use borrow.Author.Needs.{needs}
 use Rattle.replica.proofs.read.read_sound.Statement.{statement}
 use Rattle.replica.proofs.read.read_sound.Tie as tie
 
-finalized-requires : tie.Need-finalized-requires
-finalized-requires c κs = search needs
-
-log-count-requires : tie.Need-log-count-requires
-log-count-requires c κs = search needs
-
-mul-if1 : tie.Need-mul-if1
-mul-if1 c = search needs
-
 copy-chain-requires : tie.Need-copy-chain-requires
 copy-chain-requires c κs =
     let z = c .before .before .before .before .before .before in
@@ -23,12 +14,6 @@ copy-chain-requires c κs =
       walkable (z .args .book .now) _ (z .pre) ends,
       (c .before .before .log-count .ensures .0 ∙ sym (ap length (log-at (decode (z .args .book .now)) _ ends)), c .before .if1 .taken),
     )
-
-mul-result : tie.Need-mul-result
-mul-result c = search needs
-
-same-length : tie.Need-same-length
-same-length c = search needs
 
 returns : tie.Need-returns
 returns c =
@@ -45,11 +30,11 @@ pub read-sound-spec : {M : Type 1} → statement M
 read-sound-spec =
     tie.close
     (tie.spec
-    finalized-requires
-    log-count-requires
-    mul-if1
+    (λ c κs. search needs)
+    (λ c κs. search needs)
+    (λ c. search needs)
     copy-chain-requires
-    mul-result
-    same-length
+    (λ c. search needs)
+    (λ c. search needs)
     returns
     returns-2)

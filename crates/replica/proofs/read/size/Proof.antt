@@ -9,14 +9,8 @@ use borrow.Author.Needs.{needs}
 use Rattle.replica.proofs.read.size.Statement.{statement}
 use Rattle.replica.proofs.read.size.Tie as tie
 
-is-sound-requires : tie.Need-is-sound-requires
-is-sound-requires c κs = search needs
-
 log-count-requires : tie.Need-log-count-requires
 log-count-requires c κs = sound-book _ (c .before .is-sound .ensures .1) (sym (c .before .is-sound .ensures .0) ∙ c .if1 .taken)
-
-mul-t5 : tie.Need-mul-t5
-mul-t5 c = search needs
 
 returns : tie.Need-returns
 returns c =
@@ -33,4 +27,4 @@ returns-2 c =
 pub size-spec : {M : Type 1} → statement M
 size-spec =
     tie.close
-    (tie.spec is-sound-requires log-count-requires mul-t5 returns returns-2)
+    (tie.spec (λ c κs. search needs) log-count-requires (λ c. search needs) returns returns-2)

@@ -4,24 +4,6 @@ use borrow.Author.Needs.{needs}
 use Rattle.replica.proofs.signal.fire.Statement.{statement}
 use Rattle.replica.proofs.signal.fire.Tie as tie
 
-flags-requires : tie.Need-flags-requires
-flags-requires c κs = search needs
-
-current-requires : tie.Need-current-requires
-current-requires c κs = search needs
-
-finalized-requires : tie.Need-finalized-requires
-finalized-requires c κs = search needs
-
-add-set-head : tie.Need-add-set-head
-add-set-head c = search needs
-
-set-head-requires : tie.Need-set-head-requires
-set-head-requires c κs = search needs
-
-same-length : tie.Need-same-length
-same-length c = search needs
-
 returns : tie.Need-returns
 returns c =
     let z = c .before .before .before .before .before .before .before .before .before .before .before in
@@ -32,10 +14,10 @@ pub fire-spec : {M : Type 1} → statement M
 fire-spec =
     tie.close
     (tie.spec
-    flags-requires
-    current-requires
-    finalized-requires
-    add-set-head
-    set-head-requires
-    same-length
+    (λ c κs. search needs)
+    (λ c κs. search needs)
+    (λ c κs. search needs)
+    (λ c. search needs)
+    (λ c κs. search needs)
+    (λ c. search needs)
     returns)

@@ -10,20 +10,8 @@ use borrow.Author.Needs.{needs}
 use Rattle.replica.proofs.signal.signal.Statement.{statement}
 use Rattle.replica.proofs.signal.signal.Tie as tie
 
-is-sound-requires : tie.Need-is-sound-requires
-is-sound-requires c κs = search needs
-
 signal-sound-requires : tie.Need-signal-sound-requires
 signal-sound-requires c κs = sound-book _ (c .before .before .is-sound .ensures .1) (sym (c .before .before .is-sound .ensures .0) ∙ c .before .if1 .taken)
-
-same-length : tie.Need-same-length
-same-length c = search needs
-
-returns : tie.Need-returns
-returns c = search needs
-
-same-length-2 : tie.Need-same-length-2
-same-length-2 c = search needs
 
 returns-2 : tie.Need-returns-2
 returns-2 c =
@@ -35,9 +23,9 @@ pub signal-spec : {M : Type 1} → statement M
 signal-spec =
     tie.close
     (tie.spec
-    is-sound-requires
+    (λ c κs. search needs)
     signal-sound-requires
-    same-length
-    returns
-    same-length-2
+    (λ c. search needs)
+    (λ c. search needs)
+    (λ c. search needs)
     returns-2)

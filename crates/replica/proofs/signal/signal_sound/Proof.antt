@@ -8,18 +8,6 @@ use borrow.Author.Needs.{needs}
 use Rattle.replica.proofs.signal.signal_sound.Statement.{statement}
 use Rattle.replica.proofs.signal.signal_sound.Tie as tie
 
-in-book-requires : tie.Need-in-book-requires
-in-book-requires c κs = search needs
-
-timer-runs-requires : tie.Need-timer-runs-requires
-timer-runs-requires c κs = search needs
-
-fire-requires : tie.Need-fire-requires
-fire-requires c κs = search needs
-
-same-length : tie.Need-same-length
-same-length c = search needs
-
 returns : tie.Need-returns
 unfolding signalCall signalRows firstRefusal unlessRefused doneAnswer
 returns c =
@@ -28,9 +16,6 @@ returns c =
     let start = height .before .before .before in
     rw (start .pre .is-sound, ← height .in-book .ensures, ← timer .timer-runs .ensures, c .before .before .before .before .before .if1 .taken, c .before .before .before .before .if2 .taken) (refl, c .before .before .fire .ensures)
 
-same-length-2 : tie.Need-same-length-2
-same-length-2 c = search needs
-
 returns-2 : tie.Need-returns-2
 unfolding signalCall signalRows firstRefusal unlessRefused doneAnswer
 returns-2 c =
@@ -38,9 +23,6 @@ returns-2 c =
     let height = timer .before .before in
     let start = height .before .before .before in
     rw (start .pre .is-sound, ← height .in-book .ensures, ← timer .timer-runs .ensures, c .before .if1 .taken, c .if2 .left) (refl, refl)
-
-same-length-3 : tie.Need-same-length-3
-same-length-3 c = search needs
 
 returns-3 : tie.Need-returns-3
 unfolding signalCall signalRows firstRefusal unlessRefused doneAnswer
@@ -54,12 +36,12 @@ pub signal-sound-spec : {M : Type 1} → statement M
 signal-sound-spec =
     tie.close
     (tie.spec
-    in-book-requires
-    timer-runs-requires
-    fire-requires
-    same-length
+    (λ c κs. search needs)
+    (λ c κs. search needs)
+    (λ c κs. search needs)
+    (λ c. search needs)
     returns
-    same-length-2
+    (λ c. search needs)
     returns-2
-    same-length-3
+    (λ c. search needs)
     returns-3)

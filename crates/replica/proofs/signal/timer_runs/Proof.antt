@@ -4,16 +4,10 @@ use borrow.Author.Needs.{needs}
 use Rattle.replica.proofs.signal.timer_runs.Statement.{statement}
 use Rattle.replica.proofs.signal.timer_runs.Tie as tie
 
-current-requires : tie.Need-current-requires
-current-requires c κs = search needs
-
-flags-requires : tie.Need-flags-requires
-flags-requires c κs = search needs
-
 returns : tie.Need-returns
 returns c =
     let z = c .before .before .before in
     timer-runs (z .args .book .now) (z .args .height) (c .before .current .result) (c .flags .result) (c .before .current .ensures .0) (c .flags .ensures .0)
 
 pub timer-runs-spec : {M : Type 1} → statement M
-timer-runs-spec = tie.close (tie.spec current-requires flags-requires returns)
+timer-runs-spec = tie.close (tie.spec (λ c κs. search needs) (λ c κs. search needs) returns)

@@ -10,12 +10,6 @@ use borrow.Author.Needs.{needs}
 use Rattle.replica.proofs.submit.is_known.Statement.{statement}
 use Rattle.replica.proofs.submit.is_known.Tie as tie
 
-is-pending-requires : tie.Need-is-pending-requires
-is-pending-requires c κs = search needs
-
-finalized-requires : tie.Need-finalized-requires
-finalized-requires c κs = search needs
-
 chain-holds-requires : tie.Need-chain-holds-requires
 chain-holds-requires c κs =
     let z = c .before .before .before .before .before in
@@ -36,4 +30,4 @@ returns-2 c =
 pub is-known-spec : {M : Type 1} → statement M
 is-known-spec =
     tie.close
-    (tie.spec is-pending-requires finalized-requires chain-holds-requires returns returns-2)
+    (tie.spec (λ c κs. search needs) (λ c κs. search needs) chain-holds-requires returns returns-2)

@@ -8,9 +8,6 @@ use Rattle.replica.proofs.Numbers.{few-stay}
 use Rattle.replica.proofs.submit.leaves_room.Statement.{statement}
 use Rattle.replica.proofs.submit.leaves_room.Tie as tie
 
-pending-count-requires : tie.Need-pending-count-requires
-pending-count-requires c κs = search needs
-
 unlogged-count-requires : tie.Need-unlogged-count-requires
 unlogged-count-requires c κs =
     let z = c .before .before .before in
@@ -23,4 +20,4 @@ returns-2 : tie.Need-returns-2
 returns-2 c = ap (λ k. ltb k 32) (c .unlogged-count .ensures .0)
 
 pub leaves-room-spec : {M : Type 1} → statement M
-leaves-room-spec = tie.close (tie.spec pending-count-requires unlogged-count-requires returns returns-2)
+leaves-room-spec = tie.close (tie.spec (λ c κs. search needs) unlogged-count-requires returns returns-2)

@@ -22,9 +22,6 @@ keep-unlogged-requires c κs =
     let few : length (stillPending s) < 32 = ltb-true (length (stillPending s)) 32 (sym (c .before .before .leaves-room .ensures) ∙ c .before .if1 .taken) in
     (z .pre .0 .ready, (walkable (z .args .book .now) (s .finalized) (z .pre .0) refl, ((z .pre .0 .pending, few), z .pre .1 .0)))
 
-same-length : tie.Need-same-length
-same-length c = search needs
-
 returns : tie.Need-returns
 returns c =
     let z = c .before .before .before .before .before .before .before .before .before in
@@ -32,9 +29,6 @@ returns c =
     let fits = eq-eqb (length (z .args .entry .now)) 16 (z .pre .1 .0) in
     outcome-done (submit-done (z .args .book .now) (z .args .entry .now) (z .pre .0 .is-sound) fits (z .pre .1 .1) room)
     (c .before .before .keep-unlogged .ensures)
-
-same-length-2 : tie.Need-same-length-2
-same-length-2 c = search needs
 
 returns-2 : tie.Need-returns-2
 returns-2 c =
@@ -49,7 +43,7 @@ submit-new-spec =
     (tie.spec
     leaves-room-requires
     keep-unlogged-requires
-    same-length
+    (λ c. search needs)
     returns
-    same-length-2
+    (λ c. search needs)
     returns-2)

@@ -8,28 +8,16 @@ use borrow.Author.Needs.{needs}
 use Rattle.replica.proofs.submit.submit_sound.Statement.{statement}
 use Rattle.replica.proofs.submit.submit_sound.Tie as tie
 
-is-known-requires : tie.Need-is-known-requires
-is-known-requires c κs = search needs
-
 submit-new-requires : tie.Need-submit-new-requires
 submit-new-requires c κs =
     let z = c .before .before .before .before .before .before .before in
     (z .pre, (c .before .before .before .before .if1 .taken, sym (c .before .before .is-known .ensures) ∙ c .before .if2 .left))
-
-same-length : tie.Need-same-length
-same-length c = search needs
 
 returns : tie.Need-returns
 returns c =
     let z = c .before .before .before .before .before .before in
     let fits = eq-eqb (length (z .args .entry .now)) 16 (c .before .before .before .if1 .taken) in
     outcome-refused (submit-known (z .args .book .now) (z .args .entry .now) (z .pre .is-sound) fits (sym (c .before .is-known .ensures) ∙ c .if2 .taken))
-
-same-length-2 : tie.Need-same-length-2
-same-length-2 c = search needs
-
-returns-2 : tie.Need-returns-2
-returns-2 c = search needs
 
 returns-3 : tie.Need-returns-3
 returns-3 c =
@@ -40,10 +28,10 @@ pub submit-sound-spec : {M : Type 1} → statement M
 submit-sound-spec =
     tie.close
     (tie.spec
-    is-known-requires
+    (λ c κs. search needs)
     submit-new-requires
-    same-length
+    (λ c. search needs)
     returns
-    same-length-2
-    returns-2
+    (λ c. search needs)
+    (λ c. search needs)
     returns-3)

@@ -20,18 +20,6 @@ abbrev μ-loop : tie.MeasureT-loop
 loop-holds : tie.Need-loop-holds Inv-loop μ-loop
 loop-holds c = (omega arith, start-words (now (c .args .k)) (now (c .args .w)) (c .args .hash) 0, start-state (now (c .args .k)) (extendedFrom (now (c .args .w)) 0 48) (c .args .hash) 0)
 
-mul-four-steps : tie.Need-mul-four-steps Inv-loop μ-loop
-mul-four-steps c = search needs
-
-four-steps-requires : tie.Need-four-steps-requires Inv-loop μ-loop
-four-steps-requires c κs = search needs
-
-add-i : tie.Need-add-i Inv-loop μ-loop
-add-i c = search needs
-
-loop-less : tie.Need-loop-less Inv-loop μ-loop
-loop-less c = search needs
-
 loop-again : tie.Need-loop-again Inv-loop μ-loop
 loop-again c =
     let head = c .before .before .before .loop in
@@ -55,9 +43,9 @@ first-rounds-spec =
     Inv-loop
     μ-loop
     loop-holds
-    mul-four-steps
-    four-steps-requires
-    add-i
-    loop-less
+    (λ c. search needs)
+    (λ c κs. search needs)
+    (λ c. search needs)
+    (λ c. search needs)
     loop-again
     returns)

@@ -5,27 +5,6 @@ use borrow.Author.Needs.{needs}
 use Rattle.sha256.proofs.compression.four_steps.Statement.{statement}
 use Rattle.sha256.proofs.compression.four_steps.Tie as tie
 
-step-requires : tie.Need-step-requires
-step-requires c κs = search needs
-
-add-step : tie.Need-add-step
-add-step c = search needs
-
-step-requires-2 : tie.Need-step-requires-2
-step-requires-2 c κs = search needs
-
-add-step-2 : tie.Need-add-step-2
-add-step-2 c = search needs
-
-step-requires-3 : tie.Need-step-requires-3
-step-requires-3 c κs = search needs
-
-add-step-3 : tie.Need-add-step-3
-add-step-3 c = search needs
-
-step-requires-4 : tie.Need-step-requires-4
-step-requires-4 c κs = search needs
-
 returns : tie.Need-returns
 returns c =
     let start = c .before .before .before .before .before .before .before .before in
@@ -41,11 +20,11 @@ pub four-steps-spec : {M : Type 1} → statement M
 four-steps-spec =
     tie.close
     (tie.spec
-    step-requires
-    add-step
-    step-requires-2
-    add-step-2
-    step-requires-3
-    add-step-3
-    step-requires-4
+    (λ c κs. search needs)
+    (λ c. search needs)
+    (λ c κs. search needs)
+    (λ c. search needs)
+    (λ c κs. search needs)
+    (λ c. search needs)
+    (λ c κs. search needs)
     returns)

@@ -18,21 +18,6 @@ abbrev μ-loop : tie.MeasureT-loop
 loop-holds : tie.Need-loop-holds Inv-loop μ-loop
 loop-holds c = (omega arith, start-state (now (c .args .k)) (now (c .args .w)) (c .args .start) 48)
 
-mul-four-rounds : tie.Need-mul-four-rounds Inv-loop μ-loop
-mul-four-rounds c = search needs
-
-add-four-rounds : tie.Need-add-four-rounds Inv-loop μ-loop
-add-four-rounds c = search needs
-
-four-rounds-requires : tie.Need-four-rounds-requires Inv-loop μ-loop
-four-rounds-requires c κs = search needs
-
-add-i : tie.Need-add-i Inv-loop μ-loop
-add-i c = search needs
-
-loop-less : tie.Need-loop-less Inv-loop μ-loop
-loop-less c = search needs
-
 loop-again : tie.Need-loop-again Inv-loop μ-loop
 loop-again c =
     let head = c .before .before .loop in
@@ -54,10 +39,10 @@ last-rounds-spec =
     Inv-loop
     μ-loop
     loop-holds
-    mul-four-rounds
-    add-four-rounds
-    four-rounds-requires
-    add-i
-    loop-less
+    (λ c. search needs)
+    (λ c. search needs)
+    (λ c κs. search needs)
+    (λ c. search needs)
+    (λ c. search needs)
     loop-again
     returns)

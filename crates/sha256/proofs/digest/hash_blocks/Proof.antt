@@ -22,26 +22,8 @@ loop-holds : tie.Need-loop-holds Inv-loop μ-loop
 unfolding hashBlocks
 loop-holds c = (search needs, refl, refl)
 
-sub-loop : tie.Need-sub-loop Inv-loop μ-loop
-sub-loop c = search needs
-
-add-end : tie.Need-add-end Inv-loop μ-loop
-add-end c = search needs
-
-sub-compress : tie.Need-sub-compress Inv-loop μ-loop
-sub-compress c = search needs
-
-part-compress-start : tie.Need-part-compress-start Inv-loop μ-loop
-part-compress-start c = search needs
-
-part-compress-end : tie.Need-part-compress-end Inv-loop μ-loop
-part-compress-end c = search needs
-
 compress-requires : tie.Need-compress-requires Inv-loop μ-loop
 compress-requires c κs = simp (length-take, length-drop) (omega arith)
-
-loop-less : tie.Need-loop-less Inv-loop μ-loop
-loop-less c = search needs
 
 loop-again : tie.Need-loop-again Inv-loop μ-loop
 loop-again c = (search needs, omega arith, c .compress .ensures ∙ rw (c .before .before .before .loop .inv .2) (hashBlocks-next _ _ (c .before .before .before .loop .at) (c .before .before .before .loop .inv .1)))
@@ -57,12 +39,12 @@ hash-blocks-spec =
     Inv-loop
     μ-loop
     loop-holds
-    sub-loop
-    add-end
-    sub-compress
-    part-compress-start
-    part-compress-end
+    (λ c. search needs)
+    (λ c. search needs)
+    (λ c. search needs)
+    (λ c. search needs)
+    (λ c. search needs)
     compress-requires
-    loop-less
+    (λ c. search needs)
     loop-again
     returns)

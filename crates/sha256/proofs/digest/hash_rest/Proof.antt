@@ -15,30 +15,6 @@ begin-requires : tie.Need-begin-requires
 unfolding zeros
 begin-requires c κs = (refl, omega arith)
 
-put-length-requires : tie.Need-put-length-requires
-put-length-requires c κs = search needs
-
-slice-aggregate-hash-blocks : tie.Need-slice-aggregate-hash-blocks
-slice-aggregate-hash-blocks c = search needs
-
-hash-blocks-requires : tie.Need-hash-blocks-requires
-hash-blocks-requires c κs = search needs
-
-slice-aggregate-hash-blocks-2 : tie.Need-slice-aggregate-hash-blocks-2
-slice-aggregate-hash-blocks-2 c = search needs
-
-hash-blocks-requires-2 : tie.Need-hash-blocks-requires-2
-hash-blocks-requires-2 c κs = search needs
-
-put-length-requires-2 : tie.Need-put-length-requires-2
-put-length-requires-2 c κs = search needs
-
-slice-aggregate-hash-blocks-3 : tie.Need-slice-aggregate-hash-blocks-3
-slice-aggregate-hash-blocks-3 c = search needs
-
-hash-blocks-requires-3 : tie.Need-hash-blocks-requires-3
-hash-blocks-requires-3 c κs = search needs
-
 returns : tie.Need-returns
 returns c =
     let start = c .before .before .before .before .before .before .before .before in
@@ -66,13 +42,13 @@ hash-rest-spec =
     tie.close
     (tie.spec
     begin-requires
-    put-length-requires
-    slice-aggregate-hash-blocks
-    hash-blocks-requires
-    slice-aggregate-hash-blocks-2
-    hash-blocks-requires-2
-    put-length-requires-2
-    slice-aggregate-hash-blocks-3
-    hash-blocks-requires-3
+    (λ c κs. search needs)
+    (λ c. search needs)
+    (λ c κs. search needs)
+    (λ c. search needs)
+    (λ c κs. search needs)
+    (λ c κs. search needs)
+    (λ c. search needs)
+    (λ c κs. search needs)
     returns
     returns-2)

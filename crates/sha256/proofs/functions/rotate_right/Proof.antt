@@ -5,18 +5,9 @@ use borrow.Author.Needs.{needs}
 use Rattle.sha256.proofs.functions.rotate_right.Statement.{statement}
 use Rattle.sha256.proofs.functions.rotate_right.Tie as tie
 
-shr-result : tie.Need-shr-result
-shr-result c = search needs
-
-sub-result : tie.Need-sub-result
-sub-result c = search needs
-
-shl-result : tie.Need-shl-result
-shl-result c = search needs
-
 returns : tie.Need-returns
 unfolding rotr shl shr
 returns c = refl
 
 pub rotate-right-spec : {M : Type 1} → statement M
-rotate-right-spec = tie.close (tie.spec shr-result sub-result shl-result returns)
+rotate-right-spec = tie.close (tie.spec (λ c. search needs) (λ c. search needs) (λ c. search needs) returns)

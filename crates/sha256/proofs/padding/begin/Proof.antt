@@ -21,26 +21,11 @@ abbrev μ-loop : tie.MeasureT-loop
 loop-holds : tie.Need-loop-holds Inv-loop μ-loop
 loop-holds c = (search needs, c .pre .0)
 
-shared-slice-read-block : tie.Need-shared-slice-read-block Inv-loop μ-loop
-shared-slice-read-block c = search needs
-
-element-write-block : tie.Need-element-write-block Inv-loop μ-loop
-element-write-block c = search needs
-
-add-i : tie.Need-add-i Inv-loop μ-loop
-add-i c = search needs
-
-loop-less : tie.Need-loop-less Inv-loop μ-loop
-loop-less c = search needs
-
 loop-again : tie.Need-loop-again Inv-loop μ-loop
 loop-again c =
     let i = c .before .before .loop .i in
     let rest = c .before .before .before .args .rest .now in
     (search needs, rw (c .before .before .loop .inv .1) (copied rest i 64 (search needs) (search needs)))
-
-element-write-block-2 : tie.Need-element-write-block-2 Inv-loop μ-loop
-element-write-block-2 c = search needs
 
 returns : tie.Need-returns Inv-loop μ-loop
 returns c =
@@ -56,10 +41,10 @@ begin-spec =
     Inv-loop
     μ-loop
     loop-holds
-    shared-slice-read-block
-    element-write-block
-    add-i
-    loop-less
+    (λ c. search needs)
+    (λ c. search needs)
+    (λ c. search needs)
+    (λ c. search needs)
     loop-again
-    element-write-block-2
+    (λ c. search needs)
     returns)

@@ -25,9 +25,6 @@ loop-holds c = (omega arith, refl)
 pending-entry-requires : tie.Need-pending-entry-requires Inv-loop μ-loop
 pending-entry-requires c κs = (c .before .before .before .before .before .pre .0, omega arith)
 
-same-bytes-requires : tie.Need-same-bytes-requires Inv-loop μ-loop
-same-bytes-requires c κs = search needs
-
 returns : tie.Need-returns Inv-loop μ-loop
 returns c =
     let loop = c .before .before .before .before .loop in
@@ -64,7 +61,7 @@ is-pending-spec =
     pending-count-requires
     loop-holds
     pending-entry-requires
-    same-bytes-requires
+    (λ c κs. search needs)
     returns
     add-k
     loop-less

@@ -8,18 +8,6 @@ use borrow.Author.Needs.{needs}
 use Rattle.state.proofs.linking.is_finalized.Statement.{statement}
 use Rattle.state.proofs.linking.is_finalized.Tie as tie
 
-finalize-mask-requires : tie.Need-finalize-mask-requires
-finalize-mask-requires c κs = search needs
-
-quorum-requires : tie.Need-quorum-requires
-quorum-requires c κs = search needs
-
-linked-requires : tie.Need-linked-requires
-linked-requires c κs = search needs
-
-same-length : tie.Need-same-length
-same-length c = search needs
-
 returns : tie.Need-returns
 returns c =
     let z = c .before .before .before .before .before .before .before .before .before in
@@ -40,4 +28,4 @@ returns-2 c =
 pub is-finalized-spec : {M : Type 1} → statement M
 is-finalized-spec =
     tie.close
-    (tie.spec finalize-mask-requires quorum-requires linked-requires same-length returns returns-2)
+    (tie.spec (λ c κs. search needs) (λ c κs. search needs) (λ c κs. search needs) (λ c. search needs) returns returns-2)

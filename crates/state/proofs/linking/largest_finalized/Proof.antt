@@ -27,9 +27,6 @@ is-finalized-requires c κs =
     let z = c .before .before .before .before .before in
     (z .pre .0, (c .before .before .loop .inv .2, record { low = omega arith; high = omega arith }))
 
-same-length : tie.Need-same-length Inv-loop μ-loop
-same-length c = search needs
-
 returns : tie.Need-returns Inv-loop μ-loop
 returns c =
     let v = viewOf (c .before .before .before .before .before .before .before .before .before .args .kind) (c .before .before .before .before .before .before .before .before .before .args .book .now) in
@@ -37,21 +34,12 @@ returns c =
     let found = c .before .before .before .is-finalized in
     (largest-here v (loop .h) (omega arith) (sym (found .ensures .0) ∙ c .if1 .taken) ∙ loop .inv .1, (loop .inv .0, found .ensures .1))
 
-sub-h : tie.Need-sub-h Inv-loop μ-loop
-sub-h c = search needs
-
-loop-less : tie.Need-loop-less Inv-loop μ-loop
-loop-less c = search needs
-
 loop-again : tie.Need-loop-again Inv-loop μ-loop
 loop-again c =
     let v = viewOf (c .before .before .before .before .before .before .before .before .before .args .kind) (c .before .before .before .before .before .before .before .before .before .args .book .now) in
     let loop = c .before .before .before .before .before .before .loop in
     let found = c .before .before .before .is-finalized in
     (omega arith, largest-below v (loop .h) (omega arith) (sym (found .ensures .0) ∙ c .if1 .left) ∙ loop .inv .1, found .ensures .1)
-
-same-length-2 : tie.Need-same-length-2 Inv-loop μ-loop
-same-length-2 c = search needs
 
 returns-2 : tie.Need-returns-2 Inv-loop μ-loop
 returns-2 c =
@@ -67,10 +55,10 @@ largest-finalized-spec =
     μ-loop
     loop-holds
     is-finalized-requires
-    same-length
+    (λ c. search needs)
     returns
-    sub-h
-    loop-less
+    (λ c. search needs)
+    (λ c. search needs)
     loop-again
-    same-length-2
+    (λ c. search needs)
     returns-2)

@@ -12,24 +12,6 @@ parent-digest-requires c κs =
     let z = c .before .before .before .before in
     (z .pre .0, (z .pre .1 .0, z .pre .1 .1 .1))
 
-sub-same-bytes : tie.Need-sub-same-bytes
-sub-same-bytes c = search needs
-
-part-same-bytes-start : tie.Need-part-same-bytes-start
-part-same-bytes-start c = search needs
-
-part-same-bytes-end : tie.Need-part-same-bytes-end
-part-same-bytes-end c = search needs
-
-slice-aggregate-same-bytes : tie.Need-slice-aggregate-same-bytes
-slice-aggregate-same-bytes c = search needs
-
-same-bytes-requires : tie.Need-same-bytes-requires
-same-bytes-requires c κs = search needs
-
-same-length : tie.Need-same-length
-same-length c = search needs
-
 returns : tie.Need-returns
 returns c =
     let z = c .before .before .before .before .before .before .before .before .before .before in
@@ -42,10 +24,10 @@ names-parent-spec =
     tie.close
     (tie.spec
     parent-digest-requires
-    sub-same-bytes
-    part-same-bytes-start
-    part-same-bytes-end
-    slice-aggregate-same-bytes
-    same-bytes-requires
-    same-length
+    (λ c. search needs)
+    (λ c. search needs)
+    (λ c. search needs)
+    (λ c. search needs)
+    (λ c κs. search needs)
+    (λ c. search needs)
     returns)

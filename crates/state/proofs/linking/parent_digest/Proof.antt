@@ -21,32 +21,8 @@ keep-digest-requires c κs =
     let z = c .before .before .before .before in
     (z .pre .0, (z .pre .1 .0, record { low = omega arith; high = z .pre .1 .1 }))
 
-mul-start : tie.Need-mul-start
-mul-start c = search needs
-
-add-start : tie.Need-add-start
-add-start c = search needs
-
-slice-aggregate-copy-to : tie.Need-slice-aggregate-copy-to
-slice-aggregate-copy-to c = search needs
-
-add-copy-to : tie.Need-add-copy-to
-add-copy-to c = search needs
-
-sub-copy-to : tie.Need-sub-copy-to
-sub-copy-to c = search needs
-
-part-copy-to-start : tie.Need-part-copy-to-start
-part-copy-to-start c = search needs
-
-part-copy-to-end : tie.Need-part-copy-to-end
-part-copy-to-end c = search needs
-
 copy-to-requires : tie.Need-copy-to-requires
 copy-to-requires c κs = omega arith
-
-same-length : tie.Need-same-length
-same-length c = search needs
 
 returns-2 : tie.Need-returns-2
 unfolding zeros
@@ -62,13 +38,13 @@ parent-digest-spec =
     (tie.spec
     returns
     keep-digest-requires
-    mul-start
-    add-start
-    slice-aggregate-copy-to
-    add-copy-to
-    sub-copy-to
-    part-copy-to-start
-    part-copy-to-end
+    (λ c. search needs)
+    (λ c. search needs)
+    (λ c. search needs)
+    (λ c. search needs)
+    (λ c. search needs)
+    (λ c. search needs)
+    (λ c. search needs)
     copy-to-requires
-    same-length
+    (λ c. search needs)
     returns-2)

@@ -28,9 +28,6 @@ linked-requires c κs =
     let z = c .before .before .before .before .before in
     (z .pre .0, (c .before .before .loop .inv .2, omega arith))
 
-same-length : tie.Need-same-length Inv-loop μ-loop
-same-length c = search needs
-
 returns : tie.Need-returns Inv-loop μ-loop
 unfolding parentOption
 returns c =
@@ -44,21 +41,12 @@ is-dummy-requires c κs =
     let z = c .before .before .before .before .before .before .before .before .before in
     (z .pre .0, record { low = omega arith; high = omega arith })
 
-sub-h : tie.Need-sub-h Inv-loop μ-loop
-sub-h c = search needs
-
-loop-less : tie.Need-loop-less Inv-loop μ-loop
-loop-less c = search needs
-
 loop-again : tie.Need-loop-again Inv-loop μ-loop
 loop-again c =
     let v = viewOf (c .before .before .before .before .before .before .before .before .before .before .before .args .kind) (c .before .before .before .before .before .before .before .before .before .before .before .args .book .now) in
     let loop = c .before .before .before .before .before .before .before .before .loop in
     let found = c .before .before .before .before .before .linked in
     (omega arith, parent-below v (loop .h) (omega arith) (sym (found .ensures .0) ∙ c .before .before .if1 .left) (sym (c .before .is-dummy .ensures) ∙ c .if2 .taken) ∙ loop .inv .1, found .ensures .1)
-
-same-length-2 : tie.Need-same-length-2 Inv-loop μ-loop
-same-length-2 c = search needs
 
 returns-2 : tie.Need-returns-2 Inv-loop μ-loop
 unfolding parentOption
@@ -67,9 +55,6 @@ returns-2 c =
     let loop = c .before .before .before .before .before .before .before .before .loop in
     let found = c .before .before .before .before .before .linked in
     (parent-stops v (loop .h) (omega arith) (sym (found .ensures .0) ∙ c .before .before .if1 .left) (sym (c .before .is-dummy .ensures) ∙ c .if2 .left) ∙ loop .inv .1, found .ensures .1)
-
-same-length-3 : tie.Need-same-length-3 Inv-loop μ-loop
-same-length-3 c = search needs
 
 returns-3 : tie.Need-returns-3 Inv-loop μ-loop
 unfolding parentOption
@@ -86,13 +71,13 @@ parent-of-spec =
     μ-loop
     loop-holds
     linked-requires
-    same-length
+    (λ c. search needs)
     returns
     is-dummy-requires
-    sub-h
-    loop-less
+    (λ c. search needs)
+    (λ c. search needs)
     loop-again
-    same-length-2
+    (λ c. search needs)
     returns-2
-    same-length-3
+    (λ c. search needs)
     returns-3)

@@ -18,9 +18,6 @@ run-start-requires c κs =
     let z = c .before .before .before .before in
     (z .pre .0, (z .pre .1 .0, z .pre .1 .1 .1))
 
-same-length : tie.Need-same-length
-same-length c = search needs
-
 returns-2 : tie.Need-returns-2
 returns-2 c =
     let z = c .before .before .before .before .before .before .before in
@@ -28,4 +25,4 @@ returns-2 c =
     (ap (λ (s : ℕ). leb s (z .args .j)) (start .ensures .0) ∙ run-is (viewOf (z .args .kind) (z .args .book .now)) (z .args .j) (z .args .top) (z .pre .1 .1 .0), start .ensures .1 .1)
 
 pub dummies-after-spec : {M : Type 1} → statement M
-dummies-after-spec = tie.close (tie.spec returns run-start-requires same-length returns-2)
+dummies-after-spec = tie.close (tie.spec returns run-start-requires (λ c. search needs) returns-2)

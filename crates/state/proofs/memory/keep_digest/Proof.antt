@@ -9,43 +9,10 @@ use borrow.Author.Needs.{needs}
 use Rattle.state.proofs.memory.keep_digest.Statement.{statement}
 use Rattle.state.proofs.memory.keep_digest.Tie as tie
 
-add-kept : tie.Need-add-kept
-add-kept c = search needs
-
-slice-read-kept : tie.Need-slice-read-kept
-slice-read-kept c = search needs
-
 returns : tie.Need-returns
 returns c =
     let z = c .before .before .before .before in
     (z .pre .1 .0 .digest (z .args .j) (omega arith) (c .if1 .taken), z .pre .1 .0)
-
-block-requires : tie.Need-block-requires
-block-requires c κs = search needs
-
-sha256-requires : tie.Need-sha256-requires
-sha256-requires c κs = search needs
-
-mul-copy-to : tie.Need-mul-copy-to
-mul-copy-to c = search needs
-
-add-copy-to : tie.Need-add-copy-to
-add-copy-to c = search needs
-
-slice-aggregate-copy-to : tie.Need-slice-aggregate-copy-to
-slice-aggregate-copy-to c = search needs
-
-copy-to-requires : tie.Need-copy-to-requires
-copy-to-requires c κs = search needs
-
-add-known : tie.Need-add-known
-add-known c = search needs
-
-slice-write-known : tie.Need-slice-write-known
-slice-write-known c = search needs
-
-same-length : tie.Need-same-length
-same-length c = search needs
 
 returns-2 : tie.Need-returns-2
 returns-2 c =
@@ -60,16 +27,16 @@ pub keep-digest-spec : {M : Type 1} → statement M
 keep-digest-spec =
     tie.close
     (tie.spec
-    add-kept
-    slice-read-kept
+    (λ c. search needs)
+    (λ c. search needs)
     returns
-    block-requires
-    sha256-requires
-    mul-copy-to
-    add-copy-to
-    slice-aggregate-copy-to
-    copy-to-requires
-    add-known
-    slice-write-known
-    same-length
+    (λ c κs. search needs)
+    (λ c κs. search needs)
+    (λ c. search needs)
+    (λ c. search needs)
+    (λ c. search needs)
+    (λ c κs. search needs)
+    (λ c. search needs)
+    (λ c. search needs)
+    (λ c. search needs)
     returns-2)

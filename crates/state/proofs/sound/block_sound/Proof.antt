@@ -5,9 +5,6 @@ use borrow.Author.Needs.{needs}
 use Rattle.state.proofs.sound.block_sound.Statement.{statement}
 use Rattle.state.proofs.sound.block_sound.Tie as tie
 
-block-well-formed-requires : tie.Need-block-well-formed-requires
-block-well-formed-requires c κs = search needs
-
 returns : tie.Need-returns
 returns c = c .block-well-formed .ensures ∙ sym (where-held _ _ (c .before .if1 .taken))
 
@@ -15,4 +12,4 @@ returns-2 : tie.Need-returns-2
 returns-2 c = sym (where-none _ _ (c .if1 .left))
 
 pub block-sound-spec : {M : Type 1} → statement M
-block-sound-spec = tie.close (tie.spec block-well-formed-requires returns returns-2)
+block-sound-spec = tie.close (tie.spec (λ c κs. search needs) returns returns-2)

@@ -9,15 +9,6 @@ use borrow.Author.Needs.{needs}
 use Rattle.state.proofs.sound.certificate_sound.Statement.{statement}
 use Rattle.state.proofs.sound.certificate_sound.Tie as tie
 
-is-notarized-requires : tie.Need-is-notarized-requires
-is-notarized-requires c κs = search needs
-
-certificate-mask-requires : tie.Need-certificate-mask-requires
-certificate-mask-requires c κs = search needs
-
-quorum-requires : tie.Need-quorum-requires
-quorum-requires c κs = search needs
-
 returns : tie.Need-returns
 returns c =
     let mask = c .before in
@@ -32,4 +23,4 @@ returns-2 c = sym (where-none _ _ (sym (c .before .is-notarized .ensures) ∙ c 
 pub certificate-sound-spec : {M : Type 1} → statement M
 certificate-sound-spec =
     tie.close
-    (tie.spec is-notarized-requires certificate-mask-requires quorum-requires returns returns-2)
+    (tie.spec (λ c κs. search needs) (λ c κs. search needs) (λ c κs. search needs) returns returns-2)

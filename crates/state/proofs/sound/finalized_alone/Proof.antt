@@ -8,14 +8,8 @@ use borrow.Author.Needs.{needs}
 use Rattle.state.proofs.sound.finalized_alone.Statement.{statement}
 use Rattle.state.proofs.sound.finalized_alone.Tie as tie
 
-finalized-requires : tie.Need-finalized-requires
-finalized-requires c κs = search needs
-
 returns : tie.Need-returns
 returns c = sym (final-none sha256 (c .before .before .before .args .book .now) (sym (c .before .finalized .ensures .0) ∙ c .if1 .taken))
-
-slice-aggregate-finalized-sound : tie.Need-slice-aggregate-finalized-sound
-slice-aggregate-finalized-sound c = search needs
 
 finalized-sound-requires : tie.Need-finalized-sound-requires
 finalized-sound-requires c κs = (c .before .before .before .before .pre, zero-memo (c .before .before .before .before .args .book .now) _ (unfold zeros in refl))
@@ -27,8 +21,8 @@ pub finalized-alone-spec : {M : Type 1} → statement M
 finalized-alone-spec =
     tie.close
     (tie.spec
-    finalized-requires
+    (λ c κs. search needs)
     returns
-    slice-aggregate-finalized-sound
+    (λ c. search needs)
     finalized-sound-requires
     returns-2)

@@ -11,12 +11,6 @@ use borrow.Author.Needs.{needs}
 use Rattle.state.proofs.sound.finalized_sound.Statement.{statement}
 use Rattle.state.proofs.sound.finalized_sound.Tie as tie
 
-finalized-requires : tie.Need-finalized-requires
-finalized-requires c κs = search needs
-
-heights-requires : tie.Need-heights-requires
-heights-requires c κs = search needs
-
 is-finalized-requires : tie.Need-is-finalized-requires
 is-finalized-requires c κs =
     let start = c .before .before .before .before .before .before .before in
@@ -26,9 +20,6 @@ returns : tie.Need-returns
 returns c =
     let start = c .before .before .before .before in
     (sym (final-none sha256 (start .args .book .now) (sym (c .before .finalized .ensures .0) ∙ c .if1 .taken)), start .pre .1)
-
-same-length : tie.Need-same-length
-same-length c = search needs
 
 returns-2 : tie.Need-returns-2
 returns-2 c =
@@ -53,10 +44,10 @@ pub finalized-sound-spec : {M : Type 1} → statement M
 finalized-sound-spec =
     tie.close
     (tie.spec
-    finalized-requires
-    heights-requires
+    (λ c κs. search needs)
+    (λ c κs. search needs)
     is-finalized-requires
     returns
-    same-length
+    (λ c. search needs)
     returns-2
     returns-3)

@@ -6,30 +6,6 @@ use borrow.Author.Needs.{needs}
 use Rattle.state.proofs.sound.head_sound.Statement.{statement}
 use Rattle.state.proofs.sound.head_sound.Tie as tie
 
-byte-requires : tie.Need-byte-requires
-byte-requires c κs = search needs
-
-mul-size : tie.Need-mul-size
-mul-size c = search needs
-
-add-size : tie.Need-add-size
-add-size c = search needs
-
-numbers-sound-requires : tie.Need-numbers-sound-requires
-numbers-sound-requires c κs = search needs
-
-sub-is-zero : tie.Need-sub-is-zero
-sub-is-zero c = search needs
-
-part-is-zero-start : tie.Need-part-is-zero-start
-part-is-zero-start c = search needs
-
-part-is-zero-end : tie.Need-part-is-zero-end
-part-is-zero-end c = search needs
-
-is-zero-requires : tie.Need-is-zero-requires
-is-zero-requires c κs = search needs
-
 returns : tie.Need-returns
 returns c =
     let numbers = c .before .before in
@@ -43,13 +19,13 @@ pub head-sound-spec : {M : Type 1} → statement M
 head-sound-spec =
     tie.close
     (tie.spec
-    byte-requires
-    mul-size
-    add-size
-    numbers-sound-requires
-    sub-is-zero
-    part-is-zero-start
-    part-is-zero-end
-    is-zero-requires
+    (λ c κs. search needs)
+    (λ c. search needs)
+    (λ c. search needs)
+    (λ c κs. search needs)
+    (λ c. search needs)
+    (λ c. search needs)
+    (λ c. search needs)
+    (λ c κs. search needs)
     returns
     returns-2)

@@ -18,18 +18,12 @@ Inv-loop book last h₀ h = (h ≤ last) × (everyHeight (λ k. allOf (heightRow
 abbrev μ-loop : tie.MeasureT-loop
 μ-loop book last h₀ h = last - h
 
-heights-requires : tie.Need-heights-requires Inv-loop μ-loop
-heights-requires c κs = search needs
-
 loop-holds : tie.Need-loop-holds Inv-loop μ-loop
 unfolding everyHeight
 loop-holds c = (omega arith, refl)
 
 add-height-sound : tie.Need-add-height-sound Inv-loop μ-loop
 add-height-sound c = omega arith
-
-height-sound-requires : tie.Need-height-sound-requires Inv-loop μ-loop
-height-sound-requires c κs = search needs
 
 add-h : tie.Need-add-h Inv-loop μ-loop
 add-h c = omega arith
@@ -62,10 +56,10 @@ heights-sound-spec =
     (tie.spec
     Inv-loop
     μ-loop
-    heights-requires
+    (λ c κs. search needs)
     loop-holds
     add-height-sound
-    height-sound-requires
+    (λ c κs. search needs)
     add-h
     loop-less
     loop-again

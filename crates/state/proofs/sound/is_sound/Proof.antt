@@ -7,9 +7,6 @@ use borrow.Author.Needs.{needs}
 use Rattle.state.proofs.sound.is_sound.Statement.{statement}
 use Rattle.state.proofs.sound.is_sound.Tie as tie
 
-rows-sound-requires : tie.Need-rows-sound-requires
-rows-sound-requires c κs = search needs
-
 finalized-alone-requires : tie.Need-finalized-alone-requires
 finalized-alone-requires c κs = c .before .rows-sound .ensures .1 (c .if1 .taken)
 
@@ -26,4 +23,4 @@ returns-2 c = (
 )
 
 pub is-sound-spec : {M : Type 1} → statement M
-is-sound-spec = tie.close (tie.spec rows-sound-requires finalized-alone-requires returns returns-2)
+is-sound-spec = tie.close (tie.spec (λ c κs. search needs) finalized-alone-requires returns returns-2)

@@ -5,33 +5,6 @@ use borrow.Author.Needs.{needs}
 use Rattle.state.proofs.sound.masks_sound.Statement.{statement}
 use Rattle.state.proofs.sound.masks_sound.Tie as tie
 
-replicas-requires : tie.Need-replicas-requires
-replicas-requires c κs = search needs
-
-certificate-mask-requires : tie.Need-certificate-mask-requires
-certificate-mask-requires c κs = search needs
-
-below-requires : tie.Need-below-requires
-below-requires c κs = search needs
-
-dummy-mask-requires : tie.Need-dummy-mask-requires
-dummy-mask-requires c κs = search needs
-
-below-requires-2 : tie.Need-below-requires-2
-below-requires-2 c κs = search needs
-
-finalize-mask-requires : tie.Need-finalize-mask-requires
-finalize-mask-requires c κs = search needs
-
-below-requires-3 : tie.Need-below-requires-3
-below-requires-3 c κs = search needs
-
-voter-mask-requires : tie.Need-voter-mask-requires
-voter-mask-requires c κs = search needs
-
-below-requires-4 : tie.Need-below-requires-4
-below-requires-4 c κs = search needs
-
 returns : tie.Need-returns
 returns c =
     let voters = c .before in
@@ -56,13 +29,13 @@ pub masks-sound-spec : {M : Type 1} → statement M
 masks-sound-spec =
     tie.close
     (tie.spec
-    replicas-requires
-    certificate-mask-requires
-    below-requires
-    dummy-mask-requires
-    below-requires-2
-    finalize-mask-requires
-    below-requires-3
-    voter-mask-requires
-    below-requires-4
+    (λ c κs. search needs)
+    (λ c κs. search needs)
+    (λ c κs. search needs)
+    (λ c κs. search needs)
+    (λ c κs. search needs)
+    (λ c κs. search needs)
+    (λ c κs. search needs)
+    (λ c κs. search needs)
+    (λ c κs. search needs)
     returns)

@@ -10,9 +10,6 @@ use borrow.Author.Needs.{needs}
 use Rattle.state.proofs.sound.rows_sound.Statement.{statement}
 use Rattle.state.proofs.sound.rows_sound.Tie as tie
 
-head-sound-requires : tie.Need-head-sound-requires
-head-sound-requires c κs = search needs
-
 heights-sound-requires : tie.Need-heights-sound-requires
 heights-sound-requires c κs = readable (c .before .before .before .args .book .now) (sym (c .before .head-sound .ensures) ∙ c .if1 .taken)
 
@@ -26,4 +23,4 @@ returns-2 : tie.Need-returns-2
 returns-2 c = (rows-not-head sha256 (c .before .before .before .args .book .now) (sym (c .before .head-sound .ensures) ∙ c .if1 .left), λ passed. absurd (false≢true passed))
 
 pub rows-sound-spec : {M : Type 1} → statement M
-rows-sound-spec = tie.close (tie.spec head-sound-requires heights-sound-requires returns returns-2)
+rows-sound-spec = tie.close (tie.spec (λ c κs. search needs) heights-sound-requires returns returns-2)

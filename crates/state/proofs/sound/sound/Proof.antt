@@ -11,14 +11,8 @@ use borrow.Author.Needs.{needs}
 use Rattle.state.proofs.sound.sound.Statement.{statement}
 use Rattle.state.proofs.sound.sound.Tie as tie
 
-rows-sound-requires : tie.Need-rows-sound-requires
-rows-sound-requires c κs = search needs
-
 finalized-sound-requires : tie.Need-finalized-sound-requires
 finalized-sound-requires c κs = (c .before .before .rows-sound .ensures .1 (c .before .if1 .taken), zero-memo (c .before .before .before .before .before .args .book .now) (c .before .before .before .before .before .args .known .now) (c .before .before .before .before .before .pre))
-
-same-length : tie.Need-same-length
-same-length c = search needs
 
 returns : tie.Need-returns
 returns c =
@@ -32,4 +26,4 @@ returns-2 c =
 
 pub sound-spec : {M : Type 1} → statement M
 sound-spec =
-    tie.close (tie.spec rows-sound-requires finalized-sound-requires same-length returns returns-2)
+    tie.close (tie.spec (λ c κs. search needs) finalized-sound-requires (λ c. search needs) returns returns-2)

@@ -15,18 +15,9 @@ Inv-loop book h digest n voters mask₀ bit₀ s₀ mask bit s = (s ≤ n) × (b
 abbrev μ-loop : tie.MeasureT-loop
 μ-loop book h digest n voters mask₀ bit₀ s₀ mask bit s = n - s
 
-replicas-requires : tie.Need-replicas-requires Inv-loop μ-loop
-replicas-requires c κs = search needs
-
-voter-mask-requires : tie.Need-voter-mask-requires Inv-loop μ-loop
-voter-mask-requires c κs = search needs
-
 loop-holds : tie.Need-loop-holds Inv-loop μ-loop
 unfolding maskOf
 loop-holds c = (omega arith, refl, refl, omega arith)
-
-votes-for-requires : tie.Need-votes-for-requires Inv-loop μ-loop
-votes-for-requires c κs = search needs
 
 add-mask : tie.Need-add-mask Inv-loop μ-loop
 add-mask c =
@@ -85,10 +76,10 @@ voters-for-spec =
     (tie.spec
     Inv-loop
     μ-loop
-    replicas-requires
-    voter-mask-requires
+    (λ c κs. search needs)
+    (λ c κs. search needs)
     loop-holds
-    votes-for-requires
+    (λ c κs. search needs)
     add-mask
     mul-bit
     add-s

@@ -5,15 +5,6 @@ use borrow.Author.Needs.{needs}
 use Rattle.state.proofs.tally.votes_for.Statement.{statement}
 use Rattle.state.proofs.tally.votes_for.Tie as tie
 
-in-mask-requires : tie.Need-in-mask-requires
-in-mask-requires c κs = search needs
-
-vote-digest-requires : tie.Need-vote-digest-requires
-vote-digest-requires c κs = search needs
-
-same-bytes-requires : tie.Need-same-bytes-requires
-same-bytes-requires c κs = search needs
-
 returns : tie.Need-returns
 returns c =
     let branch = c .before .before in
@@ -26,4 +17,4 @@ returns-2 c = rw (sym (c .before .in-mask .ensures) ∙ c .if1 .left)
 
 pub votes-for-spec : {M : Type 1} → statement M
 votes-for-spec =
-    tie.close (tie.spec in-mask-requires vote-digest-requires same-bytes-requires returns returns-2)
+    tie.close (tie.spec (λ c κs. search needs) (λ c κs. search needs) (λ c κs. search needs) returns returns-2)

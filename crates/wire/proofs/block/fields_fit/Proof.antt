@@ -4,21 +4,6 @@ use borrow.Author.Needs.{needs}
 use Rattle.wire.proofs.block.fields_fit.Statement.{statement}
 use Rattle.wire.proofs.block.fields_fit.Tie as tie
 
-byte-requires : tie.Need-byte-requires
-byte-requires c κs = search needs
-
-byte-requires-2 : tie.Need-byte-requires-2
-byte-requires-2 c κs = search needs
-
-byte-requires-3 : tie.Need-byte-requires-3
-byte-requires-3 c κs = search needs
-
-byte-requires-4 : tie.Need-byte-requires-4
-byte-requires-4 c κs = search needs
-
-byte-requires-5 : tie.Need-byte-requires-5
-byte-requires-5 c κs = search needs
-
 returns : tie.Need-returns
 returns c =
     let start = c .before .before .before .before .before .before in
@@ -35,9 +20,9 @@ pub fields-fit-spec : {M : Type 1} → statement M
 fields-fit-spec =
     tie.close
     (tie.spec
-    byte-requires
-    byte-requires-2
-    byte-requires-3
-    byte-requires-4
-    byte-requires-5
+    (λ c κs. search needs)
+    (λ c κs. search needs)
+    (λ c κs. search needs)
+    (λ c κs. search needs)
+    (λ c κs. search needs)
     returns)

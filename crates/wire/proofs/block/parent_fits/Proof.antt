@@ -6,21 +6,6 @@ use borrow.Author.Needs.{needs}
 use Rattle.wire.proofs.block.parent_fits.Statement.{statement}
 use Rattle.wire.proofs.block.parent_fits.Tie as tie
 
-byte-requires : tie.Need-byte-requires
-byte-requires c κs = search needs
-
-sub-is-zero : tie.Need-sub-is-zero
-sub-is-zero c = search needs
-
-part-is-zero-start : tie.Need-part-is-zero-start
-part-is-zero-start c = search needs
-
-part-is-zero-end : tie.Need-part-is-zero-end
-part-is-zero-end c = search needs
-
-is-zero-requires : tie.Need-is-zero-requires
-is-zero-requires c κs = search needs
-
 returns : tie.Need-returns
 unfolding part
 returns c =
@@ -36,10 +21,10 @@ pub parent-fits-spec : {M : Type 1} → statement M
 parent-fits-spec =
     tie.close
     (tie.spec
-    byte-requires
-    sub-is-zero
-    part-is-zero-start
-    part-is-zero-end
-    is-zero-requires
+    (λ c κs. search needs)
+    (λ c. search needs)
+    (λ c. search needs)
+    (λ c. search needs)
+    (λ c κs. search needs)
     returns
     returns-2)

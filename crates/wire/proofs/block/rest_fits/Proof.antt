@@ -7,42 +7,6 @@ use borrow.Author.Needs.{needs}
 use Rattle.wire.proofs.block.rest_fits.Statement.{statement}
 use Rattle.wire.proofs.block.rest_fits.Tie as tie
 
-sub-is-zero : tie.Need-sub-is-zero
-sub-is-zero c = search needs
-
-part-is-zero-start : tie.Need-part-is-zero-start
-part-is-zero-start c = search needs
-
-part-is-zero-end : tie.Need-part-is-zero-end
-part-is-zero-end c = search needs
-
-is-zero-requires : tie.Need-is-zero-requires
-is-zero-requires c κs = search needs
-
-parent-fits-requires : tie.Need-parent-fits-requires
-parent-fits-requires c κs = search needs
-
-byte-requires : tie.Need-byte-requires
-byte-requires c κs = search needs
-
-mul-used : tie.Need-mul-used
-mul-used c = search needs
-
-add-used : tie.Need-add-used
-add-used c = search needs
-
-sub-is-zero-2 : tie.Need-sub-is-zero-2
-sub-is-zero-2 c = search needs
-
-part-is-zero-start-2 : tie.Need-part-is-zero-start-2
-part-is-zero-start-2 c = search needs
-
-part-is-zero-end-2 : tie.Need-part-is-zero-end-2
-part-is-zero-end-2 c = search needs
-
-is-zero-requires-2 : tie.Need-is-zero-requires-2
-is-zero-requires-2 c κs = search needs
-
 returns : tie.Need-returns
 unfolding part
 returns c =
@@ -61,16 +25,16 @@ pub rest-fits-spec : {M : Type 1} → statement M
 rest-fits-spec =
     tie.close
     (tie.spec
-    sub-is-zero
-    part-is-zero-start
-    part-is-zero-end
-    is-zero-requires
-    parent-fits-requires
-    byte-requires
-    mul-used
-    add-used
-    sub-is-zero-2
-    part-is-zero-start-2
-    part-is-zero-end-2
-    is-zero-requires-2
+    (λ c. search needs)
+    (λ c. search needs)
+    (λ c. search needs)
+    (λ c κs. search needs)
+    (λ c κs. search needs)
+    (λ c κs. search needs)
+    (λ c. search needs)
+    (λ c. search needs)
+    (λ c. search needs)
+    (λ c. search needs)
+    (λ c. search needs)
+    (λ c κs. search needs)
     returns)

@@ -5,16 +5,10 @@ use borrow.Author.Needs.{needs}
 use Rattle.wire.proofs.bytes.same_bytes.Statement.{statement}
 use Rattle.wire.proofs.bytes.same_bytes.Tie as tie
 
-same-values-requires : tie.Need-same-values-requires
-same-values-requires c κs = search needs
-
-returns : tie.Need-returns
-returns c = search needs
-
 returns-2 : tie.Need-returns-2
 returns-2 c =
     let args = c .before .before .before .args in
     sym (different-lengths (args .a .now) (args .b .now) (c .if1 .left))
 
 pub same-bytes-spec : {M : Type 1} → statement M
-same-bytes-spec = tie.close (tie.spec same-values-requires returns returns-2)
+same-bytes-spec = tie.close (tie.spec (λ c κs. search needs) (λ c. search needs) returns-2)

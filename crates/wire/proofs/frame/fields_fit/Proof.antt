@@ -4,18 +4,6 @@ use borrow.Author.Needs.{needs}
 use Rattle.wire.proofs.frame.fields_fit.Statement.{statement}
 use Rattle.wire.proofs.frame.fields_fit.Tie as tie
 
-frame-kind-requires : tie.Need-frame-kind-requires
-frame-kind-requires c κs = search needs
-
-frame-signer-requires : tie.Need-frame-signer-requires
-frame-signer-requires c κs = search needs
-
-byte-requires : tie.Need-byte-requires
-byte-requires c κs = search needs
-
-frame-mask-requires : tie.Need-frame-mask-requires
-frame-mask-requires c κs = search needs
-
 returns : tie.Need-returns
 returns c =
     rw (
@@ -29,4 +17,4 @@ returns c =
 pub fields-fit-spec : {M : Type 1} → statement M
 fields-fit-spec =
     tie.close
-    (tie.spec frame-kind-requires frame-signer-requires byte-requires frame-mask-requires returns)
+    (tie.spec (λ c κs. search needs) (λ c κs. search needs) (λ c κs. search needs) (λ c κs. search needs) returns)

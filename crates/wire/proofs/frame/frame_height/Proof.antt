@@ -4,12 +4,9 @@ use borrow.Author.Needs.{needs}
 use Rattle.wire.proofs.frame.frame_height.Statement.{statement}
 use Rattle.wire.proofs.frame.frame_height.Tie as tie
 
-byte-requires : tie.Need-byte-requires
-byte-requires c κs = search needs
-
 returns : tie.Need-returns
 unfolding frameHeight
 returns c = c .byte .ensures
 
 pub frame-height-spec : {M : Type 1} → statement M
-frame-height-spec = tie.close (tie.spec byte-requires returns)
+frame-height-spec = tie.close (tie.spec (λ c κs. search needs) returns)

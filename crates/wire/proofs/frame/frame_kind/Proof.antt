@@ -4,12 +4,9 @@ use borrow.Author.Needs.{needs}
 use Rattle.wire.proofs.frame.frame_kind.Statement.{statement}
 use Rattle.wire.proofs.frame.frame_kind.Tie as tie
 
-byte-requires : tie.Need-byte-requires
-byte-requires c κs = search needs
-
 returns : tie.Need-returns
 unfolding kind
 returns c = c .byte .ensures
 
 pub frame-kind-spec : {M : Type 1} → statement M
-frame-kind-spec = tie.close (tie.spec byte-requires returns)
+frame-kind-spec = tie.close (tie.spec (λ c κs. search needs) returns)

@@ -4,12 +4,9 @@ use borrow.Author.Needs.{needs}
 use Rattle.wire.proofs.frame.frame_mask.Statement.{statement}
 use Rattle.wire.proofs.frame.frame_mask.Tie as tie
 
-word-requires : tie.Need-word-requires
-word-requires c κs = search needs
-
 returns : tie.Need-returns
 unfolding signerMask
 returns c = c .word .ensures
 
 pub frame-mask-spec : {M : Type 1} → statement M
-frame-mask-spec = tie.close (tie.spec word-requires returns)
+frame-mask-spec = tie.close (tie.spec (λ c κs. search needs) returns)

@@ -4,12 +4,9 @@ use borrow.Author.Needs.{needs}
 use Rattle.wire.proofs.frame.frame_signer.Statement.{statement}
 use Rattle.wire.proofs.frame.frame_signer.Tie as tie
 
-byte-requires : tie.Need-byte-requires
-byte-requires c κs = search needs
-
 returns : tie.Need-returns
 unfolding signer
 returns c = c .byte .ensures
 
 pub frame-signer-spec : {M : Type 1} → statement M
-frame-signer-spec = tie.close (tie.spec byte-requires returns)
+frame-signer-spec = tie.close (tie.spec (λ c κs. search needs) returns)

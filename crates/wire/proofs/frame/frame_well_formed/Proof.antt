@@ -8,12 +8,6 @@ use borrow.Author.Needs.{needs}
 use Rattle.wire.proofs.frame.frame_well_formed.Statement.{statement}
 use Rattle.wire.proofs.frame.frame_well_formed.Tie as tie
 
-fields-fit-requires : tie.Need-fields-fit-requires
-fields-fit-requires c κs = search needs
-
-rest-fits-requires : tie.Need-rest-fits-requires
-rest-fits-requires c κs = search needs
-
 returns : tie.Need-returns
 returns c =
     let start = c .before .before .before .before .before in
@@ -35,4 +29,4 @@ returns-3 c =
 
 pub frame-well-formed-spec : {M : Type 1} → statement M
 frame-well-formed-spec =
-    tie.close (tie.spec fields-fit-requires rest-fits-requires returns returns-2 returns-3)
+    tie.close (tie.spec (λ c κs. search needs) (λ c κs. search needs) returns returns-2 returns-3)

@@ -5,36 +5,6 @@ use borrow.Author.Needs.{needs}
 use Rattle.wire.proofs.frame.rest_fits.Statement.{statement}
 use Rattle.wire.proofs.frame.rest_fits.Tie as tie
 
-frame-kind-requires : tie.Need-frame-kind-requires
-frame-kind-requires c κs = search needs
-
-sub-is-zero : tie.Need-sub-is-zero
-sub-is-zero c = search needs
-
-part-is-zero-start : tie.Need-part-is-zero-start
-part-is-zero-start c = search needs
-
-part-is-zero-end : tie.Need-part-is-zero-end
-part-is-zero-end c = search needs
-
-is-zero-requires : tie.Need-is-zero-requires
-is-zero-requires c κs = search needs
-
-sub-is-zero-2 : tie.Need-sub-is-zero-2
-sub-is-zero-2 c = search needs
-
-part-is-zero-start-2 : tie.Need-part-is-zero-start-2
-part-is-zero-start-2 c = search needs
-
-part-is-zero-end-2 : tie.Need-part-is-zero-end-2
-part-is-zero-end-2 c = search needs
-
-is-zero-requires-2 : tie.Need-is-zero-requires-2
-is-zero-requires-2 c κs = search needs
-
-block-fits-requires : tie.Need-block-fits-requires
-block-fits-requires c κs = search needs
-
 returns : tie.Need-returns
 unfolding part
 returns c =
@@ -50,14 +20,14 @@ pub rest-fits-spec : {M : Type 1} → statement M
 rest-fits-spec =
     tie.close
     (tie.spec
-    frame-kind-requires
-    sub-is-zero
-    part-is-zero-start
-    part-is-zero-end
-    is-zero-requires
-    sub-is-zero-2
-    part-is-zero-start-2
-    part-is-zero-end-2
-    is-zero-requires-2
-    block-fits-requires
+    (λ c κs. search needs)
+    (λ c. search needs)
+    (λ c. search needs)
+    (λ c. search needs)
+    (λ c κs. search needs)
+    (λ c. search needs)
+    (λ c. search needs)
+    (λ c. search needs)
+    (λ c κs. search needs)
+    (λ c κs. search needs)
     returns)

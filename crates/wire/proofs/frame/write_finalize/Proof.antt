@@ -4,15 +4,9 @@ use borrow.Author.Needs.{needs}
 use Rattle.wire.proofs.frame.write_finalize.Statement.{statement}
 use Rattle.wire.proofs.frame.write_finalize.Tie as tie
 
-write-plain-requires : tie.Need-write-plain-requires
-write-plain-requires c κs = search needs
-
-same-length : tie.Need-same-length
-same-length c = search needs
-
 returns : tie.Need-returns
 unfolding finalize
 returns c = c .before .before .write-plain .ensures
 
 pub write-finalize-spec : {M : Type 1} → statement M
-write-finalize-spec = tie.close (tie.spec write-plain-requires same-length returns)
+write-finalize-spec = tie.close (tie.spec (λ c κs. search needs) (λ c. search needs) returns)

@@ -4,15 +4,6 @@ use borrow.Author.Needs.{needs}
 use Rattle.wire.proofs.frame.write_plain.Statement.{statement}
 use Rattle.wire.proofs.frame.write_plain.Tie as tie
 
-write-head-requires : tie.Need-write-head-requires
-write-head-requires c κs = search needs
-
-clear-requires : tie.Need-clear-requires
-clear-requires c κs = search needs
-
-same-length : tie.Need-same-length
-same-length c = search needs
-
 returns : tie.Need-returns
 returns c =
     let second = c .before .before in
@@ -22,4 +13,4 @@ returns c =
     (first .write-head .ensures) (second .clear .ensures)
 
 pub write-plain-spec : {M : Type 1} → statement M
-write-plain-spec = tie.close (tie.spec write-head-requires clear-requires same-length returns)
+write-plain-spec = tie.close (tie.spec (λ c κs. search needs) (λ c κs. search needs) (λ c. search needs) returns)

@@ -6,18 +6,6 @@ use borrow.Author.Needs.{needs}
 use Rattle.wire.proofs.frame.write_with_block.Statement.{statement}
 use Rattle.wire.proofs.frame.write_with_block.Tie as tie
 
-write-head-requires : tie.Need-write-head-requires
-write-head-requires c κs = search needs
-
-clear-requires : tie.Need-clear-requires
-clear-requires c κs = search needs
-
-copy-to-requires : tie.Need-copy-to-requires
-copy-to-requires c κs = search needs
-
-same-length : tie.Need-same-length
-same-length c = search needs
-
 returns : tie.Need-returns
 returns c =
     let third = c .before .before in
@@ -29,4 +17,4 @@ returns c =
 
 pub write-with-block-spec : {M : Type 1} → statement M
 write-with-block-spec =
-    tie.close (tie.spec write-head-requires clear-requires copy-to-requires same-length returns)
+    tie.close (tie.spec (λ c κs. search needs) (λ c κs. search needs) (λ c κs. search needs) (λ c. search needs) returns)
