@@ -7,7 +7,7 @@ import shutil
 from contracts import Crate, SourceFile
 from specs import SpecFile, Unreadable
 
-OWN = re.compile(r"Rattle·(\w+?)(?:·specs)?\.specs\.(\w+)")
+OWN = re.compile(r"Rattle·(\w+?)(?:·specs)?\.specs\.((?:Laws\.)?(?!Laws\b)\w+)")
 DECLARED = re.compile(r"Rattle·(\w+?)(?:·specs)?\.specs\.declared\.(\w+)\.(\w+)(?:\.the-variants)?")
 
 
@@ -49,20 +49,34 @@ class Library:
         return SpecFile(file.read_text(), f"the kit's {path}", lenient=True) if file and file.exists() else None
 
     def spec(self, crate, name):
-        """A file that specs/Lib.antt declares; Lib.antt itself has nothing but such lines, so that no path is bent."""
+        """A file of specs/ or of specs/Laws, by its name: `Bytes`, `Laws.BytesLaws`."""
         key = f"Rattle.{crate}.specs.{name}"
         if self.files.get(key) is None:
-            folder = self.crates / crate / "specs"
-            if not (folder / f"{name}.antt").exists():
-                raise Unreadable(f"there is no crates/{crate}/specs/{name}.antt")
-            root = [line for line in (folder / "Lib.antt").read_text().splitlines() if not line.startswith("--")]
-            if any(not re.fullmatch(r"(pub mod \w+)?", line) for line in root) or f"pub mod {name}" not in root:
-                raise Unreadable(f"crates/{crate}/specs/Lib.antt: it must hold `pub mod {name}`, and such lines alone")
-            place = f"crates/{crate}/specs/{name}.antt"
-            self.files[key] = SpecFile((folder / f"{name}.antt").read_text(), place)
+            place = f"crates/{crate}/specs/{name.replace('.', '/')}.antt"
+            if not self.has(crate, name):
+                raise Unreadable(f"there is no {place}")
+            *folder, last = name.split(".")
+            self.declared(crate, "Lib", folder[0] if folder else last)
+            if folder:
+                self.declared(crate, folder[0], last)
+            self.files[key] = SpecFile((self.crates.parent / place).read_text(), place)
             if self.files[key].children:
                 raise Unreadable(f"{place}: a module of its own")
         return self.files[key]
+
+    def has(self, crate, name):
+        return (self.crates / crate / "specs" / f"{name.replace('.', '/')}.antt").exists()
+
+    def law(self, crate, file):
+        """The name of a file as modules have it, wherever it stands: in specs/ or in specs/Laws."""
+        return f"Laws.{file}" if self.has(crate, f"Laws.{file}") else file
+
+    def declared(self, crate, of, name):
+        """Lib.antt, and Laws.antt for that folder, declare their files and hold nothing else, so that no path is bent."""
+        place = f"crates/{crate}/specs/{of}.antt"
+        lines = [line for line in (self.crates.parent / place).read_text().splitlines() if not line.startswith("--")]
+        if any(not re.fullmatch(r"(pub mod \w+)?", line) for line in lines) or f"pub mod {name}" not in lines:
+            raise Unreadable(f"{place}: it must hold `pub mod {name}`, and such lines alone")
 
     def found(self, module, name):
         """The declarations of a name, through the modules that pass it on."""
@@ -85,7 +99,7 @@ class Library:
         for cut in range(len(path) - 1, 0, -1):
             module = ".".join(path[:cut])
             own = OWN.fullmatch(module)
-            if own and not (self.crates / own[1] / "specs" / f"{own[2]}.antt").exists():
+            if own and not self.has(own[1], own[2]):
                 continue
             if own or DECLARED.fullmatch(module) or self.module_exists(module):
                 return self.found(module, path[cut])
