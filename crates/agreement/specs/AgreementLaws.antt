@@ -12,6 +12,7 @@ use Rattle.protocol.specs.Bytes.{Bytes, join}
 use Rattle.protocol.specs.CodecLaws.{at-suc}
 use Rattle.protocol.specs.Mask.{inMask}
 use Rattle.protocol.specs.QuorumLaws.{quorums-meet, ones-weigh, total-equal}
+use Rattle.protocol.specs.CallLaws.{only-opening, only-reading}
 use Rattle.protocol.specs.Read.{logSize, readPart}
 use Rattle.protocol.specs.Sound.{log, sound, view}
 use Rattle.protocol.specs.State.{State, at, decode, isNotarized}
@@ -131,7 +132,8 @@ module _ (digest : Bytes → Bytes) (n dishonest : ℕ) (l : List Member) (third
 
   read-of : (m : Member) (r : Bytes) → List·Memᴰ m l → Honest digest n dishonest (m .replica) → Reads digest m r → ReadOf m r
   unfolding Reads readPart ReadOf KeepsOneBook Follows Opens Continues
-  read-of m r here hm (buffer, e, q) =
+  read-of m r here hm x =
+      let (buffer, e, q) = only-reading digest (m .book) (m .call) r x in
       subst (λ (z : Bytes). ReadOf m z) (sym q)
       (cond-elim (λ (z : Bytes). ReadOf m z) (sound digest (m .book) && leb (logSize (m .book)) (length buffer))
       (λ ok. inr (had (and-true (sound digest (m .book)) _ ok .0), refl)) (λ ok. inl refl))
@@ -141,7 +143,10 @@ module _ (digest : Bytes → Bytes) (n dishonest : ℕ) (l : List Member) (third
 
       go : sound digest (m .book) ≡ true → (o : Option Bytes) → Follows digest n (m .replica) m o →
           GoodBytes digest n dishonest (split .0) (m .replica) o → Had (decode (m .book))
-      go ok none x g = let e′ = x .2 in let z : _≡_ {A = ℕ} 0 1 = cc in absurd (omega arith)
+      go ok none o g =
+          let (buffer, e, q) = only-reading digest (m .book) (m .call) r x in
+          let (heights, leaders, e′, q′) = only-opening digest (m .book) (m .call) (record { n = n; own = m .replica }) o in
+          let z : _≡_ {A = ℕ} 0 1 = cc in absurd (omega arith)
       go ok (some book) x g = record {
         P = split .0;
         after = m ∷ split .1;

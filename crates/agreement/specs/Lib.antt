@@ -8,6 +8,7 @@ pub mod StatementsLaws
 pub mod MovingLaws
 pub mod RunLaws
 pub mod OpeningLaws
+pub mod FetchingLaws
 pub mod ReplicaLaws
 pub mod ChainsLaws
 pub mod AgreementLaws

@@ -7,8 +7,9 @@ use lib.Dec.{eqb, ltb}
 use Rattle.protocol.specs.Bytes.{Bytes, same, holds}
 use Rattle.protocol.specs.Tests.{implies}
 use Rattle.protocol.specs.Mask.{inMask}
-use Rattle.protocol.specs.Read.{readPart}
-use Rattle.agreement.specs.Lists.{Call, opening, delivery, moving, signalling, submitting, reading, Member, Statement, proposes, votesBlock, votesDummy, finalizes, statementOf, blockIn, opensBook, leftBy, orElse, delivers, writes}
+use Rattle.protocol.specs.Move.{isSome}
+use Rattle.protocol.specs.Call.{Opened}
+use Rattle.agreement.specs.Lists.{Member, Statement, proposes, votesBlock, votesDummy, finalizes, statementOf, blockIn, leftBy, orElse, does, delivers, writes}
 
 -- ---- over lists and replicas
 unfoldable pub everyIn : {A : Type 0} → (A → Bool) → List A → Bool
@@ -34,14 +35,14 @@ statementBytes (votesBlock h digest) = 2 ∷ h ∷ digest
 statementBytes (votesDummy h) = 3 ∷ h ∷ []
 statementBytes (finalizes h) = 4 ∷ h ∷ []
 
--- ---- the book
-unfoldable pub opensFor : ℕ → ℕ → Call → Bool
-opensFor n s (opening n′ own heights leaders) = eqb n′ n && eqb own s
-opensFor n s (delivery frame) = false
-opensFor n s (moving reply) = false
-opensFor n s (signalling h) = false
-opensFor n s (submitting entry) = false
-opensFor n s (reading buffer) = false
+-- ---- what a member opens and reads
+unfoldable pub opensFor : ℕ → ℕ → Option Opened → Bool
+opensFor n s none = false
+opensFor n s (some opened) = eqb (opened .n) n && eqb (opened .own) s
+
+unfoldable pub readsPart : Bytes → Option Bytes → Bool
+readsPart part none = false
+readsPart part (some read) = same part read
 
 -- a block, if there is one, is among these
 unfoldable pub isAmong : List Bytes → Option Bytes → Bool
@@ -49,9 +50,10 @@ isAmong blocks none = true
 isAmong blocks (some block) = holds block blocks
 
 module _ (digest : Bytes → Bytes) where
+  -- ---- the book
   unfoldable pub follows : ℕ → ℕ → Member → Option Bytes → Bool
-  follows n s m none = opensFor n s (m .call) && opensBook digest (m .book) (m .call)
-  follows n s m (some book) = same (m .book) book && not (opensBook digest (m .book) (m .call))
+  follows n s m none = opensFor n s (does digest m .opens)
+  follows n s m (some book) = same (m .book) book && not (isSome (does digest m .opens))
 
   -- the members of replica `s` keep one book, where `left` is what its last member before these left
   unfoldable pub keepsOneBook : ℕ → ℕ → Option Bytes → List Member → Bool
@@ -98,18 +100,9 @@ module _ (digest : Bytes → Bytes) where
   noCollision blocks =
       everyIn (λ block. everyIn (λ other. implies (same (digest block) (digest other)) (same block other)) blocks) blocks
 
-  -- ---- readings
-  unfoldable pub readsPart : Bytes → Bytes → Call → Bool
-  readsPart part book (opening n own heights leaders) = false
-  readsPart part book (delivery frame) = false
-  readsPart part book (moving reply) = false
-  readsPart part book (signalling h) = false
-  readsPart part book (submitting entry) = false
-  readsPart part book (reading buffer) = same part (readPart digest book buffer)
-
   -- ---- members of replica `s`: one that reads this part, one to which this frame is delivered, one that writes it
   unfoldable pub readsAt : Bytes → ℕ → Member → Bool
-  readsAt part s m = eqb (m .replica) s && readsPart part (m .book) (m .call)
+  readsAt part s m = eqb (m .replica) s && readsPart part (does digest m .reads)
 
   unfoldable pub hearsAt : Bytes → ℕ → Member → Bool
   hearsAt frame s m = eqb (m .replica) s && holds frame (delivers digest m)

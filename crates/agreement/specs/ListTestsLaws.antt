@@ -12,12 +12,13 @@ use lib.Dec.{eqb, ltb}
 use borrow.Author.Tests.{eqb-true, eq-eqb, leb-true, le-leb, not-true}
 use Rattle.protocol.specs.Bytes.{Bytes, byteAt, holds, same}
 use Rattle.protocol.specs.Mask.{inMask}
-use Rattle.protocol.specs.Read.{readPart}
+use Rattle.protocol.specs.Move.{isSome}
+use Rattle.protocol.specs.Call.{Opened}
 use Rattle.protocol.specs.RowLaws.{eq-same, implies-true, same-eq}
 use Rattle.protocol.specs.Tests.{implies}
 use Rattle.protocol.specs.TestsLaws.{and-true, le-or-lt, or-true}
 use Rattle.agreement.specs.ListTests.{deliversBacked, everyHonest, everyIn, follows, hearsAt, isAmong, isBacked, isHonest, keepsOneBook, noCollision, notForged, opensFor, readsAt, readsPart, shows, showsOnly, signed, signedIn, someIn, statementBytes, writesAt}
-use Rattle.agreement.specs.Lists.{Call, Continues, Follows, HonestIn, KeepsOneBook, Member, NoCollision, NotForged, Opens, Reads, Shows, Statement, Wrote, blockIn, delivers, delivery, finalizes, lastLeft, leftBy, moving, opening, orElse, proposes, reading, signalling, statementOf, submitting, votesBlock, votesDummy, writes}
+use Rattle.agreement.specs.Lists.{Continues, Follows, HonestIn, KeepsOneBook, Member, NoCollision, NotForged, Opens, Reads, Shows, Statement, Wrote, blockIn, delivers, does, finalizes, lastLeft, leftBy, orElse, proposes, statementOf, votesBlock, votesDummy, writes}
 use Rattle.agreement.specs.Met.{Hears, MemberOf}
 use Rattle.agreement.specs.RunLaws.{or-else-assoc, or-else-none, wrote-more}
 
@@ -106,26 +107,24 @@ split-never m (x ∷ before) after e = let z : _≡_ {A = ℕ} 0 1 = cc in omega
 
 module _ (digest : Bytes → Bytes) where
   -- ---- the book
-  opens-for : (n s : ℕ) (c : Call) → opensFor n s c ≡ true → (heights : ℕ) × (leaders : Bytes) × (c ≡ opening n s heights leaders)
+  opens-for : (n s : ℕ) (o : Option Opened) → opensFor n s o ≡ true → o ≡ some (record { n = n; own = s })
   unfolding opensFor
-  opens-for n s (opening n′ own heights leaders) e =
-      let q = and-true (eqb n′ n) (eqb own s) e in
-      (heights, leaders, rw (eqb-true n′ n (q .0), eqb-true own s (q .1)))
-  opens-for n s (delivery frame) e = absurd (false≢true e)
-  opens-for n s (moving reply) e = absurd (false≢true e)
-  opens-for n s (signalling h) e = absurd (false≢true e)
-  opens-for n s (submitting entry) e = absurd (false≢true e)
-  opens-for n s (reading buffer) e = absurd (false≢true e)
+  opens-for n s none e = absurd (false≢true e)
+  opens-for n s (some opened) e =
+      let q = and-true (eqb (opened .n) n) (eqb (opened .own) s) e in
+      rw (← eqb-true (opened .n) n (q .0), ← eqb-true (opened .own) s (q .1)) refl
+
+  opens-nothing : (o : Option Opened) → isSome o ≡ false → o ≡ none
+  unfolding isSome
+  opens-nothing none e = refl
+  opens-nothing (some opened) e = absurd (false≢true (sym e))
 
   follows-sound : (n s : ℕ) (m : Member) (left : Option Bytes) → follows digest n s m left ≡ true → Follows digest n s m left
   unfolding follows Follows Opens Continues
-  follows-sound n s m none e =
-      let q = and-true (opensFor n s (m .call)) _ e in
-      let r = opens-for n s (m .call) (q .0) in
-      (r .0, r .1, r .2, q .1)
+  follows-sound n s m none e = opens-for n s (does digest m .opens) e
   follows-sound n s m (some book) e =
       let q = and-true (same (m .book) book) _ e in
-      (same-eq (m .book) book (q .0), not-true _ (q .1))
+      (same-eq (m .book) book (q .0), opens-nothing (does digest m .opens) (not-true _ (q .1)))
 
   keeps-from : (n s : ℕ) (left : Option Bytes) (l : List Member) → keepsOneBook digest n s left l ≡ true →
       (before : List Member) (m : Member) (after : List Member) → l ≡ before ++ (m ∷ after) → m .replica ≡ s → Follows digest n s m
@@ -254,18 +253,14 @@ module _ (digest : Bytes → Bytes) where
         q ∙ sym q′
 
   -- ---- readings
-  pub reads-sound : (m : Member) (part : Bytes) → readsPart digest part (m .book) (m .call) ≡ true → Reads digest m part
-  unfolding Reads readsPart
-  reads-sound m part t = go (m .call) refl t
-    where
-      go : (c : Call) → m .call ≡ c → readsPart digest part (m .book) c ≡ true →
-          (buffer : Bytes) × (m .call ≡ reading buffer) × (part ≡ readPart digest (m .book) buffer)
-      go (opening n own heights leaders) e q = absurd (false≢true q)
-      go (delivery frame) e q = absurd (false≢true q)
-      go (moving reply) e q = absurd (false≢true q)
-      go (signalling h) e q = absurd (false≢true q)
-      go (submitting x) e q = absurd (false≢true q)
-      go (reading buffer) e q = (buffer, e, same-eq part (readPart digest (m .book) buffer) q)
+  reads-part : (part : Bytes) (o : Option Bytes) → readsPart part o ≡ true → o ≡ some part
+  unfolding readsPart
+  reads-part part none e = absurd (false≢true e)
+  reads-part part (some read) e = ap some (sym (same-eq part read e))
+
+  pub reads-sound : (m : Member) (part : Bytes) → readsPart part (does digest m .reads) ≡ true → Reads digest m part
+  unfolding Reads
+  reads-sound m part t = reads-part part (does digest m .reads) t
 
   -- ---- members of a replica
   found : (list : List Member) (s : ℕ) (test : Member → Bool) (P : Member → Type 0) →

@@ -10,30 +10,11 @@ use lib.Dec.{eqb}
 use Rattle.protocol.specs.Bytes.{Bytes}
 use Rattle.protocol.specs.Frame.{kind, signer, frameHeight, signerMask, frameDigest, frameBlock, carriesBlock}
 use Rattle.protocol.specs.Mask.{inMask, ones}
-use Rattle.protocol.specs.Answer.{Answer, refused, accepted}
-use Rattle.protocol.specs.Open.{openCall}
-use Rattle.protocol.specs.Deliver.{deliverCall}
-use Rattle.protocol.specs.Move.{moveCall}
-use Rattle.protocol.specs.Signal.{signalCall}
-use Rattle.protocol.specs.Submit.{submitCall}
-use Rattle.protocol.specs.Read.{readPart}
+use Rattle.protocol.specs.Call.{Call, Effect, effect}
 
 -- ---- members of a list
-pub data Call : Type 0 where
-  -- n, the own number, H and the leaders
-  opening : ℕ → ℕ → ℕ → Bytes → Call
-  -- a frame
-  delivery : Bytes → Call
-  -- the lent reply
-  moving : Bytes → Call
-  -- a height
-  signalling : ℕ → Call
-  -- an entry
-  submitting : Bytes → Call
-  -- the lent buffer
-  reading : Bytes → Call
-
--- whose call it is, the book that it gets, and the call with its arguments; a refused call is a member too
+-- whose call it is, the book that it gets, and the call with its arguments; a refused call is a member too. Document
+-- 01 has six calls in its lists: here Register size and Fetch may stand in them as well.
 pub record Member : Type 0 where
   pub replica : ℕ
   pub book : Bytes
@@ -68,10 +49,6 @@ HonestIn n dishonest s = (s < n) × (inMask dishonest s ≡ false)
 abbrev pub FewDishonest : ℕ → ℕ → Type 0
 FewDishonest n dishonest = 3 * ones dishonest n < n
 
-unfoldable pub isAccepted : {A : Type 0} → Answer A → Bool
-isAccepted (refused number) = false
-isAccepted (accepted a) = true
-
 -- the first that there is
 unfoldable pub orElse : {A : Type 0} → Option A → Option A → Option A
 orElse (some a) other = some a
@@ -93,53 +70,21 @@ module _ (digest : Bytes → Bytes) where
       (cond (eqb k 6) (when certified (votesDummy h))
       (cond (eqb k 7) (when certified (finalizes h)) none))))))
 
-  -- ---- what a call does to a book
-  -- the book that a call leaves
-  unfoldable pub bookAfter : Bytes → Call → Bytes
-  bookAfter book (opening n own heights leaders) = openCall book n own heights leaders .book
-  bookAfter book (delivery frame) = deliverCall digest book frame .book
-  bookAfter book (moving reply) = moveCall digest book reply .book
-  bookAfter book (signalling h) = signalCall digest book h .book
-  bookAfter book (submitting entry) = submitCall digest book entry .book
-  bookAfter book (reading buffer) = book
+  -- ---- what a member does
+  abbrev pub does : Member → Effect
+  does m = effect digest (m .book) (m .call)
 
-  -- whether a call is an opening that is not refused
-  unfoldable pub opensBook : Bytes → Call → Bool
-  opensBook book (opening n own heights leaders) = isAccepted (openCall book n own heights leaders .answer)
-  opensBook book (delivery frame) = false
-  opensBook book (moving reply) = false
-  opensBook book (signalling h) = false
-  opensBook book (submitting entry) = false
-  opensBook book (reading buffer) = false
-
-  -- the frames that a call delivers: that of a delivery that is not refused
-  unfoldable pub deliveredBy : Bytes → Call → List Bytes
-  deliveredBy book (opening n own heights leaders) = []
-  deliveredBy book (delivery frame) = cond (isAccepted (deliverCall digest book frame .answer)) (frame ∷ []) []
-  deliveredBy book (moving reply) = []
-  deliveredBy book (signalling h) = []
-  deliveredBy book (submitting entry) = []
-  deliveredBy book (reading buffer) = []
-
-  -- the frames that a call writes, by its answer: what lay in the lent reply was not written
-  unfoldable pub writtenBy : Bytes → Call → List Bytes
-  writtenBy book (opening n own heights leaders) = []
-  writtenBy book (delivery frame) = []
-  writtenBy book (moving reply) = moveCall digest book reply .frames
-  writtenBy book (signalling h) = []
-  writtenBy book (submitting entry) = []
-  writtenBy book (reading buffer) = []
-
+  -- the frames that it delivers, and those that it writes
   abbrev pub delivers : Member → List Bytes
-  delivers m = deliveredBy (m .book) (m .call)
+  delivers m = does m .delivers
 
   abbrev pub writes : Member → List Bytes
-  writes m = writtenBy (m .book) (m .call)
+  writes m = does m .writes
 
   -- ---- what is granted of an honest replica's book
   -- the book that a member leaves, if it is a member of replica `s`
   unfoldable pub leftBy : ℕ → Member → Option Bytes
-  leftBy s m = cond (eqb (m .replica) s) (some (bookAfter (m .book) (m .call))) none
+  leftBy s m = cond (eqb (m .replica) s) (some (does m .book)) none
 
   -- the book as the last member of replica `s` left it, and none where `s` has no member yet
   unfoldable pub lastLeft : ℕ → List Member → Option Bytes
@@ -148,12 +93,11 @@ module _ (digest : Bytes → Bytes) where
 
   -- an opening for `n` replicas under the own number `s`, not refused; its book may hold any bytes
   unfoldable pub Opens : ℕ → ℕ → Member → Type 0
-  Opens n s m = (heights : ℕ) × (leaders : Bytes) ×
-      (m .call ≡ opening n s heights leaders) × (opensBook (m .book) (m .call) ≡ true)
+  Opens n s m = does m .opens ≡ some (record { n = n; own = s })
 
   -- a call that gets this book, and is no opening or a refused one
   unfoldable pub Continues : Bytes → Member → Type 0
-  Continues book m = (m .book ≡ book) × (opensBook (m .book) (m .call) ≡ false)
+  Continues book m = (m .book ≡ book) × (does m .opens ≡ none)
 
   -- what a member of replica `s` must be, after a last one that left this book, or as the first one
   unfoldable pub Follows : ℕ → ℕ → Member → Option Bytes → Type 0
@@ -193,7 +137,7 @@ module _ (digest : Bytes → Bytes) where
   -- ---- the claim
   -- a member is a reading that returns this part, an empty one too
   unfoldable pub Reads : Member → Bytes → Type 0
-  Reads m part = (buffer : Bytes) × (m .call ≡ reading buffer) × (part ≡ readPart digest (m .book) buffer)
+  Reads m part = does m .reads ≡ some part
 
   -- demand 3: of two logs read in the list from honest replicas, or twice from one, one is a beginning of the other
   unfoldable pub Agreement : Type 0

@@ -13,7 +13,7 @@ use borrow.Author.Tests.{not-true}
 use Rattle.protocol.specs.Bytes.{Bytes, le16, word16, zeros}
 use Rattle.protocol.specs.MoveLaws.{step-cases, head-only}
 use Rattle.protocol.specs.FlagLaws.{flag-set, flag-kept}
-use Rattle.protocol.specs.Frame.{blockCertificate, blockVote, dummyCertificate, dummyVote, finalize, frameBlock, frameDigest, frameHeight, frameOf, kind, proposal, signer, signerMask}
+use Rattle.protocol.specs.Frame.{blockCertificate, blockVote, dummyCertificate, dummyVote, finalize, finalizeCertificate, frameBlock, frameDigest, frameHeight, frameOf, kind, proposal, signer, signerMask}
 use Rattle.protocol.specs.Mask.{inMask}
 use Rattle.protocol.specs.Move.{Step, blockVoteApplies, blockVoteStep, dummyVoteApplies, dummyVoteStep, idleStep, outputStep, passCertificate, passStep, proposeApplies, proposeStep, step}
 use Rattle.protocol.specs.RowLaws.{row}
@@ -50,18 +50,25 @@ module _ (digest : Bytes → Bytes) (o c s : ℕ) (st : Statement) where
   unfolding statementOf proposal frameOf kind signer frameHeight
   proposal-says p e = (c, frameBlock (proposal o c p), when-some (eqb o s) (proposes c (frameBlock (proposal o c p))) st e .0)
 
-  blockCertificate-says : (m : ℕ) (p : Bytes) → statementOf digest (blockCertificate c m p) s ≡ some st →
+  pub blockCertificate-says : (m : ℕ) (p : Bytes) → statementOf digest (blockCertificate c m p) s ≡ some st →
       (st ≡ votesBlock c (digest p)) × (inMask m s ≡ true)
   unfolding statementOf blockCertificate frameOf kind signer frameHeight signerMask word16 le16 zeros frameBlock
   blockCertificate-says m p e =
       let q = when-some (inMask (m % 256 + 256 * (m / 256)) s) (votesBlock c (digest p)) st e in
       (q .0, rw (word16-le16 m) at (q .1))
 
-  dummyCertificate-says : (m : ℕ) → statementOf digest (dummyCertificate c m) s ≡ some st →
+  pub dummyCertificate-says : (m : ℕ) → statementOf digest (dummyCertificate c m) s ≡ some st →
       (st ≡ votesDummy c) × (inMask m s ≡ true)
   unfolding statementOf dummyCertificate frameOf kind signer frameHeight signerMask word16 le16 zeros
   dummyCertificate-says m e =
       let q = when-some (inMask (m % 256 + 256 * (m / 256)) s) (votesDummy c) st e in
+      (q .0, rw (word16-le16 m) at (q .1))
+
+  pub finalizeCertificate-says : (m : ℕ) → statementOf digest (finalizeCertificate c m) s ≡ some st →
+      (st ≡ finalizes c) × (inMask m s ≡ true)
+  unfolding statementOf finalizeCertificate frameOf kind signer frameHeight signerMask word16 le16 zeros
+  finalizeCertificate-says m e =
+      let q = when-some (inMask (m % 256 + 256 * (m / 256)) s) (finalizes c) st e in
       (q .0, rw (word16-le16 m) at (q .1))
 
 module _ (digest : Bytes → Bytes) (U : ℕ → Statement → Type 0) (U′ : Statement → Type 0) (S : Bytes → Type 0) (s : ℕ) (b : State)

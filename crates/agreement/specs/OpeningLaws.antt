@@ -7,7 +7,7 @@ use mathlib.Core.List.{List, [], _∷_, _++_, map}
 use mathlib.Core.Option.{Option, some, none}
 use lib.ListN.{length, getD, length-append}
 use borrow.Author.Tests.{eqb-true, leb-true}
-use Rattle.protocol.specs.Answer.{Done, Outcome, accepted, done, unlessRefused}
+use Rattle.protocol.specs.Answer.{Done, Outcome, accepted, done, isAccepted, unlessRefused}
 use Rattle.protocol.specs.Bytes.{Bytes}
 use Rattle.protocol.specs.EveryLaws.{Every, none as no-more, one, every-append}
 use Rattle.protocol.specs.Frame.{finalize}
@@ -25,7 +25,7 @@ use Rattle.protocol.specs.Submit.{stillPending, submitCall, submitRows, withPen
 use Rattle.protocol.specs.Tests.{firstRefusal}
 use Rattle.agreement.specs.BackingLaws.{Backed}
 use Rattle.agreement.specs.GrantsLaws.{grants}
-use Rattle.agreement.specs.Lists.{Member, Statement, Wrote, isAccepted, writes}
+use Rattle.agreement.specs.Lists.{Member, Statement, Wrote, writes}
 use Rattle.agreement.specs.RunLaws.{Good, Honest, States, backed-more, encoded, nothing-new, quiet, unchanged, unless-refused-good}
 
 -- ---- one more pending entry

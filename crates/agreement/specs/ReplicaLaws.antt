@@ -10,7 +10,10 @@ use lib.Dec.{eqb}
 use borrow.Author.Tests.{eqb-true, eqb-false}
 use Rattle.protocol.specs.Bytes.{Bytes}
 use Rattle.protocol.specs.State.{decode}
-use Rattle.agreement.specs.Lists.{Call, Continues, Follows, HonestIn, KeepsOneBook, Member, NotForged, Opens, Wrote, bookAfter, deliveredBy, delivery, lastLeft, leftBy, moving, opening, opensBook, orElse, reading, signalling, submitting, writtenBy}
+use Rattle.protocol.specs.Call.{Call, opening, delivery, moving, signalling, submitting, sizing, reading, fetching, effect}
+use Rattle.protocol.specs.CallLaws.{only-opening, opens-nothing}
+use Rattle.agreement.specs.Lists.{Continues, Follows, HonestIn, KeepsOneBook, Member, NotForged, Opens, Wrote, does, lastLeft, leftBy, orElse}
+use Rattle.agreement.specs.FetchingLaws.{fetch-good}
 use Rattle.agreement.specs.OpeningLaws.{opening-good, submit-good}
 use Rattle.agreement.specs.RunLaws.{Good, GoodBytes, Honest, delivery-good, last-left-snoc, move-good, nothing-new, reopening-good, signal-good, unchanged}
 
@@ -25,25 +28,29 @@ module _ (digest : Bytes → Bytes) (n dishonest : ℕ) (l : List Member)
     hm = rw own hs
 
     call-good : (book : Bytes) → Continues digest book m → (c : Call) → m .call ≡ c → Good digest n dishonest P s (decode book) →
-        Good digest n dishonest P′ s (decode (bookAfter digest book c))
-    unfolding bookAfter writtenBy deliveredBy opensBook Continues NotForged
+        Good digest n dishonest P′ s (decode (effect digest book c .book))
+    unfolding effect Continues NotForged
     call-good book (got, fixed) (opening n′ o heights leaders) e g =
-        reopening-good digest n dishonest P m s book n′ o heights leaders g (rw e) (rw (e, got) at fixed)
+        reopening-good digest n dishonest P m s book n′ o heights leaders g (rw e)
+        (opens-nothing digest book n′ o heights leaders (rw (e, got) at fixed))
     call-good book (got, fixed) (delivery f) e g =
         delivery-good digest n dishonest P m s book f g (rw e) hm (rw (e, got)) (λ q t st r ht. unforged P m after f t st here hm ht q r)
     call-good book (got, fixed) (moving reply) e g = move-good digest n dishonest P m s book reply hs g (rw (e, got))
     call-good book (got, fixed) (signalling h) e g = signal-good digest n dishonest P m s book h g (rw e)
     call-good book (got, fixed) (submitting x) e g = submit-good digest n dishonest P m s book x g (rw e)
+    call-good book (got, fixed) sizing e g = unchanged digest n dishonest P m s (decode book) g (λ z. rw e)
     call-good book (got, fixed) (reading buffer) e g = unchanged digest n dishonest P m s (decode book) g (λ z. rw e)
+    call-good book (got, fixed) (fetching k h reply) e g = fetch-good digest n dishonest P m s book k h reply g (rw (e, got))
 
     next-good : (o : Option Bytes) → Follows digest n s m o → GoodBytes digest n dishonest P s o →
-        Good digest n dishonest P′ s (decode (bookAfter digest (m .book) (m .call)))
-    unfolding Follows Opens Continues bookAfter writtenBy opensBook
+        Good digest n dishonest P′ s (decode (does digest m .book))
+    unfolding Follows Opens Continues effect
     next-good none x g =
-        subst (λ (c : Call). Good digest n dishonest P′ s (decode (bookAfter digest (m .book) c))) (sym (x .2))
-        (opening-good digest n dishonest P m s (m .book) (x .0) (x .1) hs g (rw (x .2)) (rw (x .2) at (x .3)))
+        let (heights, leaders, e, q) = only-opening digest (m .book) (m .call) (record { n = n; own = s }) x in
+        subst (λ (c : Call). Good digest n dishonest P′ s (decode (effect digest (m .book) c .book))) (sym e)
+        (opening-good digest n dishonest P m s (m .book) heights leaders hs g (rw e) q)
     next-good (some book) x g =
-        subst (λ (z : Bytes). Good digest n dishonest P′ s (decode (bookAfter digest z (m .call)))) (sym (x .0))
+        subst (λ (z : Bytes). Good digest n dishonest P′ s (decode (effect digest z (m .call) .book))) (sym (x .0))
         (call-good book x (m .call) refl g)
 
   module _ (P after : List Member) (m : Member) (here : l ≡ P ++ (m ∷ after)) (s : ℕ) (hs : Honest digest n dishonest s) where
@@ -61,7 +68,7 @@ module _ (digest : Bytes → Bytes) (n dishonest : ℕ) (l : List Member)
       where
         go : (b : Bool) → eqb (m .replica) s ≡ b →
             GoodBytes digest n dishonest (P ++ (m ∷ [])) s
-            (orElse (cond b (some (bookAfter digest (m .book) (m .call))) none) (lastLeft digest s P))
+            (orElse (cond b (some (does digest m .book)) none) (lastLeft digest s P))
         go true e =
             let own = eqb-true (m .replica) s e in
             next-good P after m here s hs own (lastLeft digest s P) (keeps s hs P m after here own) g
@@ -74,7 +81,7 @@ module _ (digest : Bytes → Bytes) (n dishonest : ℕ) (l : List Member)
       rw (← append-snoc P m Q)
       (walk (P ++ (m ∷ [])) Q after (here ∙ sym (append-snoc P m (Q ++ after))) s hs (one-more P (Q ++ after) m here s hs g))
 
-  -- the book that an honest replica has bookAfter after the calls of `P`
+  -- the book that an honest replica has after the calls of `P`
   pub good-after : (P after : List Member) → l ≡ P ++ after → (s : ℕ) → Honest digest n dishonest s →
       GoodBytes digest n dishonest P s (lastLeft digest s P)
   unfolding lastLeft Wrote

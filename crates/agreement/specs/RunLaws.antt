@@ -10,7 +10,7 @@ use lib.ListN.{length, getD, set}
 use lib.Seq.{getD-set-same, getD-set-other}
 use lib.Dec.{eqb}
 use borrow.Author.Tests.{eqb-true, eqb-false, not-true}
-use Rattle.protocol.specs.Answer.{Done, Outcome, accepted, done, unlessRefused}
+use Rattle.protocol.specs.Answer.{Done, Outcome, accepted, done, isAccepted, unlessRefused}
 use Rattle.protocol.specs.Bytes.{Bytes}
 use Rattle.protocol.specs.Deliver.{deliverCall, deliverRows, keep, kept}
 use Rattle.protocol.specs.EveryLaws.{every-set, every-at}
@@ -29,7 +29,7 @@ use Rattle.agreement.specs.BackingLaws.{Backed, later}
 use Rattle.agreement.specs.FreshLaws.{Read, read}
 use Rattle.agreement.specs.GrantsLaws.{grants}
 use Rattle.agreement.specs.KeepingLaws.{keep-good}
-use Rattle.agreement.specs.Lists.{HonestIn, Member, Shows, Statement, Wrote, blockIn, delivers, isAccepted, lastLeft, leftBy, orElse, statementOf, writes}
+use Rattle.agreement.specs.Lists.{HonestIn, Member, Shows, Statement, Wrote, blockIn, delivers, lastLeft, leftBy, orElse, statementOf, writes}
 use Rattle.agreement.specs.MovingLaws.{step-body, step-good}
 use Rattle.agreement.specs.StatementsLaws.{Consistent, stated-nothing}
 

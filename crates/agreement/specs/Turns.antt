@@ -5,9 +5,10 @@ use mathlib.Core.List.{List, [], _∷_}
 use lib.ListN.{getD, set, replicate}
 use Rattle.protocol.specs.Bytes.{Bytes, zeros}
 use Rattle.protocol.specs.Block.{newBlock}
+use Rattle.protocol.specs.Call.{Call, opening, delivery, moving, submitting, sizing, reading, fetching, bookAfter}
 use Rattle.protocol.specs.Computing.{everything}
 use Rattle.agreement.specs.ListTests.{everyIn, someIn, everyHonest, isHonest, statementBytes, opensFor, isAmong, follows, keepsOneBook, signed, signedIn, isBacked, deliversBacked, notForged, shows, showsOnly, noCollision, readsPart, readsAt, hearsAt, writesAt}
-use Rattle.agreement.specs.Lists.{Call, opening, delivery, moving, submitting, reading, Member, when, blockIn, isAccepted, orElse, statementOf, bookAfter, opensBook, deliveredBy, writtenBy, leftBy}
+use Rattle.agreement.specs.Lists.{Member, when, blockIn, orElse, statementOf, leftBy}
 
 -- a turn: whose call, and the call
 abbrev pub Turn : Type 0
@@ -47,8 +48,11 @@ openings =
     (0, opening 4 0 2 leaders) ∷ (1, opening 4 1 2 leaders) ∷ (2, opening 4 2 2 leaders) ∷
     (0, opening 4 0 1 (3 ∷ [])) ∷ (3, moving (zeros 5)) ∷ (0, submitting entry) ∷ []
 
+-- a size is asked for, a certificate is fetched, and the logs are read
 unfoldable pub readings : List Turn
-readings = (0, reading (zeros 16)) ∷ (1, reading (zeros 20)) ∷ (2, reading (zeros 16)) ∷ []
+readings =
+    (0, sizing) ∷ (1, fetching 5 2 (zeros 224)) ∷
+    (0, reading (zeros 16)) ∷ (1, reading (zeros 20)) ∷ (2, reading (zeros 16)) ∷ []
 
 -- the mask of the dishonest replicas: replica 3
 abbrev pub dishonest : ℕ
@@ -56,5 +60,5 @@ dishonest = 8
 
 -- one name that opens every definition of these lists and their tests
 unfoldable pub everyTurn : Unit {0}
-unfolding everything everyHonest isHonest keepsOneBook deliversBacked notForged shows showsOnly noCollision someIn everyIn signed signedIn isBacked statementBytes opensFor isAmong follows readsPart readsAt hearsAt writesAt isAccepted orElse when blockIn statementOf opensBook deliveredBy writtenBy leftBy bookAfter entry nextBlock move hear openings readings build anything
+unfolding everything everyHonest isHonest keepsOneBook deliversBacked notForged shows showsOnly noCollision someIn everyIn signed signedIn isBacked statementBytes opensFor isAmong follows readsPart readsAt hearsAt writesAt orElse when blockIn statementOf leftBy entry nextBlock move hear openings readings build anything
 everyTurn = tt

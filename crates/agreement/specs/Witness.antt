@@ -8,7 +8,8 @@ use lib.ListN.{replicate}
 use Rattle.protocol.specs.Bytes.{Bytes, byteAt, part, zeros}
 use Rattle.protocol.specs.Block.{newBlock}
 use Rattle.protocol.specs.Frame.{proposal, blockVote, dummyVote, finalize, blockCertificate, dummyCertificate, finalizeCertificate}
-use Rattle.agreement.specs.Lists.{signalling, Member, proposes, writes}
+use Rattle.protocol.specs.Call.{signalling}
+use Rattle.agreement.specs.Lists.{Member, proposes, writes}
 use Rattle.agreement.specs.Met.{Hears, MemberOf, Met}
 use Rattle.agreement.specs.Turns.{Turn, anything, build, dishonest, entry, hear, move, nextBlock, openings, readings}
 

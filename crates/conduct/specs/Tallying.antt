@@ -9,25 +9,32 @@ use Rattle.protocol.specs.Sound.{sound}
 use Rattle.protocol.specs.State.{decode}
 use Rattle.protocol.specs.Answer.{accepted, done}
 use Rattle.protocol.specs.Open.{openCall}
+use Rattle.protocol.specs.Call.{Call, opening, delivery, moving, signalling, submitting, sizing, reading, fetching, effect, bookAfter, bookAfterAll}
 use Rattle.conduct.specs.Keeping.{AllTallied}
-use Rattle.conduct.specs.SoundKept.{Call, openWith, deliver, makeMove, signal, submit, bookAfter, bookAfterAll, sound-kept}
+use Rattle.conduct.specs.SoundKept.{sound-kept}
 use Rattle.conduct.specs.TallyingLaws.{open-tallied, open-keeps, deliver-keeps-tallies, move-keeps, signal-keeps, submit-keeps}
 
 module _ (digest : Bytes → Bytes) where
   -- each call on a sound book keeps that all its heights are tallied
-  pub tallied-kept : (call : Call) (book : Bytes) → sound digest book ≡ true → AllTallied digest (decode book) → AllTallied digest (decode (bookAfter digest call book))
-  unfolding bookAfter
-  tallied-kept (openWith n own heights leaders) book was all = open-keeps digest book n own heights leaders all
-  tallied-kept (deliver frame) book was all = deliver-keeps-tallies digest book was all frame
-  tallied-kept (makeMove reply) book was all = move-keeps digest book was all reply
-  tallied-kept (signal h) book was all = signal-keeps digest book was all h
-  tallied-kept (submit entry) book was all = submit-keeps digest book was all entry
+  pub tallied-kept : (book : Bytes) (call : Call) → sound digest book ≡ true → AllTallied digest (decode book) →
+      AllTallied digest (decode (bookAfter digest book call))
+  unfolding effect
+  tallied-kept book (opening n own heights leaders) was all = open-keeps digest book n own heights leaders all
+  tallied-kept book (delivery frame) was all = deliver-keeps-tallies digest book was all frame
+  tallied-kept book (moving reply) was all = move-keeps digest book was all reply
+  tallied-kept book (signalling h) was all = signal-keeps digest book was all h
+  tallied-kept book (submitting entry) was all = submit-keeps digest book was all entry
+  tallied-kept book sizing was all = all
+  tallied-kept book (reading buffer) was all = all
+  tallied-kept book (fetching k h reply) was all = all
 
   -- and so does each list of calls
-  pub tallied-kept-all : (calls : List Call) (book : Bytes) → sound digest book ≡ true → AllTallied digest (decode book) → AllTallied digest (decode (bookAfterAll digest calls book))
+  pub tallied-kept-all : (book : Bytes) (calls : List Call) → sound digest book ≡ true →
+      AllTallied digest (decode book) → AllTallied digest (decode (bookAfterAll digest book calls))
   unfolding bookAfterAll
-  tallied-kept-all [] book was all = all
-  tallied-kept-all (call ∷ calls) book was all = tallied-kept-all calls (bookAfter digest call book) (sound-kept digest call book was) (tallied-kept call book was all)
+  tallied-kept-all book [] was all = all
+  tallied-kept-all book (call ∷ calls) was all =
+      tallied-kept-all (bookAfter digest book call) calls (sound-kept digest book call was) (tallied-kept book call was all)
 
   -- Open that is not refused leaves such a book, whatever bytes were there
   pub tallied-opened : (book : Bytes) (n own heights : ℕ) (leaders : Bytes) →

@@ -37,6 +37,7 @@ use Rattle.protocol.specs.Signal.{signalRows, signalCall}
 use Rattle.protocol.specs.Submit.{submitRows, submitCall}
 use Rattle.protocol.specs.Read.{sizeCall, readPart, readBuffer}
 use Rattle.protocol.specs.Fetch.{fetchRows, fetchCall}
+use Rattle.protocol.specs.Call.{Call, bookAfter, bookAfterAll}
 use Rattle.agreement.specs.Lists.{Agreement}
 use Rattle.agreement.specs.AgreementLaws.{agreement}
 use Rattle.agreement.specs.AnyDigest.{AnyDigest}
@@ -49,7 +50,7 @@ use Rattle.conduct.specs.BookBytesLaws.{open-bytes, signal-bytes, submit-bytes,
 use Rattle.conduct.specs.Keeping.{Keeps, AllTallied}
 use Rattle.conduct.specs.KeepingLaws.{deliver-keeps}
 use Rattle.conduct.specs.KeepsExactLaws.{keeps-exact}
-use Rattle.conduct.specs.SoundKept.{Call, bookAfter, bookAfterAll, sound-kept, sound-opened}
+use Rattle.conduct.specs.SoundKept.{sound-kept, sound-opened}
 use Rattle.conduct.specs.Tallying.{tallied-kept-all, tallied-opened}
 use Rattle.conduct.specs.Readable.{SameSetting}
 use Rattle.conduct.specs.WrittenRead.{MoveWritten, move-written-read, FetchWritten, fetch-written-read}
@@ -120,8 +121,8 @@ pub move-writes : (book : Bytes) → AreBytes book → (reply : Bytes) → sound
 move-writes = move-bytes sha256
 
 -- every call leaves a sound book sound, and Open makes a sound one of any bytes
-pub sound-stays : (call : Call) (book : Bytes) → sound sha256 book ≡ true →
-    sound sha256 (bookAfter sha256 call book) ≡ true
+pub sound-stays : (book : Bytes) (call : Call) → sound sha256 book ≡ true →
+    sound sha256 (bookAfter sha256 book call) ≡ true
 sound-stays = sound-kept sha256
 
 pub open-makes-sound : (book : Bytes) (n own heights : ℕ) (leaders : Bytes) →
@@ -164,9 +165,9 @@ nothing-else-keeps = keeps-exact sha256
 -- on every book that calls make from an opened one, a proposal held with a quorum of kept votes is notarized
 pub votes-are-tallied : (book : Bytes) (n own heights : ℕ) (leaders : Bytes) (calls : List Call) →
     openCall book n own heights leaders .answer ≡ accepted done →
-    AllTallied sha256 (decode (bookAfterAll sha256 calls (openCall book n own heights leaders .book)))
+    AllTallied sha256 (decode (bookAfterAll sha256 (openCall book n own heights leaders .book) calls))
 votes-are-tallied book n own heights leaders calls opened =
-    tallied-kept-all sha256 calls _ (sound-opened sha256 book n own heights leaders opened)
+    tallied-kept-all sha256 _ calls (sound-opened sha256 book n own heights leaders opened)
     (tallied-opened sha256 book n own heights leaders opened)
 
 -- ---- demand 2: what is read

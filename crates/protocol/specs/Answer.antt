@@ -8,6 +8,10 @@ pub data Answer (A : Type 0) : Type 0 where
   refused : ℕ → Answer A
   accepted : A → Answer A
 
+unfoldable pub isAccepted : {A : Type 0} → Answer A → Bool
+isAccepted (refused number) = false
+isAccepted (accepted a) = true
+
 -- the answer of a call that says no more than that it was done
 pub data Done : Type 0 where
   done : Done

@@ -14,8 +14,8 @@ use Rattle.protocol.specs.State.{withEdition, withHeight, withHead, with
 use Rattle.protocol.specs.View.{quorum, isDummy, dummyRun, digestAt, extendsOver, linkedWithin, linked, extends}
 use Rattle.protocol.specs.View.{isFinalized, largestFinalized, parentOf, chainWithin, chain, logAt}
 use Rattle.protocol.specs.Sound.{view, log, masksBelow, blocksWellFormed, contentZeros, sound}
-use Rattle.protocol.specs.Answer.{unlessRefused, refusalNumber, certificateKind, finalizeKind, moveNumber}
-use Rattle.protocol.specs.Answer.{moveHeight}
+use Rattle.protocol.specs.Answer.{isAccepted, unlessRefused, refusalNumber, certificateKind, finalizeKind}
+use Rattle.protocol.specs.Answer.{moveNumber, moveHeight}
 use Rattle.protocol.specs.Open.{newHeight, newState, openInRange, openRows, openCall}
 use Rattle.protocol.specs.Deliver.{withProposal, withNotarized, withMasks, withVote, votersFor, keepDummyVote}
 use Rattle.protocol.specs.Deliver.{keepFinalize, keepBlockCertificate, keepDummyCertificate}
@@ -30,6 +30,7 @@ use Rattle.protocol.specs.Signal.{signalRows, signalCall}
 use Rattle.protocol.specs.Submit.{withPending, stillPending, submitRows, submitCall}
 use Rattle.protocol.specs.Read.{logSize, sizeCall, readPart, readBuffer}
 use Rattle.protocol.specs.Fetch.{certificateFrame, hasCertificate, unlessFetchRefused, fetchRows, fetchCall}
+use Rattle.protocol.specs.Call.{effect, bookAfterAll}
 
 unfoldable pub everything : Unit {0}
 unfolding word16 le16 part zeros overFront all isZero same pieces join holds allOf implies inRange everyHeight
@@ -39,7 +40,7 @@ unfolding word16 le16 part zeros overFront all isZero same pieces join holds all
     inMask maskOf ones union belowBit weigh total bookSize headBytes contentBytes bodyBytes encode decodeHeight
     decodeHeights decode last noHeight at holdsProposal isNotarized voteOf withEdition withHeight withHead withPool
     withTimerFired flag pending quorum isDummy dummyRun digestAt extendsOver linkedWithin linked extends isFinalized
-    largestFinalized parentOf chainWithin chain logAt view log masksBelow blocksWellFormed contentZeros sound
+    largestFinalized parentOf chainWithin chain logAt view log masksBelow blocksWellFormed contentZeros sound isAccepted
     unlessRefused refusalNumber certificateKind finalizeKind moveNumber moveHeight newHeight newState openInRange
     openRows openCall withProposal withNotarized withMasks withVote votersFor keepDummyVote keepFinalize
     keepBlockCertificate keepDummyCertificate keepFinalizeCertificate readRows clashRows notarize keepProposal
@@ -47,5 +48,5 @@ unfolding word16 le16 part zeros overFront all isZero same pieces join holds all
     dummyVoteApplies dummyVoteStep offered unused written moved unlessMoveRefused newFinalized outputApplies outputStep
     passApplies passCertificate passStep proposeApplies proposedBlock proposeStep blockVoteApplies blockVoteStep step
     moveRows moveCall signalRows signalCall withPending stillPending submitRows submitCall logSize sizeCall readPart
-    readBuffer certificateFrame hasCertificate unlessFetchRefused fetchRows fetchCall
+    readBuffer certificateFrame hasCertificate unlessFetchRefused fetchRows fetchCall effect bookAfterAll
 everything = tt

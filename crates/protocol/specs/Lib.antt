@@ -15,6 +15,7 @@ pub mod Signal
 pub mod Submit
 pub mod Read
 pub mod Fetch
+pub mod Call
 pub mod Linked
 pub mod Examples
 pub mod Computing
@@ -56,3 +57,4 @@ pub mod NewBookCallsLaws
 pub mod ExamplesLaws
 pub mod BuildLaws
 pub mod EditionLaws
+pub mod CallLaws

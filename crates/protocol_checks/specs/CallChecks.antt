@@ -10,7 +10,8 @@ use Rattle.protocol.specs.Tests.{allOf}
 use Rattle.protocol.specs.Block.{newBlock}
 use Rattle.protocol.specs.Frame.{dummyVote, finalize, blockCertificate, dummyCertificate, finalizeCertificate}
 use Rattle.protocol.specs.Fetch.{fetchCall}
-use Rattle.protocol_checks.specs.CheckCalls.{standIn, Call, delivery, moving, signalling, submitting, sizing, reading, fetching, Result, perform, refuses, splice, expect, disagreement}
+use Rattle.protocol.specs.Call.{Call, delivery, moving, signalling, submitting, sizing, reading, fetching}
+use Rattle.protocol_checks.specs.CheckCalls.{standIn, Result, perform, refuses, splice, expect, disagreement}
 use Rattle.protocol_checks.specs.CheckStates.{entry, counting, entriesFrom, stateTools}
 
 -- ---- books, byte by byte

@@ -1,17 +1,18 @@
--- Calls as data, their answers as numbers, and a digest that computes: what the checks of the definitions run.
+-- Calls with their answers as numbers, and a digest that computes: what the checks of the definitions run.
 use Prim.Native.Nat.{ℕ, zero, suc, _+_, _*_, _%_}
 use mathlib.Core.Bool.{Bool, _&&_, cond}
 use mathlib.Core.List.{List, [], _∷_, _++_}
 use lib.ListN.{length, take, drop}
 use Rattle.protocol.specs.Bytes.{Bytes, same}
-use Rattle.protocol.specs.Answer.{Answer, refused, accepted, Done, Delivery, known, fresh, Move, idle, voteDummy, output, pass, propose, voteBlock, Outcome, certificateKind, finalizeKind, moveNumber, moveHeight}
+use Rattle.protocol.specs.Answer.{Answer, refused, accepted, Done, Delivery, known, fresh, Move, idle, voteDummy, output, pass, propose, voteBlock, certificateKind, finalizeKind, moveNumber, moveHeight}
 use Rattle.protocol.specs.Open.{openCall}
 use Rattle.protocol.specs.Deliver.{deliverCall}
-use Rattle.protocol.specs.Move.{MoveOutcome, moveCall}
+use Rattle.protocol.specs.Move.{moveCall}
 use Rattle.protocol.specs.Signal.{signalCall}
 use Rattle.protocol.specs.Submit.{submitCall}
 use Rattle.protocol.specs.Read.{sizeCall, readPart, readBuffer}
-use Rattle.protocol.specs.Fetch.{FetchOutcome, fetchCall}
+use Rattle.protocol.specs.Fetch.{fetchCall}
+use Rattle.protocol.specs.Call.{Call, opening, delivery, moving, signalling, submitting, sizing, reading, fetching, bookAfter, bookAfterAll}
 use Rattle.protocol.specs.Computing.{everything}
 
 -- ---- a stand-in for SHA-256: byte i is the sum of each byte times its place counted from 1, plus i, modulo 251
@@ -26,23 +27,7 @@ countUp from (suc count) = from % 251 ∷ countUp (suc from) count
 unfoldable pub standIn : Bytes → Bytes
 standIn bytes = countUp (placeSum 1 bytes) 32
 
--- ---- calls
-pub data Call : Type 0 where
-  opening : (n own heights : ℕ) → Bytes → Call
-  delivery : Bytes → Call
-  moving : Bytes → Call
-  signalling : ℕ → Call
-  submitting : Bytes → Call
-  sizing : Call
-  reading : Bytes → Call
-  fetching : (k h : ℕ) → Bytes → Call
-
--- a call's answer as numbers, the book afterwards, and the lent buffer afterwards where there is one
-pub record Result : Type 0 where
-  pub numbers : List ℕ
-  pub book : Bytes
-  pub buffer : Bytes
-
+-- ---- answers as numbers
 -- a refusal's number alone, or 0 and what the answer says; of a reading the part that it returns
 unfoldable pub numbersOf : {A : Type 0} → (A → List ℕ) → Answer A → List ℕ
 numbersOf told (refused number) = number ∷ []
@@ -67,40 +52,18 @@ passNumbers (voteBlock h) = []
 unfoldable pub moveNumbers : Move → List ℕ
 moveNumbers move = moveNumber move ∷ moveHeight move ∷ passNumbers move
 
-unfoldable pub plain : {A : Type 0} → (A → List ℕ) → Outcome A → Result
-plain told o = record { numbers = numbersOf told (o .answer); book = o .book; buffer = [] }
+-- a call's answer on a book, with the stand-in digest
+unfoldable pub answerOf : Bytes → Call → List ℕ
+answerOf book (opening n own heights leaders) = numbersOf doneNumbers (openCall book n own heights leaders .answer)
+answerOf book (delivery frame) = numbersOf deliveryNumbers (deliverCall standIn book frame .answer)
+answerOf book (moving reply) = numbersOf moveNumbers (moveCall standIn book reply .answer)
+answerOf book (signalling h) = numbersOf doneNumbers (signalCall standIn book h .answer)
+answerOf book (submitting entry) = numbersOf doneNumbers (submitCall standIn book entry .answer)
+answerOf book sizing = numbersOf (λ size. size ∷ []) (sizeCall standIn book)
+answerOf book (reading buffer) = readPart standIn book buffer
+answerOf book (fetching k h reply) = numbersOf doneNumbers (fetchCall standIn book k h reply .answer)
 
-unfoldable pub ofMove : MoveOutcome → Result
-ofMove o = record { numbers = numbersOf moveNumbers (o .answer); book = o .book; buffer = o .reply }
-
-unfoldable pub ofFetch : Bytes → FetchOutcome → Result
-ofFetch book o = record { numbers = numbersOf doneNumbers (o .answer); book = book; buffer = o .reply }
-
--- a call on a book, with the stand-in digest
-unfoldable pub perform : Bytes → Call → Result
-perform book (opening n own heights leaders) = plain doneNumbers (openCall book n own heights leaders)
-perform book (delivery frame) = plain deliveryNumbers (deliverCall standIn book frame)
-perform book (moving reply) = ofMove (moveCall standIn book reply)
-perform book (signalling h) = plain doneNumbers (signalCall standIn book h)
-perform book (submitting entry) = plain doneNumbers (submitCall standIn book entry)
-perform book sizing = record { numbers = numbersOf (λ size. size ∷ []) (sizeCall standIn book); book = book; buffer = [] }
-perform book (reading buffer) =
-    record { numbers = readPart standIn book buffer; book = book; buffer = readBuffer standIn book buffer }
-perform book (fetching k h reply) = ofFetch book (fetchCall standIn book k h reply)
-
--- the book after a list of calls
-unfoldable pub after : Bytes → List Call → Bytes
-after book [] = book
-after book (call ∷ calls) = after (perform book call .book) calls
-
--- the answers of a list of calls
-unfoldable pub answers : Bytes → List Call → List (List ℕ)
-answers book [] = []
-answers book (call ∷ calls) =
-    let r : Result = perform book call in
-    r .numbers ∷ answers (r .book) calls
-
--- the bytes that a call was lent
+-- ---- the bytes that a call is lent, and these bytes after it
 unfoldable pub lent : Call → Bytes
 lent (opening n own heights leaders) = []
 lent (delivery frame) = []
@@ -110,6 +73,38 @@ lent (submitting entry) = []
 lent sizing = []
 lent (reading buffer) = buffer
 lent (fetching k h reply) = reply
+
+unfoldable pub lentAfter : Bytes → Call → Bytes
+lentAfter book (opening n own heights leaders) = []
+lentAfter book (delivery frame) = []
+lentAfter book (moving reply) = moveCall standIn book reply .reply
+lentAfter book (signalling h) = []
+lentAfter book (submitting entry) = []
+lentAfter book sizing = []
+lentAfter book (reading buffer) = readBuffer standIn book buffer
+lentAfter book (fetching k h reply) = fetchCall standIn book k h reply .reply
+
+-- ---- a call on a book
+-- its answer as numbers, the book afterwards, and the lent buffer afterwards where there is one
+pub record Result : Type 0 where
+  pub numbers : List ℕ
+  pub book : Bytes
+  pub buffer : Bytes
+
+unfoldable pub perform : Bytes → Call → Result
+perform book call =
+    record { numbers = answerOf book call; book = bookAfter standIn book call; buffer = lentAfter book call }
+
+-- the book after a list of calls
+abbrev pub after : Bytes → List Call → Bytes
+after book calls = bookAfterAll standIn book calls
+
+-- the answers of a list of calls
+unfoldable pub answers : Bytes → List Call → List (List ℕ)
+answers book [] = []
+answers book (call ∷ calls) =
+    let r : Result = perform book call in
+    r .numbers ∷ answers (r .book) calls
 
 -- a call is refused by this number, and leaves the book and what it was lent as they were
 unfoldable pub refuses : ℕ → Bytes → Call → Bool
@@ -150,5 +145,5 @@ disagreement i book (x ∷ xs) =
 
 -- opens every definition and these tools
 unfoldable pub tools : Unit {0}
-unfolding everything standIn placeSum countUp perform plain ofMove ofFetch numbersOf doneNumbers deliveryNumbers passNumbers moveNumbers after answers lent refuses splice expect changed agrees disagreement
+unfolding everything standIn placeSum countUp numbersOf doneNumbers deliveryNumbers passNumbers moveNumbers answerOf lent lentAfter perform answers refuses splice expect changed agrees disagreement
 tools = tt

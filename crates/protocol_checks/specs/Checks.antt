@@ -9,7 +9,8 @@ use Rattle.protocol.specs.Tests.{allOf}
 use Rattle.protocol.specs.Block.{newBlock}
 use Rattle.protocol.specs.Frame.{frameOf, proposal, blockVote, dummyVote, finalize, blockCertificate, dummyCertificate, finalizeCertificate}
 use Rattle.protocol.specs.Sound.{sound}
-use Rattle.protocol_checks.specs.CheckCalls.{standIn, opening, delivery, moving, signalling, submitting, sizing, fetching, after, answers, refuses, splice, tools}
+use Rattle.protocol.specs.Call.{opening, delivery, moving, signalling, submitting, sizing, fetching}
+use Rattle.protocol_checks.specs.CheckCalls.{standIn, after, answers, refuses, splice, tools}
 
 -- ---- books, blocks and calls of the checks
 -- an entry of one repeated byte

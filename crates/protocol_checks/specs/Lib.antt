@@ -13,3 +13,4 @@ pub mod OpenChecks
 pub mod DeliverChecks
 pub mod MoveChecks
 pub mod CallChecks
+pub mod EffectChecks

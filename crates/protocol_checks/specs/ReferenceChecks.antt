@@ -8,7 +8,8 @@ use mathlib.Core.Path.{_≡_, refl}
 use mathlib.Core.List.{[], _∷_, _++_}
 use lib.ListN.{replicate}
 use Rattle.protocol.specs.Bytes.{Bytes, zeros}
-use Rattle.protocol_checks.specs.CheckCalls.{countUp, opening, delivery, moving, signalling, submitting, sizing, reading, fetching, expect, disagreement, tools}
+use Rattle.protocol.specs.Call.{opening, delivery, moving, signalling, submitting, sizing, reading, fetching}
+use Rattle.protocol_checks.specs.CheckCalls.{countUp, expect, disagreement, tools}
 
 -- the entries of the scenarios: bytes that grow by 16
 tagged : ℕ → ℕ → Bytes

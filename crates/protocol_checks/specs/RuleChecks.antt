@@ -6,7 +6,8 @@ use lib.ListN.{replicate}
 use Rattle.protocol.specs.Bytes.{Bytes, zeros, part, join}
 use Rattle.protocol.specs.Block.{newBlock}
 use Rattle.protocol.specs.Frame.{proposal, blockVote, dummyVote, finalize, blockCertificate, dummyCertificate, finalizeCertificate}
-use Rattle.protocol_checks.specs.CheckCalls.{standIn, opening, delivery, moving, submitting, perform, after, answers, splice, tools}
+use Rattle.protocol.specs.Call.{opening, delivery, moving, submitting}
+use Rattle.protocol_checks.specs.CheckCalls.{standIn, perform, after, answers, splice, tools}
 
 entry : ℕ → Bytes
 entry x = replicate 16 x

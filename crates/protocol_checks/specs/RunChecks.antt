@@ -11,7 +11,8 @@ use Rattle.protocol.specs.Frame.{kind, signer, frameHeight, proposal, blockVote
 use Rattle.protocol.specs.Answer.{Answer, refused, accepted, Delivery, known, fresh, Move, idle, voteDummy, output, pass, propose, voteBlock, Outcome, certificateKind, finalizeKind, moveNumber}
 use Rattle.protocol.specs.Deliver.{deliverCall}
 use Rattle.protocol.specs.Move.{MoveOutcome, moveCall}
-use Rattle.protocol_checks.specs.CheckCalls.{standIn, Call, opening, delivery, moving, signalling, submitting, sizing, reading, after, answers, tools}
+use Rattle.protocol.specs.Call.{Call, opening, delivery, moving, signalling, submitting, sizing, reading}
+use Rattle.protocol_checks.specs.CheckCalls.{standIn, after, answers, tools}
 
 -- ---- the rehearsal
 -- a line of the rehearsal's output, by its first word
