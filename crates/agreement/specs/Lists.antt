@@ -8,7 +8,7 @@ use mathlib.Core.Option.{Option, some, none}
 use lib.ListN.{length, take}
 use lib.Dec.{eqb}
 use Rattle.protocol.specs.Bytes.{Bytes}
-use Rattle.protocol.specs.Frame.{kind, signer, frameHeight, signerMask, frameDigest, frameBlock, carriesBlock}
+use Rattle.protocol.specs.Frame.{kind, signer, frameHeight, signerMask, frameDigest, frameBlock, carriesBlock, isProposal, isBlockVote, isDummyVote, isFinalize, isBlockCertificate, isDummyCertificate, isFinalizeCertificate}
 use Rattle.protocol.specs.Mask.{inMask, ones}
 use Rattle.protocol.specs.Answer.{Answer, refused, accepted}
 use Rattle.protocol.specs.Open.{openCall}
@@ -85,13 +85,13 @@ module _ (digest : Bytes → Bytes) where
       let k : ℕ = kind frame in
       let signed : Bool = eqb (signer frame) s in
       let certified : Bool = inMask (signerMask frame) s in
-      cond (eqb k 1) (when signed (proposes h (frameBlock frame)))
-      (cond (eqb k 2) (when signed (votesBlock h (frameDigest frame)))
-      (cond (eqb k 3) (when signed (votesDummy h))
-      (cond (eqb k 4) (when signed (finalizes h))
-      (cond (eqb k 5) (when certified (votesBlock h (digest (frameBlock frame))))
-      (cond (eqb k 6) (when certified (votesDummy h))
-      (cond (eqb k 7) (when certified (finalizes h)) none))))))
+      cond (isProposal k) (when signed (proposes h (frameBlock frame)))
+      (cond (isBlockVote k) (when signed (votesBlock h (frameDigest frame)))
+      (cond (isDummyVote k) (when signed (votesDummy h))
+      (cond (isFinalize k) (when signed (finalizes h))
+      (cond (isBlockCertificate k) (when certified (votesBlock h (digest (frameBlock frame))))
+      (cond (isDummyCertificate k) (when certified (votesDummy h))
+      (cond (isFinalizeCertificate k) (when certified (finalizes h)) none))))))
 
   -- ---- what a call does to a book
   -- the book that a call leaves

@@ -11,11 +11,13 @@ use lib.ListN.{getD}
 use lib.Dec.{eqb}
 use borrow.Author.Tests.{not-true}
 use Rattle.protocol.specs.Bytes.{Bytes, le16, word16, zeros}
+use Rattle.protocol.specs.Answer.{Certificate, certificateKind}
+use Rattle.protocol.specs.Certificates.{certificateFrame}
 use Rattle.protocol.specs.MoveLaws.{step-cases, head-only}
 use Rattle.protocol.specs.FlagLaws.{flag-set, flag-kept}
 use Rattle.protocol.specs.Frame.{blockCertificate, blockVote, dummyCertificate, dummyVote, finalize, frameBlock, frameDigest, frameHeight, frameOf, kind, proposal, signer, signerMask}
 use Rattle.protocol.specs.Mask.{inMask}
-use Rattle.protocol.specs.Move.{Step, blockVoteApplies, blockVoteStep, dummyVoteApplies, dummyVoteStep, idleStep, outputStep, passCertificate, passStep, proposeApplies, proposeStep, step}
+use Rattle.protocol.specs.Move.{Step, blockVoteApplies, blockVoteStep, dummyVoteApplies, dummyVoteStep, idleStep, outputStep, passesBy, passStep, proposeApplies, proposeStep, step}
 use Rattle.protocol.specs.RowLaws.{row}
 use Rattle.protocol.specs.Sound.{view}
 use Rattle.protocol.specs.State.{State, at, flag, noHeight, withHead}
@@ -116,11 +118,15 @@ module _ (digest : Bytes → Bytes) (U : ℕ → Statement → Type 0) (U′ : S
   unfolding outputStep withHead flag
   good-output a = stated-nothing k (adds-none a) (λ e. e) (λ e. e)
 
+  abbrev passed : Bytes
+  passed = certificateFrame b (certificateKind (passesBy digest b)) c
+
   -- a certificate states nothing new in its writer's name
-  certificate-old : (t : Statement) → statementOf digest (passCertificate digest b) s ≡ some t → U s t
-  unfolding passCertificate
+  certificate-old : (t : Statement) → statementOf digest passed s ≡ some t → U s t
+  unfolding certificateFrame certificateKind
   certificate-old t =
-      cond-elim (λ (f : Bytes). statementOf digest f s ≡ some t → U s t) (linked digest (view b) c)
+      cond-elim (λ (by : Certificate). statementOf digest (certificateFrame b (certificateKind by) c) s ≡ some t → U s t)
+      (linked digest (view b) c)
       (λ l e. let q = blockCertificate-says digest (b .own) c s t (at b c .certificateMask) (at b c .notarized) e in
       rw (q .0) (backed-here .certifiers s (q .1)))
       (λ l e. let q = dummyCertificate-says digest (b .own) c s t (at b c .dummyMask) e in
@@ -137,13 +143,13 @@ module _ (digest : Bytes → Bytes) (U : ℕ → Statement → Type 0) (U′ : S
       second t false e m r = let q = List·Memᴰ·eq-of-singleton m in (finalize-says digest (b .own) c s t (rw q at r), e)
 
       either : (t : Statement) {f : Bytes} →
-          (f ≡ passCertificate digest b) ⊎ List·Memᴰ f (cond (not (flag 1 b)) (finalize (b .own) c ∷ []) []) →
+          (f ≡ passed) ⊎ List·Memᴰ f (cond (not (flag 1 b)) (finalize (b .own) c ∷ []) []) →
           statementOf digest f s ≡ some t → U s t ⊎ ((t ≡ finalizes c) × (flag 1 b ≡ false))
       either t (inl q) r = inl (certificate-old t (rw q at r))
       either t (inr m) r = inr (second t (flag 1 b) refl m r)
 
       sort : (t : Statement) →
-          U s t ⊎ ((f : Bytes) × List·Memᴰ f (passCertificate digest b ∷ cond (not (flag 1 b)) (finalize (b .own) c ∷ []) []) × (statementOf digest f s ≡ some t)) →
+          U s t ⊎ ((f : Bytes) × List·Memᴰ f (passed ∷ cond (not (flag 1 b)) (finalize (b .own) c ∷ []) []) × (statementOf digest f s ≡ some t)) →
           U s t ⊎ ((t ≡ finalizes c) × (flag 1 b ≡ false))
       sort t (inl u) = inl u
       sort t (inr u) = either t (List·Memᴰ·cases-cons (u .1)) (u .2)

@@ -8,12 +8,11 @@ use mathlib.Core.Option.{Option, some, none}
 use lib.ListN.{length, getD, length-append}
 use borrow.Author.Tests.{eqb-true, leb-true}
 use Rattle.protocol.specs.Answer.{Done, Outcome, accepted, done, unlessRefused}
-use Rattle.protocol.specs.Bytes.{Bytes}
+use Rattle.protocol.specs.Bytes.{Bytes, without}
 use Rattle.protocol.specs.EveryLaws.{Every, none as no-more, one, every-append}
 use Rattle.protocol.specs.Frame.{finalize}
 use Rattle.protocol.specs.Mask.{inMask}
 use Rattle.protocol.specs.MaskLaws.{inMask-zero}
-use Rattle.protocol.specs.Move.{without}
 use Rattle.protocol.specs.NewStateLaws.{new-shaped}
 use Rattle.protocol.specs.Open.{newHeight, newState, openCall, openRows}
 use Rattle.protocol.specs.RowLaws.{row-passes}

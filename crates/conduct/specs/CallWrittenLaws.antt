@@ -14,14 +14,15 @@ use Rattle.protocol.specs.Frame.{finalize, blockCertificate, dummyCertificate, 
 use Rattle.protocol.specs.State.{State, at, last, decode, flag, isNotarized}
 use Rattle.protocol.specs.View.{linked, quorum, isDummy}
 use Rattle.protocol.specs.Sound.{view, sound}
-use Rattle.protocol.specs.Answer.{pass, onBlock, onDummy}
-use Rattle.protocol.specs.Move.{Step, unused, written, moved, unlessMoveRefused, passCertificate, step, dummyVoteStep, outputStep, passStep, proposeStep, blockVoteStep, idleStep, moveRows, moveCall}
-use Rattle.protocol.specs.Fetch.{certificateFrame, hasCertificate, unlessFetchRefused, fetchRows, fetchCall}
+use Rattle.protocol.specs.Answer.{pass, onBlock, onDummy, certificateKind}
+use Rattle.protocol.specs.Move.{Step, unused, written, moved, unlessMoveRefused, passesBy, step, dummyVoteStep, outputStep, passStep, proposeStep, blockVoteStep, idleStep, moveRows, moveCall}
+use Rattle.protocol.specs.Fetch.{hasCertificate, unlessFetchRefused, fetchRows, fetchCall}
+use Rattle.protocol.specs.Certificates.{certificateFrame}
 use Rattle.protocol.specs.RowLaws.{row-passes, in-range}
 use Rattle.protocol.specs.SoundLaws.{SoundState, sound-decode}
 use Rattle.conduct.specs.Fields.{blockCertificateFields, dummyCertificateFields, finalizeCertificateFields}
 use Rattle.conduct.specs.Readable.{Said, SameSetting, DigestSized}
-use Rattle.conduct.specs.Named.{passFrame, offeredBlock, moveFrames, moveAnswerFrames, moveAnswerFields, fetchFields, fetchAnswerFrames, fetchAnswerFields}
+use Rattle.conduct.specs.Named.{offeredBlock, moveFrames, moveAnswerFrames, moveAnswerFields, certificateFields, fetchAnswerFrames, fetchAnswerFields}
 use Rattle.conduct.specs.Reply.{Wrote, blankAfter}
 use Rattle.conduct.specs.ReplyLaws.{front-wrote, one-wrote, nothing-wrote}
 use Rattle.conduct.specs.ReadLaws.{Written, said-none, said-more}
@@ -37,16 +38,16 @@ module _ (digest : Bytes → Bytes) (s : State) where
   Named st = st .frames ≡ moveFrames digest s (st .move)
 
   pass-named : Named (passStep digest s)
-  unfolding passStep passCertificate
+  unfolding passStep
   pass-named = go (linked digest (view s) (s .current)) (not (flag 1 s))
     where
       go : (l inTime : Bool) →
-          (cond l (blockCertificate (s .current) (at s (s .current) .certificateMask) (at s (s .current) .notarized)) (dummyCertificate (s .current) (at s (s .current) .dummyMask)) ∷
+          (certificateFrame s (certificateKind (cond l onBlock onDummy)) (s .current) ∷
           cond inTime (finalize (s .own) (s .current) ∷ []) []) ≡ moveFrames digest s (pass (s .current) (cond l onBlock onDummy) inTime)
-      go true true = unfold moveFrames passFrame in refl
-      go true false = unfold moveFrames passFrame in refl
-      go false true = unfold moveFrames passFrame in refl
-      go false false = unfold moveFrames passFrame in refl
+      go true true = unfold moveFrames in refl
+      go true false = unfold moveFrames in refl
+      go false true = unfold moveFrames in refl
+      go false false = unfold moveFrames in refl
 
   step-named : Named (step digest s)
   unfolding moveFrames dummyVoteStep outputStep proposeStep blockVoteStep idleStep offeredBlock
@@ -61,8 +62,8 @@ module _ (digest : Bytes → Bytes) (s : State) where
   unfolding passStep
   pass-fits = go (not (flag 1 s))
     where
-      go : (inTime : Bool) → 224 * length (passCertificate digest s ∷ cond inTime (finalize (s .own) (s .current) ∷ []) []) +
-          unused (pass (s .current) (cond (linked digest (view s) (s .current)) onBlock onDummy) inTime) ≤ 448
+      go : (inTime : Bool) → 224 * length (certificateFrame s (certificateKind (passesBy digest s)) (s .current) ∷ cond inTime (finalize (s .own) (s .current) ∷ []) []) +
+          unused (pass (s .current) (passesBy digest s) inTime) ≤ 448
       go true = unfold unused in omega arith
       go false = unfold unused in omega arith
 
@@ -139,8 +140,8 @@ module _ (digest : Bytes → Bytes) (book : Bytes) (k h : ℕ) (reply : Bytes) w
       let range = in-range 1 (last (decode book)) h (r6 .0) in
       record { was-sound = r1 .0; low = range .0; high = range .1; room = leb-true _ _ (r3 .0); has = r11 .0 }
 
-  certificate-said : (t : State) → SameSetting (decode book) t → FetchFacts → Written t (fetchFields (decode book) k h) (certificateFrame (decode book) k h)
-  unfolding fetchFields certificateFrame hasCertificate
+  certificate-said : (t : State) → SameSetting (decode book) t → FetchFacts → Written t (certificateFields (decode book) k h) (certificateFrame (decode book) k h)
+  unfolding certificateFields certificateFrame hasCertificate
   certificate-said t same facts = go (eqb k 5) (eqb k 6) (facts .has)
     where
       is : SoundState digest (decode book)

@@ -4,28 +4,22 @@ use mathlib.Core.Bool.{Bool, cond}
 use mathlib.Core.List.{List, [], _∷_}
 use mathlib.Core.Option.{Option, some, none}
 use lib.ListN.{length}
-use lib.Dec.{eqb, leb}
+use lib.Dec.{leb}
 use Rattle.protocol.specs.Bytes.{Bytes, overFront}
 use Rattle.protocol.specs.Tests.{inRange, Row, firstRefusal}
-use Rattle.protocol.specs.Frame.{frameSize, isCertificate, blockCertificate, dummyCertificate, finalizeCertificate}
+use Rattle.protocol.specs.Frame.{frameSize, isCertificate, isBlockCertificate, isDummyCertificate}
 use Rattle.protocol.specs.State.{State, Height, at, last, decode, isNotarized}
 use Rattle.protocol.specs.View.{quorum}
 use Rattle.protocol.specs.Sound.{view, sound}
+use Rattle.protocol.specs.Certificates.{certificateFrame}
 use Rattle.protocol.specs.Answer.{Answer, refused, accepted, Done, done}
-
--- the certificate of kind 5, 6 or 7
-unfoldable pub certificateFrame : State → ℕ → ℕ → Bytes
-certificateFrame s k h =
-    let x : Height = at s h in
-    cond (eqb k 5) (blockCertificate h (x .certificateMask) (x .notarized))
-    (cond (eqb k 6) (dummyCertificate h (x .dummyMask)) (finalizeCertificate h (x .finalizeMask)))
 
 -- the state has that certificate
 unfoldable pub hasCertificate : State → ℕ → ℕ → Bool
 hasCertificate s k h =
     let x : Height = at s h in
-    cond (eqb k 5) (isNotarized x)
-    (cond (eqb k 6) (quorum (view s) (x .dummyMask)) (quorum (view s) (x .finalizeMask)))
+    cond (isBlockCertificate k) (isNotarized x)
+    (cond (isDummyCertificate k) (quorum (view s) (x .dummyMask)) (quorum (view s) (x .finalizeMask)))
 
 -- the answer, the reply afterwards and the frame written
 pub record FetchOutcome : Type 0 where
