@@ -13,7 +13,7 @@ use borrow.Author.Tests.{not-true}
 use Rattle.protocol.specs.Bytes.{Bytes, le16, word16, zeros}
 use Rattle.protocol.specs.Answer.{Certificate, certificateKind}
 use Rattle.protocol.specs.Certificates.{certificateFrame}
-use Rattle.protocol.specs.MoveLaws.{step-cases, head-only}
+use Rattle.protocol.specs.MoveLaws.{step-cases}
 use Rattle.protocol.specs.FlagLaws.{flag-set, flag-kept}
 use Rattle.protocol.specs.Frame.{blockCertificate, blockVote, dummyCertificate, dummyVote, finalize, frameBlock, frameDigest, frameHeight, frameOf, kind, proposal, signer, signerMask}
 use Rattle.protocol.specs.Mask.{inMask}
@@ -174,17 +174,3 @@ module _ (digest : Bytes → Bytes) (U : ℕ → Statement → Type 0) (U′ : S
   pub step-good : StepGood (step digest b)
   step-good = step-cases digest b StepGood
       good-dummy (λ _ _. good-output) (λ _ _ _. good-pass) (λ _ _ _. good-propose) (λ _ _ _ _. good-block) (λ _ _ _ _ _. good-idle)
-
--- a move leaves all but flags, current and finalized height
-pub record SameBody (b b′ : State) : Type 0 where
-  pub same-n : b′ .n ≡ b .n
-  pub same-pool : b′ .pool ≡ b .pool
-  pub same-heights : b′ .heights ≡ b .heights
-
-pub with-head-same : (b : State) (f c g : ℕ) → SameBody b (withHead b f c g)
-unfolding withHead
-with-head-same b f c g = record { same-n = refl; same-pool = refl; same-heights = refl }
-
-module _ (digest : Bytes → Bytes) (b : State) where
-  pub step-body : SameBody b (step digest b .after)
-  step-body = let (flags, current, finalized, e) = head-only digest b in subst (SameBody b) (sym e) (with-head-same b flags current finalized)

@@ -16,6 +16,7 @@ use Rattle.protocol.specs.Deliver.{deliverCall, deliverRows, keep, kept}
 use Rattle.protocol.specs.EveryLaws.{every-set, every-at}
 use Rattle.protocol.specs.FlagLaws.{flag-set, flag-kept}
 use Rattle.protocol.specs.Frame.{frameHeight}
+use Rattle.protocol.specs.MoveLaws.{step-body}
 use Rattle.protocol.specs.Move.{Step, moveCall, moveRows, moved, step, unlessMoveRefused}
 use Rattle.protocol.specs.Open.{newState, openCall, openRows}
 use Rattle.protocol.specs.RowLaws.{row-passes}
@@ -30,7 +31,7 @@ use Rattle.agreement.specs.FreshLaws.{Read, read}
 use Rattle.agreement.specs.GrantsLaws.{grants}
 use Rattle.agreement.specs.KeepingLaws.{keep-good}
 use Rattle.agreement.specs.Lists.{HonestIn, Member, Shows, Statement, Wrote, blockIn, delivers, isAccepted, lastLeft, leftBy, orElse, statementOf, writes}
-use Rattle.agreement.specs.MovingLaws.{step-body, step-good}
+use Rattle.agreement.specs.MovingLaws.{step-good}
 use Rattle.agreement.specs.StatementsLaws.{Consistent, stated-nothing}
 
 -- ---- lists

@@ -1,7 +1,7 @@
 -- Fetch: the certificate of a kind and a height, for sending.
-use Prim.Native.Nat.{ℕ}
+use Prim.Native.Nat.{ℕ, zero, suc}
 use mathlib.Core.Bool.{Bool, cond}
-use mathlib.Core.List.{List, [], _∷_}
+use mathlib.Core.List.{List, [], _∷_, _++_}
 use mathlib.Core.Option.{Option, some, none}
 use lib.ListN.{length}
 use lib.Dec.{leb}
@@ -21,6 +21,23 @@ hasCertificate s k h =
     cond (isBlockCertificate k) (isNotarized x)
     (cond (isDummyCertificate k) (quorum (view s) (x .dummyMask)) (quorum (view s) (x .finalizeMask)))
 
+-- ---- all certificates that Fetch gives of a state
+unfoldable pub certificateIf : State → ℕ → ℕ → List Bytes
+certificateIf s k h = cond (hasCertificate s k h) (certificateFrame s k h ∷ []) []
+
+-- those of a height, by kind
+unfoldable pub certificatesAt : State → ℕ → List Bytes
+certificatesAt s h = certificateIf s 5 h ++ (certificateIf s 6 h ++ certificateIf s 7 h)
+
+-- those of the heights 1 to `h`, by height
+unfoldable pub certificatesTo : State → ℕ → List Bytes
+certificatesTo s zero = []
+certificatesTo s (suc h) = certificatesTo s h ++ certificatesAt s (suc h)
+
+unfoldable pub everyCertificate : State → List Bytes
+everyCertificate s = certificatesTo s (last s)
+
+-- ---- the call
 -- the answer, the reply afterwards and the frame written
 pub record FetchOutcome : Type 0 where
   pub answer : Answer Done

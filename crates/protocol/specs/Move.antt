@@ -1,5 +1,5 @@
 -- Move: the first of the five moves that applies, the frames that it writes and the state after it.
-use Prim.Native.Nat.{ℕ, _+_, _-_}
+use Prim.Native.Nat.{ℕ, zero, suc, _+_, _-_}
 use mathlib.Core.Bool.{Bool, true, false, _&&_, _||_, not, cond}
 use mathlib.Core.List.{List, [], _∷_, _++_}
 use mathlib.Core.Option.{Option, some, none}
@@ -176,6 +176,11 @@ module _ (digest : Bytes → Bytes) where
       (proposeApplies s, proposeStep s) ∷
       (blockVoteApplies s, blockVoteStep s) ∷ [])
       (idleStep s)
+
+  -- the state after a number of moves
+  unfoldable pub afterMoves : ℕ → State → State
+  afterMoves zero s = s
+  afterMoves (suc k) s = afterMoves k (step s .after)
 
   unfoldable pub moveRows : Bytes → Bytes → List Row
   moveRows book reply = (1, sound digest book) ∷ (3, leb 448 (length reply)) ∷ []
