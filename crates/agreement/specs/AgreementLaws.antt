@@ -99,10 +99,10 @@ module _ (digest : Bytes → Bytes) (n dishonest : ℕ) (l : List Member) (third
         let (t, low, inA, inB, notD) = shared (at b (suc i) .certificateMask) (at b′ (suc i) .certificateMask)
         (x .grants .certificates i e) (x′ .grants .certificates i e′) in
         let ht = honest t low notD in
-        let w = stated b x t _ ht (backed-at b x i .certifiers t inA) in
-        let w′ = stated b′ x′ t _ ht (backed-at b′ x′ i .certifiers t inB) in
-        let p = backed-at b x i .notarized-seen e in
-        let p′ = backed-at b′ x′ i .notarized-seen e′ in
+        let w = stated b x t _ ht (backed-at b x i .shown .certifiers t inA) in
+        let w′ = stated b′ x′ t _ ht (backed-at b′ x′ i .shown .certifiers t inB) in
+        let p = backed-at b x i .shown .notarized-seen e in
+        let p′ = backed-at b′ x′ i .shown .notarized-seen e′ in
         collisionless (p .0) (p′ .0) (at b (suc i) .notarized) (at b′ (suc i) .notarized)
         (in-whole b x (p .0) (p .1)) (in-whole b′ x′ (p′ .0) (p′ .1)) (p .2) (p′ .2) (p .3) (p′ .3)
         (one-vote digest n dishonest l keeps unforged t (suc i) _ _ ht w w′)
@@ -112,8 +112,8 @@ module _ (digest : Bytes → Bytes) (n dishonest : ℕ) (l : List Member) (third
     final-not-dummy i e e′ =
         let (t, low, inA, inB, notD) = shared (at b (suc i) .finalizeMask) (at b′ (suc i) .dummyMask) e e′ in
         let ht = honest t low notD in
-        never-both digest n dishonest l keeps unforged t (suc i) ht (stated b′ x′ t _ ht (backed-at b′ x′ i .dummies t inB))
-        (stated b x t _ ht (backed-at b x i .finalizations t inA))
+        never-both digest n dishonest l keeps unforged t (suc i) ht (stated b′ x′ t _ ht (backed-at b′ x′ i .shown .dummies t inB))
+        (stated b x t _ ht (backed-at b x i .shown .finalizations t inA))
 
     -- ---- chains of finalized heights
     chains : (g g′ : ℕ) → (g ≡ 0) ⊎ (isFinalized digest (view b) g ≡ true) → (g′ ≡ 0) ⊎ (isFinalized digest (view b′) g′ ≡ true) →

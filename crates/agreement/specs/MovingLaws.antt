@@ -2,7 +2,7 @@
 use Prim.Native.Nat.{ℕ, suc, _+_, _-_, _*_, _/_, _%_, _≤_}
 use native.Mathlib.Omega.{arith}
 use native.Mathlib.Numerals.{add-one}
-use mathlib.Core.Path.{_≡_, refl, sym, subst, _∙_}
+use mathlib.Core.Path.{_≡_, refl, subst, _∙_}
 use mathlib.Core.Logic.{_⊎_, inl, inr}
 use mathlib.Core.Bool.{Bool, true, false, not, cond}
 use mathlib.Core.List.{List, [], _∷_, List·Memᴰ, List·Memᴰ·eq-of-singleton, List·Memᴰ·cases-cons, List·Memᴰ·not-nil}
@@ -128,9 +128,9 @@ module _ (digest : Bytes → Bytes) (U : ℕ → Statement → Type 0) (U′ : S
       cond-elim (λ (by : Certificate). statementOf digest (certificateFrame b (certificateKind by) c) s ≡ some t → U s t)
       (linked digest (view b) c)
       (λ l e. let q = blockCertificate-says digest (b .own) c s t (at b c .certificateMask) (at b c .notarized) e in
-      rw (q .0) (backed-here .certifiers s (q .1)))
+      rw (q .0) (backed-here .shown .certifiers s (q .1)))
       (λ l e. let q = dummyCertificate-says digest (b .own) c s t (at b c .dummyMask) e in
-      rw (q .0) (backed-here .dummies s (q .1)))
+      rw (q .0) (backed-here .shown .dummies s (q .1)))
 
   good-pass : StepGood (passStep digest b)
   unfolding passStep withHead

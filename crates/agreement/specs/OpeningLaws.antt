@@ -71,12 +71,16 @@ module _ (digest : Bytes → Bytes) {W : ℕ → Statement → Type 0} {S : Byte
       Backed digest W S h x
   unfolding holdsProposal isNotarized
   backed-nothing h x status certificate dummy finalize voters = record {
-    dummies = λ t e. nobody (x .dummyMask) t dummy e;
-    finalizations = λ t e. nobody (x .finalizeMask) t finalize e;
-    ballots = λ t e. nobody (x .voterMask) t voters e;
-    certifiers = λ t e. nobody (x .certificateMask) t certificate e;
-    proposal-seen = λ e. absurd (false≢true (rw status at e));
-    notarized-seen = λ e. absurd (false≢true (rw status at e));
+    shown = record {
+      dummies = λ t e. nobody (x .dummyMask) t dummy e;
+      finalizations = λ t e. nobody (x .finalizeMask) t finalize e;
+      certifiers = λ t e. nobody (x .certificateMask) t certificate e;
+      notarized-seen = λ e. absurd (false≢true (rw status at e));
+    };
+    held = record {
+      ballots = λ t e. nobody (x .voterMask) t voters e;
+      proposal-seen = λ e. absurd (false≢true (rw status at e));
+    };
   }
 
   backed-leaders : (leaders : Bytes) (i h : ℕ) → Backed digest W S h (getD (map (newHeight) leaders) i noHeight)

@@ -10,24 +10,24 @@ use lib.ListN.{length, getD, set}
 use lib.Seq.{getD-set-same, getD-set-other}
 use lib.Dec.{eqb}
 use borrow.Author.Tests.{eqb-true, eqb-false, not-true}
-use Rattle.protocol.specs.Answer.{Done, Outcome, accepted, done, unlessRefused}
+use Rattle.protocol.specs.Answer.{Delivery, Done, Outcome, accepted, done, unlessRefused}
 use Rattle.protocol.specs.Bytes.{Bytes}
-use Rattle.protocol.specs.Deliver.{deliverCall, deliverRows, keep, kept}
+use Rattle.protocol.specs.Deliver.{deliverCall, keep}
 use Rattle.protocol.specs.EveryLaws.{every-set, every-at}
 use Rattle.protocol.specs.FlagLaws.{flag-set, flag-kept}
 use Rattle.protocol.specs.Frame.{frameHeight}
+use Rattle.protocol.specs.DeliverLaws.{Accepts, deliver-cases}
 use Rattle.protocol.specs.MoveLaws.{step-body}
 use Rattle.protocol.specs.Move.{Step, moveCall, moveRows, moved, step, unlessMoveRefused}
 use Rattle.protocol.specs.Open.{newState, openCall, openRows}
 use Rattle.protocol.specs.RowLaws.{row-passes}
 use Rattle.protocol.specs.Signal.{signalCall, signalRows}
 use Rattle.protocol.specs.Sound.{sound}
-use Rattle.protocol.specs.State.{Height, State, at, decode, encode, flag, noHeight, withHead, withHeight, withTimerFired}
+use Rattle.protocol.specs.State.{Height, State, at, decode, encode, flag, last, noHeight, withHead, withHeight, withTimerFired}
 use Rattle.protocol.specs.StateLaws.{Shaped, ShapedHeight, decode-encode}
 use Rattle.protocol.specs.Tests.{firstRefusal}
 use Rattle.protocol.specs.TestsLaws.{and-true}
 use Rattle.agreement.specs.BackingLaws.{Backed, later}
-use Rattle.agreement.specs.FreshLaws.{Read, read}
 use Rattle.agreement.specs.GrantsLaws.{grants}
 use Rattle.agreement.specs.KeepingLaws.{keep-good}
 use Rattle.agreement.specs.Lists.{HonestIn, Member, Shows, Statement, Wrote, blockIn, delivers, isAccepted, lastLeft, leftBy, orElse, statementOf, writes}
@@ -134,7 +134,7 @@ module _ (digest : Bytes → Bytes) where
       module _ (s : ℕ) (book f : Bytes) (g : Good P s (decode book)) (silent : writes digest m ≡ []) (honest : Honest (m .replica))
           (delivered : List·Memᴰ f (delivers digest m))
           (said : (t : ℕ) (st : Statement) → statementOf digest f t ≡ some st → States P t st)
-          (passed : firstRefusal (deliverRows digest book f) ≡ none) (new : Height)
+          (accepts : Accepts digest book f) (new : Height)
           (was-kept : keep digest (decode book) f ≡ some new) where
         abbrev b : State
         b = decode book
@@ -142,14 +142,12 @@ module _ (digest : Bytes → Bytes) where
         abbrev h : ℕ
         h = frameHeight f
 
-        abbrev r : Read digest book f passed
-        r = read digest book f passed
-
         inside : h - 1 < length (b .heights)
-        inside = let q = r .low in let q′ = r .high in omega arith
+        unfolding last
+        inside = let low = accepts .read .low in let high = accepts .read .high in omega arith
 
         number : suc (h - 1) ≡ h
-        number = let q = r .low in omega arith
+        number = let low = accepts .read .low in omega arith
 
         backed-at : Backed digest (States P′) (Seen P′) h (at b h)
         unfolding at
@@ -167,7 +165,7 @@ module _ (digest : Bytes → Bytes) where
 
         new-good : Backed digest (States P′) (Seen P′) h new × ShapedHeight new
         new-good = rw was-kept at (keep-good digest b f backed-at shaped-at
-            (λ t st e. states-more t st (said t st e)) shown (r .few) (r .long) (r .some-kind) (r .last-kind))
+            (λ t st e. states-more t st (said t st e)) shown (accepts .read) (grants digest book (accepts .was-sound) .few))
 
         backed-set : (i : ℕ) → Backed digest (States P′) (Seen P′) (suc i) (getD (set (b .heights) (h - 1) new) i noHeight)
         backed-set i = go (eqb i (h - 1)) refl
@@ -188,19 +186,16 @@ module _ (digest : Bytes → Bytes) where
           delivers digest m ≡ cond (isAccepted (deliverCall digest book f .answer)) (f ∷ []) [] →
           (List·Memᴰ f (delivers digest m) → (t : ℕ) (st : Statement) → statementOf digest f t ≡ some st → States P t st) →
           Good P′ s (decode (deliverCall digest book f .book))
-      unfolding deliverCall unlessRefused kept isAccepted
-      delivery-good s book f g silent honest d said =
-          go (firstRefusal (deliverRows digest book f)) refl (keep digest (decode book) f) refl d
-        where
-          go : (o : Option ℕ) → firstRefusal (deliverRows digest book f) ≡ o → (x : Option Height) →
-              keep digest (decode book) f ≡ x →
-              delivers digest m ≡ cond (isAccepted (unlessRefused o book (kept digest book f x) .answer)) (f ∷ []) [] →
-              Good P′ s (decode (unlessRefused o book (kept digest book f x) .book))
-          go (some number) p x q e = unchanged s (decode book) g (λ z. silent)
-          go none p none q e = unchanged s (decode book) g (λ z. silent)
-          go none p (some new) q e =
-              let here : List·Memᴰ f (delivers digest m) = rw e (List·Memᴰ·head refl) in
-              encoded P′ s _ (changed s book f g silent honest here (said here) p new q)
+      unfolding isAccepted
+      delivery-good s book f g silent honest =
+          deliver-cases digest book f (λ (o : Outcome Delivery).
+          delivers digest m ≡ cond (isAccepted (o .answer)) (f ∷ []) [] →
+          (List·Memᴰ f (delivers digest m) → (t : ℕ) (st : Statement) → statementOf digest f t ≡ some st → States P t st) →
+          Good P′ s (decode (o .book)))
+          (λ _ _ _ _. unchanged s (decode book) g (λ z. silent)) (λ _ _ _ _. unchanged s (decode book) g (λ z. silent))
+          (λ new accepts q e said.
+          let here : List·Memᴰ f (delivers digest m) = rw e (List·Memᴰ·head refl) in
+          encoded P′ s _ (changed s book f g silent honest here (said here) accepts new q))
 
       -- ---- a call that changes the book unless it is refused
       pub unless-refused-good : {A : Type 0} (s : ℕ) (o : Option ℕ) (book : Bytes) (outcome : Outcome A) → Good P′ s (decode book) →

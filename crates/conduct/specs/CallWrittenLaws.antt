@@ -11,14 +11,14 @@ use borrow.Author.Tests.{leb-true}
 use Rattle.protocol.specs.Bytes.{Bytes}
 use Rattle.protocol.specs.Tests.{firstRefusal}
 use Rattle.protocol.specs.Frame.{finalize, blockCertificate, dummyCertificate, finalizeCertificate}
-use Rattle.protocol.specs.State.{State, at, last, decode, flag, isNotarized}
+use Rattle.protocol.specs.State.{State, at, decode, flag, isNotarized}
 use Rattle.protocol.specs.View.{linked, quorum, isDummy}
 use Rattle.protocol.specs.Sound.{view, sound}
 use Rattle.protocol.specs.Answer.{pass, onBlock, onDummy, certificateKind}
 use Rattle.protocol.specs.Move.{Step, unused, written, moved, unlessMoveRefused, passesBy, step, dummyVoteStep, outputStep, passStep, proposeStep, blockVoteStep, idleStep, moveRows, moveCall}
 use Rattle.protocol.specs.Fetch.{hasCertificate, unlessFetchRefused, fetchRows, fetchCall}
 use Rattle.protocol.specs.Certificates.{certificateFrame}
-use Rattle.protocol.specs.RowLaws.{row-passes, in-range}
+use Rattle.protocol.specs.RowLaws.{row-passes}
 use Rattle.protocol.specs.SoundLaws.{SoundState, sound-decode}
 use Rattle.conduct.specs.Fields.{blockCertificateFields, dummyCertificateFields, finalizeCertificateFields}
 use Rattle.conduct.specs.Readable.{Said, SameSetting, DigestSized}

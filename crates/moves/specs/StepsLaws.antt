@@ -1,7 +1,7 @@
 -- What the writes of each step leave: the step's frames in the reply and the step's state in the book.
 use Prim.Native.Nat.{ℕ, _+_}
 use native.Mathlib.Omega.{arith}
-use mathlib.Core.Path.{_≡_, refl, ap, _∙_}
+use mathlib.Core.Path.{_≡_, ap, _∙_}
 use mathlib.Core.Bool.{Bool, true, false, not, cond}
 use mathlib.Core.List.{[], _∷_, _++_, append-nil}
 use lib.ListN.{length}

@@ -3,8 +3,8 @@ use Prim.Native.Nat.{ℕ, zero, suc, _≤_}
 use native.Mathlib.Omega.{arith}
 use native.Mathlib.Decide.{ℕ-discrete}
 use mathlib.Core.Path.{_≡_, refl, sym, ap, subst}
-use mathlib.Core.Logic.{_⊎_, inl, inr, _≢_, ⊎-elim}
-use mathlib.Core.Bool.{true, false}
+use mathlib.Core.Logic.{⊎-elim}
+use mathlib.Core.Bool.{true}
 use mathlib.Core.List.{List, [], _∷_, _++_, List·Memᴰ, List·Memᴰ·head, List·Memᴰ·eq-of-singleton, List·Memᴰ·append-cases, List·Memᴰ·not-nil, Memᴰ·append-left, Memᴰ·append-right}
 use mathlib.Core.Option.{Option, some, none}
 use lib.ListN.{length}
@@ -18,7 +18,7 @@ use Rattle.protocol.specs.Answer.{accepted, done}
 use Rattle.protocol.specs.Certificates.{certificateFrame}
 use Rattle.protocol.specs.Fetch.{hasCertificate, certificateIf, certificatesAt, certificatesTo, everyCertificate, unlessFetchRefused, fetchRows, fetchCall}
 use Rattle.protocol.specs.TestsLaws.{cond-elim}
-use Rattle.protocol.specs.RowLaws.{row-passes, pass-row, in-range, range-in}
+use Rattle.protocol.specs.RowLaws.{row-passes, in-range, range-in}
 
 -- ---- what the rows of Fetch say
 -- a certificate that a state gives: its kind, its height, and that the state has it
@@ -71,7 +71,8 @@ module _ (s : State) where
       (hasCertificate s k h ≡ true) × (frame ≡ certificateFrame s k h)
   unfolding certificateIf
   in-if k h {frame} =
-      cond-elim (λ (l : List Bytes). List·Memᴰ frame l → (hasCertificate s k h ≡ true) × (frame ≡ certificateFrame s k h))
+      cond-elim
+      (λ (l : List Bytes). List·Memᴰ frame l → (hasCertificate s k h ≡ true) × (frame ≡ certificateFrame s k h))
       (hasCertificate s k h) (λ has m. (has, List·Memᴰ·eq-of-singleton m)) (λ lacks m. absurd (List·Memᴰ·not-nil m))
 
   -- a kind is one of three
@@ -98,10 +99,14 @@ module _ (s : State) where
 
   in-at : (h : ℕ) {frame : Bytes} → List·Memᴰ frame (certificatesAt s h) → Of h frame
   unfolding certificatesAt isCertificate inRange
-  in-at h {frame} m = ⊎-elim (λ a. let (has, e) = in-if 5 h a in (5, refl, has, e)) rest (List·Memᴰ·append-cases (certificateIf s 5 h) m)
+  in-at h {frame} m =
+      ⊎-elim (λ a. let (has, e) = in-if 5 h a in (5, refl, has, e)) rest
+      (List·Memᴰ·append-cases (certificateIf s 5 h) m)
     where
       rest : List·Memᴰ frame (certificateIf s 6 h ++ certificateIf s 7 h) → Of h frame
-      rest m = ⊎-elim (λ a. let (has, e) = in-if 6 h a in (6, refl, has, e)) (λ b. let (has, e) = in-if 7 h b in (7, refl, has, e)) (List·Memᴰ·append-cases (certificateIf s 6 h) m)
+      rest m =
+          ⊎-elim (λ a. let (has, e) = in-if 6 h a in (6, refl, has, e))
+          (λ b. let (has, e) = in-if 7 h b in (7, refl, has, e)) (List·Memᴰ·append-cases (certificateIf s 6 h) m)
 
   to-in : (k h to : ℕ) → isCertificate k ≡ true → 1 ≤ h → h ≤ to → hasCertificate s k h ≡ true →
       List·Memᴰ (certificateFrame s k h) (certificatesTo s to)
@@ -109,15 +114,18 @@ module _ (s : State) where
   to-in k h zero e low high has = absurd (omega arith)
   to-in k h (suc to) e low high has = go (ℕ-discrete h (suc to)) (λ l. to-in k h to e low l has)
     where
-      go : Dec (h ≡ suc to) → (h ≤ to → List·Memᴰ (certificateFrame s k h) (certificatesTo s to)) → List·Memᴰ (certificateFrame s k h) (certificatesTo s to ++ certificatesAt s (suc to))
-      go (yes q) below = Memᴰ·append-right (certificatesTo s to) (subst (λ (j : ℕ). List·Memᴰ (certificateFrame s k h) (certificatesAt s j)) q (at-in k h e has))
+      go : Dec (h ≡ suc to) → (h ≤ to → List·Memᴰ (certificateFrame s k h) (certificatesTo s to)) →
+          List·Memᴰ (certificateFrame s k h) (certificatesTo s to ++ certificatesAt s (suc to))
+      go (yes q) below = Memᴰ·append-right (certificatesTo s to)
+          (subst (λ (j : ℕ). List·Memᴰ (certificateFrame s k h) (certificatesAt s j)) q (at-in k h e has))
       go (no q) below = Memᴰ·append-left (certificatesAt s (suc to)) (below (omega arith))
 
   in-to : (to : ℕ) {frame : Bytes} → List·Memᴰ frame (certificatesTo s to) → (h : ℕ) × (1 ≤ h) × (h ≤ to) × Of h frame
   unfolding certificatesTo
   in-to zero m = absurd (List·Memᴰ·not-nil m)
   in-to (suc to) {frame} m =
-      ⊎-elim (λ a. let (h, low, high, of) = in-to to a in (h, low, omega arith, of)) (λ b. (suc to, omega arith, omega arith, in-at (suc to) b))
+      ⊎-elim (λ a. let (h, low, high, of) = in-to to a in (h, low, omega arith, of))
+      (λ b. (suc to, omega arith, omega arith, in-at (suc to) b))
       (List·Memᴰ·append-cases (certificatesTo s to) m)
 
   -- each certificate that the state gives is among all of them, and there is no other
@@ -147,8 +155,10 @@ module _ (digest : Bytes → Bytes) (book reply : Bytes) where
           rw (List·Memᴰ·eq-of-singleton m) (given-in (decode book) k h (fetch-tested digest book k h reply e .gives))
       go (some number) e m = unfold unlessFetchRefused in absurd (List·Memᴰ·not-nil m)
 
-  pub in-fetched : sound digest book ≡ true → 224 ≤ length reply → {frame : Bytes} → List·Memᴰ frame (everyCertificate (decode book)) →
-      (k : ℕ) × (h : ℕ) × (fetchCall digest book k h reply .answer ≡ accepted done) × (fetchCall digest book k h reply .frames ≡ frame ∷ [])
+  pub in-fetched : sound digest book ≡ true → 224 ≤ length reply →
+      {frame : Bytes} → List·Memᴰ frame (everyCertificate (decode book)) →
+      (k : ℕ) × (h : ℕ) × (fetchCall digest book k h reply .answer ≡ accepted done) ×
+      (fetchCall digest book k h reply .frames ≡ frame ∷ [])
   unfolding fetchCall unlessFetchRefused
   in-fetched ok room m =
       let (k, h, gives, e) = in-given (decode book) m in

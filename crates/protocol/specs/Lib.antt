@@ -26,6 +26,7 @@ pub mod StateLaws
 pub mod QuorumLaws
 pub mod FlagLaws
 pub mod MoveLaws
+pub mod DeliverLaws
 pub mod FetchLaws
 pub mod RowLaws
 pub mod BytesLaws
