@@ -172,22 +172,22 @@ module _ (digest : Bytes → Bytes) where
   Wrote s statement before = (m : Member) × (frame : Bytes) ×
       List·Memᴰ m before × (m .replica ≡ s) × List·Memᴰ frame (writes m) × (statementOf frame s ≡ some statement)
 
-  -- a statement in an honest name is delivered only after that replica wrote it; asked of deliveries to honest replicas alone
-  unfoldable pub NotForged : (ℕ → Type 0) → List Member → Type 0
-  NotForged honest list =
+  -- a statement in one of these names is delivered only after that replica wrote it; asked of deliveries to these books alone
+  unfoldable pub NotForged : (books names : ℕ → Type 0) → List Member → Type 0
+  NotForged books names list =
       (before : List Member) (m : Member) (after : List Member) (frame : Bytes) (s : ℕ) (statement : Statement) →
-      list ≡ before ++ (m ∷ after) → honest (m .replica) → honest s →
+      list ≡ before ++ (m ∷ after) → books (m .replica) → names s →
       List·Memᴰ frame (delivers m) → statementOf frame s ≡ some statement → Wrote s statement before
 
   -- a member delivers or writes this block
   unfoldable pub Shows : Member → Bytes → Type 0
   Shows m block = (frame : Bytes) × List·Memᴰ frame (delivers m ++ writes m) × (blockIn frame ≡ some block)
 
-  -- no two different blocks delivered or written share a digest; asked of honest replicas' members alone
-  unfoldable pub NoCollision : (ℕ → Type 0) → List Member → Type 0
-  NoCollision honest list =
+  -- no two different blocks delivered or written share a digest; asked of the members of these books alone
+  unfoldable pub NoCollision : (books : ℕ → Type 0) → List Member → Type 0
+  NoCollision books list =
       (m m′ : Member) (block block′ : Bytes) → List·Memᴰ m list → List·Memᴰ m′ list →
-      honest (m .replica) → honest (m′ .replica) →
+      books (m .replica) → books (m′ .replica) →
       Shows m block → Shows m′ block′ → digest block ≡ digest block′ → block ≡ block′
 
   -- ---- the claim
@@ -195,13 +195,14 @@ module _ (digest : Bytes → Bytes) where
   unfoldable pub Reads : Member → Bytes → Type 0
   Reads m part = (buffer : Bytes) × (m .call ≡ reading buffer) × (part ≡ readPart digest (m .book) buffer)
 
-  -- demand 3: of two logs read in the list from honest replicas, or twice from one, one is a beginning of the other
+  -- demand 3: of two logs read in the list from honest replicas, or twice from one, one is a beginning of the other;
+  -- only honest replicas' books and names are meant in what is granted
   unfoldable pub Agreement : Type 0
   Agreement =
       (n dishonest : ℕ) (list : List Member) →
       FewDishonest n dishonest →
       ((s : ℕ) → HonestIn n dishonest s → KeepsOneBook n list s) →
-      NotForged (HonestIn n dishonest) list →
+      NotForged (HonestIn n dishonest) (HonestIn n dishonest) list →
       NoCollision (HonestIn n dishonest) list →
       (m m′ : Member) (part part′ : Bytes) → List·Memᴰ m list → List·Memᴰ m′ list →
       HonestIn n dishonest (m .replica) → HonestIn n dishonest (m′ .replica) →

@@ -18,7 +18,8 @@ use Rattle.protocol.specs.TestsLaws.{cond-elim}
 use Rattle.protocol.specs.StateLaws.{ShapedHeight}
 use Rattle.protocol.specs.PlaceLaws.{shaped-at}
 use Rattle.protocol.specs.SoundLaws.{SoundState, SoundHeight}
-use Rattle.conduct.specs.HeightKeptLaws.{Replaces, with-height-sound}
+use Rattle.conduct.specs.Grows.{Grows}
+use Rattle.conduct.specs.HeightKeptLaws.{Replaces, grows, with-height-sound}
 use Rattle.conduct.specs.KeepLaws.{replaces-self, masks-replace, proposal-replaces, vote-replaces, notarized-replaces, notarize-replaces}
 
 module _ (digest : Bytes → Bytes) (s : State) (is : SoundState digest s) (frame : Bytes) (read : ReadFrame s frame) where
@@ -101,6 +102,14 @@ module _ (digest : Bytes → Bytes) (s : State) (is : SoundState digest s) (fram
   placed : (k : ℕ) → 1 ≤ k → k ≤ last s → (y : Height) → Replaces v k (at s k) y → SoundState digest (withHeight s k y)
   placed zero low high y fits = absurd (omega arith)
   placed (suc i) low high y fits = with-height-sound s i high y digest is fits
+
+  placed-grows : (k : ℕ) → 1 ≤ k → k ≤ last s → (y : Height) → Replaces v k (at s k) y → Grows v (view (withHeight s k y))
+  placed-grows zero low high y fits = absurd (omega arith)
+  placed-grows (suc i) low high y fits = grows s i high y digest is fits
+
+  -- what a frame keeps leaves all that was notarized, and every member of the masks
+  pub keep-grows : (y : Height) → keep digest s frame ≡ some y → Grows v (view (withHeight s h y))
+  keep-grows y e = placed-grows h (read .low) (read .high) y (subst (OnSome Fits) e keep-fits)
 
   pub keep-sound : (y : Height) → keep digest s frame ≡ some y → SoundState digest (withHeight s h y)
   keep-sound y e = placed h (read .low) (read .high) y (subst (OnSome Fits) e keep-fits)
