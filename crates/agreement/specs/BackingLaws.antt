@@ -2,9 +2,8 @@
 use Prim.Native.Nat.{ℕ, _+_, _%_, _^_}
 use native.Mathlib.Omega.{arith}
 use mathlib.Core.Path.{_≡_}
-use mathlib.Core.Bool.{true, false, _&&_, not}
+use mathlib.Core.Bool.{Bool, true, false, _&&_, not}
 use mathlib.Core.List.{[], _∷_}
-use mathlib.Core.Option.{Option, some, none}
 use lib.Dec.{eqb, leb}
 use borrow.Author.Tests.{eqb-false, leb-true, le-leb}
 use Rattle.protocol.specs.Bytes.{Bytes, same}
@@ -18,32 +17,75 @@ use Rattle.protocol.specs.TestsLaws.{and-true, cond-elim}
 use Rattle.protocol.specs.View.{View, quorum}
 use Rattle.agreement.specs.Lists.{Statement, finalizes, votesBlock, votesDummy}
 
-abbrev pub IfSome : {A : Type 0} → (A → Type 0) → Option A → Type 0
-IfSome P none = Unit {0}
-IfSome P (some a) = P a
-
 module _ (digest : Bytes → Bytes) where
   -- `W t st`: replica `t` has stated `st`; `S p`: block `p` has been seen
   module _ (W : ℕ → Statement → Type 0) (S : Bytes → Type 0) where
-    pub record Backed (h : ℕ) (x : Height) : Type 0 where
-      pub dummies : (t : ℕ) → inMask (x .dummyMask) t ≡ true → W t (votesDummy h)
-      pub finalizations : (t : ℕ) → inMask (x .finalizeMask) t ≡ true → W t (finalizes h)
+    -- what a book of any kind shows of height `h`: three masks, and the notarized block, if there is one
+    pub record Shown (h dummyMask finalizeMask certificateMask : ℕ) (hasBlock : Bool) (block : Bytes) : Type 0 where
+      pub dummies : (t : ℕ) → inMask dummyMask t ≡ true → W t (votesDummy h)
+      pub finalizations : (t : ℕ) → inMask finalizeMask t ≡ true → W t (finalizes h)
+      pub certifiers : (t : ℕ) → inMask certificateMask t ≡ true → W t (votesBlock h (digest block))
+      pub notarized-seen : hasBlock ≡ true → S block
+
+    -- what only a replica keeps: votes for blocks, and the held proposal
+    pub record Held (h : ℕ) (x : Height) : Type 0 where
       pub ballots : (t : ℕ) → inMask (x .voterMask) t ≡ true → W t (votesBlock h (voteOf x t))
-      pub certifiers : (t : ℕ) → inMask (x .certificateMask) t ≡ true → W t (votesBlock h (digest (x .notarized)))
       pub proposal-seen : holdsProposal x ≡ true → S (x .proposal)
-      pub notarized-seen : isNotarized x ≡ true → S (x .notarized)
+
+    abbrev pub ShownOf : ℕ → Height → Type 0
+    ShownOf h x = Shown h (x .dummyMask) (x .finalizeMask) (x .certificateMask) (isNotarized x) (x .notarized)
+
+    pub record Backed (h : ℕ) (x : Height) : Type 0 where
+      pub shown : ShownOf h x
+      pub held : Held h x
 
   -- more is stated and seen later
-  pub later : {W W′ : ℕ → Statement → Type 0} {S S′ : Bytes → Type 0} {h : ℕ} {x : Height} →
-      ((t : ℕ) (st : Statement) → W t st → W′ t st) → ((p : Bytes) → S p → S′ p) → Backed W S h x → Backed W′ S′ h x
-  later f g k = record {
-    dummies = λ t e. f t _ (k .dummies t e);
-    finalizations = λ t e. f t _ (k .finalizations t e);
-    ballots = λ t e. f t _ (k .ballots t e);
-    certifiers = λ t e. f t _ (k .certifiers t e);
-    proposal-seen = λ e. g _ (k .proposal-seen e);
-    notarized-seen = λ e. g _ (k .notarized-seen e);
-  }
+  module _ {W W′ : ℕ → Statement → Type 0} {S S′ : Bytes → Type 0} {h : ℕ}
+      (states : (t : ℕ) (st : Statement) → W t st → W′ t st) (sees : (p : Bytes) → S p → S′ p) where
+    pub shown-later : {d f c : ℕ} {has : Bool} {block : Bytes} → Shown W S h d f c has block → Shown W′ S′ h d f c has block
+    shown-later k = record {
+      dummies = λ t e. states t _ (k .dummies t e);
+      finalizations = λ t e. states t _ (k .finalizations t e);
+      certifiers = λ t e. states t _ (k .certifiers t e);
+      notarized-seen = λ e. sees _ (k .notarized-seen e);
+    }
+
+    pub later : {x : Height} → Backed W S h x → Backed W′ S′ h x
+    later k = record {
+      shown = shown-later (k .shown);
+      held = record {
+        ballots = λ t e. states t _ (k .held .ballots t e);
+        proposal-seen = λ e. sees _ (k .held .proposal-seen e);
+      };
+    }
+
+  -- ---- the ways to keep something that every book shows
+  module _ {W : ℕ → Statement → Type 0} {S : Bytes → Type 0} {h d f c : ℕ} {has : Bool} {block : Bytes}
+      (k : Shown W S h d f c has block) where
+    pub shown-dummies : (mask : ℕ) → ((t : ℕ) → inMask mask t ≡ true → W t (votesDummy h)) → Shown W S h mask f c has block
+    shown-dummies mask voted = record {
+      dummies = voted;
+      finalizations = k .finalizations;
+      certifiers = k .certifiers;
+      notarized-seen = k .notarized-seen;
+    }
+
+    pub shown-finalizations : (mask : ℕ) → ((t : ℕ) → inMask mask t ≡ true → W t (finalizes h)) → Shown W S h d mask c has block
+    shown-finalizations mask voted = record {
+      dummies = k .dummies;
+      finalizations = voted;
+      certifiers = k .certifiers;
+      notarized-seen = k .notarized-seen;
+    }
+
+    pub shown-notarized : (mask : ℕ) (p : Bytes) → ((t : ℕ) → inMask mask t ≡ true → W t (votesBlock h (digest p))) → S p →
+        (now : Bool) → Shown W S h d f mask now p
+    shown-notarized mask p voted seen now = record {
+      dummies = k .dummies;
+      finalizations = k .finalizations;
+      certifiers = voted;
+      notarized-seen = λ e. seen;
+    }
 
   module _ {W : ℕ → Statement → Type 0} {S : Bytes → Type 0} {h : ℕ} {x : Height} (k : Backed W S h x) where
     -- ---- the ways to keep something
@@ -51,36 +93,24 @@ module _ (digest : Bytes → Bytes) where
         Backed W S h (withMasks x m (x .finalizeMask))
     unfolding withMasks holdsProposal isNotarized voteOf
     backed-dummies m f = record {
-      dummies = f;
-      finalizations = k .finalizations;
-      ballots = k .ballots;
-      certifiers = k .certifiers;
-      proposal-seen = k .proposal-seen;
-      notarized-seen = k .notarized-seen;
+      shown = shown-dummies (k .shown) m f;
+      held = record { ballots = k .held .ballots; proposal-seen = k .held .proposal-seen };
     }
 
     pub backed-finalizations : (m : ℕ) → ((t : ℕ) → inMask m t ≡ true → W t (finalizes h)) →
         Backed W S h (withMasks x (x .dummyMask) m)
     unfolding withMasks holdsProposal isNotarized voteOf
     backed-finalizations m f = record {
-      dummies = k .dummies;
-      finalizations = f;
-      ballots = k .ballots;
-      certifiers = k .certifiers;
-      proposal-seen = k .proposal-seen;
-      notarized-seen = k .notarized-seen;
+      shown = shown-finalizations (k .shown) m f;
+      held = record { ballots = k .held .ballots; proposal-seen = k .held .proposal-seen };
     }
 
     pub backed-notarized : (m : ℕ) (p : Bytes) → ((t : ℕ) → inMask m t ≡ true → W t (votesBlock h (digest p))) → S p →
         Backed W S h (withNotarized x m p)
     unfolding withNotarized holdsProposal isNotarized voteOf
     backed-notarized m p f s = record {
-      dummies = k .dummies;
-      finalizations = k .finalizations;
-      ballots = k .ballots;
-      certifiers = f;
-      proposal-seen = λ e. k .proposal-seen (parity e);
-      notarized-seen = λ e. s;
+      shown = shown-notarized (k .shown) m p f s _;
+      held = record { ballots = k .held .ballots; proposal-seen = λ e. k .held .proposal-seen (parity e) };
     }
       where
         parity : eqb ((x .status + 2) % 2) 1 ≡ true → eqb (x .status % 2) 1 ≡ true
@@ -89,12 +119,13 @@ module _ (digest : Bytes → Bytes) where
     pub backed-proposal : (p : Bytes) → holdsProposal x ≡ false → S p → Backed W S h (withProposal x p)
     unfolding withProposal holdsProposal isNotarized voteOf
     backed-proposal p n s = record {
-      dummies = k .dummies;
-      finalizations = k .finalizations;
-      ballots = k .ballots;
-      certifiers = k .certifiers;
-      proposal-seen = λ e. s;
-      notarized-seen = λ e. k .notarized-seen (order e);
+      shown = record {
+        dummies = k .shown .dummies;
+        finalizations = k .shown .finalizations;
+        certifiers = k .shown .certifiers;
+        notarized-seen = λ e. k .shown .notarized-seen (order e);
+      };
+      held = record { ballots = k .held .ballots; proposal-seen = λ e. s };
     }
       where
         order : leb 2 (x .status + 1) ≡ true → leb 2 (x .status) ≡ true
@@ -104,20 +135,13 @@ module _ (digest : Bytes → Bytes) where
         ((t : ℕ) → inMask (x .voterMask + 2 ^ s) t ≡ true → W t (votesBlock h (voteOf (withVote x s d) t))) →
         Backed W S h (withVote x s d)
     unfolding withVote holdsProposal isNotarized voteOf
-    backed-vote s d f = record {
-      dummies = k .dummies;
-      finalizations = k .finalizations;
-      ballots = f;
-      certifiers = k .certifiers;
-      proposal-seen = k .proposal-seen;
-      notarized-seen = k .notarized-seen;
-    }
+    backed-vote s d f = record { shown = k .shown; held = record { ballots = f; proposal-seen = k .held .proposal-seen } }
 
     pub backed-notarize : (v : View) → Backed W S h (notarize digest v x)
     unfolding notarize votersFor
     backed-notarize v =
         cond-elim (λ (y : Height). Backed W S h y) (allOf (not (isNotarized x) ∷ holdsProposal x ∷ quorum v voters ∷ []))
-        (λ e. backed-notarized voters (x .proposal) (λ t z. agreed t (inMask-maskOf _ (v .n) t z .1)) (k .proposal-seen (row _ 1 e)))
+        (λ e. backed-notarized voters (x .proposal) (λ t z. agreed t (inMask-maskOf _ (v .n) t z .1)) (k .held .proposal-seen (row _ 1 e)))
         (λ e. k)
       where
         voters : ℕ
@@ -127,4 +151,4 @@ module _ (digest : Bytes → Bytes) where
             W t (votesBlock h (digest (x .proposal)))
         agreed t e =
             let q = and-true (inMask (x .voterMask) t) (same (voteOf x t) (digest (x .proposal))) e in
-            rw (← same-eq (voteOf x t) (digest (x .proposal)) (q .1)) (k .ballots t (q .0))
+            rw (← same-eq (voteOf x t) (digest (x .proposal)) (q .1)) (k .held .ballots t (q .0))

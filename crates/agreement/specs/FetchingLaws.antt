@@ -8,7 +8,8 @@ use mathlib.Core.Option.{Option, some, none}
 use lib.ListN.{getD}
 use lib.Dec.{eqb}
 use Rattle.protocol.specs.Bytes.{Bytes}
-use Rattle.protocol.specs.Fetch.{certificateFrame, fetchCall, fetchRows, unlessFetchRefused}
+use Rattle.protocol.specs.Certificates.{certificateFrame}
+use Rattle.protocol.specs.Fetch.{fetchCall, fetchRows, unlessFetchRefused}
 use Rattle.protocol.specs.RowLaws.{in-range, row-passes}
 use Rattle.protocol.specs.State.{Height, State, at, decode, last, noHeight}
 use Rattle.protocol.specs.Tests.{firstRefusal}
@@ -19,8 +20,8 @@ use Rattle.agreement.specs.MovingLaws.{blockCertificate-says, dummyCerti
 use Rattle.agreement.specs.RunLaws.{Good, Seen, States, backed-more, unchanged, wrote-last}
 use Rattle.agreement.specs.StatementsLaws.{stated-nothing}
 
-module _ (digest : Bytes → Bytes) (n dishonest : ℕ) (P : List Member) (m : Member) (s : ℕ) (book : Bytes) (k h : ℕ)
-    (reply : Bytes) (g : Good digest n dishonest P s (decode book)) where
+module _ (digest : Bytes → Bytes) (n : ℕ) (books names : ℕ → Type 0) (P : List Member) (m : Member) (s : ℕ) (book : Bytes) (k h : ℕ)
+    (reply : Bytes) (g : Good digest n books names P s (decode book)) where
   abbrev b : State
   b = decode book
 
@@ -28,16 +29,16 @@ module _ (digest : Bytes → Bytes) (n dishonest : ℕ) (P : List Member) (m : M
   P′ = P ++ (m ∷ [])
 
   abbrev Was : Statement → Type 0
-  Was st = States digest n dishonest P s st
+  Was st = States digest n books names P s st
 
   abbrev BackedAs : ℕ → Height → Type 0
-  BackedAs j x = Backed digest (States digest n dishonest P) (Seen digest n dishonest P) j x
+  BackedAs j x = Backed digest (States digest n books names P) (Seen digest n books names P) j x
 
   backed-at : 1 ≤ h → BackedAs h (at b h)
   unfolding at
   backed-at low =
       subst (λ (j : ℕ). BackedAs j (getD (b .heights) (h - 1) noHeight)) (let e : suc (h - 1) ≡ h = omega arith in e)
-      (g .backed (h - 1))
+      (g .kept .backed (h - 1))
 
   certificate-old : 1 ≤ h → (st : Statement) → statementOf digest (certificateFrame b k h) s ≡ some st → Was st
   unfolding certificateFrame
@@ -45,15 +46,15 @@ module _ (digest : Bytes → Bytes) (n dishonest : ℕ) (P : List Member) (m : M
       let x = at b h in
       cond-elim (λ (f : Bytes). statementOf digest f s ≡ some st → Was st) (eqb k 5)
       (λ z e. let q = blockCertificate-says digest s h s st (x .certificateMask) (x .notarized) e in
-      rw (q .0) (backed-at low .certifiers s (q .1)))
+      rw (q .0) (backed-at low .shown .certifiers s (q .1)))
       (λ z. cond-elim (λ (f : Bytes). statementOf digest f s ≡ some st → Was st) (eqb k 6)
       (λ y e. let q = dummyCertificate-says digest s h s st (x .dummyMask) e in
-      rw (q .0) (backed-at low .dummies s (q .1)))
+      rw (q .0) (backed-at low .shown .dummies s (q .1)))
       (λ y e. let q = finalizeCertificate-says digest s h s st (x .finalizeMask) e in
-      rw (q .0) (backed-at low .finalizations s (q .1))))
+      rw (q .0) (backed-at low .shown .finalizations s (q .1))))
 
   stated-before : writes digest m ≡ certificateFrame b k h ∷ [] → 1 ≤ h → (st : Statement) →
-      States digest n dishonest P′ s st → Was st
+      States digest n books names P′ s st → Was st
   stated-before e low st w honest = go (wrote-last digest s st P m (w honest))
     where
       go : Wrote digest s st P ⊎
@@ -64,21 +65,23 @@ module _ (digest : Bytes → Bytes) (n dishonest : ℕ) (P : List Member) (m : M
           let z = List·Memᴰ·eq-of-singleton (rw e at i) in certificate-old low st (rw z at says) honest
 
   -- a replica that fetches stays as good as it was
-  pub fetch-good : writes digest m ≡ fetchCall digest book k h reply .frames → Good digest n dishonest P′ s b
+  pub fetch-good : writes digest m ≡ fetchCall digest book k h reply .frames → Good digest n books names P′ s b
   unfolding fetchCall unlessFetchRefused fetchRows
   fetch-good = go (firstRefusal (fetchRows digest book k h reply)) refl
     where
       go : (r : Option ℕ) → firstRefusal (fetchRows digest book k h reply) ≡ r →
           writes digest m ≡ unlessFetchRefused r (certificateFrame b k h) reply .frames →
-          Good digest n dishonest P′ s b
-      go (some number) p e = unchanged digest n dishonest P m s b g (λ z. e)
+          Good digest n books names P′ s b
+      go (some number) p e = unchanged digest n books names P m s b g (λ z. e)
       go none p e =
           let r4 = row-passes _ _ (row-passes _ _ p .1) in
           let r6 = row-passes _ _ (r4 .1) in
           let low = in-range 1 (last b) h (r6 .0) .0 in
           record {
             same-n = g .same-n;
-            shaped = g .shaped;
-            backed = λ i. backed-more digest n dishonest P m (g .backed i);
+            kept = record {
+              shaped = g .kept .shaped;
+              backed = λ i. backed-more digest n books names P m (g .kept .backed i);
+            };
             consistent = stated-nothing (g .consistent) (λ st w. inl (stated-before e low st w)) (λ q. q) (λ q. q);
           }

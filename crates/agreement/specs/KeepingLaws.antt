@@ -1,17 +1,15 @@
 -- What a delivery keeps is backed by the frame that it reads.
 use Prim.Native.Nat.{ℕ, _+_, _^_, _≤_, _<_}
-use native.Mathlib.Omega.{arith}
-use mathlib.Core.Path.{_≡_, refl, sym, _∙_}
+use mathlib.Core.Path.{_≡_, sym, _∙_}
 use mathlib.Core.Logic.{_⊎_, inl, inr}
-use mathlib.Core.Bool.{Bool, true, false, not, cond, true≢false}
+use mathlib.Core.Bool.{true, false, not, true≢false}
 use mathlib.Core.List.{[], _∷_}
-use mathlib.Core.Option.{Option, some, none}
-use lib.ListN.{length, length-drop, length-take}
+use mathlib.Core.Option.{some}
 use lib.Dec.{eqb}
-use borrow.Author.Tests.{eqb-true, eqb-false}
-use Rattle.protocol.specs.Bytes.{Bytes, part}
+use Rattle.protocol.specs.Bytes.{Bytes}
 use Rattle.protocol.specs.ChangeLaws.{shaped-masks, shaped-notarized, shaped-proposal, shaped-vote}
 use Rattle.protocol.specs.Deliver.{keep, keepBlockCertificate, keepBlockVote, keepDummyCertificate, keepDummyVote, keepFinalize, keepFinalizeCertificate, keepProposal, notarize, votersFor, withMasks, withNotarized, withProposal, withVote}
+use Rattle.protocol.specs.DeliverLaws.{ReadFrame, OnSome, unless-known, block-size, digest-size, signer-few, keep-cases}
 use Rattle.protocol.specs.Frame.{carriesBlock, frameBlock, frameDigest, frameHeight, kind, signer, signerMask}
 use Rattle.protocol.specs.Mask.{inMask, union}
 use Rattle.protocol.specs.MaskLaws.{inMask-add, inMask-maskOf}
@@ -22,7 +20,7 @@ use Rattle.protocol.specs.Tests.{allOf}
 use Rattle.protocol.specs.TestsLaws.{cond-elim, eqb-self, or-true}
 use Rattle.protocol.specs.View.{View, quorum}
 use Rattle.protocol.specs.VoteLaws.{vote-same, vote-other}
-use Rattle.agreement.specs.BackingLaws.{Backed, IfSome, backed-dummies, backed-finalizations, backed-notarize, backed-notarized, backed-proposal, backed-vote}
+use Rattle.agreement.specs.BackingLaws.{Backed, backed-dummies, backed-finalizations, backed-notarize, backed-notarized, backed-proposal, backed-vote}
 use Rattle.agreement.specs.Lists.{Statement, blockIn, finalizes, statementOf, votesBlock, votesDummy, when}
 
 -- ---- what holds of every replica in a mask holds where the mask grows
@@ -89,7 +87,7 @@ module _ (digest : Bytes → Bytes) {W : ℕ → Statement → Type 0} {S : Byte
     (k : Backed digest W S (frameHeight f) (at b (frameHeight f))) (z : ShapedHeight (at b (frameHeight f)))
     (said : (t : ℕ) (st : Statement) → statementOf digest f t ≡ some st → W t st)
     (seen : (p : Bytes) → blockIn f ≡ some p → S p)
-    (few : kind f ≡ 2 → signer f < 16) (long : length f ≡ 224) (some-kind : 1 ≤ kind f) (last-kind : kind f ≤ 7) where
+    (read : ReadFrame b f) (most : b .n ≤ 16) where
   abbrev h : ℕ
   h = frameHeight f
 
@@ -99,18 +97,13 @@ module _ (digest : Bytes → Bytes) {W : ℕ → Statement → Type 0} {S : Byte
   abbrev Good : Height → Type 0
   Good y = Backed digest W S h y × ShapedHeight y
 
-  block-size : length (frameBlock f) ≡ 176
-  unfolding frameBlock
-  block-size = rw length-drop (omega arith)
-
-  digest-size : length (frameDigest f) ≡ 32
-  unfolding frameDigest part
-  digest-size = rw (length-take, length-drop) (omega arith)
+  few : kind f ≡ 2 → signer f < 16
+  few = signer-few read most
 
   keep-1 : kind f ≡ 1 → holdsProposal x ≡ false → Good (notarize digest (view b) (withProposal x (frameBlock f)))
   keep-1 e n = (
     backed-notarize digest (backed-proposal digest k (frameBlock f) n (seen (frameBlock f) (carried-1 f e))) (view b),
-    shaped-notarize (withProposal x (frameBlock f)) (shaped-proposal x (frameBlock f) block-size z) digest (view b),
+    shaped-notarize (withProposal x (frameBlock f)) (shaped-proposal x (frameBlock f) (block-size read) z) digest (view b),
   )
 
   keep-2 : kind f ≡ 2 → inMask (x .voterMask) (signer f) ≡ false →
@@ -118,7 +111,7 @@ module _ (digest : Bytes → Bytes) {W : ℕ → Statement → Type 0} {S : Byte
   keep-2 e n = (
     backed-notarize digest
         (backed-vote digest k (signer f) (frameDigest f) (λ t q. vote t (inMask-add (x .voterMask) (signer f) t n q))) (view b),
-    shaped-notarize (withVote x (signer f) (frameDigest f)) (shaped-vote x (signer f) (frameDigest f) (few e) digest-size z) digest
+    shaped-notarize (withVote x (signer f) (frameDigest f)) (shaped-vote x (signer f) (frameDigest f) (few e) (digest-size read) z) digest
         (view b),
   )
     where
@@ -127,60 +120,45 @@ module _ (digest : Bytes → Bytes) {W : ℕ → Statement → Type 0} {S : Byte
 
       vote : (t : ℕ) → (inMask (x .voterMask) t ≡ true) ⊎ (t ≡ signer f) → W t (votesBlock h (voted t))
       vote t (inl q) =
-          rw (vote-other x (signer f) (frameDigest f) z (few e) digest-size t (λ (r : t ≡ signer f). true≢false (sym (rw r at q) ∙ n)))
-          (k .ballots t q)
-      vote t (inr q) = rw (q, vote-same x (signer f) (frameDigest f) z (few e) digest-size) (said (signer f) _ (says-2 digest f e))
+          rw (vote-other x (signer f) (frameDigest f) z (few e) (digest-size read) t (λ (r : t ≡ signer f). true≢false (sym (rw r at q) ∙ n)))
+          (k .held .ballots t q)
+      vote t (inr q) = rw (q, vote-same x (signer f) (frameDigest f) z (few e) (digest-size read)) (said (signer f) _ (says-2 digest f e))
 
   keep-3 : kind f ≡ 3 → inMask (x .dummyMask) (signer f) ≡ false →
       Good (withMasks x (x .dummyMask + 2 ^ signer f) (x .finalizeMask))
   keep-3 e n =
-      let voted = with-one (x .dummyMask) (k .dummies) (signer f) n (said (signer f) _ (says-3 digest f e)) in
+      let voted = with-one (x .dummyMask) (k .shown .dummies) (signer f) n (said (signer f) _ (says-3 digest f e)) in
       (backed-dummies digest k _ voted, shaped-masks x _ _ z)
 
   keep-4 : kind f ≡ 4 → inMask (x .finalizeMask) (signer f) ≡ false →
       Good (withMasks x (x .dummyMask) (x .finalizeMask + 2 ^ signer f))
   keep-4 e n =
-      let voted = with-one (x .finalizeMask) (k .finalizations) (signer f) n (said (signer f) _ (says-4 digest f e)) in
+      let voted = with-one (x .finalizeMask) (k .shown .finalizations) (signer f) n (said (signer f) _ (says-4 digest f e)) in
       (backed-finalizations digest k _ voted, shaped-masks x _ _ z)
 
   keep-5 : kind f ≡ 5 → Good (withNotarized x (signerMask f) (frameBlock f))
   keep-5 e = (
     backed-notarized digest k (signerMask f) (frameBlock f) (λ t q. said t _ (says-5 digest f t e q)) (seen (frameBlock f) (carried-5 f e)),
-    shaped-notarized x (signerMask f) (frameBlock f) block-size z,
+    shaped-notarized x (signerMask f) (frameBlock f) (block-size read) z,
   )
 
   keep-6 : kind f ≡ 6 → Good (withMasks x (union (b .n) (x .dummyMask) (signerMask f)) (x .finalizeMask))
   keep-6 e =
-      let voted = with-all (x .dummyMask) (k .dummies) (b .n) (signerMask f) (λ t q. said t _ (says-6 digest f t e q)) in
+      let voted = with-all (x .dummyMask) (k .shown .dummies) (b .n) (signerMask f) (λ t q. said t _ (says-6 digest f t e q)) in
       (backed-dummies digest k _ voted, shaped-masks x _ _ z)
 
   keep-7 : kind f ≡ 7 → Good (withMasks x (x .dummyMask) (union (b .n) (x .finalizeMask) (signerMask f)))
   keep-7 e =
-      let voted = with-all (x .finalizeMask) (k .finalizations) (b .n) (signerMask f) (λ t q. said t _ (says-7 digest f t e q)) in
+      let voted = with-all (x .finalizeMask) (k .shown .finalizations) (b .n) (signerMask f) (λ t q. said t _ (says-7 digest f t e q)) in
       (backed-finalizations digest k _ voted, shaped-masks x _ _ z)
 
-  abbrev Good? : Option Height → Type 0
-  Good? o = IfSome Good o
-
-  -- nothing is kept where the frame is known
-  unless : (known : Bool) {y : Height} → (known ≡ false → Good y) → Good? (cond known none (some y))
-  unless true good = tt
-  unless false good = good refl
-
-  seventh : eqb (kind f) 1 ≡ false → eqb (kind f) 2 ≡ false → eqb (kind f) 3 ≡ false → eqb (kind f) 4 ≡ false →
-      eqb (kind f) 5 ≡ false → eqb (kind f) 6 ≡ false → kind f ≡ 7
-  seventh e1 e2 e3 e4 e5 e6 =
-      let n1 = eqb-false (kind f) 1 e1 in let n2 = eqb-false (kind f) 2 e2 in let n3 = eqb-false (kind f) 3 e3 in
-      let n4 = eqb-false (kind f) 4 e4 in let n5 = eqb-false (kind f) 5 e5 in let n6 = eqb-false (kind f) 6 e6 in
-      omega arith
-
-  pub keep-good : IfSome (λ (y : Height). Backed digest W S (frameHeight f) y × ShapedHeight y) (keep digest b f)
-  unfolding keep keepProposal keepBlockVote keepDummyVote keepFinalize keepBlockCertificate keepDummyCertificate keepFinalizeCertificate
-  keep-good =
-      cond-elim Good? (eqb (kind f) 1) (λ e. unless (holdsProposal x) (keep-1 (eqb-true _ _ e))) (λ e1.
-      cond-elim Good? (eqb (kind f) 2) (λ e. unless (inMask (x .voterMask) (signer f)) (keep-2 (eqb-true _ _ e))) (λ e2.
-      cond-elim Good? (eqb (kind f) 3) (λ e. unless (inMask (x .dummyMask) (signer f)) (keep-3 (eqb-true _ _ e))) (λ e3.
-      cond-elim Good? (eqb (kind f) 4) (λ e. unless (inMask (x .finalizeMask) (signer f)) (keep-4 (eqb-true _ _ e))) (λ e4.
-      cond-elim Good? (eqb (kind f) 5) (λ e. unless (isNotarized x) (λ q. keep-5 (eqb-true _ _ e))) (λ e5.
-      cond-elim Good? (eqb (kind f) 6) (λ e. unless (eqb (union (b .n) (x .dummyMask) (signerMask f)) (x .dummyMask)) (λ q. keep-6 (eqb-true _ _ e))) (λ e6.
-      unless (eqb (union (b .n) (x .finalizeMask) (signerMask f)) (x .finalizeMask)) (λ q. keep-7 (seventh e1 e2 e3 e4 e5 e6))))))))
+  pub keep-good : OnSome (λ (y : Height). Backed digest W S (frameHeight f) y × ShapedHeight y) (keep digest b f)
+  unfolding keepProposal keepBlockVote keepDummyVote keepFinalize keepBlockCertificate keepDummyCertificate keepFinalizeCertificate
+  keep-good = keep-cases digest b f read (λ _. OnSome Good)
+      (λ e. unless-known Good (holdsProposal x) (keep-1 e))
+      (λ e. unless-known Good (inMask (x .voterMask) (signer f)) (keep-2 e))
+      (λ e. unless-known Good (inMask (x .dummyMask) (signer f)) (keep-3 e))
+      (λ e. unless-known Good (inMask (x .finalizeMask) (signer f)) (keep-4 e))
+      (λ e. unless-known Good (isNotarized x) (λ _. keep-5 e))
+      (λ e. unless-known Good (eqb (union (b .n) (x .dummyMask) (signerMask f)) (x .dummyMask)) (λ _. keep-6 e))
+      (λ e. unless-known Good (eqb (union (b .n) (x .finalizeMask) (signerMask f)) (x .finalizeMask)) (λ _. keep-7 e))

@@ -2,7 +2,6 @@
 pub mod Lists
 pub mod GrantsLaws
 pub mod BackingLaws
-pub mod FreshLaws
 pub mod KeepingLaws
 pub mod StatementsLaws
 pub mod MovingLaws

@@ -219,7 +219,7 @@ module _ (digest : Bytes → Bytes) where
         let w = forged-from (P ++ (x ∷ [])) rest xs (logged-more P log x h) q before m after frame s st (split-head e .1) hm hs d r in
         subst (λ (z : List Member). Wrote digest s st z) (append-snoc P x before ∙ ap (λ (z : Member). P ++ (z ∷ before)) (split-head e .0)) w
 
-    pub forged-sound : (l : List Member) → notForged digest n dishonest [] l ≡ true → NotForged digest (HonestIn n dishonest) l
+    pub forged-sound : (l : List Member) → notForged digest n dishonest [] l ≡ true → NotForged digest (HonestIn n dishonest) (HonestIn n dishonest) l
     unfolding NotForged
     forged-sound l t before m after frame s st e hm hs d r =
         forged-from [] [] l (λ s st i. absurd (List·Memᴰ·not-nil i)) t before m after frame s st e hm hs d r

@@ -8,7 +8,7 @@ use mathlib.Core.Option.{Option, some, none}
 use lib.ListN.{length, take}
 use lib.Dec.{eqb}
 use Rattle.protocol.specs.Bytes.{Bytes}
-use Rattle.protocol.specs.Frame.{kind, signer, frameHeight, signerMask, frameDigest, frameBlock, carriesBlock}
+use Rattle.protocol.specs.Frame.{kind, signer, frameHeight, signerMask, frameDigest, frameBlock, carriesBlock, isProposal, isBlockVote, isDummyVote, isFinalize, isBlockCertificate, isDummyCertificate, isFinalizeCertificate}
 use Rattle.protocol.specs.Mask.{inMask, ones}
 use Rattle.protocol.specs.Call.{Call, Effect, effect}
 
@@ -62,13 +62,13 @@ module _ (digest : Bytes → Bytes) where
       let k : ℕ = kind frame in
       let signed : Bool = eqb (signer frame) s in
       let certified : Bool = inMask (signerMask frame) s in
-      cond (eqb k 1) (when signed (proposes h (frameBlock frame)))
-      (cond (eqb k 2) (when signed (votesBlock h (frameDigest frame)))
-      (cond (eqb k 3) (when signed (votesDummy h))
-      (cond (eqb k 4) (when signed (finalizes h))
-      (cond (eqb k 5) (when certified (votesBlock h (digest (frameBlock frame))))
-      (cond (eqb k 6) (when certified (votesDummy h))
-      (cond (eqb k 7) (when certified (finalizes h)) none))))))
+      cond (isProposal k) (when signed (proposes h (frameBlock frame)))
+      (cond (isBlockVote k) (when signed (votesBlock h (frameDigest frame)))
+      (cond (isDummyVote k) (when signed (votesDummy h))
+      (cond (isFinalize k) (when signed (finalizes h))
+      (cond (isBlockCertificate k) (when certified (votesBlock h (digest (frameBlock frame))))
+      (cond (isDummyCertificate k) (when certified (votesDummy h))
+      (cond (isFinalizeCertificate k) (when certified (finalizes h)) none))))))
 
   -- ---- what a member does
   abbrev pub does : Member → Effect
@@ -116,22 +116,22 @@ module _ (digest : Bytes → Bytes) where
   Wrote s statement before = (m : Member) × (frame : Bytes) ×
       List·Memᴰ m before × (m .replica ≡ s) × List·Memᴰ frame (writes m) × (statementOf frame s ≡ some statement)
 
-  -- a statement in an honest name is delivered only after that replica wrote it; asked of deliveries to honest replicas alone
-  unfoldable pub NotForged : (ℕ → Type 0) → List Member → Type 0
-  NotForged honest list =
+  -- a statement in one of these names is delivered only after that replica wrote it; asked of deliveries to these books alone
+  unfoldable pub NotForged : (books names : ℕ → Type 0) → List Member → Type 0
+  NotForged books names list =
       (before : List Member) (m : Member) (after : List Member) (frame : Bytes) (s : ℕ) (statement : Statement) →
-      list ≡ before ++ (m ∷ after) → honest (m .replica) → honest s →
+      list ≡ before ++ (m ∷ after) → books (m .replica) → names s →
       List·Memᴰ frame (delivers m) → statementOf frame s ≡ some statement → Wrote s statement before
 
   -- a member delivers or writes this block
   unfoldable pub Shows : Member → Bytes → Type 0
   Shows m block = (frame : Bytes) × List·Memᴰ frame (delivers m ++ writes m) × (blockIn frame ≡ some block)
 
-  -- no two different blocks delivered or written share a digest; asked of honest replicas' members alone
-  unfoldable pub NoCollision : (ℕ → Type 0) → List Member → Type 0
-  NoCollision honest list =
+  -- no two different blocks delivered or written share a digest; asked of the members of these books alone
+  unfoldable pub NoCollision : (books : ℕ → Type 0) → List Member → Type 0
+  NoCollision books list =
       (m m′ : Member) (block block′ : Bytes) → List·Memᴰ m list → List·Memᴰ m′ list →
-      honest (m .replica) → honest (m′ .replica) →
+      books (m .replica) → books (m′ .replica) →
       Shows m block → Shows m′ block′ → digest block ≡ digest block′ → block ≡ block′
 
   -- ---- the claim
@@ -139,13 +139,14 @@ module _ (digest : Bytes → Bytes) where
   unfoldable pub Reads : Member → Bytes → Type 0
   Reads m part = does m .reads ≡ some part
 
-  -- demand 3: of two logs read in the list from honest replicas, or twice from one, one is a beginning of the other
+  -- demand 3: of two logs read in the list from honest replicas, or twice from one, one is a beginning of the other;
+  -- only honest replicas' books and names are meant in what is granted
   unfoldable pub Agreement : Type 0
   Agreement =
       (n dishonest : ℕ) (list : List Member) →
       FewDishonest n dishonest →
       ((s : ℕ) → HonestIn n dishonest s → KeepsOneBook n list s) →
-      NotForged (HonestIn n dishonest) list →
+      NotForged (HonestIn n dishonest) (HonestIn n dishonest) list →
       NoCollision (HonestIn n dishonest) list →
       (m m′ : Member) (part part′ : Bytes) → List·Memᴰ m list → List·Memᴰ m′ list →
       HonestIn n dishonest (m .replica) → HonestIn n dishonest (m′ .replica) →

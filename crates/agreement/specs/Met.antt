@@ -24,7 +24,7 @@ module _ (digest : Bytes → Bytes) where
       (n dishonest : ℕ) (list : List Member) →
       FewDishonest n dishonest →
       ((s : ℕ) → HonestIn n dishonest s → KeepsOneBook digest n list s) →
-      NotForged digest (HonestIn n dishonest) list →
+      NotForged digest (HonestIn n dishonest) (HonestIn n dishonest) list →
       NoCollision digest (HonestIn n dishonest) list →
       (m m′ : Member) (part part′ : Bytes) → List·Memᴰ m list → List·Memᴰ m′ list →
       HonestIn n dishonest (m .replica) → HonestIn n dishonest (m′ .replica) →
@@ -34,7 +34,7 @@ module _ (digest : Bytes → Bytes) where
     -- the premises
     pub few : FewDishonest n dishonest
     pub keeps : (s : ℕ) → HonestIn n dishonest s → KeepsOneBook digest n list s
-    pub unforged : NotForged digest (HonestIn n dishonest) list
+    pub unforged : NotForged digest (HonestIn n dishonest) (HonestIn n dishonest) list
     pub collisionless : NoCollision digest (HonestIn n dishonest) list
     -- replicas 0 and 1 are honest, and read this part, which is not empty
     pub honest-0 : HonestIn n dishonest 0

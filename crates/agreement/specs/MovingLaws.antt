@@ -2,7 +2,7 @@
 use Prim.Native.Nat.{ℕ, suc, _+_, _-_, _*_, _/_, _%_, _≤_}
 use native.Mathlib.Omega.{arith}
 use native.Mathlib.Numerals.{add-one}
-use mathlib.Core.Path.{_≡_, refl, sym, subst, _∙_}
+use mathlib.Core.Path.{_≡_, refl, subst, _∙_}
 use mathlib.Core.Logic.{_⊎_, inl, inr}
 use mathlib.Core.Bool.{Bool, true, false, not, cond}
 use mathlib.Core.List.{List, [], _∷_, List·Memᴰ, List·Memᴰ·eq-of-singleton, List·Memᴰ·cases-cons, List·Memᴰ·not-nil}
@@ -11,11 +11,13 @@ use lib.ListN.{getD}
 use lib.Dec.{eqb}
 use borrow.Author.Tests.{not-true}
 use Rattle.protocol.specs.Bytes.{Bytes, le16, word16, zeros}
-use Rattle.protocol.specs.MoveLaws.{step-cases, head-only}
+use Rattle.protocol.specs.Answer.{Certificate, certificateKind}
+use Rattle.protocol.specs.Certificates.{certificateFrame}
+use Rattle.protocol.specs.MoveLaws.{step-cases}
 use Rattle.protocol.specs.FlagLaws.{flag-set, flag-kept}
 use Rattle.protocol.specs.Frame.{blockCertificate, blockVote, dummyCertificate, dummyVote, finalize, finalizeCertificate, frameBlock, frameDigest, frameHeight, frameOf, kind, proposal, signer, signerMask}
 use Rattle.protocol.specs.Mask.{inMask}
-use Rattle.protocol.specs.Move.{Step, blockVoteApplies, blockVoteStep, dummyVoteApplies, dummyVoteStep, idleStep, outputStep, passCertificate, passStep, proposeApplies, proposeStep, step}
+use Rattle.protocol.specs.Move.{Step, blockVoteApplies, blockVoteStep, dummyVoteApplies, dummyVoteStep, idleStep, outputStep, passesBy, passStep, proposeApplies, proposeStep, step}
 use Rattle.protocol.specs.RowLaws.{row}
 use Rattle.protocol.specs.Sound.{view}
 use Rattle.protocol.specs.State.{State, at, flag, noHeight, withHead}
@@ -123,15 +125,19 @@ module _ (digest : Bytes → Bytes) (U : ℕ → Statement → Type 0) (U′ : S
   unfolding outputStep withHead flag
   good-output a = stated-nothing k (adds-none a) (λ e. e) (λ e. e)
 
+  abbrev passed : Bytes
+  passed = certificateFrame b (certificateKind (passesBy digest b)) c
+
   -- a certificate states nothing new in its writer's name
-  certificate-old : (t : Statement) → statementOf digest (passCertificate digest b) s ≡ some t → U s t
-  unfolding passCertificate
+  certificate-old : (t : Statement) → statementOf digest passed s ≡ some t → U s t
+  unfolding certificateFrame certificateKind
   certificate-old t =
-      cond-elim (λ (f : Bytes). statementOf digest f s ≡ some t → U s t) (linked digest (view b) c)
+      cond-elim (λ (by : Certificate). statementOf digest (certificateFrame b (certificateKind by) c) s ≡ some t → U s t)
+      (linked digest (view b) c)
       (λ l e. let q = blockCertificate-says digest (b .own) c s t (at b c .certificateMask) (at b c .notarized) e in
-      rw (q .0) (backed-here .certifiers s (q .1)))
+      rw (q .0) (backed-here .shown .certifiers s (q .1)))
       (λ l e. let q = dummyCertificate-says digest (b .own) c s t (at b c .dummyMask) e in
-      rw (q .0) (backed-here .dummies s (q .1)))
+      rw (q .0) (backed-here .shown .dummies s (q .1)))
 
   good-pass : StepGood (passStep digest b)
   unfolding passStep withHead
@@ -144,13 +150,13 @@ module _ (digest : Bytes → Bytes) (U : ℕ → Statement → Type 0) (U′ : S
       second t false e m r = let q = List·Memᴰ·eq-of-singleton m in (finalize-says digest (b .own) c s t (rw q at r), e)
 
       either : (t : Statement) {f : Bytes} →
-          (f ≡ passCertificate digest b) ⊎ List·Memᴰ f (cond (not (flag 1 b)) (finalize (b .own) c ∷ []) []) →
+          (f ≡ passed) ⊎ List·Memᴰ f (cond (not (flag 1 b)) (finalize (b .own) c ∷ []) []) →
           statementOf digest f s ≡ some t → U s t ⊎ ((t ≡ finalizes c) × (flag 1 b ≡ false))
       either t (inl q) r = inl (certificate-old t (rw q at r))
       either t (inr m) r = inr (second t (flag 1 b) refl m r)
 
       sort : (t : Statement) →
-          U s t ⊎ ((f : Bytes) × List·Memᴰ f (passCertificate digest b ∷ cond (not (flag 1 b)) (finalize (b .own) c ∷ []) []) × (statementOf digest f s ≡ some t)) →
+          U s t ⊎ ((f : Bytes) × List·Memᴰ f (passed ∷ cond (not (flag 1 b)) (finalize (b .own) c ∷ []) []) × (statementOf digest f s ≡ some t)) →
           U s t ⊎ ((t ≡ finalizes c) × (flag 1 b ≡ false))
       sort t (inl u) = inl u
       sort t (inr u) = either t (List·Memᴰ·cases-cons (u .1)) (u .2)
@@ -175,17 +181,3 @@ module _ (digest : Bytes → Bytes) (U : ℕ → Statement → Type 0) (U′ : S
   pub step-good : StepGood (step digest b)
   step-good = step-cases digest b StepGood
       good-dummy (λ _ _. good-output) (λ _ _ _. good-pass) (λ _ _ _. good-propose) (λ _ _ _ _. good-block) (λ _ _ _ _ _. good-idle)
-
--- a move leaves all but flags, current and finalized height
-pub record SameBody (b b′ : State) : Type 0 where
-  pub same-n : b′ .n ≡ b .n
-  pub same-pool : b′ .pool ≡ b .pool
-  pub same-heights : b′ .heights ≡ b .heights
-
-pub with-head-same : (b : State) (f c g : ℕ) → SameBody b (withHead b f c g)
-unfolding withHead
-with-head-same b f c g = record { same-n = refl; same-pool = refl; same-heights = refl }
-
-module _ (digest : Bytes → Bytes) (b : State) where
-  pub step-body : SameBody b (step digest b .after)
-  step-body = let (flags, current, finalized, e) = head-only digest b in subst (SameBody b) (sym e) (with-head-same b flags current finalized)

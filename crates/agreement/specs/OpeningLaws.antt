@@ -8,12 +8,11 @@ use mathlib.Core.Option.{Option, some, none}
 use lib.ListN.{length, getD, length-append}
 use borrow.Author.Tests.{eqb-true, leb-true}
 use Rattle.protocol.specs.Answer.{Done, Outcome, accepted, done, isAccepted, unlessRefused}
-use Rattle.protocol.specs.Bytes.{Bytes}
+use Rattle.protocol.specs.Bytes.{Bytes, without}
 use Rattle.protocol.specs.EveryLaws.{Every, none as no-more, one, every-append}
 use Rattle.protocol.specs.Frame.{finalize}
 use Rattle.protocol.specs.Mask.{inMask}
 use Rattle.protocol.specs.MaskLaws.{inMask-zero}
-use Rattle.protocol.specs.Move.{without}
 use Rattle.protocol.specs.NewStateLaws.{new-shaped}
 use Rattle.protocol.specs.Open.{newHeight, newState, openCall, openRows}
 use Rattle.protocol.specs.RowLaws.{row-passes}
@@ -26,16 +25,16 @@ use Rattle.protocol.specs.Tests.{firstRefusal}
 use Rattle.agreement.specs.BackingLaws.{Backed}
 use Rattle.agreement.specs.GrantsLaws.{grants}
 use Rattle.agreement.specs.Lists.{Member, Statement, Wrote, writes}
-use Rattle.agreement.specs.RunLaws.{Good, Honest, States, backed-more, encoded, nothing-new, quiet, unchanged, unless-refused-good}
+use Rattle.agreement.specs.RunLaws.{Good, States, backed-more, encoded, nothing-new, quiet, unchanged, unless-refused-good}
 
 -- ---- one more pending entry
-module _ (digest : Bytes → Bytes) (n dishonest : ℕ) (P : List Member) (m : Member) where
-  pub submit-good : (s : ℕ) (book entry : Bytes) → Good digest n dishonest P s (decode book) → writes digest m ≡ [] →
-      Good digest n dishonest (P ++ (m ∷ [])) s (decode (submitCall digest book entry .book))
+module _ (digest : Bytes → Bytes) (n : ℕ) (books names : ℕ → Type 0) (P : List Member) (m : Member) where
+  pub submit-good : (s : ℕ) (book entry : Bytes) → Good digest n books names P s (decode book) → writes digest m ≡ [] →
+      Good digest n books names (P ++ (m ∷ [])) s (decode (submitCall digest book entry .book))
   unfolding submitCall submitRows stillPending withPending flag pending
   submit-good s book entry g silent =
-      unless-refused-good digest n dishonest P m s (firstRefusal (submitRows digest book entry)) book _
-      (unchanged digest n dishonest P m s b g (λ q. silent)) (λ r. encoded digest n dishonest (P ++ (m ∷ [])) s _ (added r))
+      unless-refused-good digest n books names P m s (firstRefusal (submitRows digest book entry)) book _
+      (unchanged digest n books names P m s b g (λ q. silent)) (λ r. encoded digest n books names (P ++ (m ∷ [])) s _ (added r))
     where
       b : State
       b = decode book
@@ -46,21 +45,21 @@ module _ (digest : Bytes → Bytes) (n dishonest : ℕ) (P : List Member) (m : M
       es : List Bytes
       es = still ++ (entry ∷ [])
 
-      added : firstRefusal (submitRows digest book entry) ≡ none → Good digest n dishonest (P ++ (m ∷ [])) s (withPending b es)
+      added : firstRefusal (submitRows digest book entry) ≡ none → Good digest n books names (P ++ (m ∷ [])) s (withPending b es)
       added r =
           let r1 = row-passes _ _ r in
           let r2 = row-passes _ _ (r1 .1) in
           let r3 = row-passes _ _ (r2 .1) in
           let r4 = row-passes _ _ (r3 .1) in
           let w = grants digest book (r1 .0) .pends in
-          let ps = g .shaped .pool-size in
+          let ps = g .kept .shaped .pool-size in
           let full : Every (Sized 16) es = every-append
           (every-without (log b) (pieces-sized 16 (b .pendingCount) (b .pool) (omega arith)))
           (one (eqb-true (length entry) 16 (r2 .0)) no-more) in
           let room = leb-true (suc (length still)) 32 (r4 .0) in
-          quiet digest n dishonest P m s b (withPending b es) g (λ q. silent) refl refl (λ q. q) (λ q. q)
-          (record { pool-size = pending-pool-size es full (rw length-append (omega arith)); heights = g .shaped .heights })
-          (λ i. backed-more digest n dishonest P m (g .backed i))
+          quiet digest n books names P m s b (withPending b es) g (λ q. silent) refl refl (λ q. q) (λ q. q)
+          (record { pool-size = pending-pool-size es full (rw length-append (omega arith)); heights = g .kept .shaped .heights })
+          (λ i. backed-more digest n books names P m (g .kept .backed i))
 
 -- ---- a new book
 nobody : {A : Type 0} (mask t : ℕ) → mask ≡ 0 → inMask mask t ≡ true → A
@@ -72,12 +71,16 @@ module _ (digest : Bytes → Bytes) {W : ℕ → Statement → Type 0} {S : Byte
       Backed digest W S h x
   unfolding holdsProposal isNotarized
   backed-nothing h x status certificate dummy finalize voters = record {
-    dummies = λ t e. nobody (x .dummyMask) t dummy e;
-    finalizations = λ t e. nobody (x .finalizeMask) t finalize e;
-    ballots = λ t e. nobody (x .voterMask) t voters e;
-    certifiers = λ t e. nobody (x .certificateMask) t certificate e;
-    proposal-seen = λ e. absurd (false≢true (rw status at e));
-    notarized-seen = λ e. absurd (false≢true (rw status at e));
+    shown = record {
+      dummies = λ t e. nobody (x .dummyMask) t dummy e;
+      finalizations = λ t e. nobody (x .finalizeMask) t finalize e;
+      certifiers = λ t e. nobody (x .certificateMask) t certificate e;
+      notarized-seen = λ e. absurd (false≢true (rw status at e));
+    };
+    held = record {
+      ballots = λ t e. nobody (x .voterMask) t voters e;
+      proposal-seen = λ e. absurd (false≢true (rw status at e));
+    };
   }
 
   backed-leaders : (leaders : Bytes) (i h : ℕ) → Backed digest W S h (getD (map (newHeight) leaders) i noHeight)
@@ -100,14 +103,13 @@ open-unrefused book n own heights leaders = go (firstRefusal (openRows book n ow
     go none e = refl
     go (some number) e = absurd (false≢true e)
 
-module _ (digest : Bytes → Bytes) (n dishonest : ℕ) (P : List Member) (m : Member) where
-  new-book-good : (s : ℕ) (leaders : Bytes) → Honest digest n dishonest s → ((st : Statement) → Wrote digest s st P → ⊥) →
-      writes digest m ≡ [] → Good digest n dishonest (P ++ (m ∷ [])) s (newState n s leaders)
+module _ (digest : Bytes → Bytes) (n : ℕ) (books names : ℕ → Type 0) (P : List Member) (m : Member) where
+  new-book-good : (s : ℕ) (leaders : Bytes) → names s → ((st : Statement) → Wrote digest s st P → ⊥) →
+      writes digest m ≡ [] → Good digest n books names (P ++ (m ∷ [])) s (newState n s leaders)
   unfolding newState
   new-book-good s leaders hs none-before silent = record {
     same-n = refl;
-    shaped = new-shaped n s leaders;
-    backed = λ i. backed-leaders digest leaders i (suc i);
+    kept = record { shaped = new-shaped n s leaders; backed = λ i. backed-leaders digest leaders i (suc i) };
     consistent = record {
       dummy-old = λ h w. absurd (never _ w);
       finalize-old = λ h w. absurd (never _ w);
@@ -117,13 +119,13 @@ module _ (digest : Bytes → Bytes) (n dishonest : ℕ) (P : List Member) (m : M
     };
   }
     where
-      never : (st : Statement) → States digest n dishonest (P ++ (m ∷ [])) s st → ⊥
-      never st w = none-before st (nothing-new digest n dishonest P m s (λ e. silent) st (w hs))
+      never : (st : Statement) → States digest n books names (P ++ (m ∷ [])) s st → ⊥
+      never st w = none-before st (nothing-new digest n books names P m s (λ e. silent) st (w hs))
 
-  pub opening-good : (s : ℕ) (book : Bytes) (heights : ℕ) (leaders : Bytes) → Honest digest n dishonest s →
+  pub opening-good : (s : ℕ) (book : Bytes) (heights : ℕ) (leaders : Bytes) → names s →
       ((st : Statement) → Wrote digest s st P → ⊥) → writes digest m ≡ [] →
-      isAccepted (openCall book n s heights leaders .answer) ≡ true → Good digest n dishonest (P ++ (m ∷ [])) s
+      isAccepted (openCall book n s heights leaders .answer) ≡ true → Good digest n books names (P ++ (m ∷ [])) s
       (decode (openCall book n s heights leaders .book))
   opening-good s book heights leaders hs none-before silent e =
       rw (open-unrefused book n s heights leaders e)
-      (encoded digest n dishonest (P ++ (m ∷ [])) s (newState n s leaders) (new-book-good s leaders hs none-before silent))
+      (encoded digest n books names (P ++ (m ∷ [])) s (newState n s leaders) (new-book-good s leaders hs none-before silent))

@@ -10,27 +10,28 @@ use lib.ListN.{length, getD, set}
 use lib.Seq.{getD-set-same, getD-set-other}
 use lib.Dec.{eqb}
 use borrow.Author.Tests.{eqb-true, eqb-false, not-true}
-use Rattle.protocol.specs.Answer.{Done, Outcome, accepted, done, isAccepted, unlessRefused}
+use Rattle.protocol.specs.Answer.{Delivery, Done, Outcome, accepted, done, isAccepted, unlessRefused}
 use Rattle.protocol.specs.Bytes.{Bytes}
-use Rattle.protocol.specs.Deliver.{deliverCall, deliverRows, keep, kept}
+use Rattle.protocol.specs.Deliver.{deliverAll, deliverCall, keep}
 use Rattle.protocol.specs.EveryLaws.{every-set, every-at}
 use Rattle.protocol.specs.FlagLaws.{flag-set, flag-kept}
 use Rattle.protocol.specs.Frame.{frameHeight}
+use Rattle.protocol.specs.DeliverLaws.{Accepts, deliver-cases}
+use Rattle.protocol.specs.MoveLaws.{step-body}
 use Rattle.protocol.specs.Move.{Step, moveCall, moveRows, moved, step, unlessMoveRefused}
 use Rattle.protocol.specs.Open.{newState, openCall, openRows}
 use Rattle.protocol.specs.RowLaws.{row-passes}
 use Rattle.protocol.specs.Signal.{signalCall, signalRows}
 use Rattle.protocol.specs.Sound.{sound}
-use Rattle.protocol.specs.State.{Height, State, at, decode, encode, flag, noHeight, withHead, withHeight, withTimerFired}
+use Rattle.protocol.specs.State.{Height, State, at, decode, encode, flag, last, noHeight, withHead, withHeight, withTimerFired}
 use Rattle.protocol.specs.StateLaws.{Shaped, ShapedHeight, decode-encode}
 use Rattle.protocol.specs.Tests.{firstRefusal}
 use Rattle.protocol.specs.TestsLaws.{and-true}
 use Rattle.agreement.specs.BackingLaws.{Backed, later}
-use Rattle.agreement.specs.FreshLaws.{Read, read}
 use Rattle.agreement.specs.GrantsLaws.{grants}
 use Rattle.agreement.specs.KeepingLaws.{keep-good}
-use Rattle.agreement.specs.Lists.{HonestIn, Member, Shows, Statement, Wrote, blockIn, delivers, lastLeft, leftBy, orElse, statementOf, writes}
-use Rattle.agreement.specs.MovingLaws.{step-body, step-good}
+use Rattle.agreement.specs.Lists.{Member, Shows, Statement, Wrote, blockIn, delivers, lastLeft, leftBy, orElse, statementOf, writes}
+use Rattle.agreement.specs.MovingLaws.{step-good}
 use Rattle.agreement.specs.StatementsLaws.{Consistent, stated-nothing}
 
 -- ---- lists
@@ -66,21 +67,27 @@ module _ (digest : Bytes → Bytes) where
       go (inl i) = inl (w .0, w .1, i, w .3, w .4, w .5)
       go (inr i) = let e = List·Memᴰ·eq-of-singleton i in inr (rw e at (w .3), w .1, rw e at (w .4), w .5)
 
-  module _ (n dishonest : ℕ) where
-    abbrev pub Honest : ℕ → Type 0
-    Honest s = HonestIn n dishonest s
-
-    -- what honest replicas have stated, and the blocks that they have seen
+  -- `books`: whose books are meant; `names`: whose statements. An honest replica is among both
+  module _ (n : ℕ) (books names : ℕ → Type 0) where
+    -- what the named have stated, and the blocks that were delivered to those books or written from them
     abbrev pub States : List Member → ℕ → Statement → Type 0
-    States P t st = Honest t → Wrote digest t st P
+    States P t st = names t → Wrote digest t st P
 
     abbrev pub Seen : List Member → Bytes → Type 0
-    Seen P p = (m : Member) × List·Memᴰ m P × Honest (m .replica) × Shows digest m p
+    Seen P p = (m : Member) × List·Memᴰ m P × books (m .replica) × Shows digest m p
 
+    abbrev pub BackedBy : List Member → ℕ → Height → Type 0
+    BackedBy P h x = Backed digest (States P) (Seen P) h x
+
+    -- all that a state keeps is backed; this asks nothing of what its replica states
+    pub record Kept (P : List Member) (b : State) : Type 0 where
+      pub shaped : Shaped b
+      pub backed : (i : ℕ) → BackedBy P (suc i) (getD (b .heights) i noHeight)
+
+    -- and what the replica itself has stated is consistent
     pub record Good (P : List Member) (s : ℕ) (b : State) : Type 0 where
       pub same-n : b .n ≡ n
-      pub shaped : Shaped b
-      pub backed : (i : ℕ) → Backed digest (States P) (Seen P) (suc i) (getD (b .heights) i noHeight)
+      pub kept : Kept P b
       pub consistent : Consistent (States P s) (b .current) (flag 1 b) (flag 4 b)
 
     abbrev pub GoodBytes : List Member → ℕ → Option Bytes → Type 0
@@ -88,7 +95,104 @@ module _ (digest : Bytes → Bytes) where
     GoodBytes P s (some bs) = Good P s (decode bs)
 
     pub encoded : (P : List Member) (s : ℕ) (b : State) → Good P s b → Good P s (decode (encode b))
-    encoded P s b g = rw (decode-encode b (g .shaped)) g
+    encoded P s b g = rw (decode-encode b (g .kept .shaped)) g
+
+    -- ---- a frame among those that a member of the list delivers
+    module _ (P : List Member) (m : Member) (among : List·Memᴰ m P) (ours : books (m .replica)) where
+      module _ (book f : Bytes) (k : Kept P (decode book)) (delivered : List·Memᴰ f (delivers digest m))
+          (said : (t : ℕ) (st : Statement) → statementOf digest f t ≡ some st → States P t st)
+          (accepts : Accepts digest book f) (new : Height) (was-kept : keep digest (decode book) f ≡ some new) where
+        abbrev was : State
+        was = decode book
+
+        abbrev place : ℕ
+        place = frameHeight f
+
+        inside : place - 1 < length (was .heights)
+        unfolding last
+        inside = let low = accepts .read .low in let high = accepts .read .high in omega arith
+
+        number : suc (place - 1) ≡ place
+        number = let low = accepts .read .low in omega arith
+
+        backed-at : BackedBy P place (at was place)
+        unfolding at
+        backed-at =
+            subst (λ (j : ℕ). BackedBy P j (getD (was .heights) (place - 1) noHeight)) number (k .backed (place - 1))
+
+        shaped-at : ShapedHeight (at was place)
+        unfolding at
+        shaped-at = every-at (place - 1) noHeight (k .shaped .heights) inside
+
+        shown : (p : Bytes) → blockIn f ≡ some p → Seen P p
+        unfolding Shows
+        shown p e = (m, among, ours, (f, Memᴰ·append-left (writes digest m) delivered, e))
+
+        new-good : BackedBy P place new × ShapedHeight new
+        new-good = rw was-kept at (keep-good digest was f backed-at shaped-at said shown (accepts .read)
+            (grants digest book (accepts .was-sound) .few))
+
+        backed-set : (i : ℕ) → BackedBy P (suc i) (getD (set (was .heights) (place - 1) new) i noHeight)
+        backed-set i = go (eqb i (place - 1)) refl
+          where
+            go : (e : Bool) → eqb i (place - 1) ≡ e → BackedBy P (suc i) (getD (set (was .heights) (place - 1) new) i noHeight)
+            go true e =
+                rw (eqb-true i (place - 1) e, getD-set-same (was .heights) (place - 1) new noHeight inside)
+                (subst (λ (j : ℕ). BackedBy P j new) (sym number) (new-good .0))
+            go false e = rw (getD-set-other (was .heights) (place - 1) i new noHeight (eqb-false i (place - 1) e)) (k .backed i)
+
+        changed : Kept P (withHeight was place new)
+        unfolding withHeight
+        changed = record {
+          shaped = record { pool-size = k .shaped .pool-size; heights = every-set (place - 1) new (new-good .1) (k .shaped .heights) };
+          backed = backed-set;
+        }
+
+        changed-good : (s : ℕ) → Good P s was → Good P s (withHeight was place new)
+        unfolding withHeight flag
+        changed-good s g = record { same-n = g .same-n; kept = changed; consistent = g .consistent }
+
+      -- a frame that is refused leaves the book; of one that is not, what it states was stated
+      abbrev pub Delivered : Bytes → Bytes → Type 0
+      Delivered book f =
+          isAccepted (deliverCall digest book f .answer) ≡ true → List·Memᴰ f (delivers digest m)
+
+      abbrev pub Said : Bytes → Type 0
+      Said f =
+          List·Memᴰ f (delivers digest m) → (t : ℕ) (st : Statement) → statementOf digest f t ≡ some st → States P t st
+
+      pub frame-kept : (book f : Bytes) → Kept P (decode book) → Delivered book f → Said f →
+          Kept P (decode (deliverCall digest book f .book))
+      unfolding isAccepted
+      frame-kept book f k =
+          deliver-cases digest book f (λ (o : Outcome Delivery).
+          (isAccepted (o .answer) ≡ true → List·Memᴰ f (delivers digest m)) → Said f → Kept P (decode (o .book)))
+          (λ _ _ _ _. k) (λ _ _ _ _. k)
+          (λ new accepts q d said.
+          let after = changed book f k (d refl) (said (d refl)) accepts new q in
+          rw (decode-encode (withHeight (decode book) (frameHeight f) new) (after .shaped)) after)
+
+      pub frame-good : (s : ℕ) (book f : Bytes) → Good P s (decode book) → Delivered book f → Said f →
+          Good P s (decode (deliverCall digest book f .book))
+      unfolding isAccepted
+      frame-good s book f g =
+          deliver-cases digest book f (λ (o : Outcome Delivery).
+          (isAccepted (o .answer) ≡ true → List·Memᴰ f (delivers digest m)) → Said f → Good P s (decode (o .book)))
+          (λ _ _ _ _. g) (λ _ _ _ _. g)
+          (λ new accepts q d said.
+          encoded P s _ (changed-good book f (g .kept) (d refl) (said (d refl)) accepts new q s g))
+
+      -- several frames, each delivered to the book that those before it left
+      unfoldable pub AllDelivered : Bytes → List Bytes → Type 0
+      AllDelivered book [] = Unit {0}
+      AllDelivered book (f ∷ fs) = Delivered book f × AllDelivered (deliverCall digest book f .book) fs
+
+      pub frames-good : (s : ℕ) (book : Bytes) (fs : List Bytes) → ((f : Bytes) → Said f) → Good P s (decode book) →
+          AllDelivered book fs → Good P s (decode (deliverAll digest book fs))
+      unfolding AllDelivered deliverAll
+      frames-good s book [] said g all = g
+      frames-good s book (f ∷ fs) said g (d, all) =
+          frames-good s (deliverCall digest book f .book) fs said (frame-good s book f g d (said f)) all
 
     module _ (P : List Member) (m : Member) where
       abbrev pub P′ : List Member
@@ -100,7 +204,7 @@ module _ (digest : Bytes → Bytes) where
       pub seen-more : (p : Bytes) → Seen P p → Seen P′ p
       seen-more p w = (w .0, Memᴰ·append-left (m ∷ []) (w .1), w .2, w .3)
 
-      pub backed-more : {h : ℕ} {x : Height} → Backed digest (States P) (Seen P) h x → Backed digest (States P′) (Seen P′) h x
+      pub backed-more : {h : ℕ} {x : Height} → BackedBy P h x → BackedBy P′ h x
       backed-more k = later digest states-more seen-more k
 
       -- a call that writes nothing
@@ -117,89 +221,26 @@ module _ (digest : Bytes → Bytes) where
       pub quiet : (s : ℕ) (b b′ : State) → Good P s b → (m .replica ≡ s → writes digest m ≡ []) → b′ .n ≡ b .n →
           b′ .current ≡ b .current →
           (flag 1 b ≡ true → flag 1 b′ ≡ true) → (flag 4 b ≡ true → flag 4 b′ ≡ true) → Shaped b′ →
-          ((i : ℕ) → Backed digest (States P′) (Seen P′) (suc i) (getD (b′ .heights) i noHeight)) → Good P′ s b′
+          ((i : ℕ) → BackedBy P′ (suc i) (getD (b′ .heights) i noHeight)) → Good P′ s b′
       quiet s b b′ g e en ec e1 e4 sh k = record {
         same-n = en ∙ g .same-n;
-        shaped = sh;
-        backed = k;
+        kept = record { shaped = sh; backed = k };
         consistent = subst (λ (c : ℕ). Consistent (States P′ s) c (flag 1 b′) (flag 4 b′)) (sym ec)
             (stated-nothing (g .consistent) (λ st w. inl (λ h. nothing-new s e st (w h))) e1 e4);
       }
 
       pub unchanged : (s : ℕ) (b : State) → Good P s b → (m .replica ≡ s → writes digest m ≡ []) → Good P′ s b
-      unchanged s b g e = quiet s b b g e refl refl (λ q. q) (λ q. q) (g .shaped) (λ i. backed-more (g .backed i))
+      unchanged s b g e = quiet s b b g e refl refl (λ q. q) (λ q. q) (g .kept .shaped) (λ i. backed-more (g .kept .backed i))
 
       -- ---- a delivery
-      module _ (s : ℕ) (book f : Bytes) (g : Good P s (decode book)) (silent : writes digest m ≡ []) (honest : Honest (m .replica))
-          (delivered : List·Memᴰ f (delivers digest m))
-          (said : (t : ℕ) (st : Statement) → statementOf digest f t ≡ some st → States P t st)
-          (passed : firstRefusal (deliverRows digest book f) ≡ none) (new : Height)
-          (was-kept : keep digest (decode book) f ≡ some new) where
-        abbrev b : State
-        b = decode book
-
-        abbrev h : ℕ
-        h = frameHeight f
-
-        abbrev r : Read digest book f passed
-        r = read digest book f passed
-
-        inside : h - 1 < length (b .heights)
-        inside = let q = r .low in let q′ = r .high in omega arith
-
-        number : suc (h - 1) ≡ h
-        number = let q = r .low in omega arith
-
-        backed-at : Backed digest (States P′) (Seen P′) h (at b h)
-        unfolding at
-        backed-at =
-            subst (λ (j : ℕ). Backed digest (States P′) (Seen P′) j (getD (b .heights) (h - 1) noHeight)) number
-            (backed-more (g .backed (h - 1)))
-
-        shaped-at : ShapedHeight (at b h)
-        unfolding at
-        shaped-at = every-at (h - 1) noHeight (g .shaped .heights) inside
-
-        shown : (p : Bytes) → blockIn f ≡ some p → Seen P′ p
-        unfolding Shows
-        shown p e = (m, Memᴰ·append-right P (List·Memᴰ·head refl), honest, (f, Memᴰ·append-left (writes digest m) delivered, e))
-
-        new-good : Backed digest (States P′) (Seen P′) h new × ShapedHeight new
-        new-good = rw was-kept at (keep-good digest b f backed-at shaped-at
-            (λ t st e. states-more t st (said t st e)) shown (r .few) (r .long) (r .some-kind) (r .last-kind))
-
-        backed-set : (i : ℕ) → Backed digest (States P′) (Seen P′) (suc i) (getD (set (b .heights) (h - 1) new) i noHeight)
-        backed-set i = go (eqb i (h - 1)) refl
-          where
-            go : (e : Bool) → eqb i (h - 1) ≡ e →
-                Backed digest (States P′) (Seen P′) (suc i) (getD (set (b .heights) (h - 1) new) i noHeight)
-            go true e =
-                rw (eqb-true i (h - 1) e, getD-set-same (b .heights) (h - 1) new noHeight inside)
-                (subst (λ (j : ℕ). Backed digest (States P′) (Seen P′) j new) (sym number) (new-good .0))
-            go false e = rw (getD-set-other (b .heights) (h - 1) i new noHeight (eqb-false i (h - 1) e)) (backed-more (g .backed i))
-
-        changed : Good P′ s (withHeight b h new)
-        unfolding withHeight flag
-        changed = quiet s b (withHeight b h new) g (λ e. silent) refl refl (λ q. q) (λ q. q)
-            (record { pool-size = g .shaped .pool-size; heights = every-set (h - 1) new (new-good .1) (g .shaped .heights) }) backed-set
-
-      pub delivery-good : (s : ℕ) (book f : Bytes) → Good P s (decode book) → writes digest m ≡ [] → Honest (m .replica) →
+      pub delivery-good : (s : ℕ) (book f : Bytes) → Good P s (decode book) → writes digest m ≡ [] → books (m .replica) →
           delivers digest m ≡ cond (isAccepted (deliverCall digest book f .answer)) (f ∷ []) [] →
           (List·Memᴰ f (delivers digest m) → (t : ℕ) (st : Statement) → statementOf digest f t ≡ some st → States P t st) →
           Good P′ s (decode (deliverCall digest book f .book))
-      unfolding deliverCall unlessRefused kept isAccepted
-      delivery-good s book f g silent honest d said =
-          go (firstRefusal (deliverRows digest book f)) refl (keep digest (decode book) f) refl d
-        where
-          go : (o : Option ℕ) → firstRefusal (deliverRows digest book f) ≡ o → (x : Option Height) →
-              keep digest (decode book) f ≡ x →
-              delivers digest m ≡ cond (isAccepted (unlessRefused o book (kept digest book f x) .answer)) (f ∷ []) [] →
-              Good P′ s (decode (unlessRefused o book (kept digest book f x) .book))
-          go (some number) p x q e = unchanged s (decode book) g (λ z. silent)
-          go none p none q e = unchanged s (decode book) g (λ z. silent)
-          go none p (some new) q e =
-              let here : List·Memᴰ f (delivers digest m) = rw e (List·Memᴰ·head refl) in
-              encoded P′ s _ (changed s book f g silent honest here (said here) p new q)
+      delivery-good s book f g silent ours e said =
+          frame-good P′ m (Memᴰ·append-right P (List·Memᴰ·head refl)) ours s book f
+          (unchanged s (decode book) g (λ z. silent)) (λ ok. rw (e, ok) (List·Memᴰ·head refl))
+          (λ d t st q. states-more t st (said d t st q))
 
       -- ---- a call that changes the book unless it is refused
       pub unless-refused-good : {A : Type 0} (s : ℕ) (o : Option ℕ) (book : Bytes) (outcome : Outcome A) → Good P′ s (decode book) →
@@ -241,20 +282,25 @@ module _ (digest : Bytes → Bytes) where
               let off = not-true (flag 1 b) (and-true (eqb h (b .current)) _ (r3 .0) .1) in
               quiet s b (withHead b (b .flags + 1) (b .current) (b .finalized)) g (λ q. silent) refl refl
               (λ q. flag-set b (b .current) (b .finalized) 0 off) (λ q. flag-kept b (b .current) (b .finalized) 0 off 2 (omega arith) ∙ q)
-              (record { pool-size = g .shaped .pool-size; heights = g .shaped .heights }) (λ i. backed-more (g .backed i))
+              (record { pool-size = g .kept .shaped .pool-size; heights = g .kept .shaped .heights })
+              (λ i. backed-more (g .kept .backed i))
 
       -- ---- a move
-      pub step-keeps : (s : ℕ) (book : Bytes) → Honest s → Good P s (decode book) → sound digest book ≡ true →
+      pub step-keeps : (s : ℕ) (book : Bytes) → names s → Good P s (decode book) → sound digest book ≡ true →
           writes digest m ≡ step digest (decode book) .frames →
           Good P′ s (step digest (decode book) .after)
       step-keeps s book hs g ok e =
           let body = step-body digest b in
           record {
             same-n = body .same-n ∙ g .same-n;
-            shaped = record
-                { pool-size = rw (body .same-pool) (g .shaped .pool-size); heights = rw (body .same-heights) (g .shaped .heights) };
-            backed = λ i. rw (body .same-heights) (backed-more (g .backed i));
-            consistent = step-good digest (States P) (States P′ s) (Seen P) s b (g .backed) (g .consistent)
+            kept = record {
+              shaped = record {
+                pool-size = rw (body .same-pool) (g .kept .shaped .pool-size);
+                heights = rw (body .same-heights) (g .kept .shaped .heights);
+              };
+              backed = λ i. rw (body .same-heights) (backed-more (g .kept .backed i));
+            };
+            consistent = step-good digest (States P) (States P′ s) (Seen P) s b (g .kept .backed) (g .consistent)
                 (grants digest book ok .positive) (λ t w. go t (wrote-last s t P m (w hs)));
           }
         where
@@ -267,7 +313,7 @@ module _ (digest : Bytes → Bytes) where
           go t (inl v) = inl (λ q. v)
           go t (inr v) = inr (v .1, rw e at (v .2), v .3)
 
-      pub move-good : (s : ℕ) (book reply : Bytes) → Honest s → Good P s (decode book) →
+      pub move-good : (s : ℕ) (book reply : Bytes) → names s → Good P s (decode book) →
           writes digest m ≡ moveCall digest book reply .frames →
           Good P′ s (decode (moveCall digest book reply .book))
       unfolding moveCall unlessMoveRefused moved moveRows

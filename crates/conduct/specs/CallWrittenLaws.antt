@@ -11,21 +11,23 @@ use borrow.Author.Tests.{leb-true}
 use Rattle.protocol.specs.Bytes.{Bytes}
 use Rattle.protocol.specs.Tests.{firstRefusal}
 use Rattle.protocol.specs.Frame.{finalize, blockCertificate, dummyCertificate, finalizeCertificate}
-use Rattle.protocol.specs.State.{State, at, last, decode, flag, isNotarized}
+use Rattle.protocol.specs.State.{State, at, decode, flag, isNotarized}
 use Rattle.protocol.specs.View.{linked, quorum, isDummy}
 use Rattle.protocol.specs.Sound.{view, sound}
-use Rattle.protocol.specs.Answer.{pass, onBlock, onDummy}
-use Rattle.protocol.specs.Move.{Step, unused, written, moved, unlessMoveRefused, passCertificate, step, dummyVoteStep, outputStep, passStep, proposeStep, blockVoteStep, idleStep, moveRows, moveCall}
-use Rattle.protocol.specs.Fetch.{certificateFrame, hasCertificate, unlessFetchRefused, fetchRows, fetchCall}
-use Rattle.protocol.specs.RowLaws.{row-passes, in-range}
+use Rattle.protocol.specs.Answer.{pass, onBlock, onDummy, certificateKind}
+use Rattle.protocol.specs.Move.{Step, unused, written, moved, unlessMoveRefused, passesBy, step, dummyVoteStep, outputStep, passStep, proposeStep, blockVoteStep, idleStep, moveRows, moveCall}
+use Rattle.protocol.specs.Fetch.{hasCertificate, unlessFetchRefused, fetchRows, fetchCall}
+use Rattle.protocol.specs.Certificates.{certificateFrame}
+use Rattle.protocol.specs.RowLaws.{row-passes}
 use Rattle.protocol.specs.SoundLaws.{SoundState, sound-decode}
 use Rattle.conduct.specs.Fields.{blockCertificateFields, dummyCertificateFields, finalizeCertificateFields}
 use Rattle.conduct.specs.Readable.{Said, SameSetting, DigestSized}
-use Rattle.conduct.specs.Named.{passFrame, offeredBlock, moveFrames, moveAnswerFrames, moveAnswerFields, fetchFields, fetchAnswerFrames, fetchAnswerFields}
+use Rattle.conduct.specs.Named.{offeredBlock, moveFrames, moveAnswerFrames, moveAnswerFields, certificateFields, fetchAnswerFrames, fetchAnswerFields}
 use Rattle.conduct.specs.Reply.{Wrote, blankAfter}
 use Rattle.conduct.specs.ReplyLaws.{front-wrote, one-wrote, nothing-wrote}
 use Rattle.conduct.specs.ReadLaws.{Written, said-none, said-more}
 use Rattle.protocol.specs.MoveLaws.{step-cases}
+use Rattle.protocol.specs.FetchLaws.{Fetches, fetch-tested}
 use Rattle.conduct.specs.WrittenReadLaws.{step-said, block-certificate, dummy-certificate, finalize-certificate}
 
 pub same-setting : (s : State) → SameSetting s s
@@ -37,16 +39,16 @@ module _ (digest : Bytes → Bytes) (s : State) where
   Named st = st .frames ≡ moveFrames digest s (st .move)
 
   pass-named : Named (passStep digest s)
-  unfolding passStep passCertificate
+  unfolding passStep
   pass-named = go (linked digest (view s) (s .current)) (not (flag 1 s))
     where
       go : (l inTime : Bool) →
-          (cond l (blockCertificate (s .current) (at s (s .current) .certificateMask) (at s (s .current) .notarized)) (dummyCertificate (s .current) (at s (s .current) .dummyMask)) ∷
+          (certificateFrame s (certificateKind (cond l onBlock onDummy)) (s .current) ∷
           cond inTime (finalize (s .own) (s .current) ∷ []) []) ≡ moveFrames digest s (pass (s .current) (cond l onBlock onDummy) inTime)
-      go true true = unfold moveFrames passFrame in refl
-      go true false = unfold moveFrames passFrame in refl
-      go false true = unfold moveFrames passFrame in refl
-      go false false = unfold moveFrames passFrame in refl
+      go true true = unfold moveFrames in refl
+      go true false = unfold moveFrames in refl
+      go false true = unfold moveFrames in refl
+      go false false = unfold moveFrames in refl
 
   step-named : Named (step digest s)
   unfolding moveFrames dummyVoteStep outputStep proposeStep blockVoteStep idleStep offeredBlock
@@ -61,8 +63,8 @@ module _ (digest : Bytes → Bytes) (s : State) where
   unfolding passStep
   pass-fits = go (not (flag 1 s))
     where
-      go : (inTime : Bool) → 224 * length (passCertificate digest s ∷ cond inTime (finalize (s .own) (s .current) ∷ []) []) +
-          unused (pass (s .current) (cond (linked digest (view s) (s .current)) onBlock onDummy) inTime) ≤ 448
+      go : (inTime : Bool) → 224 * length (certificateFrame s (certificateKind (passesBy digest s)) (s .current) ∷ cond inTime (finalize (s .own) (s .current) ∷ []) []) +
+          unused (pass (s .current) (passesBy digest s) inTime) ≤ 448
       go true = unfold unused in omega arith
       go false = unfold unused in omega arith
 
@@ -120,28 +122,9 @@ module _ (digest : Bytes → Bytes) (book : Bytes) (k h : ℕ) (reply : Bytes) w
       go none = unfold unlessFetchRefused fetchAnswerFrames in refl
       go (some number) = unfold unlessFetchRefused fetchAnswerFrames in refl
 
-  -- what the rows of Fetch say
-  pub record FetchFacts : Type 0 where
-    pub was-sound : sound digest book ≡ true
-    pub low : 1 ≤ h
-    pub high : h ≤ last (decode book)
-    pub room : 224 ≤ length reply
-    pub has : hasCertificate (decode book) k h ≡ true
-
-  fetch-facts : firstRefusal (fetchRows digest book k h reply) ≡ none → FetchFacts
-  unfolding fetchRows
-  fetch-facts passes =
-      let r1 = row-passes _ _ passes in
-      let r4 = row-passes _ _ (r1 .1) in
-      let r6 = row-passes _ _ (r4 .1) in
-      let r3 = row-passes _ _ (r6 .1) in
-      let r11 = row-passes _ _ (r3 .1) in
-      let range = in-range 1 (last (decode book)) h (r6 .0) in
-      record { was-sound = r1 .0; low = range .0; high = range .1; room = leb-true _ _ (r3 .0); has = r11 .0 }
-
-  certificate-said : (t : State) → SameSetting (decode book) t → FetchFacts → Written t (fetchFields (decode book) k h) (certificateFrame (decode book) k h)
-  unfolding fetchFields certificateFrame hasCertificate
-  certificate-said t same facts = go (eqb k 5) (eqb k 6) (facts .has)
+  certificate-said : (t : State) → SameSetting (decode book) t → Fetches digest book k h reply → Written t (certificateFields (decode book) k h) (certificateFrame (decode book) k h)
+  unfolding certificateFields certificateFrame hasCertificate
+  certificate-said t same facts = go (eqb k 5) (eqb k 6) (facts .gives .has)
     where
       is : SoundState digest (decode book)
       is = sound-decode digest book (facts .was-sound)
@@ -150,23 +133,23 @@ module _ (digest : Bytes → Bytes) (book : Bytes) (k h : ℕ) (reply : Bytes) w
           Written t
           (cond five (blockCertificateFields h (at (decode book) h .certificateMask) (at (decode book) h .notarized)) (cond six (dummyCertificateFields h (at (decode book) h .dummyMask)) (finalizeCertificateFields h (at (decode book) h .finalizeMask))))
           (cond five (blockCertificate h (at (decode book) h .certificateMask) (at (decode book) h .notarized)) (cond six (dummyCertificate h (at (decode book) h .dummyMask)) (finalizeCertificate h (at (decode book) h .finalizeMask))))
-      go true six e = block-certificate digest (decode book) is t same h (facts .low) (facts .high) e
-      go false true e = dummy-certificate digest (decode book) is t same h (facts .low) (facts .high) (unfold isDummy view in e)
-      go false false e = finalize-certificate digest (decode book) is t same h (facts .low) (facts .high) e
+      go true six e = block-certificate digest (decode book) is t same h (facts .gives .low) (facts .gives .high) e
+      go false true e = dummy-certificate digest (decode book) is t same h (facts .gives .low) (facts .gives .high) (unfold isDummy view in e)
+      go false false e = finalize-certificate digest (decode book) is t same h (facts .gives .low) (facts .gives .high) e
 
   pub fetch-said : (t : State) → SameSetting (decode book) t → Said t (fetchAnswerFields (decode book) k h (fetchCall digest book k h reply .answer)) (fetchCall digest book k h reply .frames)
   unfolding fetchCall
-  fetch-said t same = go (firstRefusal (fetchRows digest book k h reply)) fetch-facts
+  fetch-said t same = go (firstRefusal (fetchRows digest book k h reply)) (fetch-tested digest book k h reply)
     where
-      go : (r : Option ℕ) → (r ≡ none → FetchFacts) → Said t (fetchAnswerFields (decode book) k h (unlessFetchRefused r (certificateFrame (decode book) k h) reply .answer)) (unlessFetchRefused r (certificateFrame (decode book) k h) reply .frames)
+      go : (r : Option ℕ) → (r ≡ none → Fetches digest book k h reply) → Said t (fetchAnswerFields (decode book) k h (unlessFetchRefused r (certificateFrame (decode book) k h) reply .answer)) (unlessFetchRefused r (certificateFrame (decode book) k h) reply .frames)
       go none facts = unfold unlessFetchRefused fetchAnswerFields in said-more (certificate-said t same (facts refl)) (said-none t)
       go (some number) facts = unfold unlessFetchRefused fetchAnswerFields in said-none t
 
   pub fetch-wrote : Wrote (fetchCall digest book k h reply .frames) 0 reply (fetchCall digest book k h reply .reply)
   unfolding fetchCall
-  fetch-wrote = go (firstRefusal (fetchRows digest book k h reply)) fetch-facts
+  fetch-wrote = go (firstRefusal (fetchRows digest book k h reply)) (fetch-tested digest book k h reply)
     where
-      go : (r : Option ℕ) → (r ≡ none → FetchFacts) → Wrote (unlessFetchRefused r (certificateFrame (decode book) k h) reply .frames) 0 reply (unlessFetchRefused r (certificateFrame (decode book) k h) reply .reply)
+      go : (r : Option ℕ) → (r ≡ none → Fetches digest book k h reply) → Wrote (unlessFetchRefused r (certificateFrame (decode book) k h) reply .frames) 0 reply (unlessFetchRefused r (certificateFrame (decode book) k h) reply .reply)
       go none facts = unfold unlessFetchRefused in
           one-wrote (certificateFrame (decode book) k h) reply (certificate-said (decode book) (same-setting (decode book)) (facts refl) .size) (facts refl .room)
       go (some number) facts = unfold unlessFetchRefused in nothing-wrote reply

@@ -5,7 +5,7 @@ use mathlib.Core.Path.{_≡_, refl, sym, ap, _∙_}
 use mathlib.Core.Bool.{true}
 use lib.ListN.{length, length-replicate}
 use Rattle.protocol.specs.Bytes.{Bytes}
-use Rattle.protocol.specs.State.{State}
+use Rattle.protocol.specs.State.{State, at}
 use Rattle.protocol.specs.Sound.{view}
 use Rattle.protocol.specs.Block.{parentHeight, parentDigest}
 use Rattle.protocol.specs.View.{View, quorum, isDummy, digestAt, isFinalized}
@@ -28,6 +28,17 @@ weights-many s = length-replicate (s .n) 1
 pub same-quorum : (v v′ : View) (mask : ℕ) → SameReplicas v v′ → quorum v mask ≡ true → quorum v′ mask ≡ true
 unfolding quorum
 same-quorum v v′ mask same q = rw (same .same-weights) q
+
+-- a state with the same heights and the same n shows the same
+pub same-grows : (s s′ : State) → s′ .n ≡ s .n → s′ .heights ≡ s .heights → Grows (view s) (view s′)
+unfolding view at
+same-grows s s′ e e′ = record {
+  same-replicas = views-alike s s′ e;
+  weight-each = weights-many s;
+  keeps-block = λ h low has. rw e′ (has, refl);
+  more-dummies = λ h low t l m. rw e′ m;
+  more-finalizes = λ h low t l m. rw e′ m;
+}
 
 module _ (v v′ : View) (grows : Grows v v′) where
   quorum-kept : (mask other : ℕ) → Within (v .n) mask other → quorum v mask ≡ true → quorum v′ other ≡ true

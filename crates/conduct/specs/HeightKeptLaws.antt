@@ -64,7 +64,7 @@ module _ (s : State) (i : ℕ) (high : i < last s) (y : Height) where
     grown-each = each-height (λ (h : ℕ) (x : Height). GrownHeight (view s .n) (at s h) x) (fits .grown)
         (λ h low. record { keeps-block = λ has. (has, refl); more-dummies = λ t l e. e; more-finalizes = λ t l e. e })
 
-    grows : Grows (view s) (view s′)
+    pub grows : Grows (view s) (view s′)
     unfolding view
     grows = record {
       same-replicas = same;

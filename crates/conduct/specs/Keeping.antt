@@ -12,7 +12,7 @@ use Rattle.protocol.specs.Bytes.{Bytes, byteAt}
 use Rattle.protocol.specs.BytesLaws.{AreBytes}
 use Rattle.protocol.specs.Answer.{Delivery, known, fresh}
 use Rattle.protocol.specs.Mask.{inMask}
-use Rattle.protocol.specs.Frame.{kind, signer, frameHeight, signerMask, frameDigest, frameBlock}
+use Rattle.protocol.specs.Frame.{kind, signer, frameHeight, signerMask, frameDigest, frameBlock, isProposal, isBlockVote}
 use Rattle.protocol.specs.State.{State, Height, at, decode, withHeight, holdsProposal, isNotarized, voteOf}
 use Rattle.protocol.specs.View.{View, quorum}
 use Rattle.protocol.specs.Sound.{view, sound}
@@ -38,13 +38,13 @@ module _ (n k : ℕ) (frame : Bytes) (x y : Height) where
 
   -- votes for blocks: a replica's first one stays
   pub record KeepsVotes : Type 0 where
-    pub voters : (t : ℕ) → t < n → inMask (y .voterMask) t ≡ (inMask (x .voterMask) t || (eqb k 2 && eqb (signer frame) t))
+    pub voters : (t : ℕ) → t < n → inMask (y .voterMask) t ≡ (inMask (x .voterMask) t || (isBlockVote k && eqb (signer frame) t))
     pub first-vote : (t : ℕ) → inMask (x .voterMask) t ≡ true → voteOf y t ≡ voteOf x t
     pub this-vote : k ≡ 2 → voteOf y (signer frame) ≡ frameDigest frame
 
   -- proposals: the first one stays
   pub record KeepsProposal : Type 0 where
-    pub holds : holdsProposal y ≡ (holdsProposal x || eqb k 1)
+    pub holds : holdsProposal y ≡ (holdsProposal x || isProposal k)
     pub first-proposal : holdsProposal x ≡ true → y .proposal ≡ x .proposal
     pub this-proposal : k ≡ 1 → y .proposal ≡ frameBlock frame
 

@@ -7,30 +7,29 @@ use mathlib.Core.Path.{_≡_, refl, sym, ap, subst, _∙_}
 use mathlib.Core.Logic.{_⊎_, inl, inr, _≢_}
 use mathlib.Core.Bool.{Bool, true, false, _&&_, _||_, not, cond, true≢false}
 use mathlib.Core.List.{List, []}
-use mathlib.Core.Option.{Option, some, none}
+use mathlib.Core.Option.{none}
 use lib.ListN.{length, length-set}
 use lib.Seq.{ext-getD}
 use lib.Dec.{eqb, leb, ltb}
 use borrow.Author.Tests.{eqb-true, eqb-false, leb-true, leb-false, ltb-true, not-true}
 use Rattle.protocol.specs.Bytes.{Bytes, byteAt, word16, part, same}
-use Rattle.protocol.specs.Tests.{firstRefusal, inRange}
 use Rattle.protocol.specs.BytesLaws.{AreBytes, byte-part, word-low, word-high}
 use Rattle.protocol.specs.TestsLaws.{and-true, or-true, both-ways, cond-elim}
 use Rattle.protocol.specs.EveryLaws.{Every, one, none, every-append}
 use Rattle.protocol.specs.Mask.{inMask}
 use Rattle.protocol.specs.MaskLaws.{maskOf-same, mask-same}
-use Rattle.protocol.specs.Frame.{kind, isStatement, signer, frameHeight}
-use Rattle.protocol.specs.Answer.{accepted, Delivery, known, fresh, unlessRefused}
+use Rattle.protocol.specs.Frame.{kind, signer, frameHeight}
+use Rattle.protocol.specs.Answer.{Outcome, accepted, Delivery, known, fresh}
 use Rattle.protocol.specs.State.{State, Height, at, last, decode, withHeight, holdsProposal, isNotarized, voteOf, bookHeights}
 use Rattle.protocol.specs.Sound.{view}
 use Rattle.protocol.specs.View.{View}
-use Rattle.protocol.specs.Deliver.{votersFor, keep, kept, deliverRows, deliverCall}
+use Rattle.protocol.specs.Deliver.{votersFor, deliverCall}
 use Rattle.protocol.specs.CodecLaws.{last-decode}
 use Rattle.protocol.specs.PlaceLaws.{suc-pred}
+use Rattle.protocol.specs.DeliverLaws.{Accepts, signer-few, deliver-cases}
 use Rattle.protocol.specs.SoundLaws.{SoundHeight, sound-decode}
 use Rattle.protocol.specs.FieldLaws.{read-status, read-certificate-mask, read-dummy-mask, read-finalize-mask, read-voter-mask, read-proposal, read-notarized, read-vote}
-use Rattle.conduct.specs.DeliverKeptLaws.{signer-small}
-use Rattle.conduct.specs.KeepsStateLaws.{refused≢accepted, facts, state}
+use Rattle.conduct.specs.KeepsStateLaws.{refused≢accepted, state}
 use Rattle.conduct.specs.KeepingLaws.{deliver-keeps}
 use Rattle.conduct.specs.KeptBytes.{Part, inParts, SameOutside, contentAt, bodyAt, proposalParts, voteParts, dummyParts, finalizeParts, notarizedParts, keptParts, newlyNotarized, deliveryParts}
 use Rattle.conduct.specs.Keeping.{Keeps, NewlyKept, KeepsAt, heldVoters, Voted, Tallied, ByVotes}
@@ -156,20 +155,14 @@ module _ (digest : Bytes → Bytes) (v : View) (k : ℕ) (frame : Bytes) (x y y�
       go (inr (inr (new, by))) = is′ .block .counted new (same-voted (by .0))
 
 not-refused : (digest : Bytes → Bytes) (book frame : Bytes) (news : Delivery) →
-    deliverCall digest book frame .answer ≡ accepted news →
-    firstRefusal (deliverRows digest book frame) ≡ none
-unfolding deliverCall unlessRefused
-not-refused digest book frame news = go (firstRefusal (deliverRows digest book frame)) refl
-  where
-    go : (r : Option ℕ) → firstRefusal (deliverRows digest book frame) ≡ r →
-        unlessRefused r book (kept digest book frame (keep digest (decode book) frame)) .answer ≡ accepted news →
-        r ≡ none
-    go none e accepts = refl
-    go (some number) e accepts = absurd (refused≢accepted number news accepts)
+    deliverCall digest book frame .answer ≡ accepted news → Accepts digest book frame
+not-refused digest book frame news =
+    deliver-cases digest book frame (λ (o : Outcome Delivery). o .answer ≡ accepted news → Accepts digest book frame)
+    (λ number _ e. absurd (refused≢accepted number news e)) (λ accepts _ _. accepts) (λ _ accepts _ _. accepts)
 
 -- ---- where the fields of the frame's height stand in a book that meets `Keeps`
 module _ (digest : Bytes → Bytes) (book frame : Bytes)
-    (passes : firstRefusal (deliverRows digest book frame) ≡ none) where
+    (accepts : Accepts digest book frame) where
   abbrev h : ℕ
   h = frameHeight frame
 
@@ -180,10 +173,10 @@ module _ (digest : Bytes → Bytes) (book frame : Bytes)
   d = bodyAt (bookHeights book) h
 
   low : 1 ≤ h
-  low = facts digest book frame passes .low
+  low = accepts .read .low
 
   high : h ≤ last (decode book)
-  high = facts digest book frame passes .high
+  high = accepts .read .high
 
   module _ (news : Delivery) (after : Bytes) (is : Keeps digest book frame news after) where
     abbrev y : Height
@@ -319,15 +312,7 @@ module _ (digest : Bytes → Bytes) (book frame : Bytes)
         sym (proposal-at news′ after′ is′))
 
     few : kind frame ≡ 2 → signer frame < 16
-    unfolding view
-    few e =
-        let s = state digest book frame passes in
-        omega (
-          arith,
-          signer-small digest (decode book) s frame (facts digest book frame passes) 2 e
-              (unfold isStatement inRange in refl),
-          s .n-high,
-        )
+    few = signer-few (accepts .read) (state digest book frame accepts .n-high)
 
     vote-in : kind frame ≡ 2 → In (d + (352 + 32 * signer frame), 32)
     vote-in e = area-in (d + (352 + 32 * signer frame)) 32
@@ -413,10 +398,10 @@ pub keeps-exact : (digest : Bytes → Bytes) (book frame : Bytes) (news : Delive
     (news′ : Delivery) (after : Bytes) → AreBytes after → Keeps digest book frame news′ after →
     (news′ ≡ news) × (after ≡ deliverCall digest book frame .book)
 keeps-exact digest book frame news accepts small bytes news′ after bytes′ is =
-    let passes = not-refused digest book frame news accepts in
+    let tested = not-refused digest book frame news accepts in
     let right = deliver-keeps digest book frame news accepts in (
-      same-news digest book frame passes news′ news after
+      same-news digest book frame tested news′ news after
           (deliverCall digest book frame .book) is right small bytes′ bytes,
-      same-after digest book frame passes news′ news after
+      same-after digest book frame tested news′ news after
           (deliverCall digest book frame .book) is right small bytes′ bytes,
     )

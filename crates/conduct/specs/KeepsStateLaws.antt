@@ -3,7 +3,7 @@ use Prim.Native.Nat.{ℕ, zero, suc, _+_, _%_, _^_, _≤_, _<_}
 use native.Mathlib.Omega.{arith}
 use native.Mathlib.Decide.{ℕ-discrete}
 use mathlib.Core.Path.{_≡_, refl, sym, ap, subst, _∙_}
-use mathlib.Core.Logic.{_⊎_, inl, inr, _≢_}
+use mathlib.Core.Logic.{inl, inr, _≢_}
 use mathlib.Core.Bool.{Bool, true, false, _||_, not, true≢false}
 use mathlib.Core.List.{[], _∷_}
 use mathlib.Core.Option.{Option, some, none}
@@ -11,23 +11,24 @@ use lib.ListN.{length}
 use lib.Dec.{eqb, leb}
 use borrow.Author.Tests.{eqb-true, eqb-false, eq-eqb, leb-true, leb-false, le-leb, not-true}
 use Rattle.protocol.specs.Bytes.{Bytes, same}
-use Rattle.protocol.specs.Tests.{allOf, implies, inRange, firstRefusal}
+use Rattle.protocol.specs.Tests.{allOf}
 use Rattle.protocol.specs.Answer.{refused, accepted}
 use Rattle.protocol.specs.Mask.{inMask, union}
-use Rattle.protocol.specs.Frame.{kind, signer, frameHeight, signerMask, frameDigest, frameBlock, isStatement}
-use Rattle.protocol.specs.State.{State, Height, at, last, withHeight, decode, holdsProposal, isNotarized, voteOf}
+use Rattle.protocol.specs.Frame.{kind, signer, frameHeight, signerMask, frameDigest, frameBlock}
+use Rattle.protocol.specs.State.{State, Height, at, last, withHeight, encode, decode, holdsProposal, isNotarized, voteOf}
 use Rattle.protocol.specs.View.{View, quorum}
-use Rattle.protocol.specs.Deliver.{withProposal, withNotarized, withMasks, withVote, votersFor, notarize, keepProposal, keepBlockVote, keepDummyVote, keepFinalize, keepBlockCertificate, keepDummyCertificate, keepFinalizeCertificate, keep, kept, readRows, clashRows, deliverRows}
+use Rattle.protocol.specs.Deliver.{withProposal, withNotarized, withMasks, withVote, votersFor, notarize, keepProposal, keepBlockVote, keepDummyVote, keepFinalize, keepBlockCertificate, keepDummyCertificate, keepFinalizeCertificate, keep}
 use Rattle.protocol.specs.MaskLaws.{inMask-add-self, inMask-add-other}
 use Rattle.protocol.specs.UnionLaws.{union-bit}
 use Rattle.protocol.specs.TestsLaws.{cond-elim, eqb-self}
-use Rattle.protocol.specs.RowLaws.{row, row-passes, same-eq}
-use Rattle.protocol.specs.Sound.{view, sound}
+use Rattle.protocol.specs.RowLaws.{row}
+use Rattle.protocol.specs.Sound.{view}
 use Rattle.protocol.specs.StateLaws.{ShapedHeight, decode-encode}
 use Rattle.protocol.specs.PlaceLaws.{with-at, at-with}
 use Rattle.protocol.specs.SoundLaws.{SoundState, sound-decode}
 use Rattle.protocol.specs.VoteLaws.{vote-same, vote-other}
-use Rattle.conduct.specs.DeliverKeptLaws.{ReadFacts, read-facts, by-kind, keep-sound, shaped, digest-size, signer-small}
+use Rattle.protocol.specs.DeliverLaws.{ReadFrame, Agrees, Accepts, digest-size, signer-few, keep-cases}
+use Rattle.conduct.specs.DeliverKeptLaws.{keep-sound, shaped}
 use Rattle.conduct.specs.Keeping.{says, NewlyKept, KeepsState, KeepsMasks, KeepsVotes, KeepsProposal, KeepsBlock, KeepsAt, Voted, Tallied, ByVotes, heldVoters}
 
 pub refused≢accepted : {A : Type 0} (number : ℕ) (answer : A) → refused number ≡ accepted answer → ⊥
@@ -378,34 +379,20 @@ module _ (s : State) where
   placed-same (suc i) low = with-at s i
 
 -- ---- the whole delivery
-module _ (digest : Bytes → Bytes) (s : State) (is : SoundState digest s) (frame : Bytes) (facts : ReadFacts s frame) (clash : firstRefusal (clashRows s frame) ≡ none) where
+module _ (digest : Bytes → Bytes) (s : State) (is : SoundState digest s) (frame : Bytes) (read : ReadFrame s frame)
+    (agrees : Agrees s frame) where
   abbrev x : Height
   x = at s (frameHeight frame)
 
-  proposal-agrees : kind frame ≡ 1 → holdsProposal x ≡ true → x .proposal ≡ frameBlock frame
-  unfolding clashRows implies
-  proposal-agrees e held = same-eq _ _ (rw (e, held) at (row-passes _ _ clash .0))
-
-  vote-agrees : kind frame ≡ 2 → inMask (x .voterMask) (signer frame) ≡ true → voteOf x (signer frame) ≡ frameDigest frame
-  unfolding clashRows implies
-  vote-agrees e has = same-eq _ _ (rw (e, has) at (row-passes _ _ (row-passes _ _ clash .1) .0))
-
-  block-agrees : kind frame ≡ 5 → isNotarized x ≡ true → x .notarized ≡ frameBlock frame
-  unfolding clashRows implies
-  block-agrees e has = same-eq _ _ (rw (e, has) at (row-passes _ _ (row-passes _ _ (row-passes _ _ clash .1) .1) .0))
-
-  few : kind frame ≡ 2 → signer frame < 16
-  unfolding view
-  few e = omega (arith, signer-small digest s is frame facts 2 e (unfold isStatement inRange in refl), is .n-high)
-
   keep-keeps : Kept digest (view s) frame x (kind frame) (keep digest s frame)
-  keep-keeps = by-kind digest s is frame facts (Kept digest (view s) frame x)
-      (λ e. proposal-keeps digest (view s) frame x (proposal-agrees e))
-      (λ e. vote-keeps digest (view s) frame x (shaped digest s is frame facts) (few e)
-      (digest-size digest s is frame facts) (vote-agrees e))
+  unfolding view
+  keep-keeps = keep-cases digest s frame read (Kept digest (view s) frame x)
+      (λ e. proposal-keeps digest (view s) frame x (agrees .proposal e))
+      (λ e. vote-keeps digest (view s) frame x (shaped digest s is frame read) (signer-few read (is .n-high) e)
+      (digest-size read) (agrees .vote e))
       (λ e. dummy-keeps digest (view s) frame x)
       (λ e. finalize-keeps digest (view s) frame x)
-      (λ e. certificate-keeps digest (view s) frame x (block-agrees e))
+      (λ e. certificate-keeps digest (view s) frame x (agrees .block e))
       (λ e. dummy-certificate-keeps digest (view s) frame x)
       (λ e. finalize-certificate-keeps digest (view s) frame x)
 
@@ -414,44 +401,32 @@ module _ (digest : Bytes → Bytes) (s : State) (is : SoundState digest s) (fram
 
   keeps : KeepsState digest s after frame
   keeps =
-      let found = at-placed s (frameHeight frame) (left x (keep digest s frame)) (facts .low) (facts .high) in
+      let found = at-placed s (frameHeight frame) (left x (keep digest s frame)) (read .low) (read .high) in
       record {
         elsewhere = ap (λ (y : Height). withHeight s (frameHeight frame) y) (sym found);
         here = rw found keep-keeps;
       }
 
-module _ (digest : Bytes → Bytes) (book frame : Bytes) (passes : firstRefusal (deliverRows digest book frame) ≡ none) where
+module _ (digest : Bytes → Bytes) (book frame : Bytes) (accepts : Accepts digest book frame) where
   abbrev s : State
   s = decode book
 
-  is-sound : sound digest book ≡ true
-  unfolding deliverRows
-  is-sound = row-passes _ _ passes .0
-
   pub state : SoundState digest s
-  state = sound-decode digest book is-sound
+  state = sound-decode digest book (accepts .was-sound)
 
-  pub facts : ReadFacts s frame
-  unfolding deliverRows
-  facts = read-facts s frame (clashRows s frame) (row-passes _ _ passes .1)
+  -- a frame that is known keeps nothing, and a fresh one its height
+  pub known-keeps : keep digest s frame ≡ none → KeepsState digest s s frame
+  unfolding left
+  known-keeps e =
+      let same : after digest s state frame (accepts .read) (accepts .agrees) ≡ s =
+      rw e (placed-same s (frameHeight frame) (accepts .read .low)) in
+      subst (λ (z : State). KeepsState digest s z frame) same (keeps digest s state frame (accepts .read) (accepts .agrees))
 
-  clash : firstRefusal (clashRows s frame) ≡ none
-  unfolding deliverRows readRows
-  clash =
-      let r4 = row-passes _ _ (row-passes _ _ passes .1) in
-      let r6 = row-passes _ _ (r4 .1) in
-      let r5 = row-passes _ _ (r6 .1) in
-      let r7 = row-passes _ _ (r5 .1) in
-      row-passes _ _ (r7 .1) .1
-
-  pub outcome : (o : Option Height) → keep digest s frame ≡ o →
-      KeepsState digest s (decode (kept digest book frame o .book)) frame
-  unfolding kept left
-  outcome none e =
-      let same : after digest s state frame facts clash ≡ s = rw e (placed-same s (frameHeight frame) (facts .low)) in
-      subst (λ (z : State). KeepsState digest s z frame) same (keeps digest s state frame facts clash)
-  outcome (some y) e =
-      let same : after digest s state frame facts clash ≡ withHeight s (frameHeight frame) y = rw e refl in
-      let back = decode-encode (withHeight s (frameHeight frame) y) (keep-sound digest s state frame facts y e .shaped) in
+  pub fresh-keeps : (y : Height) → keep digest s frame ≡ some y →
+      KeepsState digest s (decode (encode (withHeight s (frameHeight frame) y))) frame
+  unfolding left
+  fresh-keeps y e =
+      let same : after digest s state frame (accepts .read) (accepts .agrees) ≡ withHeight s (frameHeight frame) y = rw e refl in
+      let back = decode-encode (withHeight s (frameHeight frame) y) (keep-sound digest s state frame (accepts .read) y e .shaped) in
       subst (λ (z : State). KeepsState digest s z frame) (same ∙ sym back)
-      (keeps digest s state frame facts clash)
+      (keeps digest s state frame (accepts .read) (accepts .agrees))

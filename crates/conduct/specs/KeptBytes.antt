@@ -3,9 +3,9 @@ use Prim.Native.Nat.{ℕ, _+_, _-_, _*_}
 use mathlib.Core.Path.{_≡_}
 use mathlib.Core.Bool.{Bool, false, _&&_, _||_, not, cond}
 use mathlib.Core.List.{List, [], _∷_, _++_}
-use lib.Dec.{eqb, leb, ltb}
+use lib.Dec.{leb, ltb}
 use Rattle.protocol.specs.Bytes.{Bytes, byteAt}
-use Rattle.protocol.specs.Frame.{kind, signer, frameHeight}
+use Rattle.protocol.specs.Frame.{kind, signer, frameHeight, isProposal, isBlockVote, isDummyVote, isFinalize, isDummyCertificate, isFinalizeCertificate}
 use Rattle.protocol.specs.State.{Height, at, decode, isNotarized, bookHeights}
 
 -- a part of a book: its first byte, and how many bytes it has
@@ -52,10 +52,10 @@ module _ (heights h : ℕ) where
   -- what a frame of kind `k` and signer `t` writes by itself; a block certificate only what it notarizes
   unfoldable pub keptParts : ℕ → ℕ → List Part
   keptParts k t =
-      cond (eqb k 1) proposalParts
-      (cond (eqb k 2) (voteParts t)
-      (cond (eqb k 3 || eqb k 6) dummyParts
-      (cond (eqb k 4 || eqb k 7) finalizeParts [])))
+      cond (isProposal k) proposalParts
+      (cond (isBlockVote k) (voteParts t)
+      (cond (isDummyVote k || isDummyCertificate k) dummyParts
+      (cond (isFinalize k || isFinalizeCertificate k) finalizeParts [])))
 
 -- a height has a notarized block, and had none before
 unfoldable pub newlyNotarized : Height → Height → Bool

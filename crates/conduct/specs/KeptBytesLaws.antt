@@ -12,10 +12,10 @@ use lib.Dec.{eqb, leb, ltb}
 use lib.Pow.{pow-pos}
 use borrow.Author.Tests.{eqb-false, le-leb, lt-ltb, not-true}
 use Rattle.protocol.specs.Bytes.{Bytes, le16}
-use Rattle.protocol.specs.Tests.{allOf, inRange}
+use Rattle.protocol.specs.Tests.{allOf}
 use Rattle.protocol.specs.BytesLaws.{put, length-put, put-other}
 use Rattle.protocol.specs.Mask.{inMask, union}
-use Rattle.protocol.specs.Frame.{kind, signer, frameHeight, signerMask, frameDigest, frameBlock, isStatement, carriesBlock}
+use Rattle.protocol.specs.Frame.{kind, signer, frameHeight, signerMask, frameDigest, frameBlock}
 use Rattle.protocol.specs.State.{State, Height, at, last, encode, withHeight, holdsProposal, isNotarized}
 use Rattle.protocol.specs.View.{View, quorum}
 use Rattle.protocol.specs.Sound.{view}
@@ -25,9 +25,9 @@ use Rattle.protocol.specs.RowLaws.{row}
 use Rattle.protocol.specs.StateLaws.{Shaped, ShapedHeight}
 use Rattle.protocol.specs.PlaceLaws.{length-encode, suc-pred, last-with, shaped-with}
 use Rattle.protocol.specs.ChangeLaws.{make-proposal, make-notarized, make-dummy-mask, make-finalize-mask, make-vote, shaped-proposal, shaped-vote}
-use Rattle.protocol.specs.FormedLaws.{formed}
 use Rattle.protocol.specs.SoundLaws.{SoundState}
-use Rattle.conduct.specs.DeliverKeptLaws.{ReadFacts, OnSome, by-kind, shaped, digest-size, signer-small, block-good}
+use Rattle.protocol.specs.DeliverLaws.{ReadFrame, OnSome, digest-size, block-size, signer-few, keep-cases}
+use Rattle.conduct.specs.DeliverKeptLaws.{shaped}
 use Rattle.conduct.specs.KeepsStateLaws.{is-notarized, proposal-status}
 use Rattle.conduct.specs.KeptBytes.{Part, inParts, SameOutside, contentAt, bodyAt, proposalParts, voteParts, dummyParts, finalizeParts, notarizedParts, keptParts, newlyNotarized}
 
@@ -213,42 +213,42 @@ module _ {s : State} {h : ℕ} (place : Place s h) where
         (λ _. more-outside _ same)
 
     proposal-only : length (frameBlock frame) ≡ 176 → Only 1 (keepProposal digest v x frame)
-    unfolding keepProposal OnSome keptParts
+    unfolding keepProposal keptParts
     proposal-only size = cond-elim (Only 1) (holdsProposal x) (λ _. tt) (λ free.
         then-counted (proposalParts (last s) h) (withProposal x (frameBlock frame))
         (shaped-proposal x (frameBlock frame) size fits)
         (proposal-status x (frameBlock frame) free) (proposal-outside x fits (frameBlock frame) size))
 
     vote-only : signer frame < 16 → length (frameDigest frame) ≡ 32 → Only 2 (keepBlockVote digest v x frame)
-    unfolding keepBlockVote OnSome keptParts
+    unfolding keepBlockVote keptParts
     vote-only few size = cond-elim (Only 2) (inMask (x .voterMask) (signer frame)) (λ _. tt) (λ _.
         then-counted (voteParts (last s) h (signer frame)) (withVote x (signer frame) (frameDigest frame))
         (shaped-vote x (signer frame) (frameDigest frame) few size fits)
         (unfold withVote isNotarized in refl) (vote-outside x fits (signer frame) (frameDigest frame) few size))
 
     dummy-only : Only 3 (keepDummyVote x frame)
-    unfolding keepDummyVote OnSome keptParts
+    unfolding keepDummyVote keptParts
     dummy-only = cond-elim (Only 3) (inMask (x .dummyMask) (signer frame)) (λ _. tt)
         (λ _. more-outside _ (dummy-outside x fits (x .dummyMask + 2 ^ signer frame)))
 
     finalize-only : Only 4 (keepFinalize x frame)
-    unfolding keepFinalize OnSome keptParts
+    unfolding keepFinalize keptParts
     finalize-only = cond-elim (Only 4) (inMask (x .finalizeMask) (signer frame)) (λ _. tt)
         (λ _. more-outside _ (finalize-outside x fits (x .finalizeMask + 2 ^ signer frame)))
 
     certificate-only : length (frameBlock frame) ≡ 176 → Only 5 (keepBlockCertificate x frame)
-    unfolding keepBlockCertificate OnSome keptParts
+    unfolding keepBlockCertificate keptParts
     certificate-only size = cond-elim (Only 5) (isNotarized x) (λ _. tt) (λ free.
         then-notarized [] x fits (record { same-byte = λ _ _. refl }) free (signerMask frame) (frameBlock frame) size)
 
     dummy-certificate-only : (n : ℕ) → Only 6 (keepDummyCertificate n x frame)
-    unfolding keepDummyCertificate OnSome keptParts
+    unfolding keepDummyCertificate keptParts
     dummy-certificate-only n = cond-elim (Only 6) (eqb (union n (x .dummyMask) (signerMask frame)) (x .dummyMask))
         (λ _. tt) (λ _.
         more-outside _ (dummy-outside x fits (union n (x .dummyMask) (signerMask frame))))
 
     finalize-certificate-only : (n : ℕ) → Only 7 (keepFinalizeCertificate n x frame)
-    unfolding keepFinalizeCertificate OnSome keptParts
+    unfolding keepFinalizeCertificate keptParts
     finalize-certificate-only n = cond-elim (Only 7)
         (eqb (union n (x .finalizeMask) (signerMask frame)) (x .finalizeMask)) (λ _. tt) (λ _.
         more-outside _ (finalize-outside x fits (union n (x .finalizeMask) (signerMask frame))))
@@ -275,74 +275,67 @@ module _ (digest : Bytes → Bytes) (v : View) (frame : Bytes) (x : Height) wher
       (λ _. unfold withNotarized in omega arith) (λ _. omega arith)
 
   proposal-other : Other (keepProposal digest v x frame)
-  unfolding keepProposal OnSome withProposal
+  unfolding keepProposal withProposal
   proposal-other = cond-elim Other (holdsProposal x) (λ _. tt) (λ _ same.
       absurd (omega (arith, more-status (withProposal x (frameBlock frame)), ap (λ (y : Height). y .status) same)))
 
   vote-other : Other (keepBlockVote digest v x frame)
-  unfolding keepBlockVote OnSome withVote
+  unfolding keepBlockVote withVote
   vote-other = cond-elim Other (inMask (x .voterMask) (signer frame)) (λ _. tt) (λ _ same.
       let kept = same-voters (withVote x (signer frame) (frameDigest frame)) in
       absurd (omega (arith, pow-pos (signer frame), sym kept ∙ ap (λ (y : Height). y .voterMask) same)))
 
   dummy-other : Other (keepDummyVote x frame)
-  unfolding keepDummyVote OnSome withMasks
+  unfolding keepDummyVote withMasks
   dummy-other = cond-elim Other (inMask (x .dummyMask) (signer frame)) (λ _. tt) (λ _ same.
       absurd (omega (arith, pow-pos (signer frame), ap (λ (y : Height). y .dummyMask) same)))
 
   finalize-other : Other (keepFinalize x frame)
-  unfolding keepFinalize OnSome withMasks
+  unfolding keepFinalize withMasks
   finalize-other = cond-elim Other (inMask (x .finalizeMask) (signer frame)) (λ _. tt) (λ _ same.
       absurd (omega (arith, pow-pos (signer frame), ap (λ (y : Height). y .finalizeMask) same)))
 
   certificate-other : Other (keepBlockCertificate x frame)
-  unfolding keepBlockCertificate OnSome withNotarized
+  unfolding keepBlockCertificate withNotarized
   certificate-other = cond-elim Other (isNotarized x) (λ _. tt)
       (λ _ same. absurd (omega (arith, ap (λ (y : Height). y .status) same)))
 
   dummy-certificate-other : (n : ℕ) → Other (keepDummyCertificate n x frame)
-  unfolding keepDummyCertificate OnSome withMasks
+  unfolding keepDummyCertificate withMasks
   dummy-certificate-other n = cond-elim Other (eqb (union n (x .dummyMask) (signerMask frame)) (x .dummyMask))
       (λ _. tt) (λ e same.
       eqb-false _ _ e (ap (λ (y : Height). y .dummyMask) same))
 
   finalize-certificate-other : (n : ℕ) → Other (keepFinalizeCertificate n x frame)
-  unfolding keepFinalizeCertificate OnSome withMasks
+  unfolding keepFinalizeCertificate withMasks
   finalize-certificate-other n = cond-elim Other
       (eqb (union n (x .finalizeMask) (signerMask frame)) (x .finalizeMask)) (λ _. tt) (λ e same.
       eqb-false _ _ e (ap (λ (y : Height). y .finalizeMask) same))
 
 -- ---- the whole delivery
 module _ (digest : Bytes → Bytes) (s : State) (is : SoundState digest s)
-    (frame : Bytes) (facts : ReadFacts s frame) where
+    (frame : Bytes) (read : ReadFrame s frame) where
   abbrev x : Height
   x = at s (frameHeight frame)
 
-  block-size : (k : ℕ) → kind frame ≡ k → carriesBlock k ≡ true → length (frameBlock frame) ≡ 176
-  block-size k e carries = formed _ _ (block-good digest s is frame facts k e carries) .size
-
-  few : kind frame ≡ 2 → signer frame < 16
-  unfolding view
-  few e = omega (arith, signer-small digest s is frame facts 2 e (unfold isStatement inRange in refl), is .n-high)
-
   fits : ShapedHeight x
-  fits = shaped digest s is frame facts
+  fits = shaped digest s is frame read
 
   place : Place s (frameHeight frame)
-  place = record { shaped = is .shaped; low = facts .low; high = facts .high }
+  place = record { shaped = is .shaped; low = read .low; high = read .high }
 
   kind-only : Only place digest (view s) frame x fits (kind frame) (keep digest s frame)
-  kind-only = by-kind digest s is frame facts (Only place digest (view s) frame x fits)
-      (λ e. proposal-only place digest (view s) frame x fits (block-size 1 e (unfold carriesBlock in refl)))
-      (λ e. vote-only place digest (view s) frame x fits (few e) (digest-size digest s is frame facts))
+  kind-only = keep-cases digest s frame read (Only place digest (view s) frame x fits)
+      (λ e. proposal-only place digest (view s) frame x fits (block-size read))
+      (λ e. vote-only place digest (view s) frame x fits (signer-few read (is .n-high) e) (digest-size read))
       (λ _. dummy-only place digest (view s) frame x fits)
       (λ _. finalize-only place digest (view s) frame x fits)
-      (λ e. certificate-only place digest (view s) frame x fits (block-size 5 e (unfold carriesBlock in refl)))
+      (λ e. certificate-only place digest (view s) frame x fits (block-size read))
       (λ _. dummy-certificate-only place digest (view s) frame x fits _)
       (λ _. finalize-certificate-only place digest (view s) frame x fits _)
 
   kind-other : OnSome (λ (y : Height). y ≢ x) (keep digest s frame)
-  kind-other = by-kind digest s is frame facts (λ _. Other digest (view s) frame x)
+  kind-other = keep-cases digest s frame read (λ _. Other digest (view s) frame x)
       (λ _. proposal-other digest (view s) frame x) (λ _. vote-other digest (view s) frame x)
       (λ _. dummy-other digest (view s) frame x) (λ _. finalize-other digest (view s) frame x)
       (λ _. certificate-other digest (view s) frame x) (λ _. dummy-certificate-other digest (view s) frame x _)
@@ -355,9 +348,7 @@ module _ (digest : Bytes → Bytes) (s : State) (is : SoundState digest s)
         (keptParts (last s) (frameHeight frame) (kind frame) (signer frame) ++
         cond (newlyNotarized x y) (notarizedParts (last s) (frameHeight frame)) [])
         (encode (withHeight s (frameHeight frame) x)) (encode (withHeight s (frameHeight frame) y))
-    unfolding OnSome
     keep-only = subst (Only place digest (view s) frame x fits (kind frame)) e kind-only
 
     pub keep-other : y ≢ x
-    unfolding OnSome
     keep-other = subst (OnSome (λ (z : Height). z ≢ x)) e kind-other

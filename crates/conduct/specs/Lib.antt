@@ -25,6 +25,7 @@ pub mod HeightKeptLaws
 pub mod KeepLaws
 pub mod OpenKeptLaws
 pub mod DeliverKeptLaws
+pub mod GrowingLaws
 pub mod MoveKeptLaws
 pub mod SubmitKeptLaws
 pub mod SoundKeptLaws

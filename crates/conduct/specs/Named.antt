@@ -2,24 +2,22 @@
 use Prim.Native.Nat.{ℕ}
 use mathlib.Core.Bool.{true, false, cond}
 use mathlib.Core.List.{List, [], _∷_}
-use lib.Dec.{eqb}
 use Rattle.protocol.specs.Bytes.{Bytes}
-use Rattle.protocol.specs.Frame.{proposal, blockVote, dummyVote, finalize, blockCertificate, dummyCertificate}
+use Rattle.protocol.specs.Frame.{proposal, blockVote, dummyVote, finalize, isBlockCertificate, isDummyCertificate}
 use Rattle.protocol.specs.State.{State, at}
 use Rattle.protocol.specs.Move.{someOr, parentBelow, proposedBlock}
-use Rattle.protocol.specs.Fetch.{certificateFrame}
-use Rattle.protocol.specs.Answer.{Answer, refused, accepted, Done, Move, idle, voteDummy, output, pass, propose, voteBlock, Certificate, onBlock, onDummy}
+use Rattle.protocol.specs.Certificates.{certificateFrame}
+use Rattle.protocol.specs.Answer.{Answer, refused, accepted, Done, Move, idle, voteDummy, output, pass, propose, voteBlock, certificateKind}
 use Rattle.conduct.specs.Fields.{Fields, proposalFields, blockVoteFields, dummyVoteFields, finalizeFields, blockCertificateFields, dummyCertificateFields, finalizeCertificateFields}
 
--- ---- Move
--- the certificate that a pass names
-unfoldable pub passFrame : State → ℕ → Certificate → Bytes
-passFrame s h onBlock = blockCertificate h (at s h .certificateMask) (at s h .notarized)
-passFrame s h onDummy = dummyCertificate h (at s h .dummyMask)
+-- what the certificate of kind 5, 6 or 7 of a height says
+unfoldable pub certificateFields : State → ℕ → ℕ → Fields
+certificateFields s k h =
+    cond (isBlockCertificate k) (blockCertificateFields h (at s h .certificateMask) (at s h .notarized))
+    (cond (isDummyCertificate k) (dummyCertificateFields h (at s h .dummyMask))
+    (finalizeCertificateFields h (at s h .finalizeMask)))
 
-unfoldable pub passFields : State → ℕ → Certificate → Fields
-passFields s h onBlock = blockCertificateFields h (at s h .certificateMask) (at s h .notarized)
-passFields s h onDummy = dummyCertificateFields h (at s h .dummyMask)
+-- ---- Move
 
 module _ (digest : Bytes → Bytes) where
   -- the block that a proposal carries: on the best chain below the current height
@@ -30,8 +28,8 @@ module _ (digest : Bytes → Bytes) where
   moveFrames s idle = []
   moveFrames s (voteDummy h) = dummyVote (s .own) h ∷ []
   moveFrames s (output g) = []
-  moveFrames s (pass h certificate true) = passFrame s h certificate ∷ finalize (s .own) h ∷ []
-  moveFrames s (pass h certificate false) = passFrame s h certificate ∷ []
+  moveFrames s (pass h certificate true) = certificateFrame s (certificateKind certificate) h ∷ finalize (s .own) h ∷ []
+  moveFrames s (pass h certificate false) = certificateFrame s (certificateKind certificate) h ∷ []
   moveFrames s (propose h) = proposal (s .own) h (offeredBlock s) ∷ []
   moveFrames s (voteBlock h) = blockVote (s .own) h (digest (at s h .proposal)) ∷ []
 
@@ -39,8 +37,8 @@ module _ (digest : Bytes → Bytes) where
   moveFields s idle = []
   moveFields s (voteDummy h) = dummyVoteFields (s .own) h ∷ []
   moveFields s (output g) = []
-  moveFields s (pass h certificate true) = passFields s h certificate ∷ finalizeFields (s .own) h ∷ []
-  moveFields s (pass h certificate false) = passFields s h certificate ∷ []
+  moveFields s (pass h certificate true) = certificateFields s (certificateKind certificate) h ∷ finalizeFields (s .own) h ∷ []
+  moveFields s (pass h certificate false) = certificateFields s (certificateKind certificate) h ∷ []
   moveFields s (propose h) = proposalFields (s .own) h (offeredBlock s) ∷ []
   moveFields s (voteBlock h) = blockVoteFields (s .own) h (digest (at s h .proposal)) ∷ []
 
@@ -54,16 +52,10 @@ module _ (digest : Bytes → Bytes) where
   moveAnswerFields s (accepted move) = moveFields s move
 
 -- ---- Fetch
--- what its frame says: the certificate of kind 5, 6 or 7 of a height
-unfoldable pub fetchFields : State → ℕ → ℕ → Fields
-fetchFields s k h =
-    cond (eqb k 5) (blockCertificateFields h (at s h .certificateMask) (at s h .notarized))
-    (cond (eqb k 6) (dummyCertificateFields h (at s h .dummyMask)) (finalizeCertificateFields h (at s h .finalizeMask)))
-
 unfoldable pub fetchAnswerFrames : State → ℕ → ℕ → Answer Done → List Bytes
 fetchAnswerFrames s k h (refused number) = []
 fetchAnswerFrames s k h (accepted answer) = certificateFrame s k h ∷ []
 
 unfoldable pub fetchAnswerFields : State → ℕ → ℕ → Answer Done → List Fields
 fetchAnswerFields s k h (refused number) = []
-fetchAnswerFields s k h (accepted answer) = fetchFields s k h ∷ []
+fetchAnswerFields s k h (accepted answer) = certificateFields s k h ∷ []

@@ -15,7 +15,8 @@ use Rattle.protocol.specs.Move.{MoveOutcome, moved, step, unlessMoveRefused, mo
 use Rattle.protocol.specs.Signal.{signalRows, signalCall}
 use Rattle.protocol.specs.Submit.{submitRows, submitCall}
 use Rattle.protocol.specs.Read.{logSize, sizeCall}
-use Rattle.protocol.specs.Fetch.{certificateFrame, unlessFetchRefused, fetchRows, fetchCall}
+use Rattle.protocol.specs.Fetch.{unlessFetchRefused, fetchRows, fetchCall}
+use Rattle.protocol.specs.Certificates.{certificateFrame}
 use Rattle.conduct.specs.KeepsStateLaws.{refused≢accepted}
 use Rattle.conduct.specs.Refusals.{Refuses}
 

@@ -10,19 +10,20 @@ use borrow.Author.Tests.{eqb-true, ltb-true}
 use Rattle.protocol.specs.Bytes.{Bytes}
 use Rattle.protocol.specs.Tests.{Row, firstRefusal}
 use Rattle.protocol.specs.Frame.{frameHeight}
-use Rattle.protocol.specs.State.{State, Height, encode, decode, withHeight, withTimerFired}
+use Rattle.protocol.specs.State.{State, encode, decode, withHeight, withTimerFired}
 use Rattle.protocol.specs.Sound.{sound}
-use Rattle.protocol.specs.Answer.{Answer, refused, accepted, Outcome, Done, done, unlessRefused}
+use Rattle.protocol.specs.Answer.{Answer, refused, accepted, Outcome, Delivery, Done, done, unlessRefused}
 use Rattle.protocol.specs.Open.{newState, openRows, openCall}
-use Rattle.protocol.specs.Deliver.{clashRows, keep, kept, deliverRows, deliverCall}
+use Rattle.protocol.specs.Deliver.{deliverCall}
 use Rattle.protocol.specs.Move.{step, moved, unlessMoveRefused, moveRows, moveCall}
 use Rattle.protocol.specs.Signal.{signalRows, signalCall}
 use Rattle.protocol.specs.Submit.{withPending, stillPending, submitRows, submitCall}
 use Rattle.protocol.specs.TestsLaws.{and-true}
 use Rattle.protocol.specs.RowLaws.{row-passes}
+use Rattle.protocol.specs.DeliverLaws.{deliver-cases}
 use Rattle.protocol.specs.SoundLaws.{SoundState, sound-decode, sound-encode}
 use Rattle.conduct.specs.OpenKeptLaws.{open-sound}
-use Rattle.conduct.specs.DeliverKeptLaws.{read-facts, keep-sound}
+use Rattle.conduct.specs.DeliverKeptLaws.{keep-sound}
 use Rattle.conduct.specs.MoveKeptLaws.{step-sound, timer-sound}
 use Rattle.conduct.specs.SubmitKeptLaws.{submit-sound}
 
@@ -46,16 +47,10 @@ module _ (digest : Bytes → Bytes) where
     state : SoundState digest s
     state = sound-decode digest book was
 
-    kept-sound : (frame : Bytes) (y : Option Height) → keep digest s frame ≡ y → firstRefusal (deliverRows digest book frame) ≡ none → Sound (kept digest book frame y .book)
-    unfolding kept deliverRows
-    kept-sound frame none e passes = was
-    kept-sound frame (some y) e passes =
-        let facts = read-facts s frame (clashRows s frame) (row-passes _ _ passes .1) in
-        sound-encode digest (withHeight s (frameHeight frame) y) (keep-sound digest s state frame facts y e)
-
     pub deliver-kept : (frame : Bytes) → Sound (deliverCall digest book frame .book)
-    unfolding deliverCall
-    deliver-kept frame = unless-refused Sound (deliverRows digest book frame) book (kept digest book frame (keep digest s frame)) was (kept-sound frame (keep digest s frame) refl)
+    deliver-kept frame = deliver-cases digest book frame (λ (o : Outcome Delivery). Sound (o .book))
+        (λ _ _. was) (λ _ _. was) (λ y accepts e.
+        sound-encode digest (withHeight s (frameHeight frame) y) (keep-sound digest s state frame (accepts .read) y e))
 
     pub move-kept : (reply : Bytes) → Sound (moveCall digest book reply .book)
     unfolding moveCall

@@ -13,9 +13,9 @@ use Rattle.protocol.specs.State.{State, Height, noHeight, at, last, decode, enc
 use Rattle.protocol.specs.Frame.{frameHeight}
 use Rattle.protocol.specs.View.{View, quorum}
 use Rattle.protocol.specs.Sound.{view, sound}
-use Rattle.protocol.specs.Answer.{Outcome, accepted, Done, done, unlessRefused}
+use Rattle.protocol.specs.Answer.{Outcome, accepted, Delivery, Done, done, unlessRefused}
 use Rattle.protocol.specs.Open.{newHeight, newState, openRows, openCall}
-use Rattle.protocol.specs.Deliver.{votersFor, keep, kept, deliverRows, deliverCall}
+use Rattle.protocol.specs.Deliver.{votersFor, deliverCall}
 use Rattle.protocol.specs.Move.{step, moved, unlessMoveRefused, moveRows, moveCall}
 use Rattle.protocol.specs.Signal.{signalRows, signalCall}
 use Rattle.protocol.specs.Submit.{withPending, stillPending, submitRows, submitCall}
@@ -24,6 +24,7 @@ use Rattle.protocol.specs.CodecLaws.{at-suc}
 use Rattle.protocol.specs.StateLaws.{Shaped, decode-encode}
 use Rattle.protocol.specs.NewStateLaws.{new-shaped}
 use Rattle.protocol.specs.MoveLaws.{HeadOnly, head-only}
+use Rattle.protocol.specs.DeliverLaws.{deliver-cases}
 use Rattle.protocol.specs.SoundLaws.{SoundState, sound-decode}
 use Rattle.conduct.specs.SoundKeptLaws.{unless-refused}
 use Rattle.conduct.specs.MoveKeptLaws.{step-sound}
@@ -31,7 +32,7 @@ use Rattle.conduct.specs.SubmitKeptLaws.{submit-sound}
 use Rattle.conduct.specs.GrowsLaws.{same-quorum, views-alike}
 use Rattle.conduct.specs.Grows.{SameReplicas}
 use Rattle.conduct.specs.Keeping.{Voted, Tallied, AllTallied, KeepsState}
-use Rattle.conduct.specs.KeepsStateLaws.{refused≢accepted, facts, outcome}
+use Rattle.conduct.specs.KeepsStateLaws.{refused≢accepted, fresh-keeps}
 use Rattle.conduct.specs.HeightKeptLaws.{each-height}
 
 module _ (digest : Bytes → Bytes) where
@@ -148,7 +149,7 @@ module _ (digest : Bytes → Bytes) where
         subst (AllTallied digest) (sym (keeps .elsewhere)) (placed (frameHeight frame) (at after (frameHeight frame)) low high new)
 
     pub deliver-keeps-tallies : (frame : Bytes) → AllTallied digest (decode (deliverCall digest book frame .book))
-    unfolding deliverCall
-    deliver-keeps-tallies frame = unless-refused (λ (b : Bytes). AllTallied digest (decode b)) (deliverRows digest book frame) book
-        (kept digest book frame (keep digest s frame)) all
-        (λ passes. delivered frame _ (outcome digest book frame passes (keep digest s frame) refl) (facts digest book frame passes .low) (facts digest book frame passes .high))
+    deliver-keeps-tallies frame =
+        deliver-cases digest book frame (λ (o : Outcome Delivery). AllTallied digest (decode (o .book)))
+        (λ _ _. all) (λ _ _. all)
+        (λ y accepts e. delivered frame _ (fresh-keeps digest book frame accepts y e) (accepts .read .low) (accepts .read .high))

@@ -13,8 +13,9 @@ use Rattle.protocol.specs.Frame.{finalize, blockCertificate, dummyCertificate, 
 use Rattle.protocol.specs.State.{State, at, last, flag, isNotarized}
 use Rattle.protocol.specs.View.{View, quorum, isDummy, linked, digestAt}
 use Rattle.protocol.specs.Sound.{view}
-use Rattle.protocol.specs.Answer.{pass, onBlock, onDummy}
-use Rattle.protocol.specs.Move.{Step, isRunning, isSome, someOr, parentBelow, offered, proposedBlock, passCertificate, step, dummyVoteApplies, dummyVoteStep, outputStep, passApplies, passStep, proposeApplies, proposeStep, blockVoteApplies, blockVoteStep, idleStep, passesAt}
+use Rattle.protocol.specs.Answer.{pass, onBlock, onDummy, certificateKind}
+use Rattle.protocol.specs.Move.{Step, isRunning, isSome, someOr, parentBelow, offered, proposedBlock, passesBy, step, dummyVoteApplies, dummyVoteStep, outputStep, passApplies, passStep, proposeApplies, proposeStep, blockVoteApplies, blockVoteStep, idleStep, passesAt}
+use Rattle.protocol.specs.Certificates.{certificateFrame}
 use Rattle.protocol.specs.EveryLaws.{none}
 use Rattle.protocol.specs.Linked.{Linked, start, link}
 use Rattle.protocol.specs.LinkedLaws.{linked-sound}
@@ -27,7 +28,7 @@ use Rattle.protocol.specs.PendingLaws.{offered-few, offered-sized}
 use Rattle.protocol.specs.SoundLaws.{SoundState, SoundHeight}
 use Rattle.conduct.specs.Fields.{blockCertificateFields, dummyCertificateFields, finalizeCertificateFields}
 use Rattle.conduct.specs.Readable.{Said, SameSetting, DigestSized}
-use Rattle.conduct.specs.Named.{offeredBlock, moveFields, passFields}
+use Rattle.conduct.specs.Named.{offeredBlock, moveFields, certificateFields}
 use Rattle.conduct.specs.ReadLaws.{Written, said-none, said-more, proposal-read, block-vote-read, dummy-vote-read, finalize-read, block-certificate-read, dummy-certificate-read, finalize-certificate-read}
 use Rattle.conduct.specs.GrowsLaws.{same-quorum, views-alike}
 use Rattle.protocol.specs.MoveLaws.{step-cases}
@@ -93,20 +94,20 @@ module _ (digest : Bytes → Bytes) (s : State) (is : SoundState digest s) (t : 
 
   -- the certificate of a pass, with whether the current height is linked
   certificate : (l : Bool) → linked digest (view s) c ≡ l → c ≤ last s → (l || isDummy (view s) c && isSome (parentBelow digest s)) ≡ true →
-      Written t (passFields s c (cond l onBlock onDummy)) (cond l (blockCertificate c (at s c .certificateMask) (at s c .notarized)) (dummyCertificate c (at s c .dummyMask)))
-  unfolding passFields view
+      Written t (certificateFields s (certificateKind (cond l onBlock onDummy)) c) (certificateFrame s (certificateKind (cond l onBlock onDummy)) c)
+  unfolding certificateFields certificateFrame certificateKind view
   certificate true e high reason = block-certificate c (is .current-low) high (has-block (linked-sound digest (view s) c e) (is .current-low))
   certificate false e high reason = dummy-certificate c (is .current-low) high (and-true _ _ reason .0)
 
   pass-good : passApplies digest s ≡ true → Good (passStep digest s)
-  unfolding passApplies passStep passCertificate
+  unfolding passApplies passStep
   pass-good e = go (not (flag 1 s))
     where
       both : (isRunning s ≡ true) × (passesAt digest (view s) c ≡ true)
       both = and-true _ _ e
 
-      go : (inTime : Bool) → Said t (moveFields digest s (pass c (cond (linked digest (view s) c) onBlock onDummy) inTime))
-          (cond (linked digest (view s) c) (blockCertificate c (at s c .certificateMask) (at s c .notarized)) (dummyCertificate c (at s c .dummyMask)) ∷
+      go : (inTime : Bool) → Said t (moveFields digest s (pass c (passesBy digest s) inTime))
+          (certificateFrame s (certificateKind (passesBy digest s)) c ∷
           cond inTime (finalize (s .own) c ∷ []) [])
       go true = unfold moveFields in
           said-more (certificate (linked digest (view s) c) refl (runs (both .0)) (both .1))

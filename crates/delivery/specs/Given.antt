@@ -1,11 +1,11 @@
 -- What the inner functions of Deliver ask of the book, of a height, and of a frame that is read.
-use Prim.Native.Nat.{ℕ, _^_, _≤_, _<_}
+use Prim.Native.Nat.{ℕ, _≤_}
 use mathlib.Core.Path.{_≡_}
-use lib.ListN.{length}
 use Rattle.protocol.specs.Bytes.{Bytes}
-use Rattle.protocol.specs.Frame.{kind, signer, frameHeight, signerMask}
+use Rattle.protocol.specs.Frame.{frameHeight}
 use Rattle.protocol.specs.State.{decode, at}
 use Rattle.protocol.specs.GrantedLaws.{HeightRange}
+use Rattle.protocol.specs.DeliverLaws.{ReadFrame}
 use Rattle.fields.specs.Ready.{Ready, Within}
 use Rattle.state.specs.Memo.{Readable}
 
@@ -20,8 +20,5 @@ pub record Spot (book : Bytes) (h : ℕ) : Type 0 where
 pub record Read (book : Bytes) (h : ℕ) (frame : Bytes) : Type 0 where
   pub spot : Spot book h
   pub range : HeightRange (decode book .n) (at (decode book) h)
-  pub size : length frame ≡ 224
+  pub read : ReadFrame (decode book) frame
   pub height : h ≡ frameHeight frame
-  pub kind-low : 1 ≤ kind frame
-  pub signer-small : kind frame ≤ 4 → signer frame < decode book .n
-  pub mask-small : 5 ≤ kind frame → signerMask frame < 2 ^ decode book .n

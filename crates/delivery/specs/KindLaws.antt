@@ -6,7 +6,7 @@ use mathlib.Core.Logic.{⊎-elim, _≢_}
 use mathlib.Core.Bool.{true, false, _||_, true≢false, cond}
 use mathlib.Core.Option.{some, none}
 use lib.Dec.{eqb}
-use borrow.Author.Tests.{eqb-true, ne-eqb}
+use borrow.Author.Tests.{eqb-true}
 use Rattle.protocol.specs.Bytes.{Bytes}
 use Rattle.protocol.specs.Frame.{kind, signer, signerMask, isStatement}
 use Rattle.protocol.specs.Mask.{inMask, union}
@@ -15,10 +15,10 @@ use Rattle.protocol.specs.Sound.{view}
 use Rattle.protocol.specs.TestsLaws.{or-true, le-or-lt}
 use Rattle.protocol.specs.RowLaws.{in-range}
 use Rattle.protocol.specs.Deliver.{keep, keepProposal, keepBlockVote, keepDummyVote, keepFinalize, keepBlockCertificate, keepDummyCertificate, keepFinalizeCertificate}
+use Rattle.protocol.specs.DeliverLaws.{statement-kind, certificate-kind, keep-proposal, keep-block-vote, keep-dummy-vote, keep-finalize, keep-block-certificate, keep-dummy-certificate, keep-finalize-certificate}
 use Rattle.fields.specs.Numbered.{maskAt, withMaskAt}
 use Rattle.delivery.specs.Refusal.{signersOf, joinSigners}
 use Rattle.delivery.specs.Given.{Read}
-use Rattle.delivery.specs.FrameReadLaws.{statement-kind, certificate-kind}
 use Rattle.delivery.specs.JoinLaws.{vote-joins, signers-join}
 
 -- ---- signers
@@ -43,57 +43,43 @@ module _ (digest : Bytes → Bytes) (book : Bytes) (h : ℕ) (frame : Bytes) (gi
   x = at s h
 
   pub kind-one : kind frame ≡ 1 → keep digest s frame ≡ keepProposal digest (view s) x frame
-  unfolding keep
-  kind-one e = rw (e, given .height)
+  kind-one e = rw (given .height) (keep-proposal digest s frame e)
 
   pub kind-two : kind frame ≡ 2 → keep digest s frame ≡ keepBlockVote digest (view s) x frame
-  unfolding keep
-  kind-two e = rw (e, given .height)
+  kind-two e = rw (given .height) (keep-block-vote digest s frame e)
 
   pub kind-five : kind frame ≡ 5 → keep digest s frame ≡ keepBlockCertificate x frame
-  unfolding keep
-  kind-five e = rw (e, given .height)
+  kind-five e = rw (given .height) (keep-block-certificate digest s frame e)
 
   -- the signer of a statement joins mask `k`, and so do the signers of a certificate
   module _ (k : ℕ) (fits : maskAt x k < 2 ^ s .n) where
     vote-joined : kind frame ≤ 4 → cond (inMask (maskAt x k) (signer frame)) none (some (withMaskAt x k (maskAt x k + 2 ^ signer frame))) ≡ joinSigners k x (signersOf frame)
     unfolding joinSigners
-    vote-joined l = rw (one-signed frame (statement-kind (kind frame) (given .kind-low) l)) (vote-joins (maskAt x k) (withMaskAt x k) (s .n) fits (signer frame) (given .signer-small l))
+    vote-joined l = rw (one-signed frame (statement-kind (kind frame) (given .read .kind-low) l)) (vote-joins (maskAt x k) (withMaskAt x k) (s .n) fits (signer frame) (given .read .signer-small l))
 
     certificate-joined : 5 ≤ kind frame →
         (let mask : ℕ = union (s .n) (maskAt x k) (signerMask frame) in cond (eqb mask (maskAt x k)) none (some (withMaskAt x k mask))) ≡ joinSigners k x (signersOf frame)
     unfolding joinSigners
-    certificate-joined l = rw (many-signed frame (certificate-kind (kind frame) l)) (signers-join (maskAt x k) (withMaskAt x k) (s .n) fits (signerMask frame) (given .mask-small l))
+    certificate-joined l = rw (many-signed frame (certificate-kind (kind frame) l)) (signers-join (maskAt x k) (withMaskAt x k) (s .n) fits (signerMask frame) (given .read .mask-small l))
 
   pub dummy-joins : (eqb (kind frame) 3 || eqb (kind frame) 6) ≡ true → keep digest s frame ≡ joinSigners 1 x (signersOf frame)
   dummy-joins e =
       ⊎-elim (λ a. vote (eqb-true (kind frame) 3 a)) (λ b. certificate (eqb-true (kind frame) 6 b)) (or-true (eqb (kind frame) 3) (eqb (kind frame) 6) e)
     where
       vote : kind frame ≡ 3 → keep digest s frame ≡ joinSigners 1 x (signersOf frame)
-      vote k = unfold keep in unfold keepDummyVote in rw (k, ← given .height) (vote-joined 1 (given .range .dummy-below) (omega arith))
+      vote k = keep-dummy-vote digest s frame k ∙ unfold keepDummyVote in rw (← given .height) (vote-joined 1 (given .range .dummy-below) (omega arith))
 
       certificate : kind frame ≡ 6 → keep digest s frame ≡ joinSigners 1 x (signersOf frame)
-      certificate k = unfold keep in unfold keepDummyCertificate in rw (k, ← given .height) (certificate-joined 1 (given .range .dummy-below) (omega arith))
+      certificate k = keep-dummy-certificate digest s frame k ∙ unfold keepDummyCertificate in rw (← given .height) (certificate-joined 1 (given .range .dummy-below) (omega arith))
 
   pub finalize-joins : kind frame ≢ 1 → kind frame ≢ 2 → kind frame ≢ 5 → (eqb (kind frame) 3 || eqb (kind frame) 6) ≡ false → keep digest s frame ≡ joinSigners 2 x (signersOf frame)
   finalize-joins f1 f2 f5 e =
       let f3 : kind frame ≢ 3 = λ p. true≢false (sym (ap (λ (k : ℕ). eqb k 3 || eqb k 6) p) ∙ e) in
       let f6 : kind frame ≢ 6 = λ p. true≢false (sym (ap (λ (k : ℕ). eqb k 3 || eqb k 6) p) ∙ e) in
-      ⊎-elim (λ l. vote (omega (arith, given .kind-low))) (λ l. certificate (omega arith)) (le-or-lt (kind frame) 4)
+      ⊎-elim (λ l. vote (omega (arith, given .read .kind-low))) (λ l. certificate (omega (arith, given .read .kind-high))) (le-or-lt (kind frame) 4)
     where
       vote : kind frame ≡ 4 → keep digest s frame ≡ joinSigners 2 x (signersOf frame)
-      vote k = unfold keep in unfold keepFinalize in rw (k, ← given .height) (vote-joined 2 (given .range .finalize-below) (omega arith))
+      vote k = keep-finalize digest s frame k ∙ unfold keepFinalize in rw (← given .height) (vote-joined 2 (given .range .finalize-below) (omega arith))
 
-      certificate : 7 ≤ kind frame → keep digest s frame ≡ joinSigners 2 x (signersOf frame)
-      certificate l =
-          unfold keep in unfold keepFinalizeCertificate in
-          rw (
-            ne-eqb (kind frame) 1 (λ e. omega arith),
-            ne-eqb (kind frame) 2 (λ e. omega arith),
-            ne-eqb (kind frame) 3 (λ e. omega arith),
-            ne-eqb (kind frame) 4 (λ e. omega arith),
-            ne-eqb (kind frame) 5 (λ e. omega arith),
-            ne-eqb (kind frame) 6 (λ e. omega arith),
-            ← given .height,
-          )
-          (certificate-joined 2 (given .range .finalize-below) (omega arith))
+      certificate : kind frame ≡ 7 → keep digest s frame ≡ joinSigners 2 x (signersOf frame)
+      certificate k = keep-finalize-certificate digest s frame k ∙ unfold keepFinalizeCertificate in rw (← given .height) (certificate-joined 2 (given .range .finalize-below) (omega arith))

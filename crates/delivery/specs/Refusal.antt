@@ -7,7 +7,7 @@ use lib.Bits.{bitOr}
 use lib.Dec.{eqb, ltb}
 use Rattle.protocol.specs.Bytes.{Bytes, same}
 use Rattle.protocol.specs.Tests.{implies, Row, firstRefusal}
-use Rattle.protocol.specs.Frame.{kind, signer, signerMask, frameDigest, isStatement}
+use Rattle.protocol.specs.Frame.{kind, signer, signerMask, frameDigest, isStatement, isProposal, isBlockVote}
 use Rattle.protocol.specs.Mask.{inMask, belowBit}
 use Rattle.protocol.specs.State.{State, Height, at, withHeight, encode, decode, voteOf}
 use Rattle.protocol.specs.View.{quorum}
@@ -30,7 +30,7 @@ unfoldable pub membersFit : State → Bytes → Bool
 membersFit s frame = cond (isStatement (kind frame)) (ltb (signer frame) (s .n)) (belowBit (s .n) (signerMask frame))
 
 unfoldable pub leaderSigned : State → ℕ → Bytes → Bool
-leaderSigned s h frame = implies (eqb (kind frame) 1) (eqb (signer frame) (at s h .leader))
+leaderSigned s h frame = implies (isProposal (kind frame)) (eqb (signer frame) (at s h .leader))
 
 unfoldable pub signersEnough : State → Bytes → Bool
 signersEnough s frame = isStatement (kind frame) || quorum (view s) (signerMask frame)
@@ -40,7 +40,7 @@ memberRows s h frame = threeRows 5 7 9 (membersFit s frame) (leaderSigned s h fr
 
 -- ---- the row about the signer's kept vote
 unfoldable pub voteAgrees : Height → Bytes → Bool
-voteAgrees x frame = implies (eqb (kind frame) 2 && inMask (x .voterMask) (signer frame)) (same (voteOf x (signer frame)) (frameDigest frame))
+voteAgrees x frame = implies (isBlockVote (kind frame) && inMask (x .voterMask) (signer frame)) (same (voteOf x (signer frame)) (frameDigest frame))
 
 -- ---- signers of a statement or a certificate
 unfoldable pub signersOf : Bytes → ℕ

@@ -8,7 +8,7 @@ use mathlib.Core.Option.{Option, some, none}
 use lib.Dec.{eqb}
 use Rattle.protocol.specs.Bytes.{Bytes, same}
 use Rattle.protocol.specs.Tests.{implies, inRange, firstRefusal}
-use Rattle.protocol.specs.Frame.{kind, frameHeight, frameBlock, frameWellFormed}
+use Rattle.protocol.specs.Frame.{kind, frameHeight, frameBlock, frameWellFormed, isProposal, isBlockCertificate}
 use Rattle.protocol.specs.State.{State, Height, at, last, decode, encode, withHeight, holdsProposal, isNotarized}
 use Rattle.protocol.specs.Sound.{sound}
 use Rattle.protocol.specs.Answer.{Outcome, Delivery, refused, accepted, known, fresh, unlessRefused}
@@ -73,8 +73,8 @@ module _ (s : State) (frame : Bytes) where
 -- ---- the rows of contradiction
 pub clash-rows : (s : State) (h : ℕ) (frame : Bytes) → h ≡ frameHeight frame →
     clashRows s frame ≡
-    threeRows 8 8 10 (implies (eqb (kind frame) 1 && holdsProposal (at s h)) (same (at s h .proposal) (frameBlock frame)))
-    (voteAgrees (at s h) frame) (implies (eqb (kind frame) 5 && isNotarized (at s h)) (same (at s h .notarized) (frameBlock frame)))
+    threeRows 8 8 10 (implies (isProposal (kind frame) && holdsProposal (at s h)) (same (at s h .proposal) (frameBlock frame)))
+    (voteAgrees (at s h) frame) (implies (isBlockCertificate (kind frame) && isNotarized (at s h)) (same (at s h .notarized) (frameBlock frame)))
 unfolding clashRows voteAgrees
 clash-rows s h frame e = rw e
 

@@ -1,7 +1,7 @@
 -- What the writes of each step leave: the step's frames in the reply and the step's state in the book.
 use Prim.Native.Nat.{ℕ, _+_}
 use native.Mathlib.Omega.{arith}
-use mathlib.Core.Path.{_≡_, refl, ap, _∙_}
+use mathlib.Core.Path.{_≡_, ap, _∙_}
 use mathlib.Core.Bool.{Bool, true, false, not, cond}
 use mathlib.Core.List.{[], _∷_, _++_, append-nil}
 use lib.ListN.{length}
@@ -15,8 +15,9 @@ use Rattle.protocol.specs.Frame.{proposal, dummyVote, blockVote, finalize, bloc
 use Rattle.protocol.specs.State.{State, at, decode, encode, flag, withHead}
 use Rattle.protocol.specs.Sound.{view}
 use Rattle.protocol.specs.View.{linked}
-use Rattle.protocol.specs.Answer.{accepted, Certificate, onBlock, onDummy, pass}
-use Rattle.protocol.specs.Move.{unused, written, dummyVoteStep, outputStep, newFinalized, passCertificate, passStep, someOr, parentBelow, proposedBlock, proposeStep, blockVoteStep}
+use Rattle.protocol.specs.Answer.{accepted, Certificate, onBlock, onDummy, pass, certificateKind}
+use Rattle.protocol.specs.Certificates.{certificateFrame}
+use Rattle.protocol.specs.Move.{unused, written, dummyVoteStep, outputStep, newFinalized, passesBy, passStep, someOr, parentBelow, proposedBlock, proposeStep, blockVoteStep}
 use Rattle.state.specs.Memo.{Readable}
 use Rattle.fields.specs.Ready.{Within}
 use Rattle.answers.specs.declared.answer.Moved.the-variants as Moved
@@ -39,28 +40,27 @@ dummy-certificate-size : (h mask : ℕ) → length (dummyCertificate h mask) ≡
 unfolding dummyCertificate
 dummy-certificate-size h mask = omega (arith, frame-size 6 0 h mask (zeros 32) (zeros 176), length-zeros 32, length-zeros 176)
 
-pass-certificate-size : (book : Bytes) → Readable book → Within book (decode book .current) → length (passCertificate sha256 (decode book)) ≡ 224
-unfolding passCertificate
+abbrev passed : State → Bytes
+passed s = certificateFrame s (certificateKind (passesBy sha256 s)) (s .current)
+
+pass-certificate-size : (book : Bytes) → Readable book → Within book (decode book .current) → length (passed (decode book)) ≡ 224
+unfolding certificateFrame certificateKind
 pass-certificate-size book r w =
     let s : State = decode book in
-    cond-elim (λ (frame : Bytes). length frame ≡ 224) (linked sha256 (view s) (s .current))
+    cond-elim (λ (by : Certificate). length (certificateFrame s (certificateKind by) (s .current)) ≡ 224) (linked sha256 (view s) (s .current))
     (λ _. block-certificate-size (s .current) (at s (s .current) .certificateMask) (at s (s .current) .notarized) (notarized-size book r (s .current) w))
     (λ _. dummy-certificate-size (s .current) (at s (s .current) .dummyMask))
 
 -- ---- the certificate of a pass
-pass-certificate : (s : State) → certificateOn (linked sha256 (view s) (s .current)) s ≡ passCertificate sha256 s
-unfolding certificateOn passCertificate
-pass-certificate s = refl
-
 module _ (s : State) (reply replyAfter : Bytes) (chosen : Bool) (c mask : ℕ) (c-is : c ≡ s .current) where
   pub wrote-block : (block : Bytes) → chosen ≡ true → mask ≡ at s c .certificateMask → block ≡ at s c .notarized →
       replyAfter ≡ overFront (blockCertificate c mask block) reply → replyAfter ≡ overFront (certificateOn chosen s) reply
-  unfolding certificateOn
+  unfolding certificateFrame certificateKind
   wrote-block block e m b r = r ∙ rw (e, m, b, c-is)
 
   pub wrote-dummy : chosen ≡ false → mask ≡ at s c .dummyMask →
       replyAfter ≡ overFront (dummyCertificate c mask) reply → replyAfter ≡ overFront (certificateOn chosen s) reply
-  unfolding certificateOn
+  unfolding certificateFrame certificateKind
   wrote-dummy e m r = r ∙ rw (e, m, c-is)
 
 -- ---- what is written
@@ -73,9 +73,9 @@ two-written : (kind : Certificate) (inTime : Bool) (first second : Bytes) (c : �
 two-written kind true first second c = unfold join unused zeros in append-nil (first ++ (second ++ [])) ∙ ap (λ (x : Bytes). first ++ x) (append-nil second)
 two-written kind false first second c = unfold join unused in ap (λ (x : Bytes). x ++ zeros 224) (append-nil first)
 
-pass-written : (s : State) → written (passStep sha256 s) ≡ passCertificate sha256 s ++ cond (not (flag 1 s)) (finalize (s .own) (s .current)) (zeros 224)
+pass-written : (s : State) → written (passStep sha256 s) ≡ passed s ++ cond (not (flag 1 s)) (finalize (s .own) (s .current)) (zeros 224)
 unfolding written passStep
-pass-written s = two-written _ (not (flag 1 s)) (passCertificate sha256 s) (finalize (s .own) (s .current)) (s .current)
+pass-written s = two-written _ (not (flag 1 s)) (passed s) (finalize (s .own) (s .current)) (s .current)
 
 -- ---- the steps that write one frame and set one flag
 module _ (s : State) (reply bookAfter replyAfter : Bytes) (c own seen settled : ℕ) (c-is : c ≡ s .current) (own-is : own ≡ s .own)
@@ -134,7 +134,7 @@ module _ (book : Bytes) (m : Readable book) (w : Within book (decode book .curre
     answer = rw (kind-is, linked-is, c-is, in-time-is);
     book = b ∙ rw (c-is, settled-is);
     reply-is =
-        goes-on (passCertificate sha256 s) reply middle (cond inTime (finalize (s .own) (s .current)) (zeros 224)) replyAfter 224
-        (first ∙ rw (linked-is, c-is, pass-certificate s)) (pass-certificate-size book m w) second
+        goes-on (passed s) reply middle (cond inTime (finalize (s .own) (s .current)) (zeros 224)) replyAfter 224
+        (first ∙ rw (linked-is, c-is)) (pass-certificate-size book m w) second
         ∙ rw (in-time-is, pass-written s);
   }

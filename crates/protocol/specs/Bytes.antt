@@ -60,3 +60,8 @@ join (x ∷ xs) = x ++ join xs
 unfoldable pub holds : Bytes → List Bytes → Bool
 holds x [] = false
 holds x (y ∷ ys) = cond (same x y) true (holds x ys)
+
+-- the entries that a list has not, in order
+unfoldable pub without : List Bytes → List Bytes → List Bytes
+without taken [] = []
+without taken (e ∷ es) = cond (holds e taken) (without taken es) (e ∷ without taken es)

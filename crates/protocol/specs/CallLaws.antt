@@ -14,7 +14,8 @@ use Rattle.protocol.specs.Move.{moveCall, moveRows, moved, step, unlessM
 use Rattle.protocol.specs.Signal.{signalCall, signalRows}
 use Rattle.protocol.specs.Submit.{submitCall, submitRows}
 use Rattle.protocol.specs.Read.{readPart}
-use Rattle.protocol.specs.Fetch.{certificateFrame, fetchCall, fetchRows, unlessFetchRefused}
+use Rattle.protocol.specs.Certificates.{certificateFrame}
+use Rattle.protocol.specs.Fetch.{fetchCall, fetchRows, unlessFetchRefused}
 use Rattle.protocol.specs.Call.{Call, Effect, Opened, opening, delivery, moving, signalling, submitting, sizing, reading, fetching, effect, leaves, ofDelivery, ofFetch, ofMove, ofOpening, ofOutcome}
 
 module _ (digest : Bytes → Bytes) (book : Bytes) where

@@ -1,5 +1,6 @@
 -- One name that opens every definition, for checks that compute on whole books. tests/computing writes this file.
 use Rattle.protocol.specs.Bytes.{word16, le16, part, zeros, overFront, all, isZero, same, pieces, join, holds}
+use Rattle.protocol.specs.Bytes.{without}
 use Rattle.protocol.specs.Tests.{allOf, implies, inRange, everyHeight, firstRefusal}
 use Rattle.protocol.specs.Block.{blockHeight, parentHeight, entryCount, parentDigest, entries, blockWellFormed}
 use Rattle.protocol.specs.Block.{newBlock, allEntries}
@@ -21,19 +22,20 @@ use Rattle.protocol.specs.Deliver.{withProposal, withNotarized, withMask
 use Rattle.protocol.specs.Deliver.{keepFinalize, keepBlockCertificate, keepDummyCertificate}
 use Rattle.protocol.specs.Deliver.{keepFinalizeCertificate, readRows, clashRows, notarize, keepProposal}
 use Rattle.protocol.specs.Deliver.{keepBlockVote, keep, kept, deliverRows, deliverCall, deliverAll}
-use Rattle.protocol.specs.Move.{firstStep, without, isSome, someOr, isRunning, idleStep, dummyVoteApplies}
-use Rattle.protocol.specs.Move.{dummyVoteStep, offered, unused, written, moved, unlessMoveRefused, newFinalized}
-use Rattle.protocol.specs.Move.{outputApplies, outputStep, passApplies, passCertificate, passStep, proposeApplies}
-use Rattle.protocol.specs.Move.{proposedBlock, proposeStep, blockVoteApplies, blockVoteStep, step, moveRows}
-use Rattle.protocol.specs.Move.{moveCall}
+use Rattle.protocol.specs.Certificates.{certificateFrame}
+use Rattle.protocol.specs.Move.{firstStep, isSome, someOr, isRunning, idleStep, dummyVoteApplies, dummyVoteStep}
+use Rattle.protocol.specs.Move.{offered, unused, written, moved, unlessMoveRefused, newFinalized, outputApplies}
+use Rattle.protocol.specs.Move.{outputStep, passApplies, passStep, proposeApplies, proposedBlock, proposeStep}
+use Rattle.protocol.specs.Move.{blockVoteApplies, blockVoteStep, step, afterMoves, moveRows, moveCall}
 use Rattle.protocol.specs.Signal.{signalRows, signalCall}
 use Rattle.protocol.specs.Submit.{withPending, stillPending, submitRows, submitCall}
 use Rattle.protocol.specs.Read.{logSize, sizeCall, readPart, readBuffer}
-use Rattle.protocol.specs.Fetch.{certificateFrame, hasCertificate, unlessFetchRefused, fetchRows, fetchCall}
+use Rattle.protocol.specs.Fetch.{hasCertificate, certificateIf, certificatesAt, certificatesTo, everyCertificate}
+use Rattle.protocol.specs.Fetch.{unlessFetchRefused, fetchRows, fetchCall}
 use Rattle.protocol.specs.Call.{effect, bookAfterAll}
 
 unfoldable pub everything : Unit {0}
-unfolding word16 le16 part zeros overFront all isZero same pieces join holds allOf implies inRange everyHeight
+unfolding word16 le16 part zeros overFront all isZero same pieces join holds without allOf implies inRange everyHeight
     firstRefusal blockHeight parentHeight entryCount parentDigest entries blockWellFormed newBlock allEntries kind
     signer frameHeight signerMask frameDigest frameBlock isStatement isCertificate carriesBlock carriesDigest
     frameWellFormed frameOf proposal blockVote dummyVote finalize blockCertificate dummyCertificate finalizeCertificate
@@ -44,9 +46,10 @@ unfolding word16 le16 part zeros overFront all isZero same pieces join holds all
     unlessRefused refusalNumber certificateKind finalizeKind moveNumber moveHeight newHeight newState openInRange
     openRows openCall withProposal withNotarized withMasks withVote votersFor keepDummyVote keepFinalize
     keepBlockCertificate keepDummyCertificate keepFinalizeCertificate readRows clashRows notarize keepProposal
-    keepBlockVote keep kept deliverRows deliverCall deliverAll firstStep without isSome someOr isRunning idleStep
-    dummyVoteApplies dummyVoteStep offered unused written moved unlessMoveRefused newFinalized outputApplies outputStep
-    passApplies passCertificate passStep proposeApplies proposedBlock proposeStep blockVoteApplies blockVoteStep step
-    moveRows moveCall signalRows signalCall withPending stillPending submitRows submitCall logSize sizeCall readPart
-    readBuffer certificateFrame hasCertificate unlessFetchRefused fetchRows fetchCall effect bookAfterAll
+    keepBlockVote keep kept deliverRows deliverCall deliverAll certificateFrame firstStep isSome someOr isRunning
+    idleStep dummyVoteApplies dummyVoteStep offered unused written moved unlessMoveRefused newFinalized outputApplies
+    outputStep passApplies passStep proposeApplies proposedBlock proposeStep blockVoteApplies blockVoteStep step
+    afterMoves moveRows moveCall signalRows signalCall withPending stillPending submitRows submitCall logSize sizeCall
+    readPart readBuffer hasCertificate certificateIf certificatesAt certificatesTo everyCertificate unlessFetchRefused
+    fetchRows fetchCall effect bookAfterAll
 everything = tt

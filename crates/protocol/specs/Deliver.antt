@@ -7,7 +7,7 @@ use lib.ListN.{take, drop}
 use lib.Dec.{eqb, ltb}
 use Rattle.protocol.specs.Bytes.{Bytes, same}
 use Rattle.protocol.specs.Tests.{allOf, implies, inRange, Row, firstRefusal}
-use Rattle.protocol.specs.Frame.{kind, signer, frameHeight, signerMask, frameDigest, frameBlock, frameWellFormed, isStatement}
+use Rattle.protocol.specs.Frame.{kind, signer, frameHeight, signerMask, frameDigest, frameBlock, frameWellFormed, isStatement, isProposal, isBlockVote, isDummyVote, isFinalize, isBlockCertificate, isDummyCertificate}
 use Rattle.protocol.specs.Mask.{inMask, maskOf, union, belowBit}
 use Rattle.protocol.specs.State.{State, Height, at, last, withHeight, encode, decode, holdsProposal, isNotarized, voteOf}
 use Rattle.protocol.specs.View.{View, quorum}
@@ -103,7 +103,7 @@ readRows s frame =
     (4, frameWellFormed frame) ∷
     (6, inRange 1 (last s) (frameHeight frame)) ∷
     (5, cond (isStatement k) (ltb (signer frame) (s .n)) (belowBit (s .n) (signerMask frame))) ∷
-    (7, implies (eqb k 1) (eqb (signer frame) (at s (frameHeight frame) .leader))) ∷
+    (7, implies (isProposal k) (eqb (signer frame) (at s (frameHeight frame) .leader))) ∷
     (9, isStatement k || quorum (view s) (signerMask frame)) ∷ []
 
 -- a frame that is read contradicts nothing kept if it passes these rows
@@ -111,9 +111,9 @@ unfoldable pub clashRows : State → Bytes → List Row
 clashRows s frame =
     let x : Height = at s (frameHeight frame) in
     let k : ℕ = kind frame in
-    (8, implies (eqb k 1 && holdsProposal x) (same (x .proposal) (frameBlock frame))) ∷
-    (8, implies (eqb k 2 && inMask (x .voterMask) (signer frame)) (same (voteOf x (signer frame)) (frameDigest frame))) ∷
-    (10, implies (eqb k 5 && isNotarized x) (same (x .notarized) (frameBlock frame))) ∷ []
+    (8, implies (isProposal k && holdsProposal x) (same (x .proposal) (frameBlock frame))) ∷
+    (8, implies (isBlockVote k && inMask (x .voterMask) (signer frame)) (same (voteOf x (signer frame)) (frameDigest frame))) ∷
+    (10, implies (isBlockCertificate k && isNotarized x) (same (x .notarized) (frameBlock frame))) ∷ []
 
 module _ (digest : Bytes → Bytes) where
   -- a held proposal with a quorum of kept votes becomes the notarized block, unless there is one
@@ -137,12 +137,12 @@ module _ (digest : Bytes → Bytes) where
   keep s frame =
       let x : Height = at s (frameHeight frame) in
       let k : ℕ = kind frame in
-      cond (eqb k 1) (keepProposal (view s) x frame)
-      (cond (eqb k 2) (keepBlockVote (view s) x frame)
-      (cond (eqb k 3) (keepDummyVote x frame)
-      (cond (eqb k 4) (keepFinalize x frame)
-      (cond (eqb k 5) (keepBlockCertificate x frame)
-      (cond (eqb k 6) (keepDummyCertificate (s .n) x frame)
+      cond (isProposal k) (keepProposal (view s) x frame)
+      (cond (isBlockVote k) (keepBlockVote (view s) x frame)
+      (cond (isDummyVote k) (keepDummyVote x frame)
+      (cond (isFinalize k) (keepFinalize x frame)
+      (cond (isBlockCertificate k) (keepBlockCertificate x frame)
+      (cond (isDummyCertificate k) (keepDummyCertificate (s .n) x frame)
       (keepFinalizeCertificate (s .n) x frame))))))
 
   unfoldable pub kept : Bytes → Bytes → Option Height → Outcome Delivery

@@ -6,12 +6,11 @@ use mathlib.Core.Bool.{Bool, true, false, _||_, cond}
 use mathlib.Core.List.{List, [], _∷_, _++_}
 use lib.ListN.{length, getD, take, drop, take-append-drop}
 use lib.Seq.{take-at, take-all, drop-drop}
-use Rattle.protocol.specs.Bytes.{Bytes, byteAt, part, same, join, holds}
+use Rattle.protocol.specs.Bytes.{Bytes, byteAt, part, same, join, holds, without}
 use Rattle.protocol.specs.TestsLaws.{or-right}
 use Rattle.protocol.specs.Block.{entryCount, entries}
 use Rattle.protocol.specs.State.{State, pending}
 use Rattle.protocol.specs.View.{View, logAt}
-use Rattle.protocol.specs.Move.{without}
 use Rattle.protocol.specs.EveryLaws.{Every, every-take}
 use Rattle.protocol.specs.PiecesLaws.{Sized, length-pieces, get-pieces, pieces-next, pieces-done, pieces-sized, join-pieces}
 use Rattle.protocol.specs.ViewLaws.{log-zero}

@@ -1,32 +1,43 @@
 -- Fetch: the certificate of a kind and a height, for sending.
-use Prim.Native.Nat.{ℕ}
+use Prim.Native.Nat.{ℕ, zero, suc}
 use mathlib.Core.Bool.{Bool, cond}
-use mathlib.Core.List.{List, [], _∷_}
+use mathlib.Core.List.{List, [], _∷_, _++_}
 use mathlib.Core.Option.{Option, some, none}
 use lib.ListN.{length}
-use lib.Dec.{eqb, leb}
+use lib.Dec.{leb}
 use Rattle.protocol.specs.Bytes.{Bytes, overFront}
 use Rattle.protocol.specs.Tests.{inRange, Row, firstRefusal}
-use Rattle.protocol.specs.Frame.{frameSize, isCertificate, blockCertificate, dummyCertificate, finalizeCertificate}
+use Rattle.protocol.specs.Frame.{frameSize, isCertificate, isBlockCertificate, isDummyCertificate}
 use Rattle.protocol.specs.State.{State, Height, at, last, decode, isNotarized}
 use Rattle.protocol.specs.View.{quorum}
 use Rattle.protocol.specs.Sound.{view, sound}
+use Rattle.protocol.specs.Certificates.{certificateFrame}
 use Rattle.protocol.specs.Answer.{Answer, refused, accepted, Done, done}
-
--- the certificate of kind 5, 6 or 7
-unfoldable pub certificateFrame : State → ℕ → ℕ → Bytes
-certificateFrame s k h =
-    let x : Height = at s h in
-    cond (eqb k 5) (blockCertificate h (x .certificateMask) (x .notarized))
-    (cond (eqb k 6) (dummyCertificate h (x .dummyMask)) (finalizeCertificate h (x .finalizeMask)))
 
 -- the state has that certificate
 unfoldable pub hasCertificate : State → ℕ → ℕ → Bool
 hasCertificate s k h =
     let x : Height = at s h in
-    cond (eqb k 5) (isNotarized x)
-    (cond (eqb k 6) (quorum (view s) (x .dummyMask)) (quorum (view s) (x .finalizeMask)))
+    cond (isBlockCertificate k) (isNotarized x)
+    (cond (isDummyCertificate k) (quorum (view s) (x .dummyMask)) (quorum (view s) (x .finalizeMask)))
 
+-- ---- all certificates that Fetch gives of a state
+unfoldable pub certificateIf : State → ℕ → ℕ → List Bytes
+certificateIf s k h = cond (hasCertificate s k h) (certificateFrame s k h ∷ []) []
+
+-- those of a height, by kind
+unfoldable pub certificatesAt : State → ℕ → List Bytes
+certificatesAt s h = certificateIf s 5 h ++ (certificateIf s 6 h ++ certificateIf s 7 h)
+
+-- those of the heights 1 to `h`, by height
+unfoldable pub certificatesTo : State → ℕ → List Bytes
+certificatesTo s zero = []
+certificatesTo s (suc h) = certificatesTo s h ++ certificatesAt s (suc h)
+
+unfoldable pub everyCertificate : State → List Bytes
+everyCertificate s = certificatesTo s (last s)
+
+-- ---- the call
 -- the answer, the reply afterwards and the frame written
 pub record FetchOutcome : Type 0 where
   pub answer : Answer Done

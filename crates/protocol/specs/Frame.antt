@@ -30,6 +30,28 @@ frameDigest frame = part frame 16 digestSize
 unfoldable pub frameBlock : Bytes → Bytes
 frameBlock frame = drop 48 frame
 
+-- ---- the seven kinds
+abbrev pub isProposal : ℕ → Bool
+isProposal k = eqb k 1
+
+abbrev pub isBlockVote : ℕ → Bool
+isBlockVote k = eqb k 2
+
+abbrev pub isDummyVote : ℕ → Bool
+isDummyVote k = eqb k 3
+
+abbrev pub isFinalize : ℕ → Bool
+isFinalize k = eqb k 4
+
+abbrev pub isBlockCertificate : ℕ → Bool
+isBlockCertificate k = eqb k 5
+
+abbrev pub isDummyCertificate : ℕ → Bool
+isDummyCertificate k = eqb k 6
+
+abbrev pub isFinalizeCertificate : ℕ → Bool
+isFinalizeCertificate k = eqb k 7
+
 -- ---- which kind uses what
 -- kinds 1 to 4 are statements of one signer
 unfoldable pub isStatement : ℕ → Bool
@@ -41,11 +63,11 @@ isCertificate k = inRange 5 7 k
 
 -- proposals and block certificates carry a block
 unfoldable pub carriesBlock : ℕ → Bool
-carriesBlock k = eqb k 1 || eqb k 5
+carriesBlock k = isProposal k || isBlockCertificate k
 
 -- block votes carry a digest
 unfoldable pub carriesDigest : ℕ → Bool
-carriesDigest k = eqb k 2
+carriesDigest k = isBlockVote k
 
 -- all that refusal 4 asks of a frame: its length, its kind, unused fields zero, its block
 unfoldable pub frameWellFormed : Bytes → Bool

@@ -10,6 +10,7 @@ pub mod Sound
 pub mod Answer
 pub mod Open
 pub mod Deliver
+pub mod Certificates
 pub mod Move
 pub mod Signal
 pub mod Submit
@@ -26,6 +27,8 @@ pub mod StateLaws
 pub mod QuorumLaws
 pub mod FlagLaws
 pub mod MoveLaws
+pub mod DeliverLaws
+pub mod FetchLaws
 pub mod RowLaws
 pub mod BytesLaws
 pub mod PiecesLaws

@@ -1,18 +1,19 @@
 -- Move: the first of the five moves that applies, the frames that it writes and the state after it.
-use Prim.Native.Nat.{ℕ, _+_, _-_}
+use Prim.Native.Nat.{ℕ, zero, suc, _+_, _-_}
 use mathlib.Core.Bool.{Bool, true, false, _&&_, _||_, not, cond}
 use mathlib.Core.List.{List, [], _∷_, _++_}
 use mathlib.Core.Option.{Option, some, none}
 use lib.ListN.{length, take}
 use lib.Dec.{eqb, leb, ltb}
-use Rattle.protocol.specs.Bytes.{Bytes, zeros, join, holds, overFront}
+use Rattle.protocol.specs.Bytes.{Bytes, zeros, join, without, overFront}
 use Rattle.protocol.specs.Tests.{allOf, Row, firstRefusal}
 use Rattle.protocol.specs.Block.{blockEntries, newBlock}
-use Rattle.protocol.specs.Frame.{frameSize, proposal, blockVote, dummyVote, finalize, blockCertificate, dummyCertificate}
+use Rattle.protocol.specs.Frame.{frameSize, proposal, blockVote, dummyVote, finalize}
 use Rattle.protocol.specs.State.{State, at, last, encode, decode, holdsProposal, flag, withHead, pending}
 use Rattle.protocol.specs.View.{View, linked, isDummy, extends, largestFinalized, parentOf, digestAt, logAt}
 use Rattle.protocol.specs.Sound.{view, sound}
-use Rattle.protocol.specs.Answer.{Answer, refused, accepted, Move, idle, voteDummy, output, pass, propose, voteBlock, onBlock, onDummy}
+use Rattle.protocol.specs.Certificates.{certificateFrame}
+use Rattle.protocol.specs.Answer.{Answer, refused, accepted, Move, idle, voteDummy, output, pass, propose, voteBlock, Certificate, onBlock, onDummy, certificateKind}
 
 -- one move: its name, the state after it and the frames that it writes
 pub record Step : Type 0 where
@@ -24,11 +25,6 @@ pub record Step : Type 0 where
 unfoldable pub firstStep : List (Bool × Step) → Step → Step
 firstStep [] otherwise = otherwise
 firstStep (row ∷ rows) otherwise = cond (row .0) (row .1) (firstStep rows otherwise)
-
--- the entries that a list has not, in order
-unfoldable pub without : List Bytes → List Bytes → List Bytes
-without taken [] = []
-without taken (e ∷ es) = cond (holds e taken) (without taken es) (e ∷ without taken es)
 
 -- of the entries that a block may carry those that it does: the first ones, as many as it takes
 abbrev pub chosen : List Bytes → List Bytes
@@ -127,21 +123,18 @@ module _ (digest : Bytes → Bytes) where
   unfoldable pub passApplies : State → Bool
   passApplies s = isRunning s && passesAt (view s) (s .current)
 
-  unfoldable pub passCertificate : State → Bytes
-  passCertificate s =
-      let c : ℕ = s .current in
-      cond (linked digest (view s) c)
-      (blockCertificate c (at s c .certificateMask) (at s c .notarized))
-      (dummyCertificate c (at s c .dummyMask))
+  -- a pass goes by the block's certificate where the current height is linked, else by that of the dummy block
+  abbrev pub passesBy : State → Certificate
+  passesBy s = cond (linked digest (view s) (s .current)) onBlock onDummy
 
   unfoldable pub passStep : State → Step
   passStep s =
       let c : ℕ = s .current in
       let inTime : Bool = not (flag 1 s) in
       record {
-        move = pass c (cond (linked digest (view s) c) onBlock onDummy) inTime;
+        move = pass c (passesBy s) inTime;
         after = withHead s 0 (c + 1) (s .finalized);
-        frames = passCertificate s ∷ cond inTime (finalize (s .own) c ∷ []) [];
+        frames = certificateFrame s (certificateKind (passesBy s)) c ∷ cond inTime (finalize (s .own) c ∷ []) [];
       }
 
   -- ---- move 4
@@ -183,6 +176,11 @@ module _ (digest : Bytes → Bytes) where
       (proposeApplies s, proposeStep s) ∷
       (blockVoteApplies s, blockVoteStep s) ∷ [])
       (idleStep s)
+
+  -- the state after a number of moves
+  unfoldable pub afterMoves : ℕ → State → State
+  afterMoves zero s = s
+  afterMoves (suc k) s = afterMoves k (step s .after)
 
   unfoldable pub moveRows : Bytes → Bytes → List Row
   moveRows book reply = (1, sound digest book) ∷ (3, leb 448 (length reply)) ∷ []

@@ -7,11 +7,10 @@ use mathlib.Core.Bool.{Bool, true, false, cond}
 use mathlib.Core.List.{List, [], _∷_, _++_, append-assoc, append-nil}
 use lib.ListN.{length, getD, take, drop, set, length-append, length-take, length-drop, drop-of-length-le}
 use lib.Seq.{take-suc, drop-drop, drop-append-add}
-use Rattle.protocol.specs.Bytes.{Bytes, part, zeros, join, pieces, holds}
+use Rattle.protocol.specs.Bytes.{Bytes, part, zeros, join, pieces, holds, without}
 use Rattle.protocol.specs.State.{State, at, encode, decode, last, withPool}
 use Rattle.protocol.specs.Sound.{view}
 use Rattle.protocol.specs.Submit.{withPending}
-use Rattle.protocol.specs.Move.{without}
 use Rattle.protocol.specs.EveryLaws.{Every, none, one}
 use Rattle.protocol.specs.TestsLaws.{cond-elim}
 use Rattle.protocol.specs.BytesLaws.{put, put-at, length-part, length-put, length-zeros}

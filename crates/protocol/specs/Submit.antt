@@ -4,12 +4,11 @@ use mathlib.Core.Bool.{_||_, not}
 use mathlib.Core.List.{List, [], _∷_, _++_}
 use lib.ListN.{length}
 use lib.Dec.{eqb, ltb}
-use Rattle.protocol.specs.Bytes.{Bytes, zeros, join, holds}
+use Rattle.protocol.specs.Bytes.{Bytes, zeros, join, holds, without}
 use Rattle.protocol.specs.Tests.{Row, firstRefusal}
 use Rattle.protocol.specs.Block.{entrySize}
 use Rattle.protocol.specs.State.{State, encode, decode, pending, poolSize, renewed}
 use Rattle.protocol.specs.Sound.{sound, log}
-use Rattle.protocol.specs.Move.{without}
 use Rattle.protocol.specs.Answer.{Outcome, Done, done, accepted, unlessRefused}
 
 -- the state with these pending entries, and zero bytes after them

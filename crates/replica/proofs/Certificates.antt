@@ -9,7 +9,8 @@ use Rattle.protocol.specs.State.{State, at, isNotarized}
 use Rattle.protocol.specs.View.{quorum}
 use Rattle.protocol.specs.Sound.{view}
 use Rattle.protocol.specs.Frame.{isCertificate, frameOf, blockCertificate, dummyCertificate, finalizeCertificate}
-use Rattle.protocol.specs.Fetch.{certificateFrame, hasCertificate}
+use Rattle.protocol.specs.Fetch.{hasCertificate}
+use Rattle.protocol.specs.Certificates.{certificateFrame}
 use Rattle.protocol.specs.TestsLaws.{le-or-lt}
 use Rattle.protocol.specs.RowLaws.{in-range}
 use Rattle.fields.specs.Numbered.{maskAt}

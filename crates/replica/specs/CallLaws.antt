@@ -14,7 +14,8 @@ use Rattle.protocol.specs.Frame.{isCertificate}
 use Rattle.protocol.specs.Answer.{Outcome, Done, done, refused, accepted, unlessRefused}
 use Rattle.protocol.specs.Open.{newState, openInRange, openRows, openCall}
 use Rattle.protocol.specs.Signal.{signalRows, signalCall}
-use Rattle.protocol.specs.Fetch.{FetchOutcome, certificateFrame, hasCertificate, unlessFetchRefused, fetchRows, fetchCall}
+use Rattle.protocol.specs.Fetch.{FetchOutcome, hasCertificate, unlessFetchRefused, fetchRows, fetchCall}
+use Rattle.protocol.specs.Certificates.{certificateFrame}
 
 -- a call that refuses: its number, and the book as it was
 abbrev pub refusal : Bytes → ℕ → Outcome Done

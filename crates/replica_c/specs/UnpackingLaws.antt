@@ -19,6 +19,7 @@ use Rattle.protocol.specs.Sound.{sound}
 use Rattle.protocol.specs.Answer.{Answer, refused, accepted, Done, Outcome, unlessRefused, refusalNumber}
 use Rattle.protocol.specs.Answer.{Delivery, known, fresh, Certificate, onBlock, onDummy, certificateKind, finalizeKind}
 use Rattle.protocol.specs.Answer.{Move, idle, voteDummy, output, pass, propose, voteBlock, moveNumber, moveHeight}
+use Rattle.protocol.specs.Certificates.{certificateFrame}
 use Rattle.protocol.specs.Open.{openRows, openCall}
 use Rattle.protocol.specs.Deliver.{readRows, clashRows, deliverRows, kept, deliverCall}
 use Rattle.protocol.specs.Signal.{signalRows, signalCall}
@@ -26,7 +27,7 @@ use Rattle.protocol.specs.Submit.{submitRows, submitCall}
 use Rattle.protocol.specs.Fetch.{unlessFetchRefused, fetchRows, fetchCall}
 use Rattle.protocol.specs.Read.{sizeCall}
 use Rattle.protocol.specs.Move.{Step, firstStep, step, dummyVoteApplies, dummyVoteStep, outputApplies, outputStep}
-use Rattle.protocol.specs.Move.{passApplies, passCertificate, passStep, proposeApplies, proposeStep}
+use Rattle.protocol.specs.Move.{passApplies, passesBy, passStep, proposeApplies, proposeStep}
 use Rattle.protocol.specs.Move.{blockVoteApplies, blockVoteStep, idleStep}
 use Rattle.protocol.specs.Move.{MoveOutcome, moved, unlessMoveRefused, moveRows, moveCall}
 use Rattle.answers.specs.MoveNumbers.{answerNumbers, moveCertificate, moveFinalize}
@@ -274,7 +275,7 @@ module _ (digest : Bytes → Bytes) where
       where
         go : (inTime : Bool) →
             cond (eqb (finalizeKind inTime) 0) 1 2
-            ≡ length (passCertificate digest s ∷ cond inTime (finalize (s .own) (s .current) ∷ []) [])
+            ≡ length (certificateFrame s (certificateKind (passesBy digest s)) (s .current) ∷ cond inTime (finalize (s .own) (s .current) ∷ []) [])
         go true = unfold finalizeKind in refl
         go false = unfold finalizeKind in refl
 

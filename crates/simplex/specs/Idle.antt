@@ -1,5 +1,5 @@
 -- Nothing idles: a replica answers idle just where no move applies, and moving until idle ends within a known number of moves.
-use Prim.Native.Nat.{ℕ, zero, suc, _+_, _-_, _≤_}
+use Prim.Native.Nat.{ℕ, _+_, _-_, _≤_}
 use mathlib.Core.Path.{_≡_}
 use mathlib.Core.Logic.{_↔_}
 use mathlib.Core.Bool.{false}
@@ -7,7 +7,7 @@ use Rattle.protocol.specs.Bytes.{Bytes}
 use Rattle.protocol.specs.State.{State, decode, last}
 use Rattle.protocol.specs.BytesLaws.{AreBytes}
 use Rattle.protocol.specs.Answer.{accepted, idle}
-use Rattle.protocol.specs.Move.{step, moveCall, dummyVoteApplies, outputApplies, passApplies, proposeApplies, blockVoteApplies}
+use Rattle.protocol.specs.Move.{step, afterMoves, moveCall, dummyVoteApplies, outputApplies, passApplies, proposeApplies, blockVoteApplies}
 
 module _ (digest : Bytes → Bytes) where
   -- none of the five moves applies
@@ -28,14 +28,9 @@ module _ (digest : Bytes → Bytes) where
     pub unchanged : AreBytes book → moveCall digest book reply .answer ≡ accepted idle →
         (moveCall digest book reply .book ≡ book) × (moveCall digest book reply .reply ≡ reply)
 
-  -- the state after a number of moves
-  unfoldable pub afterMoves : ℕ → State → State
-  afterMoves zero s = s
-  afterMoves (suc k) s = afterMoves k (step digest s .after)
-
   -- a state is idle after at most so many moves
   unfoldable pub IdleWithin : ℕ → State → Type 0
-  IdleWithin most s = (k : ℕ) × (k ≤ most) × (step digest (afterMoves k s) .move ≡ idle)
+  IdleWithin most s = (k : ℕ) × (k ≤ most) × (step digest (afterMoves digest k s) .move ≡ idle)
 
   -- with c the current height: at most H + 4 − c moves, and at most one where the season is full
   unfoldable pub MovesEnd : State → Type 0

@@ -19,9 +19,9 @@ use Rattle.protocol.specs.RowLaws.{row}
 use Rattle.protocol.specs.State.{State, decode, last, at, flag, withHead, holdsProposal}
 use Rattle.protocol.specs.Sound.{view, sound}
 use Rattle.protocol.specs.Answer.{accepted, Move, idle, moveNumber}
-use Rattle.protocol.specs.Move.{MoveOutcome, moveRows, moveCall, unlessMoveRefused, moved, written, unused, Step, step, firstStep, isRunning, idleStep, dummyVoteApplies, dummyVoteStep, outputApplies, outputStep, passApplies, passStep, proposeApplies, proposeStep, blockVoteApplies, blockVoteStep, newFinalized, parentBelow, passesAt, isSome}
+use Rattle.protocol.specs.Move.{MoveOutcome, moveRows, moveCall, unlessMoveRefused, moved, written, unused, Step, step, afterMoves, firstStep, isRunning, idleStep, dummyVoteApplies, dummyVoteStep, outputApplies, outputStep, passApplies, passStep, proposeApplies, proposeStep, blockVoteApplies, blockVoteStep, newFinalized, parentBelow, passesAt, isSome}
 use Rattle.protocol.specs.View.{extends}
-use Rattle.simplex.specs.Idle.{NoMove, IdleMeansNoMove, IdlesJustThen, afterMoves, IdleWithin, MovesEnd}
+use Rattle.simplex.specs.Idle.{NoMove, IdleMeansNoMove, IdlesJustThen, IdleWithin, MovesEnd}
 
 module _ (digest : Bytes → Bytes) where
   pub no-move-idle : (s : State) → NoMove digest s → step digest s .move ≡ idle

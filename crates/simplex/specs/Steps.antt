@@ -6,13 +6,14 @@ use mathlib.Core.Path.{_≡_}
 use mathlib.Core.Logic.{_↔_}
 use mathlib.Core.Bool.{Bool, true, false, not, cond}
 use mathlib.Core.List.{List, [], _∷_}
-use Rattle.protocol.specs.Bytes.{Bytes}
+use Rattle.protocol.specs.Bytes.{Bytes, without}
 use Rattle.protocol.specs.Block.{entries, blockWellFormed}
-use Rattle.protocol.specs.Frame.{proposal, blockVote, dummyVote, finalize, blockCertificate, dummyCertificate}
+use Rattle.protocol.specs.Frame.{proposal, blockVote, dummyVote, finalize}
 use Rattle.protocol.specs.State.{State, at, last, flag, withHead, holdsProposal, pending}
 use Rattle.protocol.specs.Sound.{view}
-use Rattle.protocol.specs.Answer.{Move, idle, voteDummy, output, pass, propose, voteBlock, Certificate, onBlock, onDummy}
-use Rattle.protocol.specs.Move.{step, without, dummyVoteApplies, outputApplies, passApplies, proposeApplies, chosen}
+use Rattle.protocol.specs.Certificates.{certificateFrame}
+use Rattle.protocol.specs.Answer.{Move, idle, voteDummy, output, pass, propose, voteBlock, Certificate, onBlock, onDummy, certificateKind}
+use Rattle.protocol.specs.Move.{step, dummyVoteApplies, outputApplies, passApplies, proposeApplies, chosen}
 use Rattle.simplex.specs.Paper.{Sequence, height, linearize, lastBlock, Follows, NotarizedBlockchain, Finalization, SeenOfHeight, SeenWithBlock}
 use Rattle.simplex.specs.Blockchains.{ParentOf}
 
@@ -79,9 +80,8 @@ module _ (digest : Bytes → Bytes) (s : State) where
 
   -- ---- step 4: a notarized blockchain of the current height is passed on, and the next iteration entered
   -- the notarization sent: that of the block where a blockchain ends in it, else that of the dummy block
-  unfoldable pub Sent : Certificate → Bytes
-  Sent onBlock = blockCertificate (s .current) (at s (s .current) .certificateMask) (at s (s .current) .notarized)
-  Sent onDummy = dummyCertificate (s .current) (at s (s .current) .dummyMask)
+  abbrev pub Sent : Certificate → Bytes
+  Sent certificate = certificateFrame s (certificateKind certificate) (s .current)
 
   -- a pass by that certificate: the finalize goes out if and only if the timer has not fired
   abbrev pub Passes : Certificate → Type 0

@@ -8,7 +8,7 @@ use mathlib.Core.List.{List, [], _∷_}
 use mathlib.Core.Option.{Option, some, none}
 use lib.ListN.{length}
 use borrow.Author.Tests.{eqb-true, eq-eqb, leb-true, le-leb, ltb-true, lt-ltb, not-true}
-use Rattle.protocol.specs.Bytes.{Bytes}
+use Rattle.protocol.specs.Bytes.{Bytes, without}
 use Rattle.protocol.specs.Block.{blockHeight, parentHeight, newBlock, blockWellFormed}
 use Rattle.protocol.specs.Frame.{finalize}
 use Rattle.protocol.specs.TestsLaws.{and-true, or-true, or-right}
@@ -27,7 +27,7 @@ use Rattle.protocol.specs.ParentLaws.{parent-some, largestFinalized-is}
 use Rattle.protocol.specs.Sound.{view}
 use Rattle.protocol.specs.SoundLaws.{SoundState}
 use Rattle.protocol.specs.Answer.{Move, idle, voteDummy, output, pass, propose, voteBlock, onBlock, onDummy}
-use Rattle.protocol.specs.Move.{Step, step, firstStep, without, offered, proposedBlock, someOr, isRunning, isSome, idleStep, dummyVoteApplies, dummyVoteStep, outputApplies, outputStep, passApplies, passStep, proposeApplies, proposeStep, blockVoteApplies, blockVoteStep, newFinalized, parentBelow, passCertificate, passesAt, chosen}
+use Rattle.protocol.specs.Move.{Step, step, firstStep, offered, proposedBlock, someOr, isRunning, isSome, idleStep, dummyVoteApplies, dummyVoteStep, outputApplies, outputStep, passApplies, passStep, proposeApplies, proposeStep, blockVoteApplies, blockVoteStep, newFinalized, parentBelow, passesAt, chosen}
 use Rattle.simplex.specs.Paper.{lastBlock, linearize, Sequence, addDummy, addBlock, height, NotarizedBlockchain, SeenOfHeight, SeenWithBlock, Finalization}
 use Rattle.simplex.specs.Blockchains.{ChainEndingAt, ParentOf, InThePapersTerms, LinkedIsSeen, ParentIsSeen, ParentIsLargest, FinalizedIsSeen, ExtendsIsFollowing}
 use Rattle.simplex.specs.BlockchainsLaws.{in-the-papers-terms}
@@ -240,7 +240,7 @@ module _ (digest : Bytes → Bytes) (s : State) where
         (pass (s .current) (cond l onBlock onDummy) (not (flag 1 s)))
         (Sent digest s (cond l onBlock onDummy) ∷ cond (not (flag 1 s)) (finalize (s .own) (s .current) ∷ []) [])
         (withHead s 0 (s .current + 1) (s .finalized))
-    unfolding passStep passCertificate Sent
+    unfolding passStep
     pass-made q true l = record {
       answers = pass-move q ∙ rw l;
       writes = ap (λ (st : Step). st .frames) q ∙ rw l;

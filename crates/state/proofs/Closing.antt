@@ -5,13 +5,12 @@ use mathlib.Core.Path.{_≡_, refl, sym, ap, subst, _∙_}
 use mathlib.Core.Bool.{true}
 use mathlib.Core.List.{List, [], _∷_, _++_}
 use lib.ListN.{length, take, length-take}
-use Rattle.protocol.specs.Bytes.{Bytes, part, pieces}
+use Rattle.protocol.specs.Bytes.{Bytes, part, pieces, without}
 use Rattle.protocol.specs.BytesLaws.{put}
 use Rattle.protocol.specs.Block.{blockWellFormed}
 use Rattle.protocol.specs.State.{State, decode, encode, last, pending, withPool, bookHeights}
 use Rattle.protocol.specs.Sound.{view, log}
 use Rattle.protocol.specs.View.{View, linked, logAt}
-use Rattle.protocol.specs.Move.{without}
 use Rattle.protocol.specs.Submit.{withPending, stillPending}
 use Rattle.protocol.specs.EveryLaws.{Every}
 use Rattle.protocol.specs.StateLaws.{decode-encode}

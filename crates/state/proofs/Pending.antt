@@ -6,13 +6,12 @@ use mathlib.Core.Path.{_≡_, refl, sym, ap, subst, _∙_}
 use mathlib.Core.Bool.{Bool, true, false}
 use mathlib.Core.List.{List, [], _∷_, _++_}
 use lib.ListN.{length, take, drop, length-append, length-drop}
-use Rattle.protocol.specs.Bytes.{Bytes, part, same, holds, overFront}
+use Rattle.protocol.specs.Bytes.{Bytes, part, same, holds, overFront, without}
 use Rattle.protocol.specs.BytesLaws.{put, length-part}
 use Rattle.protocol.specs.Block.{newBlock}
 use Rattle.protocol.specs.State.{State, decode, pending}
 use Rattle.protocol.specs.Sound.{view, log}
 use Rattle.protocol.specs.View.{logAt}
-use Rattle.protocol.specs.Move.{without}
 use Rattle.protocol.specs.Submit.{stillPending}
 use Rattle.protocol.specs.EveryLaws.{Every, none}
 use Rattle.protocol.specs.PiecesLaws.{Sized}

@@ -16,12 +16,12 @@ use Rattle.delivery.proofs.clash.vote_agrees.Tie as tie
 in-mask-requires : tie.Need-in-mask-requires
 in-mask-requires c κs =
     let start = c .before .before .before .before .before .before in
-    omega (arith, start .pre .signer-small (omega (arith, c .before .before .before .frame-kind .ensures .0)), start .pre .spot .readable .replicas)
+    omega (arith, start .pre .read .signer-small (omega (arith, c .before .before .before .frame-kind .ensures .0)), start .pre .spot .readable .replicas)
 
 vote-digest-requires : tie.Need-vote-digest-requires
 vote-digest-requires c κs =
     let start = c .before .before .before .before .before .before .before in
-    (start .pre .spot .readable .sized, (start .pre .spot .within, omega (arith, start .pre .signer-small (omega (arith, c .before .before .before .before .frame-kind .ensures .0)), start .pre .spot .readable .replicas)))
+    (start .pre .spot .readable .sized, (start .pre .spot .within, omega (arith, start .pre .read .signer-small (omega (arith, c .before .before .before .before .frame-kind .ensures .0)), start .pre .spot .readable .replicas)))
 
 returns : tie.Need-returns
 unfolding voteAgrees

@@ -25,7 +25,7 @@ returns c =
 keep-block-vote-requires : tie.Need-keep-block-vote-requires
 keep-block-vote-requires c κs =
     let start = c .before .before .before .before .before .before in
-    (start .pre, start .pre .signer-small (omega (arith, c .before .before .before .frame-kind .ensures .0, start .pre .kind-low)))
+    (start .pre, start .pre .read .signer-small (omega (arith, c .before .before .before .frame-kind .ensures .0, start .pre .read .kind-low)))
 
 returns-2 : tie.Need-returns-2
 returns-2 c =
@@ -48,7 +48,7 @@ returns-3 c =
 frame-signers-requires : tie.Need-frame-signers-requires
 frame-signers-requires c κs =
     let start = c .before .before .before .before .before .before in
-    (start .pre .size, λ l. omega (arith, start .pre .signer-small l, start .pre .spot .readable .replicas))
+    (start .pre .read .size, λ l. omega (arith, start .pre .read .signer-small l, start .pre .spot .readable .replicas))
 
 returns-4 : tie.Need-returns-4
 returns-4 c =

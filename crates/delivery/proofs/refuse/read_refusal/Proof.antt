@@ -6,7 +6,7 @@ use Rattle.protocol.specs.Frame.{frameHeight}
 use Rattle.protocol.specs.RowLaws.{in-range, range-in, not-passed}
 use Rattle.delivery.specs.Refusal.{refusalOf}
 use Rattle.delivery.specs.RefusalLaws.{read-malformed, read-outside, read-inside}
-use Rattle.delivery.specs.FrameReadLaws.{formed-size}
+use Rattle.protocol.specs.DeliverLaws.{formed-size}
 use borrow.Author.Needs.{needs}
 use Rattle.delivery.proofs.refuse.read_refusal.Statement.{statement}
 use Rattle.delivery.proofs.refuse.read_refusal.Tie as tie

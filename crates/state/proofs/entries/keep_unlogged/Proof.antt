@@ -5,11 +5,10 @@ use mathlib.Core.Path.{_≡_, refl, sym, ap, _∙_}
 use mathlib.Core.Bool.{Bool}
 use mathlib.Core.List.{List, [], _∷_, _++_}
 use lib.ListN.{length}
-use Rattle.protocol.specs.Bytes.{Bytes, part, holds}
+use Rattle.protocol.specs.Bytes.{Bytes, part, holds, without}
 use Rattle.protocol.specs.State.{State, decode, encode}
 use Rattle.protocol.specs.Sound.{view, log}
 use Rattle.protocol.specs.View.{logAt}
-use Rattle.protocol.specs.Move.{without}
 use Rattle.protocol.specs.PoolLaws.{moved, moved-none}
 use Rattle.protocol.specs.EntriesLaws.{place-leaves, place-stays}
 use Rattle.fields.specs.Ready.{Ready}

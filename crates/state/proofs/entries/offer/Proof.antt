@@ -5,12 +5,12 @@ use mathlib.Core.Path.{_≡_, refl, sym, ap, _∙_}
 use mathlib.Core.List.{List, []}
 use borrow.Author.Needs.{needs}
 use lib.ListN.{length, take}
-use Rattle.protocol.specs.Bytes.{Bytes, part, overFront}
+use Rattle.protocol.specs.Bytes.{Bytes, part, overFront, without}
 use Rattle.protocol.specs.Block.{newBlock}
 use Rattle.protocol.specs.State.{State, decode, pending}
 use Rattle.protocol.specs.Sound.{view}
 use Rattle.protocol.specs.View.{logAt}
-use Rattle.protocol.specs.Move.{without, offered}
+use Rattle.protocol.specs.Move.{offered}
 use Rattle.protocol.specs.EveryLaws.{Every, none}
 use Rattle.protocol.specs.PiecesLaws.{Sized}
 use Rattle.protocol.specs.EntriesLaws.{place-leaves, place-stays, lacked-sized, pending-all, eight-taken, few-taken}

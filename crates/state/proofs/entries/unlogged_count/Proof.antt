@@ -6,7 +6,7 @@ use lib.ListN.{length, take}
 use Rattle.protocol.specs.State.{decode, pending}
 use Rattle.protocol.specs.Sound.{view}
 use Rattle.protocol.specs.View.{logAt}
-use Rattle.protocol.specs.Move.{without}
+use Rattle.protocol.specs.Bytes.{without}
 use Rattle.protocol.specs.EntriesLaws.{place-leaves, place-stays}
 use Rattle.state.proofs.Pending.{walk-at, one-more, all-stay}
 use Rattle.state.proofs.entries.unlogged_count.Statement.{statement}
