@@ -172,9 +172,10 @@ impl Station {
     }
 }
 
-/// An entry of a block, or a pending one where the height is 0; no two are alike.
+/// An entry of a block, or a pending one where the height is 0; no two are alike. The first byte is 0 to 3.
 pub fn entry(height: u8, place: u8) -> [u8; ENTRY] {
-    let mut entry = *b"swap plot      .";
+    let mut entry = *b"\0swap plot     .";
+    entry[0] = place % 4;
     entry[10..12].copy_from_slice(&[height, place]);
     entry
 }

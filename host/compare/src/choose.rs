@@ -102,12 +102,19 @@ fn kind(random: &mut Random) -> u64 {
 fn entry(random: &mut Random) -> Vec<u8> {
     let mut entry = any_entry(random).to_vec();
     if random.one_in(4) {
-        random.fill(&mut entry);
+        any_sixteen_bytes(random, &mut entry);
     }
     if random.one_in(24) {
         entry.resize(*random.pick(&[0, 1, 15, 17, 32]).unwrap_or(&0), 0);
     }
     entry
+}
+
+/// Bytes that nobody has seen; of every other such entry the first one is 0 to 3.
+fn any_sixteen_bytes(random: &mut Random, entry: &mut [u8]) {
+    random.fill(entry);
+    let odd = entry.last().is_some_and(|byte| byte % 2 == 1);
+    entry.iter_mut().take(usize::from(odd)).for_each(|first| *first %= 4);
 }
 
 /// A length around that of the log.

@@ -15,11 +15,11 @@ pub fn area(book: &[u8], height: u8, area: Area) -> &[u8] {
     book.get(range).unwrap_or(&[])
 }
 
-/// One of few entries, so that repeats are common.
+/// One of few entries, so that repeats are common. Its first byte is 0 to 3: request 2.13 takes no other.
 pub fn any_entry(random: &mut Random) -> [u8; ENTRY] {
     let tag = random.byte_below(40);
     let mut entry = [tag; ENTRY];
-    entry[0] = b'#';
+    entry[0] %= 4;
     entry
 }
 

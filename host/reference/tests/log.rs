@@ -36,7 +36,7 @@ fn read_returns_the_front_or_nothing() {
     let mut short = [0xaa; 63];
     assert_eq!(reference::read(&book, &mut short), []);
     assert_eq!(short, [0xaa; 63]);
-    book[7] = 0;
+    book[7] = 255;
     let mut buffer = [0xaa; 70];
     assert_eq!(reference::read(&book, &mut buffer), []);
     assert_eq!(buffer, [0xaa; 70]);
@@ -69,15 +69,14 @@ fn submit_appends_and_drops_what_is_logged() {
 #[test]
 fn a_full_list_makes_room_when_one_is_logged() {
     let mut book = logged_book();
-    let tags = (1u8..=2).chain(20..50);
-    tags.for_each(|tag| reference::submit(&mut book, &[tag; 16]).unwrap());
-    assert_eq!((book[6], reference::submit(&mut book, &[99; 16])), (32, Err(12)));
+    (100..132).for_each(|tag| reference::submit(&mut book, &entry(tag)).unwrap());
+    assert_eq!((book[6], reference::submit(&mut book, &entry(99))), (32, Err(12)));
     book[PENDING..PENDING + 16].copy_from_slice(&entry(2));
-    assert_eq!(reference::submit(&mut book, &[99; 16]), Err(12));
+    assert_eq!(reference::submit(&mut book, &entry(99)), Err(12));
     one_move(&mut book);
-    assert_eq!(reference::submit(&mut book, &[99; 16]), Ok(()));
-    assert_eq!((book[6], book[PENDING]), (32, 2));
-    assert_eq!(book[CONTENTS - 16..CONTENTS], [99; 16]);
+    assert_eq!(reference::submit(&mut book, &entry(99)), Ok(()));
+    assert_eq!((book[6], &book[PENDING..PENDING + 16]), (32, &entry(101)[..]));
+    assert_eq!(book[CONTENTS - 16..CONTENTS], entry(99));
 }
 
 #[test]

@@ -153,8 +153,8 @@ fn the_offer_carries_eight_new_entries_in_order() {
 fn pending_repeats_are_each_carried() {
     let mut book = new_book(4, 2, &[2]);
     book[6] = 2;
-    book[PENDING..PENDING + 32].fill(7);
-    let expected = block(1, 0, ZERO, &[[7; 16]; 2]);
+    book[PENDING..PENDING + 32].fill(3);
+    let expected = block(1, 0, ZERO, &[[3; 16]; 2]);
     assert_eq!(one_move(&mut book).1[..224], proposal(2, &expected));
 }
 

@@ -4,18 +4,18 @@ mod common;
 
 use common::*;
 
-/// A book in which every later refusal of deliver can be met: a proposal and a block at height 1.
+/// A book in which every later refusal of deliver can be met: a proposal and a block at height 2, above the current one.
 fn busy_book() -> Vec<u8> {
-    let mut book = new_book(4, 2, &[0, 1]);
-    let first = block(1, 0, ZERO, &[entry(1)]);
-    deliver_all(&mut book, &[proposal(0, &first), block_certificate(7, &first)]);
-    deliver_all(&mut book, &[block_vote(1, 1, [1; 32])]);
+    let mut book = new_book(4, 2, &[1, 0]);
+    let second = block(2, 0, ZERO, &[entry(1)]);
+    deliver_all(&mut book, &[proposal(0, &second), block_certificate(7, &second)]);
+    deliver_all(&mut book, &[block_vote(1, 2, [1; 32])]);
     book
 }
 
 /// A frame with a byte that no kind uses.
 fn spoilt(mut frame: FrameBytes) -> FrameBytes {
-    frame[3] = 1;
+    frame[UNUSED] = 1;
     frame
 }
 
@@ -28,15 +28,15 @@ fn open_2_then_1() {
 #[test]
 fn deliver_1_4_6_5_7_9_8_10() {
     let mut book = busy_book();
-    let other = block(1, 0, ZERO, &[entry(2)]);
+    let other = block(2, 0, ZERO, &[entry(2)]);
     let high = block(3, 0, ZERO, &[]);
     let cases = [
         (spoilt(dummy_vote(0, 0)), 4),
         (spoilt(dummy_vote(0, 3)), 4),
-        (spoilt(dummy_vote(9, 1)), 4),
+        (spoilt(dummy_vote(9, 2)), 4),
         (spoilt(proposal(1, &other)), 4),
-        (spoilt(dummy_certificate(3, 1)), 4),
-        (spoilt(block_vote(1, 1, [2; 32])), 4),
+        (spoilt(dummy_certificate(3, 2)), 4),
+        (spoilt(block_vote(1, 2, [2; 32])), 4),
         (spoilt(block_certificate(7, &other)), 4),
         (dummy_vote(9, 0), 6),
         (dummy_vote(9, 3), 6),
@@ -44,20 +44,20 @@ fn deliver_1_4_6_5_7_9_8_10() {
         (proposal(3, &high), 6),
         (block_certificate(1, &high), 6),
         (proposal(9, &other), 5),
-        (block_vote(9, 1, ZERO), 5),
+        (block_vote(9, 2, ZERO), 5),
         (block_certificate(16, &other), 5),
-        (dummy_certificate(48, 1), 5),
+        (dummy_certificate(48, 2), 5),
         (proposal(1, &other), 7),
         (proposal(0, &other), 8),
         (block_certificate(3, &other), 9),
-        (block_certificate(3, &block(1, 0, ZERO, &[entry(1)])), 9),
+        (block_certificate(3, &block(2, 0, ZERO, &[entry(1)])), 9),
         (block_certificate(14, &other), 10),
     ];
     for (frame, number) in cases {
         assert_eq!(reference::deliver(&mut book, &frame), Err(number));
         assert_eq!(book, busy_book());
     }
-    book[7] = 2;
+    book[7] = 255;
     assert_eq!(reference::deliver(&mut book, &[]), Err(1));
 }
 
@@ -100,11 +100,11 @@ fn submit_1_4_13_12() {
     assert_eq!(reference::submit(&mut book, &[]), Err(1));
     book[4] = 1;
     for tag in 0..32 {
-        reference::submit(&mut book, &[tag; 16]).unwrap();
+        reference::submit(&mut book, &entry(tag)).unwrap();
     }
     assert_eq!(reference::submit(&mut book, &[0; 15]), Err(4));
-    assert_eq!(reference::submit(&mut book, &[0; 16]), Err(13));
-    assert_eq!(reference::submit(&mut book, &[99; 16]), Err(12));
+    assert_eq!(reference::submit(&mut book, &entry(0)), Err(13));
+    assert_eq!(reference::submit(&mut book, &entry(99)), Err(12));
 }
 
 #[test]

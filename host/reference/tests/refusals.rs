@@ -126,9 +126,17 @@ fn number_7_not_the_leader() {
 
 #[test]
 fn number_8_unlike_the_kept() {
-    let mut book = new_book(4, 2, &[0]);
+    let mut book = new_book(4, 2, &[0, 0]);
     deliver_all(&mut book, &[block_vote(1, 1, [1; 32])]);
     assert_eq!(refused(&mut book, &block_vote(1, 1, [2; 32])), 8);
+    deliver_all(&mut book, &[proposal(0, &block(2, 0, ZERO, &[]))]);
+    assert_eq!(refused(&mut book, &proposal(0, &block(2, 0, ZERO, &[entry(1)]))), 8);
+}
+
+/// Request 2.2 takes this one as the timer's signal.
+#[test]
+fn number_8_a_second_proposal_at_the_current_height() {
+    let mut book = new_book(4, 2, &[0]);
     deliver_all(&mut book, &[proposal(0, &block(1, 0, ZERO, &[]))]);
     assert_eq!(refused(&mut book, &proposal(0, &block(1, 0, ZERO, &[entry(1)]))), 8);
 }
@@ -164,13 +172,13 @@ fn number_11_nothing_to_fetch() {
 fn numbers_12_and_13_submit() {
     let mut book = new_book(4, 2, &[0]);
     for tag in 0..32 {
-        assert_eq!(reference::submit(&mut book, &[tag; 16]), Ok(()));
+        assert_eq!(reference::submit(&mut book, &entry(tag)), Ok(()));
         let before = book.clone();
-        assert_eq!(reference::submit(&mut book, &[tag; 16]), Err(13));
+        assert_eq!(reference::submit(&mut book, &entry(tag)), Err(13));
         assert_eq!(book, before);
     }
     let before = book.clone();
-    assert_eq!(reference::submit(&mut book, &[32; 16]), Err(12));
+    assert_eq!(reference::submit(&mut book, &entry(32)), Err(12));
     assert_eq!(book, before);
 }
 

@@ -56,7 +56,14 @@ fn numbers_of_the_head() {
     }
     (16..=255).for_each(|flags| assert_unsound(&with(3, flags)));
     (33..=255).for_each(|pending| assert_unsound(&with(6, pending)));
-    (0..=255).filter(|&edition| edition != 1).for_each(|edition| assert_unsound(&with(7, edition)));
+    (4..=255).chain([0]).for_each(|edition| assert_unsound(&with(7, edition)));
+}
+
+/// What requests 2.6 and 2.7 turn over: their editions, and the bytes of the head that these use.
+#[test]
+fn later_editions() {
+    (2..=3).for_each(|edition| assert_unsound(&with(7, edition)));
+    (8..46).for_each(|at| assert_unsound(&with(at, 1)));
 }
 
 #[test]
@@ -84,7 +91,7 @@ fn leaders_masks_and_states() {
 #[test]
 fn forms_of_blocks() {
     let (held, notarized) = (body(&full_book(), 3), body(&full_book(), 3) + 176);
-    let zeros = [1, 3].into_iter().chain(5..16).chain(64..176);
+    let zeros = HIGH_BYTES.into_iter().chain(5..16).chain(64..176);
     for start in [held, notarized] {
         assert_unsound(&with(start, 2));
         assert_unsound(&with(start + 2, 3));
@@ -106,7 +113,7 @@ fn certificate_of_a_notarized_block() {
 
 #[test]
 fn bytes_called_zero() {
-    (8..64).for_each(|at| assert_unsound(&with(at, 1)));
+    (46..64).for_each(|at| assert_unsound(&with(at, 1)));
     for height in 1..=3 {
         (10..16).for_each(|at| assert_unsound(&with(row(height) + at, 0x40)));
     }

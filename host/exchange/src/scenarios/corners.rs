@@ -90,9 +90,9 @@ fn parent_chain_filters<C: Calls>(to: &mut Recorder<C>) {
     to.part("A proposal leaves out what its parent chain holds, settled or not, and carries eight at most");
     to.open(BOOK, 4, 2, &[0, 2]);
     for number in 1..=11 {
-        submit(to, BOOK, &format!("entry {number}"));
+        submit(to, BOOK, numbered(number));
     }
-    let block = first(1, &[entry("entry 2"), entry("entry 5")]);
+    let block = first(1, &[numbered(2), numbered(5)]);
     deliver(to, BOOK, &[Frame::BlockCertificate { mask: 7, block }]);
     let written = moves(to, BOOK);
     to.remark("Eight entries are a page like any other");
@@ -167,14 +167,14 @@ fn unsettled_entry<C: Calls>(to: &mut Recorder<C>) {
     to.open(BOOK, 4, 2, &[0]);
     let block = first(1, &[entry("swap A1 B2"), entry("swap A1 B2")]);
     deliver(to, BOOK, &[Frame::BlockCertificate { mask: 7, block }]);
-    for words in ["entry 1", "swap A1 B2", "entry 2", "entry 3"] {
-        submit(to, BOOK, words);
+    for one in [numbered(1), entry("swap A1 B2"), numbered(2), numbered(3)] {
+        submit(to, BOOK, one);
     }
     deliver(to, BOOK, &[Frame::FinalizeCertificate { mask: 7, height: 1 }]);
     moves(to, BOOK);
-    submit(to, BOOK, "swap A1 B2");
+    submit(to, BOOK, entry("swap A1 B2"));
     to.remark("A taken one drops it from between the others, which stay in order");
-    submit(to, BOOK, "entry 4");
+    submit(to, BOOK, numbered(4));
     to.remark("An entry that stands twice in the register counts twice");
     to.make(Call::Size, BOOK, "");
 }

@@ -55,8 +55,8 @@ fn late_dummy_pass<C: Calls>(to: &mut Recorder<C>) {
 fn alone<C: Calls>(to: &mut Recorder<C>) {
     to.part("j and on: a single station proposes, votes, passes on its page, and settles it");
     to.open(BOOK, 1, 0, &[0, 0]);
-    submit(to, BOOK, "swap A1 B2");
-    submit(to, BOOK, "undo A1 B2");
+    submit(to, BOOK, entry("swap A1 B2"));
+    submit(to, BOOK, entry("undo A1 B2"));
     moves_with_own_frames(to, BOOK);
     to.make(Call::Size, BOOK, "");
     for length in [0, 31, 32, 40] {

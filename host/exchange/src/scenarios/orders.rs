@@ -57,11 +57,11 @@ fn other_calls<C: Calls>(to: &mut Recorder<C>) {
     to.make(Call::Open { n: 4, own: 4, heights: 2, leaders: leaders.clone() }, BOOK, "");
     to.make(Call::Open { n: 4, own: 2, heights: 2, leaders }, BOOK, "");
     for number in 1..=32 {
-        submit(to, BOOK, &format!("entry {number}"));
+        submit(to, BOOK, numbered(number));
     }
     to.make(Call::Submit { entry: vec![0; 15] }, BOOK, "");
-    submit(to, BOOK, "entry 32");
-    submit(to, BOOK, "entry 33");
+    submit(to, BOOK, numbered(32));
+    submit(to, BOOK, numbered(33));
     to.give("cut", vec![0; 1455]);
     to.make(Call::Move, "cut", "short");
     to.make(Call::Move, BOOK, "short");

@@ -1,6 +1,6 @@
 //! The list of refusals: each number of the table, with its example and its neighbours.
 
-use super::parts::{deliver, digest, first, signal, submit, vote, REPLY};
+use super::parts::*;
 use crate::{Call, Recorder};
 use types::{Block, Calls, Frame};
 
@@ -126,9 +126,9 @@ fn entries<C: Calls>(to: &mut Recorder<C>) {
         to.make(Call::Submit { entry: vec![1; length] }, BOOK, "");
     }
     for number in 1..=33 {
-        submit(to, BOOK, &format!("entry {number}"));
+        submit(to, BOOK, numbered(number));
     }
-    submit(to, BOOK, "entry 7");
+    submit(to, BOOK, numbered(7));
 }
 
 /// Signal: 6, 14.
@@ -146,7 +146,7 @@ fn signals<C: Calls>(to: &mut Recorder<C>) {
     deliver(to, BOOK, &[Frame::BlockVote { signer: 0, height: 1, digest }]);
     to.make(Call::Move, BOOK, REPLY);
     signal(to, BOOK, 1);
-    submit(to, BOOK, "entry");
+    submit(to, BOOK, entry("entry"));
     to.make(Call::Size, BOOK, "");
     to.make(Call::Read, BOOK, REPLY);
     to.make(Call::Fetch { kind: 5, height: 1 }, BOOK, REPLY);

@@ -55,13 +55,13 @@ fn hand_over<C: Calls>(to: &mut Recorder<C>, from: usize, into: usize, wanted: &
 
 fn first_height<C: Calls>(to: &mut Recorder<C>) {
     to.part("Height 1: station 0 leads, station 3 hears nothing, the other three settle page 1");
-    submit(to, book(0), "swap A12 to B40");
-    submit(to, book(1), "seed lot 77 to 3");
+    submit(to, book(0), entry("swap A12 to B40"));
+    submit(to, book(1), entry("seed lot 7 to 3"));
     let offer = all_move(to, &[0], &[1]);
     send(to, &offer, &[0, 1, 2]);
     let votes = all_move(to, &[0, 1, 2], &[2]);
     to.remark("The swap was a mistake: an undo entry waits for the next page");
-    submit(to, book(1), "undo A12 to B40");
+    submit(to, book(1), entry("undo A12 to B40"));
     send(to, &votes, &[0, 1, 2]);
     let after = all_move(to, &[0, 1, 2], &[1, 4]);
     send(to, &after, &[0, 1, 2]);
@@ -86,7 +86,7 @@ fn second_height<C: Calls>(to: &mut Recorder<C>) {
 fn catching_up<C: Calls>(to: &mut Recorder<C>) {
     to.part("Station 3 is back and catches up with what fetch gives of station 0's book");
     hand_over(to, 0, 3, &[(5, 1), (7, 1), (5, 2)]);
-    submit(to, book(3), "lot 9 to plot 5");
+    submit(to, book(3), entry("lot 9 to plot 5"));
 }
 
 fn third_height<C: Calls>(to: &mut Recorder<C>) {
@@ -106,7 +106,7 @@ fn third_height<C: Calls>(to: &mut Recorder<C>) {
     signal(to, book(1), 3);
     let mut blanks = all_move(to, &[0, 1], &[3]);
     blanks.push(Frame::DummyVote { signer: 3, height: 3 }.bytes().to_vec());
-    submit(to, book(2), "plot C7 fallow");
+    submit(to, book(2), entry("plot C7 fallow"));
     send(to, &blanks, &[0, 1, 2]);
 }
 

@@ -22,6 +22,15 @@ pub fn new_book(n: u64, own: u64, leaders: &[u8]) -> Vec<u8> {
     book
 }
 
+/// The bytes of a block that follow its heights; request 2.7 makes them their high bytes.
+pub const HIGH_BYTES: [usize; 2] = [1, 3];
+
+/// The byte of a frame that follows its height; request 2.7 makes it the high byte.
+pub const HIGH_BYTE: usize = 3;
+
+/// A byte of a frame that no kind uses, now or later.
+pub const UNUSED: usize = 15;
+
 /// Where the contents row of a height begins.
 pub fn row(height: usize) -> usize {
     CONTENTS + 16 * (height - 1)
@@ -32,9 +41,9 @@ pub fn body(book: &[u8], height: usize) -> usize {
     CONTENTS + 16 * usize::from(book[2]) + 864 * (height - 1)
 }
 
-/// An entry that differs from those with another tag.
+/// An entry that differs from those with another tag. Its first byte is 0 to 3: request 2.13 takes no other.
 pub fn entry(tag: u8) -> [u8; 16] {
-    std::array::from_fn(|at| tag ^ (at as u8 * 16))
+    std::array::from_fn(|at| if at == 0 { tag % 4 } else { tag ^ (at as u8 * 16) })
 }
 
 /// A block of these parts.

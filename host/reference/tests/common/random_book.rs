@@ -1,7 +1,7 @@
 //! Random books that are nearly always sound: chains with gaps, forks in the air, free junk.
 
 use super::random::Random;
-use super::{block, body, row, Block, CONTENTS, PENDING, ZERO};
+use super::{block, body, entry, row, Block, CONTENTS, PENDING, ZERO};
 use reference::{book_length, Digest};
 
 /// A book of a few heights. Its finalized height is 0.
@@ -29,8 +29,7 @@ pub fn random_book(random: &mut Random, digest: Digest) -> Vec<u8> {
 
 /// One of few entries, so that repeats are common.
 pub fn random_entry(random: &mut Random) -> [u8; 16] {
-    let tag = random.below(40) as u8;
-    std::array::from_fn(|at| tag ^ (at as u8 * 16))
+    entry(random.below(40) as u8)
 }
 
 /// Contents and blocks of one height.
