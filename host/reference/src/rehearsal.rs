@@ -1,12 +1,13 @@
 //! The rehearsal: replica 2 of 4, three heights, frames from a stream, one line for each event.
 
+use crate::height::{self, Height};
 use crate::{book_length, deliver, make_move, open, Delivered, Move, FRAME};
 use std::io::{self, Read, Write};
 
 /// The settings that every rehearsal has.
 const N: u64 = 4;
 const OWN: u64 = 2;
-const HEIGHTS: u8 = 3;
+const HEIGHTS: Height = 3;
 const LEADERS: [u8; 3] = [0, 1, 2];
 
 /// Delivers the frames of the input one by one, a short last one too, and moves until idle after
@@ -37,24 +38,16 @@ fn delivery_line(book: &mut [u8], frame: &[u8]) -> String {
         Err(number) => return format!("deny {number}"),
     };
     match frame {
-        [kind, signer, height, ..] => format!("{word} {kind} {height} {signer}"),
+        [kind, signer, low, high, ..] => {
+            format!("{word} {kind} {} {signer}", height::from_bytes([*low, *high]))
+        }
         _ => word.to_string(),
     }
 }
 
 /// The line for a move; none when idle.
 fn move_line(made: Move) -> Option<String> {
-    match made {
-        Move::Dummy { height } => Some(format!("dummy {height}")),
-        Move::Final { height } => Some(format!("final {height}")),
-        Move::Pass { height, certificate, finalized } => {
-            let second = if finalized { 4 } else { 0 };
-            Some(format!("pass {height} {} {second}", certificate.kind()))
-        }
-        Move::Offer { height } => Some(format!("offer {height}")),
-        Move::Vote { height } => Some(format!("vote {height}")),
-        Move::Idle => None,
-    }
+    (made != Move::Idle).then(|| made.to_string())
 }
 
 /// A refusal that a rehearsal never meets, as an error of the stream.

@@ -61,7 +61,7 @@ fn h_dummy_votes_of_three_pass_and_finalize() {
     assert_eq!(made, Move::Pass { height: 1, certificate, finalized: true });
     assert_eq!(reply[..224], dummy_certificate(7, 1));
     assert_eq!(reply[224..], finalize(3, 1));
-    assert_eq!((book[3], book[4]), (0, 2));
+    assert_eq!((book[3], book[CURRENT]), (0, 2));
 }
 
 #[test]
@@ -75,7 +75,7 @@ fn i_after_the_timer_the_second_frame_is_zero() {
     assert_eq!(made, Move::Pass { height: 1, certificate, finalized: false });
     assert_eq!(reply[..224], dummy_certificate(7, 1));
     assert_eq!(reply[224..], [0; 224]);
-    assert_eq!((book[3], book[4]), (0, 2));
+    assert_eq!((book[3], book[CURRENT]), (0, 2));
 }
 
 #[test]
@@ -94,7 +94,7 @@ fn k_finalizes_without_a_block() {
     let mut book = new_book(4, 2, &[0]);
     deliver_all(&mut book, &[finalize_certificate(7, 1)]);
     assert_eq!(moves(&mut book), []);
-    assert_eq!(book[5], 0);
+    assert_eq!(book[FINALIZED], 0);
 }
 
 #[test]
@@ -106,7 +106,7 @@ fn l_no_gap_without_dummies() {
     deliver_all(&mut book, &both);
     deliver_all(&mut book, &[finalize_certificate(7, 3)]);
     assert_eq!(moves(&mut book).len(), 1);
-    assert_eq!((book[4], book[5]), (2, 0));
+    assert_eq!((book[CURRENT], book[FINALIZED]), (2, 0));
     deliver_all(&mut book, &[dummy_certificate(7, 2)]);
     assert_eq!(one_move(&mut book).0, Move::Final { height: 3 });
 }

@@ -128,5 +128,5 @@ fn the_longest_log() {
     assert_eq!(reference::size(&book), Ok(63 * 8 * 16));
     assert_eq!(log_of(&book), (1..=63).flat_map(entries).collect::<Vec<_>>().concat());
     assert_eq!(moves(&mut book).len(), 63);
-    assert_eq!(book[4], 64);
+    assert_eq!(book[CURRENT], 64);
 }

@@ -101,7 +101,7 @@ impl Network {
     /// The dishonest ones say one thing here and another there.
     fn mischief(&mut self) {
         let seen = self.any_honest();
-        let span = usize::from(self.books[seen][4]) + 1;
+        let span = usize::from(self.books[seen][CURRENT]) + 1;
         let height = 1 + self.random.below(span.min(HEIGHTS.into())) as u8;
         let signer = self.honest + self.random.below((self.n - self.honest).into()) as u8;
         match self.random.below(6) {
@@ -192,7 +192,7 @@ impl Network {
             0..=10 => self.arrive(),
             11..=15 => _ = self.step(replica),
             16 if self.random.one_in(12) => {
-                let height = self.books[replica][4].into();
+                let height = self.books[replica][CURRENT].into();
                 _ = reference::signal(&mut self.books[replica], height);
             }
             17 => {

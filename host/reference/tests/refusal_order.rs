@@ -75,9 +75,9 @@ fn height_0_is_4_for_kinds_with_a_block() {
 #[test]
 fn move_1_then_3() {
     let mut book = busy_book();
-    book[4] = 0;
+    book[CURRENT] = 0;
     assert_eq!(reference::make_move(&mut book, &mut []), Err(1));
-    book[4] = 1;
+    book[CURRENT] = 1;
     assert_eq!(reference::make_move(&mut book, &mut []), Err(3));
 }
 
@@ -86,19 +86,19 @@ fn signal_1_6_14() {
     let mut book = busy_book();
     assert_eq!(reference::signal(&mut book, 3), Err(6));
     assert_eq!(reference::signal(&mut book, 2), Err(14));
-    book[4] = 3;
+    book[CURRENT] = 3;
     assert_eq!(reference::signal(&mut book, 3), Err(6));
     assert_eq!(reference::signal(&mut book, 1), Err(14));
-    book[4] = 4;
+    book[CURRENT] = 4;
     assert_eq!(reference::signal(&mut book, 3), Err(1));
 }
 
 #[test]
 fn submit_1_4_13_12() {
     let mut book = busy_book();
-    book[4] = 0;
+    book[CURRENT] = 0;
     assert_eq!(reference::submit(&mut book, &[]), Err(1));
-    book[4] = 1;
+    book[CURRENT] = 1;
     for tag in 0..32 {
         reference::submit(&mut book, &entry(tag)).unwrap();
     }
@@ -115,6 +115,6 @@ fn fetch_1_4_6_3_11() {
     assert_eq!(reference::fetch(&book, 6, 3, &mut []), Err(6));
     assert_eq!(reference::fetch(&book, 6, 1, &mut []), Err(3));
     assert_eq!(reference::fetch(&book, 6, 1, &mut [0; 224]), Err(11));
-    book[4] = 0;
+    book[CURRENT] = 0;
     assert_eq!(reference::fetch(&book, 8, 0, &mut []), Err(1));
 }

@@ -19,7 +19,7 @@ fn any_number(random: &mut Random) -> u64 {
 
 /// A frame that a book of this kind may well take, or one with a few bytes changed.
 fn any_frame(random: &mut Random, book: &[u8]) -> Vec<u8> {
-    let (n, heights) = (book[0].clamp(1, 16), book[2].clamp(1, 7));
+    let (n, heights) = (book[0].clamp(1, 16), book[HEIGHTS].clamp(1, 7));
     let (signer, height) = (random.below(n.into()) as u8, 1 + random.below(heights.into()) as u8);
     let fits = is_sound(book);
     let block = match fits {
@@ -64,7 +64,7 @@ fn any_call(random: &mut Random, book: &mut [u8], reply: &mut [u8]) -> bool {
         }
         3 | 4 => reference::make_move(book, reply).is_err(),
         5 => {
-            let current = book.get(4).map_or(0, |&current| u64::from(current));
+            let current = book.get(CURRENT).map_or(0, |&current| u64::from(current));
             let height = if random.one_in(2) { any_number(random) } else { current };
             reference::signal(book, height).is_err()
         }
@@ -155,7 +155,7 @@ fn written_frames_are_read() {
     let mut count = 0;
     for _ in 0..2000 {
         let mut book = random_book(&mut random, digest);
-        let leaders: Vec<u8> = (1..=book[2]).map(|height| book[row(height.into())]).collect();
+        let leaders: Vec<u8> = (1..=book[HEIGHTS]).map(|height| book[row(height.into())]).collect();
         let mut other = new_book(book[0].into(), 0, &leaders);
         for _ in 0..6 {
             let mut reply = [0; 448];

@@ -49,10 +49,10 @@ fn numbers_of_the_head() {
         assert_unsound(&with(1, own));
     }
     for heights in [0, 1, 2, 4, 64, 255] {
-        assert_unsound(&with(2, heights));
+        assert_unsound(&with(HEIGHTS, heights));
     }
     for current in [0, 5, 255] {
-        assert_unsound(&with(4, current));
+        assert_unsound(&with(CURRENT, current));
     }
     (16..=255).for_each(|flags| assert_unsound(&with(3, flags)));
     (33..=255).for_each(|pending| assert_unsound(&with(6, pending)));
@@ -69,8 +69,9 @@ fn later_editions() {
 #[test]
 fn heights_out_of_range_with_a_fitting_length() {
     for heights in [0, 64, 255] {
-        let mut book = vec![0; reference::book_length(heights)];
-        (book[0], book[2], book[4], book[7]) = (4, heights, 1, 1);
+        let mut book = new_book(4, 2, &[0]);
+        book.resize(reference::book_length(heights), 0);
+        book[HEIGHTS] = heights;
         assert_unsound(&book);
     }
 }
@@ -122,13 +123,13 @@ fn bytes_called_zero() {
 #[test]
 fn finalized_height() {
     for height in [2, 3, 4, 255] {
-        assert_unsound(&with(5, height));
+        assert_unsound(&with(FINALIZED, height));
     }
-    assert!(is_sound(&with(5, 0)));
+    assert!(is_sound(&with(FINALIZED, 0)));
     assert_unsound(&with(row(1) + 6, 12));
     let mut book = full_book();
     deliver_all(&mut book, &[finalize_certificate(7, 3)]);
-    book[5] = 3;
+    book[FINALIZED] = 3;
     assert!(is_sound(&book));
     book[row(2) + 4] = 3;
     assert_unsound(&book);
@@ -150,7 +151,7 @@ fn what_is_free() {
         assert!(is_sound(&with(at, 0xa5)), "byte {at}");
     }
     (0..16).for_each(|flags| assert!(is_sound(&with(3, flags))));
-    (1..=4).for_each(|current| assert!(is_sound(&with(4, current))));
+    (1..=4).for_each(|current| assert!(is_sound(&with(CURRENT, current))));
     (0..=32).for_each(|pending| assert!(is_sound(&with(6, pending))));
     assert!(is_sound(&with(row(2) + 2, 1)));
     assert!(is_sound(&with(row(1) + 8, 15)));

@@ -3,7 +3,7 @@
 use super::edges;
 use super::parts::*;
 use crate::{Call, Recorder};
-use types::{field, Calls, Frame};
+use types::{field, put_head_height, Calls, Frame, MOST_REPLICAS};
 
 /// The one book of the list, opened anew in each part.
 const BOOK: &str = "book";
@@ -33,9 +33,9 @@ fn first_replicas(count: u32) -> u16 {
 
 fn quorums<C: Calls>(to: &mut Recorder<C>) {
     to.part("For n from 1 to 16: one signer fewer than a quorum is refused, a quorum is taken");
-    for n in 1..=16_u32 {
+    for n in 1..=MOST_REPLICAS {
         to.open(BOOK, n.into(), 0, &[0]);
-        let quorum = n.saturating_mul(2).div_ceil(3);
+        let quorum = types::quorum(n);
         for count in [quorum.saturating_sub(1), quorum] {
             let mask = first_replicas(count);
             deliver(to, BOOK, &[Frame::FinalizeCertificate { mask, height: 1 }]);
@@ -78,7 +78,7 @@ fn no_chain_below<C: Calls>(to: &mut Recorder<C>) {
     to.part("A blank height over one that is neither linked nor blank is not passed, and gets no proposal");
     to.open(BOOK, 4, 2, &[0, 2]);
     let mut book = to.bytes(BOOK).to_vec();
-    book.iter_mut().skip(field::CURRENT).take(1).for_each(|current| *current = 2);
+    put_head_height(&mut book, field::CURRENT, 2);
     to.give(BOOK, book);
     deliver(to, BOOK, &[Frame::DummyCertificate { mask: 7, height: 2 }]);
     moves(to, BOOK);

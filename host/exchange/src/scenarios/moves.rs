@@ -2,7 +2,7 @@
 
 use super::parts::*;
 use crate::{Call, Recorder};
-use types::{Calls, Frame};
+use types::{Calls, Frame, Height};
 
 /// The one book of the list, opened anew in each part.
 const BOOK: &str = "book";
@@ -22,7 +22,7 @@ pub fn run<C: Calls>(to: &mut Recorder<C>) {
 }
 
 /// The dummy votes of replicas 0, 1 and 2.
-fn three_dummies(height: u8) -> [Frame; 3] {
+fn three_dummies(height: Height) -> [Frame; 3] {
     [0, 1, 2].map(|signer| Frame::DummyVote { signer, height })
 }
 

@@ -2,10 +2,16 @@
 
 use crate::{Answer, Call, Recorder};
 use reference::sha256;
-use types::{Block, Calls, Frame, Move, ENTRY};
+use types::{Block, Calls, Frame, Height, Move, ENTRY};
 
 /// The name of the reply buffer in every list.
 pub const REPLY: &str = "reply";
+
+/// The name of a book whose proposals are for height 2, above the current one.
+pub const AHEAD: &str = "ahead";
+
+/// A byte of the head that no edition uses.
+pub const UNUSED: usize = 63;
 
 /// The most moves before idle that a list needs.
 const MOVES: usize = 50;
@@ -36,12 +42,12 @@ pub fn digest(block: &Block) -> [u8; 32] {
 }
 
 /// A block with no parent.
-pub fn first(height: u8, entries: &[[u8; ENTRY]]) -> Block {
+pub fn first(height: Height, entries: &[[u8; ENTRY]]) -> Block {
     Block { height, entries: entries.to_vec(), ..Block::default() }
 }
 
 /// A block on another one.
-pub fn child(height: u8, below: &Block, entries: &[[u8; ENTRY]]) -> Block {
+pub fn child(height: Height, below: &Block, entries: &[[u8; ENTRY]]) -> Block {
     Block { height, parent: below.height, digest: digest(below), entries: entries.to_vec() }
 }
 

@@ -20,8 +20,8 @@ pub fn run<C: Calls>(to: &mut Recorder<C>) {
     first_height(to);
     second_height(to);
     catching_up(to);
-    third_height(to);
-    fourth_height(to);
+    let other = third_height(to);
+    fourth_height(to, other);
     reading(to);
 }
 
@@ -89,14 +89,15 @@ fn catching_up<C: Calls>(to: &mut Recorder<C>) {
     submit(to, book(3), entry("lot 9 to plot 5"));
 }
 
-fn third_height<C: Calls>(to: &mut Recorder<C>) {
+/// Returns the second proposal.
+fn third_height<C: Calls>(to: &mut Recorder<C>) -> Frame {
     to.part("Height 3: station 3 leads and sends one page to station 0 and another to 1 and 2");
     let offer = all_move(to, &[3], &[1]);
     let one = offered(&offer);
     let two = Block { entries: vec![entry("lot 9 to plot 6")], ..one.clone() };
     send(to, &offer, &[0]);
-    let other = [Frame::Proposal { signer: 3, block: two.clone() }];
-    [1, 2, 0].into_iter().for_each(|replica| deliver(to, book(replica), &other));
+    let other = Frame::Proposal { signer: 3, block: two.clone() };
+    [1, 2].into_iter().for_each(|replica| deliver(to, book(replica), std::slice::from_ref(&other)));
     let votes = all_move(to, &[0, 1, 2], &[2]);
     send(to, &votes, &[0, 1, 2]);
     to.remark("Its second vote is refused where the first is kept");
@@ -108,11 +109,16 @@ fn third_height<C: Calls>(to: &mut Recorder<C>) {
     blanks.push(Frame::DummyVote { signer: 3, height: 3 }.bytes().to_vec());
     submit(to, book(2), entry("plot C7 fallow"));
     send(to, &blanks, &[0, 1, 2]);
+    other
 }
 
-fn fourth_height<C: Calls>(to: &mut Recorder<C>) {
+fn fourth_height<C: Calls>(to: &mut Recorder<C>, other: Frame) {
     to.part("Height 4: page 4 stands on page 2 over the blank; station 1 gets its certificate before the page");
     let offer = all_move(to, &[0, 1, 2], &[1]);
+    to.remark(
+        "Station 0 hears of the other page of height 3 once it has passed it, and refuses it",
+    );
+    deliver(to, book(0), &[other]);
     hand_over(to, 0, 3, &[(6, 3)]);
     send(to, &offer, &[0, 2, 3]);
     let votes = all_move(to, &[0, 2, 3], &[2]);

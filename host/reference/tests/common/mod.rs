@@ -10,6 +10,11 @@ pub type Block = [u8; 176];
 pub type FrameBytes = [u8; 224];
 pub const ZERO: [u8; 32] = [0; 32];
 
+/// Where the head has its heights: H, the current and the finalized one.
+pub const HEIGHTS: usize = 2;
+pub const CURRENT: usize = 4;
+pub const FINALIZED: usize = 5;
+
 /// Where the parts of a book begin.
 pub const PENDING: usize = 64;
 pub const CONTENTS: usize = 576;
@@ -38,7 +43,7 @@ pub fn row(height: usize) -> usize {
 
 /// Where the body of a height begins; its notarized block is 176 and its votes 352 further on.
 pub fn body(book: &[u8], height: usize) -> usize {
-    CONTENTS + 16 * usize::from(book[2]) + 864 * (height - 1)
+    CONTENTS + 16 * usize::from(book[HEIGHTS]) + 864 * (height - 1)
 }
 
 /// An entry that differs from those with another tag. Its first byte is 0 to 3: request 2.13 takes no other.

@@ -1,20 +1,17 @@
 //! Random books that are nearly always sound: chains with gaps, forks in the air, free junk.
 
 use super::random::Random;
-use super::{block, body, entry, row, Block, CONTENTS, PENDING, ZERO};
-use reference::{book_length, Digest};
+use super::*;
+use reference::Digest;
 
 /// A book of a few heights. Its finalized height is 0.
 pub fn random_book(random: &mut Random, digest: Digest) -> Vec<u8> {
     let (n, heights) = (1 + random.below(16) as u8, 1 + random.below(7) as u8);
-    let mut book = vec![0; book_length(heights)];
-    book[0] = n;
-    book[1] = random.below(n.into()) as u8;
-    book[2] = heights;
+    let own = random.below(n.into()) as u64;
+    let mut book = new_book(n.into(), own, &vec![0; heights.into()]);
     book[3] = random.below(16) as u8;
-    book[4] = 1 + random.below(usize::from(heights) + 1) as u8;
+    book[CURRENT] = 1 + random.below(usize::from(heights) + 1) as u8;
     book[6] = random.below(33) as u8;
-    book[7] = 1;
     for place in book[PENDING..CONTENTS].chunks_mut(16) {
         place.copy_from_slice(&random_entry(random));
     }
