@@ -105,7 +105,7 @@ fn pending(book: &Inspection, bytes: &[u8]) -> Vec<String> {
 }
 
 /// The entries of all pages that have some, height by height; a page that is held and notarised stands once.
-fn entries(bytes: &[u8], book: &Inspection, register: &[u8]) -> Vec<String> {
+fn entries(bytes: &[u8], book: &Inspection, register: &[Height]) -> Vec<String> {
     let mut lines = Vec::new();
     for (height, _) in (1..).zip(&book.heights) {
         let [held, notarized] =

@@ -1,8 +1,10 @@
 //! The rehearsal: replica 2 of 4, three heights, frames from a stream, one line for each event.
 
 use crate::height::{self, Height};
-use crate::{book_length, deliver, make_move, open, Delivered, Move, FRAME};
+use crate::{book_length, Delivered, Move, Rules, FRAME};
 use std::io::{self, Read, Write};
+
+const RULES: Rules = Rules::SHA256;
 
 /// The settings that every rehearsal has.
 const N: u64 = 4;
@@ -14,7 +16,7 @@ const LEADERS: [u8; 3] = [0, 1, 2];
 /// each. What the replica writes is not delivered to it.
 pub fn rehearse(mut input: impl Read, mut output: impl Write) -> io::Result<()> {
     let mut book = vec![0; book_length(HEIGHTS)];
-    open(&mut book, N, OWN, HEIGHTS.into(), &LEADERS).map_err(refused)?;
+    RULES.open(&mut book, N, OWN, HEIGHTS.into(), &LEADERS).map_err(refused)?;
     let mut frame = Vec::with_capacity(FRAME);
     loop {
         frame.clear();
@@ -24,7 +26,7 @@ pub fn rehearse(mut input: impl Read, mut output: impl Write) -> io::Result<()> 
         }
         writeln!(output, "{}", delivery_line(&mut book, &frame))?;
         let mut reply = [0; 2 * FRAME];
-        while let Some(line) = move_line(make_move(&mut book, &mut reply).map_err(refused)?) {
+        while let Some(line) = move_line(RULES.make_move(&mut book, &mut reply).map_err(refused)?) {
             writeln!(output, "{line}")?;
         }
     }
@@ -32,7 +34,7 @@ pub fn rehearse(mut input: impl Read, mut output: impl Write) -> io::Result<()> 
 
 /// Delivers a frame and says what became of it.
 fn delivery_line(book: &mut [u8], frame: &[u8]) -> String {
-    let word = match deliver(book, frame) {
+    let word = match RULES.deliver(book, frame) {
         Ok(Delivered::Fresh) => "take",
         Ok(Delivered::Known) => "same",
         Err(number) => return format!("deny {number}"),

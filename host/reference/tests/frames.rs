@@ -32,7 +32,7 @@ fn refused_with_one(frame: &FrameBytes, places: impl IntoIterator<Item = usize>)
     for at in places {
         let (mut damaged, mut book) = (*frame, start.clone());
         damaged[at] = 1;
-        let answer = reference::deliver(&mut book, &damaged);
+        let answer = RULES.deliver(&mut book, &damaged);
         assert_eq!(answer, Err(4), "kind {} byte {at}", frame[0]);
         assert_eq!(book, start);
     }
@@ -42,7 +42,7 @@ fn refused_with_one(frame: &FrameBytes, places: impl IntoIterator<Item = usize>)
 fn unused_bytes_are_zero() {
     for (frame, unused) in good_frames() {
         let mut book = new_book(4, 2, &[0, 1]);
-        assert_eq!(reference::deliver(&mut book, &frame), Ok(Delivered::Fresh));
+        assert_eq!(RULES.deliver(&mut book, &frame), Ok(Delivered::Fresh));
         refused_with_one(&frame, unused);
     }
 }
@@ -60,11 +60,11 @@ fn bytes_after_heights_are_zero() {
 
 /// Delivers a block both ways, as proposal and certified.
 #[track_caller]
-fn assert_block(block: &Block, height: u8, expected: Result<Delivered, u8>) {
+fn assert_block(block: &Block, height: Height, expected: Result<Delivered, u8>) {
     let start = new_book(4, 2, &[0, 0, 0]);
     for mut frame in [proposal(0, block), block_certificate(7, block)] {
-        frame[2] = height;
-        assert_eq!(reference::deliver(&mut start.clone(), &frame), expected);
+        put_height(&mut frame[2..4], height);
+        assert_eq!(RULES.deliver(&mut start.clone(), &frame), expected);
     }
 }
 

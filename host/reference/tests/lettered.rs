@@ -21,7 +21,7 @@ fn a_to_d_by_certificate() {
         let mask = |members: u32| ((1u32 << members) - 1) as u16;
         let mut book = new_book(n, 0, &[0]);
         let below = dummy_certificate(mask(enough - 1), 1);
-        assert_eq!(reference::deliver(&mut book, &below), Err(9), "n {n}");
+        assert_eq!(RULES.deliver(&mut book, &below), Err(9), "n {n}");
         deliver_all(&mut book, &[dummy_certificate(mask(enough), 1)]);
     }
 }
@@ -43,7 +43,7 @@ fn f_new_book_of_another_leader_is_idle() {
 #[test]
 fn g_signal_then_dummy_vote_then_idle() {
     let mut book = new_book(4, 2, &[0]);
-    reference::signal(&mut book, 1).unwrap();
+    RULES.signal(&mut book, 1).unwrap();
     let (made, reply) = one_move(&mut book);
     assert_eq!(made, Move::Dummy { height: 1 });
     assert_eq!(reply[..224], dummy_vote(2, 1));
@@ -67,7 +67,7 @@ fn h_dummy_votes_of_three_pass_and_finalize() {
 #[test]
 fn i_after_the_timer_the_second_frame_is_zero() {
     let mut book = new_book(4, 3, &[0]);
-    reference::signal(&mut book, 1).unwrap();
+    RULES.signal(&mut book, 1).unwrap();
     assert_eq!(one_move(&mut book).0, Move::Dummy { height: 1 });
     deliver_all(&mut book, &[dummy_vote(0, 1), dummy_vote(1, 1), dummy_vote(2, 1)]);
     let (made, reply) = one_move(&mut book);

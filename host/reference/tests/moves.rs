@@ -5,7 +5,7 @@ mod common;
 use common::*;
 use reference::{Certificate, Move};
 
-fn pass(height: u8, certificate: Certificate, finalized: bool) -> Move {
+fn pass(height: Height, certificate: Certificate, finalized: bool) -> Move {
     Move::Pass { height, certificate, finalized }
 }
 
@@ -38,7 +38,7 @@ fn the_order_is_one_to_five() {
     let first = block(1, 0, ZERO, &[]);
     let frames = [proposal(2, &first), block_certificate(7, &first), finalize_certificate(7, 1)];
     deliver_all(&mut book, &frames);
-    reference::signal(&mut book, 1).unwrap();
+    RULES.signal(&mut book, 1).unwrap();
     let expected =
         [Move::Dummy { height: 1 }, Move::Final { height: 1 }, pass(1, Certificate::Block, false)];
     assert_eq!(moves(&mut book), expected);
@@ -51,7 +51,7 @@ fn the_order_is_one_to_five() {
 fn dummy_vote_does_not_bar_the_block_vote() {
     let mut book = book_of_three();
     deliver_all(&mut book, &[proposal(0, &block(1, 0, ZERO, &[]))]);
-    reference::signal(&mut book, 1).unwrap();
+    RULES.signal(&mut book, 1).unwrap();
     assert_eq!(moves(&mut book), [Move::Dummy { height: 1 }, Move::Vote { height: 1 }]);
     assert_eq!(book[3], 7);
 }
@@ -59,7 +59,7 @@ fn dummy_vote_does_not_bar_the_block_vote() {
 #[test]
 fn the_timer_is_remembered_until_the_pass() {
     let mut book = book_of_three();
-    reference::signal(&mut book, 1).unwrap();
+    RULES.signal(&mut book, 1).unwrap();
     assert_eq!(moves(&mut book), [Move::Dummy { height: 1 }]);
     deliver_all(&mut book, &[block_certificate(7, &block(1, 0, ZERO, &[]))]);
     assert_eq!(moves(&mut book), [pass(1, Certificate::Block, false)]);
@@ -138,7 +138,7 @@ fn the_offer_takes_the_highest_parent() {
 fn the_offer_carries_eight_new_entries_in_order() {
     let mut book = new_book(4, 2, &[0, 2]);
     for tag in 1..=12 {
-        reference::submit(&mut book, &entry(tag)).unwrap();
+        RULES.submit(&mut book, &entry(tag)).unwrap();
     }
     let first = block(1, 0, ZERO, &[entry(5), entry(2), entry(40)]);
     deliver_all(&mut book, &[block_certificate(7, &first)]);
@@ -187,10 +187,10 @@ fn past_the_last_height_only_finals_are_left() {
 fn bytes_past_the_frames_are_kept() {
     let mut book = new_book(4, 2, &[2]);
     let mut reply = [0xaa; 1000];
-    assert_eq!(reference::make_move(&mut book, &mut reply), Ok(Move::Offer { height: 1 }));
+    assert_eq!(RULES.make_move(&mut book, &mut reply), Ok(Move::Offer { height: 1 }));
     assert_eq!(reply[224..], [0xaa; 776]);
     deliver_all(&mut book, &[dummy_certificate(7, 1)]);
     let expected = Ok(pass(1, Certificate::Dummy, true));
-    assert_eq!(reference::make_move(&mut book, &mut reply), expected);
+    assert_eq!(RULES.make_move(&mut book, &mut reply), expected);
     assert_eq!(reply[448..], [0xaa; 552]);
 }

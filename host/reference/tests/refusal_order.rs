@@ -21,8 +21,8 @@ fn spoilt(mut frame: FrameBytes) -> FrameBytes {
 
 #[test]
 fn open_2_then_1() {
-    assert_eq!(reference::open(&mut [0; 7], 4, 4, 1, &[0]), Err(2));
-    assert_eq!(reference::open(&mut [0; 7], 4, 3, 1, &[0]), Err(1));
+    assert_eq!(RULES.open(&mut [0; 7], 4, 4, 1, &[0]), Err(2));
+    assert_eq!(RULES.open(&mut [0; 7], 4, 3, 1, &[0]), Err(1));
 }
 
 #[test]
@@ -54,11 +54,11 @@ fn deliver_1_4_6_5_7_9_8_10() {
         (block_certificate(14, &other), 10),
     ];
     for (frame, number) in cases {
-        assert_eq!(reference::deliver(&mut book, &frame), Err(number));
+        assert_eq!(RULES.deliver(&mut book, &frame), Err(number));
         assert_eq!(book, busy_book());
     }
     book[7] = 255;
-    assert_eq!(reference::deliver(&mut book, &[]), Err(1));
+    assert_eq!(RULES.deliver(&mut book, &[]), Err(1));
 }
 
 #[test]
@@ -68,7 +68,7 @@ fn height_0_is_4_for_kinds_with_a_block() {
     let frames = [(proposal(0, &nowhere), 4), (block_certificate(7, &nowhere), 4)];
     let bare = [frame(2, 0, 0, 0), frame(4, 0, 0, 0), frame(6, 0, 0, 7), frame(7, 0, 0, 7)];
     for (frame, number) in frames.into_iter().chain(bare.map(|frame| (frame, 6))) {
-        assert_eq!(reference::deliver(&mut book, &frame), Err(number));
+        assert_eq!(RULES.deliver(&mut book, &frame), Err(number));
     }
 }
 
@@ -76,45 +76,45 @@ fn height_0_is_4_for_kinds_with_a_block() {
 fn move_1_then_3() {
     let mut book = busy_book();
     book[CURRENT] = 0;
-    assert_eq!(reference::make_move(&mut book, &mut []), Err(1));
+    assert_eq!(RULES.make_move(&mut book, &mut []), Err(1));
     book[CURRENT] = 1;
-    assert_eq!(reference::make_move(&mut book, &mut []), Err(3));
+    assert_eq!(RULES.make_move(&mut book, &mut []), Err(3));
 }
 
 #[test]
 fn signal_1_6_14() {
     let mut book = busy_book();
-    assert_eq!(reference::signal(&mut book, 3), Err(6));
-    assert_eq!(reference::signal(&mut book, 2), Err(14));
+    assert_eq!(RULES.signal(&mut book, 3), Err(6));
+    assert_eq!(RULES.signal(&mut book, 2), Err(14));
     book[CURRENT] = 3;
-    assert_eq!(reference::signal(&mut book, 3), Err(6));
-    assert_eq!(reference::signal(&mut book, 1), Err(14));
+    assert_eq!(RULES.signal(&mut book, 3), Err(6));
+    assert_eq!(RULES.signal(&mut book, 1), Err(14));
     book[CURRENT] = 4;
-    assert_eq!(reference::signal(&mut book, 3), Err(1));
+    assert_eq!(RULES.signal(&mut book, 3), Err(1));
 }
 
 #[test]
 fn submit_1_4_13_12() {
     let mut book = busy_book();
     book[CURRENT] = 0;
-    assert_eq!(reference::submit(&mut book, &[]), Err(1));
+    assert_eq!(RULES.submit(&mut book, &[]), Err(1));
     book[CURRENT] = 1;
     for tag in 0..32 {
-        reference::submit(&mut book, &entry(tag)).unwrap();
+        RULES.submit(&mut book, &entry(tag)).unwrap();
     }
-    assert_eq!(reference::submit(&mut book, &[0; 15]), Err(4));
-    assert_eq!(reference::submit(&mut book, &entry(0)), Err(13));
-    assert_eq!(reference::submit(&mut book, &entry(99)), Err(12));
+    assert_eq!(RULES.submit(&mut book, &[0; 15]), Err(4));
+    assert_eq!(RULES.submit(&mut book, &entry(0)), Err(13));
+    assert_eq!(RULES.submit(&mut book, &entry(99)), Err(12));
 }
 
 #[test]
 fn fetch_1_4_6_3_11() {
     let mut book = busy_book();
-    assert_eq!(reference::fetch(&book, 8, 0, &mut []), Err(4));
-    assert_eq!(reference::fetch(&book, 6, 0, &mut []), Err(6));
-    assert_eq!(reference::fetch(&book, 6, 3, &mut []), Err(6));
-    assert_eq!(reference::fetch(&book, 6, 1, &mut []), Err(3));
-    assert_eq!(reference::fetch(&book, 6, 1, &mut [0; 224]), Err(11));
+    assert_eq!(RULES.fetch(&book, 8, 0, &mut []), Err(4));
+    assert_eq!(RULES.fetch(&book, 6, 0, &mut []), Err(6));
+    assert_eq!(RULES.fetch(&book, 6, 3, &mut []), Err(6));
+    assert_eq!(RULES.fetch(&book, 6, 1, &mut []), Err(3));
+    assert_eq!(RULES.fetch(&book, 6, 1, &mut [0; 224]), Err(11));
     book[CURRENT] = 0;
-    assert_eq!(reference::fetch(&book, 8, 0, &mut []), Err(1));
+    assert_eq!(RULES.fetch(&book, 8, 0, &mut []), Err(1));
 }

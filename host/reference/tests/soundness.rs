@@ -12,7 +12,7 @@ fn full_book() -> Vec<u8> {
     deliver_all(&mut book, &[block_certificate(7, &first), dummy_certificate(11, 2)]);
     deliver_all(&mut book, &[proposal(2, &third), block_certificate(13, &third)]);
     deliver_all(&mut book, &[finalize_certificate(14, 1), vote_for(1, &third)]);
-    reference::submit(&mut book, &entry(9)).unwrap();
+    RULES.submit(&mut book, &entry(9)).unwrap();
     assert_eq!(one_move(&mut book).0, reference::Move::Final { height: 1 });
     assert!(is_sound(&book));
     book
@@ -70,7 +70,7 @@ fn later_editions() {
 fn heights_out_of_range_with_a_fitting_length() {
     for heights in [0, 64, 255] {
         let mut book = new_book(4, 2, &[0]);
-        book.resize(reference::book_length(heights), 0);
+        book.resize(reference::book_length(heights as Height), 0);
         book[HEIGHTS] = heights;
         assert_unsound(&book);
     }

@@ -6,7 +6,7 @@ use reference::Digest;
 
 /// A book of a few heights. Its finalized height is 0.
 pub fn random_book(random: &mut Random, digest: Digest) -> Vec<u8> {
-    let (n, heights) = (1 + random.below(16) as u8, 1 + random.below(7) as u8);
+    let (n, heights) = (1 + random.below(16) as u8, 1 + random.below(7) as Height);
     let own = random.below(n.into()) as u64;
     let mut book = new_book(n.into(), own, &vec![0; heights.into()]);
     book[3] = random.below(16) as u8;
@@ -30,7 +30,7 @@ pub fn random_entry(random: &mut Random) -> [u8; 16] {
 }
 
 /// Contents and blocks of one height.
-fn fill_height(book: &mut [u8], random: &mut Random, height: u8, digest: Digest) {
+fn fill_height(book: &mut [u8], random: &mut Random, height: Height, digest: Digest) {
     let n = book[0];
     let (row, body) = (row(height.into()), body(book, height.into()));
     let state = random.below(4) as u8 | if random.one_in(3) { 0 } else { 2 };
@@ -67,11 +67,11 @@ pub fn random_mask(random: &mut Random, n: u8) -> u16 {
 }
 
 /// A well-formed block whose parent is mostly a block of the book.
-pub fn random_block(book: &[u8], random: &mut Random, height: u8, digest: Digest) -> Block {
-    let near = random.below(3).min(usize::from(height) - 1) as u8;
+pub fn random_block(book: &[u8], random: &mut Random, height: Height, digest: Digest) -> Block {
+    let near = random.below(3).min(usize::from(height) - 1) as Height;
     let parent =
-        if random.one_in(3) { random.below(height.into()) as u8 } else { height - 1 - near };
-    let start = |parent: u8| body(book, parent.into()) + 176;
+        if random.one_in(3) { random.below(height.into()) as Height } else { height - 1 - near };
+    let start = |parent: Height| body(book, parent.into()) + 176;
     let named = match parent {
         0 => ZERO,
         _ if random.one_in(12) => [random.byte(); 32],
