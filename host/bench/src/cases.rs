@@ -3,10 +3,7 @@
 use crate::station::{entry, Fill, Size, Station};
 use crate::Case;
 use exchange::Call;
-use types::{Frame, FRAME};
-
-/// The longest log of a book.
-const LONGEST: usize = 63 * 8 * 16;
+use types::{Frame, Height, FRAME, MOST_LOG};
 
 /// What all cases of one size and filling begin with.
 struct Start {
@@ -98,18 +95,18 @@ impl Start {
             case("Signal", &open, signal, 0, "done".to_string()),
             case("Submit", &closed, submit, 0, "done".to_string()),
             case("Register size", &closed, Call::Size, 0, format!("size {size}")),
-            case("Read", &closed, Call::Read, LONGEST, format!("part {size}")),
+            case("Read", &closed, Call::Read, MOST_LOG, format!("part {size}")),
             case("Fetch, page certificate", &closed, fetch, FRAME, fetched.to_string()),
         ])
     }
 
     /// A book with a height to work at, all heights below it settled.
-    fn with_open_height(&self, led: Option<u8>) -> Result<Station, String> {
+    fn with_open_height(&self, led: Option<Height>) -> Result<Station, String> {
         Station::settled(self.size, self.below(), led)
     }
 
     /// A book whose replica leads that height and has entries to propose.
-    fn leading(&self, height: u8) -> Result<Station, String> {
+    fn leading(&self, height: Height) -> Result<Station, String> {
         let station = self.with_open_height(Some(height))?;
         match self.fill {
             Fill::Empty => station.with_pool(8),
@@ -133,7 +130,7 @@ impl Start {
     }
 
     /// The heights below the one to work at.
-    fn below(&self) -> u8 {
+    fn below(&self) -> Height {
         match self.fill {
             Fill::Empty => 0,
             Fill::Full => self.size.heights.saturating_sub(1),

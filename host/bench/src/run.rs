@@ -2,10 +2,10 @@
 
 use crate::table::markdown;
 use crate::{cases, measure, Case, Fill, Measured, Size};
-use types::{Calls, MOST_HEIGHTS, MOST_REPLICAS};
+use types::{Calls, Height, MOST_HEIGHTS, MOST_REPLICAS};
 
 /// The heights of the small and of the large book.
-const HEIGHTS: [u8; 2] = [8, MOST_HEIGHTS];
+const HEIGHTS: [Height; 2] = [8, MOST_HEIGHTS];
 
 /// The numbers of replicas, a table each.
 const REPLICAS: [u8; 2] = [4, MOST_REPLICAS];

@@ -1,10 +1,8 @@
 //! The station whose book is measured: a run of the reference brings the book where a case needs it.
 
 use reference::{sha256, Rules};
-use types::{book_length, field, Block, Calls, Frame, Move, ENTRY, FRAME};
-
-/// The entries of every block of a full book.
-const ENTRIES: u8 = 8;
+use types::{book_length, field, head_height, height_bytes, quorum};
+use types::{Block, Calls, Frame, Height, Move, ENTRY, FRAME, MOST_ENTRIES};
 
 /// How large a book is.
 #[derive(Clone, Copy, Debug, PartialEq, Eq)]
@@ -12,7 +10,7 @@ pub struct Size {
     /// The number of replicas.
     pub n: u8,
     /// The number of heights.
-    pub heights: u8,
+    pub heights: Height,
 }
 
 /// How much of a book is used.
@@ -30,13 +28,13 @@ pub struct Station {
     /// The book's bytes.
     pub book: Vec<u8>,
     size: Size,
-    chain: u8,
+    chain: Height,
     digest: [u8; 32],
 }
 
 impl Station {
     /// Opens a book. The other replicas lead by turns; at `led` the replica leads itself.
-    pub fn open(size: Size, led: Option<u8>) -> Result<Station, String> {
+    pub fn open(size: Size, led: Option<Height>) -> Result<Station, String> {
         let mut book = vec![0; book_length(size.heights)];
         let leaders = leaders(size, led);
         let own = u64::from(size.n.saturating_sub(1));
@@ -46,7 +44,7 @@ impl Station {
     }
 
     /// A book whose first heights are settled and passed, with a pool to match the filling.
-    pub fn settled(size: Size, count: u8, led: Option<u8>) -> Result<Station, String> {
+    pub fn settled(size: Size, count: Height, led: Option<Height>) -> Result<Station, String> {
         let mut station = Station::open(size, led)?;
         for _ in 0..count {
             station.settle_next()?;
@@ -82,14 +80,14 @@ impl Station {
     }
 
     /// The next height of the chain.
-    pub fn next(&self) -> u8 {
+    pub fn next(&self) -> Height {
         self.chain.saturating_add(1)
     }
 
     /// The next block of the chain, with entries that no other block has.
     pub fn block(&self) -> Block {
         let height = self.next();
-        let entries = (0..ENTRIES).map(|place| entry(height, place)).collect();
+        let entries = (0..MOST_ENTRIES).map(|place| entry(height, place)).collect();
         Block { height, parent: self.chain, digest: self.digest, entries }
     }
 
@@ -114,8 +112,9 @@ impl Station {
 
     /// Delivers the votes of the first replicas, one less than a quorum.
     pub fn almost_notarized(self) -> Result<Station, String> {
-        let quorum = self.size.n.saturating_mul(2).div_ceil(3);
-        let votes: Vec<Frame> = (1..quorum).map(|signer| self.vote(signer)).collect();
+        let fewer = quorum(self.size.n).saturating_sub(1);
+        let votes = (1..self.size.n).take(fewer as usize).map(|signer| self.vote(signer));
+        let votes: Vec<Frame> = votes.collect();
         self.deliver(&votes)
     }
 
@@ -157,7 +156,7 @@ impl Station {
 
     /// Moves until the chain's last height is passed.
     fn pass_chain(&mut self) -> Result<(), String> {
-        while self.book[field::CURRENT] <= self.chain {
+        while head_height(&self.book, field::CURRENT) <= self.chain {
             if self.make_move()? == Move::Idle {
                 return Err(format!("the run is stuck at height {}", self.chain));
             }
@@ -172,20 +171,24 @@ impl Station {
     }
 }
 
-/// An entry of a block, or a pending one where the height is 0; no two are alike.
-pub fn entry(height: u8, place: u8) -> [u8; ENTRY] {
-    let mut entry = *b"swap plot      .";
-    entry[10..12].copy_from_slice(&[height, place]);
+/// An entry of a block, or a pending one where the height is 0; no two are alike. The first byte is 0 to 3.
+pub fn entry(height: Height, place: u8) -> [u8; ENTRY] {
+    let mut entry = *b"\0swap plot     .";
+    entry[0] = place % 4;
+    entry[10..12].copy_from_slice(&height_bytes(height));
+    entry[12] = place;
     entry
 }
 
 /// The leader of a height among all replicas but the last.
-fn leader(size: Size, height: u8) -> u8 {
-    height.checked_rem(size.n.saturating_sub(1)).unwrap_or(0)
+fn leader(size: Size, height: Height) -> u8 {
+    let others = u64::from(size.n.saturating_sub(1));
+    let turn = u64::from(height).checked_rem(others).unwrap_or(0);
+    u8::try_from(turn).unwrap_or(0)
 }
 
 /// The leaders of all heights.
-fn leaders(size: Size, led: Option<u8>) -> Vec<u8> {
+fn leaders(size: Size, led: Option<Height>) -> Vec<u8> {
     let own = size.n.saturating_sub(1);
     let choose = |height| if led == Some(height) { own } else { leader(size, height) };
     (1..=size.heights).map(choose).collect()

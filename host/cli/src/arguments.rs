@@ -1,6 +1,9 @@
 //! The words behind a command: plain words, options with a value, and switches.
 
 use crate::problem::Problem;
+use std::fmt::Display;
+use std::str::FromStr;
+use types::Height;
 
 /// The words sorted; what was not asked for in the end is an error.
 #[derive(Clone, Debug, Default)]
@@ -99,9 +102,18 @@ impl Arguments {
 
     /// An option that is a byte.
     pub fn byte(&self, name: &str) -> Result<u8, Problem> {
+        self.up_to(name, u8::MAX)
+    }
+
+    /// An option that is a height.
+    pub fn height(&self, name: &str) -> Result<Height, Problem> {
+        self.up_to(name, Height::MAX)
+    }
+
+    /// An option that is a number of a type whose largest one this is.
+    fn up_to<N: FromStr + Display>(&self, name: &str, most: N) -> Result<N, Problem> {
         let value = self.needed(name)?;
-        value
-            .parse()
-            .map_err(|_| Problem::input(format!("--{name} {value}: no number from 0 to 255")))
+        let wrong = || Problem::input(format!("--{name} {value}: no number from 0 to {most}"));
+        value.parse().map_err(|_| wrong())
     }
 }

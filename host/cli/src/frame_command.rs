@@ -28,7 +28,7 @@ pub fn run(words: &[String], output: &mut Vec<u8>) -> Result<(), Problem> {
 /// The frame that the words describe.
 fn frame(kind: &str, arguments: &Arguments) -> Result<Frame, Problem> {
     let signer = || arguments.byte("signer");
-    let height = || arguments.byte("height");
+    let height = || arguments.height("height");
     let block = || page_bytes(arguments).map(|bytes| Block::parts(&bytes));
     let (allowed, frame): (&[&str], _) = match kind {
         "proposal" => (&["signer", "page"], Frame::Proposal { signer: signer()?, block: block()? }),
@@ -60,12 +60,12 @@ fn page_vote(arguments: &Arguments) -> Result<Frame, Problem> {
     match arguments.value("digest")? {
         Some(text) => {
             arguments.none_beside("digest", &page_options::NAMES)?;
-            let (height, digest) = (arguments.byte("height")?, words::bytes("digest", text)?);
+            let (height, digest) = (arguments.height("height")?, words::bytes("digest", text)?);
             Ok(Frame::BlockVote { signer, height, digest })
         }
         None => {
             let page = page_bytes(arguments)?;
-            let [height, ..] = page;
+            let height = Block::parts(&page).height;
             Ok(Frame::BlockVote { signer, height, digest: sha256::digest(&page) })
         }
     }

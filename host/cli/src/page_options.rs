@@ -3,16 +3,16 @@
 use crate::arguments::Arguments;
 use crate::problem::Problem;
 use crate::words;
-use types::{Block, BLOCK, ENTRY};
+use types::{Block, Height, BLOCK, ENTRY, MOST_ENTRIES};
 
 /// The names of these options.
 pub const NAMES: [&str; 4] = ["page", "back", "back-digest", "entry"];
 
 /// The page that the options describe, at a height.
-pub fn page(arguments: &Arguments, height: u8) -> Result<Block, Problem> {
+pub fn page(arguments: &Arguments, height: Height) -> Result<Block, Problem> {
     let back = match arguments.value("back")? {
         None => 0,
-        Some(_) => arguments.byte("back")?,
+        Some(_) => arguments.height("back")?,
     };
     let digest = match arguments.value("back-digest")? {
         None if back > 0 => return Err(Problem::input("--back needs --back-digest")),
@@ -20,7 +20,7 @@ pub fn page(arguments: &Arguments, height: u8) -> Result<Block, Problem> {
         Some(text) => words::bytes("back-digest", text)?,
     };
     let entries = arguments.values("entry").map(entry).collect::<Result<Vec<_>, _>>()?;
-    if entries.len() > 8 {
+    if entries.len() > MOST_ENTRIES.into() {
         return Err(Problem::input("a page has eight entries at most"));
     }
     Ok(Block { height, parent: back, digest, entries })
@@ -33,7 +33,7 @@ pub fn page_bytes(arguments: &Arguments) -> Result<[u8; BLOCK], Problem> {
             arguments.none_beside("page", &["height", "back", "back-digest", "entry"])?;
             words::bytes("page", text)
         }
-        None => Ok(page(arguments, arguments.byte("height")?)?.bytes()),
+        None => Ok(page(arguments, arguments.height("height")?)?.bytes()),
     }
 }
 

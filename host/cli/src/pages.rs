@@ -2,7 +2,7 @@
 
 use crate::words::{count, members, short};
 use reference::sha256;
-use types::{field, Area, Block, Layout, BLOCK, ENTRY};
+use types::{field, head_height, Area, Block, Height, Layout, BLOCK, ENTRY};
 
 /// A page with its digest.
 #[derive(Clone, Debug, PartialEq, Eq)]
@@ -25,13 +25,13 @@ impl Page {
 }
 
 /// The bytes of an area of a height.
-fn area(book: &[u8], height: u8, area: Area) -> &[u8] {
-    let heights = book.get(field::HEIGHTS).copied().unwrap_or(0);
+fn area(book: &[u8], height: Height, area: Area) -> &[u8] {
+    let heights = head_height(book, field::HEIGHTS);
     book.get(Layout::new(heights).area(height, area)).unwrap_or(&[])
 }
 
 /// The held proposal or the notarised page of a height, if it has one.
-pub fn page(book: &[u8], height: u8, which: Area) -> Option<Page> {
+pub fn page(book: &[u8], height: Height, which: Area) -> Option<Page> {
     let bit = if which == Area::Held { 1 } else { 2 };
     let state = area(book, height, Area::Row).get(1).copied().unwrap_or(0);
     let bytes: &[u8; BLOCK] = area(book, height, which).try_into().ok()?;
@@ -40,7 +40,7 @@ pub fn page(book: &[u8], height: u8, which: Area) -> Option<Page> {
 }
 
 /// Who voted for which digest, as `0 1 for 3fa2c9d1; 2 for 77ab0122`; `-` if nobody did.
-pub fn votes(book: &[u8], height: u8, voters: u16) -> String {
+pub fn votes(book: &[u8], height: Height, voters: u16) -> String {
     let digests = area(book, height, Area::Votes).as_chunks::<32>().0;
     let mut groups: Vec<(&[u8; 32], u16)> = Vec::new();
     for (station, digest) in (0..).zip(digests) {
@@ -61,9 +61,9 @@ pub fn votes(book: &[u8], height: u8, voters: u16) -> String {
 }
 
 /// The heights whose pages are in the register: the chain that ends at the settled height.
-pub fn register(book: &[u8]) -> Vec<u8> {
+pub fn register(book: &[u8]) -> Vec<Height> {
     let mut heights = Vec::new();
-    let mut height = book.get(field::FINALIZED).copied().unwrap_or(0);
+    let mut height = head_height(book, field::FINALIZED);
     while let Some(page) = page(book, height, Area::Notarized) {
         heights.push(height);
         if page.block.parent >= height {

@@ -4,9 +4,9 @@ use crate::pages::{self, Page};
 use crate::problem::Problem;
 use crate::words::{count, entry, members};
 use crate::{table, unsound, why};
-use reference::inspect::{inspect, Height, Inspection};
+use reference::inspect::{inspect, AtHeight, Inspection};
 use types::refusal::meaning;
-use types::Area;
+use types::{quorum, Area, Height};
 
 /// The lines about a book.
 pub fn text(bytes: &[u8]) -> Result<String, Problem> {
@@ -44,7 +44,7 @@ fn head(book: &Inspection) -> String {
         count(book.heights.len(), "height", "heights"),
         book.finalized,
         count(book.pending.into(), "pending entry", "pending entries"),
-        why::quorum(book.n)
+        quorum(book.n)
     )
 }
 
@@ -65,7 +65,13 @@ const HEADINGS: [&str; 12] = [
 ];
 
 /// The row of a height.
-fn row(book: &Inspection, bytes: &[u8], height: u8, slot: &Height, listed: bool) -> Vec<String> {
+fn row(
+    book: &Inspection,
+    bytes: &[u8],
+    height: Height,
+    slot: &AtHeight,
+    listed: bool,
+) -> Vec<String> {
     let page = |area| pages::page(bytes, height, area).map_or("-".to_string(), |page| page.told());
     let yes = |yes: bool| if yes { "yes" } else { "-" }.to_string();
     let [certificate, blank, finalise] = slot.masks;
@@ -99,7 +105,7 @@ fn pending(book: &Inspection, bytes: &[u8]) -> Vec<String> {
 }
 
 /// The entries of all pages that have some, height by height; a page that is held and notarised stands once.
-fn entries(bytes: &[u8], book: &Inspection, register: &[u8]) -> Vec<String> {
+fn entries(bytes: &[u8], book: &Inspection, register: &[Height]) -> Vec<String> {
     let mut lines = Vec::new();
     for (height, _) in (1..).zip(&book.heights) {
         let [held, notarized] =
@@ -116,7 +122,7 @@ fn entries(bytes: &[u8], book: &Inspection, register: &[u8]) -> Vec<String> {
 }
 
 /// The entries of a page, if it has some.
-fn page_lines(height: u8, what: &str, page: &Page, listed: &str) -> Vec<String> {
+fn page_lines(height: Height, what: &str, page: &Page, listed: &str) -> Vec<String> {
     if page.block.entries.is_empty() {
         return Vec::new();
     }

@@ -3,16 +3,16 @@
 use crate::chosen::REPLICA;
 use crate::problem::Problem;
 use crate::words::count;
-use crate::{files, pages, show_book, table, why};
-use reference::inspect::{Height, Inspection};
-use types::{Area, Calls};
+use crate::{files, pages, show_book, table};
+use reference::inspect::{AtHeight, Inspection};
+use types::{quorum, Area, Calls, Height};
 
 /// A book with the name of its file.
 struct Shown {
     name: String,
     bytes: Vec<u8>,
     told: Inspection,
-    register: Vec<u8>,
+    register: Vec<Height>,
 }
 
 /// The lines about books.
@@ -61,7 +61,7 @@ fn fits(one: &Shown, two: &Shown) -> Result<(), Problem> {
 fn head(first: &Shown, number: usize) -> String {
     let (books, n) = (count(number, "book", "books"), first.told.n);
     let heights = count(first.told.heights.len(), "height", "heights");
-    format!("{books} of {n} stations: {heights}; a quorum is {} or more.", why::quorum(n))
+    format!("{books} of {n} stations: {heights}; a quorum is {} or more.", quorum(n))
 }
 
 /// A line about a book as a whole.
@@ -90,7 +90,7 @@ fn rows(first: &Shown, books: &[Shown]) -> Vec<Vec<String>> {
 }
 
 /// What a book has at a height.
-fn cell(book: &Shown, height: u8) -> String {
+fn cell(book: &Shown, height: Height) -> String {
     let slot = book.told.heights.get(usize::from(height).saturating_sub(1));
     let short = |area| pages::page(&book.bytes, height, area).map(|page| page.short());
     let page = slot.and_then(|slot| {
@@ -107,7 +107,7 @@ fn cell(book: &Shown, height: u8) -> String {
 }
 
 /// How far a notarised page has come.
-fn rank(book: &Shown, height: u8, slot: &Height) -> &'static str {
+fn rank(book: &Shown, height: Height, slot: &AtHeight) -> &'static str {
     match () {
         () if book.register.contains(&height) => " in register",
         () if slot.finalized => " settled",

@@ -3,7 +3,7 @@
 use crate::problem::Problem;
 use crate::words::{entry, hex, members};
 use reference::sha256;
-use types::{Block, Book, Frame, Refusal, FRAME, MOST_HEIGHTS, MOST_REPLICAS};
+use types::{Block, Book, Frame, Height, Refusal, FRAME, MOST_HEIGHTS, MOST_REPLICAS};
 
 /// The lines about one frame or several, with an empty line between two.
 pub fn all(bytes: &[u8]) -> Result<String, Problem> {
@@ -56,10 +56,10 @@ fn is_refused_for_form(bytes: &[u8]) -> bool {
 
 /// The lines for each kind.
 fn lines(frame: &Frame) -> Vec<String> {
-    let signer = |name: &str, signer: &u8, height: &u8| {
+    let signer = |name: &str, signer: &u8, height: &Height| {
         vec![name.to_string(), format!("signer {signer}"), format!("height {height}")]
     };
-    let signers = |name: &str, mask: &u16, height: &u8| {
+    let signers = |name: &str, mask: &u16, height: &Height| {
         let signers = format!("signers {} (mask {mask})", members(*mask));
         vec![name.to_string(), signers, format!("height {height}")]
     };

@@ -3,7 +3,9 @@
 use exchange::fields;
 use reference::inspect::inspect;
 use reference::is_quorum;
-use types::{book_length, field, mask_at, Area, Layout, BLOCK, ENTRY, MOST_HEIGHTS, MOST_REPLICAS};
+use types::{book_length, field, head_height, height_at, mask_at, put_head_height};
+use types::{Area, Height, Layout, ALL_FLAGS, BLOCK, BLOCK_HEIGHT, BLOCK_PARENT, EDITION, ENTRY};
+use types::{MOST_ENTRIES, MOST_HEIGHTS, MOST_PENDING, MOST_REPLICAS};
 
 /// A byte, and what is wrong with it.
 type Fault = (usize, String);
@@ -13,13 +15,14 @@ pub fn reason(book: &[u8]) -> Option<String> {
     let fitting = (1..=MOST_HEIGHTS).find(|heights| book_length(*heights) == book.len());
     let Some(fitting) = fitting else {
         let length = book.len();
-        return Some(format!("the length {length} is not 576 + 880 H for any H from 1 to 63"));
+        let rule = format!("is not 576 + 880 H for any H from 1 to {MOST_HEIGHTS}");
+        return Some(format!("the length {length} {rule}"));
     };
     let (byte, rule) = head(book, fitting)
         .or_else(|| (1..=fitting).find_map(|height| slot(book, height)))
         .or_else(|| settled(book))?;
     let place = match fields::place(book, byte) {
-        Some((name, _)) if at(book, field::HEIGHTS) == fitting => format!(" ({name})"),
+        Some((name, _)) if head_height(book, field::HEIGHTS) == fitting => format!(" ({name})"),
         _ => String::new(),
     };
     Some(format!("byte {byte}{place}: {rule}"))
@@ -37,10 +40,10 @@ fn zeros(book: &[u8], mut range: std::ops::Range<usize>) -> Option<Fault> {
 }
 
 /// What is wrong with the head of a book with the length of so many heights; the settled height aside.
-fn head(book: &[u8], fitting: u8) -> Option<Fault> {
+fn head(book: &[u8], fitting: Height) -> Option<Fault> {
     let value = |byte| at(book, byte);
-    let (n, own, heights) = (value(field::N), value(field::OWN), value(field::HEIGHTS));
-    let (flags, current) = (value(field::FLAGS), value(field::CURRENT));
+    let [heights, current] = [field::HEIGHTS, field::CURRENT].map(|at| head_height(book, at));
+    let (n, own, flags) = (value(field::N), value(field::OWN), value(field::FLAGS));
     let (pending, edition) = (value(field::PENDING), value(field::EDITION));
     let last = fitting.saturating_add(1);
     let rules = [
@@ -49,24 +52,32 @@ fn head(book: &[u8], fitting: u8) -> Option<Fault> {
             field::HEIGHTS,
             format!("it says {heights} heights, the length is that of {fitting}"),
         ),
-        (!(1..=MOST_REPLICAS).contains(&n), field::N, format!("n is {n}, not 1 to 16")),
+        (
+            !(1..=MOST_REPLICAS).contains(&n),
+            field::N,
+            format!("n is {n}, not 1 to {MOST_REPLICAS}"),
+        ),
         (own >= n, field::OWN, format!("own number {own} is not below n, which is {n}")),
-        (flags > 15, field::FLAGS, format!("flags {flags} are not below 16")),
+        (flags > ALL_FLAGS, field::FLAGS, format!("flags {flags} are not below 16")),
         (
             !(1..=last).contains(&current),
             field::CURRENT,
             format!("the current height is {current}, not 1 to {last}"),
         ),
-        (pending > 32, field::PENDING, format!("{pending} entries are pending, 32 at most can be")),
-        (edition != 1, field::EDITION, format!("the edition is {edition}, not 1")),
+        (
+            pending > MOST_PENDING,
+            field::PENDING,
+            format!("{pending} entries are pending, {MOST_PENDING} at most can be"),
+        ),
+        (edition != EDITION, field::EDITION, format!("the edition is {edition}, not {EDITION}")),
     ];
     let broken = rules.into_iter().find(|(broken, ..)| *broken);
     broken.map(|(_, byte, rule)| (byte, rule)).or_else(|| zeros(book, 8..64))
 }
 
 /// What is wrong with a height by itself.
-fn slot(book: &[u8], height: u8) -> Option<Fault> {
-    let layout = Layout::new(at(book, field::HEIGHTS));
+fn slot(book: &[u8], height: Height) -> Option<Fault> {
+    let layout = Layout::new(head_height(book, field::HEIGHTS));
     let [row, held, notarized] =
         [Area::Row, Area::Held, Area::Notarized].map(|area| layout.area(height, area).start);
     let (n, leader) = (at(book, field::N), at(book, row));
@@ -100,14 +111,22 @@ fn slot(book: &[u8], height: u8) -> Option<Fault> {
 }
 
 /// What is wrong with a page of a height that begins at a byte.
-fn page(book: &[u8], height: u8, start: usize) -> Option<Fault> {
+fn page(book: &[u8], height: Height, start: usize) -> Option<Fault> {
     let place = |offset: usize| start.saturating_add(offset);
-    let value = |offset| at(book, place(offset));
-    let (own, back, count) = (value(0), value(2), value(4));
+    let [own, back] = [BLOCK_HEIGHT, BLOCK_PARENT].map(|at| height_at(book, place(at)));
+    let count = at(book, place(4));
     let rules = [
-        (own != height, 0, format!("the page says height {own}, and stands at {height}")),
-        (back >= height, 2, format!("its back height {back} is not below {height}")),
-        (count > 8, 4, format!("it says {count} entries, 8 at most can be")),
+        (
+            own != height,
+            BLOCK_HEIGHT,
+            format!("the page says height {own}, and stands at {height}"),
+        ),
+        (back >= height, BLOCK_PARENT, format!("its back height {back} is not below {height}")),
+        (
+            count > MOST_ENTRIES,
+            4,
+            format!("it says {count} entries, {MOST_ENTRIES} at most can be"),
+        ),
     ];
     if let Some((_, offset, rule)) = rules.into_iter().find(|(broken, ..)| *broken) {
         return Some((place(offset), rule));
@@ -121,9 +140,9 @@ fn page(book: &[u8], height: u8, start: usize) -> Option<Fault> {
 
 /// What is wrong with the settled height of a book in which all else is right.
 fn settled(book: &[u8]) -> Option<Fault> {
-    let settled = at(book, field::FINALIZED);
+    let settled = head_height(book, field::FINALIZED);
     let mut copy = book.to_vec();
-    copy.get_mut(field::FINALIZED).into_iter().for_each(|byte| *byte = 0);
+    put_head_height(&mut copy, field::FINALIZED, 0);
     let told = inspect(&copy).ok()?;
     let height = told.heights.get(usize::from(settled).checked_sub(1)?);
     let rule = match height {

@@ -2,13 +2,8 @@
 
 use crate::chosen::REPLICA;
 use crate::words::count;
-use reference::inspect::{Height, Inspection};
-use types::{Calls, FRAME};
-
-/// The fewest stations that are a quorum of n.
-pub fn quorum(n: u8) -> u32 {
-    u32::from(n).saturating_mul(2).div_ceil(3)
-}
+use reference::inspect::{AtHeight, Inspection};
+use types::{quorum, Calls, Height, FRAME};
 
 /// The lines about the current height.
 pub fn lines(book: &Inspection, bytes: &[u8]) -> Vec<String> {
@@ -27,7 +22,7 @@ pub fn lines(book: &Inspection, bytes: &[u8]) -> Vec<String> {
 }
 
 /// Where the station is.
-fn place(current: u8) -> String {
+fn place(current: Height) -> String {
     match current {
         1 => "The current height is 1: none is passed yet.".to_string(),
         _ => format!("The current height is {current}: those below it are passed."),
@@ -44,7 +39,7 @@ fn flags(flags: u8) -> String {
 }
 
 /// Whether the page lets the station pass, and if not why.
-fn page(book: &Inspection, slot: &Height) -> String {
+fn page(book: &Inspection, slot: &AtHeight) -> String {
     let votes = slot.voters.count_ones();
     let needed = quorum(book.n);
     match (slot.notarized, slot.held) {
@@ -73,8 +68,8 @@ fn page(book: &Inspection, slot: &Height) -> String {
 }
 
 /// Why a page of the current height on this back height does not stand.
-fn gap(book: &Inspection, back: u8) -> String {
-    let slot = |height: u8| book.heights.get(usize::from(height).saturating_sub(1));
+fn gap(book: &Inspection, back: Height) -> String {
+    let slot = |height: Height| book.heights.get(usize::from(height).saturating_sub(1));
     if back > 0 && !slot(back).is_some_and(|slot| slot.linked) {
         return format!("its back height {back} is not linked");
     }
@@ -88,7 +83,7 @@ fn gap(book: &Inspection, back: u8) -> String {
 }
 
 /// Whether the blank lets the station pass, and if not why.
-fn blank(book: &Inspection, slot: &Height) -> String {
+fn blank(book: &Inspection, slot: &AtHeight) -> String {
     let [_, mask, _] = slot.masks;
     match (slot.dummy, book.parent) {
         (false, _) => {

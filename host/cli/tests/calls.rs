@@ -19,11 +19,22 @@ fn lines(words: &str, input: &[u8]) -> Vec<String> {
     text.lines().map(str::to_string).collect()
 }
 
+/// An entry of the byte 0 and the words "swap A12 to B40".
+const ENTRY: &str = "00737761702041313220746f20423430";
+
+#[test]
+fn an_entry_of_text_is_filled_up_with_blanks() {
+    let book = book("text", 1);
+    let submitted = run_words(&["call", &book, "submit", "any 16 bytes"], &[]);
+    assert_eq!((submitted.status, submitted.text().as_str()), (0, "done\n"));
+    let pending = &std::fs::read(&book).unwrap()[types::Layout::new(2).pending()];
+    assert_eq!(pending[..16], *b"any 16 bytes    ");
+}
+
 #[test]
 fn a_station_alone_fills_its_register() {
     let book = book("alone", 1);
-    let submitted = run_words(&["call", &book, "submit", "swap A12 to B40"], &[]);
-    assert_eq!((submitted.status, submitted.text().as_str()), (0, "done\n"));
+    assert_eq!(lines(&format!("call {book} submit {ENTRY}"), &[]), ["done"]);
     let mut answers = Vec::new();
     loop {
         let made = lines(&format!("call {book} move"), &[]);
@@ -40,7 +51,7 @@ fn a_station_alone_fills_its_register() {
     assert_eq!(lines(&format!("call {book} size"), &[]), ["size 16"]);
     let read = lines(&format!("call {book} read"), &[]);
     assert_eq!((read[0].as_str(), read.len()), ("part 16", 2));
-    assert!(read[1].ends_with("\"swap A12 to B40 \""), "{read:?}");
+    assert_eq!(read[1].trim(), ENTRY);
     let fetched = lines(&format!("call {book} fetch 7 1"), &[]);
     assert_eq!((fetched[0].as_str(), &fetched[1][..6]), ("done", "070001"));
 }

@@ -20,7 +20,7 @@ fn every_list_of_the_folder_replays() {
 fn counts_are_printed() {
     let text =
         String::from_utf8(fine(&format!("replay {} --counts", list("refusals.txt")), &[])).unwrap();
-    for number in 1..=14 {
+    for number in 1..=types::LAST_REFUSAL {
         let ending = format!("  refusal {number}");
         let line = text.lines().find(|line| line.ends_with(&ending)).unwrap();
         assert!(!line.trim_start().starts_with("0 "), "{line}");

@@ -39,7 +39,7 @@ Station 2 (book2): current height 1, settled height 0, 0 pending entries.
 Station 3 (book3): current height 1, settled height 0, 0 pending entries.
 
 height  leader  station 0             station 1             station 2                station 3
-1       0       page 787bd73d linked  page 787bd73d linked  page 787bd73d linked <-  - <-
+1       0       page 0d4594f8 linked  page 0d4594f8 linked  page 0d4594f8 linked <-  - <-
 2       1       - <-                  - <-                  -                        -
 3       3       -                     -                     -                        -
 4       2       -                     -                     -                        -
@@ -51,9 +51,9 @@ Of any two registers one begins the other.
     let kept = season("whole", "");
     let shown = text(&format!("show books {kept}/book0 {kept}/book3"), &[]);
     let row = shown.lines().find(|line| line.starts_with('3')).unwrap();
-    assert_eq!(row, "3       3       proposal 6da63811, blank   blank");
+    assert_eq!(row, "3       3       proposal dd68c34e, blank   blank");
     let row = shown.lines().find(|line| line.starts_with('4')).unwrap();
-    assert_eq!(row, "4       2       page 08150dc2 in register  page 08150dc2 in register");
+    assert_eq!(row, "4       2       page 3a1b0ed7 in register  page 3a1b0ed7 in register");
 }
 
 /// The bytes of a book of station 0 with one height, whose page with this entry is settled.
@@ -75,8 +75,8 @@ fn opened(leaders: &[u8]) -> Vec<u8> {
 fn books_of_another_season_and_forks_are_told() {
     let at = folder("forks").to_str().unwrap().to_string();
     let write = |name: &str, bytes: &[u8]| std::fs::write(format!("{at}/{name}"), bytes).unwrap();
-    write("a", &settled(b"one entry       "));
-    write("b", &settled(b"another entry   "));
+    write("a", &settled(b"\0one entry      "));
+    write("b", &settled(b"\0another entry  "));
     let shown = text(&format!("show books {at}/a {at}/b"), &[]).replace(&format!("{at}/"), "");
     assert!(shown.ends_with("\nTHE REGISTERS FORK: a and b.\n"), "{shown}");
     write("c", &opened(&[1]));
@@ -90,7 +90,7 @@ fn books_of_another_season_and_forks_are_told() {
 
 #[test]
 fn the_rule_that_a_book_breaks_is_told_with_its_byte() {
-    let sound = settled(b"one entry       ");
+    let sound = settled(b"\0one entry      ");
     assert!(Calls::size(&Rules::SHA256, &sound).is_ok());
     let page = Layout::new(1).area(1, Area::Notarized).start;
     let cases: [(usize, u8, &str); 16] = [
@@ -101,8 +101,8 @@ fn the_rule_that_a_book_breaks_is_told_with_its_byte() {
         (4, 3, "byte 4 (current height): the current height is 3, not 1 to 2"),
         (5, 2, "byte 5 (settled height): the settled height is 2, above the last one"),
         (6, 33, "byte 6 (number of pending entries): 33 entries are pending, 32 at most can be"),
-        (7, 2, "byte 7 (edition): the edition is 2, not 1"),
-        (9, 1, "byte 9 (zeros of the head): it is 1, and must be zero"),
+        (7, 255, "byte 7 (edition): the edition is 255, not 1"),
+        (63, 1, "byte 63 (zeros of the head): it is 1, and must be zero"),
         (576, 4, "byte 576 (height 1, leader): leader 4 is not below n, which is 4"),
         (577, 4, "byte 577 (height 1, state): the state is 4, above 3"),
         (581, 1, "byte 580 (height 1, blank votes): the mask has a bit that is not below n, which is 4"),

@@ -59,7 +59,8 @@ fn calls_at_once_lose_nothing() {
     let book = book("at_once", 1, &[]);
     let submit = |number| {
         let mut command = Command::new(env!("CARGO_BIN_EXE_mavunilai"));
-        command.args(["call", &book, "submit", &format!("entry {number}")]);
+        let entry = format!("{:02x}{number:030x}", number % 4);
+        command.args(["call", &book, "submit", &entry]);
         command.stdout(Stdio::null()).spawn().unwrap()
     };
     let calls: Vec<_> = (0..16).map(submit).collect();
@@ -136,7 +137,8 @@ fn unsent_frames_go_to_the_file_that_the_next_call_names() {
     assert_eq!(lines(&format!("call {book} size")), ["size 0"]);
     let bad = format!("call {book} deliver - --out {book}.frames");
     refused(&bad, &Frame::Finalize { signer: 0, height: 1 }.bytes(), "a file beside a book");
-    assert_eq!(lines(&format!("call {book} submit entry --out {pile}")), ["unsent", "done"]);
+    let entry = "00".repeat(16);
+    assert_eq!(lines(&format!("call {book} submit {entry} --out {pile}")), ["unsent", "done"]);
     let certificate = digits(&Frame::DummyCertificate { mask: 11, height: 1 });
     let finalise = digits(&Frame::Finalize { signer: 2, height: 1 });
     assert_eq!(std::fs::read_to_string(pile).unwrap(), format!("{certificate}\n{finalise}\n"));

@@ -3,16 +3,18 @@
 use crate::frames::{any_block, any_entry, any_mask};
 use crate::Random;
 use reference::{is_quorum, sha256, Rules};
-use types::{book_length, field, mask_at, Area, Calls, Layout, BLOCK, MOST_HEIGHTS, MOST_REPLICAS};
+use types::{book_length, field, head_height, mask_at, put_head_height};
+use types::{Area, Book, Calls, Height, Layout};
+use types::{ALL_FLAGS, BLOCK, MOST_HEIGHTS, MOST_PENDING, MOST_REPLICAS};
 
 /// A number of heights: mostly small, now and then up to the most.
-pub fn any_heights(random: &mut Random) -> u8 {
+pub fn any_heights(random: &mut Random) -> Height {
     let bound = match random.below(16) {
         0 => MOST_HEIGHTS,
         1..=3 => 20,
         _ => 6,
     };
-    random.byte_below(bound).saturating_add(1)
+    random.height_below(bound).saturating_add(1)
 }
 
 /// A number of replicas.
@@ -28,22 +30,29 @@ pub fn any_arguments(random: &mut Random) -> (u8, u8, Vec<u8>) {
 }
 
 /// The same for a number of heights.
-pub fn arguments_for(random: &mut Random, heights: u8) -> (u8, u8, Vec<u8>) {
+pub fn arguments_for(random: &mut Random, heights: Height) -> (u8, u8, Vec<u8>) {
     let n = any_replicas(random);
     let leaders = (0..heights).map(|_| random.byte_below(n)).collect();
     (n, random.byte_below(n), leaders)
 }
 
+/// A new book.
+fn opened(n: u8, own: u8, leaders: &[u8]) -> Vec<u8> {
+    let book = Book::open(Rules::SHA256, n.into(), own.into(), leaders);
+    book.map_or_else(|_| Vec::new(), |book| book.bytes().to_vec())
+}
+
 /// A sound book with any flags, any current height, junk in every free byte, and blocks that may not fit together.
-pub fn strange_book(random: &mut Random, heights: u8) -> Vec<u8> {
+pub fn strange_book(random: &mut Random, heights: Height) -> Vec<u8> {
     let (n, own, leaders) = arguments_for(random, heights);
-    let mut book = vec![0; book_length(heights)];
+    let mut book = opened(n, own, &leaders);
     let layout = Layout::new(heights);
     random.fill(&mut book[layout.area(1, Area::Held).start..]);
-    let current = random.byte_below(heights.saturating_add(1)).saturating_add(1);
-    let pending = if random.one_in(4) { 32 } else { random.byte_below(33) };
-    let flags = random.byte_below(16);
-    book[..8].copy_from_slice(&[n, own, heights, flags, current, 0, pending, 1]);
+    let current = random.height_below(heights.saturating_add(1)).saturating_add(1);
+    put_head_height(&mut book, field::CURRENT, current);
+    let all = MOST_PENDING.saturating_add(1);
+    book[field::PENDING] = if random.one_in(4) { MOST_PENDING } else { random.byte_below(all) };
+    book[field::FLAGS] = random.byte_below(ALL_FLAGS.saturating_add(1));
     for place in book[layout.pending()].chunks_mut(16) {
         place.copy_from_slice(&any_entry(random));
     }
@@ -55,8 +64,8 @@ pub fn strange_book(random: &mut Random, heights: u8) -> Vec<u8> {
 }
 
 /// The row and the blocks of one height.
-fn fill_height(random: &mut Random, book: &mut [u8], height: u8, leader: u8) {
-    let (n, layout) = (book[field::N], Layout::new(book[field::HEIGHTS]));
+fn fill_height(random: &mut Random, book: &mut [u8], height: Height, leader: u8) {
+    let (n, layout) = (book[field::N], Layout::new(head_height(book, field::HEIGHTS)));
     let all = u16::MAX >> 16_u8.saturating_sub(n).min(15);
     let state = random.byte_below(4) | if random.one_in(3) { 0 } else { 2 };
     let mut row = [0; 16];
@@ -91,12 +100,13 @@ fn some_votes(random: &mut Random, votes: &mut [u8], digest: &[u8; 32]) {
 /// Makes some settled height the finalized one, if a few tries find one.
 fn settle(random: &mut Random, book: &mut [u8]) {
     for _ in 0..3 {
-        book[field::FINALIZED] = random.byte_below(book[field::HEIGHTS]).saturating_add(1);
+        let height = random.height_below(head_height(book, field::HEIGHTS)).saturating_add(1);
+        put_head_height(book, field::FINALIZED, height);
         if Calls::size(&Rules::SHA256, book).is_ok() {
             return;
         }
     }
-    book[field::FINALIZED] = 0;
+    put_head_height(book, field::FINALIZED, 0);
 }
 
 /// Changes one byte, or cuts or lengthens the book.
@@ -115,8 +125,8 @@ pub fn damage(random: &mut Random, book: &mut Vec<u8>) {
 
 /// A place in a book: in the head's fields, the head, the contents, a body's blocks or anywhere.
 fn any_place(random: &mut Random, book: &[u8]) -> usize {
-    let heights = book.get(field::HEIGHTS).copied().unwrap_or(0);
-    let height = random.byte_below(heights).saturating_add(1);
+    let heights = head_height(book, field::HEIGHTS);
+    let height = random.height_below(heights).saturating_add(1);
     let layout = Layout::new(heights);
     let held = layout.area(height, Area::Held).start;
     let range = match random.below(6) {
@@ -142,9 +152,9 @@ pub fn garbage(random: &mut Random) -> Vec<u8> {
     if random.one_in(2) {
         random.fill(&mut book);
     }
-    let head = [4, 2, heights, 0, 1, 0, 0, 1];
+    let like = opened(4, 2, &vec![0; heights.into()]);
     if random.one_in(2) {
-        book.iter_mut().zip(head).for_each(|(to, from)| *to = from);
+        book.iter_mut().zip(like).take(8).for_each(|(to, from)| *to = from);
     }
     book
 }
@@ -163,10 +173,13 @@ mod tests {
             let heights = any_heights(&mut random);
             let book = strange_book(&mut random, heights);
             assert!(Calls::size(&Rules::SHA256, &book).is_ok());
-            seen.iter_mut().zip([0, 1, 2, 3]).for_each(|(seen, at)| _ = seen.insert(book[at]));
-            finalized += u32::from(book[field::FINALIZED] > 0);
+            let [n, own, flags] =
+                [field::N, field::OWN, field::FLAGS].map(|at| u64::from(book[at]));
+            let values = [n, own, head_height(&book, field::HEIGHTS).into(), flags];
+            seen.iter_mut().zip(values).for_each(|(seen, value)| _ = seen.insert(value));
+            finalized += u32::from(head_height(&book, field::FINALIZED) > 0);
         }
-        assert_eq!(seen.map(|seen| seen.len()), [16, 16, 63, 16]);
+        assert_eq!(seen.map(|seen| seen.len()), [16, 16, MOST_HEIGHTS.into(), 16]);
         assert!(finalized > 600);
     }
 

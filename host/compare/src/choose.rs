@@ -1,14 +1,17 @@
 //! The next call on a single book, with the length of the buffer lent to it.
 
 use crate::books::any_arguments;
-use crate::frames::{any_entry, any_frame_bytes, any_height, byte};
+use crate::frames::{any_entry, any_frame_bytes, any_height};
 use crate::Random;
 use exchange::Call;
 use reference::Rules;
-use types::{book_length, field, Calls};
+use types::{book_length, field, head_height, Calls, MOST_HEIGHTS, MOST_LOG};
 
 /// Lengths of replies far from the limits of move and fetch.
 const LENGTHS: [usize; 8] = [0, 1, 32, 256, 400, 600, 671, 672];
+
+/// One height more than a book may have.
+const TOO_MANY: u64 = MOST_HEIGHTS as u64 + 1;
 
 /// Frames that came before, and how often one came again.
 #[derive(Default)]
@@ -29,7 +32,7 @@ pub fn any_call(random: &mut Random, book: &[u8], recent: &mut Recent) -> (Call,
         29 => (Call::Read, reading_length(random, book)),
         30 => any_fetch(random, book),
         _ if random.one_in(8) => (any_open(random, book), 0),
-        _ => (Call::Read, 63 * 8 * 16),
+        _ => (Call::Read, MOST_LOG),
     }
 }
 
@@ -50,7 +53,7 @@ fn any_fetch(random: &mut Random, book: &[u8]) -> (Call, usize) {
         let (kind, height) = (kind(random), number(random, book));
         return (Call::Fetch { kind, height }, limited(random, 224));
     }
-    let last = u64::from(byte(book, field::HEIGHTS));
+    let last = u64::from(head_height(book, field::HEIGHTS));
     let kind = *random.pick(&[4, 5, 6, 7, 8]).unwrap_or(&4);
     let height = *random.pick(&[0, 1, last, last + 1]).unwrap_or(&0);
     (Call::Fetch { kind, height }, *random.pick(&[0, 223, 224]).unwrap_or(&0))
@@ -78,7 +81,7 @@ fn frame(random: &mut Random, book: &[u8], recent: &mut Recent) -> Vec<u8> {
 fn signal_height(random: &mut Random, book: &[u8]) -> u64 {
     match random.one_in(3) {
         true => number(random, book),
-        false => byte(book, field::CURRENT).into(),
+        false => head_height(book, field::CURRENT).into(),
     }
 }
 
@@ -102,12 +105,19 @@ fn kind(random: &mut Random) -> u64 {
 fn entry(random: &mut Random) -> Vec<u8> {
     let mut entry = any_entry(random).to_vec();
     if random.one_in(4) {
-        random.fill(&mut entry);
+        any_sixteen_bytes(random, &mut entry);
     }
     if random.one_in(24) {
         entry.resize(*random.pick(&[0, 1, 15, 17, 32]).unwrap_or(&0), 0);
     }
     entry
+}
+
+/// Bytes that nobody has seen; of every other such entry the first one is 0 to 3.
+fn any_sixteen_bytes(random: &mut Random, entry: &mut [u8]) {
+    random.fill(entry);
+    let odd = entry.last().is_some_and(|byte| byte % 2 == 1);
+    entry.iter_mut().take(usize::from(odd)).for_each(|first| *first %= 4);
 }
 
 /// A length around that of the log.
@@ -121,7 +131,7 @@ fn reading_length(random: &mut Random, book: &[u8]) -> usize {
 pub fn any_open(random: &mut Random, book: &[u8]) -> Call {
     let (n, own, mut leaders) = any_arguments(random);
     let (mut n, mut own) = (u64::from(n), u64::from(own));
-    let fitting = (1..=63).find(|heights| book_length(*heights) == book.len());
+    let fitting = (1..=MOST_HEIGHTS).find(|heights| book_length(*heights) == book.len());
     if let Some(heights) = fitting.filter(|_| !random.one_in(4)) {
         leaders.resize(heights.into(), 0);
     }
@@ -129,7 +139,7 @@ pub fn any_open(random: &mut Random, book: &[u8]) -> Call {
     match random.below(12) {
         0 => n = *random.pick(&[0, 17, 256, 260, u64::MAX]).unwrap_or(&0),
         1 => own = *random.pick(&[n, 255, 256, u64::MAX]).unwrap_or(&n),
-        2 => heights = *random.pick(&[0, 64, 256, 257, u64::MAX]).unwrap_or(&0),
+        2 => heights = *random.pick(&[0, TOO_MANY, 256, 257, u64::MAX]).unwrap_or(&0),
         3 => leaders.push(0),
         4 => leaders.truncate(leaders.len().saturating_sub(1)),
         5 => leaders.extend([255; 4]),

@@ -2,7 +2,11 @@
 
 use crate::Random;
 use reference::sha256;
-use types::{field, Area, Block, Frame, Layout, BLOCK, ENTRY, FRAME};
+use types::{field, head_height, height_at, put_height, Area, Block, Frame, Height, Layout};
+use types::{BLOCK, BLOCK_HEIGHT, ENTRY, FRAME, FRAME_HEIGHT, MOST_HEIGHTS};
+
+/// Where the block in a frame has its height.
+const PAGE_HEIGHT: usize = FRAME - BLOCK + BLOCK_HEIGHT;
 
 /// The byte of a book at an offset; 0 past the end.
 pub fn byte(book: &[u8], at: usize) -> u8 {
@@ -10,16 +14,16 @@ pub fn byte(book: &[u8], at: usize) -> u8 {
 }
 
 /// An area of a height in a book of any bytes.
-pub fn area(book: &[u8], height: u8, area: Area) -> &[u8] {
-    let range = Layout::new(byte(book, field::HEIGHTS)).area(height, area);
+pub fn area(book: &[u8], height: Height, area: Area) -> &[u8] {
+    let range = Layout::new(head_height(book, field::HEIGHTS)).area(height, area);
     book.get(range).unwrap_or(&[])
 }
 
-/// One of few entries, so that repeats are common.
+/// One of few entries, so that repeats are common. Its first byte is 0 to 3: request 2.13 takes no other.
 pub fn any_entry(random: &mut Random) -> [u8; ENTRY] {
     let tag = random.byte_below(40);
     let mut entry = [tag; ENTRY];
-    entry[0] = b'#';
+    entry[0] %= 4;
     entry
 }
 
@@ -37,22 +41,22 @@ pub fn any_mask(random: &mut Random, n: u8) -> u16 {
 }
 
 /// A height: mostly near the current one, seldom outside the book.
-pub fn any_height(random: &mut Random, book: &[u8]) -> u8 {
-    let (last, current) = (byte(book, field::HEIGHTS), byte(book, field::CURRENT));
-    let near = current.saturating_add(random.byte_below(4)).saturating_sub(1);
+pub fn any_height(random: &mut Random, book: &[u8]) -> Height {
+    let [last, current] = [field::HEIGHTS, field::CURRENT].map(|at| head_height(book, at));
+    let near = current.saturating_add(random.height_below(4)).saturating_sub(1);
     match random.below(24) {
-        0 => *random.pick(&[0, last.wrapping_add(1), 64, 255]).unwrap_or(&0),
-        1..=5 => random.byte_below(last).saturating_add(1),
+        0 => *random.pick(&[0, last.wrapping_add(1), MOST_HEIGHTS + 1, Height::MAX]).unwrap_or(&0),
+        1..=5 => random.height_below(last).saturating_add(1),
         _ => near.clamp(1, last.max(1)),
     }
 }
 
 /// A block for a height, mostly on the nearest notarized block below it.
-pub fn any_block(random: &mut Random, book: &[u8], height: u8) -> Block {
+pub fn any_block(random: &mut Random, book: &[u8], height: Height) -> Block {
     let notarized =
-        |height: &u8| area(book, *height, Area::Row).get(1).is_some_and(|state| state & 2 != 0);
+        |height: &Height| area(book, *height, Area::Row).get(1).is_some_and(|state| state & 2 != 0);
     let parent = match random.below(6) {
-        0 => random.byte_below(height),
+        0 => random.height_below(height),
         _ => (1..height).rev().find(notarized).unwrap_or(0),
     };
     let digest = match parent {
@@ -65,7 +69,7 @@ pub fn any_block(random: &mut Random, book: &[u8], height: u8) -> Block {
 }
 
 /// A block for a height: the held one, the notarized one or another.
-fn likely_block(random: &mut Random, book: &[u8], height: u8) -> Block {
+fn likely_block(random: &mut Random, book: &[u8], height: Height) -> Block {
     let state = area(book, height, Area::Row).get(1).copied().unwrap_or(0);
     let known = match random.below(4) {
         0 | 1 if state & 1 != 0 => area(book, height, Area::Held).first_chunk::<BLOCK>(),
@@ -100,12 +104,15 @@ pub fn any_frame(random: &mut Random, book: &[u8]) -> Frame {
 
 /// A frame in which several things may be wrong at once, so that the order of refusals shows.
 fn odd_frame(random: &mut Random, book: &[u8]) -> [u8; FRAME] {
-    let (n, last) = (byte(book, field::N), byte(book, field::HEIGHTS));
+    let (n, last) = (byte(book, field::N), head_height(book, field::HEIGHTS));
     let mut frame = any_frame(random, book).bytes();
-    let (signed, height) = (frame[0] < 5, frame[2]);
+    let (signed, height) = (frame[0] < 5, height_at(&frame, FRAME_HEIGHT));
     if random.one_in(2) {
-        frame[2] = *random.pick(&[0, 1, last, last.wrapping_add(1)]).unwrap_or(&0);
-        frame[48] = if frame[48] == height && !random.one_in(4) { frame[2] } else { frame[48] };
+        let other = *random.pick(&[0, 1, last, last.wrapping_add(1)]).unwrap_or(&0);
+        put_height(&mut frame, FRAME_HEIGHT, other);
+        if height_at(&frame, PAGE_HEIGHT) == height && !random.one_in(4) {
+            put_height(&mut frame, PAGE_HEIGHT, other);
+        }
     }
     if signed && random.one_in(2) {
         frame[1] = *random.pick(&[0, n.wrapping_sub(1), n, 16, 255]).unwrap_or(&0);

@@ -4,7 +4,7 @@ use crate::traits::{read_length, reply_length};
 use exchange::{Answer, Call};
 use std::collections::{BTreeMap, BTreeSet};
 use std::fmt;
-use types::{field, Delivered};
+use types::{field, head_height, Delivered, MOST_HEIGHTS, MOST_REPLICAS};
 
 /// The refusals of each call that has some.
 const REFUSALS: [(&str, &[u8]); 7] = [
@@ -53,7 +53,7 @@ const LENGTHS: [&str; 5] = ["far below", "one below", "exactly", "one above", "f
 pub struct Kinds {
     counts: BTreeMap<String, u64>,
     /// The numbers of stations, the numbers of heights and the flags of the sound books that were called on.
-    sizes: [BTreeSet<u8>; 3],
+    sizes: [BTreeSet<u64>; 3],
 }
 
 impl Default for Kinds {
@@ -118,8 +118,9 @@ impl Kinds {
             self.saw(&timer(flags));
         }
         let sound = !matches!(call, Call::Open { .. } | Call::Read) && answer != Answer::Deny(1);
-        if let (true, [n, _, heights, flags, ..]) = (sound, book) {
-            let values = [*n, *heights, *flags];
+        if let (true, Some(n)) = (sound, book.get(field::N)) {
+            let heights = head_height(book, field::HEIGHTS);
+            let values = [u64::from(*n), heights.into(), flags.into()];
             self.sizes.iter_mut().zip(values).for_each(|(seen, value)| _ = seen.insert(value));
         }
     }
@@ -172,8 +173,11 @@ impl Kinds {
 }
 
 /// How many values each size has.
-const SIZES: [(usize, &str); 3] =
-    [(16, "numbers of stations"), (63, "numbers of heights"), (16, "values of the flags")];
+const SIZES: [(usize, &str); 3] = [
+    (MOST_REPLICAS as usize, "numbers of stations"),
+    (MOST_HEIGHTS as usize, "numbers of heights"),
+    (16, "values of the flags"),
+];
 
 impl fmt::Display for Kinds {
     fn fmt(&self, to: &mut fmt::Formatter<'_>) -> fmt::Result {

@@ -1,18 +1,18 @@
 //! What the dishonest replicas of a network do: two proposals, two votes, certificates sent to some only.
 
-use crate::frames::{any_entry, byte};
+use crate::frames::any_entry;
 use crate::network::Network;
 use crate::Second;
 use reference::{is_quorum, sha256};
-use types::{field, Block, Calls, Frame};
+use types::{field, head_height, height_at, Block, Calls, Frame, Height, FRAME_HEIGHT};
 
 impl<A: Calls, B: Second> Network<'_, A, B> {
     /// One act of the dishonest replicas, at a height near an honest one's.
     pub fn mischief(&mut self) {
         let seen = self.random.index(self.books.len());
-        let last = self.leaders.len().min(255) as u8;
-        let near = byte(&self.books[seen], field::CURRENT).saturating_add(1).min(last);
-        let height = self.random.byte_below(near).saturating_add(1).max(near.saturating_sub(2));
+        let last = Height::try_from(self.leaders.len()).unwrap_or(Height::MAX);
+        let near = head_height(&self.books[seen], field::CURRENT).saturating_add(1).min(last);
+        let height = self.random.height_below(near).saturating_add(1).max(near.saturating_sub(2));
         let signer = self.honest + self.random.byte_below(self.n - self.honest);
         match self.random.below(6) {
             0 => self.equivocate(height),
@@ -30,7 +30,7 @@ impl<A: Calls, B: Second> Network<'_, A, B> {
     }
 
     /// Two proposals for one height, if a dishonest replica leads it.
-    fn equivocate(&mut self, height: u8) {
+    fn equivocate(&mut self, height: Height) {
         let leader = self.leaders.get(usize::from(height).wrapping_sub(1)).copied().unwrap_or(0);
         if leader < self.honest {
             return;
@@ -53,7 +53,7 @@ impl<A: Calls, B: Second> Network<'_, A, B> {
     }
 
     /// A vote of one signer for every block of a height, each to some.
-    fn vote_for_all(&mut self, signer: u8, height: u8) {
+    fn vote_for_all(&mut self, signer: u8, height: Height) {
         for block in self.blocks_at(height) {
             let digest = sha256::digest(&block.bytes());
             self.saw("a dishonest vote for each page of a height");
@@ -62,7 +62,7 @@ impl<A: Calls, B: Second> Network<'_, A, B> {
     }
 
     /// All certificates of a height that true statements and dishonest ones allow.
-    fn certify(&mut self, height: u8) {
+    fn certify(&mut self, height: Height) {
         for block in self.blocks_at(height) {
             let digest = sha256::digest(&block.bytes());
             let mask = self.mask(2, height, Some(&digest));
@@ -75,14 +75,14 @@ impl<A: Calls, B: Second> Network<'_, A, B> {
     }
 
     /// The blocks that were proposed for a height.
-    fn blocks_at(&self, height: u8) -> Vec<Block> {
+    fn blocks_at(&self, height: Height) -> Vec<Block> {
         self.blocks.iter().filter(|block| block.height == height).cloned().collect()
     }
 
     /// Who can be said to state this: the honest who did, and all dishonest ones.
-    fn mask(&self, kind: u8, height: u8, digest: Option<&[u8; 32]>) -> u16 {
+    fn mask(&self, kind: u8, height: Height, digest: Option<&[u8; 32]>) -> u16 {
         let states = |frame: &&[u8; 224]| {
-            (frame[0], frame[2]) == (kind, height)
+            (frame[0], height_at(&frame[..], FRAME_HEIGHT)) == (kind, height)
                 && digest.is_none_or(|digest| frame[16..48] == *digest)
         };
         let honest = self.spoken.iter().filter(states).map(|frame| frame[1]);

@@ -1,14 +1,12 @@
 //! A network of replicas: what the honest ones do and say, and the check that their logs never fork.
 
 use crate::books::{any_heights, any_replicas};
-use crate::frames::{any_entry, byte};
+use crate::frames::any_entry;
 use crate::Random;
 use crate::{Halt, Pair, Second};
 use exchange::{Answer, Call};
-use types::{book_length, field, Block, Calls, Delivered, Frame, Move, BLOCK, FRAME};
-
-/// The length of the longest log.
-const LONGEST: usize = 63 * 8 * 16;
+use types::{book_length, field, head_height, Block, Calls, Delivered, Frame, Height, Move};
+use types::{BLOCK, FRAME, MOST_LOG};
 
 /// The replicas and what is under way between them. The last few replicas are dishonest and have no book here.
 pub struct Network<'a, A, B> {
@@ -78,7 +76,7 @@ impl<'a, A: Calls, B: Second> Network<'a, A, B> {
     }
 
     /// Opens the book of one replica.
-    fn open_book(&mut self, own: u8, heights: u8) -> Outcome {
+    fn open_book(&mut self, own: u8, heights: Height) -> Outcome {
         let mut book = vec![0; book_length(heights)];
         self.random.fill(&mut book);
         let (n, own, heights) = (self.n.into(), own.into(), heights.into());
@@ -108,7 +106,7 @@ impl<'a, A: Calls, B: Second> Network<'a, A, B> {
             11..=16 if self.idle[replica] && !self.random.one_in(6) => Ok(()),
             11..=16 => self.step(replica),
             17 if self.random.one_in(12) => {
-                let height = byte(&self.books[replica], field::CURRENT).into();
+                let height = head_height(&self.books[replica], field::CURRENT).into();
                 self.told(replica, &Call::Signal { height }, "the timer of a station fires")
             }
             18 => {
@@ -167,7 +165,7 @@ impl<'a, A: Calls, B: Second> Network<'a, A, B> {
 
     /// Sends all that fetch gives of heights not far below the current one.
     fn send_certificates(&mut self, replica: usize) -> Outcome {
-        let current = u64::from(byte(&self.books[replica], field::CURRENT));
+        let current = u64::from(head_height(&self.books[replica], field::CURRENT));
         for height in current.saturating_sub(3)..=current {
             for kind in 5..=7 {
                 let mut frame = [0; FRAME];
@@ -204,7 +202,7 @@ impl<'a, A: Calls, B: Second> Network<'a, A, B> {
 
     /// Reads all logs: none may have shrunk, and of any two one must begin the other.
     pub fn check(&mut self) -> Result<Option<&'static str>, Halt> {
-        let mut buffer = vec![0xbb; LONGEST];
+        let mut buffer = vec![0xbb; MOST_LOG];
         for replica in 0..self.books.len() {
             let answer = self.call(replica, &Call::Read, &mut buffer)?;
             let Answer::Part(length) = answer else { continue };

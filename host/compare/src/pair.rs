@@ -108,14 +108,13 @@ impl<A: Calls, B: Second> Pair<A, B> {
         let [other_book, other_buffer] = &mut self.other;
         let [book_before, buffer_before] = &self.before;
         let refused = matches!(answer, Answer::Deny(_));
-        let reads_only = matches!(call, Call::Size | Call::Read | Call::Fetch { .. });
         let faults = [
             (other_book.part() != book, "the books differ"),
             (other_buffer.part() != buffer, "the replies or buffers differ"),
             (!other_book.is_intact(), "bytes beside the book were written"),
             (!other_buffer.is_intact(), "bytes beside the reply or buffer were written"),
             (
-                (refused || reads_only) && book != book_before,
+                (refused || !call.writes()) && book != book_before,
                 "a call that may not has changed the book",
             ),
             (

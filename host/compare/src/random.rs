@@ -1,5 +1,7 @@
 //! A small generator of random numbers: the same numbers for the same seed, on every machine.
 
+use types::Height;
+
 /// The generator; its state is never zero.
 #[derive(Clone, Debug)]
 pub struct Random(u64);
@@ -32,6 +34,11 @@ impl Random {
     /// A byte below the bound; 0 if the bound is 0.
     pub fn byte_below(&mut self, bound: u8) -> u8 {
         u8::try_from(self.below(bound.into())).unwrap_or(0)
+    }
+
+    /// A height below the bound; 0 if the bound is 0.
+    pub fn height_below(&mut self, bound: Height) -> Height {
+        Height::try_from(self.below(bound.into())).unwrap_or(0)
     }
 
     /// True once in so many times.

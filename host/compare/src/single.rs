@@ -2,12 +2,11 @@
 
 use crate::books::{any_heights, arguments_for, damage, garbage, strange_book};
 use crate::choose::{any_call, any_open, Recent};
-use crate::frames::byte;
 use crate::Random;
 use crate::{traits, Halt, Pair, Second};
 use exchange::Call;
 use reference::Rules;
-use types::{book_length, field, Calls, MOST_HEIGHTS};
+use types::{book_length, field, head_height, Calls, Height, MOST_HEIGHTS};
 
 /// Nothing, or why it ends here.
 type Outcome = Result<(), Halt>;
@@ -53,7 +52,7 @@ fn every_size<A: Calls, B: Second>(pair: &mut Pair<A, B>, random: &mut Random) -
 fn from_new<A: Calls, B: Second>(
     pair: &mut Pair<A, B>,
     random: &mut Random,
-    heights: u8,
+    heights: Height,
     count: u64,
 ) -> Outcome {
     let (n, own, leaders) = arguments_for(random, heights);
@@ -69,14 +68,14 @@ fn from_new<A: Calls, B: Second>(
 fn from_strange<A: Calls, B: Second>(
     pair: &mut Pair<A, B>,
     random: &mut Random,
-    heights: u8,
+    heights: Height,
     count: u64,
 ) -> Outcome {
     let mut book = strange_book(random, heights);
     pair.kinds.saw("book: sound, that no run makes");
     traits::kinds(&book).into_iter().for_each(|name| pair.kinds.saw(name));
     if random.one_in(4) {
-        let height = byte(&book, field::CURRENT).into();
+        let height = head_height(&book, field::CURRENT).into();
         pair.make(&Call::Signal { height }, &mut book, &mut [])?;
     }
     calls(pair, random, &mut book, count)
@@ -86,7 +85,7 @@ fn from_strange<A: Calls, B: Second>(
 fn from_damaged<A: Calls, B: Second>(
     pair: &mut Pair<A, B>,
     random: &mut Random,
-    heights: u8,
+    heights: Height,
 ) -> Outcome {
     let sound = strange_book(random, heights);
     for _ in 0..random.below(80) {

@@ -2,9 +2,9 @@
 
 use crate::frames::{area, byte};
 use exchange::Answer;
-use reference::inspect::{inspect, Height};
+use reference::inspect::{inspect, AtHeight};
 use reference::Rules;
-use types::{field, Area, Calls, Layout, ENTRY};
+use types::{field, head_height, Area, Calls, Height, Layout, ENTRY};
 
 /// The limit of a reply, if the answer shows that its length was looked at.
 pub fn reply_length(answer: Answer, limit: usize) -> Option<usize> {
@@ -23,8 +23,8 @@ pub fn read_length(book: &[u8]) -> Option<usize> {
 /// The kinds that a sound book is of.
 pub fn kinds(book: &[u8]) -> Vec<&'static str> {
     let Ok(told) = inspect(book) else { return Vec::new() };
-    let not_linked = |height: &Height| height.notarized.is_some() && !height.linked;
-    let not_standing = |height: &Height| height.held.is_some() && !height.held_extends;
+    let not_linked = |height: &AtHeight| height.notarized.is_some() && !height.linked;
+    let not_standing = |height: &AtHeight| height.held.is_some() && !height.held_extends;
     // No run casts a blank vote before the timer fires, or sets a flag past the last height.
     let passed_all = usize::from(told.current) > told.heights.len();
     let odd_flags = told.flags & 3 == 2 || (passed_all && told.flags > 0);
@@ -40,16 +40,16 @@ pub fn kinds(book: &[u8]) -> Vec<&'static str> {
 
 /// Whether a byte is set that no rule looks at: a page that is not held, or a pending place past the count.
 fn has_free_byte(book: &[u8]) -> bool {
-    let layout = Layout::new(byte(book, field::HEIGHTS));
+    let heights = head_height(book, field::HEIGHTS);
+    let layout = Layout::new(heights);
     let taken = usize::from(byte(book, field::PENDING)).saturating_mul(ENTRY);
     let pending = book.get(layout.pending()).and_then(|places| places.get(taken..));
     let set = |bytes: &[u8]| bytes.iter().any(|byte| *byte != 0);
-    let free = |height: u8, bit: u8, page: Area| {
+    let free = |height: Height, bit: u8, page: Area| {
         byte(area(book, height, Area::Row), 1) & bit == 0 && set(area(book, height, page))
     };
-    let heights = 1..=byte(book, field::HEIGHTS);
     pending.is_some_and(set)
-        || heights.into_iter().any(|h| free(h, 1, Area::Held) || free(h, 2, Area::Notarized))
+        || (1..=heights).any(|h| free(h, 1, Area::Held) || free(h, 2, Area::Notarized))
 }
 
 #[cfg(test)]

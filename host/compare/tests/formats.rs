@@ -62,7 +62,8 @@ fn signal_and_submit<C: Calls + Copy>(bench: &Bench<C>) {
     assert_eq!(reply[..224], bench.frame(3, 1, &[("signer", &[OWN as u8])]));
     for place in 0..32 {
         let before = book.clone();
-        let entry = [place as u8 + 1; 16];
+        let mut entry = [place as u8 + 1; 16];
+        entry[0] %= 4;
         bench.calls.submit(&mut book, &entry).unwrap();
         let entry_place = 64 + 16 * place..80 + 16 * place;
         changed(&before, &book, &[bench.head("pending count"), entry_place.clone()]);
@@ -91,7 +92,7 @@ fn each_kind<C: Calls + Copy>(bench: &Bench<C>) {
 
 /// Votes of a quorum notarise the held page, of the last height too; masks and digests stand where the page says.
 fn votes<C: Calls + Copy>(bench: &Bench<C>) {
-    let page = bench.page(3, None, &[[9; 16]]);
+    let page = bench.page(3, None, &[[1; 16]]);
     let digest = sha256::digest(&page);
     let mut book = bench.new_book();
     bench.fresh(&mut book, &bench.frame(1, 3, &[("signer", &[ROLL[2]]), ("page", &page)]));

@@ -1,7 +1,7 @@
 //! What a call answered, whichever call it was, and its words in a list.
 
 use std::fmt;
-use types::{Certificate, Delivered, Move};
+use types::{Certificate, Delivered, Height, Move};
 
 /// The answer of any call.
 #[derive(Clone, Copy, Debug, PartialEq, Eq)]
@@ -37,7 +37,7 @@ impl fmt::Display for Answer {
 impl Answer {
     /// The answer in these words, if they are one.
     pub fn parse(words: &[&str]) -> Option<Answer> {
-        let number = |word: &str| word.parse::<u8>().ok();
+        let number = |word: &str| word.parse::<Height>().ok();
         Some(match *words {
             ["done"] => Answer::Done,
             ["fresh"] => Answer::Delivered(Delivered::Fresh),
@@ -50,14 +50,14 @@ impl Answer {
             ["pass", height, kind, second] => Answer::Moved(pass(number(height)?, kind, second)?),
             ["size", size] => Answer::Size(size.parse().ok()?),
             ["part", length] => Answer::Part(length.parse().ok()?),
-            ["deny", refusal] => Answer::Deny(number(refusal)?),
+            ["deny", refusal] => Answer::Deny(refusal.parse().ok()?),
             _ => return None,
         })
     }
 }
 
 /// The pass with these kinds of first and second frame.
-fn pass(height: u8, kind: &str, second: &str) -> Option<Move> {
+fn pass(height: Height, kind: &str, second: &str) -> Option<Move> {
     let certificate = match kind {
         "5" => Certificate::Block,
         "6" => Certificate::Dummy,

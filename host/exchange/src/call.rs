@@ -1,6 +1,7 @@
 //! One call with its arguments, made on any replica.
 
-use crate::{bytes, Answer};
+use crate::bytes::{self, shorten};
+use crate::Answer;
 use types::Calls;
 
 /// A call; the book and the reply or reading buffer are lent when it is made.
@@ -29,6 +30,15 @@ impl Call {
     /// Whether the call is lent a second buffer: a reply or a reading buffer.
     pub fn lends(&self) -> bool {
         matches!(self, Call::Move | Call::Read | Call::Fetch { .. })
+    }
+
+    /// Whether the call may write to the book.
+    pub fn writes(&self) -> bool {
+        match self {
+            Call::Open { .. } | Call::Deliver { .. } | Call::Move => true,
+            Call::Signal { .. } | Call::Submit { .. } => true,
+            Call::Size | Call::Read | Call::Fetch { .. } => false,
+        }
     }
 
     /// Makes the call. Those that are lent no second buffer leave it alone.
@@ -65,4 +75,41 @@ impl Call {
             Call::Fetch { kind, height } => format!("fetch {book} {kind} {height} {buffer}"),
         }
     }
+
+    /// The call in these words, with those that stand for its buffers; the second is empty if none is lent.
+    pub fn parse(words: &[&str]) -> Result<(Call, String, String), String> {
+        let mut second = "";
+        let (call, book) = match *words {
+            ["open", book, n, own, heights, leaders] => {
+                let (n, own, heights) = (number(n)?, number(own)?, number(heights)?);
+                (Call::Open { n, own, heights, leaders: bytes::parse(leaders)? }, book)
+            }
+            ["deliver", book, frame] => (Call::Deliver { frame: bytes::parse(frame)? }, book),
+            ["move", book, buffer] => {
+                second = buffer;
+                (Call::Move, book)
+            }
+            ["signal", book, height] => (Call::Signal { height: number(height)? }, book),
+            ["submit", book, entry] => (Call::Submit { entry: bytes::parse(entry)? }, book),
+            ["size", book] => (Call::Size, book),
+            ["read", book, buffer] => {
+                second = buffer;
+                (Call::Read, book)
+            }
+            ["fetch", book, kind, height, buffer] => {
+                second = buffer;
+                (Call::Fetch { kind: number(kind)?, height: number(height)? }, book)
+            }
+            _ => {
+                let words = shorten(&words.join(" "));
+                return Err(format!("'{words}' is no call with its arguments"));
+            }
+        };
+        Ok((call, book.to_string(), second.to_string()))
+    }
+}
+
+/// A number of 64 bits.
+fn number(word: &str) -> Result<u64, String> {
+    word.parse().map_err(|_| format!("'{word}' is no number"))
 }

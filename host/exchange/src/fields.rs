@@ -2,7 +2,8 @@
 
 use crate::{bytes, words};
 use std::ops::Range;
-use types::{book_length, field, mask_at, BLOCK, ENTRY, FRAME, MOST_REPLICAS};
+use types::{book_length, field, head_height, mask_at, Height};
+use types::{BLOCK, ENTRY, FRAME, MOST_PENDING, MOST_REPLICAS};
 
 /// Of bytes that are no field of their own so many are told, from the first that differs.
 const MOST_TOLD: usize = 32;
@@ -94,7 +95,7 @@ pub fn place(book: &[u8], byte: usize) -> Option<(String, usize)> {
 fn fields(shape: Shape, one: &[u8], two: &[u8]) -> Vec<Field> {
     let length = one.len().max(two.len());
     let mut fields = Fields::default();
-    let heights = [one, two].map(|book| book.get(field::HEIGHTS).copied().unwrap_or(0));
+    let heights = [one, two].map(|book| head_height(book, field::HEIGHTS));
     match (shape, heights) {
         (Shape::Book, [h, other])
             if h == other && [one.len(), two.len()] == [book_length(h); 2] =>
@@ -132,7 +133,7 @@ impl Fields {
     }
 
     /// The fields of a book.
-    fn book(&mut self, heights: u8) {
+    fn book(&mut self, heights: Height) {
         self.add("number of stations", 1, Sort::Number);
         self.add("own number", 1, Sort::Number);
         self.add("number of heights", 1, Sort::Number);
@@ -142,7 +143,8 @@ impl Fields {
         self.add("number of pending entries", 1, Sort::Number);
         self.add("edition", 1, Sort::Number);
         self.add("zeros of the head", 56, Sort::Bytes);
-        (1..=32).for_each(|at| self.add(format!("pending place {at}"), ENTRY, Sort::Entry));
+        (1..=MOST_PENDING)
+            .for_each(|at| self.add(format!("pending place {at}"), ENTRY, Sort::Entry));
         (1..=heights).for_each(|height| self.row(&format!("height {height}")));
         (1..=heights).for_each(|height| self.body(&format!("height {height}")));
     }
@@ -166,13 +168,17 @@ impl Fields {
         stations.for_each(|at| self.add(format!("{of}, page vote of {at}"), 32, Sort::Digest));
     }
 
+    /// A height of a page or a frame, and the zero behind it.
+    fn height(&mut self, of: &str, name: &str) {
+        self.add(format!("{of}, {name}"), 1, Sort::Number);
+        self.add(format!("{of}, zero behind the {name}"), 1, Sort::Bytes);
+    }
+
     /// A page.
     fn page(&mut self, of: &str) {
         let end = self.end.saturating_add(BLOCK);
-        self.add(format!("{of}, height"), 1, Sort::Number);
-        self.add(format!("{of}, zero behind the height"), 1, Sort::Bytes);
-        self.add(format!("{of}, back height"), 1, Sort::Number);
-        self.add(format!("{of}, zero behind the back height"), 1, Sort::Bytes);
+        self.height(of, "height");
+        self.height(of, "back height");
         self.add(format!("{of}, number of entries"), 1, Sort::Number);
         self.add(format!("{of}, zeros behind the number of entries"), 11, Sort::Bytes);
         self.add(format!("{of}, back digest"), 32, Sort::Digest);
@@ -184,8 +190,7 @@ impl Fields {
     fn frame(&mut self, of: &str) {
         self.add(format!("{of}, kind"), 1, Sort::Number);
         self.add(format!("{of}, signer"), 1, Sort::Number);
-        self.add(format!("{of}, height"), 1, Sort::Number);
-        self.add(format!("{of}, zero behind the height"), 1, Sort::Bytes);
+        self.height(of, "height");
         self.add(format!("{of}, mask"), 2, Sort::Mask);
         self.add(format!("{of}, zeros behind the mask"), 10, Sort::Bytes);
         self.add(format!("{of}, digest"), 32, Sort::Digest);
@@ -221,13 +226,13 @@ fn told(sort: Sort, one: &[u8], two: &[u8]) -> [String; 2] {
 #[allow(clippy::unwrap_used, clippy::panic)]
 mod tests {
     use super::*;
-    use types::{Area, Layout};
+    use types::{put_head_height, Area, Layout, MOST_HEIGHTS};
 
     #[test]
     fn fields_fill_a_book_and_lie_where_the_layout_has_them() {
-        for heights in [1, 3, 63] {
+        for heights in [1, 3, MOST_HEIGHTS] {
             let mut book = vec![0; book_length(heights)];
-            book[field::HEIGHTS] = heights;
+            put_head_height(&mut book, field::HEIGHTS, heights);
             let fields = fields(Shape::Book, &book, &book);
             let ends: Vec<usize> = fields.iter().map(|field| field.range.end).collect();
             assert!(fields.iter().skip(1).zip(&ends).all(|(field, end)| field.range.start == *end));
@@ -249,7 +254,7 @@ mod tests {
     #[test]
     fn each_changed_field_is_told() {
         let mut one = vec![0; book_length(1)];
-        one[field::HEIGHTS] = 1;
+        put_head_height(&mut one, field::HEIGHTS, 1);
         let mut two = one.clone();
         two[field::FLAGS] = 3;
         two[576 + 4] = 7;
@@ -276,7 +281,7 @@ mod tests {
     fn every_byte_of_a_book_and_of_a_reply_counts() {
         for (shape, length) in [(Shape::Book, book_length(2)), (Shape::Reply, 449)] {
             let mut one = vec![0; length];
-            one[field::HEIGHTS] = 2;
+            put_head_height(&mut one, field::HEIGHTS, 2);
             for at in 0..length {
                 let mut two = one.clone();
                 two[at] ^= 1;

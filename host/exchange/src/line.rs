@@ -88,7 +88,7 @@ impl Line {
         }
         let is_sign = |word: &&str| [PLAIN, FULL].contains(word);
         let mut halves = words.split(is_sign);
-        let (call, book, buffer) = call(halves.next().unwrap_or(&[]))?;
+        let (call, book, buffer) = Call::parse(halves.next().unwrap_or(&[]))?;
         if book == buffer {
             return Err("a call needs two different buffers".to_string());
         }
@@ -106,38 +106,6 @@ const PLAIN: &str = "=";
 
 /// Stands before an answer with the bytes in full.
 const FULL: &str = "==";
-
-/// The call before the equals sign, with the words that stand for its buffers.
-pub(crate) fn call(words: &[&str]) -> Result<(Call, String, String), String> {
-    let mut second = "";
-    let (call, book) = match *words {
-        ["open", book, n, own, heights, leaders] => {
-            let (n, own, heights) = (number(n)?, number(own)?, number(heights)?);
-            (Call::Open { n, own, heights, leaders: bytes::parse(leaders)? }, book)
-        }
-        ["deliver", book, frame] => (Call::Deliver { frame: bytes::parse(frame)? }, book),
-        ["move", book, buffer] => {
-            second = buffer;
-            (Call::Move, book)
-        }
-        ["signal", book, height] => (Call::Signal { height: number(height)? }, book),
-        ["submit", book, entry] => (Call::Submit { entry: bytes::parse(entry)? }, book),
-        ["size", book] => (Call::Size, book),
-        ["read", book, buffer] => {
-            second = buffer;
-            (Call::Read, book)
-        }
-        ["fetch", book, kind, height, buffer] => {
-            second = buffer;
-            (Call::Fetch { kind: number(kind)?, height: number(height)? }, book)
-        }
-        _ => {
-            let words = shorten(&words.join(" "));
-            return Err(format!("'{words}' is no call with its arguments"));
-        }
-    };
-    Ok((call, book.to_string(), second.to_string()))
-}
 
 /// What stands behind the equals sign: an answer and digests, or bytes in full.
 pub(crate) fn expected(words: &[&str], call: &Call, full: bool) -> Result<Expected, String> {
@@ -167,9 +135,4 @@ fn digest(word: &str) -> Result<[u8; 32], String> {
         return Err(wrong());
     }
     bytes::parse(word)?.try_into().map_err(|_| wrong())
-}
-
-/// A number of 64 bits.
-fn number(word: &str) -> Result<u64, String> {
-    word.parse().map_err(|_| format!("'{word}' is no number"))
 }

@@ -1,7 +1,7 @@
 //! Writes a list while it makes the calls.
 
 use crate::{Answer, Call, Line, List, Stage};
-use types::{Calls, Move, FRAME};
+use types::{Calls, Height, Move, FRAME};
 
 /// Calls on named buffers, kept as a list with their answers and digests.
 #[derive(Clone, Debug)]
@@ -56,7 +56,7 @@ impl<C: Calls> Recorder<C> {
 
     /// Opens a book of the right length over bytes `5a`.
     pub fn open(&mut self, book: &str, n: u64, own: u64, leaders: &[u8]) {
-        let heights = u8::try_from(leaders.len()).unwrap_or(u8::MAX);
+        let heights = Height::try_from(leaders.len()).unwrap_or(Height::MAX);
         self.give(book, vec![0x5a; types::book_length(heights)]);
         let (heights, leaders) = (leaders.len() as u64, leaders.to_vec());
         self.make(Call::Open { n, own, heights, leaders }, book, "");

@@ -24,7 +24,7 @@ pub fn print(call: &Call, book: &[u8], buffer: &[u8]) -> String {
 /// The call that a line asks for, or a sentence about what is wrong with it.
 pub fn parse(text: &str) -> Result<Request, String> {
     let words: Vec<&str> = text.split_whitespace().collect();
-    let (call, book, buffer) = line::call(&words)?;
+    let (call, book, buffer) = Call::parse(&words)?;
     let book = bytes::parse(&book)?;
     let buffer = if call.lends() { bytes::parse(&buffer)? } else { Vec::new() };
     Ok(Request { call, book, buffer })

@@ -3,10 +3,10 @@
 use crate::Answer;
 use std::collections::BTreeMap;
 use std::fmt;
-use types::{Certificate, Move};
+use types::{Certificate, Move, LAST_REFUSAL};
 
 /// The numbers of the table of refusals.
-const REFUSALS: std::ops::RangeInclusive<u8> = 1..=14;
+const REFUSALS: std::ops::RangeInclusive<u8> = 1..=LAST_REFUSAL;
 
 /// Counts of answers.
 #[derive(Clone, Debug, Default, PartialEq, Eq)]

@@ -114,7 +114,8 @@ fn the_four_registers_are_the_same() {
     });
     let first = registers.next().unwrap();
     let mut buffer = [0xbb; 80];
-    let words = ["swap A12 to B40 ", "seed lot 77 to 3", "undo A12 to B40 ", "plot C7 fallow  "];
+    let words =
+        ["\0swap A12 to B40", "\0seed lot 7 to 3", "\0undo A12 to B40", "\0plot C7 fallow "];
     buffer[..64].copy_from_slice(words.concat().as_bytes());
     assert_eq!(first, reference::sha256::digest(&buffer));
     assert_eq!(registers.filter(|other| *other == first).count(), 3);

@@ -41,9 +41,9 @@ fn a_pass_on_dummy_votes() {
 /// The book of a replica alone, after all its moves on one entry.
 fn logged() -> Book<Proved> {
     let mut book = Book::open(Proved, 1, 0, &[0, 0]).unwrap();
-    assert_eq!(book.submit(&[7; 16]), Ok(()));
-    assert_eq!(book.submit(&[7; 16]), Err(Refusal::EntryKnown));
-    assert_eq!(book.pending(), [[7; 16]]);
+    assert_eq!(book.submit(&[3; 16]), Ok(()));
+    assert_eq!(book.submit(&[3; 16]), Err(Refusal::EntryKnown));
+    assert_eq!(book.pending(), [[3; 16]]);
     while let Ok((made, frames)) = book.make_move() {
         if made == Move::Idle {
             break;
@@ -56,7 +56,7 @@ fn logged() -> Book<Proved> {
 #[test]
 fn a_log_of_one_replica() {
     let book = logged();
-    assert_eq!(book.log(), Ok(vec![[7; 16]]));
+    assert_eq!(book.log(), Ok(vec![[3; 16]]));
     assert_eq!(Proved.size(book.bytes()), Ok(16));
     assert_eq!(book.finalized(), 2);
 }
@@ -79,6 +79,13 @@ fn refusals_come_through() {
     assert_eq!(Proved.read(&bytes, &mut []), 0);
 }
 
+/// One of many entries, which begin with 0 to 3 in turn.
+fn entry(number: u8) -> [u8; 16] {
+    let mut entry = [number; 16];
+    entry[0] %= 4;
+    entry
+}
+
 #[test]
 fn the_head_is_read() {
     let mut book = Book::open(Proved, 7, 3, &[6, 5, 4]).unwrap();
@@ -87,9 +94,9 @@ fn the_head_is_read() {
     let leaders: Vec<_> = (0..=4).map(|height| book.leader(height)).collect();
     assert_eq!(leaders, [None, Some(6), Some(5), Some(4), None]);
     assert!(book.pending().is_empty());
-    (0..32).for_each(|number| book.submit(&[number; 16]).unwrap());
-    assert_eq!(book.submit(&[32; 16]), Err(Refusal::PendingFull));
-    assert_eq!(book.pending(), Vec::from_iter((0..32).map(|number| [number; 16])));
+    (0..32).for_each(|number| book.submit(&entry(number)).unwrap());
+    assert_eq!(book.submit(&entry(32)), Err(Refusal::PendingFull));
+    assert_eq!(book.pending(), Vec::from_iter((0..32).map(entry)));
 }
 
 #[test]
@@ -111,7 +118,7 @@ fn a_library_of_another_interface_is_not_called() {
     assert_eq!(book.deliver(&vote), Err(Refusal::OtherInterface));
     assert_eq!(book.make_move(), Err(Refusal::OtherInterface));
     assert_eq!(book.signal(1), Err(Refusal::OtherInterface));
-    assert_eq!(book.submit(&[7; 16]), Err(Refusal::OtherInterface));
+    assert_eq!(book.submit(&[3; 16]), Err(Refusal::OtherInterface));
     assert_eq!(book.log(), Err(Refusal::OtherInterface));
     assert_eq!(book.fetch(6, 1), Err(Refusal::OtherInterface));
     assert_eq!(Proved.read(logged.bytes(), &mut [0; 16]), 0);

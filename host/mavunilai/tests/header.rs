@@ -66,7 +66,7 @@ fn refusals_have_their_numbers() {
         let words = name.strip_prefix("REFUSED_")?.replace("NOTARISED", "NOTARIZED");
         Some((u8::try_from(*value).unwrap(), words.replace('_', "").to_lowercase()))
     });
-    let known = (1..=14).map(|number| {
+    let known = (1..=types::LAST_REFUSAL).map(|number| {
         let refusal = Refusal::of(number);
         (number, format!("{refusal:?}").to_lowercase())
     });

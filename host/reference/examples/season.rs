@@ -1,11 +1,11 @@
 //! The season of four replicas, told by the reference replica. It prints what the program `season` must print:
 //! `cargo run --example season > ../../crates/season/stdout`.
 
-use reference::{
-    book_length, deliver, fetch, make_move, open, read, signal, submit, Delivered, Move, FRAME,
-};
+use reference::{book_length, Delivered, Height, Move, Rules, FRAME};
 
-const HEIGHTS: u8 = 5;
+const RULES: Rules = Rules::SHA256;
+
+const HEIGHTS: Height = 5;
 const LEADERS: [u8; 5] = [0, 3, 1, 2, 0];
 
 /// The books of the four replicas.
@@ -26,25 +26,28 @@ impl Season {
     fn begin() -> Self {
         let mut books = [(); 4].map(|()| vec![0; book_length(HEIGHTS)]);
         for (own, book) in books.iter_mut().enumerate() {
-            let answer = open(book, 4, own as u64, HEIGHTS.into(), &LEADERS);
+            let answer = RULES.open(book, 4, own as u64, HEIGHTS.into(), &LEADERS);
             println!("{own} open {}", done(answer));
         }
         Season { books }
     }
 
     fn submit(&mut self, replica: usize, entry: &[u8; 16]) {
-        let answer = submit(&mut self.books[replica], entry);
+        let answer = RULES.submit(&mut self.books[replica], entry);
         println!("{replica} submit '{}' {}", String::from_utf8_lossy(entry), done(answer));
     }
 
     fn signal(&mut self, replica: usize, height: u64) {
-        println!("{replica} signal {height} {}", done(signal(&mut self.books[replica], height)));
+        println!(
+            "{replica} signal {height} {}",
+            done(RULES.signal(&mut self.books[replica], height))
+        );
     }
 
     /// Delivers a frame to some replicas, on the line that stands open.
     fn carry(&mut self, frame: &[u8], to: &[usize]) {
         for &replica in to {
-            match deliver(&mut self.books[replica], frame) {
+            match RULES.deliver(&mut self.books[replica], frame) {
                 Ok(Delivered::Fresh) => print!(" {replica} take"),
                 Ok(Delivered::Known) => print!(" {replica} same"),
                 Err(number) => print!(" {replica} deny {number}"),
@@ -54,7 +57,7 @@ impl Season {
 
     /// One move, and its line as far as the colon.
     fn turn(&mut self, replica: usize, reply: &mut Reply) -> Result<Move, u8> {
-        let answer = make_move(&mut self.books[replica], reply);
+        let answer = RULES.make_move(&mut self.books[replica], reply);
         match answer {
             Ok(Move::Idle) => print!("{replica} idle:"),
             Ok(Move::Dummy { height }) => print!("{replica} dummy {height}:"),
@@ -103,7 +106,7 @@ impl Season {
     fn fetch(&mut self, kind: u64, height: u64) {
         let mut reply = [0; FRAME];
         print!("fetch {kind} {height}:");
-        match fetch(&self.books[0], kind, height, &mut reply) {
+        match RULES.fetch(&self.books[0], kind, height, &mut reply) {
             Ok(()) => self.carry(&reply, &[1]),
             Err(number) => print!(" deny {number}"),
         }
@@ -111,7 +114,7 @@ impl Season {
     }
 
     fn registers(&self) -> Vec<Vec<u8>> {
-        self.books.iter().map(|book| read(book, &mut [0; 256]).to_vec()).collect()
+        self.books.iter().map(|book| RULES.read(book, &mut [0; 256]).to_vec()).collect()
     }
 
     fn compare(&self) {

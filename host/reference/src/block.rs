@@ -1,6 +1,7 @@
 //! Blocks (document 01: pages): their 176 bytes, their form and their parts.
 
-use crate::state::{Entry, ENTRY};
+use crate::entry::{Entry, ENTRY};
+use crate::height::{self, Height};
 
 /// The length of a block in bytes.
 pub(crate) const BLOCK: usize = 176;
@@ -13,8 +14,8 @@ pub(crate) type Block = [u8; BLOCK];
 
 /// Writes a block out of its parts; of the entries at most eight.
 pub(crate) fn compose<'a>(
-    height: u8,
-    parent: u8,
+    height: Height,
+    parent: Height,
     digest: &[u8; 32],
     entries: impl Iterator<Item = &'a Entry>,
 ) -> Block {
@@ -24,29 +25,29 @@ pub(crate) fn compose<'a>(
         *place = *entry;
         count = count.saturating_add(1);
     }
-    block[0] = height;
-    block[2] = parent;
+    block[0..2].copy_from_slice(&height::to_bytes(height));
+    block[2..4].copy_from_slice(&height::to_bytes(parent));
     block[4] = count;
     block[16..48].copy_from_slice(digest);
     block
 }
 
 /// Whether a block has the form of one at this height.
-pub(crate) fn is_well_formed(block: &Block, height: u8) -> bool {
+pub(crate) fn is_well_formed(block: &Block, height: Height) -> bool {
     let parent = parent_height(block);
-    let rest_is_zero = block[1] == 0 && block[3] == 0 && is_zero(&block[5..16]);
     let past_count = places(block).skip(usize::from(count(block)));
-    block[0] == height
+    block[0..2] == height::to_bytes(height)
+        && block[2..4] == height::to_bytes(parent)
         && parent < height
         && count(block) <= MOST
-        && rest_is_zero
+        && is_zero(&block[5..16])
         && (parent > 0 || is_zero(parent_digest(block)))
         && past_count.flatten().all(|&byte| byte == 0)
 }
 
 /// The height of the parent block, 0 if the chain begins here (document 01: back height).
-pub(crate) fn parent_height(block: &Block) -> u8 {
-    block[2]
+pub(crate) fn parent_height(block: &Block) -> Height {
+    height::from_bytes([block[2], block[3]])
 }
 
 /// The digest of the parent block (document 01: back digest).

@@ -1,6 +1,7 @@
 //! Chains: which heights are dummies, which blocks extend one another, what is finalized.
 
 use crate::block::{self, Block};
+use crate::height::Height;
 use crate::state::State;
 use crate::{quorum, Digest, Rules};
 
@@ -20,18 +21,18 @@ impl Rules {
 
 impl<'a> Chain<'a> {
     /// Whether a quorum voted for the dummy block of a height (document 01: blank).
-    pub fn is_dummy(&self, height: u8) -> bool {
+    pub fn is_dummy(&self, height: Height) -> bool {
         let slot = self.state.slot(height);
         slot.is_some_and(|slot| quorum::is_quorum(slot.dummies, self.state.n))
     }
 
     /// The notarized block of a height.
-    pub fn notarized(&self, height: u8) -> Option<&'a Block> {
+    pub fn notarized(&self, height: Height) -> Option<&'a Block> {
         self.state.slot(height)?.notarized()
     }
 
     /// The digest that a child of this height names: zero for height 0.
-    pub fn digest_at(&self, height: u8) -> Option<[u8; 32]> {
+    pub fn digest_at(&self, height: Height) -> Option<[u8; 32]> {
         match height {
             0 => Some([0; 32]),
             _ => Some((self.digest)(self.notarized(height)?)),
@@ -39,12 +40,12 @@ impl<'a> Chain<'a> {
     }
 
     /// Whether a chain of notarized blocks and dummies goes from this height down to 0.
-    pub fn is_linked(&self, height: u8) -> bool {
+    pub fn is_linked(&self, height: Height) -> bool {
         height == 0 || self.notarized(height).is_some_and(|block| self.extends(block, height))
     }
 
     /// Whether a block of this height sits on a chain of the state (document 01: stands).
-    pub fn extends(&self, block: &Block, height: u8) -> bool {
+    pub fn extends(&self, block: &Block, height: Height) -> bool {
         let parent = block::parent_height(block);
         parent < height
             && self.is_linked(parent)
@@ -53,23 +54,24 @@ impl<'a> Chain<'a> {
     }
 
     /// Whether a height is linked and a quorum finalized it (document 01: settled).
-    pub fn is_finalized(&self, height: u8) -> bool {
+    pub fn is_finalized(&self, height: Height) -> bool {
         let slot = self.state.slot(height);
         slot.is_some_and(|slot| quorum::is_quorum(slot.finalizes, self.state.n))
             && self.is_linked(height)
     }
 
     /// The largest finalized height, 0 if there is none.
-    pub fn largest_finalized(&self) -> u8 {
+    pub fn largest_finalized(&self) -> Height {
         let mut heights = (1..=self.state.heights()).rev();
         heights.find(|&height| self.is_finalized(height)).unwrap_or(0)
     }
 
     /// The parent for a block of this height: the largest linked height below it from which dummies
     /// reach up to it. None if no chain ends just below this height.
-    pub fn parent_for(&self, height: u8) -> Option<u8> {
-        let reached =
-            |&parent: &u8| (parent.saturating_add(1)..height).all(|between| self.is_dummy(between));
+    pub fn parent_for(&self, height: Height) -> Option<Height> {
+        let reached = |&parent: &Height| {
+            (parent.saturating_add(1)..height).all(|between| self.is_dummy(between))
+        };
         let mut candidates = (0..height).rev().take_while(reached);
         candidates.find(|&parent| self.is_linked(parent))
     }

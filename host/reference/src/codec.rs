@@ -1,7 +1,8 @@
 //! The state as bytes: the layout of the book, both ways.
 
 use crate::block::BLOCK;
-use crate::state::{book_length, Slot, State, ENTRY, PLACES, REPLICAS};
+use crate::entry::ENTRY;
+use crate::state::{book_length, Slot, State, PLACES, REPLICAS};
 
 /// The number in byte 7 of every book.
 const EDITION: u8 = 1;

@@ -1,6 +1,7 @@
 //! Fetch: the certificates that a book holds.
 
 use crate::frame::{Frame, Statement, FRAME};
+use crate::height::Height;
 use crate::state::State;
 use crate::{quorum, refusal, Rules};
 
@@ -20,14 +21,14 @@ impl Rules {
 }
 
 impl State {
-    /// The height as a byte, if it is one of the book's.
-    pub fn known_height(&self, height: u64) -> Option<u8> {
-        let height = u8::try_from(height).ok()?;
+    /// The height in its own type, if it is one of the book's.
+    pub fn known_height(&self, height: u64) -> Option<Height> {
+        let height = Height::try_from(height).ok()?;
         self.slot(height).map(|_| height)
     }
 
     /// The certificate of a kind for a height, if the book has a quorum for it.
-    pub fn certificate(&self, kind: u8, height: u8) -> Option<Frame<'_>> {
+    pub fn certificate(&self, kind: u8, height: Height) -> Option<Frame<'_>> {
         let slot = self.slot(height)?;
         let (mask, statement) = match kind {
             5 => {

@@ -1,6 +1,7 @@
 //! Frames as values: a height and what is stated about it.
 
 use crate::block::Block;
+use crate::height::Height;
 
 /// The length of a frame in bytes.
 pub const FRAME: usize = 224;
@@ -11,7 +12,7 @@ pub(crate) type FrameBytes = [u8; FRAME];
 /// A frame of the right form; digest and block are borrowed.
 #[derive(Clone, Copy)]
 pub(crate) struct Frame<'a> {
-    pub height: u8,
+    pub height: Height,
     pub statement: Statement<'a>,
 }
 

@@ -1,7 +1,7 @@
 //! Reading a frame: its form alone, with no book at hand.
 
-use crate::block;
 use crate::frame::{Frame, FrameBytes, Statement, FRAME};
+use crate::{block, height};
 
 impl<'a> Frame<'a> {
     /// The frame in these bytes, if they have the form of one.
@@ -10,7 +10,8 @@ impl<'a> Frame<'a> {
     /// zero. Heights and signers may still be out of any book's range.
     pub fn read(bytes: &'a [u8]) -> Option<Frame<'a>> {
         let bytes: &FrameBytes = bytes.try_into().ok()?;
-        let frame = Frame { height: bytes[2], statement: statement(bytes)? };
+        let height = height::from_bytes([bytes[2], bytes[3]]);
+        let frame = Frame { height, statement: statement(bytes)? };
         let mut again = [0; FRAME];
         frame.write(&mut again);
         (again == *bytes && frame.block_fits()).then_some(frame)

@@ -1,13 +1,14 @@
 //! Writing a frame into lent bytes.
 
 use crate::frame::{Frame, FrameBytes, Statement};
+use crate::height;
 
 impl Frame<'_> {
     /// Writes all 224 bytes; what the kind does not use becomes zero.
     pub fn write(&self, to: &mut FrameBytes) {
         to.fill(0);
         to[0] = self.statement.kind();
-        to[2] = self.height;
+        to[2..4].copy_from_slice(&height::to_bytes(self.height));
         match self.statement {
             Statement::Proposal { signer, block } => {
                 to[1] = signer;

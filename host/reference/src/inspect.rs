@@ -1,6 +1,7 @@
 //! A sound book told in parts, for programs that show it to people.
 
 use crate::block;
+use crate::height::Height;
 use crate::state::Slot;
 use crate::Rules;
 
@@ -14,28 +15,28 @@ pub struct Inspection {
     /// The flags of the current height.
     pub flags: u8,
     /// The current height.
-    pub current: u8,
+    pub current: Height,
     /// The finalized height.
-    pub finalized: u8,
+    pub finalized: Height,
     /// The number of pending entries.
     pub pending: u8,
     /// The height that a proposal at the current height would name as its parent, if a chain ends below.
-    pub parent: Option<u8>,
+    pub parent: Option<Height>,
     /// The heights from 1 up.
-    pub heights: Vec<Height>,
+    pub heights: Vec<AtHeight>,
 }
 
 /// What a sound book says of a height.
 #[derive(Clone, Debug)]
-pub struct Height {
+pub struct AtHeight {
     /// The leader.
     pub leader: u8,
     /// The parent height and number of entries of the held proposal.
-    pub held: Option<(u8, u8)>,
+    pub held: Option<(Height, u8)>,
     /// Whether the held proposal extends a chain of the book.
     pub held_extends: bool,
     /// The parent height and number of entries of the notarized block.
-    pub notarized: Option<(u8, u8)>,
+    pub notarized: Option<(Height, u8)>,
     /// The mask of replicas whose block vote is kept.
     pub voters: u16,
     /// The masks of the block, dummy and finalize certificates.
@@ -53,7 +54,7 @@ pub fn inspect(book: &[u8]) -> Result<Inspection, u8> {
     let rules = Rules::SHA256;
     let state = rules.sound(book)?;
     let chain = rules.chain(&state);
-    let tell = |(height, slot): (u8, &Slot)| Height {
+    let tell = |(height, slot): (Height, &Slot)| AtHeight {
         leader: slot.leader,
         held: slot.held().map(|held| (block::parent_height(held), held[4])),
         held_extends: slot.held().is_some_and(|held| chain.extends(held, height)),

@@ -3,23 +3,24 @@
 //! Every call takes the bytes that it may read or write and answers with a value or with the number
 //! of a refusal. A refused call leaves all lent bytes as they were. No input makes a call panic.
 //!
-//! The calls at the root of the crate digest blocks with SHA-256. [`Rules`] offers the same calls
-//! over any digest function, so that definitions can be compared on books with a cheaper digest.
+//! The calls are methods of [`Rules`]. [`Rules::SHA256`] digests blocks with SHA-256; any other digest function
+//! can take its place, so that definitions can be compared on books with a cheaper digest.
 
 #![forbid(unsafe_code)]
 #![warn(clippy::indexing_slicing, clippy::arithmetic_side_effects)]
 #![warn(clippy::unwrap_used, clippy::expect_used, clippy::panic)]
 
-mod api;
 mod block;
 mod calls;
 mod chain;
 mod codec;
 mod deliver;
+mod entry;
 mod fetch;
 mod frame;
 mod frame_reader;
 mod frame_writer;
+mod height;
 pub mod inspect;
 mod log;
 mod make_move;
@@ -33,10 +34,10 @@ mod soundness;
 mod state;
 mod submit;
 
-pub use api::{deliver, fetch, make_move, open, read, signal, size, submit};
+pub use entry::ENTRY;
 pub use frame::FRAME;
 pub use quorum::is_quorum;
 pub use rules::{Digest, Rules};
 pub use sha256;
-pub use state::{book_length, ENTRY};
-pub use types::{Certificate, Delivered, Move};
+pub use state::book_length;
+pub use types::{Certificate, Delivered, Height, Move};

@@ -2,12 +2,13 @@
 
 use crate::block;
 use crate::chain::Chain;
-use crate::state::{Entry, ENTRY};
+use crate::entry::{Entry, ENTRY};
+use crate::height::Height;
 use crate::Rules;
 
 impl<'a> Chain<'a> {
     /// The entries of the chain that ends in the block of a linked height, oldest block first.
-    pub fn log(&self, height: u8) -> Vec<&'a Entry> {
+    pub fn log(&self, height: Height) -> Vec<&'a Entry> {
         let Some(last) = self.notarized(height) else {
             return Vec::new();
         };

@@ -2,6 +2,7 @@
 
 use crate::block;
 use crate::frame::{Frame, FrameBytes, Statement, FRAME};
+use crate::height::Height;
 use crate::state::{State, BLOCK_VOTED, DUMMY_VOTED, PROPOSED, TIMER_FIRED};
 use crate::{refusal, Certificate, Move, Rules};
 
@@ -68,7 +69,7 @@ impl Rules {
     }
 
     /// The certificate that ends a height; the block's goes before the dummy's.
-    fn certificate_to_pass(&self, state: &State, height: u8) -> Option<Certificate> {
+    fn certificate_to_pass(&self, state: &State, height: Height) -> Option<Certificate> {
         let chain = self.chain(state);
         if chain.is_linked(height) {
             return Some(Certificate::Block);
@@ -110,7 +111,7 @@ impl Rules {
 
 impl State {
     /// The current height, unless the last one is passed already.
-    fn open_height(&self) -> Option<u8> {
+    fn open_height(&self) -> Option<Height> {
         (self.current <= self.heights()).then_some(self.current)
     }
 }

@@ -1,8 +1,9 @@
 //! Open: a new book.
 
 use crate::block::BLOCK;
+use crate::entry::ENTRY;
 use crate::soundness::{MOST_HEIGHTS, MOST_REPLICAS};
-use crate::state::{Slot, State, ENTRY, PLACES, REPLICAS};
+use crate::state::{Slot, State, PLACES, REPLICAS};
 use crate::{refusal, Rules};
 
 impl Rules {

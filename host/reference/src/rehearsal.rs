@@ -1,19 +1,22 @@
 //! The rehearsal: replica 2 of 4, three heights, frames from a stream, one line for each event.
 
-use crate::{book_length, deliver, make_move, open, Delivered, Move, FRAME};
+use crate::height::{self, Height};
+use crate::{book_length, Delivered, Move, Rules, FRAME};
 use std::io::{self, Read, Write};
+
+const RULES: Rules = Rules::SHA256;
 
 /// The settings that every rehearsal has.
 const N: u64 = 4;
 const OWN: u64 = 2;
-const HEIGHTS: u8 = 3;
+const HEIGHTS: Height = 3;
 const LEADERS: [u8; 3] = [0, 1, 2];
 
 /// Delivers the frames of the input one by one, a short last one too, and moves until idle after
 /// each. What the replica writes is not delivered to it.
 pub fn rehearse(mut input: impl Read, mut output: impl Write) -> io::Result<()> {
     let mut book = vec![0; book_length(HEIGHTS)];
-    open(&mut book, N, OWN, HEIGHTS.into(), &LEADERS).map_err(refused)?;
+    RULES.open(&mut book, N, OWN, HEIGHTS.into(), &LEADERS).map_err(refused)?;
     let mut frame = Vec::with_capacity(FRAME);
     loop {
         frame.clear();
@@ -23,7 +26,7 @@ pub fn rehearse(mut input: impl Read, mut output: impl Write) -> io::Result<()> 
         }
         writeln!(output, "{}", delivery_line(&mut book, &frame))?;
         let mut reply = [0; 2 * FRAME];
-        while let Some(line) = move_line(make_move(&mut book, &mut reply).map_err(refused)?) {
+        while let Some(line) = move_line(RULES.make_move(&mut book, &mut reply).map_err(refused)?) {
             writeln!(output, "{line}")?;
         }
     }
@@ -31,30 +34,22 @@ pub fn rehearse(mut input: impl Read, mut output: impl Write) -> io::Result<()> 
 
 /// Delivers a frame and says what became of it.
 fn delivery_line(book: &mut [u8], frame: &[u8]) -> String {
-    let word = match deliver(book, frame) {
+    let word = match RULES.deliver(book, frame) {
         Ok(Delivered::Fresh) => "take",
         Ok(Delivered::Known) => "same",
         Err(number) => return format!("deny {number}"),
     };
     match frame {
-        [kind, signer, height, ..] => format!("{word} {kind} {height} {signer}"),
+        [kind, signer, low, high, ..] => {
+            format!("{word} {kind} {} {signer}", height::from_bytes([*low, *high]))
+        }
         _ => word.to_string(),
     }
 }
 
 /// The line for a move; none when idle.
 fn move_line(made: Move) -> Option<String> {
-    match made {
-        Move::Dummy { height } => Some(format!("dummy {height}")),
-        Move::Final { height } => Some(format!("final {height}")),
-        Move::Pass { height, certificate, finalized } => {
-            let second = if finalized { 4 } else { 0 };
-            Some(format!("pass {height} {} {second}", certificate.kind()))
-        }
-        Move::Offer { height } => Some(format!("offer {height}")),
-        Move::Vote { height } => Some(format!("vote {height}")),
-        Move::Idle => None,
-    }
+    (made != Move::Idle).then(|| made.to_string())
 }
 
 /// A refusal that a rehearsal never meets, as an error of the stream.

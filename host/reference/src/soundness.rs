@@ -1,5 +1,6 @@
 //! Which books are sound, and getting the state out of one.
 
+use crate::height::Height;
 use crate::state::{Slot, State, HELD, NOTARIZED, PLACES};
 use crate::{block, quorum, refusal, Rules};
 
@@ -34,7 +35,7 @@ fn head_is_sound(state: &State) -> bool {
 }
 
 /// Whether what the book keeps of a height is in order by itself.
-fn slot_is_sound(slot: &Slot, height: u8, n: u8) -> bool {
+fn slot_is_sound(slot: &Slot, height: Height, n: u8) -> bool {
     let masks = [slot.certificate, slot.dummies, slot.finalizes, slot.voters];
     slot.leader < n
         && masks.into_iter().all(|mask| quorum::is_within(mask, n))

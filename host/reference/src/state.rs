@@ -1,13 +1,9 @@
 //! The state of a replica (document 01: book) as a record.
 
 use crate::block::Block;
+use crate::entry::Entry;
+use crate::height::Height;
 use crate::quorum;
-
-/// The length of an entry in bytes.
-pub const ENTRY: usize = 16;
-
-/// The bytes of an entry.
-pub(crate) type Entry = [u8; ENTRY];
 
 /// The places for pending entries.
 pub(crate) const PLACES: usize = 32;
@@ -30,7 +26,7 @@ pub(crate) const HELD: u8 = 1;
 pub(crate) const NOTARIZED: u8 = 2;
 
 /// The length in bytes of a book with this many heights.
-pub fn book_length(heights: u8) -> usize {
+pub fn book_length(heights: Height) -> usize {
     usize::from(heights).saturating_mul(880).saturating_add(576)
 }
 
@@ -40,8 +36,8 @@ pub(crate) struct State {
     pub n: u8,
     pub own: u8,
     pub flags: u8,
-    pub current: u8,
-    pub finalized: u8,
+    pub current: Height,
+    pub finalized: Height,
     pub pending_count: u8,
     pub pending: [Entry; PLACES],
     pub slots: Vec<Slot>,
@@ -62,18 +58,18 @@ pub(crate) struct Slot {
 }
 
 impl State {
-    /// The last height; the slots are never more than a byte can count.
-    pub fn heights(&self) -> u8 {
-        u8::try_from(self.slots.len()).unwrap_or(u8::MAX)
+    /// The last height; the slots are never more than a height can count.
+    pub fn heights(&self) -> Height {
+        Height::try_from(self.slots.len()).unwrap_or(Height::MAX)
     }
 
     /// The slot of a height, if the height is one of the book's.
-    pub fn slot(&self, height: u8) -> Option<&Slot> {
+    pub fn slot(&self, height: Height) -> Option<&Slot> {
         self.slots.get(usize::from(height.checked_sub(1)?))
     }
 
     /// The slot of a height, to be changed.
-    pub fn slot_mut(&mut self, height: u8) -> Option<&mut Slot> {
+    pub fn slot_mut(&mut self, height: Height) -> Option<&mut Slot> {
         self.slots.get_mut(usize::from(height.checked_sub(1)?))
     }
 

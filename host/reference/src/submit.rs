@@ -1,6 +1,7 @@
 //! Submit: a new entry for the log.
 
-use crate::state::{Entry, ENTRY, PLACES};
+use crate::entry::{Entry, ENTRY};
+use crate::state::PLACES;
 use crate::{refusal, Rules};
 
 impl Rules {

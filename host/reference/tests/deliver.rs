@@ -12,10 +12,10 @@ type Change<'a> = (usize, &'a [u8]);
 #[track_caller]
 fn fresh_then_known(book: &mut [u8], frame: &FrameBytes) {
     let before = book.to_vec();
-    assert_eq!(reference::deliver(book, frame), Ok(Fresh));
+    assert_eq!(RULES.deliver(book, frame), Ok(Fresh));
     assert_ne!(book, before);
     let after = book.to_vec();
-    assert_eq!(reference::deliver(book, frame), Ok(Known));
+    assert_eq!(RULES.deliver(book, frame), Ok(Known));
     assert_eq!(book, after);
 }
 
@@ -67,16 +67,16 @@ fn certificates() {
 fn masks_are_joined() {
     let mut book = new_book(4, 2, &[0]);
     for (frame, at) in [
-        (dummy_certificate as fn(u16, u8) -> FrameBytes, row(1) + 4),
+        (dummy_certificate as fn(u16, Height) -> FrameBytes, row(1) + 4),
         (finalize_certificate, row(1) + 6),
     ] {
         fresh_then_known(&mut book, &frame(7, 1));
         fresh_then_known(&mut book, &frame(14, 1));
         assert_eq!(book[at], 15);
-        assert_eq!(reference::deliver(&mut book, &frame(11, 1)), Ok(Known));
+        assert_eq!(RULES.deliver(&mut book, &frame(11, 1)), Ok(Known));
     }
-    assert_eq!(reference::deliver(&mut book, &dummy_vote(0, 1)), Ok(Known));
-    assert_eq!(reference::deliver(&mut book, &finalize(3, 1)), Ok(Known));
+    assert_eq!(RULES.deliver(&mut book, &dummy_vote(0, 1)), Ok(Known));
+    assert_eq!(RULES.deliver(&mut book, &finalize(3, 1)), Ok(Known));
 }
 
 #[test]
@@ -85,7 +85,7 @@ fn the_same_certified_block_keeps_its_mask() {
     let block = block(1, 0, ZERO, &[]);
     deliver_all(&mut book, &[block_certificate(7, &block)]);
     let before = book.clone();
-    assert_eq!(reference::deliver(&mut book, &block_certificate(15, &block)), Ok(Known));
+    assert_eq!(RULES.deliver(&mut book, &block_certificate(15, &block)), Ok(Known));
     assert_eq!(book, before);
 }
 

@@ -9,8 +9,8 @@ use reference::Delivered;
 fn good_frames() -> Vec<(FrameBytes, Vec<usize>)> {
     let block = block(2, 1, [9; 32], &[entry(1), entry(2)]);
     let (signer, mask, digest, area) = ([1], [4, 5], 16..48, 48..224);
-    let other = || [3].into_iter().chain(6..16);
-    let block_zeros = || [49, 51].into_iter().chain(53..64).chain(128..224);
+    let other = || 6..16;
+    let block_zeros = || (53..64).chain(128..224);
     let bare =
         |rest: Vec<usize>| other().chain(digest.clone()).chain(area.clone()).chain(rest).collect();
     let loaded =
@@ -26,33 +26,45 @@ fn good_frames() -> Vec<(FrameBytes, Vec<usize>)> {
     ]
 }
 
+/// Delivers a frame with each of some bytes set to 1, which must be refused with 4.
+fn refused_with_one(frame: &FrameBytes, places: impl IntoIterator<Item = usize>) {
+    let start = new_book(4, 2, &[0, 1]);
+    for at in places {
+        let (mut damaged, mut book) = (*frame, start.clone());
+        damaged[at] = 1;
+        let answer = RULES.deliver(&mut book, &damaged);
+        assert_eq!(answer, Err(4), "kind {} byte {at}", frame[0]);
+        assert_eq!(book, start);
+    }
+}
+
 #[test]
 fn unused_bytes_are_zero() {
-    let start = new_book(4, 2, &[0, 1]);
     for (frame, unused) in good_frames() {
-        assert_eq!(reference::deliver(&mut start.clone(), &frame), Ok(Delivered::Fresh));
-        for at in unused {
-            let mut damaged = frame;
-            damaged[at] = 1;
-            let mut book = start.clone();
-            assert_eq!(
-                reference::deliver(&mut book, &damaged),
-                Err(4),
-                "kind {} byte {at}",
-                frame[0]
-            );
-            assert_eq!(book, start);
+        let mut book = new_book(4, 2, &[0, 1]);
+        assert_eq!(RULES.deliver(&mut book, &frame), Ok(Delivered::Fresh));
+        refused_with_one(&frame, unused);
+    }
+}
+
+/// Request 2.7 makes these the high bytes of heights.
+#[test]
+fn bytes_after_heights_are_zero() {
+    for (frame, _) in good_frames() {
+        refused_with_one(&frame, [HIGH_BYTE]);
+        if [1, 5].contains(&frame[0]) {
+            refused_with_one(&frame, HIGH_BYTES.map(|at| 48 + at));
         }
     }
 }
 
 /// Delivers a block both ways, as proposal and certified.
 #[track_caller]
-fn assert_block(block: &Block, height: u8, expected: Result<Delivered, u8>) {
+fn assert_block(block: &Block, height: Height, expected: Result<Delivered, u8>) {
     let start = new_book(4, 2, &[0, 0, 0]);
     for mut frame in [proposal(0, block), block_certificate(7, block)] {
-        frame[2] = height;
-        assert_eq!(reference::deliver(&mut start.clone(), &frame), expected);
+        put_height(&mut frame[2..4], height);
+        assert_eq!(RULES.deliver(&mut start.clone(), &frame), expected);
     }
 }
 

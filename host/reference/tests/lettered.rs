@@ -21,7 +21,7 @@ fn a_to_d_by_certificate() {
         let mask = |members: u32| ((1u32 << members) - 1) as u16;
         let mut book = new_book(n, 0, &[0]);
         let below = dummy_certificate(mask(enough - 1), 1);
-        assert_eq!(reference::deliver(&mut book, &below), Err(9), "n {n}");
+        assert_eq!(RULES.deliver(&mut book, &below), Err(9), "n {n}");
         deliver_all(&mut book, &[dummy_certificate(mask(enough), 1)]);
     }
 }
@@ -43,7 +43,7 @@ fn f_new_book_of_another_leader_is_idle() {
 #[test]
 fn g_signal_then_dummy_vote_then_idle() {
     let mut book = new_book(4, 2, &[0]);
-    reference::signal(&mut book, 1).unwrap();
+    RULES.signal(&mut book, 1).unwrap();
     let (made, reply) = one_move(&mut book);
     assert_eq!(made, Move::Dummy { height: 1 });
     assert_eq!(reply[..224], dummy_vote(2, 1));
@@ -61,13 +61,13 @@ fn h_dummy_votes_of_three_pass_and_finalize() {
     assert_eq!(made, Move::Pass { height: 1, certificate, finalized: true });
     assert_eq!(reply[..224], dummy_certificate(7, 1));
     assert_eq!(reply[224..], finalize(3, 1));
-    assert_eq!((book[3], book[4]), (0, 2));
+    assert_eq!((book[3], book[CURRENT]), (0, 2));
 }
 
 #[test]
 fn i_after_the_timer_the_second_frame_is_zero() {
     let mut book = new_book(4, 3, &[0]);
-    reference::signal(&mut book, 1).unwrap();
+    RULES.signal(&mut book, 1).unwrap();
     assert_eq!(one_move(&mut book).0, Move::Dummy { height: 1 });
     deliver_all(&mut book, &[dummy_vote(0, 1), dummy_vote(1, 1), dummy_vote(2, 1)]);
     let (made, reply) = one_move(&mut book);
@@ -75,7 +75,7 @@ fn i_after_the_timer_the_second_frame_is_zero() {
     assert_eq!(made, Move::Pass { height: 1, certificate, finalized: false });
     assert_eq!(reply[..224], dummy_certificate(7, 1));
     assert_eq!(reply[224..], [0; 224]);
-    assert_eq!((book[3], book[4]), (0, 2));
+    assert_eq!((book[3], book[CURRENT]), (0, 2));
 }
 
 #[test]
@@ -94,7 +94,7 @@ fn k_finalizes_without_a_block() {
     let mut book = new_book(4, 2, &[0]);
     deliver_all(&mut book, &[finalize_certificate(7, 1)]);
     assert_eq!(moves(&mut book), []);
-    assert_eq!(book[5], 0);
+    assert_eq!(book[FINALIZED], 0);
 }
 
 #[test]
@@ -106,7 +106,7 @@ fn l_no_gap_without_dummies() {
     deliver_all(&mut book, &both);
     deliver_all(&mut book, &[finalize_certificate(7, 3)]);
     assert_eq!(moves(&mut book).len(), 1);
-    assert_eq!((book[4], book[5]), (2, 0));
+    assert_eq!((book[CURRENT], book[FINALIZED]), (2, 0));
     deliver_all(&mut book, &[dummy_certificate(7, 2)]);
     assert_eq!(one_move(&mut book).0, Move::Final { height: 3 });
 }

@@ -23,7 +23,7 @@ fn is_dummy(book: &[u8], height: usize) -> bool {
 /// Which heights are linked, from 0 up: each looks only at those before it.
 fn links(book: &[u8]) -> Vec<bool> {
     let mut linked = vec![true];
-    for height in 1..=usize::from(book[2]) {
+    for height in 1..=usize::from(book[HEIGHTS]) {
         let fits = notarized(book, height).is_some_and(|block| {
             let parent = usize::from(block[2]);
             let digest = match parent {
@@ -59,7 +59,7 @@ fn the_largest_finalized_height() {
         let (made, _) = one_move(&mut book);
         let final_made = matches!(made, Move::Final { height } if usize::from(height) == largest);
         assert_eq!(final_made, largest > 0);
-        assert_eq!(usize::from(book[5]), largest);
+        assert_eq!(usize::from(book[FINALIZED]), largest);
         assert!(is_sound(&book));
         seen[largest] += 1;
     }
@@ -72,10 +72,10 @@ fn the_parent_of_an_offer_and_the_pass() {
     let (mut offers, mut passes, mut neither) = (0, 0, 0);
     for _ in 0..3000 {
         let mut book = random_book(&mut random, reference::sha256::digest);
-        let height = 1 + random.below(book[2].into());
-        (book[3], book[4]) = (4, height as u8);
+        let height = 1 + random.below(book[HEIGHTS].into());
+        (book[3], book[CURRENT]) = (4, height as u8);
         book[row(height)] = book[1];
-        (1..=usize::from(book[2]))
+        (1..=usize::from(book[HEIGHTS]))
             .for_each(|height| book[row(height) + 6..row(height) + 8].fill(0));
         let linked = links(&book);
         let parent = largest_parent(&book, &linked, height);

@@ -5,7 +5,7 @@ mod common;
 use common::*;
 use reference::{Certificate, Move};
 
-fn pass(height: u8, certificate: Certificate, finalized: bool) -> Move {
+fn pass(height: Height, certificate: Certificate, finalized: bool) -> Move {
     Move::Pass { height, certificate, finalized }
 }
 
@@ -29,7 +29,7 @@ fn a_height_with_a_block_is_voted_on_and_passed() {
     assert_eq!(made, pass(1, Certificate::Block, true));
     assert_eq!(reply[..224], block_certificate(13, &first));
     assert_eq!(reply[224..], finalize(2, 1));
-    assert_eq!((book[3], book[4]), (0, 2));
+    assert_eq!((book[3], book[CURRENT]), (0, 2));
 }
 
 #[test]
@@ -38,7 +38,7 @@ fn the_order_is_one_to_five() {
     let first = block(1, 0, ZERO, &[]);
     let frames = [proposal(2, &first), block_certificate(7, &first), finalize_certificate(7, 1)];
     deliver_all(&mut book, &frames);
-    reference::signal(&mut book, 1).unwrap();
+    RULES.signal(&mut book, 1).unwrap();
     let expected =
         [Move::Dummy { height: 1 }, Move::Final { height: 1 }, pass(1, Certificate::Block, false)];
     assert_eq!(moves(&mut book), expected);
@@ -51,7 +51,7 @@ fn the_order_is_one_to_five() {
 fn dummy_vote_does_not_bar_the_block_vote() {
     let mut book = book_of_three();
     deliver_all(&mut book, &[proposal(0, &block(1, 0, ZERO, &[]))]);
-    reference::signal(&mut book, 1).unwrap();
+    RULES.signal(&mut book, 1).unwrap();
     assert_eq!(moves(&mut book), [Move::Dummy { height: 1 }, Move::Vote { height: 1 }]);
     assert_eq!(book[3], 7);
 }
@@ -59,11 +59,11 @@ fn dummy_vote_does_not_bar_the_block_vote() {
 #[test]
 fn the_timer_is_remembered_until_the_pass() {
     let mut book = book_of_three();
-    reference::signal(&mut book, 1).unwrap();
+    RULES.signal(&mut book, 1).unwrap();
     assert_eq!(moves(&mut book), [Move::Dummy { height: 1 }]);
     deliver_all(&mut book, &[block_certificate(7, &block(1, 0, ZERO, &[]))]);
     assert_eq!(moves(&mut book), [pass(1, Certificate::Block, false)]);
-    assert_eq!((book[3], book[4]), (0, 2));
+    assert_eq!((book[3], book[CURRENT]), (0, 2));
 }
 
 #[test]
@@ -97,19 +97,19 @@ fn a_notarized_block_that_hangs_in_the_air_is_passed_by_its_dummies() {
 #[test]
 fn no_pass_and_no_offer_without_a_chain_below() {
     let mut book = book_of_three();
-    book[4] = 3;
+    book[CURRENT] = 3;
     deliver_all(&mut book, &[dummy_certificate(7, 3), dummy_certificate(7, 2)]);
     assert_eq!(moves(&mut book), []);
     deliver_all(&mut book, &[dummy_certificate(7, 1)]);
     assert_eq!(moves(&mut book), [pass(3, Certificate::Dummy, true)]);
-    assert_eq!(book[4], 4);
+    assert_eq!(book[CURRENT], 4);
 }
 
 #[test]
 fn without_a_chain_below_the_held_block_can_still_stand() {
     let mut book = new_book(4, 2, &[0, 2]);
     let first = block(1, 0, ZERO, &[]);
-    book[4] = 2;
+    book[CURRENT] = 2;
     deliver_all(&mut book, &[proposal(2, &block_on(2, &first, &[]))]);
     assert_eq!(moves(&mut book), []);
     deliver_all(&mut book, &[block_certificate(7, &first)]);
@@ -121,7 +121,7 @@ fn the_offer_takes_the_highest_parent() {
     let mut book = new_book(4, 2, &[0, 1, 0, 2]);
     let first = block(1, 0, ZERO, &[]);
     let second = block_on(2, &first, &[entry(4)]);
-    book[4] = 4;
+    book[CURRENT] = 4;
     let dummies = [1, 2, 3].map(|height| dummy_certificate(7, height));
     let blocks = [block_certificate(7, &second), block_certificate(7, &first)];
     let mut expected = block(4, 0, ZERO, &[]);
@@ -138,7 +138,7 @@ fn the_offer_takes_the_highest_parent() {
 fn the_offer_carries_eight_new_entries_in_order() {
     let mut book = new_book(4, 2, &[0, 2]);
     for tag in 1..=12 {
-        reference::submit(&mut book, &entry(tag)).unwrap();
+        RULES.submit(&mut book, &entry(tag)).unwrap();
     }
     let first = block(1, 0, ZERO, &[entry(5), entry(2), entry(40)]);
     deliver_all(&mut book, &[block_certificate(7, &first)]);
@@ -153,8 +153,8 @@ fn the_offer_carries_eight_new_entries_in_order() {
 fn pending_repeats_are_each_carried() {
     let mut book = new_book(4, 2, &[2]);
     book[6] = 2;
-    book[PENDING..PENDING + 32].fill(7);
-    let expected = block(1, 0, ZERO, &[[7; 16]; 2]);
+    book[PENDING..PENDING + 32].fill(3);
+    let expected = block(1, 0, ZERO, &[[3; 16]; 2]);
     assert_eq!(one_move(&mut book).1[..224], proposal(2, &expected));
 }
 
@@ -167,7 +167,7 @@ fn heights_above_the_current_are_finalized_too() {
     deliver_all(&mut book, &blocks);
     deliver_all(&mut book, &[1, 2, 3].map(|height| finalize_certificate(7, height)));
     assert_eq!(one_move(&mut book).0, Move::Final { height: 2 });
-    assert_eq!((book[4], book[5]), (1, 2));
+    assert_eq!((book[CURRENT], book[FINALIZED]), (1, 2));
 }
 
 #[test]
@@ -187,10 +187,10 @@ fn past_the_last_height_only_finals_are_left() {
 fn bytes_past_the_frames_are_kept() {
     let mut book = new_book(4, 2, &[2]);
     let mut reply = [0xaa; 1000];
-    assert_eq!(reference::make_move(&mut book, &mut reply), Ok(Move::Offer { height: 1 }));
+    assert_eq!(RULES.make_move(&mut book, &mut reply), Ok(Move::Offer { height: 1 }));
     assert_eq!(reply[224..], [0xaa; 776]);
     deliver_all(&mut book, &[dummy_certificate(7, 1)]);
     let expected = Ok(pass(1, Certificate::Dummy, true));
-    assert_eq!(reference::make_move(&mut book, &mut reply), expected);
+    assert_eq!(RULES.make_move(&mut book, &mut reply), expected);
     assert_eq!(reply[448..], [0xaa; 552]);
 }

@@ -6,7 +6,7 @@ use common::random::Random;
 use common::*;
 use reference::{book_length, is_quorum, Move};
 
-const HEIGHTS: u8 = 12;
+const LAST: Height = 12;
 
 /// A network in which the last few replicas are dishonest and act as one.
 struct Network {
@@ -24,10 +24,10 @@ struct Network {
 impl Network {
     fn new(seed: u64, n: u8, honest: u8) -> Network {
         let mut random = Random::new(seed);
-        let leaders: Vec<u8> = (0..HEIGHTS).map(|_| random.below(n.into()) as u8).collect();
+        let leaders: Vec<u8> = (0..LAST).map(|_| random.below(n.into()) as u8).collect();
         let book = |own: u8| {
-            let mut book = random.bytes(book_length(HEIGHTS));
-            reference::open(&mut book, n.into(), own.into(), HEIGHTS.into(), &leaders).unwrap();
+            let mut book = random.bytes(book_length(LAST));
+            RULES.open(&mut book, n.into(), own.into(), LAST.into(), &leaders).unwrap();
             book
         };
         let books = (0..honest).map(book).collect();
@@ -70,7 +70,7 @@ impl Network {
             true => self.wire[at],
             false => self.wire.swap_remove(at),
         };
-        let answer = reference::deliver(&mut self.books[to], &frame);
+        let answer = RULES.deliver(&mut self.books[to], &frame);
         let by_dishonest = frame[0] < 5 && frame[1] >= self.honest;
         assert!(answer.is_ok() || by_dishonest && answer == Err(8), "{answer:?}");
     }
@@ -89,10 +89,10 @@ impl Network {
 
     fn send_certificates(&mut self, replica: usize) {
         for (height, kind) in
-            (1..=u64::from(HEIGHTS)).flat_map(|height| [(height, 5), (height, 6), (height, 7)])
+            (1..=u64::from(LAST)).flat_map(|height| [(height, 5), (height, 6), (height, 7)])
         {
             let mut frame = [0; 224];
-            if reference::fetch(&self.books[replica], kind, height, &mut frame).is_ok() {
+            if RULES.fetch(&self.books[replica], kind, height, &mut frame).is_ok() {
                 self.say(frame);
             }
         }
@@ -101,8 +101,8 @@ impl Network {
     /// The dishonest ones say one thing here and another there.
     fn mischief(&mut self) {
         let seen = self.any_honest();
-        let span = usize::from(self.books[seen][4]) + 1;
-        let height = 1 + self.random.below(span.min(HEIGHTS.into())) as u8;
+        let span = usize::from(self.books[seen][CURRENT]) + 1;
+        let height = 1 + self.random.below(span.min(LAST.into())) as Height;
         let signer = self.honest + self.random.below((self.n - self.honest).into()) as u8;
         match self.random.below(6) {
             0 => self.equivocate(height, seen),
@@ -114,7 +114,7 @@ impl Network {
     }
 
     /// Two proposals for one height, if a dishonest replica leads it.
-    fn equivocate(&mut self, height: u8, seen: usize) {
+    fn equivocate(&mut self, height: Height, seen: usize) {
         let leader = self.leaders[usize::from(height) - 1];
         if leader < self.honest {
             return;
@@ -129,33 +129,33 @@ impl Network {
     }
 
     /// Any certified block below a height, as an honest book has it.
-    fn some_parent(&mut self, height: u8, seen: usize) -> (u8, [u8; 32]) {
-        let parent = self.random.below(height.into()) as u8;
+    fn some_parent(&mut self, height: Height, seen: usize) -> (Height, [u8; 32]) {
+        let parent = self.random.below(height.into()) as Height;
         let mut frame = [0; 224];
-        match reference::fetch(&self.books[seen], 5, parent.into(), &mut frame) {
+        match RULES.fetch(&self.books[seen], 5, parent.into(), &mut frame) {
             Ok(()) => (parent, reference::sha256::digest(&frame[48..])),
             Err(_) => (0, ZERO),
         }
     }
 
     /// A vote of one signer for every block of a height, each to some.
-    fn vote_for_all(&mut self, signer: u8, height: u8) {
+    fn vote_for_all(&mut self, signer: u8, height: Height) {
         let blocks = self.blocks.clone();
-        for block in blocks.iter().filter(|block| block[0] == height) {
+        for block in blocks.iter().filter(|block| height_in(&block[..2]) == height) {
             self.whisper(vote_for(signer, block));
         }
     }
 
     /// All certificates of a height that true statements and dishonest ones allow.
-    fn certify(&mut self, height: u8) {
+    fn certify(&mut self, height: Height) {
         let blocks = self.blocks.clone();
-        for block in blocks.iter().filter(|block| block[0] == height) {
+        for block in blocks.iter().filter(|block| height_in(&block[..2]) == height) {
             let mask = self.mask(|frame| frame[..] == vote_for(frame[1], block)[..]);
             self.whisper_if_quorum(block_certificate(mask, block), mask);
         }
-        let mask = self.mask(|frame| frame[0] == 3 && frame[2] == height);
+        let mask = self.mask(|frame| frame[0] == 3 && height_in(&frame[2..4]) == height);
         self.whisper_if_quorum(dummy_certificate(mask, height), mask);
-        let mask = self.mask(|frame| frame[0] == 4 && frame[2] == height);
+        let mask = self.mask(|frame| frame[0] == 4 && height_in(&frame[2..4]) == height);
         self.whisper_if_quorum(finalize_certificate(mask, height), mask);
     }
 
@@ -192,12 +192,12 @@ impl Network {
             0..=10 => self.arrive(),
             11..=15 => _ = self.step(replica),
             16 if self.random.one_in(12) => {
-                let height = self.books[replica][4].into();
-                _ = reference::signal(&mut self.books[replica], height);
+                let height = self.books[replica][CURRENT].into();
+                _ = RULES.signal(&mut self.books[replica], height);
             }
             17 => {
                 let tag = self.random.byte();
-                _ = reference::submit(&mut self.books[replica], &entry(tag));
+                _ = RULES.submit(&mut self.books[replica], &entry(tag));
             }
             18 if self.honest < self.n => self.mischief(),
             _ => {}

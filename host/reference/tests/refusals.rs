@@ -7,7 +7,7 @@ use common::*;
 /// Delivers a frame that is refused, and looks whether the book is untouched.
 fn refused(book: &mut [u8], frame: &[u8]) -> u8 {
     let before = book.to_vec();
-    let number = reference::deliver(book, frame).unwrap_err();
+    let number = RULES.deliver(book, frame).unwrap_err();
     assert_eq!(book, before);
     number
 }
@@ -15,7 +15,7 @@ fn refused(book: &mut [u8], frame: &[u8]) -> u8 {
 /// Fetches what is refused, and looks whether the reply is untouched.
 fn no_fetch(book: &[u8], kind: u64, height: u64, length: usize) -> u8 {
     let mut reply = vec![0xaa; length];
-    let number = reference::fetch(book, kind, height, &mut reply).unwrap_err();
+    let number = RULES.fetch(book, kind, height, &mut reply).unwrap_err();
     assert!(reply.iter().all(|&byte| byte == 0xaa));
     number
 }
@@ -23,18 +23,18 @@ fn no_fetch(book: &[u8], kind: u64, height: u64, length: usize) -> u8 {
 #[test]
 fn number_1_length() {
     let mut book = vec![0xee; 1455];
-    assert_eq!(reference::open(&mut book, 4, 2, 1, &[0]), Err(1));
+    assert_eq!(RULES.open(&mut book, 4, 2, 1, &[0]), Err(1));
     assert_eq!(book, vec![0xee; 1455]);
     let mut book = new_book(4, 2, &[0]);
     book.pop();
     assert_eq!(refused(&mut book, &dummy_vote(0, 1)), 1);
     let mut reply = [0xaa; 448];
-    assert_eq!(reference::make_move(&mut book, &mut reply), Err(1));
+    assert_eq!(RULES.make_move(&mut book, &mut reply), Err(1));
     assert_eq!(reply, [0xaa; 448]);
-    assert_eq!(reference::signal(&mut book, 1), Err(1));
-    assert_eq!(reference::submit(&mut book, &entry(1)), Err(1));
-    assert_eq!(reference::size(&book), Err(1));
-    assert_eq!(reference::read(&book, &mut reply), []);
+    assert_eq!(RULES.signal(&mut book, 1), Err(1));
+    assert_eq!(RULES.submit(&mut book, &entry(1)), Err(1));
+    assert_eq!(RULES.size(&book), Err(1));
+    assert_eq!(RULES.read(&book, &mut reply), []);
     assert_eq!(no_fetch(&book, 6, 1, 224), 1);
 }
 
@@ -58,10 +58,10 @@ fn number_2_arguments_of_open() {
         (4, 2, 1, &[4]),
     ];
     for (n, own, heights, leaders) in cases {
-        assert_eq!(reference::open(&mut book, n, own, heights, leaders), Err(2));
+        assert_eq!(RULES.open(&mut book, n, own, heights, leaders), Err(2));
         assert_eq!(book, vec![0xee; 1456]);
     }
-    assert_eq!(reference::open(&mut book, 4, 3, 1, &[3]), Ok(()));
+    assert_eq!(RULES.open(&mut book, 4, 3, 1, &[3]), Ok(()));
 }
 
 #[test]
@@ -69,7 +69,7 @@ fn number_3_short_replies() {
     let mut book = new_book(4, 2, &[2]);
     let before = book.clone();
     let mut reply = [0xaa; 447];
-    assert_eq!(reference::make_move(&mut book, &mut reply), Err(3));
+    assert_eq!(RULES.make_move(&mut book, &mut reply), Err(3));
     assert_eq!((book.clone(), reply), (before, [0xaa; 447]));
     deliver_all(&mut book, &[dummy_certificate(7, 1)]);
     assert_eq!(no_fetch(&book, 6, 1, 223), 3);
@@ -89,7 +89,7 @@ fn number_4_kinds_and_lengths() {
     }
     let before = book.clone();
     for length in [0, 15, 17] {
-        assert_eq!(reference::submit(&mut book, &vec![1; length]), Err(4));
+        assert_eq!(RULES.submit(&mut book, &vec![1; length]), Err(4));
     }
     assert_eq!(book, before);
 }
@@ -113,7 +113,7 @@ fn number_6_no_such_height() {
     assert_eq!(refused(&mut book, &dummy_certificate(7, 255)), 6);
     assert_eq!(refused(&mut book, &proposal(0, &block(200, 199, ZERO, &[]))), 6);
     for height in [0, 2, 257, u64::MAX] {
-        assert_eq!(reference::signal(&mut book, height), Err(6));
+        assert_eq!(RULES.signal(&mut book, height), Err(6));
         assert_eq!(no_fetch(&book, 6, height, 224), 6);
     }
 }
@@ -126,9 +126,17 @@ fn number_7_not_the_leader() {
 
 #[test]
 fn number_8_unlike_the_kept() {
-    let mut book = new_book(4, 2, &[0]);
+    let mut book = new_book(4, 2, &[0, 0]);
     deliver_all(&mut book, &[block_vote(1, 1, [1; 32])]);
     assert_eq!(refused(&mut book, &block_vote(1, 1, [2; 32])), 8);
+    deliver_all(&mut book, &[proposal(0, &block(2, 0, ZERO, &[]))]);
+    assert_eq!(refused(&mut book, &proposal(0, &block(2, 0, ZERO, &[entry(1)]))), 8);
+}
+
+/// Request 2.2 takes this one as the timer's signal.
+#[test]
+fn number_8_a_second_proposal_at_the_current_height() {
+    let mut book = new_book(4, 2, &[0]);
     deliver_all(&mut book, &[proposal(0, &block(1, 0, ZERO, &[]))]);
     assert_eq!(refused(&mut book, &proposal(0, &block(1, 0, ZERO, &[entry(1)]))), 8);
 }
@@ -164,13 +172,13 @@ fn number_11_nothing_to_fetch() {
 fn numbers_12_and_13_submit() {
     let mut book = new_book(4, 2, &[0]);
     for tag in 0..32 {
-        assert_eq!(reference::submit(&mut book, &[tag; 16]), Ok(()));
+        assert_eq!(RULES.submit(&mut book, &entry(tag)), Ok(()));
         let before = book.clone();
-        assert_eq!(reference::submit(&mut book, &[tag; 16]), Err(13));
+        assert_eq!(RULES.submit(&mut book, &entry(tag)), Err(13));
         assert_eq!(book, before);
     }
     let before = book.clone();
-    assert_eq!(reference::submit(&mut book, &[32; 16]), Err(12));
+    assert_eq!(RULES.submit(&mut book, &entry(32)), Err(12));
     assert_eq!(book, before);
 }
 
@@ -178,10 +186,10 @@ fn numbers_12_and_13_submit() {
 fn number_14_stale_signal() {
     let mut book = new_book(4, 2, &[0, 1]);
     let before = book.clone();
-    assert_eq!(reference::signal(&mut book, 2), Err(14));
+    assert_eq!(RULES.signal(&mut book, 2), Err(14));
     assert_eq!(book, before);
-    assert_eq!(reference::signal(&mut book, 1), Ok(()));
+    assert_eq!(RULES.signal(&mut book, 1), Ok(()));
     let before = book.clone();
-    assert_eq!(reference::signal(&mut book, 1), Err(14));
+    assert_eq!(RULES.signal(&mut book, 1), Err(14));
     assert_eq!(book, before);
 }

@@ -19,8 +19,9 @@ fn any_number(random: &mut Random) -> u64 {
 
 /// A frame that a book of this kind may well take, or one with a few bytes changed.
 fn any_frame(random: &mut Random, book: &[u8]) -> Vec<u8> {
-    let (n, heights) = (book[0].clamp(1, 16), book[2].clamp(1, 7));
-    let (signer, height) = (random.below(n.into()) as u8, 1 + random.below(heights.into()) as u8);
+    let (n, heights) = (book[0].clamp(1, 16), book[HEIGHTS].clamp(1, 7));
+    let (signer, height) =
+        (random.below(n.into()) as u8, 1 + random.below(heights.into()) as Height);
     let fits = is_sound(book);
     let block = match fits {
         true => random_block(book, random, height, digest),
@@ -56,24 +57,24 @@ fn any_call(random: &mut Random, book: &mut [u8], reply: &mut [u8]) -> bool {
             let length = if random.one_in(2) { heights % 70 } else { 3 };
             let leaders = random.bytes(length as usize);
             let (n, own) = (any_number(random), any_number(random));
-            reference::open(book, n, own, heights, &leaders).is_err()
+            RULES.open(book, n, own, heights, &leaders).is_err()
         }
         1 | 2 => {
             let frame = any_frame(random, book);
-            reference::deliver(book, &frame).is_err()
+            RULES.deliver(book, &frame).is_err()
         }
-        3 | 4 => reference::make_move(book, reply).is_err(),
+        3 | 4 => RULES.make_move(book, reply).is_err(),
         5 => {
-            let current = book.get(4).map_or(0, |&current| u64::from(current));
+            let current = book.get(CURRENT).map_or(0, |&current| u64::from(current));
             let height = if random.one_in(2) { any_number(random) } else { current };
-            reference::signal(book, height).is_err()
+            RULES.signal(book, height).is_err()
         }
         6 => {
             let entry =
                 if random.one_in(9) { random.bytes(17) } else { random_entry(random).to_vec() };
-            reference::submit(book, &entry).is_err()
+            RULES.submit(book, &entry).is_err()
         }
-        _ => reference::fetch(book, any_number(random), any_number(random), reply).is_err(),
+        _ => RULES.fetch(book, any_number(random), any_number(random), reply).is_err(),
     }
 }
 
@@ -104,12 +105,12 @@ fn random_bytes_as_books() {
     for _ in 0..3000 {
         let length = match random.below(3) {
             0 => random.below(3000),
-            _ => reference::book_length(random.below(5) as u8),
+            _ => reference::book_length(random.below(5) as Height),
         };
         let mut book = random.bytes(length);
         if length > 7 && random.one_in(2) {
-            let heights = (length.saturating_sub(576) / 880) as u8;
-            book[..8].copy_from_slice(&[4, 1, heights, 0, 1, 0, 3, 1]);
+            let heights = length.saturating_sub(576) / 880;
+            book[..8].copy_from_slice(&new_book(4, 1, &vec![0; heights.max(1)])[..8]);
         }
         try_calls(&mut random, &mut book, 8);
     }
@@ -142,7 +143,7 @@ fn random_bytes_as_frames() {
         if random.one_in(2) {
             frame[3..].fill(0);
         }
-        if reference::deliver(&mut book, &frame).is_err() {
+        if RULES.deliver(&mut book, &frame).is_err() {
             assert_eq!(book, before);
         }
     }
@@ -155,13 +156,13 @@ fn written_frames_are_read() {
     let mut count = 0;
     for _ in 0..2000 {
         let mut book = random_book(&mut random, digest);
-        let leaders: Vec<u8> = (1..=book[2]).map(|height| book[row(height.into())]).collect();
+        let leaders: Vec<u8> = (1..=book[HEIGHTS]).map(|height| book[row(height.into())]).collect();
         let mut other = new_book(book[0].into(), 0, &leaders);
         for _ in 0..6 {
             let mut reply = [0; 448];
-            reference::make_move(&mut book, &mut reply).unwrap();
+            RULES.make_move(&mut book, &mut reply).unwrap();
             for frame in reply.chunks(224).filter(|frame| frame[0] != 0) {
-                let answer = reference::deliver(&mut other, frame);
+                let answer = RULES.deliver(&mut other, frame);
                 assert!(matches!(answer, Ok(_) | Err(8 | 10)), "{answer:?}");
                 count += 1;
             }
@@ -176,9 +177,9 @@ fn read_never_writes_past_the_log() {
     for _ in 0..2000 {
         let mut book = random_book(&mut random, digest);
         moves(&mut book);
-        let size = reference::size(&book).unwrap();
+        let size = RULES.size(&book).unwrap();
         let mut buffer = vec![0xaa; random.below(2 * size + 20)];
-        let length = reference::read(&book, &mut buffer).len();
+        let length = RULES.read(&book, &mut buffer).len();
         assert_eq!(length, if buffer.len() < size { 0 } else { size });
         assert!(buffer[length..].iter().all(|&byte| byte == 0xaa));
     }

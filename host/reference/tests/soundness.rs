@@ -12,7 +12,7 @@ fn full_book() -> Vec<u8> {
     deliver_all(&mut book, &[block_certificate(7, &first), dummy_certificate(11, 2)]);
     deliver_all(&mut book, &[proposal(2, &third), block_certificate(13, &third)]);
     deliver_all(&mut book, &[finalize_certificate(14, 1), vote_for(1, &third)]);
-    reference::submit(&mut book, &entry(9)).unwrap();
+    RULES.submit(&mut book, &entry(9)).unwrap();
     assert_eq!(one_move(&mut book).0, reference::Move::Final { height: 1 });
     assert!(is_sound(&book));
     book
@@ -49,21 +49,29 @@ fn numbers_of_the_head() {
         assert_unsound(&with(1, own));
     }
     for heights in [0, 1, 2, 4, 64, 255] {
-        assert_unsound(&with(2, heights));
+        assert_unsound(&with(HEIGHTS, heights));
     }
     for current in [0, 5, 255] {
-        assert_unsound(&with(4, current));
+        assert_unsound(&with(CURRENT, current));
     }
     (16..=255).for_each(|flags| assert_unsound(&with(3, flags)));
     (33..=255).for_each(|pending| assert_unsound(&with(6, pending)));
-    (0..=255).filter(|&edition| edition != 1).for_each(|edition| assert_unsound(&with(7, edition)));
+    (4..=255).chain([0]).for_each(|edition| assert_unsound(&with(7, edition)));
+}
+
+/// What requests 2.6 and 2.7 turn over: their editions, and the bytes of the head that these use.
+#[test]
+fn later_editions() {
+    (2..=3).for_each(|edition| assert_unsound(&with(7, edition)));
+    (8..46).for_each(|at| assert_unsound(&with(at, 1)));
 }
 
 #[test]
 fn heights_out_of_range_with_a_fitting_length() {
     for heights in [0, 64, 255] {
-        let mut book = vec![0; reference::book_length(heights)];
-        (book[0], book[2], book[4], book[7]) = (4, heights, 1, 1);
+        let mut book = new_book(4, 2, &[0]);
+        book.resize(reference::book_length(heights as Height), 0);
+        book[HEIGHTS] = heights;
         assert_unsound(&book);
     }
 }
@@ -84,7 +92,7 @@ fn leaders_masks_and_states() {
 #[test]
 fn forms_of_blocks() {
     let (held, notarized) = (body(&full_book(), 3), body(&full_book(), 3) + 176);
-    let zeros = [1, 3].into_iter().chain(5..16).chain(64..176);
+    let zeros = HIGH_BYTES.into_iter().chain(5..16).chain(64..176);
     for start in [held, notarized] {
         assert_unsound(&with(start, 2));
         assert_unsound(&with(start + 2, 3));
@@ -106,7 +114,7 @@ fn certificate_of_a_notarized_block() {
 
 #[test]
 fn bytes_called_zero() {
-    (8..64).for_each(|at| assert_unsound(&with(at, 1)));
+    (46..64).for_each(|at| assert_unsound(&with(at, 1)));
     for height in 1..=3 {
         (10..16).for_each(|at| assert_unsound(&with(row(height) + at, 0x40)));
     }
@@ -115,13 +123,13 @@ fn bytes_called_zero() {
 #[test]
 fn finalized_height() {
     for height in [2, 3, 4, 255] {
-        assert_unsound(&with(5, height));
+        assert_unsound(&with(FINALIZED, height));
     }
-    assert!(is_sound(&with(5, 0)));
+    assert!(is_sound(&with(FINALIZED, 0)));
     assert_unsound(&with(row(1) + 6, 12));
     let mut book = full_book();
     deliver_all(&mut book, &[finalize_certificate(7, 3)]);
-    book[5] = 3;
+    book[FINALIZED] = 3;
     assert!(is_sound(&book));
     book[row(2) + 4] = 3;
     assert_unsound(&book);
@@ -143,7 +151,7 @@ fn what_is_free() {
         assert!(is_sound(&with(at, 0xa5)), "byte {at}");
     }
     (0..16).for_each(|flags| assert!(is_sound(&with(3, flags))));
-    (1..=4).for_each(|current| assert!(is_sound(&with(4, current))));
+    (1..=4).for_each(|current| assert!(is_sound(&with(CURRENT, current))));
     (0..=32).for_each(|pending| assert!(is_sound(&with(6, pending))));
     assert!(is_sound(&with(row(2) + 2, 1)));
     assert!(is_sound(&with(row(1) + 8, 15)));

@@ -30,7 +30,7 @@
 //! let mut book = FileBook::open(reference::Rules::SHA256, &path)?;
 //! send(book.unsent());
 //! book.sent()?;
-//! book.submit(b"swap A12 to B40 ")?;
+//! book.submit(b"\0swap A12 to B40")?;
 //! while book.move_and_take()? != types::Move::Idle {
 //!     send(book.unsent());
 //!     book.sent()?;

@@ -1,5 +1,6 @@
 //! The answers of deliver and move.
 
+use crate::Height;
 use std::fmt;
 
 /// What became of a frame that was not refused.
@@ -36,17 +37,17 @@ pub enum Move {
     /// A vote for the dummy block was written.
     Dummy {
         /// The height voted on.
-        height: u8,
+        height: Height,
     },
     /// The finalized height grew; nothing was written.
     Final {
         /// The new finalized height.
-        height: u8,
+        height: Height,
     },
     /// The replica left a height; a certificate and a second frame were written.
     Pass {
         /// The height left behind.
-        height: u8,
+        height: Height,
         /// The certificate in the first frame.
         certificate: Certificate,
         /// Whether the second frame is a finalize; otherwise it is all zero.
@@ -55,12 +56,12 @@ pub enum Move {
     /// A proposal was written.
     Offer {
         /// The height proposed for.
-        height: u8,
+        height: Height,
     },
     /// A vote for the held block was written.
     Vote {
         /// The height voted on.
-        height: u8,
+        height: Height,
     },
     /// No move applies.
     Idle,
@@ -80,7 +81,7 @@ impl Move {
     }
 
     /// The height that the move is about; 0 for idle.
-    pub const fn height(self) -> u8 {
+    pub const fn height(self) -> Height {
         match self {
             Move::Idle => 0,
             Move::Dummy { height }

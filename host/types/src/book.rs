@@ -1,7 +1,9 @@
 //! A book that owns its bytes, over any implementation of the calls.
 
 use crate::refusal::Refusal;
-use crate::{book_length, field, Area, Calls, Delivered, Layout, Move, ENTRY, FRAME};
+use crate::{
+    book_length, field, head_height, Area, Calls, Delivered, Height, Layout, Move, ENTRY, FRAME,
+};
 
 /// The bytes of a book together with the replica that works on them.
 #[derive(Clone, Debug)]
@@ -16,7 +18,7 @@ pub type Written = Vec<[u8; FRAME]>;
 impl<C: Calls> Book<C> {
     /// A new book for replica `own` of `n`; the leaders are one for each height.
     pub fn open(calls: C, n: u64, own: u64, leaders: &[u8]) -> Result<Book<C>, Refusal> {
-        let heights = u8::try_from(leaders.len()).unwrap_or(u8::MAX);
+        let heights = Height::try_from(leaders.len()).unwrap_or(Height::MAX);
         let mut bytes = vec![0; book_length(heights)];
         let opened = calls.open(&mut bytes, n, own, leaders.len() as u64, leaders);
         opened.map_err(Refusal::of)?;
@@ -45,22 +47,22 @@ impl<C: Calls> Book<C> {
     }
 
     /// The number of heights, H.
-    pub fn heights(&self) -> u8 {
-        self.byte(field::HEIGHTS)
+    pub fn heights(&self) -> Height {
+        head_height(&self.bytes, field::HEIGHTS)
     }
 
     /// The current height, c: the one whose timer is to run; one above the last once all are passed.
-    pub fn current(&self) -> u8 {
-        self.byte(field::CURRENT)
+    pub fn current(&self) -> Height {
+        head_height(&self.bytes, field::CURRENT)
     }
 
     /// The finalized height, g (document 01: settled height).
-    pub fn finalized(&self) -> u8 {
-        self.byte(field::FINALIZED)
+    pub fn finalized(&self) -> Height {
+        head_height(&self.bytes, field::FINALIZED)
     }
 
     /// The leader of a height; none for a height that the book does not have.
-    pub fn leader(&self, height: u8) -> Option<u8> {
+    pub fn leader(&self, height: Height) -> Option<u8> {
         let row = Layout::new(self.heights()).area(height, Area::Row);
         (1..=self.heights()).contains(&height).then(|| self.byte(row.start))
     }

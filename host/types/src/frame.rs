@@ -1,9 +1,12 @@
 //! Frames as values, one case for each kind, and their 224 bytes.
 
-use crate::{Block, BLOCK};
+use crate::{height_at, put_height, Block, Height, BLOCK};
 
 /// The length of a frame in bytes.
 pub const FRAME: usize = 224;
+
+/// Where a frame has its height.
+pub const FRAME_HEIGHT: usize = 2;
 
 /// What a frame states. Any value can be written; whether it is taken is the replica's to judge.
 #[derive(Clone, Debug, PartialEq, Eq)]
@@ -12,17 +15,17 @@ pub enum Frame {
     /// Kind 1.
     Proposal { signer: u8, block: Block },
     /// Kind 2.
-    BlockVote { signer: u8, height: u8, digest: [u8; 32] },
+    BlockVote { signer: u8, height: Height, digest: [u8; 32] },
     /// Kind 3.
-    DummyVote { signer: u8, height: u8 },
+    DummyVote { signer: u8, height: Height },
     /// Kind 4.
-    Finalize { signer: u8, height: u8 },
+    Finalize { signer: u8, height: Height },
     /// Kind 5.
     BlockCertificate { mask: u16, block: Block },
     /// Kind 6.
-    DummyCertificate { mask: u16, height: u8 },
+    DummyCertificate { mask: u16, height: Height },
     /// Kind 7.
-    FinalizeCertificate { mask: u16, height: u8 },
+    FinalizeCertificate { mask: u16, height: Height },
 }
 
 impl Frame {
@@ -49,7 +52,8 @@ impl Frame {
 
     /// The frame whose bytes these are; none if no value of this type has them.
     pub fn parts(bytes: &[u8; FRAME]) -> Option<Frame> {
-        let [kind, signer, height, _, low, high, ..] = *bytes;
+        let [kind, signer, _, _, low, high, ..] = *bytes;
+        let height = height_at(bytes, FRAME_HEIGHT);
         let mask = u16::from_le_bytes([low, high]);
         let block = || Some(Block::parts(bytes.last_chunk::<BLOCK>()?));
         let frame = match kind {
@@ -70,10 +74,11 @@ impl Frame {
 }
 
 /// A frame with the fields before the digest; the rest is zero.
-fn head(kind: u8, signer: u8, height: u8, mask: u16) -> [u8; FRAME] {
+fn head(kind: u8, signer: u8, height: Height, mask: u16) -> [u8; FRAME] {
     let mut frame = [0; FRAME];
-    let [low, high] = mask.to_le_bytes();
-    frame[..6].copy_from_slice(&[kind, signer, height, 0, low, high]);
+    frame[..2].copy_from_slice(&[kind, signer]);
+    put_height(&mut frame, FRAME_HEIGHT, height);
+    frame[4..6].copy_from_slice(&mask.to_le_bytes());
     frame
 }
 
@@ -96,7 +101,7 @@ mod tests {
             Frame::DummyVote { signer: 3, height: 4 },
             Frame::Finalize { signer: 4, height: 5 },
             Frame::BlockCertificate { mask: 0x8001, block },
-            Frame::DummyCertificate { mask: 7, height: 63 },
+            Frame::DummyCertificate { mask: 7, height: crate::MOST_HEIGHTS },
             Frame::FinalizeCertificate { mask: 0x700, height: 1 },
         ];
         for (kind, frame) in (1..).zip(frames) {

@@ -1,15 +1,10 @@
 //! Where things are in a book: lengths and offsets, with readers that take any bytes.
 
+use crate::Height;
 use std::ops::Range;
 
 /// The length of an entry in bytes.
 pub const ENTRY: usize = 16;
-
-/// The most heights of a book.
-pub const MOST_HEIGHTS: u8 = 63;
-
-/// The most replicas of a book.
-pub const MOST_REPLICAS: u8 = 16;
 
 /// Bytes of the head, by name.
 pub mod field {
@@ -45,19 +40,19 @@ pub enum Area {
 }
 
 /// The length in bytes of a book with this many heights.
-pub fn book_length(heights: u8) -> usize {
+pub fn book_length(heights: Height) -> usize {
     usize::from(heights).saturating_mul(880).saturating_add(576)
 }
 
 /// The offsets in a book with this many heights.
 #[derive(Clone, Copy, Debug)]
 pub struct Layout {
-    heights: u8,
+    heights: Height,
 }
 
 impl Layout {
     /// The layout for a number of heights.
-    pub fn new(heights: u8) -> Layout {
+    pub fn new(heights: Height) -> Layout {
         Layout { heights }
     }
 
@@ -67,7 +62,7 @@ impl Layout {
     }
 
     /// Where an area of a height is; height 0 has none and yields an empty range.
-    pub fn area(self, height: u8, area: Area) -> Range<usize> {
+    pub fn area(self, height: Height, area: Area) -> Range<usize> {
         let Some(before) = height.checked_sub(1).map(usize::from) else {
             return 0..0;
         };
@@ -101,6 +96,6 @@ mod tests {
         assert_eq!(layout.area(3, Area::Row).end, layout.area(1, Area::Held).start);
         assert_eq!(layout.area(1, Area::Votes).end, layout.area(2, Area::Held).start);
         assert_eq!(layout.area(3, Area::Votes).end, book_length(3));
-        assert_eq!(book_length(63), 56_016);
+        assert_eq!(book_length(crate::MOST_HEIGHTS), 56_016);
     }
 }

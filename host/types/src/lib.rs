@@ -9,16 +9,20 @@
 mod answer;
 mod block;
 mod book;
+mod bounds;
 mod calls;
 mod frame;
+mod height;
 mod layout;
 pub mod packing;
 pub mod refusal;
 
 pub use answer::{Certificate, Delivered, Move};
-pub use block::{Block, BLOCK};
+pub use block::{Block, BLOCK, BLOCK_HEIGHT, BLOCK_PARENT};
 pub use book::{Book, Written};
+pub use bounds::*;
 pub use calls::Calls;
-pub use frame::{Frame, FRAME};
-pub use layout::{book_length, field, mask_at, Area, Layout, ENTRY, MOST_HEIGHTS, MOST_REPLICAS};
+pub use frame::{Frame, FRAME, FRAME_HEIGHT};
+pub use height::{head_height, height_at, height_bytes, put_head_height, put_height, Height};
+pub use layout::{book_length, field, mask_at, Area, Layout, ENTRY};
 pub use refusal::Refusal;

@@ -2,13 +2,10 @@
 //!
 //! The lowest byte is the refusal, 0 if there is none. What a call says besides stands above it.
 
-use crate::{Certificate, Delivered, Move};
+use crate::{height_at, height_bytes, Certificate, Delivered, Move, LAST_REFUSAL};
 
 /// Stands for a number that no replica answers with; it is no refusal of the table.
 pub const UNKNOWN: u8 = 255;
-
-/// The last number of the table of refusals.
-const LAST: u64 = 14;
 
 /// The answer of a call that says nothing else.
 pub fn pack_done(answer: Result<(), u8>) -> u64 {
@@ -54,12 +51,15 @@ pub fn pack_move(answer: Result<Move, u8>) -> u64 {
         }
         _ => (0, 0),
     };
-    u64::from_le_bytes([0, made.number(), made.height(), 0, certificate, second, 0, 0])
+    let [low, high] = height_bytes(made.height());
+    u64::from_le_bytes([0, made.number(), low, high, certificate, second, 0, 0])
 }
 
 /// What [`pack_move`] packed.
 pub fn unpack_move(number: u64) -> Result<Move, u8> {
-    let [_, made, height, _, certificate, second, ..] = number.to_le_bytes();
+    let bytes = number.to_le_bytes();
+    let [_, made, _, _, certificate, second, ..] = bytes;
+    let height = height_at(&bytes, 2);
     let kind = if certificate == 5 { Certificate::Block } else { Certificate::Dummy };
     let made = match made {
         0 => Move::Idle,
@@ -91,7 +91,7 @@ pub fn unpack_size(number: u64) -> Result<u64, u8> {
 /// The refusal that a number is, or [`UNKNOWN`].
 fn refusal(number: u64) -> u8 {
     match u8::try_from(number) {
-        Ok(byte) if (1..=LAST).contains(&number) => byte,
+        Ok(byte) if (1..=LAST_REFUSAL).contains(&byte) => byte,
         _ => UNKNOWN,
     }
 }
@@ -102,7 +102,7 @@ mod tests {
 
     #[test]
     fn every_answer_comes_back() {
-        for refused in 1..=14 {
+        for refused in 1..=LAST_REFUSAL {
             assert_eq!(unpack_done(pack_done(Err(refused))), Err(refused));
             assert_eq!(unpack_delivered(pack_delivered(Err(refused))), Err(refused));
             assert_eq!(unpack_move(pack_move(Err(refused))), Err(refused));
@@ -112,7 +112,8 @@ mod tests {
             assert_eq!(unpack_delivered(pack_delivered(Ok(delivered))), Ok(delivered));
         }
         assert_eq!(unpack_done(pack_done(Ok(()))), Ok(()));
-        assert_eq!(unpack_size(pack_size(Ok(8064))), Ok(8064));
+        let longest = crate::MOST_LOG as u64;
+        assert_eq!(unpack_size(pack_size(Ok(longest))), Ok(longest));
     }
 
     #[test]
@@ -123,7 +124,7 @@ mod tests {
             .flat_map(|kind| [pass(kind, true), pass(kind, false)]);
         let others = [
             Move::Idle,
-            Move::Dummy { height: 63 },
+            Move::Dummy { height: crate::MOST_HEIGHTS },
             Move::Final { height: 1 },
             Move::Offer { height: 2 },
             Move::Vote { height: 3 },
@@ -143,7 +144,7 @@ mod tests {
 
     #[test]
     fn other_numbers_are_unknown() {
-        for number in [15, 255, 0x104, 0x200, 0x101] {
+        for number in [u64::from(LAST_REFUSAL) + 1, 255, 0x104, 0x200, 0x101] {
             assert_eq!(unpack_delivered(number), Err(UNKNOWN));
             assert_eq!(unpack_done(number), Err(UNKNOWN));
         }

@@ -1,5 +1,6 @@
 //! The refusals: by name, by number, and in words for people.
 
+use crate::LAST_REFUSAL;
 use std::error::Error;
 use std::fmt;
 
@@ -43,7 +44,7 @@ pub enum Refusal {
 }
 
 /// The refusals of the table, from 1 up.
-const TABLE: [Refusal; 14] = [
+const TABLE: [Refusal; LAST_REFUSAL as usize] = [
     Refusal::Unsound,
     Refusal::OutOfRange,
     Refusal::ShortReply,
@@ -122,8 +123,7 @@ mod tests {
             assert_eq!((Refusal::of(number), refusal.number()), (refusal, number));
             assert_eq!(refusal.to_string(), meaning(number));
         }
-        assert_eq!(Refusal::NotDue.number(), 14);
-        for number in [0, 15, 255] {
+        for number in [0, LAST_REFUSAL + 1, 255] {
             assert_eq!(Refusal::of(number), Refusal::OtherInterface);
         }
         assert_eq!(u8::from(Refusal::OtherInterface), crate::packing::UNKNOWN);

@@ -79,7 +79,7 @@ impl<C: Calls + Copy> Bench<'_, C> {
 
     /// One frame of each kind, for height 1 of a new book, each of which is taken.
     pub fn one_of_each_kind(&self) -> Vec<Vec<u8>> {
-        let page = self.page(1, None, &[[7; 16]; 8]);
+        let page = self.page(1, None, &[[3; 16]; 8]);
         let digest = sha256::digest(&page);
         vec![
             self.frame(1, 1, &[("signer", &[ROLL[0]]), ("page", &page)]),

@@ -7,6 +7,9 @@ use types::{field, Area, Calls, Frame, Layout};
 /// The one book of the list.
 const BOOK: &str = "book";
 
+/// Pending entries of this byte alone: no call puts them there, so they may begin with any byte.
+const ANY_SIXTEEN_BYTES: u8 = 0x71;
+
 /// Records the list.
 pub fn run<C: Calls>(to: &mut Recorder<C>) {
     to.remark("Books that no run makes: every free byte set, flags in odd combinations, damage in one byte.");
@@ -37,7 +40,7 @@ fn free_bytes<C: Calls>(to: &mut Recorder<C>) {
     to.part("All free areas filled; voted, proposed and a certificate mask, but no page");
     to.open(BOOK, 4, 1, &[0, 1]);
     let layout = Layout::new(2);
-    filled(to, layout.pending(), 0x71);
+    filled(to, layout.pending(), ANY_SIXTEEN_BYTES);
     for height in [1, 2] {
         filled(to, layout.area(height, Area::Held), 0x72);
         filled(to, layout.area(height, Area::Notarized), 0x73);
@@ -50,7 +53,7 @@ fn free_bytes<C: Calls>(to: &mut Recorder<C>) {
     moves(to, BOOK);
     deliver(to, BOOK, &[vote(1, &one), vote(3, &one)]);
     moves(to, BOOK);
-    submit(to, BOOK, "lot 7 to C3");
+    submit(to, BOOK, entry("lot 7 to C3"));
     to.make(Call::Read, BOOK, "register");
 }
 
@@ -63,8 +66,8 @@ fn past_the_end<C: Calls>(to: &mut Recorder<C>) {
     deliver(to, BOOK, &[Frame::FinalizeCertificate { mask: 13, height: 1 }]);
     moves(to, BOOK);
     to.make(Call::Read, BOOK, "register");
-    submit(to, BOOK, "swap A1 B2");
-    submit(to, BOOK, "lot 8 to C4");
+    submit(to, BOOK, entry("swap A1 B2"));
+    submit(to, BOOK, entry("lot 8 to C4"));
     signal(to, BOOK, 3);
     signal(to, BOOK, 2);
 }
@@ -76,7 +79,7 @@ fn full_pending<C: Calls>(to: &mut Recorder<C>) {
     let edits = (64..576).zip(place.into_iter().cycle());
     let edits: Vec<_> = edits.chain([(field::PENDING, 32)]).collect();
     edited(to, &edits);
-    submit(to, BOOK, "lot 9 to C5");
+    submit(to, BOOK, entry("lot 9 to C5"));
     to.make(Call::Size, BOOK, "");
 }
 
@@ -84,17 +87,17 @@ fn damage<C: Calls>(to: &mut Recorder<C>) {
     to.part("One byte damaged: n, own, H, flags, c, g, pending, edition, a zero, a leader, a state, a mask");
     let sound = to.bytes(BOOK).to_vec();
     let edits = [
-        (0, 0),
-        (0, 17),
-        (1, 4),
-        (2, 3),
-        (3, 16),
-        (4, 0),
-        (4, 4),
-        (5, 2),
-        (6, 33),
-        (7, 2),
-        (63, 1),
+        (field::N, 0),
+        (field::N, 17),
+        (field::OWN, 4),
+        (field::HEIGHTS, 3),
+        (field::FLAGS, 16),
+        (field::CURRENT, 0),
+        (field::CURRENT, 4),
+        (field::FINALIZED, 2),
+        (field::PENDING, 33),
+        (field::EDITION, 255),
+        (UNUSED, 1),
         (576, 4),
         (577, 4),
         (578, 16),

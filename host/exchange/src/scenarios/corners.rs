@@ -3,7 +3,7 @@
 use super::edges;
 use super::parts::*;
 use crate::{Call, Recorder};
-use types::{field, Calls, Frame};
+use types::{field, put_head_height, Calls, Frame, MOST_REPLICAS};
 
 /// The one book of the list, opened anew in each part.
 const BOOK: &str = "book";
@@ -33,9 +33,9 @@ fn first_replicas(count: u32) -> u16 {
 
 fn quorums<C: Calls>(to: &mut Recorder<C>) {
     to.part("For n from 1 to 16: one signer fewer than a quorum is refused, a quorum is taken");
-    for n in 1..=16_u32 {
+    for n in 1..=MOST_REPLICAS {
         to.open(BOOK, n.into(), 0, &[0]);
-        let quorum = n.saturating_mul(2).div_ceil(3);
+        let quorum = types::quorum(n);
         for count in [quorum.saturating_sub(1), quorum] {
             let mask = first_replicas(count);
             deliver(to, BOOK, &[Frame::FinalizeCertificate { mask, height: 1 }]);
@@ -78,7 +78,7 @@ fn no_chain_below<C: Calls>(to: &mut Recorder<C>) {
     to.part("A blank height over one that is neither linked nor blank is not passed, and gets no proposal");
     to.open(BOOK, 4, 2, &[0, 2]);
     let mut book = to.bytes(BOOK).to_vec();
-    book.iter_mut().skip(field::CURRENT).take(1).for_each(|current| *current = 2);
+    put_head_height(&mut book, field::CURRENT, 2);
     to.give(BOOK, book);
     deliver(to, BOOK, &[Frame::DummyCertificate { mask: 7, height: 2 }]);
     moves(to, BOOK);
@@ -90,9 +90,9 @@ fn parent_chain_filters<C: Calls>(to: &mut Recorder<C>) {
     to.part("A proposal leaves out what its parent chain holds, settled or not, and carries eight at most");
     to.open(BOOK, 4, 2, &[0, 2]);
     for number in 1..=11 {
-        submit(to, BOOK, &format!("entry {number}"));
+        submit(to, BOOK, numbered(number));
     }
-    let block = first(1, &[entry("entry 2"), entry("entry 5")]);
+    let block = first(1, &[numbered(2), numbered(5)]);
     deliver(to, BOOK, &[Frame::BlockCertificate { mask: 7, block }]);
     let written = moves(to, BOOK);
     to.remark("Eight entries are a page like any other");
@@ -167,14 +167,14 @@ fn unsettled_entry<C: Calls>(to: &mut Recorder<C>) {
     to.open(BOOK, 4, 2, &[0]);
     let block = first(1, &[entry("swap A1 B2"), entry("swap A1 B2")]);
     deliver(to, BOOK, &[Frame::BlockCertificate { mask: 7, block }]);
-    for words in ["entry 1", "swap A1 B2", "entry 2", "entry 3"] {
-        submit(to, BOOK, words);
+    for one in [numbered(1), entry("swap A1 B2"), numbered(2), numbered(3)] {
+        submit(to, BOOK, one);
     }
     deliver(to, BOOK, &[Frame::FinalizeCertificate { mask: 7, height: 1 }]);
     moves(to, BOOK);
-    submit(to, BOOK, "swap A1 B2");
+    submit(to, BOOK, entry("swap A1 B2"));
     to.remark("A taken one drops it from between the others, which stay in order");
-    submit(to, BOOK, "entry 4");
+    submit(to, BOOK, numbered(4));
     to.remark("An entry that stands twice in the register counts twice");
     to.make(Call::Size, BOOK, "");
 }

@@ -2,7 +2,7 @@
 
 use super::parts::*;
 use crate::{Call, Recorder};
-use types::{Calls, Frame};
+use types::{Calls, Frame, MOST_HEIGHTS};
 
 /// The one book of the list.
 const BOOK: &str = "book";
@@ -10,36 +10,50 @@ const BOOK: &str = "book";
 /// Records these parts.
 pub fn run<C: Calls>(to: &mut Recorder<C>) {
     single_bytes(to);
+    bytes_after_heights(to);
     one_byte_more(to);
     largest_book(to);
+}
+
+/// A frame of each kind.
+fn kinds() -> [Frame; 7] {
+    let block = first(1, &[]);
+    [
+        Frame::Proposal { signer: 0, block: block.clone() },
+        vote(0, &block),
+        Frame::DummyVote { signer: 0, height: 1 },
+        Frame::Finalize { signer: 0, height: 1 },
+        Frame::BlockCertificate { mask: 7, block },
+        Frame::DummyCertificate { mask: 7, height: 1 },
+        Frame::FinalizeCertificate { mask: 7, height: 1 },
+    ]
 }
 
 fn single_bytes<C: Calls>(to: &mut Recorder<C>) {
     to.part("A byte that a frame does not use is 4: for each kind one of every such field");
     to.open(BOOK, 4, 2, &[0]);
-    let block = first(1, &[]);
-    let statements = [
-        Frame::Proposal { signer: 0, block: block.clone() },
-        vote(0, &block),
-        Frame::DummyVote { signer: 0, height: 1 },
-        Frame::Finalize { signer: 0, height: 1 },
-    ];
-    let certificates = [
-        Frame::BlockCertificate { mask: 7, block },
-        Frame::DummyCertificate { mask: 7, height: 1 },
-        Frame::FinalizeCertificate { mask: 7, height: 1 },
-    ];
     let unused: [&[usize]; 7] = [
-        &[3, 5, 15, 47],
-        &[3, 5, 15, 223],
-        &[3, 5, 15, 47, 223],
-        &[3, 5, 15, 47, 223],
-        &[1, 3, 15, 47],
-        &[1, 3, 15, 47, 223],
-        &[1, 3, 15, 47, 223],
+        &[6, 5, 15, 47],
+        &[6, 5, 15, 223],
+        &[6, 5, 15, 47, 223],
+        &[6, 5, 15, 47, 223],
+        &[1, 6, 15, 47],
+        &[1, 6, 15, 47, 223],
+        &[1, 6, 15, 47, 223],
     ];
-    for (frame, fields) in statements.iter().chain(&certificates).zip(unused) {
+    for (frame, fields) in kinds().iter().zip(unused) {
         fields.iter().for_each(|at| with_one(to, frame, *at));
+    }
+}
+
+/// The bytes that request 2.7 makes the high bytes of heights: byte 3 of a frame, bytes 1 and 3 of its page.
+fn bytes_after_heights<C: Calls>(to: &mut Recorder<C>) {
+    to.part("The byte after a height is 4 as well: in a frame of each kind, and in the pages of kinds 1 and 5");
+    for frame in &kinds() {
+        with_one(to, frame, 3);
+        if matches!(frame, Frame::Proposal { .. } | Frame::BlockCertificate { .. }) {
+            [49, 51].into_iter().for_each(|at| with_one(to, frame, at));
+        }
     }
 }
 
@@ -63,13 +77,14 @@ fn one_byte_more<C: Calls>(to: &mut Recorder<C>) {
 
 fn largest_book<C: Calls>(to: &mut Recorder<C>) {
     to.part("The largest book: 16 stations, 63 heights; station 15 has the last bit of a mask");
-    to.open(BOOK, 16, 15, &[15; 63]);
-    let (one, last) = (first(1, &[]), first(63, &[]));
+    let height = MOST_HEIGHTS;
+    to.open(BOOK, 16, 15, &[15; MOST_HEIGHTS as usize]);
+    let (one, last) = (first(1, &[]), first(height, &[]));
     let of_station_15 = [
         Frame::Proposal { signer: 15, block: last.clone() },
         vote(15, &last),
-        Frame::DummyVote { signer: 15, height: 63 },
-        Frame::Finalize { signer: 15, height: 63 },
+        Frame::DummyVote { signer: 15, height },
+        Frame::Finalize { signer: 15, height },
     ];
     deliver(to, BOOK, &of_station_15);
     let of_the_last_eleven = [

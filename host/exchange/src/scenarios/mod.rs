@@ -9,9 +9,12 @@ mod parts;
 mod refusals;
 mod rehearsal;
 mod season;
+mod vectors;
 
 use crate::{List, Recorder};
 use types::Calls;
+
+pub use vectors::vectors;
 
 /// The names of the lists; each is a file of the folder with `.txt` behind it.
 pub const NAMES: [&str; 7] =

@@ -2,7 +2,7 @@
 
 use super::parts::*;
 use crate::{Call, Recorder};
-use types::{Calls, Frame};
+use types::{Calls, Frame, Height};
 
 /// The one book of the list, opened anew in each part.
 const BOOK: &str = "book";
@@ -22,7 +22,7 @@ pub fn run<C: Calls>(to: &mut Recorder<C>) {
 }
 
 /// The dummy votes of replicas 0, 1 and 2.
-fn three_dummies(height: u8) -> [Frame; 3] {
+fn three_dummies(height: Height) -> [Frame; 3] {
     [0, 1, 2].map(|signer| Frame::DummyVote { signer, height })
 }
 
@@ -55,8 +55,8 @@ fn late_dummy_pass<C: Calls>(to: &mut Recorder<C>) {
 fn alone<C: Calls>(to: &mut Recorder<C>) {
     to.part("j and on: a single station proposes, votes, passes on its page, and settles it");
     to.open(BOOK, 1, 0, &[0, 0]);
-    submit(to, BOOK, "swap A1 B2");
-    submit(to, BOOK, "undo A1 B2");
+    submit(to, BOOK, entry("swap A1 B2"));
+    submit(to, BOOK, entry("undo A1 B2"));
     moves_with_own_frames(to, BOOK);
     to.make(Call::Size, BOOK, "");
     for length in [0, 31, 32, 40] {

@@ -2,10 +2,13 @@
 
 use super::parts::*;
 use crate::{Call, Recorder};
-use types::{Area, Calls, Frame, Layout};
+use types::{field, Area, Calls, Frame, Layout};
 
 /// The one book of the list.
 const BOOK: &str = "book";
+
+/// The bytes of a page that follow its heights; request 2.7 makes them their high bytes.
+const HIGH_BYTES: [usize; 2] = [1, 3];
 
 /// Records the list.
 pub fn run<C: Calls>(to: &mut Recorder<C>) {
@@ -32,7 +35,9 @@ fn frames<C: Calls>(to: &mut Recorder<C>) {
     ];
     deliver(to, BOOK, &wrong);
     deliver(to, BOOK, &[Frame::Proposal { signer: 0, block: first(1, &[]) }]);
-    deliver(to, BOOK, &[Frame::Proposal { signer: 1, block: first(1, &[entry("other")]) }]);
+    to.open(AHEAD, 4, 2, &[0, 0]);
+    deliver(to, AHEAD, &[Frame::Proposal { signer: 0, block: first(2, &[]) }]);
+    deliver(to, AHEAD, &[Frame::Proposal { signer: 1, block: first(2, &[entry("other")]) }]);
     to.remark("An entry past the count, and 9 before 10 for a certificate");
     let mut frame = Frame::Proposal { signer: 0, block: first(1, &[entry("more")]) }.bytes();
     frame.iter_mut().skip(52).take(1).for_each(|count| *count = 0);
@@ -57,11 +62,11 @@ fn other_calls<C: Calls>(to: &mut Recorder<C>) {
     to.make(Call::Open { n: 4, own: 4, heights: 2, leaders: leaders.clone() }, BOOK, "");
     to.make(Call::Open { n: 4, own: 2, heights: 2, leaders }, BOOK, "");
     for number in 1..=32 {
-        submit(to, BOOK, &format!("entry {number}"));
+        submit(to, BOOK, numbered(number));
     }
     to.make(Call::Submit { entry: vec![0; 15] }, BOOK, "");
-    submit(to, BOOK, "entry 32");
-    submit(to, BOOK, "entry 33");
+    submit(to, BOOK, numbered(32));
+    submit(to, BOOK, numbered(33));
     to.give("cut", vec![0; 1455]);
     to.make(Call::Move, "cut", "short");
     to.make(Call::Move, BOOK, "short");
@@ -85,12 +90,12 @@ fn soundness<C: Calls>(to: &mut Recorder<C>) {
         [Area::Row, Area::Held, Area::Notarized].map(|area| layout.area(1, area).start);
     let rows =
         [(0, 4), (1, 7), (2, 3), (2, 23), (4, 16), (6, 16), (8, 16), (9, 1), (10, 1), (15, 1)];
-    let pages =
-        [(0, 2), (1, 1), (2, 1), (3, 1), (4, 9), (5, 1), (15, 1), (16, 1), (48, 1), (175, 1)];
+    let pages = [(0, 2), (2, 1), (4, 9), (5, 1), (15, 1), (16, 1), (48, 1), (175, 1)];
+    let pages = pages.into_iter().chain(HIGH_BYTES.map(|at| (at, 1)));
     let edits = rows.map(|(at, byte)| (row.saturating_add(at), byte)).into_iter();
-    let edits = edits.chain(pages.map(|(at, byte)| (held.saturating_add(at), byte)));
+    let edits = edits.chain(pages.clone().map(|(at, byte)| (held.saturating_add(at), byte)));
     let edits = edits.chain(pages.map(|(at, byte)| (notarized.saturating_add(at), byte)));
-    for (at, byte) in edits.chain([(5, 1), (row.saturating_add(1), 4)]) {
+    for (at, byte) in edits.chain([(field::FINALIZED, 1), (row.saturating_add(1), 4)]) {
         let mut book = sound.clone();
         book.iter_mut().skip(at).take(1).for_each(|place| *place = byte);
         to.give(BOOK, book);

@@ -2,18 +2,37 @@
 
 use crate::{Answer, Call, Recorder};
 use reference::sha256;
-use types::{Block, Calls, Frame, Move, ENTRY};
+use types::{Block, Calls, Frame, Height, Move, ENTRY};
 
 /// The name of the reply buffer in every list.
 pub const REPLY: &str = "reply";
 
+/// The name of a book whose proposals are for height 2, above the current one.
+pub const AHEAD: &str = "ahead";
+
+/// A byte of the head that no edition uses.
+pub const UNUSED: usize = 63;
+
 /// The most moves before idle that a list needs.
 const MOVES: usize = 50;
 
-/// An entry out of a few words, filled up with blanks.
+/// The first bytes that the entries of the lists have are those below this: request 2.13 takes no other.
+const TEAMS: u8 = 4;
+
+/// An entry that begins with the byte 0, then has a few words, filled up with blanks.
 pub fn entry(words: &str) -> [u8; ENTRY] {
+    entry_of(0, words)
+}
+
+/// One of many entries; those of numbers that follow one another begin with 0, 1, 2, 3, 0 and so on.
+pub fn numbered(number: u8) -> [u8; ENTRY] {
+    entry_of(number.saturating_sub(1) % TEAMS, &format!("entry {number}"))
+}
+
+/// An entry of its first byte and a few words.
+fn entry_of(team: u8, words: &str) -> [u8; ENTRY] {
     let mut entry = [b' '; ENTRY];
-    entry.iter_mut().zip(words.bytes()).for_each(|(to, from)| *to = from);
+    entry.iter_mut().zip([team].into_iter().chain(words.bytes())).for_each(|(to, from)| *to = from);
     entry
 }
 
@@ -23,12 +42,12 @@ pub fn digest(block: &Block) -> [u8; 32] {
 }
 
 /// A block with no parent.
-pub fn first(height: u8, entries: &[[u8; ENTRY]]) -> Block {
+pub fn first(height: Height, entries: &[[u8; ENTRY]]) -> Block {
     Block { height, entries: entries.to_vec(), ..Block::default() }
 }
 
 /// A block on another one.
-pub fn child(height: u8, below: &Block, entries: &[[u8; ENTRY]]) -> Block {
+pub fn child(height: Height, below: &Block, entries: &[[u8; ENTRY]]) -> Block {
     Block { height, parent: below.height, digest: digest(below), entries: entries.to_vec() }
 }
 
@@ -38,8 +57,8 @@ pub fn vote(signer: u8, block: &Block) -> Frame {
 }
 
 /// Submits an entry.
-pub fn submit<C: Calls>(to: &mut Recorder<C>, book: &str, words: &str) -> Option<Answer> {
-    to.make(Call::Submit { entry: entry(words).to_vec() }, book, "")
+pub fn submit<C: Calls>(to: &mut Recorder<C>, book: &str, entry: [u8; ENTRY]) -> Option<Answer> {
+    to.make(Call::Submit { entry: entry.to_vec() }, book, "")
 }
 
 /// The timer of a height fires.

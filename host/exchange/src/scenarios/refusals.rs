@@ -1,8 +1,8 @@
 //! The list of refusals: each number of the table, with its example and its neighbours.
 
-use super::parts::{deliver, digest, first, signal, submit, vote, REPLY};
+use super::parts::*;
 use crate::{Call, Recorder};
-use types::{Block, Calls, Frame};
+use types::{Block, Calls, Frame, MOST_HEIGHTS};
 
 /// The book of most lines: replica 2 of 4, one height, led by 0.
 const BOOK: &str = "book";
@@ -28,7 +28,9 @@ fn opening<C: Calls>(to: &mut Recorder<C>) {
         let leaders = leaders.to_vec();
         Call::Open { n, own, heights, leaders }
     };
-    for (n, own, heights) in [(4, 4, 1), (0, 0, 1), (17, 0, 1), (4, 0, 0), (4, 0, 64), (4, 0, 2)] {
+    let past = u64::from(MOST_HEIGHTS).saturating_add(1);
+    for (n, own, heights) in [(4, 4, 1), (0, 0, 1), (17, 0, 1), (4, 0, 0), (4, 0, past), (4, 0, 2)]
+    {
         to.make(open(n, own, heights, &[0]), BOOK, "");
     }
     to.make(open(4, 2, 1, &[4]), BOOK, "");
@@ -37,7 +39,7 @@ fn opening<C: Calls>(to: &mut Recorder<C>) {
     for (n, own, heights) in [(260, 2, 1), (4, 258, 1), (4, 2, 257)] {
         to.make(open(n, own, heights, &[0]), BOOK, "");
     }
-    to.make(open(4, 2, 64, &[0; 64]), BOOK, "");
+    to.make(open(4, 2, past, &[0; MOST_HEIGHTS as usize + 1]), BOOK, "");
     to.make(open(4, 2, 1, &[0]), BOOK, "");
     to.make(Call::Size, BOOK, "");
     to.open(BOOK, 4, 2, &[0]);
@@ -62,7 +64,7 @@ fn frames<C: Calls>(to: &mut Recorder<C>) {
     to.deliver(BOOK, &[]);
     to.deliver(BOOK, dummy_vote.get(..223).unwrap_or(&[]));
     to.deliver(BOOK, &[&dummy_vote[..], &[0]].concat());
-    for (at, byte) in [(0, 8), (0, 0), (3, 1), (4, 1), (16, 1), (223, 1)] {
+    for (at, byte) in [(0, 8), (0, 0), (6, 1), (4, 1), (16, 1), (223, 1)] {
         let mut frame = dummy_vote;
         frame.iter_mut().skip(at).take(1).for_each(|place| *place = byte);
         to.deliver(BOOK, &frame);
@@ -90,6 +92,17 @@ fn frames<C: Calls>(to: &mut Recorder<C>) {
 /// Deliver: 8.
 fn conflicts<C: Calls>(to: &mut Recorder<C>) {
     to.part("A second proposal and a second page vote are 8; the same again is known");
+    to.open(AHEAD, 4, 2, &[0, 0]);
+    let (one, two) = (first(2, &[[1; 16]]), first(2, &[[2; 16]]));
+    for block in [&one, &one, &two] {
+        deliver(to, AHEAD, &[proposal(0, block.clone()), vote(3, block)]);
+    }
+    at_the_current_height(to);
+}
+
+/// The one second proposal of all lists that is for the current height: request 2.2 takes it for the timer's signal.
+fn at_the_current_height<C: Calls>(to: &mut Recorder<C>) {
+    to.part("The same at the current height");
     let (one, two) = (first(1, &[[1; 16]]), first(1, &[[2; 16]]));
     for block in [&one, &one, &two] {
         deliver(to, BOOK, &[proposal(0, block.clone()), vote(3, block)]);
@@ -126,9 +139,9 @@ fn entries<C: Calls>(to: &mut Recorder<C>) {
         to.make(Call::Submit { entry: vec![1; length] }, BOOK, "");
     }
     for number in 1..=33 {
-        submit(to, BOOK, &format!("entry {number}"));
+        submit(to, BOOK, numbered(number));
     }
-    submit(to, BOOK, "entry 7");
+    submit(to, BOOK, numbered(7));
 }
 
 /// Signal: 6, 14.
@@ -140,13 +153,13 @@ fn signals<C: Calls>(to: &mut Recorder<C>) {
     }
     to.part("A book with a byte changed that must be zero is 1 for every call, and reads as empty");
     let mut damaged = to.bytes(BOOK).to_vec();
-    damaged.iter_mut().skip(8).take(1).for_each(|byte| *byte = 1);
+    damaged.iter_mut().skip(UNUSED).take(1).for_each(|byte| *byte = 1);
     to.give(BOOK, damaged);
     let digest = digest(&first(1, &[]));
     deliver(to, BOOK, &[Frame::BlockVote { signer: 0, height: 1, digest }]);
     to.make(Call::Move, BOOK, REPLY);
     signal(to, BOOK, 1);
-    submit(to, BOOK, "entry");
+    submit(to, BOOK, entry("entry"));
     to.make(Call::Size, BOOK, "");
     to.make(Call::Read, BOOK, REPLY);
     to.make(Call::Fetch { kind: 5, height: 1 }, BOOK, REPLY);

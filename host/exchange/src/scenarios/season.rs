@@ -20,8 +20,8 @@ pub fn run<C: Calls>(to: &mut Recorder<C>) {
     first_height(to);
     second_height(to);
     catching_up(to);
-    third_height(to);
-    fourth_height(to);
+    let other = third_height(to);
+    fourth_height(to, other);
     reading(to);
 }
 
@@ -55,13 +55,13 @@ fn hand_over<C: Calls>(to: &mut Recorder<C>, from: usize, into: usize, wanted: &
 
 fn first_height<C: Calls>(to: &mut Recorder<C>) {
     to.part("Height 1: station 0 leads, station 3 hears nothing, the other three settle page 1");
-    submit(to, book(0), "swap A12 to B40");
-    submit(to, book(1), "seed lot 77 to 3");
+    submit(to, book(0), entry("swap A12 to B40"));
+    submit(to, book(1), entry("seed lot 7 to 3"));
     let offer = all_move(to, &[0], &[1]);
     send(to, &offer, &[0, 1, 2]);
     let votes = all_move(to, &[0, 1, 2], &[2]);
     to.remark("The swap was a mistake: an undo entry waits for the next page");
-    submit(to, book(1), "undo A12 to B40");
+    submit(to, book(1), entry("undo A12 to B40"));
     send(to, &votes, &[0, 1, 2]);
     let after = all_move(to, &[0, 1, 2], &[1, 4]);
     send(to, &after, &[0, 1, 2]);
@@ -86,17 +86,18 @@ fn second_height<C: Calls>(to: &mut Recorder<C>) {
 fn catching_up<C: Calls>(to: &mut Recorder<C>) {
     to.part("Station 3 is back and catches up with what fetch gives of station 0's book");
     hand_over(to, 0, 3, &[(5, 1), (7, 1), (5, 2)]);
-    submit(to, book(3), "lot 9 to plot 5");
+    submit(to, book(3), entry("lot 9 to plot 5"));
 }
 
-fn third_height<C: Calls>(to: &mut Recorder<C>) {
+/// Returns the second proposal.
+fn third_height<C: Calls>(to: &mut Recorder<C>) -> Frame {
     to.part("Height 3: station 3 leads and sends one page to station 0 and another to 1 and 2");
     let offer = all_move(to, &[3], &[1]);
     let one = offered(&offer);
     let two = Block { entries: vec![entry("lot 9 to plot 6")], ..one.clone() };
     send(to, &offer, &[0]);
-    let other = [Frame::Proposal { signer: 3, block: two.clone() }];
-    [1, 2, 0].into_iter().for_each(|replica| deliver(to, book(replica), &other));
+    let other = Frame::Proposal { signer: 3, block: two.clone() };
+    [1, 2].into_iter().for_each(|replica| deliver(to, book(replica), std::slice::from_ref(&other)));
     let votes = all_move(to, &[0, 1, 2], &[2]);
     send(to, &votes, &[0, 1, 2]);
     to.remark("Its second vote is refused where the first is kept");
@@ -106,13 +107,18 @@ fn third_height<C: Calls>(to: &mut Recorder<C>) {
     signal(to, book(1), 3);
     let mut blanks = all_move(to, &[0, 1], &[3]);
     blanks.push(Frame::DummyVote { signer: 3, height: 3 }.bytes().to_vec());
-    submit(to, book(2), "plot C7 fallow");
+    submit(to, book(2), entry("plot C7 fallow"));
     send(to, &blanks, &[0, 1, 2]);
+    other
 }
 
-fn fourth_height<C: Calls>(to: &mut Recorder<C>) {
+fn fourth_height<C: Calls>(to: &mut Recorder<C>, other: Frame) {
     to.part("Height 4: page 4 stands on page 2 over the blank; station 1 gets its certificate before the page");
     let offer = all_move(to, &[0, 1, 2], &[1]);
+    to.remark(
+        "Station 0 hears of the other page of height 3 once it has passed it, and refuses it",
+    );
+    deliver(to, book(0), &[other]);
     hand_over(to, 0, 3, &[(6, 3)]);
     send(to, &offer, &[0, 2, 3]);
     let votes = all_move(to, &[0, 2, 3], &[2]);

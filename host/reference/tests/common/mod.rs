@@ -4,11 +4,20 @@
 pub mod random;
 pub mod random_book;
 
-use reference::{book_length, Move};
+pub use reference::Height;
+use reference::{book_length, Move, Rules};
+
+/// The calls.
+pub const RULES: Rules = Rules::SHA256;
 
 pub type Block = [u8; 176];
 pub type FrameBytes = [u8; 224];
 pub const ZERO: [u8; 32] = [0; 32];
+
+/// Where the head has its heights: H, the current and the finalized one.
+pub const HEIGHTS: usize = 2;
+pub const CURRENT: usize = 4;
+pub const FINALIZED: usize = 5;
 
 /// Where the parts of a book begin.
 pub const PENDING: usize = 64;
@@ -16,11 +25,19 @@ pub const CONTENTS: usize = 576;
 
 /// A new book.
 pub fn new_book(n: u64, own: u64, leaders: &[u8]) -> Vec<u8> {
-    let heights = leaders.len() as u8;
-    let mut book = vec![0xee; book_length(heights)];
-    reference::open(&mut book, n, own, heights.into(), leaders).unwrap();
+    let mut book = vec![0xee; book_length(leaders.len() as Height)];
+    RULES.open(&mut book, n, own, leaders.len() as u64, leaders).unwrap();
     book
 }
+
+/// The bytes of a block that follow its heights; request 2.7 makes them their high bytes.
+pub const HIGH_BYTES: [usize; 2] = [1, 3];
+
+/// The byte of a frame that follows its height; request 2.7 makes it the high byte.
+pub const HIGH_BYTE: usize = 3;
+
+/// A byte of a frame that no kind uses, now or later.
+pub const UNUSED: usize = 15;
 
 /// Where the contents row of a height begins.
 pub fn row(height: usize) -> usize {
@@ -29,18 +46,30 @@ pub fn row(height: usize) -> usize {
 
 /// Where the body of a height begins; its notarized block is 176 and its votes 352 further on.
 pub fn body(book: &[u8], height: usize) -> usize {
-    CONTENTS + 16 * usize::from(book[2]) + 864 * (height - 1)
+    CONTENTS + 16 * usize::from(book[HEIGHTS]) + 864 * (height - 1)
 }
 
-/// An entry that differs from those with another tag.
+/// An entry that differs from those with another tag. Its first byte is 0 to 3: request 2.13 takes no other.
 pub fn entry(tag: u8) -> [u8; 16] {
-    std::array::from_fn(|at| tag ^ (at as u8 * 16))
+    std::array::from_fn(|at| if at == 0 { tag % 4 } else { tag ^ (at as u8 * 16) })
+}
+
+/// Puts a height into its two bytes of a frame or a block.
+pub fn put_height(bytes: &mut [u8], height: Height) {
+    bytes.copy_from_slice(&[height, 0]);
+}
+
+/// The height in two bytes of a frame or a block.
+pub fn height_in(bytes: &[u8]) -> Height {
+    bytes[0]
 }
 
 /// A block of these parts.
-pub fn block(height: u8, parent: u8, digest: [u8; 32], entries: &[[u8; 16]]) -> Block {
+pub fn block(height: Height, parent: Height, digest: [u8; 32], entries: &[[u8; 16]]) -> Block {
     let mut block = [0; 176];
-    (block[0], block[2], block[4]) = (height, parent, entries.len() as u8);
+    put_height(&mut block[0..2], height);
+    put_height(&mut block[2..4], parent);
+    block[4] = entries.len() as u8;
     block[16..48].copy_from_slice(&digest);
     for (at, entry) in entries.iter().enumerate() {
         block[48 + 16 * at..64 + 16 * at].copy_from_slice(entry);
@@ -49,8 +78,8 @@ pub fn block(height: u8, parent: u8, digest: [u8; 32], entries: &[[u8; 16]]) -> 
 }
 
 /// A block on another block, with a digest that fits.
-pub fn block_on(height: u8, below: &Block, entries: &[[u8; 16]]) -> Block {
-    block(height, below[0], digest(below), entries)
+pub fn block_on(height: Height, below: &Block, entries: &[[u8; 16]]) -> Block {
+    block(height, height_in(&below[..2]), digest(below), entries)
 }
 
 /// The digest of a block.
@@ -59,45 +88,46 @@ pub fn digest(block: &Block) -> [u8; 32] {
 }
 
 /// A frame of these parts.
-pub fn frame(kind: u8, signer: u8, height: u8, mask: u16) -> FrameBytes {
+pub fn frame(kind: u8, signer: u8, height: Height, mask: u16) -> FrameBytes {
     let mut frame = [0; 224];
-    (frame[0], frame[1], frame[2]) = (kind, signer, height);
+    (frame[0], frame[1]) = (kind, signer);
+    put_height(&mut frame[2..4], height);
     frame[4] = mask as u8;
     frame[5] = (mask >> 8) as u8;
     frame
 }
 
 pub fn proposal(signer: u8, block: &Block) -> FrameBytes {
-    with_block(frame(1, signer, block[0], 0), block)
+    with_block(frame(1, signer, height_in(&block[..2]), 0), block)
 }
 
-pub fn block_vote(signer: u8, height: u8, digest: [u8; 32]) -> FrameBytes {
+pub fn block_vote(signer: u8, height: Height, digest: [u8; 32]) -> FrameBytes {
     let mut frame = frame(2, signer, height, 0);
     frame[16..48].copy_from_slice(&digest);
     frame
 }
 
 pub fn vote_for(signer: u8, block: &Block) -> FrameBytes {
-    block_vote(signer, block[0], digest(block))
+    block_vote(signer, height_in(&block[..2]), digest(block))
 }
 
-pub fn dummy_vote(signer: u8, height: u8) -> FrameBytes {
+pub fn dummy_vote(signer: u8, height: Height) -> FrameBytes {
     frame(3, signer, height, 0)
 }
 
-pub fn finalize(signer: u8, height: u8) -> FrameBytes {
+pub fn finalize(signer: u8, height: Height) -> FrameBytes {
     frame(4, signer, height, 0)
 }
 
 pub fn block_certificate(mask: u16, block: &Block) -> FrameBytes {
-    with_block(frame(5, 0, block[0], mask), block)
+    with_block(frame(5, 0, height_in(&block[..2]), mask), block)
 }
 
-pub fn dummy_certificate(mask: u16, height: u8) -> FrameBytes {
+pub fn dummy_certificate(mask: u16, height: Height) -> FrameBytes {
     frame(6, 0, height, mask)
 }
 
-pub fn finalize_certificate(mask: u16, height: u8) -> FrameBytes {
+pub fn finalize_certificate(mask: u16, height: Height) -> FrameBytes {
     frame(7, 0, height, mask)
 }
 
@@ -109,14 +139,14 @@ fn with_block(mut frame: FrameBytes, block: &Block) -> FrameBytes {
 /// Delivers frames that must all be fresh.
 pub fn deliver_all(book: &mut [u8], frames: &[FrameBytes]) {
     for frame in frames {
-        assert_eq!(reference::deliver(book, frame), Ok(reference::Delivered::Fresh));
+        assert_eq!(RULES.deliver(book, frame), Ok(reference::Delivered::Fresh));
     }
 }
 
 /// One move with a long enough reply of marked bytes.
 pub fn one_move(book: &mut [u8]) -> (Move, [u8; 448]) {
     let mut reply = [0xaa; 448];
-    let made = reference::make_move(book, &mut reply).unwrap();
+    let made = RULES.make_move(book, &mut reply).unwrap();
     (made, reply)
 }
 
@@ -128,7 +158,7 @@ pub fn moves(book: &mut [u8]) -> Vec<Move> {
 
 /// Whether the book is sound, by the call that has no other refusal.
 pub fn is_sound(book: &[u8]) -> bool {
-    match reference::size(book) {
+    match RULES.size(book) {
         Ok(_) => true,
         Err(number) => {
             assert_eq!(number, 1);
@@ -140,5 +170,5 @@ pub fn is_sound(book: &[u8]) -> bool {
 /// The log of a book as bytes.
 pub fn log_of(book: &[u8]) -> Vec<u8> {
     let mut buffer = vec![0; 63 * 8 * 16];
-    reference::read(book, &mut buffer).to_vec()
+    RULES.read(book, &mut buffer).to_vec()
 }

@@ -1,20 +1,17 @@
 //! Random books that are nearly always sound: chains with gaps, forks in the air, free junk.
 
 use super::random::Random;
-use super::{block, body, row, Block, CONTENTS, PENDING, ZERO};
-use reference::{book_length, Digest};
+use super::*;
+use reference::Digest;
 
 /// A book of a few heights. Its finalized height is 0.
 pub fn random_book(random: &mut Random, digest: Digest) -> Vec<u8> {
-    let (n, heights) = (1 + random.below(16) as u8, 1 + random.below(7) as u8);
-    let mut book = vec![0; book_length(heights)];
-    book[0] = n;
-    book[1] = random.below(n.into()) as u8;
-    book[2] = heights;
+    let (n, heights) = (1 + random.below(16) as u8, 1 + random.below(7) as Height);
+    let own = random.below(n.into()) as u64;
+    let mut book = new_book(n.into(), own, &vec![0; heights.into()]);
     book[3] = random.below(16) as u8;
-    book[4] = 1 + random.below(usize::from(heights) + 1) as u8;
+    book[CURRENT] = 1 + random.below(usize::from(heights) + 1) as u8;
     book[6] = random.below(33) as u8;
-    book[7] = 1;
     for place in book[PENDING..CONTENTS].chunks_mut(16) {
         place.copy_from_slice(&random_entry(random));
     }
@@ -29,12 +26,11 @@ pub fn random_book(random: &mut Random, digest: Digest) -> Vec<u8> {
 
 /// One of few entries, so that repeats are common.
 pub fn random_entry(random: &mut Random) -> [u8; 16] {
-    let tag = random.below(40) as u8;
-    std::array::from_fn(|at| tag ^ (at as u8 * 16))
+    entry(random.below(40) as u8)
 }
 
 /// Contents and blocks of one height.
-fn fill_height(book: &mut [u8], random: &mut Random, height: u8, digest: Digest) {
+fn fill_height(book: &mut [u8], random: &mut Random, height: Height, digest: Digest) {
     let n = book[0];
     let (row, body) = (row(height.into()), body(book, height.into()));
     let state = random.below(4) as u8 | if random.one_in(3) { 0 } else { 2 };
@@ -71,11 +67,11 @@ pub fn random_mask(random: &mut Random, n: u8) -> u16 {
 }
 
 /// A well-formed block whose parent is mostly a block of the book.
-pub fn random_block(book: &[u8], random: &mut Random, height: u8, digest: Digest) -> Block {
-    let near = random.below(3).min(usize::from(height) - 1) as u8;
+pub fn random_block(book: &[u8], random: &mut Random, height: Height, digest: Digest) -> Block {
+    let near = random.below(3).min(usize::from(height) - 1) as Height;
     let parent =
-        if random.one_in(3) { random.below(height.into()) as u8 } else { height - 1 - near };
-    let start = |parent: u8| body(book, parent.into()) + 176;
+        if random.one_in(3) { random.below(height.into()) as Height } else { height - 1 - near };
+    let start = |parent: Height| body(book, parent.into()) + 176;
     let named = match parent {
         0 => ZERO,
         _ if random.one_in(12) => [random.byte(); 32],

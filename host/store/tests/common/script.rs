@@ -1,7 +1,7 @@
 //! What comes to a station: frames of the others, timers and entries, in an order that a seed determines.
 
 use super::random::Random;
-use types::{Block, Frame};
+use types::{Block, Frame, Height};
 
 /// One thing that comes to the station.
 #[derive(Clone, Debug)]
@@ -29,9 +29,10 @@ pub fn script(seed: u64) -> Vec<Input> {
 }
 
 /// What comes at a height: about three of four things that could.
-fn at_height(height: u8, leader: u8, block: &Block, random: &mut Random) -> Vec<Input> {
+fn at_height(height: Height, leader: u8, block: &Block, random: &mut Random) -> Vec<Input> {
     let digest = sha256::digest(&block.bytes());
-    let mut inputs = vec![Input::Signal(height.into()), Input::Submit([height; 16])];
+    let [first, _] = types::height_bytes(height % 4);
+    let mut inputs = vec![Input::Signal(height.into()), Input::Submit([first; 16])];
     let mut frames = Vec::new();
     if leader != 2 {
         frames.push(Frame::Proposal { signer: leader, block: block.clone() });

@@ -1,0 +1,32 @@
+//! The bounds of document 01, each by its name.
+
+use crate::{Height, ENTRY};
+
+/// The most heights of a book.
+pub const MOST_HEIGHTS: Height = 63;
+
+/// The most replicas of a book.
+pub const MOST_REPLICAS: u8 = 16;
+
+/// The most entries of a block.
+pub const MOST_ENTRIES: u8 = 8;
+
+/// The most pending entries of a book.
+pub const MOST_PENDING: u8 = 32;
+
+/// The bytes of the longest log.
+pub const MOST_LOG: usize = MOST_HEIGHTS as usize * MOST_ENTRIES as usize * ENTRY;
+
+/// The edition of every book.
+pub const EDITION: u8 = 1;
+
+/// All flags of the current height together.
+pub const ALL_FLAGS: u8 = 15;
+
+/// The last number of the table of refusals.
+pub const LAST_REFUSAL: u8 = 14;
+
+/// The fewest of n replicas that are a quorum.
+pub fn quorum(n: u8) -> u32 {
+    u32::from(n).saturating_mul(2).div_ceil(3)
+}
