@@ -8,7 +8,7 @@ use mathlib.Core.List.{[], _∷_}
 use mathlib.Core.Option.{some, none}
 use lib.ListN.{length, take, drop}
 use lib.Dec.{ltb}
-use Rattle.protocol.specs.Bytes.{Bytes, byteAt, part, zeros, same}
+use Rattle.protocol.specs.Bytes.{Bytes, part, zeros, same}
 use Rattle.protocol.specs.Block.{parentHeight, parentDigest}
 use Rattle.protocol.specs.Tests.{allOf}
 use Rattle.protocol.specs.View.{View, quorum, isDummy, digestAt, linked, extends, extendsOver, dummyRun, isFinalized, largestFinalized, parentOf}
@@ -83,11 +83,6 @@ not-linked-without v (suc i) low e = linked-suc sha256 v i ∙ rw e
 
 pub linked-start : (v : View) (h : ℕ) → h ≡ 0 → linked sha256 v h ≡ true
 linked-start v h e = rw e (linked-zero sha256 v)
-
--- the parent height as the code reads it
-pub names-parent-height : (block : Bytes) → parentHeight block ≡ byteAt block 2
-unfolding parentHeight
-names-parent-height block = refl
 
 -- ---- finalized heights
 module _ (v : View) (h : ℕ) where

@@ -97,7 +97,7 @@ pub fn extends(kind: Kind, book: &[u8], h: usize, block: &[u8], known: &mut [u8]
     ensures answer { λ r. ⌜ r ≡ doesExtend sha (viewOf kind (now (book .entry))) h (now (block .entry)) ⌝ }
     ensures memo { λ _. ⌜ Known (viewOf kind (now (book .entry))) (now (known .exit)) ⌝ }
 {
-    let j = block[2] as usize;
+    let j = wire::block::parent_height(block);
     if j < h {
         if linked(kind, book, j, known) {
             if crate::memory::dummies_after(kind, book, j, h - 1, known) {
