@@ -28,12 +28,12 @@ digest-block v zero no-zero = absurd (no-zero refl)
 digest-block v (suc j) no-zero = refl
 
 -- the digest that a memory keeps, copied over 32 bytes
-pub digest-copied : (v : View) (known old : Bytes) (j count : ℕ) → j ≢ 0 → count ≡ 32 → length old ≡ 32 → 192 + 32 * j + 32 ≤ length known →
-    part known (192 + 32 * j) 32 ≡ sha256 (v .block j) → put old 0 (take count (drop (192 + 32 * j) known)) ≡ digestAt sha256 v j
+pub digest-copied : (v : View) (known old : Bytes) (j count : ℕ) → j ≢ 0 → count ≡ 32 → length old ≡ 32 → 36 * j + 4 + 32 ≤ length known →
+    part known (36 * j + 4) 32 ≡ sha256 (v .block j) → put old 0 (take count (drop (36 * j + 4) known)) ≡ digestAt sha256 v j
 unfolding part
 digest-copied v known old j count no-zero whole size fits kept =
-    ap (λ (k : ℕ). put old 0 (take k (drop (192 + 32 * j) known))) whole
-    ∙ put-all old (take 32 (drop (192 + 32 * j) known)) (size ∙ sym (unfold part in length-part known (192 + 32 * j) 32 fits))
+    ap (λ (k : ℕ). put old 0 (take k (drop (36 * j + 4) known))) whole
+    ∙ put-all old (take 32 (drop (36 * j + 4) known)) (size ∙ sym (unfold part in length-part known (36 * j + 4) 32 fits))
     ∙ kept ∙ digest-block v j no-zero
 
 pub names-digest : (block digest : Bytes) → same (take 32 (drop 16 block)) digest ≡ same (parentDigest block) digest

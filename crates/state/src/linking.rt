@@ -28,7 +28,7 @@ pub fn parent_digest(kind: Kind, book: &[u8], j: usize, known: &mut [u8]) -> [u8
         return digest;
     }
     crate::memory::keep_digest(kind, book, j, known);
-    let start = 192 + 32 * j;
+    let start = 36 * j + 4;
     wire::bytes::copy_to(&mut digest, 0, &known[start..start + 32]);
     digest
 }
@@ -57,7 +57,7 @@ pub fn linked(kind: Kind, book: &[u8], h: usize, known: &mut [u8]) -> bool
     if h == 0 {
         return true;
     }
-    let seen = known[h];
+    let seen = known[36 * h];
     if seen == 1 {
         return true;
     }
@@ -66,9 +66,9 @@ pub fn linked(kind: Kind, book: &[u8], h: usize, known: &mut [u8]) -> bool
     }
     let found = links_back(kind, book, h, known);
     if found {
-        known[h] = 1;
+        known[36 * h] = 1;
     } else {
-        known[h] = 2;
+        known[36 * h] = 2;
     }
     found
 }

@@ -239,6 +239,12 @@ linked-returns t c =
     let z = c .before .before .before in
     (sym (linked-start (viewOf (z .args .kind) (z .args .book .now)) (z .args .h) (c .if1 .taken)), z .pre .1 .1 .0)
 
+linked-mul-seen : (t : ℕ) → linked-lts.Need-mul-seen (
+  links-back-below t,
+  links-back.Post,
+) (linked-at t) linked.Post
+linked-mul-seen t c = search needs
+
 linked-slice-read-seen : (t : ℕ) → linked-lts.Need-slice-read-seen (
   links-back-below t,
   links-back.Post,
@@ -250,14 +256,14 @@ linked-returns-2 :
     linked-lts.Need-returns-2 (links-back-below t, links-back.Post) (linked-at t) linked.Post
 linked-returns-2 t c =
     let z = c .before .before .before .before .before in
-    (sym (z .pre .1 .1 .0 .is-linked (z .args .h) (omega arith) (c .if2 .taken)), z .pre .1 .1 .0)
+    (sym (z .pre .1 .1 .0 .each (z .args .h) (omega arith) .is-linked (c .if2 .taken)), z .pre .1 .1 .0)
 
 linked-returns-3 :
     (t : ℕ) →
     linked-lts.Need-returns-3 (links-back-below t, links-back.Post) (linked-at t) linked.Post
 linked-returns-3 t c =
     let z = c .before .before .before .before .before .before in
-    (sym (z .pre .1 .1 .0 .not-linked (z .args .h) (omega arith) (c .if3 .taken)), z .pre .1 .1 .0)
+    (sym (z .pre .1 .1 .0 .each (z .args .h) (omega arith) .not-linked (c .if3 .taken)), z .pre .1 .1 .0)
 
 linked-links-back-requires : (t : ℕ) → linked-lts.Need-links-back-requires (
   links-back-below t,
@@ -267,11 +273,23 @@ linked-links-back-requires t c κs =
     let z = c .before .before .before .before .before .before .before in
     (omega arith, (z .pre .1 .0, (z .pre .1 .1 .0, record { low = omega arith; high = z .pre .1 .1 .1 })))
 
+linked-mul-known : (t : ℕ) → linked-lts.Need-mul-known (
+  links-back-below t,
+  links-back.Post,
+) (linked-at t) linked.Post
+linked-mul-known t c = search needs
+
 linked-slice-write-known : (t : ℕ) → linked-lts.Need-slice-write-known (
   links-back-below t,
   links-back.Post,
 ) (linked-at t) linked.Post
 linked-slice-write-known t c = search needs
+
+linked-mul-known-2 : (t : ℕ) → linked-lts.Need-mul-known-2 (
+  links-back-below t,
+  links-back.Post,
+) (linked-at t) linked.Post
+linked-mul-known-2 t c = search needs
 
 linked-slice-write-known-2 : (t : ℕ) → linked-lts.Need-slice-write-known-2 (
   links-back-below t,
@@ -408,11 +426,14 @@ pub +extends+linked+links-back-spec : {M : Type 1} → statement M
     (linked-at t)
     linked.Post
     (linked-returns t)
+    (linked-mul-seen t)
     (linked-slice-read-seen t)
     (linked-returns-2 t)
     (linked-returns-3 t)
     (linked-links-back-requires t)
+    (linked-mul-known t)
     (linked-slice-write-known t)
+    (linked-mul-known-2 t)
     (linked-slice-write-known-2 t)
     (linked-same-length t)
     (linked-returns-4 t)
