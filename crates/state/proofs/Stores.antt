@@ -10,7 +10,6 @@ use lib.Seq.{getD-set-same, getD-set-other, ext-getD}
 use borrow.Author.Tests.{eqb-false, eqb-true, le-leb, lt-leb}
 use Rattle.protocol.specs.Bytes.{Bytes, byteAt, word16, le16, part}
 use Rattle.protocol.specs.BytesLaws.{put, length-put, length-part, byte-part, put-other, put-there, put-word, word16-le16}
-use Rattle.protocol.specs.Block.{maximumHeights}
 use Rattle.protocol.specs.View.{View, linked, isDummy, dummyRun}
 use Rattle.protocol.specs.TestsLaws.{le-or-lt}
 use Rattle.sha256.specs.Digest.{sha256}
@@ -46,10 +45,10 @@ word-put known i value fits =
     ap (λ (b : Bytes). word16 b i) (put-word known i value fits) ∙ word-of (set once (i + 1) (value / 256)) i value low high
 
 -- ---- a store within the 36 bytes of a height
-module _ (v : View) (known after : Bytes) (memo : Known v known) (h : ℕ) (sized : length after ≡ length known)
+module _ {heights : ℕ} (v : View) (known after : Bytes) (memo : Known heights v known) (h : ℕ) (sized : length after ≡ length known)
     (outside : (k : ℕ) → (k < 36 * h) ⊎ (36 * h + 36 ≤ k) → byteAt after k ≡ byteAt known k) where
   -- what is known of another height stays known
-  module _ (i : ℕ) (high : i ≤ maximumHeights) (other : i ≡ h → ⊥) where
+  module _ (i : ℕ) (high : i ≤ heights) (other : i ≡ h → ⊥) where
     side : (k : ℕ) → 36 * i ≤ k → k < 36 * i + 36 → (i ≤ h) ⊎ (h < i) → (k < 36 * h) ⊎ (36 * h + 36 ≤ k)
     side k from to (inl below) = inl (let less : i < h = ⊎-elim (λ (q : h ≤ i). absurd (other (omega arith))) (λ (q : i < h). q) (le-or-lt h i) in omega arith)
     side k from to (inr above) = inr (omega arith)
@@ -60,7 +59,7 @@ module _ (v : View) (known after : Bytes) (memo : Known v known) (h : ℕ) (size
     elsewhere : KnownAt v after i
     elsewhere =
         let old = memo .each i high in
-        let size = memo .size in
+        let room = memo .room in
         let word : word16 after (36 * i + 2) ≡ word16 known (36 * i + 2) =
         words-same after known (36 * i + 2) (stays (36 * i + 2) (omega arith) (omega arith)) (stays (36 * i + 2 + 1) (omega arith) (omega arith)) in
         record {
@@ -72,14 +71,14 @@ module _ (v : View) (known after : Bytes) (memo : Known v known) (h : ℕ) (size
           run = λ q. word ∙ old .run (omega arith);
         }
 
-  remember : KnownAt v after h → Known v after
-  remember here = record { size = sized ∙ memo .size; each = λ i high. go i high (eqb i h) refl }
+  remember : KnownAt v after h → Known heights v after
+  remember here = record { room = subst (λ (k : ℕ). 36 * (heights + 1) ≤ k) (sym sized) (memo .room); each = λ i high. go i high (eqb i h) refl }
     where
-      go : (i : ℕ) → i ≤ maximumHeights → (b : Bool) → eqb i h ≡ b → KnownAt v after i
+      go : (i : ℕ) → i ≤ heights → (b : Bool) → eqb i h ≡ b → KnownAt v after i
       go i high true e = subst (λ (k : ℕ). KnownAt v after k) (sym (eqb-true i h e)) here
       go i high false e = elsewhere i high (eqb-false i h e)
 
-module _ (v : View) (known : Bytes) (memo : Known v known) (h : ℕ) (inside : h ≤ maximumHeights) where
+module _ {heights : ℕ} (v : View) (known : Bytes) (memo : Known heights v known) (h : ℕ) (inside : h ≤ heights) where
   abbrev old : KnownAt v known h
   old = memo .each h inside
 
@@ -89,16 +88,16 @@ module _ (v : View) (known : Bytes) (memo : Known v known) (h : ℕ) (inside : h
     marked = set known i value
 
     marked-there : byteAt marked i ≡ value
-    marked-there = getD-set-same known i value 0 (let s = memo .size in omega arith)
+    marked-there = getD-set-same known i value 0 (let room = memo .room in omega arith)
 
     marked-other : (k : ℕ) → (k ≡ i → ⊥) → byteAt marked k ≡ byteAt known k
     marked-other k other = getD-set-other known i k value 0 other
 
     mark :
         (byteAt marked (36 * h) ≡ 1 → linked sha256 v h ≡ true) → (byteAt marked (36 * h) ≡ 2 → linked sha256 v h ≡ false) →
-        (byteAt marked (36 * h + 1) ≡ 1 → part known (36 * h + 4) 32 ≡ sha256 (v .block h)) → Known v marked
+        (byteAt marked (36 * h + 1) ≡ 1 → part known (36 * h + 4) 32 ≡ sha256 (v .block h)) → Known heights v marked
     mark links no-links kept =
-        let size = memo .size in
+        let room = memo .room in
         let sized = length-set known i value in
         let word : word16 marked (36 * h + 2) ≡ word16 known (36 * h + 2) =
         words-same marked known (36 * h + 2) (marked-other (36 * h + 2) (λ e. omega arith)) (marked-other (36 * h + 2 + 1) (λ e. omega arith)) in
@@ -113,27 +112,27 @@ module _ (v : View) (known : Bytes) (memo : Known v known) (h : ℕ) (inside : h
           run = λ q. word ∙ old .run (omega arith);
         })
 
-  pub remember-linked : linked sha256 v h ≡ true → Known v (set known (36 * h) 1)
+  pub remember-linked : linked sha256 v h ≡ true → Known heights v (set known (36 * h) 1)
   remember-linked e = mark (36 * h) 1 (omega arith) (omega arith)
       (λ q. e)
       (λ q. let there = marked-there (36 * h) 1 (omega arith) (omega arith) in absurd (omega arith))
       (λ q. old .digest (sym (marked-other (36 * h) 1 (omega arith) (omega arith) (36 * h + 1) (λ p. omega arith)) ∙ q))
 
-  pub remember-unlinked : linked sha256 v h ≡ false → Known v (set known (36 * h) 2)
+  pub remember-unlinked : linked sha256 v h ≡ false → Known heights v (set known (36 * h) 2)
   remember-unlinked e = mark (36 * h) 2 (omega arith) (omega arith)
       (λ q. let there = marked-there (36 * h) 2 (omega arith) (omega arith) in absurd (omega arith))
       (λ q. e)
       (λ q. old .digest (sym (marked-other (36 * h) 2 (omega arith) (omega arith) (36 * h + 1) (λ p. omega arith)) ∙ q))
 
-  remember-kept : part known (36 * h + 4) 32 ≡ sha256 (v .block h) → Known v (set known (36 * h + 1) 1)
+  remember-kept : part known (36 * h + 4) 32 ≡ sha256 (v .block h) → Known heights v (set known (36 * h + 1) 1)
   remember-kept e =
       let first = marked-other (36 * h + 1) 1 (omega arith) (omega arith) (36 * h) (λ p. omega arith) in
       mark (36 * h + 1) 1 (omega arith) (omega arith) (λ q. old .is-linked (sym first ∙ q)) (λ q. old .not-linked (sym first ∙ q)) (λ q. e)
 
   -- ---- the start of a run is stored
-  run-stored : (start : ℕ) → start ≡ runStart v h → Known v (put known (36 * h + 2) (le16 (start + 1)))
+  run-stored : (start : ℕ) → start ≡ runStart v h → Known heights v (put known (36 * h + 2) (le16 (start + 1)))
   run-stored start e =
-      let size = memo .size in
+      let room = memo .room in
       let two = word-size (start + 1) in
       let fits : 36 * h + 2 + length (le16 (start + 1)) ≤ length known = omega arith in
       let after = put known (36 * h + 2) (le16 (start + 1)) in
@@ -152,8 +151,8 @@ module _ (v : View) (known : Bytes) (memo : Known v known) (h : ℕ) (inside : h
         run = λ q. word-put known (36 * h + 2) (start + 1) (omega arith) ∙ ap (λ (k : ℕ). k + 1) e;
       })
 
-  pub remember-run : (start : ℕ) → start ≡ runStart v h → (after : Bytes) → after ≡ put known (36 * h + 2) (le16 (start + 1)) → Known v after
-  remember-run start e after stores = subst (λ (b : Bytes). Known v b) (sym stores) (run-stored start e)
+  pub remember-run : (start : ℕ) → start ≡ runStart v h → (after : Bytes) → after ≡ put known (36 * h + 2) (le16 (start + 1)) → Known heights v after
+  remember-run start e after stores = subst (λ (b : Bytes). Known heights v b) (sym stores) (run-stored start e)
 
   -- ---- a digest is stored, and then said to be kept
   module _ (new : Bytes) (whole : length new ≡ 32) (unkept : byteAt known (36 * h + 1) ≡ 1 → ⊥) (is : new ≡ sha256 (v .block h)) where
@@ -161,13 +160,13 @@ module _ (v : View) (known : Bytes) (memo : Known v known) (h : ℕ) (inside : h
     after = put known (36 * h + 4) new
 
     fits : 36 * h + 4 + length new ≤ length known
-    fits = let s = memo .size in omega arith
+    fits = let room = memo .room in omega arith
 
     below : (k : ℕ) → k < 36 * h + 4 → byteAt after k ≡ byteAt known k
     below k less = put-other known new (36 * h + 4) fits k (inl less)
 
     -- the bytes of a digest may be stored as long as none is said to be kept there
-    remember-bytes : Known v after
+    remember-bytes : Known heights v after
     remember-bytes =
         let word : word16 after (36 * h + 2) ≡ word16 known (36 * h + 2) =
         words-same after known (36 * h + 2) (below (36 * h + 2) (omega arith)) (below (36 * h + 2 + 1) (omega arith)) in
@@ -185,19 +184,19 @@ module _ (v : View) (known : Bytes) (memo : Known v known) (h : ℕ) (inside : h
     there = subst (λ (k : ℕ). part after (36 * h + 4) k ≡ new) whole (put-there known new (36 * h + 4) fits) ∙ is
 
 -- the same after a store whose outcome is known by an equation
-module _ (v : View) (known : Bytes) (memo : Known v known) (j : ℕ) (inside : j ≤ maximumHeights) (new : Bytes) (whole : length new ≡ 32)
+module _ {heights : ℕ} (v : View) (known : Bytes) (memo : Known heights v known) (j : ℕ) (inside : j ≤ heights) (new : Bytes) (whole : length new ≡ 32)
     (unkept : byteAt known (36 * j + 1) ≡ 1 → ⊥) (is : new ≡ sha256 (v .block j)) where
-  digest-stored : (part (set (put known (36 * j + 4) new) (36 * j + 1) 1) (36 * j + 4) 32 ≡ sha256 (v .block j)) × Known v (set (put known (36 * j + 4) new) (36 * j + 1) 1)
+  digest-stored : (part (set (put known (36 * j + 4) new) (36 * j + 1) 1) (36 * j + 4) 32 ≡ sha256 (v .block j)) × Known heights v (set (put known (36 * j + 4) new) (36 * j + 1) 1)
   digest-stored =
       let bytes = remember-bytes v known memo j inside new whole unkept is in
       let kept = remember-kept v (put known (36 * j + 4) new) bytes j inside (there v known memo j inside new whole unkept is) in
-      let size = bytes .size in
+      let room = bytes .room in
       (kept .each j inside .digest (getD-set-same (put known (36 * j + 4) new) (36 * j + 1) 1 0 (omega arith)), kept)
 
   pub stored : (stores : Bytes) → stores ≡ put known (36 * j + 4) new →
-      (part (set stores (36 * j + 1) 1) (36 * j + 4) 32 ≡ sha256 (v .block j)) × Known v (set stores (36 * j + 1) 1)
+      (part (set stores (36 * j + 1) 1) (36 * j + 4) 32 ≡ sha256 (v .block j)) × Known heights v (set stores (36 * j + 1) 1)
   stored stores e =
-      subst (λ (s : Bytes). (part (set s (36 * j + 1) 1) (36 * j + 4) 32 ≡ sha256 (v .block j)) × Known v (set s (36 * j + 1) 1)) (sym e) digest-stored
+      subst (λ (s : Bytes). (part (set s (36 * j + 1) 1) (36 * j + 4) 32 ≡ sha256 (v .block j)) × Known heights v (set s (36 * j + 1) 1)) (sym e) digest-stored
 
 -- ---- runs of dummies
 module _ (v : View) where

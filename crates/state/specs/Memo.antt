@@ -9,6 +9,8 @@ use Rattle.protocol.specs.State.{decode, bookHeights}
 use Rattle.protocol.specs.View.{View, linked, isDummy}
 use Rattle.protocol.specs.Sound.{view}
 use Rattle.fields.specs.Ready.{Sized}
+use Rattle.fields.specs.Shown.{viewOf}
+use Rattle.fields.specs.declared.kind.Kind.{Kind}
 use Rattle.sha256.specs.Digest.{sha256}
 
 -- a book of the right length with at most 16 replicas
@@ -22,7 +24,7 @@ unfoldable pub runStart : View → ℕ → ℕ
 runStart v zero = 0
 runStart v (suc h) = cond (isDummy v (suc h)) (runStart v h) (suc h)
 
--- a memory has 36 bytes for height 0 and for each height of the largest book
+-- a memory has 36 bytes for height 0 and for each height of the book: this many are enough for the largest one
 abbrev pub memorySize : ℕ
 memorySize = 36 * (maximumHeights + 1)
 
@@ -35,10 +37,14 @@ pub record KnownAt (v : View) (known : Bytes) (h : ℕ) : Type 0 where
   pub digest : byteAt known (36 * h + 1) ≡ 1 → part known (36 * h + 4) 32 ≡ sha256 (v .block h)
   pub run : 0 < word16 known (36 * h + 2) → word16 known (36 * h + 2) ≡ runStart v h + 1
 
-pub record Known (v : View) (known : Bytes) : Type 0 where
-  pub size : length known ≡ memorySize
-  pub each : (h : ℕ) → h ≤ maximumHeights → KnownAt v known h
+pub record Known (heights : ℕ) (v : View) (known : Bytes) : Type 0 where
+  pub room : 36 * (heights + 1) ≤ length known
+  pub each : (h : ℕ) → h ≤ heights → KnownAt v known h
 
 -- a memory of a replica's book
 abbrev pub Memo : Bytes → Bytes → Type 0
-Memo book known = Known (view (decode book)) known
+Memo book known = Known (bookHeights book) (view (decode book)) known
+
+-- a memory of a book of any kind
+abbrev pub MemoAs : Kind → Bytes → Bytes → Type 0
+MemoAs kind book known = Known (bookHeights book) (viewOf kind book) known

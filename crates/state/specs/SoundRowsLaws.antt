@@ -86,9 +86,9 @@ readable book e =
     }
 
 -- zeros say nothing of any height
-pub zero-memo : (book known : Bytes) → known ≡ zeros memorySize → Memo book known
-zero-memo book known e = record {
-  size = rw e (length-zeros memorySize);
+pub zero-memo : (book known : Bytes) → Readable book → known ≡ zeros memorySize → Memo book known
+zero-memo book known readable e = record {
+  room = let size = length-zeros memorySize in let few = readable .heights in rw e (omega arith);
   each = λ h high. record {
     is-linked = λ seen. let none-seen = unseen (36 * h) in absurd (omega arith);
     not-linked = λ seen. let none-seen = unseen (36 * h) in absurd (omega arith);

@@ -10,18 +10,18 @@ ghost use Rattle.protocol.specs.State.{bookHeights};
 ghost use Rattle.protocol.specs.View.{dummyRun};
 ghost use Rattle.fields.specs.Ready.{Within};
 ghost use Rattle.fields.specs.Shown.{Shown, viewOf};
-ghost use Rattle.state.specs.Memo.{Known, runStart};
+ghost use Rattle.state.specs.Memo.{MemoAs, runStart};
 
-// The size of a memory: height 0 and the heights of the largest book.
+// The size of a memory of the largest book.
 pub const SIZE: usize = 2304;
 
 // Keeps the digest of the notarized block of height `j`. Costs one digest where it is not kept yet, and one read where it is.
 pub fn keep_digest(kind: Kind, book: &[u8], j: usize, known: &mut [u8])
     requires { ⌜ Shown kind (now book) ⌝ }
-    requires { ⌜ Known (viewOf kind (now book)) (now known) ⌝ }
+    requires { ⌜ MemoAs kind (now book) (now known) ⌝ }
     requires { ⌜ Within (now book) j ⌝ }
     ensures kept { λ _. ⌜ part (now (known .exit)) (36 * j + 4) 32 ≡ sha (viewOf kind (now (book .entry)) .block j) ⌝ }
-    ensures memo { λ _. ⌜ Known (viewOf kind (now (book .entry))) (now (known .exit)) ⌝ }
+    ensures memo { λ _. ⌜ MemoAs kind (now (book .entry)) (now (known .exit)) ⌝ }
 {
     let kept = known[36 * j + 1];
     if kept == 1 {
@@ -36,11 +36,11 @@ pub fn keep_digest(kind: Kind, book: &[u8], j: usize, known: &mut [u8])
 // Each call goes to a lower height.
 fn run_start(kind: Kind, book: &[u8], h: usize, known: &mut [u8]) -> usize
     requires { ⌜ Shown kind (now book) ⌝ }
-    requires { ⌜ Known (viewOf kind (now book)) (now known) ⌝ }
+    requires { ⌜ MemoAs kind (now book) (now known) ⌝ }
     requires { ⌜ h ≤ bookHeights (now book) ⌝ }
     ensures answer { λ r. ⌜ r ≡ runStart (viewOf kind (now (book .entry))) h ⌝ }
     ensures within { λ r. ⌜ r ≤ h ⌝ }
-    ensures memo { λ _. ⌜ Known (viewOf kind (now (book .entry))) (now (known .exit)) ⌝ }
+    ensures memo { λ _. ⌜ MemoAs kind (now (book .entry)) (now (known .exit)) ⌝ }
 {
     if h == 0 {
         return 0;
@@ -62,10 +62,10 @@ fn run_start(kind: Kind, book: &[u8], h: usize, known: &mut [u8]) -> usize
 // Whether the dummy blocks of the heights after `j` up to `top` are notarized. Where there are none, nothing is counted.
 pub fn dummies_after(kind: Kind, book: &[u8], j: usize, top: usize, known: &mut [u8]) -> bool
     requires { ⌜ Shown kind (now book) ⌝ }
-    requires { ⌜ Known (viewOf kind (now book)) (now known) ⌝ }
+    requires { ⌜ MemoAs kind (now book) (now known) ⌝ }
     requires { ⌜ (j ≤ top) × (top ≤ bookHeights (now book)) ⌝ }
     ensures answer { λ r. ⌜ r ≡ dummyRun (viewOf kind (now (book .entry))) j (top - j) ⌝ }
-    ensures memo { λ _. ⌜ Known (viewOf kind (now (book .entry))) (now (known .exit)) ⌝ }
+    ensures memo { λ _. ⌜ MemoAs kind (now (book .entry)) (now (known .exit)) ⌝ }
 {
     if j == top {
         return true;

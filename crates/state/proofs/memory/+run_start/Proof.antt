@@ -3,10 +3,9 @@ use native.Mathlib.Omega.{arith}
 use borrow.Author.Needs.{needs}
 use mathlib.Core.Path.{_≡_, sym, _∙_}
 use Rattle.protocol.specs.Bytes.{word16}
-use Rattle.protocol.specs.Block.{maximumHeights}
 use Rattle.fields.specs.Shown.{viewOf}
 use Rattle.state.proofs.Stores.{start-zero, start-within, start-back, start-here, remember-run}
-use Prim.Native.Nat.{ℕ, _+_, _*_, _≤_, _<_}
+use Prim.Native.Nat.{ℕ, _+_, _*_, _<_}
 use borrow.Fn.Kinds.{In}
 use borrow.Fn.PlainCycle.{Measures, is, falls, and}
 use Rattle.state.proofs.memory.run_start.Reads as run-start
@@ -76,7 +75,7 @@ run-start-word-requires : (t : ℕ) → run-start-lts.Need-word-requires (
   put-word-reads.Asked,
   put-word-reads.Learnt,
 ) (run-start-at t) run-start.Post
-run-start-word-requires t c κs = let z = c .before .before .before .before in omega (arith, z .pre .1 .1 .1, z .pre .1 .0 .heights, z .pre .1 .1 .0 .size)
+run-start-word-requires t c κs = let z = c .before .before .before .before in omega (arith, z .pre .1 .1 .1, z .pre .1 .0 .heights, z .pre .1 .1 .0 .room)
 
 run-start-sub-result : (t : ℕ) → run-start-lts.Need-sub-result (
   word-reads.Asked,
@@ -116,7 +115,7 @@ run-start-returns-2 t c =
     let z = c .before .before .before .before .before .before in
     let v = viewOf (z .args .kind) (z .args .book .now) in
     let read : c .before .word .result ≡ word16 (z .args .known .now) (36 * z .args .h + 2) = c .before .word .ensures .0 in
-    let run = z .pre .1 .1 .0 .each (z .args .h) (omega (arith, z .pre .1 .1 .1, z .pre .1 .0 .heights)) .run (omega (arith, read, c .if2 .taken)) in
+    let run = z .pre .1 .1 .0 .each (z .args .h) (z .pre .1 .1 .1) .run (omega (arith, read, c .if2 .taken)) in
     let low = start-within v (z .args .h) in
     (omega (arith, read, run), (omega (arith, read, run, low), z .pre .1 .1 .0))
 
@@ -209,7 +208,7 @@ run-start-put-word-requires : (t : ℕ) → run-start-lts.Need-put-word-requires
 run-start-put-word-requires t c κs =
     let below = c .before .before .before .run-start in
     let z = c .before .before .before .before .before .before .before .before .before .before .before .before .before in
-    (omega (arith, below .ensures .1 .1 .size, z .pre .1 .1 .1, z .pre .1 .0 .heights), omega (arith, below .ensures .1 .0, z .pre .1 .1 .1, z .pre .1 .0 .heights))
+    (omega (arith, below .ensures .1 .1 .room, z .pre .1 .1 .1, z .pre .1 .0 .heights), omega (arith, below .ensures .1 .0, z .pre .1 .1 .1, z .pre .1 .0 .heights))
 
 run-start-mul-put-word-2 : (t : ℕ) → run-start-lts.Need-mul-put-word-2 (
   word-reads.Asked,
@@ -259,7 +258,7 @@ run-start-put-word-requires-2 : (t : ℕ) → run-start-lts.Need-put-word-requir
 ) (run-start-at t) run-start.Post
 run-start-put-word-requires-2 t c κs =
     let z = c .before .before .before .before .before .before .before .before .before in
-    (omega (arith, z .pre .1 .1 .0 .size, z .pre .1 .1 .1, z .pre .1 .0 .heights), omega (arith, z .pre .1 .1 .1, z .pre .1 .0 .heights))
+    (omega (arith, z .pre .1 .1 .0 .room, z .pre .1 .1 .1, z .pre .1 .0 .heights), omega (arith, z .pre .1 .1 .1, z .pre .1 .0 .heights))
 
 run-start-same-length-2 : (t : ℕ) → run-start-lts.Need-same-length-2 (
   word-reads.Asked,
@@ -289,9 +288,8 @@ run-start-returns-3 t c =
     let test = c .before .before .before .before .before .before .before .before in
     let z = c .before .before .before .before .before .before .before .before .before .before .before .before .before .before .before .before in
     let v = viewOf (z .args .kind) (z .args .book .now) in
-    let inside : z .args .h ≤ maximumHeights = omega (arith, z .pre .1 .1 .1, z .pre .1 .0 .heights) in
     let answer = below .ensures .0 ∙ start-back v (z .args .h) (omega arith) (sym (test .before .is-dummy .ensures) ∙ test .if3 .taken) in
-    (answer, (omega arith, remember-run v (below .last .1 .1 .1 .0) (below .ensures .1 .1) (z .args .h) inside (below .result) answer (wrote .last .0) (wrote .ensures)))
+    (answer, (omega arith, remember-run v (below .last .1 .1 .1 .0) (below .ensures .1 .1) (z .args .h) (z .pre .1 .1 .1) (below .result) answer (wrote .last .0) (wrote .ensures)))
 
 run-start-same-length-3 : (t : ℕ) → run-start-lts.Need-same-length-3 (
   word-reads.Asked,
@@ -320,9 +318,8 @@ run-start-returns-4 t c =
     let test = c .before .before .before .before in
     let z = c .before .before .before .before .before .before .before .before .before .before .before .before in
     let v = viewOf (z .args .kind) (z .args .book .now) in
-    let inside : z .args .h ≤ maximumHeights = omega (arith, z .pre .1 .1 .1, z .pre .1 .0 .heights) in
     let answer = start-here v (z .args .h) (omega arith) (sym (test .before .is-dummy .ensures) ∙ test .if3 .left) in
-    (answer, (omega arith, remember-run v (z .args .known .now) (z .pre .1 .1 .0) (z .args .h) inside (z .args .h) answer (wrote .last .0) (wrote .ensures)))
+    (answer, (omega arith, remember-run v (z .args .known .now) (z .pre .1 .1 .0) (z .args .h) (z .pre .1 .1 .1) (z .args .h) answer (wrote .last .0) (wrote .ensures)))
 
 pub +run-start-spec : {M : Type 1} → statement M
 +run-start-spec = close μ-run-start λ t. run-start-lts.spec (
