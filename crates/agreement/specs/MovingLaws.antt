@@ -21,7 +21,7 @@ use Rattle.protocol.specs.Move.{Step, blockVoteApplies, blockVoteStep, dummyVot
 use Rattle.protocol.specs.RowLaws.{row}
 use Rattle.protocol.specs.Sound.{view}
 use Rattle.protocol.specs.State.{State, at, flag, noHeight, withHead}
-use Rattle.protocol.specs.StateLaws.{word16-le16}
+use Rattle.protocol.specs.BytesLaws.{word16-le16}
 use Rattle.protocol.specs.TestsLaws.{cond-elim}
 use Rattle.protocol.specs.View.{linked}
 use Rattle.agreement.specs.BackingLaws.{Backed}
@@ -36,41 +36,41 @@ when-some false a x e = let z : _≡_ {A = ℕ} 0 1 = cc in absurd (omega arith)
 -- ---- what the written frames say
 module _ (digest : Bytes → Bytes) (o c s : ℕ) (st : Statement) where
   dummyVote-says : statementOf digest (dummyVote o c) s ≡ some st → st ≡ votesDummy c
-  unfolding statementOf dummyVote frameOf kind signer frameHeight
-  dummyVote-says e = when-some (eqb o s) (votesDummy c) st e .0
+  unfolding statementOf dummyVote frameOf kind signer frameHeight word16 le16
+  dummyVote-says e = when-some (eqb o s) (votesDummy c) st (rw (word16-le16 c) at e) .0
 
   finalize-says : statementOf digest (finalize o c) s ≡ some st → st ≡ finalizes c
-  unfolding statementOf finalize frameOf kind signer frameHeight
-  finalize-says e = when-some (eqb o s) (finalizes c) st e .0
+  unfolding statementOf finalize frameOf kind signer frameHeight word16 le16
+  finalize-says e = when-some (eqb o s) (finalizes c) st (rw (word16-le16 c) at e) .0
 
   blockVote-says : (d : Bytes) → statementOf digest (blockVote o c d) s ≡ some st →
       st ≡ votesBlock c (frameDigest (blockVote o c d))
-  unfolding statementOf blockVote frameOf kind signer frameHeight
-  blockVote-says d e = when-some (eqb o s) (votesBlock c (frameDigest (blockVote o c d))) st e .0
+  unfolding statementOf blockVote frameOf kind signer frameHeight word16 le16
+  blockVote-says d e = when-some (eqb o s) (votesBlock c (frameDigest (blockVote o c d))) st (rw (word16-le16 c) at e) .0
 
   proposal-says : (p : Bytes) → statementOf digest (proposal o c p) s ≡ some st → (h : ℕ) × (q : Bytes) × (st ≡ proposes h q)
-  unfolding statementOf proposal frameOf kind signer frameHeight
-  proposal-says p e = (c, frameBlock (proposal o c p), when-some (eqb o s) (proposes c (frameBlock (proposal o c p))) st e .0)
+  unfolding statementOf proposal frameOf kind signer frameHeight word16 le16
+  proposal-says p e = (c, frameBlock (proposal o c p), when-some (eqb o s) (proposes c (frameBlock (proposal o c p))) st (rw (word16-le16 c) at e) .0)
 
   pub blockCertificate-says : (m : ℕ) (p : Bytes) → statementOf digest (blockCertificate c m p) s ≡ some st →
       (st ≡ votesBlock c (digest p)) × (inMask m s ≡ true)
   unfolding statementOf blockCertificate frameOf kind signer frameHeight signerMask word16 le16 zeros frameBlock
   blockCertificate-says m p e =
-      let q = when-some (inMask (m % 256 + 256 * (m / 256)) s) (votesBlock c (digest p)) st e in
+      let q = when-some (inMask (m % 256 + 256 * (m / 256)) s) (votesBlock c (digest p)) st (rw (word16-le16 c) at e) in
       (q .0, rw (word16-le16 m) at (q .1))
 
   pub dummyCertificate-says : (m : ℕ) → statementOf digest (dummyCertificate c m) s ≡ some st →
       (st ≡ votesDummy c) × (inMask m s ≡ true)
   unfolding statementOf dummyCertificate frameOf kind signer frameHeight signerMask word16 le16 zeros
   dummyCertificate-says m e =
-      let q = when-some (inMask (m % 256 + 256 * (m / 256)) s) (votesDummy c) st e in
+      let q = when-some (inMask (m % 256 + 256 * (m / 256)) s) (votesDummy c) st (rw (word16-le16 c) at e) in
       (q .0, rw (word16-le16 m) at (q .1))
 
   pub finalizeCertificate-says : (m : ℕ) → statementOf digest (finalizeCertificate c m) s ≡ some st →
       (st ≡ finalizes c) × (inMask m s ≡ true)
   unfolding statementOf finalizeCertificate frameOf kind signer frameHeight signerMask word16 le16 zeros
   finalizeCertificate-says m e =
-      let q = when-some (inMask (m % 256 + 256 * (m / 256)) s) (finalizes c) st e in
+      let q = when-some (inMask (m % 256 + 256 * (m / 256)) s) (finalizes c) st (rw (word16-le16 c) at e) in
       (q .0, rw (word16-le16 m) at (q .1))
 
 module _ (digest : Bytes → Bytes) (U : ℕ → Statement → Type 0) (U′ : Statement → Type 0) (S : Bytes → Type 0) (s : ℕ) (b : State)

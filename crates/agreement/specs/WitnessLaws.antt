@@ -7,7 +7,7 @@ use mathlib.Core.Bool.{Bool, true}
 use mathlib.Core.List.{List, [], _∷_}
 use mathlib.Core.Option.{some, none}
 use Rattle.protocol.specs.Block.{newBlock}
-use Rattle.protocol.specs.Bytes.{Bytes, byteAt, join, le16, zeros}
+use Rattle.protocol.specs.Bytes.{Bytes, byteAt, join, le16, word16, zeros}
 use Rattle.protocol.specs.Frame.{dummyCertificate, frameBlock, frameHeight, frameOf, kind, proposal, signer}
 use Rattle.protocol.specs.RowLaws.{row}
 use Rattle.protocol.specs.Tests.{allOf}
@@ -43,12 +43,12 @@ tested = refl
 
 -- ---- from tests to facts
 proposal-says : (block : Bytes) → statementOf sample (proposal 3 1 block) 3 ≡ some (proposes 1 block)
-unfolding statementOf when proposal frameOf kind signer frameHeight frameBlock le16 zeros
+unfolding statementOf when proposal frameOf kind signer frameHeight frameBlock word16 le16 zeros
 proposal-says block = refl
 
 -- the two blocks differ in their first entry
 two-blocks : oneBlock ≢ otherBlock
-unfolding oneBlock otherBlock newBlock zeros join
+unfolding oneBlock otherBlock newBlock le16 zeros join
 two-blocks e = let z : _≡_ {A = ℕ} 10 11 = ap (λ (b : Bytes). byteAt b 48) e in omega arith
 
 met : Met sample 4 dishonest list entry

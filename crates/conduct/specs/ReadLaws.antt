@@ -22,7 +22,7 @@ use Rattle.protocol.specs.RowLaws.{refuse-row, zeros-is-zero, range-in}
 use Rattle.conduct.specs.Fields.{Fields, fields, proposalFields, blockVoteFields, dummyVoteFields, finalizeFields, blockCertificateFields, dummyCertificateFields, finalizeCertificateFields}
 use Rattle.conduct.specs.Readable.{IsRead, Said}
 use Rattle.protocol.specs.BytesLaws.{length-zeros}
-use Rattle.conduct.specs.FrameLaws.{Fitting, fields-back, frame-size, well-formed, mask-back}
+use Rattle.conduct.specs.FrameLaws.{Fitting, fields-back, frame-size, well-formed, mask-back, height-back}
 
 -- rows that all pass refuse nothing
 pass-rows : {rows : List Row} → Every (λ (r : Row). r .1 ≡ true) rows → firstRefusal rows ≡ none
@@ -55,24 +55,25 @@ module _ (t : State) (k s h mask : ℕ) (digest block : Bytes) (digest-size : le
   }
     where
       passes : IsRead t (frameOf k s h mask digest block)
-      passes = unfold readRows kind signer frameHeight frameOf in
+      passes = unfold readRows kind signer frameOf in
           pass-rows
           (one (well-formed k s h mask digest block digest-size fits)
-          (one (range-in 1 (last t) h low high)
+          (one (ap (inRange 1 (last t)) (height-back k s h mask digest block digest-size) ∙ range-in 1 (last t) h low high)
           (one (ap (λ (m : ℕ). cond (isStatement k) (ltb s (t .n)) (belowBit (t .n) m)) (mask-back k s h mask digest block digest-size) ∙ signer-row)
-          (one leader-row
+          (one (ap (λ (i : ℕ). implies (eqb k 1) (eqb s (at t i .leader))) (height-back k s h mask digest block digest-size) ∙ leader-row)
           (one (ap (λ (m : ℕ). isStatement k || quorum (view t) m) (mask-back k s h mask digest block digest-size) ∙ quorum-row)
           Every.none)))))
 
 -- ---- what a kind asks of the other fields
 -- where it carries no digest and no block
-bare : (k s h mask : ℕ) → (isStatement k || isCertificate k) ≡ true → (isStatement k || eqb s 0) ≡ true → (isCertificate k || eqb mask 0) ≡ true →
+bare : (k s h mask : ℕ) → h < 256 → (isStatement k || isCertificate k) ≡ true → (isStatement k || eqb s 0) ≡ true → (isCertificate k || eqb mask 0) ≡ true →
     carriesDigest k ≡ false → carriesBlock k ≡ false → Fitting k s h mask (zeros 32) (zeros 176) (length-zeros 32)
 unfolding implies
-bare k s h mask a b c d e = record {
+bare k s h mask short a b c d e = record {
   block-size = length-zeros 176;
   a-kind = a;
   a-signer = b;
+  a-height = short;
   a-mask = c;
   a-digest = rw d (zeros-is-zero 32);
   a-block = rw e (zeros-is-zero 176);
@@ -80,13 +81,14 @@ bare k s h mask a b c d e = record {
 }
 
 -- where it carries a block
-carrying : (k s h mask : ℕ) (block : Bytes) → (isStatement k || isCertificate k) ≡ true → (isStatement k || eqb s 0) ≡ true → (isCertificate k || eqb mask 0) ≡ true →
+carrying : (k s h mask : ℕ) (block : Bytes) → h < 256 → (isStatement k || isCertificate k) ≡ true → (isStatement k || eqb s 0) ≡ true → (isCertificate k || eqb mask 0) ≡ true →
     carriesDigest k ≡ false → carriesBlock k ≡ true → blockWellFormed h block ≡ true → Fitting k s h mask (zeros 32) block (length-zeros 32)
 unfolding implies
-carrying k s h mask block a b c d e good = record {
+carrying k s h mask block short a b c d e good = record {
   block-size = formed h block good .size;
   a-kind = a;
   a-signer = b;
+  a-height = short;
   a-mask = c;
   a-digest = rw d (zeros-is-zero 32);
   a-block = rw e;
@@ -94,46 +96,46 @@ carrying k s h mask block a b c d e good = record {
 }
 
 -- ---- each kind over a state that has its height
-module _ (t : State) (h : ℕ) (low : 1 ≤ h) (high : h ≤ last t) where
+module _ (t : State) (h : ℕ) (low : 1 ≤ h) (high : h ≤ last t) (short : h < 256) where
   module _ (s : ℕ) (small : s < t .n) where
     pub proposal-read : (block : Bytes) → blockWellFormed h block ≡ true → s ≡ at t h .leader → Written t (proposalFields s h block) (proposal s h block)
     unfolding proposal proposalFields isStatement isCertificate carriesBlock carriesDigest inRange implies
     proposal-read block good leads =
-        read-over t 1 s h 0 (zeros 32) block (length-zeros 32) (carrying 1 s h 0 block refl refl refl refl refl good) low high
+        read-over t 1 s h 0 (zeros 32) block (length-zeros 32) (carrying 1 s h 0 block short refl refl refl refl refl good) low high
         (lt-ltb s (t .n) small) (eq-eqb s (at t h .leader) leads) refl
 
     pub block-vote-read : (digest : Bytes) → length digest ≡ 32 → Written t (blockVoteFields s h digest) (blockVote s h digest)
     unfolding blockVote blockVoteFields isStatement isCertificate carriesBlock carriesDigest inRange implies
     block-vote-read digest sized =
         read-over t 2 s h 0 digest (zeros 176) sized
-        (record { block-size = length-zeros 176; a-kind = refl; a-signer = refl; a-mask = refl; a-digest = refl; a-block = zeros-is-zero 176; good-block = refl })
+        (record { block-size = length-zeros 176; a-kind = refl; a-signer = refl; a-height = short; a-mask = refl; a-digest = refl; a-block = zeros-is-zero 176; good-block = refl })
         low high (lt-ltb s (t .n) small) refl refl
 
     pub dummy-vote-read : Written t (dummyVoteFields s h) (dummyVote s h)
     unfolding dummyVote dummyVoteFields isStatement isCertificate carriesBlock carriesDigest inRange implies
     dummy-vote-read =
-        read-over t 3 s h 0 (zeros 32) (zeros 176) (length-zeros 32) (bare 3 s h 0 refl refl refl refl refl) low high (lt-ltb s (t .n) small) refl refl
+        read-over t 3 s h 0 (zeros 32) (zeros 176) (length-zeros 32) (bare 3 s h 0 short refl refl refl refl refl) low high (lt-ltb s (t .n) small) refl refl
 
     pub finalize-read : Written t (finalizeFields s h) (finalize s h)
     unfolding finalize finalizeFields isStatement isCertificate carriesBlock carriesDigest inRange implies
     finalize-read =
-        read-over t 4 s h 0 (zeros 32) (zeros 176) (length-zeros 32) (bare 4 s h 0 refl refl refl refl refl) low high (lt-ltb s (t .n) small) refl refl
+        read-over t 4 s h 0 (zeros 32) (zeros 176) (length-zeros 32) (bare 4 s h 0 short refl refl refl refl refl) low high (lt-ltb s (t .n) small) refl refl
 
   module _ (mask : ℕ) (small : belowBit (t .n) mask ≡ true) (enough : quorum (view t) mask ≡ true) where
     pub block-certificate-read : (block : Bytes) → blockWellFormed h block ≡ true → Written t (blockCertificateFields h mask block) (blockCertificate h mask block)
     unfolding blockCertificate blockCertificateFields isStatement isCertificate carriesBlock carriesDigest inRange implies
     block-certificate-read block good =
-        read-over t 5 0 h mask (zeros 32) block (length-zeros 32) (carrying 5 0 h mask block refl refl refl refl refl good) low high small refl enough
+        read-over t 5 0 h mask (zeros 32) block (length-zeros 32) (carrying 5 0 h mask block short refl refl refl refl refl good) low high small refl enough
 
     pub dummy-certificate-read : Written t (dummyCertificateFields h mask) (dummyCertificate h mask)
     unfolding dummyCertificate dummyCertificateFields isStatement isCertificate carriesBlock carriesDigest inRange implies
     dummy-certificate-read =
-        read-over t 6 0 h mask (zeros 32) (zeros 176) (length-zeros 32) (bare 6 0 h mask refl refl refl refl refl) low high small refl enough
+        read-over t 6 0 h mask (zeros 32) (zeros 176) (length-zeros 32) (bare 6 0 h mask short refl refl refl refl refl) low high small refl enough
 
     pub finalize-certificate-read : Written t (finalizeCertificateFields h mask) (finalizeCertificate h mask)
     unfolding finalizeCertificate finalizeCertificateFields isStatement isCertificate carriesBlock carriesDigest inRange implies
     finalize-certificate-read =
-        read-over t 7 0 h mask (zeros 32) (zeros 176) (length-zeros 32) (bare 7 0 h mask refl refl refl refl refl) low high small refl enough
+        read-over t 7 0 h mask (zeros 32) (zeros 176) (length-zeros 32) (bare 7 0 h mask short refl refl refl refl refl) low high small refl enough
 
 -- ---- 224 zero bytes
 zeros-unformed : frameWellFormed (zeros 224) ≡ false

@@ -60,20 +60,23 @@ module _ (digest : Bytes → Bytes) (s : State) (is : SoundState digest s) (t : 
     also-high : h ≤ last t
     also-high = rw (same .same-last) high
 
+    short : h < 256
+    short = let few = is .last-high in omega arith
+
     pub block-certificate : isNotarized (at s h) ≡ true → Written t (blockCertificateFields h (at s h .certificateMask) (at s h .notarized)) (blockCertificate h (at s h .certificateMask) (at s h .notarized))
     block-certificate has =
-        block-certificate-read t h low also-high (at s h .certificateMask) (mask-small (at s h .certificateMask) (facts .certificate-below))
+        block-certificate-read t h low also-high short (at s h .certificateMask) (mask-small (at s h .certificateMask) (facts .certificate-below))
         (as-many (at s h .certificateMask) (facts .certified has)) (at s h .notarized) (facts .notarized-formed has)
 
     pub dummy-certificate : isDummy (view s) h ≡ true → Written t (dummyCertificateFields h (at s h .dummyMask)) (dummyCertificate h (at s h .dummyMask))
     unfolding isDummy view
     dummy-certificate enough =
-        dummy-certificate-read t h low also-high (at s h .dummyMask) (mask-small (at s h .dummyMask) (facts .dummy-below))
+        dummy-certificate-read t h low also-high short (at s h .dummyMask) (mask-small (at s h .dummyMask) (facts .dummy-below))
         (as-many (at s h .dummyMask) enough)
 
     pub finalize-certificate : quorum (view s) (at s h .finalizeMask) ≡ true → Written t (finalizeCertificateFields h (at s h .finalizeMask)) (finalizeCertificate h (at s h .finalizeMask))
     finalize-certificate enough =
-        finalize-certificate-read t h low also-high (at s h .finalizeMask) (mask-small (at s h .finalizeMask) (facts .finalize-below))
+        finalize-certificate-read t h low also-high short (at s h .finalizeMask) (mask-small (at s h .finalizeMask) (facts .finalize-below))
         (as-many (at s h .finalizeMask) enough)
 
   -- ---- the moves
@@ -86,7 +89,7 @@ module _ (digest : Bytes → Bytes) (s : State) (is : SoundState digest s) (t : 
 
   dummy-vote : dummyVoteApplies s ≡ true → Good (dummyVoteStep s)
   unfolding dummyVoteApplies dummyVoteStep moveFields
-  dummy-vote e = said-more (dummy-vote-read t c (is .current-low) (also-high c (is .current-low) (runs (row _ 0 e))) (s .own) own-small) (said-none t)
+  dummy-vote e = said-more (dummy-vote-read t c (is .current-low) (also-high c (is .current-low) (runs (row _ 0 e))) (short c (is .current-low) (runs (row _ 0 e))) (s .own) own-small) (said-none t)
 
   output-good : Good (outputStep digest s)
   unfolding outputStep moveFields
@@ -111,7 +114,7 @@ module _ (digest : Bytes → Bytes) (s : State) (is : SoundState digest s) (t : 
           cond inTime (finalize (s .own) c ∷ []) [])
       go true = unfold moveFields in
           said-more (certificate (linked digest (view s) c) refl (runs (both .0)) (both .1))
-          (said-more (finalize-read t c (is .current-low) (also-high c (is .current-low) (runs (both .0))) (s .own) own-small) (said-none t))
+          (said-more (finalize-read t c (is .current-low) (also-high c (is .current-low) (runs (both .0))) (short c (is .current-low) (runs (both .0))) (s .own) own-small) (said-none t))
       go false = unfold moveFields in said-more (certificate (linked digest (view s) c) refl (runs (both .0)) (both .1)) (said-none t)
 
   -- ---- statements with a digest
@@ -123,13 +126,14 @@ module _ (digest : Bytes → Bytes) (s : State) (is : SoundState digest s) (t : 
     unfolding isSome someOr proposedBlock
     proposed-good none p e = absurd (false≢true e)
     proposed-good (some j) p e = new-block-good c j (digestAt digest (view s) j) (offered s j) (below-current j p) (digest-at-size digest (view s) sized j) (digest-at-start digest (view s) j) (offered-few s j) (offered-sized digest s is j)
+        (let few = is .last-high in let near = is .current-high in omega arith)
 
     propose-good : proposeApplies digest s ≡ true → Good (proposeStep digest s)
     unfolding proposeApplies proposeStep moveFields offeredBlock
     propose-good e =
         let high : c ≤ last s = runs (row _ 0 e) in
         said-more
-        (proposal-read t c (is .current-low) (also-high c (is .current-low) high) (s .own) own-small
+        (proposal-read t c (is .current-low) (also-high c (is .current-low) high) (short c (is .current-low) high) (s .own) own-small
         (proposedBlock digest s (someOr 0 (parentBelow digest s))) (proposed-good (parentBelow digest s) refl (row _ 3 e))
         (sym (eqb-true _ _ (row _ 1 e)) ∙ sym (same .same-leaders c (is .current-low) high)))
         (said-none t)
@@ -137,7 +141,7 @@ module _ (digest : Bytes → Bytes) (s : State) (is : SoundState digest s) (t : 
     block-vote : blockVoteApplies digest s ≡ true → Good (blockVoteStep digest s)
     unfolding blockVoteApplies blockVoteStep moveFields
     block-vote e =
-        said-more (block-vote-read t c (is .current-low) (also-high c (is .current-low) (runs (row _ 0 e))) (s .own) own-small (digest (at s c .proposal)) (sized _))
+        said-more (block-vote-read t c (is .current-low) (also-high c (is .current-low) (runs (row _ 0 e))) (short c (is .current-low) (runs (row _ 0 e))) (s .own) own-small (digest (at s c .proposal)) (sized _))
         (said-none t)
 
     idle-good : Good (idleStep s)

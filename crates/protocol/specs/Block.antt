@@ -4,7 +4,7 @@ use mathlib.Core.Bool.{Bool}
 use mathlib.Core.List.{List, [], _∷_, _++_}
 use lib.ListN.{length, drop}
 use lib.Dec.{eqb, leb, ltb}
-use Rattle.protocol.specs.Bytes.{Bytes, byteAt, part, zeros, isZero, join, pieces}
+use Rattle.protocol.specs.Bytes.{Bytes, byteAt, word16, le16, part, zeros, isZero, join, pieces}
 use Rattle.protocol.specs.Tests.{allOf, implies}
 
 -- the largest number of heights of a book
@@ -25,11 +25,11 @@ abbrev pub blockEntries : ℕ
 blockEntries = 8
 
 unfoldable pub blockHeight : Bytes → ℕ
-blockHeight block = byteAt block 0
+blockHeight block = word16 block 0
 
 -- the height of the parent block (document 01: back height, j)
 unfoldable pub parentHeight : Bytes → ℕ
-parentHeight block = byteAt block 2
+parentHeight block = word16 block 2
 
 unfoldable pub entryCount : Bytes → ℕ
 entryCount block = byteAt block 4
@@ -41,7 +41,7 @@ parentDigest block = part block 16 digestSize
 unfoldable pub entries : Bytes → List Bytes
 entries block = pieces entrySize (entryCount block) (drop 48 block)
 
--- a block as it must be at height `h`
+-- a block as it must be at height `h`; the high bytes of both heights are called zero, so heights are below 256
 unfoldable pub blockWellFormed : ℕ → Bytes → Bool
 blockWellFormed h block = allOf
     (eqb (length block) blockSize ∷
@@ -57,7 +57,7 @@ blockWellFormed h block = allOf
 -- the block of height `h` on a parent, with these entries
 unfoldable pub newBlock : ℕ → ℕ → Bytes → List Bytes → Bytes
 newBlock h parent digest es =
-    (h ∷ 0 ∷ parent ∷ 0 ∷ length es ∷ zeros 11) ++
+    (le16 h ++ (le16 parent ++ (length es ∷ zeros 11))) ++
     (digest ++ (join es ++ zeros (entrySize * blockEntries - entrySize * length es)))
 
 -- the entries of a list of blocks, in order

@@ -5,24 +5,29 @@ use mathlib.Core.Path.{_≡_, refl, sym, ap, _∙_}
 use mathlib.Core.List.{List, [], _∷_, _++_, append-assoc}
 use lib.ListN.{length, drop, length-append}
 use lib.Seq.{drop-at}
-use Rattle.protocol.specs.Bytes.{Bytes, le16, zeros, join, overFront}
-use Rattle.protocol.specs.BytesLaws.{put, put-at, length-zeros, zeros-add}
+use Rattle.protocol.specs.Bytes.{Bytes, word16, le16, zeros, join, overFront}
+use Rattle.protocol.specs.BytesLaws.{put, put-at, length-zeros, zeros-add, word16-le16}
 use Rattle.protocol.specs.EveryLaws.{Every, none, one, every-append}
 use Rattle.protocol.specs.PiecesLaws.{Sized, length-join, join-more}
 use Rattle.protocol.specs.Block.{newBlock}
 use Rattle.protocol.specs.BlockLaws.{new-block-size}
-use Rattle.protocol.specs.Frame.{frameOf}
+use Rattle.protocol.specs.Frame.{frameHeight, frameOf}
 
 -- ---- one more entry of a new block
-put-count : (h parent count next : ℕ) (tail : Bytes) → put (h ∷ 0 ∷ parent ∷ 0 ∷ count ∷ tail) 4 (next ∷ []) ≡ h ∷ 0 ∷ parent ∷ 0 ∷ next ∷ tail
-unfolding put
+-- the first bytes of a block
+abbrev blockFront : (h parent count : ℕ) → Bytes → Bytes
+blockFront h parent count tail = le16 h ++ (le16 parent ++ (count ∷ tail))
+
+put-count : (h parent count next : ℕ) (tail : Bytes) → put (blockFront h parent count tail) 4 (next ∷ []) ≡ blockFront h parent next tail
+unfolding put le16
 put-count h parent count next tail = refl
 
 block-bytes : (h parent count next k : ℕ) (digest old gap more entry rest : Bytes) → length digest ≡ 32 → length old ≡ k → length gap ≡ length entry →
-    put (put (((h ∷ 0 ∷ parent ∷ 0 ∷ count ∷ zeros 11) ++ (digest ++ (old ++ (gap ++ more)))) ++ rest) (48 + k) entry) 4 (next ∷ []) ≡
-    ((h ∷ 0 ∷ parent ∷ 0 ∷ next ∷ zeros 11) ++ (digest ++ ((old ++ entry) ++ more))) ++ rest
+    put (put ((blockFront h parent count (zeros 11) ++ (digest ++ (old ++ (gap ++ more)))) ++ rest) (48 + k) entry) 4 (next ∷ []) ≡
+    (blockFront h parent next (zeros 11) ++ (digest ++ ((old ++ entry) ++ more))) ++ rest
+unfolding le16
 block-bytes h parent count next k digest old gap more entry rest d o g =
-    let head : Bytes = h ∷ 0 ∷ parent ∷ 0 ∷ count ∷ zeros 11 in
+    let head : Bytes = blockFront h parent count (zeros 11) in
     let front : Bytes = head ++ (digest ++ old) in
     let size : length front ≡ 48 + k = simp (length-append, length-zeros) (omega arith) in
     let group : (head ++ (digest ++ (old ++ (gap ++ more)))) ++ rest ≡ front ++ (gap ++ (more ++ rest)) = simp append-assoc in
@@ -33,7 +38,7 @@ block-bytes h parent count next k digest old gap more entry rest d o g =
     ap (λ (l : Bytes). put (put l (48 + k) entry) 4 (next ∷ [])) group ∙
     ap (λ (l : Bytes). put l 4 (next ∷ [])) first ∙
     put-count h parent count next tail ∙
-    ap (λ (l : Bytes). h ∷ 0 ∷ parent ∷ 0 ∷ next ∷ l) last
+    ap (λ (l : Bytes). blockFront h parent next l) last
 
 module _ (h parent : ℕ) (digest : Bytes) (digest-size : length digest ≡ 32) (buffer : Bytes) where
   over-block : (es : List Bytes) → Every (Sized 16) es → length es ≤ 8 → overFront (newBlock h parent digest es) buffer ≡ newBlock h parent digest es ++ drop 176 buffer
@@ -41,14 +46,14 @@ module _ (h parent : ℕ) (digest : Bytes) (digest-size : length digest ≡ 32) 
   over-block es sized few = rw (new-block-size h parent digest es digest-size sized few)
 
   gap-block : (es : List Bytes) → length es < 8 →
-      newBlock h parent digest es ≡ (h ∷ 0 ∷ parent ∷ 0 ∷ length es ∷ zeros 11) ++ (digest ++ (join es ++ (zeros 16 ++ zeros (128 - 16 * (length es + 1)))))
+      newBlock h parent digest es ≡ blockFront h parent (length es) (zeros 11) ++ (digest ++ (join es ++ (zeros 16 ++ zeros (128 - 16 * (length es + 1)))))
   unfolding newBlock
   gap-block es room =
       let sum : 128 - 16 * length es ≡ 16 + (128 - 16 * (length es + 1)) = omega arith in
       rw (sum, zeros-add 16 (128 - 16 * (length es + 1)))
 
   next-block : (es : List Bytes) (entry : Bytes) →
-      newBlock h parent digest (es ++ (entry ∷ [])) ≡ (h ∷ 0 ∷ parent ∷ 0 ∷ (length es + 1) ∷ zeros 11) ++ (digest ++ ((join es ++ entry) ++ zeros (128 - 16 * (length es + 1))))
+      newBlock h parent digest (es ++ (entry ∷ [])) ≡ blockFront h parent (length es + 1) (zeros 11) ++ (digest ++ ((join es ++ entry) ++ zeros (128 - 16 * (length es + 1))))
   unfolding newBlock
   next-block es entry = rw (join-more es entry, length-append es (entry ∷ []))
 
@@ -71,12 +76,17 @@ pub frame-size : (k s h mask : ℕ) (digest block : Bytes) → length (frameOf k
 unfolding frameOf le16 zeros
 frame-size k s h mask digest block = omega (arith, length-append digest block)
 
+-- the height that a frame was made of is its height
+pub frame-height : (k s h mask : ℕ) (digest block : Bytes) → frameHeight (frameOf k s h mask digest block) ≡ h
+unfolding frameHeight frameOf word16 le16
+frame-height k s h mask digest block = word16-le16 h
+
 module _ (k s h mask : ℕ) (digest old new : Bytes) (digest-size : length digest ≡ 32) (same-size : length old ≡ length new) where
   -- another block in the place of the frame's
   frame-block : (rest : Bytes) → put (frameOf k s h mask digest old ++ rest) 48 new ≡ frameOf k s h mask digest new ++ rest
   unfolding frameOf le16 zeros
   frame-block rest =
-      let front : Bytes = (k ∷ s ∷ h ∷ 0 ∷ []) ++ (le16 mask ++ (zeros 10 ++ digest)) in
+      let front : Bytes = (k ∷ s ∷ le16 h) ++ (le16 mask ++ (zeros 10 ++ digest)) in
       rw (append-assoc digest old rest, append-assoc digest new rest)
       (put-at front (old ++ rest) new 48 (rw digest-size) ∙ rw (drop-at old rest (length new) same-size))
 

@@ -41,6 +41,10 @@ pub word-high : (bytes : Bytes) (i : ℕ) → AreBytes bytes → word16 bytes i 
 unfolding word16
 word-high bytes i small = high-byte (byteAt bytes i) (byteAt bytes (i + 1)) (small i)
 
+-- the two bytes of a number are read as the number
+pub word16-le16 : (x : ℕ) → x % 256 + 256 * (x / 256) ≡ x
+word16-le16 x = omega arith
+
 -- ---- zero bytes
 pub length-zeros : (count : ℕ) → length (zeros count) ≡ count
 unfolding zeros

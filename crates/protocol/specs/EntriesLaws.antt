@@ -6,7 +6,7 @@ use mathlib.Core.Bool.{Bool, true, false, _||_, cond}
 use mathlib.Core.List.{List, [], _∷_, _++_}
 use lib.ListN.{length, getD, take, drop, take-append-drop}
 use lib.Seq.{take-at, take-all, drop-drop}
-use Rattle.protocol.specs.Bytes.{Bytes, byteAt, part, same, join, holds, without}
+use Rattle.protocol.specs.Bytes.{Bytes, part, same, join, holds, without}
 use Rattle.protocol.specs.TestsLaws.{or-right}
 use Rattle.protocol.specs.Block.{entryCount, entries}
 use Rattle.protocol.specs.State.{State, pending}
@@ -17,22 +17,22 @@ use Rattle.protocol.specs.ViewLaws.{log-zero}
 use Rattle.protocol.specs.PoolLaws.{without-append, entry-stays, entry-leaves, every-without}
 
 -- ---- the entries of a block
-pub entries-next : (block : Bytes) (k : ℕ) → k < byteAt block 4 → drop k (entries block) ≡ part block (48 + 16 * k) 16 ∷ drop (suc k) (entries block)
-unfolding entries entryCount
+pub entries-next : (block : Bytes) (k : ℕ) → k < entryCount block → drop k (entries block) ≡ part block (48 + 16 * k) 16 ∷ drop (suc k) (entries block)
+unfolding entries
 entries-next block k h =
-    pieces-next 16 (byteAt block 4) (drop 48 block) k h ∙ unfold part in rw drop-drop
+    pieces-next 16 (entryCount block) (drop 48 block) k h ∙ unfold part in rw drop-drop
 
-pub entries-done : (block : Bytes) (k : ℕ) → byteAt block 4 ≤ k → drop k (entries block) ≡ []
-unfolding entries entryCount
-entries-done block k h = pieces-done 16 (byteAt block 4) (drop 48 block) k h
+pub entries-done : (block : Bytes) (k : ℕ) → entryCount block ≤ k → drop k (entries block) ≡ []
+unfolding entries
+entries-done block k h = pieces-done 16 (entryCount block) (drop 48 block) k h
 
-pub entries-length : (block : Bytes) → length (entries block) ≡ byteAt block 4
-unfolding entries entryCount
-entries-length block = length-pieces 16 (byteAt block 4) (drop 48 block)
+pub entries-length : (block : Bytes) → length (entries block) ≡ entryCount block
+unfolding entries
+entries-length block = length-pieces 16 (entryCount block) (drop 48 block)
 
-pub join-entries : (block : Bytes) → join (entries block) ≡ take (16 * byteAt block 4) (drop 48 block)
-unfolding entries entryCount
-join-entries block = join-pieces 16 (byteAt block 4) (drop 48 block)
+pub join-entries : (block : Bytes) → join (entries block) ≡ take (16 * entryCount block) (drop 48 block)
+unfolding entries
+join-entries block = join-pieces 16 (entryCount block) (drop 48 block)
 
 -- ---- whether a list has an entry
 pub holds-first : (x y : Bytes) (ys : List Bytes) → same x y ≡ true → holds x (y ∷ ys) ≡ true

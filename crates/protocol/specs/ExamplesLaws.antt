@@ -352,7 +352,7 @@ module _ (digest : Bytes → Bytes) (x : Start) where
       (pass-late digest (x .own) (O .leader) (O .leaders) (four-ranges x O four) (x .reply))
 
   example-j : firstLeader x ≡ x .own → proposesFirst (moveCall digest (opened x) (x .reply))
-  unfolding moved proposeStep kind parentHeight entryCount frameBlock proposal frameOf newBlock le16 zeros
+  unfolding moved proposeStep kind parentHeight entryCount frameBlock proposal frameOf newBlock word16 le16 zeros
   example-j lead =
       rw (O .book, new-propose digest (x .n) (x .own) (O .leader) (O .leaders) (O .ranges) (sym (first-leader x O) ∙ lead) (x .reply) (x .room))
       (refl, first kind, first (λ m. parentHeight (frameBlock m)), first (λ m. entryCount (frameBlock m)))

@@ -19,7 +19,7 @@ unfoldable pub signer : Bytes → ℕ
 signer frame = byteAt frame 1
 
 unfoldable pub frameHeight : Bytes → ℕ
-frameHeight frame = byteAt frame 2
+frameHeight frame = word16 frame 2
 
 unfoldable pub signerMask : Bytes → ℕ
 signerMask frame = word16 frame 4
@@ -69,7 +69,8 @@ carriesBlock k = isProposal k || isBlockCertificate k
 unfoldable pub carriesDigest : ℕ → Bool
 carriesDigest k = isBlockVote k
 
--- all that refusal 4 asks of a frame: its length, its kind, unused fields zero, its block
+-- all that refusal 4 asks of a frame: its length, its kind, unused fields zero, its block; the high byte of the height is
+-- called zero, so heights are below 256
 unfoldable pub frameWellFormed : Bytes → Bool
 frameWellFormed frame = allOf
     (eqb (length frame) frameSize ∷
@@ -84,7 +85,7 @@ frameWellFormed frame = allOf
 
 -- ---- the frame of each statement and certificate
 unfoldable pub frameOf : (k s h mask : ℕ) (digest block : Bytes) → Bytes
-frameOf k s h mask digest block = (k ∷ s ∷ h ∷ 0 ∷ []) ++ (le16 mask ++ (zeros 10 ++ (digest ++ block)))
+frameOf k s h mask digest block = (k ∷ s ∷ le16 h) ++ (le16 mask ++ (zeros 10 ++ (digest ++ block)))
 
 unfoldable pub proposal : ℕ → ℕ → Bytes → Bytes
 proposal s h block = frameOf 1 s h 0 (zeros digestSize) block

@@ -124,7 +124,7 @@ module _ (n own flags dummy final leader : ℕ) (leaders : Bytes) (ranges : Rang
   vote-rows s h = rw (le-leb 1 (suc (length (map newHeight leaders))) (omega arith), lt-ltb s n h)
 
   keep-vote : (s : ℕ) → inMask dummy s ≡ false → keep digest E (dummyVote s 1) ≡ some (firstHeight leader (dummy + 2 ^ s) final)
-  unfolding keep keepDummyVote at firstHeight newHeight withMasks dummyVote frameOf kind signer frameHeight
+  unfolding keep keepDummyVote at firstHeight newHeight withMasks dummyVote frameOf kind signer frameHeight word16 le16
   keep-vote s e = rw e
 
   kept-first : (frame : Bytes) (m q : ℕ) → frameHeight frame ≡ 1 → kept digest (encode E) frame (some (firstHeight leader m q)) ≡
@@ -134,7 +134,7 @@ module _ (n own flags dummy final leader : ℕ) (leaders : Bytes) (ranges : Rang
       rw (early-back n own flags dummy final leader leaders ranges flags-below dummy-below final-below, e)
 
   vote-height : (s : ℕ) → frameHeight (dummyVote s 1) ≡ 1
-  unfolding dummyVote frameOf frameHeight
+  unfolding dummyVote frameOf frameHeight word16 le16
   vote-height s = refl
 
   pub early-vote : (s : ℕ) → s < n → inMask dummy s ≡ false → deliverCall digest (encode E) (dummyVote s 1) ≡
@@ -159,7 +159,7 @@ module _ (n own flags dummy final leader : ℕ) (leaders : Bytes) (ranges : Rang
   keep-certificate mask e = rw e
 
   certificate-height : (mask : ℕ) → frameHeight (finalizeCertificate 1 mask) ≡ 1
-  unfolding finalizeCertificate frameOf frameHeight
+  unfolding finalizeCertificate frameOf frameHeight word16 le16
   certificate-height mask = refl
 
   pub early-certificate : (mask : ℕ) → belowBit n (word16 (le16 mask) 0) ≡ true → quorum (view E) (word16 (le16 mask) 0) ≡ true →

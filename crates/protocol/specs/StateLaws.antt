@@ -1,12 +1,12 @@
 -- A book of the right shape is read back from its bytes as it is.
-use Prim.Native.Nat.{ℕ, _+_, _*_, _/_, _%_}
+use Prim.Native.Nat.{ℕ, _+_, _*_}
 use native.Mathlib.Omega.{arith}
 use mathlib.Core.Path.{_≡_, refl, sym, ap₂, subst, _∙_}
 use mathlib.Core.List.{List, [], _∷_, _++_, map, append-assoc, append-nil}
 use lib.ListN.{length, take, drop, length-append, length-map}
 use lib.Seq.{take-at, drop-at, take-all, drop-drop}
 use Rattle.protocol.specs.Bytes.{Bytes, word16, le16, part, zeros, join, pieces}
-use Rattle.protocol.specs.BytesLaws.{length-zeros}
+use Rattle.protocol.specs.BytesLaws.{length-zeros, word16-le16}
 use Rattle.protocol.specs.EveryLaws.{Every, none, one, every-map}
 use Rattle.protocol.specs.PiecesLaws.{Sized, length-join, pieces-join}
 use Rattle.protocol.specs.State.{State, Height, encode, decode, headBytes, contentBytes, bodyBytes, decodeHeight, decodeHeights, renewed}
@@ -19,9 +19,6 @@ pub record ShapedHeight (x : Height) : Type 0 where
 pub record Shaped (b : State) : Type 0 where
   pub pool-size : length (b .pool) ≡ 512
   pub heights : Every ShapedHeight (b .heights)
-
-pub word16-le16 : (x : ℕ) → x % 256 + 256 * (x / 256) ≡ x
-word16-le16 x = omega arith
 
 pub head-size : (s : State) → length (headBytes s) ≡ 64
 unfolding headBytes

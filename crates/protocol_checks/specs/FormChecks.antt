@@ -179,3 +179,10 @@ frames-made : proposal 1 3 block ∷ blockVote 1 3 (countUp 1 32) ∷ dummyVote 
     proposed ∷ voted ∷ dummyVoted ∷ finalized ∷ certified ∷ dummyCertified ∷ finalizeCertified ∷ []
 unfolding frames
 frames-made = refl
+
+-- heights have two bytes, the low one first; that the high one must be zero is in the places above
+height-bytes : (blockHeight (1 ∷ 2 ∷ 3 ∷ 4 ∷ []) ∷ parentHeight (1 ∷ 2 ∷ 3 ∷ 4 ∷ []) ∷
+    frameHeight (1 ∷ 2 ∷ 3 ∷ 4 ∷ []) ∷ []) ∷ take 4 (newBlock 513 1027 (zeros 32) []) ∷ take 4 (dummyVote 1 1027) ∷ [] ≡
+    (513 ∷ 1027 ∷ 1027 ∷ []) ∷ (1 ∷ 2 ∷ 3 ∷ 4 ∷ []) ∷ (3 ∷ 1 ∷ 3 ∷ 4 ∷ []) ∷ []
+unfolding frames
+height-bytes = refl

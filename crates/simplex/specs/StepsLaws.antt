@@ -9,12 +9,12 @@ use mathlib.Core.Option.{Option, some, none}
 use lib.ListN.{length}
 use borrow.Author.Tests.{eqb-true, eq-eqb, leb-true, le-leb, ltb-true, lt-ltb, not-true}
 use Rattle.protocol.specs.Bytes.{Bytes, without}
-use Rattle.protocol.specs.Block.{blockHeight, parentHeight, newBlock, blockWellFormed}
+use Rattle.protocol.specs.Block.{blockHeight, blockWellFormed}
 use Rattle.protocol.specs.Frame.{finalize}
 use Rattle.protocol.specs.TestsLaws.{and-true, or-true, or-right}
 use Rattle.protocol.specs.RowLaws.{row, all-of, true-and, not-passed}
 use Rattle.protocol.specs.PiecesLaws.{Sized}
-use Rattle.protocol.specs.BlockLaws.{digest-back, entries-back, new-block-good}
+use Rattle.protocol.specs.BlockLaws.{digest-back, entries-back, new-block-good, new-block-height, new-block-parent}
 use Rattle.protocol.specs.MoveLaws.{step-cases}
 use Rattle.protocol.specs.ViewLaws.{digest-at-size, digest-at-start}
 use Rattle.protocol.specs.PendingLaws.{offered-sized, offered-few}
@@ -358,12 +358,12 @@ module _ (digest : Bytes → Bytes) (s : State) where
         its-height = ap suc (chain .its-height) ∙ before;
         longest = λ c n h. subst (λ (k : ℕ). lastBlock c ≤ k) (sym (chain .its-last)) (both .1 c n (h ∙ chain .its-height));
         follows = record {
-          its-height = unfold blockHeight newBlock in sym before ∙ ap suc (sym (chain .its-height));
-          its-parent = unfold parentHeight newBlock in sym (chain .its-last);
+          its-height = new-block-height c j d es ∙ sym before ∙ ap suc (sym (chain .its-height));
+          its-parent = new-block-parent c j d es ∙ sym (chain .its-last);
           its-digest = digest-back c j d es below (digest-at-size digest (view s) digest-size j) (digest-at-start digest (view s) j) few sized ∙ sym (chain .its-digest);
         };
         its-entries = entries-back c j d es below (digest-at-size digest (view s) digest-size j) (digest-at-start digest (view s) j) few sized ∙ offered-is;
-        formed = new-block-good c j d es below (digest-at-size digest (view s) digest-size j) (digest-at-start digest (view s) j) few sized;
+        formed = new-block-good c j d es below (digest-at-size digest (view s) digest-size j) (digest-at-start digest (view s) j) few sized short;
       }
         where
           both : ChainEndingAt digest (view s) (s .current - 1) j × ((c : Sequence) → NotarizedBlockchain digest (view s) c → height c ≡ s .current - 1 → lastBlock c ≤ j)
@@ -389,6 +389,9 @@ module _ (digest : Bytes → Bytes) (s : State) where
 
           below : j < c
           below = let low = sound .current-low in let within = parent-some digest (view s) (s .current - 1) j e .0 .within in omega arith
+
+          short : c < 256
+          short = let most = sound .last-high in let near = sound .current-high in omega arith
 
           offered-is : offered s j ≡ chosen (without (linearize (chain .sequence)) (pending s))
           offered-is = unfold offered in ap (λ (l : List Bytes). chosen (without l (pending s))) (sym (chain .its-log))

@@ -1,5 +1,5 @@
 -- What a store to a memory leaves known, and the start of a run of dummies.
-use Prim.Native.Nat.{ℕ, zero, suc, _+_, _-_, _*_, _≤_, _<_}
+use Prim.Native.Nat.{ℕ, zero, suc, _+_, _-_, _*_, _/_, _%_, _≤_, _<_}
 use native.Mathlib.Omega.{arith}
 use mathlib.Core.Path.{_≡_, refl, sym, ap, subst, _∙_}
 use mathlib.Core.Logic.{_⊎_, inl, inr, ⊎-elim}
@@ -8,12 +8,12 @@ use lib.ListN.{length, set, length-set}
 use lib.Dec.{eqb, leb}
 use lib.Seq.{getD-set-same, getD-set-other, ext-getD}
 use borrow.Author.Tests.{eqb-false, eqb-true, le-leb, lt-leb}
-use Rattle.protocol.specs.Bytes.{Bytes, byteAt, part}
-use Rattle.protocol.specs.BytesLaws.{put, length-put, length-part, byte-part, put-other, put-there}
+use Rattle.protocol.specs.Bytes.{Bytes, byteAt, word16, le16, part}
+use Rattle.protocol.specs.BytesLaws.{put, length-put, length-part, byte-part, put-other, put-there, put-word, word16-le16}
 use Rattle.protocol.specs.View.{View, linked, isDummy, dummyRun}
 use Rattle.protocol.specs.TestsLaws.{le-or-lt}
 use Rattle.sha256.specs.Digest.{sha256}
-use Rattle.state.specs.Memo.{Known, runStart}
+use Rattle.state.specs.Memo.{Known, KnownAt, runStart}
 
 -- two parts have the same bytes
 parts-same : (a b : Bytes) (i j k : ℕ) → i + k ≤ length a → j + k ≤ length b → ((m : ℕ) → m < k → byteAt a (i + m) ≡ byteAt b (j + m)) → part a i k ≡ part b j k
@@ -21,116 +21,182 @@ parts-same a b i j k p q each =
     ext-getD 0 (part a i k) (part b j k) (length-part a i k p ∙ sym (length-part b j k q))
     (λ m l. let inside : m < k = rw (length-part a i k p) at l in byte-part a i k m inside ∙ each m inside ∙ sym (byte-part b j k m inside))
 
--- ---- one byte is stored
-module _ (v : View) (known : Bytes) (memo : Known v known) (i value : ℕ) (low : i < 192) where
-  cases : (k : ℕ) → ((k ≡ i) × (byteAt (set known i value) k ≡ value)) ⊎ (byteAt (set known i value) k ≡ byteAt known k)
-  cases k = go (eqb k i) refl
+-- two numbers have the same bytes
+words-same : (a b : Bytes) (i : ℕ) → byteAt a i ≡ byteAt b i → byteAt a (i + 1) ≡ byteAt b (i + 1) → word16 a i ≡ word16 b i
+unfolding word16
+words-same a b i low high = rw (low, high)
+
+word-of : (b : Bytes) (i value : ℕ) → byteAt b i ≡ value % 256 → byteAt b (i + 1) ≡ value / 256 → word16 b i ≡ value
+unfolding word16
+word-of b i value low high = rw (low, high) (word16-le16 value)
+
+word-size : (value : ℕ) → length (le16 value) ≡ 2
+unfolding le16
+word-size value = refl
+
+-- a number that is stored is read back
+word-put : (known : Bytes) (i value : ℕ) → i + 1 < length known → word16 (put known i (le16 value)) i ≡ value
+word-put known i value fits =
+    let once = set known i (value % 256) in
+    let size = length-set known i (value % 256) in
+    let low : byteAt (set once (i + 1) (value / 256)) i ≡ value % 256 =
+    getD-set-other once (i + 1) i (value / 256) 0 (λ e. omega arith) ∙ getD-set-same known i (value % 256) 0 (omega arith) in
+    let high : byteAt (set once (i + 1) (value / 256)) (i + 1) ≡ value / 256 = getD-set-same once (i + 1) (value / 256) 0 (omega arith) in
+    ap (λ (b : Bytes). word16 b i) (put-word known i value fits) ∙ word-of (set once (i + 1) (value / 256)) i value low high
+
+-- ---- a store within the 36 bytes of a height
+module _ {heights : ℕ} (v : View) (known after : Bytes) (memo : Known heights v known) (h : ℕ) (sized : length after ≡ length known)
+    (outside : (k : ℕ) → (k < 36 * h) ⊎ (36 * h + 36 ≤ k) → byteAt after k ≡ byteAt known k) where
+  -- what is known of another height stays known
+  module _ (i : ℕ) (high : i ≤ heights) (other : i ≡ h → ⊥) where
+    side : (k : ℕ) → 36 * i ≤ k → k < 36 * i + 36 → (i ≤ h) ⊎ (h < i) → (k < 36 * h) ⊎ (36 * h + 36 ≤ k)
+    side k from to (inl below) = inl (let less : i < h = ⊎-elim (λ (q : h ≤ i). absurd (other (omega arith))) (λ (q : i < h). q) (le-or-lt h i) in omega arith)
+    side k from to (inr above) = inr (omega arith)
+
+    stays : (k : ℕ) → 36 * i ≤ k → k < 36 * i + 36 → byteAt after k ≡ byteAt known k
+    stays k from to = outside k (side k from to (le-or-lt i h))
+
+    elsewhere : KnownAt v after i
+    elsewhere =
+        let old = memo .each i high in
+        let room = memo .room in
+        let word : word16 after (36 * i + 2) ≡ word16 known (36 * i + 2) =
+        words-same after known (36 * i + 2) (stays (36 * i + 2) (omega arith) (omega arith)) (stays (36 * i + 2 + 1) (omega arith) (omega arith)) in
+        record {
+          is-linked = λ q. old .is-linked (sym (stays (36 * i) (omega arith) (omega arith)) ∙ q);
+          not-linked = λ q. old .not-linked (sym (stays (36 * i) (omega arith) (omega arith)) ∙ q);
+          digest = λ q.
+              parts-same after known (36 * i + 4) (36 * i + 4) 32 (omega arith) (omega arith) (λ m in-part. stays (36 * i + 4 + m) (omega arith) (omega arith))
+              ∙ old .digest (sym (stays (36 * i + 1) (omega arith) (omega arith)) ∙ q);
+          run = λ q. word ∙ old .run (omega arith);
+        }
+
+  remember : KnownAt v after h → Known heights v after
+  remember here = record { room = subst (λ (k : ℕ). 36 * (heights + 1) ≤ k) (sym sized) (memo .room); each = λ i high. go i high (eqb i h) refl }
     where
-      go : (b : Bool) → eqb k i ≡ b → ((k ≡ i) × (byteAt (set known i value) k ≡ value)) ⊎ (byteAt (set known i value) k ≡ byteAt known k)
-      go true e =
-          let same-place : k ≡ i = eqb-true k i e in
-          inl (same-place, subst (λ (p : ℕ). byteAt (set known i value) p ≡ value) (sym same-place) (getD-set-same known i value 0 (let s = memo .size in omega arith)))
-      go false e = inr (getD-set-other known i k value 0 (eqb-false k i e))
+      go : (i : ℕ) → i ≤ heights → (b : Bool) → eqb i h ≡ b → KnownAt v after i
+      go i high true e = subst (λ (k : ℕ). KnownAt v after k) (sym (eqb-true i h e)) here
+      go i high false e = elsewhere i high (eqb-false i h e)
 
-  digests-stay : (j : ℕ) → j < 64 → part (set known i value) (192 + 32 * j) 32 ≡ part known (192 + 32 * j) 32
-  digests-stay j high =
-      let s = memo .size in
-      let s′ = length-set known i value in
-      parts-same (set known i value) known (192 + 32 * j) (192 + 32 * j) 32 (omega arith) (omega arith)
-      (λ m in-part. getD-set-other known i (192 + 32 * j + m) value 0 (λ e. omega arith))
+module _ {heights : ℕ} (v : View) (known : Bytes) (memo : Known heights v known) (h : ℕ) (inside : h ≤ heights) where
+  abbrev old : KnownAt v known h
+  old = memo .each h inside
 
-  pub remember :
-      (i < 64 → value ≡ 1 → linked sha256 v i ≡ true) → (i < 64 → value ≡ 2 → linked sha256 v i ≡ false) →
-      ((j : ℕ) → 64 + j ≡ i → j < 64 → value ≡ 1 → part known (192 + 32 * j) 32 ≡ sha256 (v .block j)) →
-      ((h : ℕ) → 128 + h ≡ i → value ≡ runStart v h + 1) → Known v (set known i value)
-  remember links no-links kept run = record {
-    size = length-set known i value ∙ memo .size;
-    is-linked = λ h high q. ⊎-elim
-        (λ (e : (h ≡ i) × (byteAt (set known i value) h ≡ value)). subst (λ (p : ℕ). linked sha256 v p ≡ true) (sym (e .0)) (links (omega arith) (sym (e .1) ∙ q)))
-        (λ (e : byteAt (set known i value) h ≡ byteAt known h). memo .is-linked h high (sym e ∙ q)) (cases h);
-    not-linked = λ h high q. ⊎-elim
-        (λ (e : (h ≡ i) × (byteAt (set known i value) h ≡ value)). subst (λ (p : ℕ). linked sha256 v p ≡ false) (sym (e .0)) (no-links (omega arith) (sym (e .1) ∙ q)))
-        (λ (e : byteAt (set known i value) h ≡ byteAt known h). memo .not-linked h high (sym e ∙ q)) (cases h);
-    digest = λ j high q. digests-stay j high ∙ ⊎-elim
-        (λ (e : (64 + j ≡ i) × (byteAt (set known i value) (64 + j) ≡ value)). kept j (e .0) high (sym (e .1) ∙ q))
-        (λ (e : byteAt (set known i value) (64 + j) ≡ byteAt known (64 + j)). memo .digest j high (sym e ∙ q)) (cases (64 + j));
-    run = λ h high q. ⊎-elim
-        (λ (e : (128 + h ≡ i) × (byteAt (set known i value) (128 + h) ≡ value)). e .1 ∙ run h (e .0))
-        (λ (e : byteAt (set known i value) (128 + h) ≡ byteAt known (128 + h)). e ∙ memo .run h high (omega arith)) (cases (128 + h));
-  }
+  -- ---- one of the first two bytes is stored
+  module _ (i value : ℕ) (from : 36 * h ≤ i) (to : i < 36 * h + 2) where
+    abbrev marked : Bytes
+    marked = set known i value
 
-module _ (v : View) (known : Bytes) (memo : Known v known) (h : ℕ) (inside : h < 64) where
-  pub remember-linked : linked sha256 v h ≡ true → Known v (set known h 1)
-  remember-linked e = remember v known memo h 1 (omega arith) (λ _ q. e) (λ _ q. absurd (omega arith)) (λ j p high q. absurd (omega arith)) (λ k p. absurd (omega arith))
+    marked-there : byteAt marked i ≡ value
+    marked-there = getD-set-same known i value 0 (let room = memo .room in omega arith)
 
-  pub remember-unlinked : linked sha256 v h ≡ false → Known v (set known h 2)
-  remember-unlinked e = remember v known memo h 2 (omega arith) (λ _ q. absurd (omega arith)) (λ _ q. e) (λ j p high q. absurd (omega arith)) (λ k p. absurd (omega arith))
+    marked-other : (k : ℕ) → (k ≡ i → ⊥) → byteAt marked k ≡ byteAt known k
+    marked-other k other = getD-set-other known i k value 0 other
 
-  pub remember-run : (start : ℕ) → start ≡ runStart v h → Known v (set known (128 + h) (start + 1))
-  remember-run start e =
-      remember v known memo (128 + h) (start + 1) (omega arith) (λ low q. absurd (omega arith)) (λ low q. absurd (omega arith)) (λ j p high q. absurd (omega arith))
-      (λ k p. let same-height : k ≡ h = omega arith in rw (e, same-height))
+    mark :
+        (byteAt marked (36 * h) ≡ 1 → linked sha256 v h ≡ true) → (byteAt marked (36 * h) ≡ 2 → linked sha256 v h ≡ false) →
+        (byteAt marked (36 * h + 1) ≡ 1 → part known (36 * h + 4) 32 ≡ sha256 (v .block h)) → Known heights v marked
+    mark links no-links kept =
+        let room = memo .room in
+        let sized = length-set known i value in
+        let word : word16 marked (36 * h + 2) ≡ word16 known (36 * h + 2) =
+        words-same marked known (36 * h + 2) (marked-other (36 * h + 2) (λ e. omega arith)) (marked-other (36 * h + 2 + 1) (λ e. omega arith)) in
+        remember v known marked memo h sized
+        (λ k side. marked-other k (λ e. ⊎-elim (λ (q : k < 36 * h). omega arith) (λ (q : 36 * h + 36 ≤ k). omega arith) side))
+        (record {
+          is-linked = links;
+          not-linked = no-links;
+          digest = λ q.
+              parts-same marked known (36 * h + 4) (36 * h + 4) 32 (omega arith) (omega arith) (λ m in-part. marked-other (36 * h + 4 + m) (λ e. omega arith))
+              ∙ kept q;
+          run = λ q. word ∙ old .run (omega arith);
+        })
 
--- ---- a digest is stored
-module _ (v : View) (known : Bytes) (memo : Known v known) (j : ℕ) (inside : j < 64) (new : Bytes) (whole : length new ≡ 32) where
-  abbrev after : Bytes
-  after = put known (192 + 32 * j) new
+  pub remember-linked : linked sha256 v h ≡ true → Known heights v (set known (36 * h) 1)
+  remember-linked e = mark (36 * h) 1 (omega arith) (omega arith)
+      (λ q. e)
+      (λ q. let there = marked-there (36 * h) 1 (omega arith) (omega arith) in absurd (omega arith))
+      (λ q. old .digest (sym (marked-other (36 * h) 1 (omega arith) (omega arith) (36 * h + 1) (λ p. omega arith)) ∙ q))
 
-  fits : 192 + 32 * j + length new ≤ length known
-  fits = let s = memo .size in omega arith
+  pub remember-unlinked : linked sha256 v h ≡ false → Known heights v (set known (36 * h) 2)
+  remember-unlinked e = mark (36 * h) 2 (omega arith) (omega arith)
+      (λ q. let there = marked-there (36 * h) 2 (omega arith) (omega arith) in absurd (omega arith))
+      (λ q. e)
+      (λ q. old .digest (sym (marked-other (36 * h) 2 (omega arith) (omega arith) (36 * h + 1) (λ p. omega arith)) ∙ q))
 
-  rows-stay : (k : ℕ) → k < 192 → byteAt after k ≡ byteAt known k
-  rows-stay k low = put-other known new (192 + 32 * j) fits k (inl (omega arith))
+  remember-kept : part known (36 * h + 4) 32 ≡ sha256 (v .block h) → Known heights v (set known (36 * h + 1) 1)
+  remember-kept e =
+      let first = marked-other (36 * h + 1) 1 (omega arith) (omega arith) (36 * h) (λ p. omega arith) in
+      mark (36 * h + 1) 1 (omega arith) (omega arith) (λ q. old .is-linked (sym first ∙ q)) (λ q. old .not-linked (sym first ∙ q)) (λ q. e)
 
-  others-stay : (k : ℕ) → k < 64 → (k ≡ j → ⊥) → part after (192 + 32 * k) 32 ≡ part known (192 + 32 * k) 32
-  others-stay k high other =
-      let s = memo .size in
-      let s′ = length-put known (192 + 32 * j) new fits in
-      parts-same after known (192 + 32 * k) (192 + 32 * k) 32 (omega arith) (omega arith)
-      (λ m in-part. put-other known new (192 + 32 * j) fits (192 + 32 * k + m) (side m in-part (le-or-lt j k)))
-    where
-      side : (m : ℕ) → m < 32 → (j ≤ k) ⊎ (k < j) → (192 + 32 * k + m < 192 + 32 * j) ⊎ (192 + 32 * j + length new ≤ 192 + 32 * k + m)
-      side m in-part (inl above) = inr (let d : j < k = between above in omega arith)
-        where
-          between : j ≤ k → j < k
-          between above = ⊎-elim (λ (q : k ≤ j). absurd (other (omega arith))) (λ (q : j < k). q) (le-or-lt k j)
-      side m in-part (inr below) = inl (omega arith)
+  -- ---- the start of a run is stored
+  run-stored : (start : ℕ) → start ≡ runStart v h → Known heights v (put known (36 * h + 2) (le16 (start + 1)))
+  run-stored start e =
+      let room = memo .room in
+      let two = word-size (start + 1) in
+      let fits : 36 * h + 2 + length (le16 (start + 1)) ≤ length known = omega arith in
+      let after = put known (36 * h + 2) (le16 (start + 1)) in
+      let sized = length-put known (36 * h + 2) (le16 (start + 1)) fits in
+      let below : (k : ℕ) → k < 36 * h + 2 → byteAt after k ≡ byteAt known k = λ k less. put-other known (le16 (start + 1)) (36 * h + 2) fits k (inl less) in
+      let above : (k : ℕ) → 36 * h + 4 ≤ k → byteAt after k ≡ byteAt known k =
+      λ k more. put-other known (le16 (start + 1)) (36 * h + 2) fits k (inr (omega arith)) in
+      remember v known after memo h sized
+      (λ k side. ⊎-elim (λ (q : k < 36 * h). below k (omega arith)) (λ (q : 36 * h + 36 ≤ k). above k (omega arith)) side)
+      (record {
+        is-linked = λ q. old .is-linked (sym (below (36 * h) (omega arith)) ∙ q);
+        not-linked = λ q. old .not-linked (sym (below (36 * h) (omega arith)) ∙ q);
+        digest = λ q.
+            parts-same after known (36 * h + 4) (36 * h + 4) 32 (omega arith) (omega arith) (λ m in-part. above (36 * h + 4 + m) (omega arith))
+            ∙ old .digest (sym (below (36 * h + 1) (omega arith)) ∙ q);
+        run = λ q. word-put known (36 * h + 2) (start + 1) (omega arith) ∙ ap (λ (k : ℕ). k + 1) e;
+      })
 
-  -- the bytes of a digest may be stored as long as none is said to be kept there
-  remember-bytes : (byteAt known (64 + j) ≡ 1 → ⊥) → Known v after
-  remember-bytes unkept = record {
-    size = length-put known (192 + 32 * j) new fits ∙ memo .size;
-    is-linked = λ h high q. memo .is-linked h high (sym (rows-stay h (omega arith)) ∙ q);
-    not-linked = λ h high q. memo .not-linked h high (sym (rows-stay h (omega arith)) ∙ q);
-    digest = λ k high q. elsewhere k high (sym (rows-stay (64 + k) (omega arith)) ∙ q) (eqb k j) refl;
-    run = λ h high q. let e = rows-stay (128 + h) (omega arith) in e ∙ memo .run h high (omega arith);
-  }
-    where
-      elsewhere : (k : ℕ) → k < 64 → byteAt known (64 + k) ≡ 1 → (b : Bool) → eqb k j ≡ b → part after (192 + 32 * k) 32 ≡ sha256 (v .block k)
-      elsewhere k high q true e = absurd (unkept (subst (λ (p : ℕ). byteAt known (64 + p) ≡ 1) (eqb-true k j e) q))
-      elsewhere k high q false e = others-stay k high (eqb-false k j e) ∙ memo .digest k high q
+  pub remember-run : (start : ℕ) → start ≡ runStart v h → (after : Bytes) → after ≡ put known (36 * h + 2) (le16 (start + 1)) → Known heights v after
+  remember-run start e after stores = subst (λ (b : Bytes). Known heights v b) (sym stores) (run-stored start e)
 
-  module _ (unkept : byteAt known (64 + j) ≡ 1 → ⊥) (is : new ≡ sha256 (v .block j)) where
-    there : part after (192 + 32 * j) 32 ≡ sha256 (v .block j)
-    there = subst (λ (k : ℕ). part after (192 + 32 * j) k ≡ new) whole (put-there known new (192 + 32 * j) fits) ∙ is
+  -- ---- a digest is stored, and then said to be kept
+  module _ (new : Bytes) (whole : length new ≡ 32) (unkept : byteAt known (36 * h + 1) ≡ 1 → ⊥) (is : new ≡ sha256 (v .block h)) where
+    abbrev after : Bytes
+    after = put known (36 * h + 4) new
 
-    remember-digest : Known v (set after (64 + j) 1)
-    remember-digest = remember v after (remember-bytes unkept) (64 + j) 1 (omega arith)
-        (λ low q. absurd (omega arith))
-        (λ low q. absurd (omega arith))
-        (λ k p high q. let same-height : j ≡ k = omega arith in subst (λ (i : ℕ). part after (192 + 32 * i) 32 ≡ sha256 (v .block i)) same-height there)
-        (λ h p. absurd (omega arith))
+    fits : 36 * h + 4 + length new ≤ length known
+    fits = let room = memo .room in omega arith
 
-    digest-kept : part (set after (64 + j) 1) (192 + 32 * j) 32 ≡ sha256 (v .block j)
-    digest-kept =
-        let s = memo .size in
-        let s′ = length-put known (192 + 32 * j) new fits in
-        remember-digest .digest j inside (getD-set-same after (64 + j) 1 0 (omega arith))
+    below : (k : ℕ) → k < 36 * h + 4 → byteAt after k ≡ byteAt known k
+    below k less = put-other known new (36 * h + 4) fits k (inl less)
 
-    -- the same after a store whose outcome is known by an equation
-    pub stored : (stores : Bytes) → stores ≡ after → (part (set stores (64 + j) 1) (192 + 32 * j) 32 ≡ sha256 (v .block j)) × Known v (set stores (64 + j) 1)
-    stored stores e =
-        subst (λ (s : Bytes). (part (set s (64 + j) 1) (192 + 32 * j) 32 ≡ sha256 (v .block j)) × Known v (set s (64 + j) 1)) (sym e) (digest-kept, remember-digest)
+    -- the bytes of a digest may be stored as long as none is said to be kept there
+    remember-bytes : Known heights v after
+    remember-bytes =
+        let word : word16 after (36 * h + 2) ≡ word16 known (36 * h + 2) =
+        words-same after known (36 * h + 2) (below (36 * h + 2) (omega arith)) (below (36 * h + 2 + 1) (omega arith)) in
+        remember v known after memo h (length-put known (36 * h + 4) new fits)
+        (λ k side. put-other known new (36 * h + 4) fits k
+        (⊎-elim (λ (q : k < 36 * h). inl (omega arith)) (λ (q : 36 * h + 36 ≤ k). inr (omega arith)) side))
+        (record {
+          is-linked = λ q. old .is-linked (sym (below (36 * h) (omega arith)) ∙ q);
+          not-linked = λ q. old .not-linked (sym (below (36 * h) (omega arith)) ∙ q);
+          digest = λ q. absurd (unkept (sym (below (36 * h + 1) (omega arith)) ∙ q));
+          run = λ q. word ∙ old .run (omega arith);
+        })
+
+    there : part after (36 * h + 4) 32 ≡ sha256 (v .block h)
+    there = subst (λ (k : ℕ). part after (36 * h + 4) k ≡ new) whole (put-there known new (36 * h + 4) fits) ∙ is
+
+-- the same after a store whose outcome is known by an equation
+module _ {heights : ℕ} (v : View) (known : Bytes) (memo : Known heights v known) (j : ℕ) (inside : j ≤ heights) (new : Bytes) (whole : length new ≡ 32)
+    (unkept : byteAt known (36 * j + 1) ≡ 1 → ⊥) (is : new ≡ sha256 (v .block j)) where
+  digest-stored : (part (set (put known (36 * j + 4) new) (36 * j + 1) 1) (36 * j + 4) 32 ≡ sha256 (v .block j)) × Known heights v (set (put known (36 * j + 4) new) (36 * j + 1) 1)
+  digest-stored =
+      let bytes = remember-bytes v known memo j inside new whole unkept is in
+      let kept = remember-kept v (put known (36 * j + 4) new) bytes j inside (there v known memo j inside new whole unkept is) in
+      let room = bytes .room in
+      (kept .each j inside .digest (getD-set-same (put known (36 * j + 4) new) (36 * j + 1) 1 0 (omega arith)), kept)
+
+  pub stored : (stores : Bytes) → stores ≡ put known (36 * j + 4) new →
+      (part (set stores (36 * j + 1) 1) (36 * j + 4) 32 ≡ sha256 (v .block j)) × Known heights v (set stores (36 * j + 1) 1)
+  stored stores e =
+      subst (λ (s : Bytes). (part (set s (36 * j + 1) 1) (36 * j + 4) 32 ≡ sha256 (v .block j)) × Known heights v (set s (36 * j + 1) 1)) (sym e) digest-stored
 
 -- ---- runs of dummies
 module _ (v : View) where

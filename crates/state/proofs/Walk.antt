@@ -8,7 +8,7 @@ use mathlib.Core.List.{[], _∷_}
 use mathlib.Core.Option.{some, none}
 use lib.ListN.{length, take, drop}
 use lib.Dec.{ltb}
-use Rattle.protocol.specs.Bytes.{Bytes, byteAt, part, zeros, same}
+use Rattle.protocol.specs.Bytes.{Bytes, part, zeros, same}
 use Rattle.protocol.specs.Block.{parentHeight, parentDigest}
 use Rattle.protocol.specs.Tests.{allOf}
 use Rattle.protocol.specs.View.{View, quorum, isDummy, digestAt, linked, extends, extendsOver, dummyRun, isFinalized, largestFinalized, parentOf}
@@ -28,12 +28,12 @@ digest-block v zero no-zero = absurd (no-zero refl)
 digest-block v (suc j) no-zero = refl
 
 -- the digest that a memory keeps, copied over 32 bytes
-pub digest-copied : (v : View) (known old : Bytes) (j count : ℕ) → j ≢ 0 → count ≡ 32 → length old ≡ 32 → 192 + 32 * j + 32 ≤ length known →
-    part known (192 + 32 * j) 32 ≡ sha256 (v .block j) → put old 0 (take count (drop (192 + 32 * j) known)) ≡ digestAt sha256 v j
+pub digest-copied : (v : View) (known old : Bytes) (j count : ℕ) → j ≢ 0 → count ≡ 32 → length old ≡ 32 → 36 * j + 4 + 32 ≤ length known →
+    part known (36 * j + 4) 32 ≡ sha256 (v .block j) → put old 0 (take count (drop (36 * j + 4) known)) ≡ digestAt sha256 v j
 unfolding part
 digest-copied v known old j count no-zero whole size fits kept =
-    ap (λ (k : ℕ). put old 0 (take k (drop (192 + 32 * j) known))) whole
-    ∙ put-all old (take 32 (drop (192 + 32 * j) known)) (size ∙ sym (unfold part in length-part known (192 + 32 * j) 32 fits))
+    ap (λ (k : ℕ). put old 0 (take k (drop (36 * j + 4) known))) whole
+    ∙ put-all old (take 32 (drop (36 * j + 4) known)) (size ∙ sym (unfold part in length-part known (36 * j + 4) 32 fits))
     ∙ kept ∙ digest-block v j no-zero
 
 pub names-digest : (block digest : Bytes) → same (take 32 (drop 16 block)) digest ≡ same (parentDigest block) digest
@@ -83,11 +83,6 @@ not-linked-without v (suc i) low e = linked-suc sha256 v i ∙ rw e
 
 pub linked-start : (v : View) (h : ℕ) → h ≡ 0 → linked sha256 v h ≡ true
 linked-start v h e = rw e (linked-zero sha256 v)
-
--- the parent height as the code reads it
-pub names-parent-height : (block : Bytes) → parentHeight block ≡ byteAt block 2
-unfolding parentHeight
-names-parent-height block = refl
 
 -- ---- finalized heights
 module _ (v : View) (h : ℕ) where

@@ -5,7 +5,7 @@ use mathlib.Core.Path.{_≡_}
 use mathlib.Core.Bool.{Bool, true, _&&_}
 use lib.ListN.{length, getD}
 use borrow.Author.Tests.{eqb-true}
-use Rattle.protocol.specs.Bytes.{Bytes, byteAt, zeros}
+use Rattle.protocol.specs.Bytes.{Bytes, byteAt, word16, zeros}
 use Rattle.protocol.specs.Tests.{allOf, everyHeight}
 use Rattle.protocol.specs.State.{bookSize, bookHeights}
 use Rattle.protocol.specs.Sound.{sound}
@@ -86,14 +86,19 @@ readable book e =
     }
 
 -- zeros say nothing of any height
-pub zero-memo : (book known : Bytes) → known ≡ zeros memorySize → Memo book known
-zero-memo book known e = record {
-  size = rw e (length-zeros memorySize);
-  is-linked = λ h high seen. let none-seen = unseen h in absurd (omega arith);
-  not-linked = λ h high seen. let none-seen = unseen h in absurd (omega arith);
-  digest = λ j high seen. let none-seen = unseen (64 + j) in absurd (omega arith);
-  run = λ h high seen. let none-seen = unseen (128 + h) in absurd (omega arith);
+pub zero-memo : (book known : Bytes) → Readable book → known ≡ zeros memorySize → Memo book known
+zero-memo book known readable e = record {
+  room = let size = length-zeros memorySize in let few = readable .heights in rw e (omega arith);
+  each = λ h high. record {
+    is-linked = λ seen. let none-seen = unseen (36 * h) in absurd (omega arith);
+    not-linked = λ seen. let none-seen = unseen (36 * h) in absurd (omega arith);
+    digest = λ seen. let none-seen = unseen (36 * h + 1) in absurd (omega arith);
+    run = λ seen. let none-seen = unseen-word (36 * h + 2) in absurd (omega arith);
+  };
 }
   where
     unseen : (k : ℕ) → byteAt known k ≡ 0
     unseen k = rw e (is-zero-byte (zeros memorySize) k (zeros-is-zero memorySize))
+
+    unseen-word : (k : ℕ) → word16 known k ≡ 0
+    unseen-word k = unfold word16 in let low = unseen k in let high = unseen (k + 1) in omega arith

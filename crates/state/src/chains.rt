@@ -4,13 +4,13 @@ use fields::kind::Kind;
 ghost use mathlib.Core.Path.{_≡_};
 ghost use Prim.Native.Nat.{_*_, _≤_};
 ghost use lib.ListN.{length};
-ghost use Rattle.protocol.specs.Bytes.{byteAt, join, holds, overFront};
-ghost use Rattle.protocol.specs.Block.{entries};
+ghost use Rattle.protocol.specs.Bytes.{join, holds, overFront};
+ghost use Rattle.protocol.specs.Block.{entryCount, entries};
 ghost use Rattle.protocol.specs.View.{logAt};
 ghost use Rattle.fields.specs.Shown.{viewOf};
 ghost use Rattle.state.specs.Walkable.{WalkableAs};
 
-// How many entries the chain that ends in height `h` has. Reads two bytes of each of its blocks, 63 at most.
+// How many entries the chain that ends in height `h` has. Reads three bytes of each of its blocks, 63 at most.
 pub fn chain_entries(kind: Kind, book: &[u8], h: usize) -> usize
     requires { ⌜ WalkableAs kind (now book) h ⌝ }
     ensures { λ r. ⌜ (r ≡ length (logAt (viewOf kind (now (book .entry))) h)) × (r ≤ 504) ⌝ }
@@ -19,18 +19,18 @@ pub fn chain_entries(kind: Kind, book: &[u8], h: usize) -> usize
     let mut at = h;
     while 0 < at {
         let block = fields::kind::block(kind, book, at);
-        sum += wire::bytes::byte(block, 4);
-        at = wire::bytes::byte(block, 2);
+        sum += wire::block::entry_count(block);
+        at = wire::block::parent_height(block);
     }
     sum
 }
 
 // Whether a block has this entry. Compares at most eight entries.
 fn block_holds(block: &[u8], entry: &[u8]) -> bool
-    requires { ⌜ (length (now block) ≡ 176) × (byteAt (now block) 4 ≤ 8) ⌝ }
+    requires { ⌜ (length (now block) ≡ 176) × (entryCount (now block) ≤ 8) ⌝ }
     ensures { λ r. ⌜ r ≡ holds (now (entry .entry)) (entries (now (block .entry))) ⌝ }
 {
-    let count = wire::bytes::byte(block, 4);
+    let count = wire::block::entry_count(block);
     let mut k = 0;
     while k < count {
         let from = 48 + 16 * k;
@@ -54,7 +54,7 @@ pub fn chain_holds(kind: Kind, book: &[u8], h: usize, entry: &[u8]) -> bool
         if block_holds(block, entry) {
             return true;
         } else {
-            at = wire::bytes::byte(block, 2);
+            at = wire::block::parent_height(block);
         }
     }
     false
@@ -72,9 +72,9 @@ pub fn copy_chain(kind: Kind, book: &[u8], h: usize, count: usize, buffer: &mut 
     let mut at = h;
     while 0 < at {
         let block = fields::kind::block(kind, book, at);
-        let size = wire::bytes::byte(block, 4);
+        let size = wire::block::entry_count(block);
         end -= size;
         wire::bytes::copy_to(buffer, 16 * end, &block[48..48 + 16 * size]);
-        at = wire::bytes::byte(block, 2);
+        at = wire::block::parent_height(block);
     }
 }

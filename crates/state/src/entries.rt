@@ -45,7 +45,7 @@ pub fn copy_chain(book: &[u8], h: usize, count: usize, buffer: &mut [u8])
 pub fn offer(book: &[u8], c: usize, j: usize, digest: &[u8], block: &mut [u8])
     requires { ⌜ Walkable (now book) j ⌝ }
     requires { ⌜ decode (now book) .pendingCount ≤ 32 ⌝ }
-    requires { ⌜ (c < 256) × (length (now digest) ≡ 32) × (176 ≤ length (now block)) ⌝ }
+    requires { ⌜ (c < 65536) × (length (now digest) ≡ 32) × (176 ≤ length (now block)) ⌝ }
     ensures { λ _. ⌜ now (block .exit) ≡ overFront (newBlock c j (now (digest .entry)) (offered (decode (now (book .entry))) j)) (now (block .entry)) ⌝ }
 {
     wire::block::start_block(block, c, j, digest);

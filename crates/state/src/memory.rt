@@ -1,6 +1,6 @@
 // What a call remembers of a book while it walks it, so that it looks at each height, counts each mask and computes each digest once.
-// A memory has three bytes a height, in three rows of 64 (linked or not; digest kept or not; where a run of dummies starts),
-// and then 32 bytes a height for digests.
+// A memory has 36 bytes a height: whether it is linked, whether its digest is kept, where its run of dummies starts (two bytes), and
+// the digest.
 use fields::kind::Kind;
 ghost use mathlib.Core.Path.{_≡_};
 ghost use Prim.Native.Nat.{_+_, _*_, _-_, _≤_};
@@ -10,51 +10,51 @@ ghost use Rattle.protocol.specs.State.{bookHeights};
 ghost use Rattle.protocol.specs.View.{dummyRun};
 ghost use Rattle.fields.specs.Ready.{Within};
 ghost use Rattle.fields.specs.Shown.{Shown, viewOf};
-ghost use Rattle.state.specs.Memo.{Known, runStart};
+ghost use Rattle.state.specs.Memo.{MemoAs, runStart};
 
-// The size of a memory.
-pub const SIZE: usize = 2240;
+// The size of a memory of the largest book.
+pub const SIZE: usize = 2304;
 
 // Keeps the digest of the notarized block of height `j`. Costs one digest where it is not kept yet, and one read where it is.
 pub fn keep_digest(kind: Kind, book: &[u8], j: usize, known: &mut [u8])
     requires { ⌜ Shown kind (now book) ⌝ }
-    requires { ⌜ Known (viewOf kind (now book)) (now known) ⌝ }
+    requires { ⌜ MemoAs kind (now book) (now known) ⌝ }
     requires { ⌜ Within (now book) j ⌝ }
-    ensures kept { λ _. ⌜ part (now (known .exit)) (192 + 32 * j) 32 ≡ sha (viewOf kind (now (book .entry)) .block j) ⌝ }
-    ensures memo { λ _. ⌜ Known (viewOf kind (now (book .entry))) (now (known .exit)) ⌝ }
+    ensures kept { λ _. ⌜ part (now (known .exit)) (36 * j + 4) 32 ≡ sha (viewOf kind (now (book .entry)) .block j) ⌝ }
+    ensures memo { λ _. ⌜ MemoAs kind (now (book .entry)) (now (known .exit)) ⌝ }
 {
-    let kept = known[64 + j];
+    let kept = known[36 * j + 1];
     if kept == 1 {
         return;
     }
     let digest = sha256::sha256(fields::kind::block(kind, book, j));
-    wire::bytes::copy_to(known, 192 + 32 * j, &digest);
-    known[64 + j] = 1;
+    wire::bytes::copy_to(known, 36 * j + 4, &digest);
+    known[36 * j + 1] = 1;
 }
 
 // The height below the run of dummy blocks that ends at height `h`: `h` itself where its dummy block is not notarized.
 // Each call goes to a lower height.
 fn run_start(kind: Kind, book: &[u8], h: usize, known: &mut [u8]) -> usize
     requires { ⌜ Shown kind (now book) ⌝ }
-    requires { ⌜ Known (viewOf kind (now book)) (now known) ⌝ }
+    requires { ⌜ MemoAs kind (now book) (now known) ⌝ }
     requires { ⌜ h ≤ bookHeights (now book) ⌝ }
     ensures answer { λ r. ⌜ r ≡ runStart (viewOf kind (now (book .entry))) h ⌝ }
     ensures within { λ r. ⌜ r ≤ h ⌝ }
-    ensures memo { λ _. ⌜ Known (viewOf kind (now (book .entry))) (now (known .exit)) ⌝ }
+    ensures memo { λ _. ⌜ MemoAs kind (now (book .entry)) (now (known .exit)) ⌝ }
 {
     if h == 0 {
         return 0;
     }
-    let seen = known[128 + h] as usize;
+    let seen = wire::bytes::word(known, 36 * h + 2);
     if 0 < seen {
         return seen - 1;
     }
     if fields::kind::is_dummy(kind, book, h) {
         let start = run_start(kind, book, h - 1, known);
-        known[128 + h] = (start + 1) as u8;
+        wire::bytes::put_word(known, 36 * h + 2, start + 1);
         start
     } else {
-        known[128 + h] = (h + 1) as u8;
+        wire::bytes::put_word(known, 36 * h + 2, h + 1);
         h
     }
 }
@@ -62,10 +62,10 @@ fn run_start(kind: Kind, book: &[u8], h: usize, known: &mut [u8]) -> usize
 // Whether the dummy blocks of the heights after `j` up to `top` are notarized. Where there are none, nothing is counted.
 pub fn dummies_after(kind: Kind, book: &[u8], j: usize, top: usize, known: &mut [u8]) -> bool
     requires { ⌜ Shown kind (now book) ⌝ }
-    requires { ⌜ Known (viewOf kind (now book)) (now known) ⌝ }
+    requires { ⌜ MemoAs kind (now book) (now known) ⌝ }
     requires { ⌜ (j ≤ top) × (top ≤ bookHeights (now book)) ⌝ }
     ensures answer { λ r. ⌜ r ≡ dummyRun (viewOf kind (now (book .entry))) j (top - j) ⌝ }
-    ensures memo { λ _. ⌜ Known (viewOf kind (now (book .entry))) (now (known .exit)) ⌝ }
+    ensures memo { λ _. ⌜ MemoAs kind (now (book .entry)) (now (known .exit)) ⌝ }
 {
     if j == top {
         return true;

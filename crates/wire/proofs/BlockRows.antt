@@ -17,25 +17,25 @@ module _ (h : ℕ) (block : Bytes) where
   unfolding blockWellFormed blockFields blockRest blockParent allOf
   block-is = simp and-assoc
 
-  pub fields-are : (eqb (byteAt block 0) h && (eqb (byteAt block 1) 0 && (ltb (byteAt block 2) h && (eqb (byteAt block 3) 0 && leb (byteAt block 4) 8)))) ≡ blockFields h block
-  unfolding blockFields blockHeight parentHeight entryCount allOf
+  pub fields-are : (eqb (blockHeight block) h && (eqb (byteAt block 1) 0 && (ltb (parentHeight block) h && (eqb (byteAt block 3) 0 && leb (entryCount block) 8)))) ≡ blockFields h block
+  unfolding blockFields allOf
   fields-are = simp and-true
 
-  pub few-entries : blockFields h block ≡ true → byteAt block 4 ≤ 8
-  unfolding blockFields blockHeight parentHeight entryCount
+  pub few-entries : blockFields h block ≡ true → entryCount block ≤ 8
+  unfolding blockFields
   few-entries e =
-      leb-true (byteAt block 4) 8
-      (row (eqb (byteAt block 0) h ∷ eqb (byteAt block 1) 0 ∷ ltb (byteAt block 2) h ∷ eqb (byteAt block 3) 0 ∷ leb (byteAt block 4) 8 ∷ []) 4 e)
+      leb-true (entryCount block) 8
+      (row (eqb (blockHeight block) h ∷ eqb (byteAt block 1) 0 ∷ ltb (parentHeight block) h ∷ eqb (byteAt block 3) 0 ∷ leb (entryCount block) 8 ∷ []) 4 e)
 
 module _ (block : Bytes) where
-  pub parent-none : byteAt block 2 ≡ 0 → blockParent block ≡ isZero (part block 16 32)
-  unfolding blockParent implies parentHeight parentDigest
-  parent-none e = rw (eq-eqb (byteAt block 2) 0 e)
+  pub parent-none : parentHeight block ≡ 0 → blockParent block ≡ isZero (part block 16 32)
+  unfolding blockParent implies parentDigest
+  parent-none e = rw (eq-eqb (parentHeight block) 0 e)
 
-  pub parent-some : (byteAt block 2 ≡ 0 → ⊥) → blockParent block ≡ true
-  unfolding blockParent implies parentHeight
-  parent-some e = rw (ne-eqb (byteAt block 2) 0 e)
+  pub parent-some : (parentHeight block ≡ 0 → ⊥) → blockParent block ≡ true
+  unfolding blockParent implies
+  parent-some e = rw (ne-eqb (parentHeight block) 0 e)
 
-  pub rest-are : (isZero (part block 5 11) && (blockParent block && isZero (drop (48 + 16 * byteAt block 4) block))) ≡ blockRest block
-  unfolding blockRest entryCount allOf
+  pub rest-are : (isZero (part block 5 11) && (blockParent block && isZero (drop (48 + 16 * entryCount block) block))) ≡ blockRest block
+  unfolding blockRest allOf
   rest-are = simp and-true

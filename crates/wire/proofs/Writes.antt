@@ -11,29 +11,28 @@ use Rattle.protocol.specs.Block.{newBlock}
 use Rattle.protocol.specs.Frame.{frameOf}
 use Rattle.wire.specs.Parts.{frameHead}
 
--- the six pieces of a block with no entries
-pub block-starts : (block digest a b c d e f : Bytes) (h parent : ℕ) → length digest ≡ 32
-    → a ≡ put block 0 (h ∷ []) → b ≡ put a 1 (0 ∷ []) → c ≡ put b 2 (parent ∷ []) → d ≡ put c 3 (zeros 13) → e ≡ put d 16 digest → f ≡ put e 48 (zeros 128)
-    → f ≡ overFront (newBlock h parent digest []) block
-unfolding newBlock zeros join
-block-starts block digest a b c d e f h parent size p q r s t u =
-    let start = h ∷ 0 ∷ parent ∷ [] in
-    let v : c ≡ overFront start block = goes-on (h ∷ 0 ∷ []) block b (parent ∷ []) c 2 (goes-on (h ∷ []) block a (0 ∷ []) b 1 (starts block (h ∷ []) a p) refl q) refl r in
-    let w : d ≡ overFront (start ++ zeros 13) block = goes-on start block c (zeros 13) d 3 v refl s in
-    let x : e ≡ overFront ((start ++ zeros 13) ++ digest) block = goes-on (start ++ zeros 13) block d digest e 16 w refl t in
-    goes-on ((start ++ zeros 13) ++ digest) block e (zeros 128) f 48 x (simp length-append (omega arith)) u
+-- the five pieces of a block with no entries
+pub block-starts : (block digest a b c d e : Bytes) (h parent : ℕ) → length digest ≡ 32
+    → a ≡ put block 0 (le16 h) → b ≡ put a 2 (le16 parent) → c ≡ put b 4 (zeros 12) → d ≡ put c 16 digest → e ≡ put d 48 (zeros 128)
+    → e ≡ overFront (newBlock h parent digest []) block
+unfolding newBlock le16 zeros join
+block-starts block digest a b c d e h parent size p q r s t =
+    let start = le16 h ++ le16 parent in
+    let v : b ≡ overFront start block = goes-on (le16 h) block a (le16 parent) b 2 (starts block (le16 h) a p) refl q in
+    let w : c ≡ overFront (start ++ zeros 12) block = goes-on start block b (zeros 12) c 4 v refl r in
+    let x : d ≡ overFront ((start ++ zeros 12) ++ digest) block = goes-on (start ++ zeros 12) block c digest d 16 w refl s in
+    goes-on ((start ++ zeros 12) ++ digest) block d (zeros 128) e 48 x (simp length-append (omega arith)) t
 
--- the six pieces of a frame's head
-pub head-starts : (out a b c d e f : Bytes) (k s h mask : ℕ)
-    → a ≡ put out 0 (k ∷ []) → b ≡ put a 1 (s ∷ []) → c ≡ put b 2 (h ∷ []) → d ≡ put c 3 (0 ∷ []) → e ≡ put d 4 (le16 mask) → f ≡ put e 6 (zeros 10)
-    → f ≡ overFront (frameHead k s h mask) out
+-- the five pieces of a frame's head
+pub head-starts : (out a b c d e : Bytes) (k s h mask : ℕ)
+    → a ≡ put out 0 (k ∷ []) → b ≡ put a 1 (s ∷ []) → c ≡ put b 2 (le16 h) → d ≡ put c 4 (le16 mask) → e ≡ put d 6 (zeros 10)
+    → e ≡ overFront (frameHead k s h mask) out
 unfolding frameHead le16
-head-starts out a b c d e f k s h mask p q r t u v =
+head-starts out a b c d e k s h mask p q r t u =
     let w : b ≡ overFront (k ∷ s ∷ []) out = goes-on (k ∷ []) out a (s ∷ []) b 1 (starts out (k ∷ []) a p) refl q in
-    let x : c ≡ overFront (k ∷ s ∷ h ∷ []) out = goes-on (k ∷ s ∷ []) out b (h ∷ []) c 2 w refl r in
-    let y : d ≡ overFront (k ∷ s ∷ h ∷ 0 ∷ []) out = goes-on (k ∷ s ∷ h ∷ []) out c (0 ∷ []) d 3 x refl t in
-    let z : e ≡ overFront ((k ∷ s ∷ h ∷ 0 ∷ []) ++ le16 mask) out = goes-on (k ∷ s ∷ h ∷ 0 ∷ []) out d (le16 mask) e 4 y refl u in
-    goes-on ((k ∷ s ∷ h ∷ 0 ∷ []) ++ le16 mask) out e (zeros 10) f 6 z refl v
+    let x : c ≡ overFront (k ∷ s ∷ le16 h) out = goes-on (k ∷ s ∷ []) out b (le16 h) c 2 w refl r in
+    let y : d ≡ overFront ((k ∷ s ∷ le16 h) ++ le16 mask) out = goes-on (k ∷ s ∷ le16 h) out c (le16 mask) d 4 x refl t in
+    goes-on ((k ∷ s ∷ le16 h) ++ le16 mask) out d (zeros 10) e 6 y refl u
 
 head-size : (k s h mask : ℕ) → length (frameHead k s h mask) ≡ 16
 unfolding frameHead le16 zeros

@@ -52,4 +52,4 @@ frameRest frame = allOf
 
 -- the first 16 bytes of a frame
 unfoldable pub frameHead : (k s h mask : ℕ) → Bytes
-frameHead k s h mask = (k ∷ s ∷ h ∷ 0 ∷ []) ++ (le16 mask ++ zeros 10)
+frameHead k s h mask = (k ∷ s ∷ le16 h) ++ (le16 mask ++ zeros 10)

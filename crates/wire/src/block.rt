@@ -4,14 +4,40 @@ use crate::bytes::clear;
 use crate::bytes::copy_to;
 use crate::bytes::is_zero;
 use crate::bytes::put_byte;
+use crate::bytes::put_word;
+use crate::bytes::word;
 ghost use mathlib.Core.Path.{_≡_};
 ghost use mathlib.Core.List.{[], _∷_};
 ghost use Prim.Native.Nat.{_+_, _*_, _<_, _≤_};
 ghost use lib.ListN.{length};
-ghost use Rattle.protocol.specs.Bytes.{byteAt, overFront};
+ghost use Rattle.protocol.specs.Bytes.{overFront};
 ghost use Rattle.protocol.specs.BytesLaws.{put};
-ghost use Rattle.protocol.specs.Block.{blockWellFormed, newBlock};
+ghost use Rattle.protocol.specs.Block.{blockHeight, parentHeight, entryCount, blockWellFormed, newBlock};
 ghost use Rattle.wire.specs.Parts.{blockFields, blockParent, blockRest};
+
+// The height of a block. Costs two reads.
+pub fn block_height(block: &[u8]) -> usize
+    requires { ⌜ length (now block) ≡ 176 ⌝ }
+    ensures { λ r. ⌜ (r ≡ blockHeight (now (block .entry))) × (r < 65536) ⌝ }
+{
+    word(block, 0)
+}
+
+// The height of a block's parent. Costs two reads.
+pub fn parent_height(block: &[u8]) -> usize
+    requires { ⌜ length (now block) ≡ 176 ⌝ }
+    ensures { λ r. ⌜ (r ≡ parentHeight (now (block .entry))) × (r < 65536) ⌝ }
+{
+    word(block, 2)
+}
+
+// How many entries a block has. Costs one read.
+pub fn entry_count(block: &[u8]) -> usize
+    requires { ⌜ length (now block) ≡ 176 ⌝ }
+    ensures { λ r. ⌜ (r ≡ entryCount (now (block .entry))) × (r < 256) ⌝ }
+{
+    byte(block, 4)
+}
 
 // Whether a block is as it must be at height `h`. Reads each of the 176 bytes at most twice, the fields first, and copies none.
 pub fn block_well_formed(block: &[u8], h: usize) -> bool
@@ -28,25 +54,25 @@ pub fn block_well_formed(block: &[u8], h: usize) -> bool
     }
 }
 
-// Whether the first five bytes fit height `h`. Costs five reads.
+// Whether the first five bytes fit height `h`, with zero for the high byte of each height. Costs seven reads.
 fn fields_fit(block: &[u8], h: usize) -> bool
     requires { ⌜ length (now block) ≡ 176 ⌝ }
     ensures { λ r. ⌜ r ≡ blockFields h (now (block .entry)) ⌝ }
 {
-    let height = byte(block, 0) == h;
-    let second = byte(block, 1) == 0;
-    let parent = byte(block, 2) < h;
-    let fourth = byte(block, 3) == 0;
-    let count = byte(block, 4) <= 8;
-    height & (second & (parent & (fourth & count)))
+    let height = block_height(block) == h;
+    let height_short = byte(block, 1) == 0;
+    let parent = parent_height(block) < h;
+    let parent_short = byte(block, 3) == 0;
+    let count = entry_count(block) <= 8;
+    height & (height_short & (parent & (parent_short & count)))
 }
 
-// Whether a block with no parent has no digest either. Costs a read, or a pass over 32 bytes.
+// Whether a block with no parent has no digest either. Costs two reads, or a pass over 32 bytes.
 fn parent_fits(block: &[u8]) -> bool
     requires { ⌜ length (now block) ≡ 176 ⌝ }
     ensures { λ r. ⌜ r ≡ blockParent (now (block .entry)) ⌝ }
 {
-    let parent = byte(block, 2);
+    let parent = parent_height(block);
     if parent == 0 {
         is_zero(&block[16..48])
     } else {
@@ -57,12 +83,12 @@ fn parent_fits(block: &[u8]) -> bool
 // Whether the bytes that the fields leave unused are zero, those past the entries too. Costs a pass over each unused byte.
 fn rest_fits(block: &[u8]) -> bool
     requires { ⌜ length (now block) ≡ 176 ⌝ }
-    requires { ⌜ byteAt (now block) 4 ≤ 8 ⌝ }
+    requires { ⌜ entryCount (now block) ≤ 8 ⌝ }
     ensures { λ r. ⌜ r ≡ blockRest (now (block .entry)) ⌝ }
 {
     let reserved = is_zero(&block[5..16]);
     let parent = parent_fits(block);
-    let used = 48 + 16 * byte(block, 4);
+    let used = 48 + 16 * entry_count(block);
     let unused = is_zero(&block[used..]);
     reserved & (parent & unused)
 }
@@ -70,14 +96,13 @@ fn rest_fits(block: &[u8]) -> bool
 // Makes the first 176 bytes the block of height `h` on a parent, with no entries. Costs one store for each of them.
 pub fn start_block(block: &mut [u8], h: usize, parent: usize, digest: &[u8])
     requires { ⌜ 176 ≤ length (now block) ⌝ }
-    requires { ⌜ (h < 256) × (parent < 256) ⌝ }
+    requires { ⌜ (h < 65536) × (parent < 65536) ⌝ }
     requires { ⌜ length (now digest) ≡ 32 ⌝ }
     ensures { λ _. ⌜ now (block .exit) ≡ overFront (newBlock h parent (now (digest .entry)) []) (now (block .entry)) ⌝ }
 {
-    put_byte(block, 0, h);
-    put_byte(block, 1, 0);
-    put_byte(block, 2, parent);
-    clear(block, 3, 13);
+    put_word(block, 0, h);
+    put_word(block, 2, parent);
+    clear(block, 4, 12);
     copy_to(block, 16, digest);
     clear(block, 48, 128);
 }

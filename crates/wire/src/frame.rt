@@ -30,12 +30,12 @@ pub fn frame_signer(frame: &[u8]) -> usize
     byte(frame, 1)
 }
 
-// The height of a frame. Costs one read.
+// The height of a frame. Costs two reads.
 pub fn frame_height(frame: &[u8]) -> usize
     requires { ⌜ length (now frame) ≡ 224 ⌝ }
-    ensures { λ r. ⌜ (r ≡ frameHeight (now (frame .entry))) × (r < 256) ⌝ }
+    ensures { λ r. ⌜ (r ≡ frameHeight (now (frame .entry))) × (r < 65536) ⌝ }
 {
-    byte(frame, 2)
+    word(frame, 2)
 }
 
 // The mask of signers of a frame. Costs two reads.
@@ -61,8 +61,8 @@ pub fn frame_well_formed(frame: &[u8]) -> bool
     }
 }
 
-// Whether the kind is one of the seven, and the signer and the mask are there only for the kinds that have them.
-// Costs seven reads.
+// Whether the kind is one of the seven, the signer and the mask are there only for the kinds that have them, and the
+// height has a zero high byte. Costs seven reads.
 fn fields_fit(frame: &[u8]) -> bool
     requires { ⌜ length (now frame) ≡ 224 ⌝ }
     ensures { λ r. ⌜ r ≡ frameFields (now (frame .entry)) ⌝ }
@@ -71,9 +71,9 @@ fn fields_fit(frame: &[u8]) -> bool
     let statement = (1 <= kind) & (kind <= 4);
     let certificate = (5 <= kind) & (kind <= 7);
     let unsigned = frame_signer(frame) == 0;
-    let reserved = byte(frame, 3) == 0;
+    let height_short = byte(frame, 3) == 0;
     let unmasked = frame_mask(frame) == 0;
-    (statement | certificate) & ((statement | unsigned) & (reserved & (certificate | unmasked)))
+    (statement | certificate) & ((statement | unsigned) & (height_short & (certificate | unmasked)))
 }
 
 // Whether the digest and the block are there only for the kinds that have them, and the block is well formed.
@@ -106,13 +106,12 @@ fn block_fits(frame: &[u8]) -> bool
 // Writes the first 16 bytes of a frame. Costs 16 stores.
 fn write_head(out: &mut [u8], kind: usize, signer: usize, h: usize, mask: usize)
     requires { ⌜ 224 ≤ length (now out) ⌝ }
-    requires { ⌜ (kind < 256) × (signer < 256) × (h < 256) × (mask < 65536) ⌝ }
+    requires { ⌜ (kind < 256) × (signer < 256) × (h < 65536) × (mask < 65536) ⌝ }
     ensures { λ _. ⌜ now (out .exit) ≡ overFront (frameHead kind signer h mask) (now (out .entry)) ⌝ }
 {
     put_byte(out, 0, kind);
     put_byte(out, 1, signer);
-    put_byte(out, 2, h);
-    put_byte(out, 3, 0);
+    put_word(out, 2, h);
     put_word(out, 4, mask);
     clear(out, 6, 10);
 }
@@ -120,7 +119,7 @@ fn write_head(out: &mut [u8], kind: usize, signer: usize, h: usize, mask: usize)
 // Writes a frame that carries neither digest nor block to the first 224 bytes. Costs one store for each.
 pub fn write_plain(out: &mut [u8], kind: usize, signer: usize, h: usize, mask: usize)
     requires { ⌜ 224 ≤ length (now out) ⌝ }
-    requires { ⌜ (kind < 256) × (signer < 256) × (h < 256) × (mask < 65536) ⌝ }
+    requires { ⌜ (kind < 256) × (signer < 256) × (h < 65536) × (mask < 65536) ⌝ }
     ensures { λ _. ⌜ now (out .exit) ≡ overFront (frameOf kind signer h mask (zeros 32) (zeros 176)) (now (out .entry)) ⌝ }
 {
     write_head(out, kind, signer, h, mask);
@@ -137,7 +136,7 @@ pub fn write_with_block(
     block: &[u8],
 )
     requires { ⌜ 224 ≤ length (now out) ⌝ }
-    requires { ⌜ (kind < 256) × (signer < 256) × (h < 256) × (mask < 65536) ⌝ }
+    requires { ⌜ (kind < 256) × (signer < 256) × (h < 65536) × (mask < 65536) ⌝ }
     requires { ⌜ length (now block) ≡ 176 ⌝ }
     ensures { λ _. ⌜ now (out .exit) ≡ overFront (frameOf kind signer h mask (zeros 32) (now (block .entry))) (now (out .entry)) ⌝ }
 {
@@ -149,7 +148,7 @@ pub fn write_with_block(
 // Writes a vote for the dummy block: 224 stores.
 pub fn write_dummy_vote(out: &mut [u8], signer: usize, h: usize)
     requires { ⌜ 224 ≤ length (now out) ⌝ }
-    requires { ⌜ (signer < 256) × (h < 256) ⌝ }
+    requires { ⌜ (signer < 256) × (h < 65536) ⌝ }
     ensures { λ _. ⌜ now (out .exit) ≡ overFront (dummyVote signer h) (now (out .entry)) ⌝ }
 {
     write_plain(out, 3, signer, h, 0);
@@ -158,7 +157,7 @@ pub fn write_dummy_vote(out: &mut [u8], signer: usize, h: usize)
 // Writes a finalize statement: 224 stores.
 pub fn write_finalize(out: &mut [u8], signer: usize, h: usize)
     requires { ⌜ 224 ≤ length (now out) ⌝ }
-    requires { ⌜ (signer < 256) × (h < 256) ⌝ }
+    requires { ⌜ (signer < 256) × (h < 65536) ⌝ }
     ensures { λ _. ⌜ now (out .exit) ≡ overFront (finalize signer h) (now (out .entry)) ⌝ }
 {
     write_plain(out, 4, signer, h, 0);
@@ -167,7 +166,7 @@ pub fn write_finalize(out: &mut [u8], signer: usize, h: usize)
 // Writes a notarization of the dummy block: 224 stores.
 pub fn write_dummy_certificate(out: &mut [u8], h: usize, mask: usize)
     requires { ⌜ 224 ≤ length (now out) ⌝ }
-    requires { ⌜ (h < 256) × (mask < 65536) ⌝ }
+    requires { ⌜ (h < 65536) × (mask < 65536) ⌝ }
     ensures { λ _. ⌜ now (out .exit) ≡ overFront (dummyCertificate h mask) (now (out .entry)) ⌝ }
 {
     write_plain(out, 6, 0, h, mask);
@@ -176,7 +175,7 @@ pub fn write_dummy_certificate(out: &mut [u8], h: usize, mask: usize)
 // Writes a vote for a block, which names it by its digest: 224 stores.
 pub fn write_block_vote(out: &mut [u8], signer: usize, h: usize, digest: &[u8])
     requires { ⌜ 224 ≤ length (now out) ⌝ }
-    requires { ⌜ (signer < 256) × (h < 256) ⌝ }
+    requires { ⌜ (signer < 256) × (h < 65536) ⌝ }
     requires { ⌜ length (now digest) ≡ 32 ⌝ }
     ensures { λ _. ⌜ now (out .exit) ≡ overFront (blockVote signer h (now (digest .entry))) (now (out .entry)) ⌝ }
 {
@@ -188,7 +187,7 @@ pub fn write_block_vote(out: &mut [u8], signer: usize, h: usize, digest: &[u8])
 // Writes a notarization of a block: 224 stores.
 pub fn write_block_certificate(out: &mut [u8], h: usize, mask: usize, block: &[u8])
     requires { ⌜ 224 ≤ length (now out) ⌝ }
-    requires { ⌜ (h < 256) × (mask < 65536) ⌝ }
+    requires { ⌜ (h < 65536) × (mask < 65536) ⌝ }
     requires { ⌜ length (now block) ≡ 176 ⌝ }
     ensures { λ _. ⌜ now (out .exit) ≡ overFront (blockCertificate h mask (now (block .entry))) (now (out .entry)) ⌝ }
 {

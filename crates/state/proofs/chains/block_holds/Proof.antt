@@ -4,8 +4,8 @@ use native.Mathlib.Omega.{arith}
 use mathlib.Core.Path.{_≡_, refl, sym, _∙_}
 use borrow.Author.Needs.{needs}
 use lib.ListN.{drop}
-use Rattle.protocol.specs.Bytes.{byteAt, holds}
-use Rattle.protocol.specs.Block.{entries}
+use Rattle.protocol.specs.Bytes.{holds}
+use Rattle.protocol.specs.Block.{entryCount, entries}
 use Rattle.state.proofs.ChainWalk.{entry-found, entry-differs, entries-over}
 use Rattle.state.proofs.chains.block_holds.Statement.{statement}
 use Rattle.state.proofs.chains.block_holds.Tie as tie
@@ -16,8 +16,8 @@ Inv-loop block entry count k₀ k = (k ≤ count) × (holds entry (entries block
 abbrev μ-loop : tie.MeasureT-loop
 μ-loop block entry count k₀ k = count - k
 
-byte-requires : tie.Need-byte-requires Inv-loop μ-loop
-byte-requires c κs = omega arith
+entry-count-requires : tie.Need-entry-count-requires Inv-loop μ-loop
+entry-count-requires c κs = search needs
 
 loop-holds : tie.Need-loop-holds Inv-loop μ-loop
 loop-holds c = (omega arith, refl)
@@ -44,7 +44,7 @@ returns : tie.Need-returns Inv-loop μ-loop
 returns c =
     let at = c .before .before .before .before in
     let args = at .before .before .before .before .args in
-    let inside : at .loop .k < byteAt (args .block .now) 4 = omega arith in
+    let inside : at .loop .k < entryCount (args .block .now) = omega arith in
     sym (at .loop .inv .1 ∙ entry-found (args .entry .now) (args .block .now) (at .loop .k) inside (c .before .same-bytes .ensures) (c .if1 .taken))
 
 add-k : tie.Need-add-k Inv-loop μ-loop
@@ -57,13 +57,13 @@ loop-again : tie.Need-loop-again Inv-loop μ-loop
 loop-again c =
     let at = c .before .before .before .before in
     let args = at .before .before .before .before .args in
-    let inside : at .loop .k < byteAt (args .block .now) 4 = omega arith in
+    let inside : at .loop .k < entryCount (args .block .now) = omega arith in
     (omega arith, at .loop .inv .1 ∙ entry-differs (args .entry .now) (args .block .now) (at .loop .k) inside (c .before .same-bytes .ensures) (c .if1 .left))
 
 returns-2 : tie.Need-returns-2 Inv-loop μ-loop
 returns-2 c =
     let args = c .before .before .before .before .before .args in
-    let over : byteAt (args .block .now) 4 ≤ c .before .loop .k = omega arith in
+    let over : entryCount (args .block .now) ≤ c .before .loop .k = omega arith in
     sym (c .before .loop .inv .1 ∙ entries-over (args .entry .now) (args .block .now) (c .before .loop .k) over)
 
 pub block-holds-spec : {M : Type 1} → statement M
@@ -72,7 +72,7 @@ block-holds-spec =
     (tie.spec
     Inv-loop
     μ-loop
-    byte-requires
+    entry-count-requires
     loop-holds
     mul-from
     add-from

@@ -28,10 +28,10 @@ block-requires c κs =
     let high = w .high in
     (w .shown, record { low = omega arith; high = high })
 
-byte-requires : tie.Need-byte-requires Inv-loop μ-loop
-byte-requires c κs =
+entry-count-requires : tie.Need-entry-count-requires Inv-loop μ-loop
+entry-count-requires c κs =
     let step = walk-step (c .before .before .loop .inv .0) (c .before .loop-test .taken) (c .block .ensures .0) in
-    omega arith
+    step .size
 
 add-sum : tie.Need-add-sum Inv-loop μ-loop
 add-sum c =
@@ -40,10 +40,10 @@ add-sum c =
     let few = walk-few (at .before .before .pre) in
     omega arith
 
-byte-requires-2 : tie.Need-byte-requires-2 Inv-loop μ-loop
-byte-requires-2 c κs =
+parent-height-requires : tie.Need-parent-height-requires Inv-loop μ-loop
+parent-height-requires c κs =
     let step = walk-step (c .before .before .before .loop .inv .0) (c .before .before .loop-test .taken) (c .before .block .ensures .0) in
-    omega arith
+    step .size
 
 loop-less : tie.Need-loop-less Inv-loop μ-loop
 loop-less c =
@@ -55,8 +55,8 @@ loop-again : tie.Need-loop-again Inv-loop μ-loop
 loop-again c =
     let turn = c .before .before in
     let step = walk-step (turn .before .before .loop .inv .0) (turn .before .loop-test .taken) (turn .block .ensures .0) in
-    let count = walk-count step (c .byte2 .ensures .0) (c .before .byte .ensures .0) in
-    (walk-parent step (c .byte2 .ensures .0), omega arith)
+    let count = walk-count step (c .parent-height .ensures .0) (c .before .entry-count .ensures .0) in
+    (walk-parent step (c .parent-height .ensures .0), omega arith)
 
 returns : tie.Need-returns Inv-loop μ-loop
 returns c =
@@ -74,9 +74,9 @@ chain-entries-spec =
     μ-loop
     loop-holds
     block-requires
-    byte-requires
+    entry-count-requires
     add-sum
-    byte-requires-2
+    parent-height-requires
     loop-less
     loop-again
     returns)

@@ -40,11 +40,11 @@ returns c =
     let step = walk-step (loop .inv .0) (turn .before .loop-test .taken) (turn .block .ensures .0) in
     sym (loop .inv .1 ∙ walk-found entry step (sym (c .before .block-holds .ensures) ∙ c .if1 .taken))
 
-byte-requires : tie.Need-byte-requires Inv-loop μ-loop
-byte-requires c κs =
+parent-height-requires : tie.Need-parent-height-requires Inv-loop μ-loop
+parent-height-requires c κs =
     let turn = c .before .before in
     let step = walk-step (turn .before .before .loop .inv .0) (turn .before .loop-test .taken) (turn .block .ensures .0) in
-    omega arith
+    step .size
 
 loop-less : tie.Need-loop-less Inv-loop μ-loop
 loop-less c =
@@ -58,7 +58,7 @@ loop-again c =
     let loop = turn .before .before .loop in
     let entry = turn .before .before .before .before .before .args .entry .now in
     let step = walk-step (loop .inv .0) (turn .before .loop-test .taken) (turn .block .ensures .0) in
-    (walk-parent step (c .byte .ensures .0), loop .inv .1 ∙ walk-on entry step (c .byte .ensures .0) (sym (c .before .before .block-holds .ensures) ∙ c .before .if1 .left))
+    (walk-parent step (c .parent-height .ensures .0), loop .inv .1 ∙ walk-on entry step (c .parent-height .ensures .0) (sym (c .before .before .block-holds .ensures) ∙ c .before .if1 .left))
 
 returns-2 : tie.Need-returns-2 Inv-loop μ-loop
 returns-2 c =
@@ -71,4 +71,4 @@ returns-2 c =
 pub chain-holds-spec : {M : Type 1} → statement M
 chain-holds-spec =
     tie.close
-    (tie.spec Inv-loop μ-loop loop-holds block-requires block-holds-requires returns byte-requires loop-less loop-again returns-2)
+    (tie.spec Inv-loop μ-loop loop-holds block-requires block-holds-requires returns parent-height-requires loop-less loop-again returns-2)

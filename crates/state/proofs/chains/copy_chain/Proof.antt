@@ -31,17 +31,17 @@ block-requires c κs =
     let high = w .high in
     (w .shown, record { low = omega arith; high = high })
 
-byte-requires : tie.Need-byte-requires Inv-loop μ-loop
-byte-requires c κs =
+entry-count-requires : tie.Need-entry-count-requires Inv-loop μ-loop
+entry-count-requires c κs =
     let turn = c in
     let step = walk-step (turn .before .before .loop .inv .0) (turn .before .loop-test .taken) (turn .block .ensures .0) in
-    omega arith
+    step .size
 
 sub-end : tie.Need-sub-end Inv-loop μ-loop
 sub-end c =
     let turn = c .before in
     let step = walk-step (turn .before .before .loop .inv .0) (turn .before .loop-test .taken) (turn .block .ensures .0) in
-    let count = walk-count step refl (c .byte .ensures .0) in
+    let count = walk-count step refl (c .entry-count .ensures .0) in
     omega arith
 
 mul-copy-to : tie.Need-mul-copy-to Inv-loop μ-loop
@@ -69,16 +69,16 @@ copy-to-requires : tie.Need-copy-to-requires Inv-loop μ-loop
 copy-to-requires c κs =
     let turn = c .before .before .before in
     let step = walk-step (turn .before .before .loop .inv .0) (turn .before .loop-test .taken) (turn .block .ensures .0) in
-    let few : c .before .before .byte .result ≤ 8 = omega arith in
-    let size = piece-length (turn .block .result .now) (c .before .before .byte .result) (step .size) few in
-    let count = walk-count step refl (c .before .before .byte .ensures .0) in
+    let few : c .before .before .entry-count .result ≤ 8 = omega arith in
+    let size = piece-length (turn .block .result .now) (c .before .before .entry-count .result) (step .size) few in
+    let count = walk-count step refl (c .before .before .entry-count .ensures .0) in
     omega arith
 
-byte-requires-2 : tie.Need-byte-requires-2 Inv-loop μ-loop
-byte-requires-2 c κs =
+parent-height-requires : tie.Need-parent-height-requires Inv-loop μ-loop
+parent-height-requires c κs =
     let turn = c .before .before .before .before .before .before in
     let step = walk-step (turn .before .before .loop .inv .0) (turn .before .loop-test .taken) (turn .block .ensures .0) in
-    omega arith
+    step .size
 
 loop-less : tie.Need-loop-less Inv-loop μ-loop
 loop-less c =
@@ -93,14 +93,14 @@ loop-again c =
     let read = c .before .before .before .before .before .before in
     let copied = c .before .before .before .copy-to .ensures in
     let step = walk-step (turn .before .before .loop .inv .0) (turn .before .loop-test .taken) (turn .block .ensures .0) in
-    let few : read .byte .result ≤ 8 = omega arith in
-    let size = piece-length (turn .block .result .now) (read .byte .result) (step .size) few in
-    let count = walk-count step (c .byte2 .ensures .0) (read .byte .ensures .0) in (
-      walk-parent step (c .byte2 .ensures .0),
+    let few : read .entry-count .result ≤ 8 = omega arith in
+    let size = piece-length (turn .block .result .now) (read .entry-count .result) (step .size) few in
+    let count = walk-count step (c .parent-height .ensures .0) (read .entry-count .ensures .0) in (
+      walk-parent step (c .parent-height .ensures .0),
       omega arith,
       ap length copied ∙ length-put (loop .buffer) _ _ (omega arith) ∙ loop .inv .2,
       omega arith,
-      copy-more step (c .byte2 .ensures .0) (read .byte .ensures .0) (loop .buffer) (loop .inv .1) (omega arith) (loop .inv .4) copied,
+      copy-more step (c .parent-height .ensures .0) (read .entry-count .ensures .0) (loop .buffer) (loop .inv .1) (omega arith) (loop .inv .4) copied,
     )
 
 same-length : tie.Need-same-length Inv-loop μ-loop
@@ -120,7 +120,7 @@ copy-chain-spec =
     μ-loop
     loop-holds
     block-requires
-    byte-requires
+    entry-count-requires
     sub-end
     mul-copy-to
     mul-copy-to-2
@@ -129,7 +129,7 @@ copy-chain-spec =
     part-copy-to-start
     part-copy-to-end
     copy-to-requires
-    byte-requires-2
+    parent-height-requires
     loop-less
     loop-again
     same-length

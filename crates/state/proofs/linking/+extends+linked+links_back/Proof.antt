@@ -3,13 +3,13 @@ use Prim.Native.Nat.{ℕ, _+_, _*_, _<_}
 use borrow.Author.Needs.{needs}
 use native.Mathlib.Omega.{arith}
 use mathlib.Core.Path.{sym, ap, _∙_}
-use lib.ListN.{length, getD}
+use lib.ListN.{length}
 use borrow.Author.Tests.{lt-ltb, le-ltb}
 use Rattle.sha256.specs.Digest.{sha256}
 use Rattle.protocol.specs.Bytes.{Bytes}
 use Rattle.protocol.specs.View.{extends as extends-test}
 use Rattle.fields.specs.Shown.{viewOf}
-use Rattle.state.proofs.Walk.{names-parent-height, extends-by-digest, extends-not-run, extends-not-linked, extends-not-below, linked-start, linked-by-block, not-linked-without}
+use Rattle.state.proofs.Walk.{extends-by-digest, extends-not-run, extends-not-linked, extends-not-below, linked-start, linked-by-block, not-linked-without}
 use Rattle.state.proofs.Stores.{remember-linked, remember-unlinked}
 use borrow.Fn.Kinds.{In}
 use borrow.Fn.PlainCycle.{Measures, is, falls, and}
@@ -22,6 +22,7 @@ use Rattle.state.proofs.linking.+extends+linked+links_back.Lts-linked a
 use Rattle.state.proofs.linking.links_back.Reads as links-back
 use Rattle.state.proofs.linking.links_back.Kinds as links-back-kinds
 use Rattle.state.proofs.linking.+extends+linked+links_back.Lts-links_back as links-back-lts
+use Rattle.wire.proofs.block.parent_height.Reads as parent-height-reads
 use Rattle.fields.proofs.kind.has_block.Reads as has-block-reads
 use Rattle.fields.proofs.kind.block.Reads as block-reads
 use Rattle.state.proofs.memory.dummies_after.Reads as dummies-after-reads
@@ -58,7 +59,9 @@ abbrev links-back-below : ℕ → In 2 links-back-kinds.ps
 links-back-below t =
     and 2 links-back-kinds.ps (falls 2 links-back-kinds.ps _<_ μ-links-back t) links-back.Pre
 
-extends-shared-slice-read-j : (t : ℕ) → extends-lts.Need-shared-slice-read-j (
+extends-parent-height-requires : (t : ℕ) → extends-lts.Need-parent-height-requires (
+  parent-height-reads.Asked,
+  parent-height-reads.Learnt,
   linked-below t,
   linked.Post,
   dummies-after-reads.Asked,
@@ -66,19 +69,11 @@ extends-shared-slice-read-j : (t : ℕ) → extends-lts.Need-shared-slice-read-j
   names-parent-reads.Asked,
   names-parent-reads.Learnt,
 ) (extends-at t) extends.Post
-extends-shared-slice-read-j t c = search needs
-
-extends-cast-j : (t : ℕ) → extends-lts.Need-cast-j (
-  linked-below t,
-  linked.Post,
-  dummies-after-reads.Asked,
-  dummies-after-reads.Learnt,
-  names-parent-reads.Asked,
-  names-parent-reads.Learnt,
-) (extends-at t) extends.Post
-extends-cast-j t c = omega (arith, c .shared-slice-known3 .given 2)
+extends-parent-height-requires t c κs = search needs
 
 extends-linked-requires : (t : ℕ) → extends-lts.Need-linked-requires (
+  parent-height-reads.Asked,
+  parent-height-reads.Learnt,
   linked-below t,
   linked.Post,
   dummies-after-reads.Asked,
@@ -91,6 +86,8 @@ extends-linked-requires t c κs =
     (omega arith, (z .pre .1 .0, (z .pre .1 .1 .0, omega arith)))
 
 extends-sub-dummies-after : (t : ℕ) → extends-lts.Need-sub-dummies-after (
+  parent-height-reads.Asked,
+  parent-height-reads.Learnt,
   linked-below t,
   linked.Post,
   dummies-after-reads.Asked,
@@ -101,6 +98,8 @@ extends-sub-dummies-after : (t : ℕ) → extends-lts.Need-sub-dummies-after (
 extends-sub-dummies-after t c = search needs
 
 extends-dummies-after-requires : (t : ℕ) → extends-lts.Need-dummies-after-requires (
+  parent-height-reads.Asked,
+  parent-height-reads.Learnt,
   linked-below t,
   linked.Post,
   dummies-after-reads.Asked,
@@ -113,6 +112,8 @@ extends-dummies-after-requires t c κs =
     (z .pre .1 .0, (c .before .before .before .before .linked .ensures .1, (omega arith, omega arith)))
 
 extends-names-parent-requires : (t : ℕ) → extends-lts.Need-names-parent-requires (
+  parent-height-reads.Asked,
+  parent-height-reads.Learnt,
   linked-below t,
   linked.Post,
   dummies-after-reads.Asked,
@@ -125,6 +126,8 @@ extends-names-parent-requires t c κs =
     (z .pre .1 .0, (c .before .before .before .before .dummies-after .ensures .1, (z .pre .1 .1 .1 .1, omega arith)))
 
 extends-same-length : (t : ℕ) → extends-lts.Need-same-length (
+  parent-height-reads.Asked,
+  parent-height-reads.Learnt,
   linked-below t,
   linked.Post,
   dummies-after-reads.Asked,
@@ -135,6 +138,8 @@ extends-same-length : (t : ℕ) → extends-lts.Need-same-length (
 extends-same-length t c = search needs
 
 extends-returns : (t : ℕ) → extends-lts.Need-returns (
+  parent-height-reads.Asked,
+  parent-height-reads.Learnt,
   linked-below t,
   linked.Post,
   dummies-after-reads.Asked,
@@ -143,13 +148,17 @@ extends-returns : (t : ℕ) → extends-lts.Need-returns (
   names-parent-reads.Learnt,
 ) (extends-at t) extends.Post
 extends-returns t c =
-    let z = c .before .before .before .before .before .before .before .before .before .before .before .before .before .before .before .before .before .before .before in
+    let tested = c .before .before .before .before .before .before .before .before .before .before .before .before .before .before in
+    let read = tested .before in
+    let z = read .before .before .before .before in
     let v = viewOf (z .args .kind) (z .args .book .now) in
-    let j = getD (z .args .block .now) 2 0 in
+    let j = read .parent-height .result in
     let named = c .before .before .names-parent in
-    (named .ensures .0 ∙ sym (extends-by-digest v (z .args .h) j (z .args .block .now) (names-parent-height (z .args .block .now)) (lt-ltb j (z .args .h) (omega arith)) (sym (c .before .before .before .before .before .before .before .before .before .before .before .before .linked .ensures .0) ∙ c .before .before .before .before .before .before .before .before .before .if2 .taken) (sym (c .before .before .before .before .before .before .before .dummies-after .ensures .0) ∙ c .before .before .before .before .if3 .taken)), named .ensures .1)
+    (named .ensures .0 ∙ sym (extends-by-digest v (z .args .h) j (z .args .block .now) (sym (read .parent-height .ensures .0)) (lt-ltb j (z .args .h) (tested .if1 .taken)) (sym (c .before .before .before .before .before .before .before .before .before .before .before .before .linked .ensures .0) ∙ c .before .before .before .before .before .before .before .before .before .if2 .taken) (sym (c .before .before .before .before .before .before .before .dummies-after .ensures .0) ∙ c .before .before .before .before .if3 .taken)), named .ensures .1)
 
 extends-same-length-2 : (t : ℕ) → extends-lts.Need-same-length-2 (
+  parent-height-reads.Asked,
+  parent-height-reads.Learnt,
   linked-below t,
   linked.Post,
   dummies-after-reads.Asked,
@@ -160,6 +169,8 @@ extends-same-length-2 : (t : ℕ) → extends-lts.Need-same-length-2 (
 extends-same-length-2 t c = search needs
 
 extends-returns-2 : (t : ℕ) → extends-lts.Need-returns-2 (
+  parent-height-reads.Asked,
+  parent-height-reads.Learnt,
   linked-below t,
   linked.Post,
   dummies-after-reads.Asked,
@@ -168,13 +179,16 @@ extends-returns-2 : (t : ℕ) → extends-lts.Need-returns-2 (
   names-parent-reads.Learnt,
 ) (extends-at t) extends.Post
 extends-returns-2 t c =
-    let z = c .before .before .before .before .before .before .before .before .before .before .before .before .before .before .before in
+    let read = c .before .before .before .before .before .before .before .before .before .before .before in
+    let z = read .before .before .before .before in
     let v = viewOf (z .args .kind) (z .args .book .now) in
-    let j = getD (z .args .block .now) 2 0 in
+    let j = read .parent-height .result in
     let run = c .before .before .before .dummies-after in
-    (sym (extends-not-run v (z .args .h) j (z .args .block .now) (names-parent-height (z .args .block .now)) (sym (run .ensures .0) ∙ c .if3 .left)), run .ensures .1)
+    (sym (extends-not-run v (z .args .h) j (z .args .block .now) (sym (read .parent-height .ensures .0)) (sym (run .ensures .0) ∙ c .if3 .left)), run .ensures .1)
 
 extends-same-length-3 : (t : ℕ) → extends-lts.Need-same-length-3 (
+  parent-height-reads.Asked,
+  parent-height-reads.Learnt,
   linked-below t,
   linked.Post,
   dummies-after-reads.Asked,
@@ -185,6 +199,8 @@ extends-same-length-3 : (t : ℕ) → extends-lts.Need-same-length-3 (
 extends-same-length-3 t c = search needs
 
 extends-returns-3 : (t : ℕ) → extends-lts.Need-returns-3 (
+  parent-height-reads.Asked,
+  parent-height-reads.Learnt,
   linked-below t,
   linked.Post,
   dummies-after-reads.Asked,
@@ -193,12 +209,15 @@ extends-returns-3 : (t : ℕ) → extends-lts.Need-returns-3 (
   names-parent-reads.Learnt,
 ) (extends-at t) extends.Post
 extends-returns-3 t c =
-    let z = c .before .before .before .before .before .before .before .before .before .before in
+    let read = c .before .before .before .before .before .before in
+    let z = read .before .before .before .before in
     let v = viewOf (z .args .kind) (z .args .book .now) in
-    let j = getD (z .args .block .now) 2 0 in
-    (sym (extends-not-linked v (z .args .h) j (z .args .block .now) (names-parent-height (z .args .block .now)) (sym (c .before .before .before .linked .ensures .0) ∙ c .if2 .left)), c .before .before .before .linked .ensures .1)
+    let j = read .parent-height .result in
+    (sym (extends-not-linked v (z .args .h) j (z .args .block .now) (sym (read .parent-height .ensures .0)) (sym (c .before .before .before .linked .ensures .0) ∙ c .if2 .left)), c .before .before .before .linked .ensures .1)
 
 extends-returns-4 : (t : ℕ) → extends-lts.Need-returns-4 (
+  parent-height-reads.Asked,
+  parent-height-reads.Learnt,
   linked-below t,
   linked.Post,
   dummies-after-reads.Asked,
@@ -207,10 +226,11 @@ extends-returns-4 : (t : ℕ) → extends-lts.Need-returns-4 (
   names-parent-reads.Learnt,
 ) (extends-at t) extends.Post
 extends-returns-4 t c =
-    let z = c .before .before .before .before .before in
+    let read = c .before in
+    let z = read .before .before .before .before in
     let v = viewOf (z .args .kind) (z .args .book .now) in
-    let j = getD (z .args .block .now) 2 0 in
-    (sym (extends-not-below v (z .args .h) j (z .args .block .now) (names-parent-height (z .args .block .now)) (le-ltb j (z .args .h) (omega arith))), z .pre .1 .1 .0)
+    let j = read .parent-height .result in
+    (sym (extends-not-below v (z .args .h) j (z .args .block .now) (sym (read .parent-height .ensures .0)) (le-ltb j (z .args .h) (omega arith))), z .pre .1 .1 .0)
 
 linked-returns :
     (t : ℕ) →
@@ -218,6 +238,12 @@ linked-returns :
 linked-returns t c =
     let z = c .before .before .before in
     (sym (linked-start (viewOf (z .args .kind) (z .args .book .now)) (z .args .h) (c .if1 .taken)), z .pre .1 .1 .0)
+
+linked-mul-seen : (t : ℕ) → linked-lts.Need-mul-seen (
+  links-back-below t,
+  links-back.Post,
+) (linked-at t) linked.Post
+linked-mul-seen t c = search needs
 
 linked-slice-read-seen : (t : ℕ) → linked-lts.Need-slice-read-seen (
   links-back-below t,
@@ -230,14 +256,14 @@ linked-returns-2 :
     linked-lts.Need-returns-2 (links-back-below t, links-back.Post) (linked-at t) linked.Post
 linked-returns-2 t c =
     let z = c .before .before .before .before .before in
-    (sym (z .pre .1 .1 .0 .is-linked (z .args .h) (omega arith) (c .if2 .taken)), z .pre .1 .1 .0)
+    (sym (z .pre .1 .1 .0 .each (z .args .h) (omega arith) .is-linked (c .if2 .taken)), z .pre .1 .1 .0)
 
 linked-returns-3 :
     (t : ℕ) →
     linked-lts.Need-returns-3 (links-back-below t, links-back.Post) (linked-at t) linked.Post
 linked-returns-3 t c =
     let z = c .before .before .before .before .before .before in
-    (sym (z .pre .1 .1 .0 .not-linked (z .args .h) (omega arith) (c .if3 .taken)), z .pre .1 .1 .0)
+    (sym (z .pre .1 .1 .0 .each (z .args .h) (omega arith) .not-linked (c .if3 .taken)), z .pre .1 .1 .0)
 
 linked-links-back-requires : (t : ℕ) → linked-lts.Need-links-back-requires (
   links-back-below t,
@@ -247,11 +273,23 @@ linked-links-back-requires t c κs =
     let z = c .before .before .before .before .before .before .before in
     (omega arith, (z .pre .1 .0, (z .pre .1 .1 .0, record { low = omega arith; high = z .pre .1 .1 .1 })))
 
+linked-mul-known : (t : ℕ) → linked-lts.Need-mul-known (
+  links-back-below t,
+  links-back.Post,
+) (linked-at t) linked.Post
+linked-mul-known t c = search needs
+
 linked-slice-write-known : (t : ℕ) → linked-lts.Need-slice-write-known (
   links-back-below t,
   links-back.Post,
 ) (linked-at t) linked.Post
 linked-slice-write-known t c = search needs
+
+linked-mul-known-2 : (t : ℕ) → linked-lts.Need-mul-known-2 (
+  links-back-below t,
+  links-back.Post,
+) (linked-at t) linked.Post
+linked-mul-known-2 t c = search needs
 
 linked-slice-write-known-2 : (t : ℕ) → linked-lts.Need-slice-write-known-2 (
   links-back-below t,
@@ -360,6 +398,8 @@ links-back-returns-2 t c =
 
 pub +extends+linked+links-back-spec : {M : Type 1} → statement M
 +extends+linked+links-back-spec = close μ-extends μ-linked μ-links-back (λ t. extends-lts.spec (
+  parent-height-reads.Asked,
+  parent-height-reads.Learnt,
   linked-below t,
   linked.Post,
   dummies-after-reads.Asked,
@@ -369,8 +409,7 @@ pub +extends+linked+links-back-spec : {M : Type 1} → statement M
 )
     (extends-at t)
     extends.Post
-    (extends-shared-slice-read-j t)
-    (extends-cast-j t)
+    (extends-parent-height-requires t)
     (extends-linked-requires t)
     (extends-sub-dummies-after t)
     (extends-dummies-after-requires t)
@@ -387,11 +426,14 @@ pub +extends+linked+links-back-spec : {M : Type 1} → statement M
     (linked-at t)
     linked.Post
     (linked-returns t)
+    (linked-mul-seen t)
     (linked-slice-read-seen t)
     (linked-returns-2 t)
     (linked-returns-3 t)
     (linked-links-back-requires t)
+    (linked-mul-known t)
     (linked-slice-write-known t)
+    (linked-mul-known-2 t)
     (linked-slice-write-known-2 t)
     (linked-same-length t)
     (linked-returns-4 t)

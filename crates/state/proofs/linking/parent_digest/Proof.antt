@@ -30,7 +30,7 @@ returns-2 c =
     let z = c .before .before .before .before .before .before .before .before .before .before .before .before in
     let j = z .args .j in
     let kept = c .before .before .before .before .before .before .before .keep-digest in
-    (c .before .copy-to .ensures ∙ digest-copied (viewOf (z .args .kind) (z .args .book .now)) (kept .last .1 .1 .1 .0) (zeros 32) j (192 + 32 * j + 32 - (192 + 32 * j)) (c .before .before .before .before .before .before .before .before .before .if1 .left) (omega arith) (length-zeros 32) (omega arith) (kept .ensures .0), kept .ensures .1)
+    (c .before .copy-to .ensures ∙ digest-copied (viewOf (z .args .kind) (z .args .book .now)) (kept .last .1 .1 .1 .0) (zeros 32) j (36 * j + 4 + 32 - (36 * j + 4)) (c .before .before .before .before .before .before .before .before .before .if1 .left) (omega arith) (length-zeros 32) (omega arith) (kept .ensures .0), kept .ensures .1)
 
 pub parent-digest-spec : {M : Type 1} → statement M
 parent-digest-spec =

@@ -12,7 +12,7 @@ use Rattle.state.proofs.memory.keep_digest.Tie as tie
 returns : tie.Need-returns
 returns c =
     let z = c .before .before .before .before in
-    (z .pre .1 .0 .digest (z .args .j) (omega arith) (c .if1 .taken), z .pre .1 .0)
+    (z .pre .1 .0 .each (z .args .j) (omega arith) .digest (c .if1 .taken), z .pre .1 .0)
 
 returns-2 : tie.Need-returns-2
 returns-2 c =
@@ -29,6 +29,7 @@ keep-digest-spec =
     (tie.spec
     (λ c. search needs)
     (λ c. search needs)
+    (λ c. search needs)
     returns
     (λ c κs. search needs)
     (λ c κs. search needs)
@@ -36,6 +37,7 @@ keep-digest-spec =
     (λ c. search needs)
     (λ c. search needs)
     (λ c κs. search needs)
+    (λ c. search needs)
     (λ c. search needs)
     (λ c. search needs)
     (λ c. search needs)

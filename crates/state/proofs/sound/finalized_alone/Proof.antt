@@ -12,7 +12,7 @@ returns : tie.Need-returns
 returns c = sym (final-none sha256 (c .before .before .before .args .book .now) (sym (c .before .finalized .ensures .0) ∙ c .if1 .taken))
 
 finalized-sound-requires : tie.Need-finalized-sound-requires
-finalized-sound-requires c κs = (c .before .before .before .before .pre, zero-memo (c .before .before .before .before .args .book .now) _ (unfold zeros in refl))
+finalized-sound-requires c κs = (c .before .before .before .before .pre, zero-memo (c .before .before .before .before .args .book .now) _ (c .before .before .before .before .pre) (unfold zeros in refl))
 
 returns-2 : tie.Need-returns-2
 returns-2 c = c .before .finalized-sound .ensures .0

@@ -12,12 +12,18 @@ use Rattle.state.proofs.sound.sound.Statement.{statement}
 use Rattle.state.proofs.sound.sound.Tie as tie
 
 finalized-sound-requires : tie.Need-finalized-sound-requires
-finalized-sound-requires c κs = (c .before .before .rows-sound .ensures .1 (c .before .if1 .taken), zero-memo (c .before .before .before .before .before .args .book .now) (c .before .before .before .before .before .args .known .now) (c .before .before .before .before .before .pre))
+finalized-sound-requires c κs =
+    let start = c .before .before .before .before .before in
+    let readable = c .before .before .rows-sound .ensures .1 (c .before .if1 .taken) in
+    (readable, zero-memo (start .args .book .now) (start .args .known .now) readable (start .pre))
 
 returns : tie.Need-returns
 returns c =
     let final = c .before .before .finalized-sound in
-    (final .ensures .0 ∙ sound-final sha256 (c .before .before .before .before .before .before .before .before .args .book .now) (sym (c .before .before .before .before .before .rows-sound .ensures .0) ∙ c .before .before .before .before .if1 .taken), ((λ passed. final .ensures .1), final .ensures .1 .size))
+    let test = c .before .before .before .before in
+    let start = test .before .before .before .before in
+    let size = final .kept .1 .0 ∙ ap length (start .pre) ∙ length-zeros memorySize in
+    (final .ensures .0 ∙ sound-final sha256 (start .args .book .now) (sym (test .before .rows-sound .ensures .0) ∙ test .if1 .taken), ((λ passed. final .ensures .1), size))
 
 returns-2 : tie.Need-returns-2
 returns-2 c =

@@ -8,11 +8,11 @@ returns : tie.Need-returns
 returns c =
     let start = c .before .before .before .before .before .before in
     rw (
-      c .byte5 .ensures .0,
-      c .before .byte4 .ensures .0,
-      c .before .before .byte3 .ensures .0,
-      c .before .before .before .byte2 .ensures .0,
-      c .before .before .before .before .byte .ensures .0,
+      c .entry-count .ensures .0,
+      c .before .byte2 .ensures .0,
+      c .before .before .parent-height .ensures .0,
+      c .before .before .before .byte .ensures .0,
+      c .before .before .before .before .block-height .ensures .0,
     )
     (fields-are (start .args .h) (start .args .block .now))
 

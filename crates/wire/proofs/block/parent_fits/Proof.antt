@@ -10,12 +10,12 @@ returns : tie.Need-returns
 unfolding part
 returns c =
     let start = c .before .before .before .before .before in
-    c .is-zero .ensures ∙ sym (parent-none (start .args .block .now) (sym (c .before .before .before .byte .ensures .0) ∙ c .before .before .if1 .taken))
+    c .is-zero .ensures ∙ sym (parent-none (start .args .block .now) (sym (c .before .before .before .parent-height .ensures .0) ∙ c .before .before .if1 .taken))
 
 returns-2 : tie.Need-returns-2
 returns-2 c =
     let start = c .before .before .before in
-    sym (parent-some (start .args .block .now) (λ e. c .if1 .left (c .before .byte .ensures .0 ∙ e)))
+    sym (parent-some (start .args .block .now) (λ e. c .if1 .left (c .before .parent-height .ensures .0 ∙ e)))
 
 pub parent-fits-spec : {M : Type 1} → statement M
 parent-fits-spec =

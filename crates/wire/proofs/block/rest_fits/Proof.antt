@@ -1,6 +1,7 @@
 -- `rest_fits` meets its contract: the unused bytes are three parts of the block.
 use Prim.Native.Nat.{_+_, _*_}
-use Rattle.protocol.specs.Bytes.{byteAt, part}
+use Rattle.protocol.specs.Bytes.{part}
+use Rattle.protocol.specs.Block.{entryCount}
 use Rattle.wire.proofs.Rows.{part-from}
 use Rattle.wire.proofs.BlockRows.{rest-are}
 use borrow.Author.Needs.{needs}
@@ -16,8 +17,8 @@ returns c =
       c .before .before .before .before .is-zero .ensures,
       c .before .before .before .parent-fits .ensures,
       c .is-zero2 .ensures,
-      c .before .before .byte .ensures .0,
-      part-from block (48 + 16 * byteAt block 4),
+      c .before .before .entry-count .ensures .0,
+      part-from block (48 + 16 * entryCount block),
     )
     (rest-are block)
 

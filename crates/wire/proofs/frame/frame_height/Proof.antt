@@ -6,7 +6,7 @@ use Rattle.wire.proofs.frame.frame_height.Tie as tie
 
 returns : tie.Need-returns
 unfolding frameHeight
-returns c = c .byte .ensures
+returns c = c .word .ensures
 
 pub frame-height-spec : {M : Type 1} → statement M
 frame-height-spec = tie.close (tie.spec (λ c κs. search needs) returns)
