@@ -60,7 +60,8 @@ module _ (digest : Bytes → Bytes) (n : ℕ) (books names : ℕ → Type 0) (l 
     whole-list = good-after digest n books names l unforged l [] (sym (append-nil l)) t keeps mine named
 
     -- it votes for one block at a height
-    pub one-vote : (h : ℕ) (d d′ : Bytes) → Wrote digest t (votesBlock h d) l → Wrote digest t (votesBlock h d′) l → d ≡ d′
+    pub one-vote : (h : ℕ) (d d′ : Bytes) → Wrote digest t (votesBlock h d) l → Wrote digest t (votesBlock h d′) l →
+        d ≡ d′
     one-vote h d d′ w w′ = go (lastLeft digest t l) whole-list
       where
         go : (o : Option Bytes) → GoodBytes digest n books names l t o → d ≡ d′
@@ -78,13 +79,16 @@ module _ (digest : Bytes → Bytes) (n : ℕ) (books names : ℕ → Type 0) (l 
   -- what two states show of one replica
   module _ (b b′ : State) (x : Had digest n books names l b) (x′ : Had digest n books names l b′)
       (t : ℕ) (keeps : KeepsOneBook digest n l t) (mine : books t) (named : names t) (i : ℕ) where
-    pub one-digest : inMask (at b (suc i) .certificateMask) t ≡ true → inMask (at b′ (suc i) .certificateMask) t ≡ true →
+    pub one-digest : inMask (at b (suc i) .certificateMask) t ≡ true →
+        inMask (at b′ (suc i) .certificateMask) t ≡ true →
         digest (at b (suc i) .notarized) ≡ digest (at b′ (suc i) .notarized)
     one-digest e e′ = one-vote t keeps mine named (suc i) _ _
         (stated digest n books names l b x t _ named (backed-at digest n books names l b x i .shown .certifiers t e))
-        (stated digest n books names l b′ x′ t _ named (backed-at digest n books names l b′ x′ i .shown .certifiers t e′))
+        (stated digest n books names l b′ x′ t _ named
+        (backed-at digest n books names l b′ x′ i .shown .certifiers t e′))
 
-    pub not-finalize-and-dummy : inMask (at b (suc i) .finalizeMask) t ≡ true → inMask (at b′ (suc i) .dummyMask) t ≡ true → ⊥
+    pub not-finalize-and-dummy : inMask (at b (suc i) .finalizeMask) t ≡ true →
+        inMask (at b′ (suc i) .dummyMask) t ≡ true → ⊥
     not-finalize-and-dummy e e′ = never-both t keeps mine named (suc i)
         (stated digest n books names l b′ x′ t _ named (backed-at digest n books names l b′ x′ i .shown .dummies t e′))
         (stated digest n books names l b x t _ named (backed-at digest n books names l b x i .shown .finalizations t e))
@@ -149,7 +153,8 @@ module _ (digest : Bytes → Bytes) (n dishonest : ℕ) (l : List Member) (third
 
     logs : b .finalized ≤ b′ .finalized → Begins (join (log b)) (join (log b′))
     unfolding log logAt
-    logs le = prefix-bytes _ _ (chains (b .finalized) (b′ .finalized) (x .granted .finalizes) (x′ .granted .finalizes) le)
+    logs le = prefix-bytes _ _
+        (chains (b .finalized) (b′ .finalized) (x .granted .finalizes) (x′ .granted .finalizes) le)
 
   -- ---- what is read
   -- the sound book that an honest replica has before some member
@@ -190,7 +195,8 @@ module _ (digest : Bytes → Bytes) (n dishonest : ℕ) (l : List Member) (third
 
       had : sound digest (m .book) ≡ true → HadSound (decode (m .book))
       had ok =
-          go ok (lastLeft digest (m .replica) (split .0)) refl (keeps (m .replica) hm (split .0) m (split .1) (split .2) refl)
+          go ok (lastLeft digest (m .replica) (split .0)) refl
+          (keeps (m .replica) hm (split .0) m (split .1) (split .2) refl)
 
   begins-nil : (r : Bytes) → Begins [] r
   unfolding Begins

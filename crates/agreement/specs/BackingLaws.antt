@@ -42,7 +42,8 @@ module _ (digest : Bytes → Bytes) where
   -- more is stated and seen later
   module _ {W W′ : ℕ → Statement → Type 0} {S S′ : Bytes → Type 0} {h : ℕ}
       (states : (t : ℕ) (st : Statement) → W t st → W′ t st) (sees : (p : Bytes) → S p → S′ p) where
-    pub shown-later : {d f c : ℕ} {has : Bool} {block : Bytes} → Shown W S h d f c has block → Shown W′ S′ h d f c has block
+    pub shown-later : {d f c : ℕ} {has : Bool} {block : Bytes} → Shown W S h d f c has block →
+        Shown W′ S′ h d f c has block
     shown-later k = record {
       dummies = λ t e. states t _ (k .dummies t e);
       finalizations = λ t e. states t _ (k .finalizations t e);
@@ -62,7 +63,8 @@ module _ (digest : Bytes → Bytes) where
   -- ---- the ways to keep something that every book shows
   module _ {W : ℕ → Statement → Type 0} {S : Bytes → Type 0} {h d f c : ℕ} {has : Bool} {block : Bytes}
       (k : Shown W S h d f c has block) where
-    pub shown-dummies : (mask : ℕ) → ((t : ℕ) → inMask mask t ≡ true → W t (votesDummy h)) → Shown W S h mask f c has block
+    pub shown-dummies : (mask : ℕ) → ((t : ℕ) → inMask mask t ≡ true → W t (votesDummy h)) →
+        Shown W S h mask f c has block
     shown-dummies mask voted = record {
       dummies = voted;
       finalizations = k .finalizations;
@@ -70,7 +72,8 @@ module _ (digest : Bytes → Bytes) where
       notarized-seen = k .notarized-seen;
     }
 
-    pub shown-finalizations : (mask : ℕ) → ((t : ℕ) → inMask mask t ≡ true → W t (finalizes h)) → Shown W S h d mask c has block
+    pub shown-finalizations : (mask : ℕ) → ((t : ℕ) → inMask mask t ≡ true → W t (finalizes h)) →
+        Shown W S h d mask c has block
     shown-finalizations mask voted = record {
       dummies = k .dummies;
       finalizations = voted;
@@ -78,7 +81,8 @@ module _ (digest : Bytes → Bytes) where
       notarized-seen = k .notarized-seen;
     }
 
-    pub shown-notarized : (mask : ℕ) (p : Bytes) → ((t : ℕ) → inMask mask t ≡ true → W t (votesBlock h (digest p))) → S p →
+    pub shown-notarized : (mask : ℕ) (p : Bytes) →
+        ((t : ℕ) → inMask mask t ≡ true → W t (votesBlock h (digest p))) → S p →
         (now : Bool) → Shown W S h d f mask now p
     shown-notarized mask p voted seen now = record {
       dummies = k .dummies;
@@ -135,13 +139,17 @@ module _ (digest : Bytes → Bytes) where
         ((t : ℕ) → inMask (x .voterMask + 2 ^ s) t ≡ true → W t (votesBlock h (voteOf (withVote x s d) t))) →
         Backed W S h (withVote x s d)
     unfolding withVote holdsProposal isNotarized voteOf
-    backed-vote s d f = record { shown = k .shown; held = record { ballots = f; proposal-seen = k .held .proposal-seen } }
+    backed-vote s d f = record {
+      shown = k .shown;
+      held = record { ballots = f; proposal-seen = k .held .proposal-seen };
+    }
 
     pub backed-notarize : (v : View) → Backed W S h (notarize digest v x)
     unfolding notarize votersFor
     backed-notarize v =
         cond-elim (λ (y : Height). Backed W S h y) (allOf (not (isNotarized x) ∷ holdsProposal x ∷ quorum v voters ∷ []))
-        (λ e. backed-notarized voters (x .proposal) (λ t z. agreed t (inMask-maskOf _ (v .n) t z .1)) (k .held .proposal-seen (row _ 1 e)))
+        (λ e. backed-notarized voters (x .proposal) (λ t z. agreed t (inMask-maskOf _ (v .n) t z .1))
+        (k .held .proposal-seen (row _ 1 e)))
         (λ e. k)
       where
         voters : ℕ

@@ -116,7 +116,7 @@ module _ (digest : Bytes → Bytes) where
   Wrote s statement before = (m : Member) × (frame : Bytes) ×
       List·Memᴰ m before × (m .replica ≡ s) × List·Memᴰ frame (writes m) × (statementOf frame s ≡ some statement)
 
-  -- a statement in one of these names is delivered only after that replica wrote it; asked of deliveries to these books alone
+  -- a statement in one of these names is delivered only after that replica wrote it; asked of deliveries to these books
   unfoldable pub NotForged : (books names : ℕ → Type 0) → List Member → Type 0
   NotForged books names list =
       (before : List Member) (m : Member) (after : List Member) (frame : Bytes) (s : ℕ) (statement : Statement) →
@@ -127,7 +127,7 @@ module _ (digest : Bytes → Bytes) where
   unfoldable pub Shows : Member → Bytes → Type 0
   Shows m block = (frame : Bytes) × List·Memᴰ frame (delivers m ++ writes m) × (blockIn frame ≡ some block)
 
-  -- no two different blocks delivered or written share a digest; asked of the members of these books alone
+  -- no two different blocks delivered or written share a digest; asked of the members of these books
   unfoldable pub NoCollision : (books : ℕ → Type 0) → List Member → Type 0
   NoCollision books list =
       (m m′ : Member) (block block′ : Bytes) → List·Memᴰ m list → List·Memᴰ m′ list →

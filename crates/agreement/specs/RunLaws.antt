@@ -135,16 +135,21 @@ module _ (digest : Bytes → Bytes) where
         backed-set : (i : ℕ) → BackedBy P (suc i) (getD (set (was .heights) (place - 1) new) i noHeight)
         backed-set i = go (eqb i (place - 1)) refl
           where
-            go : (e : Bool) → eqb i (place - 1) ≡ e → BackedBy P (suc i) (getD (set (was .heights) (place - 1) new) i noHeight)
+            go : (e : Bool) → eqb i (place - 1) ≡ e →
+                BackedBy P (suc i) (getD (set (was .heights) (place - 1) new) i noHeight)
             go true e =
                 rw (eqb-true i (place - 1) e, getD-set-same (was .heights) (place - 1) new noHeight inside)
                 (subst (λ (j : ℕ). BackedBy P j new) (sym number) (new-good .0))
-            go false e = rw (getD-set-other (was .heights) (place - 1) i new noHeight (eqb-false i (place - 1) e)) (k .backed i)
+            go false e =
+                rw (getD-set-other (was .heights) (place - 1) i new noHeight (eqb-false i (place - 1) e)) (k .backed i)
 
         changed : Kept P (withHeight was place new)
         unfolding withHeight
         changed = record {
-          shaped = record { pool-size = k .shaped .pool-size; heights = every-set (place - 1) new (new-good .1) (k .shaped .heights) };
+          shaped = record {
+            pool-size = k .shaped .pool-size;
+            heights = every-set (place - 1) new (new-good .1) (k .shaped .heights);
+          };
           backed = backed-set;
         }
 
@@ -230,10 +235,12 @@ module _ (digest : Bytes → Bytes) where
       }
 
       pub unchanged : (s : ℕ) (b : State) → Good P s b → (m .replica ≡ s → writes digest m ≡ []) → Good P′ s b
-      unchanged s b g e = quiet s b b g e refl refl (λ q. q) (λ q. q) (g .kept .shaped) (λ i. backed-more (g .kept .backed i))
+      unchanged s b g e =
+          quiet s b b g e refl refl (λ q. q) (λ q. q) (g .kept .shaped) (λ i. backed-more (g .kept .backed i))
 
       -- ---- a delivery
-      pub delivery-good : (s : ℕ) (book f : Bytes) → Good P s (decode book) → writes digest m ≡ [] → books (m .replica) →
+      pub delivery-good : (s : ℕ) (book f : Bytes) → Good P s (decode book) → writes digest m ≡ [] →
+          books (m .replica) →
           delivers digest m ≡ cond (isAccepted (deliverCall digest book f .answer)) (f ∷ []) [] →
           (List·Memᴰ f (delivers digest m) → (t : ℕ) (st : Statement) → statementOf digest f t ≡ some st → States P t st) →
           Good P′ s (decode (deliverCall digest book f .book))

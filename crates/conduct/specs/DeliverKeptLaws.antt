@@ -96,14 +96,16 @@ module _ (digest : Bytes → Bytes) (s : State) (is : SoundState digest s) (fram
       (same-mask (x .dummyMask)) (λ t l m. union-left (v .n) (x .finalizeMask) (signerMask frame) t l m))
 
   keep-fits : OnSome Fits (keep digest s frame)
-  keep-fits = keep-cases digest s frame read (λ _. OnSome Fits) proposal-kept vote-kept dummy-kept finalize-kept block-certificate-kept
+  keep-fits = keep-cases digest s frame read (λ _. OnSome Fits)
+      proposal-kept vote-kept dummy-kept finalize-kept block-certificate-kept
       (λ _. dummy-certificate-kept) (λ _. finalize-certificate-kept)
 
   placed : (k : ℕ) → 1 ≤ k → k ≤ last s → (y : Height) → Replaces v k (at s k) y → SoundState digest (withHeight s k y)
   placed zero low high y fits = absurd (omega arith)
   placed (suc i) low high y fits = with-height-sound s i high y digest is fits
 
-  placed-grows : (k : ℕ) → 1 ≤ k → k ≤ last s → (y : Height) → Replaces v k (at s k) y → Grows v (view (withHeight s k y))
+  placed-grows : (k : ℕ) → 1 ≤ k → k ≤ last s → (y : Height) → Replaces v k (at s k) y →
+      Grows v (view (withHeight s k y))
   placed-grows zero low high y fits = absurd (omega arith)
   placed-grows (suc i) low high y fits = grows s i high y digest is fits
 

@@ -23,7 +23,8 @@ module _ (digest : Bytes → Bytes) where
       deliver-cases digest book frame (λ (o : Outcome Delivery). Grows (view s) (view (decode (o .book))))
       (λ _ _. same-grows s s refl refl) (λ _ _. same-grows s s refl refl)
       (λ y accepts e.
-      rw (decode-encode (withHeight s (frameHeight frame) y) (keep-sound digest s state frame (accepts .read) y e .shaped))
+      rw (decode-encode (withHeight s (frameHeight frame) y)
+      (keep-sound digest s state frame (accepts .read) y e .shaped))
       (keep-grows digest s state frame (accepts .read) y e))
     where
       s : State

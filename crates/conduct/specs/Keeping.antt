@@ -38,7 +38,8 @@ module _ (n k : ℕ) (frame : Bytes) (x y : Height) where
 
   -- votes for blocks: a replica's first one stays
   pub record KeepsVotes : Type 0 where
-    pub voters : (t : ℕ) → t < n → inMask (y .voterMask) t ≡ (inMask (x .voterMask) t || (isBlockVote k && eqb (signer frame) t))
+    pub voters : (t : ℕ) → t < n →
+        inMask (y .voterMask) t ≡ (inMask (x .voterMask) t || (isBlockVote k && eqb (signer frame) t))
     pub first-vote : (t : ℕ) → inMask (x .voterMask) t ≡ true → voteOf y t ≡ voteOf x t
     pub this-vote : k ≡ 2 → voteOf y (signer frame) ≡ frameDigest frame
 

@@ -37,7 +37,8 @@ module _ (digest : Bytes → Bytes) where
   moveFields s idle = []
   moveFields s (voteDummy h) = dummyVoteFields (s .own) h ∷ []
   moveFields s (output g) = []
-  moveFields s (pass h certificate true) = certificateFields s (certificateKind certificate) h ∷ finalizeFields (s .own) h ∷ []
+  moveFields s (pass h certificate true) =
+      certificateFields s (certificateKind certificate) h ∷ finalizeFields (s .own) h ∷ []
   moveFields s (pass h certificate false) = certificateFields s (certificateKind certificate) h ∷ []
   moveFields s (propose h) = proposalFields (s .own) h (offeredBlock s) ∷ []
   moveFields s (voteBlock h) = blockVoteFields (s .own) h (digest (at s h .proposal)) ∷ []

@@ -1,6 +1,6 @@
 -- Deliver: keeps what a frame states, and notarizes a held proposal that has a quorum of votes.
 use Prim.Native.Nat.{ℕ, _+_, _*_, _^_}
-use mathlib.Core.Bool.{_&&_, _||_, not, cond}
+use mathlib.Core.Bool.{Bool, _&&_, _||_, not, cond}
 use mathlib.Core.List.{List, [], _∷_, _++_}
 use mathlib.Core.Option.{Option, some, none}
 use lib.ListN.{take, drop}
@@ -111,8 +111,9 @@ unfoldable pub clashRows : State → Bytes → List Row
 clashRows s frame =
     let x : Height = at s (frameHeight frame) in
     let k : ℕ = kind frame in
+    let voted : Bool = inMask (x .voterMask) (signer frame) in
     (8, implies (isProposal k && holdsProposal x) (same (x .proposal) (frameBlock frame))) ∷
-    (8, implies (isBlockVote k && inMask (x .voterMask) (signer frame)) (same (voteOf x (signer frame)) (frameDigest frame))) ∷
+    (8, implies (isBlockVote k && voted) (same (voteOf x (signer frame)) (frameDigest frame))) ∷
     (10, implies (isBlockCertificate k && isNotarized x) (same (x .notarized) (frameBlock frame))) ∷ []
 
 module _ (digest : Bytes → Bytes) where
