@@ -29,7 +29,11 @@ pub enum Call {
 impl Call {
     /// Whether the call is lent a second buffer: a reply or a reading buffer.
     pub fn lends(&self) -> bool {
-        matches!(self, Call::Move | Call::Read | Call::Fetch { .. })
+        match self {
+            Call::Move | Call::Read | Call::Fetch { .. } => true,
+            Call::Open { .. } | Call::Deliver { .. } | Call::Signal { .. } => false,
+            Call::Submit { .. } | Call::Size => false,
+        }
     }
 
     /// Whether the call may write to the book.
