@@ -21,9 +21,8 @@ use Rattle.protocol.specs.RowLaws.{row, row-passes, in-range, range-in, not-pas
 use Rattle.protocol.specs.CodecLaws.{last-decode}
 use Rattle.protocol.specs.GrantedLaws.{Granted, HeightRange, granted}
 use Rattle.protocol.specs.Deliver.{readRows}
-use Rattle.fields.specs.Ready.{Ready}
-use Rattle.fields.specs.ReadyLaws.{ready}
-use Rattle.state.specs.Memo.{Readable}
+use Rattle.fields.specs.Book.{Ready, Readable}
+use Rattle.fields.specs.BookLaws.{ready}
 use Rattle.delivery.specs.Given.{Read}
 
 -- a sound book is readable

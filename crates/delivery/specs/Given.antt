@@ -6,8 +6,7 @@ use Rattle.protocol.specs.Bytes.{Bytes}
 use Rattle.protocol.specs.Frame.{kind, signer, frameHeight, signerMask}
 use Rattle.protocol.specs.State.{decode, at}
 use Rattle.protocol.specs.GrantedLaws.{HeightRange}
-use Rattle.fields.specs.Ready.{Ready, Within}
-use Rattle.state.specs.Memo.{Readable}
+use Rattle.fields.specs.Book.{Ready, Within, Readable}
 
 -- a height of a book that can be read and written
 pub record Spot (book : Bytes) (h : ℕ) : Type 0 where

@@ -16,8 +16,8 @@ use Rattle.protocol.specs.CodecLaws.{last-decode}
 use Rattle.protocol.specs.PlaceLaws.{with-with, at-with, shaped-at, shaped-with}
 use Rattle.protocol.specs.ChangeLaws.{named-height}
 use Rattle.protocol.specs.Deliver.{withProposal, withVote, notarize}
-use Rattle.fields.specs.Ready.{Ready}
-use Rattle.fields.specs.ReadyLaws.{ready-state, ready-height, same-heights, last-with-height}
+use Rattle.fields.specs.Book.{Ready}
+use Rattle.fields.specs.BookLaws.{ready-state, ready-height, same-heights, last-with-height}
 use Rattle.delivery.specs.Refusal.{isKept, keptBook}
 use Rattle.delivery.specs.Given.{Spot}
 

@@ -52,7 +52,8 @@ pub fn keep_notarized(book: &mut [u8], h: usize, mask: usize, block: &[u8])
     requires { ⌜ heightIn (now book) h .status ≤ 3 ⌝ }
     requires { ⌜ length (now block) ≡ 176 ⌝ }
     requires { ⌜ mask < maskLimit ⌝ }
-    ensures { λ _. ⌜ now (book .exit) ≡ changed (now (book .entry)) h (λ x. withNotarized x mask (now (block .entry))) ⌝ }
+    ensures { λ _. ⌜ now (book .exit) ≡
+        changed (now (book .entry)) h (λ x. withNotarized x mask (now (block .entry))) ⌝ }
 {
     let content = content_at(h);
     let body = body_at(book, h);

@@ -8,8 +8,7 @@ use Rattle.protocol.specs.State.{decode, encode, bookHeights}
 use Rattle.protocol.specs.Sound.{view}
 use Rattle.protocol.specs.Answer.{accepted}
 use Rattle.protocol.specs.Move.{Step, written}
-use Rattle.fields.specs.Ready.{Ready}
-use Rattle.state.specs.Memo.{Readable}
+use Rattle.fields.specs.Book.{Ready, Readable}
 use Rattle.answers.specs.Answers.{movedAnswer}
 use Rattle.answers.specs.declared.answer.Moved.{Moved}
 

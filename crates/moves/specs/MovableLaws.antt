@@ -18,9 +18,8 @@ use Rattle.protocol.specs.Sound.{view, sound}
 use Rattle.protocol.specs.SoundLaws.{SoundState}
 use Rattle.protocol.specs.GrantedLaws.{Granted, granted}
 use Rattle.protocol.specs.Move.{isRunning}
-use Rattle.fields.specs.Ready.{Within, Ready}
-use Rattle.fields.specs.ReadyLaws.{ready}
-use Rattle.state.specs.Memo.{Readable}
+use Rattle.fields.specs.Book.{Within, Ready, Readable}
+use Rattle.fields.specs.BookLaws.{ready}
 use Rattle.moves.specs.Movable.{Movable}
 
 -- ---- the current height

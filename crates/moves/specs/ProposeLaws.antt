@@ -21,7 +21,7 @@ use Rattle.protocol.specs.View.{digestAt}
 use Rattle.protocol.specs.LinkedLaws.{linked-complete}
 use Rattle.protocol.specs.ParentLaws.{isSome-parent}
 use Rattle.protocol.specs.Move.{isSome, someOr, parentBelow, offered, proposedBlock}
-use Rattle.fields.specs.ReadyLaws.{ready-state}
+use Rattle.fields.specs.BookLaws.{ready-state}
 use Rattle.state.specs.Walkable.{Walkable}
 use Rattle.moves.specs.Movable.{Movable}
 

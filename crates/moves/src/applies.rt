@@ -7,7 +7,7 @@ ghost use Prim.Native.Nat.{_≤_, _<_};
 ghost use Rattle.sha256.specs.Digest.{sha256 as sha};
 ghost use Rattle.protocol.specs.State.{decode, flag as isFlagged, bookHeights};
 ghost use Rattle.protocol.specs.Move.{isRunning, isSome, someOr, parentBelow, newFinalized, dummyVoteApplies, passApplies, proposeApplies, blockVoteApplies};
-ghost use Rattle.fields.specs.Ready.{Sized};
+ghost use Rattle.fields.specs.Book.{Readable};
 ghost use Rattle.state.specs.Memo.{Memo};
 ghost use Rattle.state.specs.Parent.{parentOption};
 ghost use Rattle.moves.specs.Movable.{Movable};
@@ -15,7 +15,7 @@ ghost use Rattle.moves.specs.Held.{heldExtends};
 
 // Whether the current height is one of the book's.
 pub fn is_running(book: &[u8]) -> bool
-    requires { ⌜ Sized (now book) ⌝ }
+    requires { ⌜ Readable (now book) ⌝ }
     ensures { λ r. ⌜ r ≡ isRunning (decode (now (book .entry))) ⌝ }
 {
     current(book) <= heights(book)
@@ -23,7 +23,7 @@ pub fn is_running(book: &[u8]) -> bool
 
 // Whether flag `k` of the current height, one of 1, 2, 4 and 8, is set.
 pub fn flag(book: &[u8], k: usize) -> bool
-    requires { ⌜ Sized (now book) ⌝ }
+    requires { ⌜ Readable (now book) ⌝ }
     requires { ⌜ 1 ≤ k ⌝ }
     ensures { λ r. ⌜ r ≡ isFlagged k (decode (now (book .entry))) ⌝ }
 {

@@ -6,8 +6,7 @@ use Rattle.sha256.specs.Digest.{sha256}
 use Rattle.protocol.specs.Bytes.{Bytes}
 use Rattle.protocol.specs.State.{decode, bookHeights}
 use Rattle.protocol.specs.Sound.{sound}
-use Rattle.fields.specs.Ready.{Sized, Ready}
-use Rattle.state.specs.Memo.{Readable}
+use Rattle.fields.specs.Book.{Readable, Ready}
 
 pub record SoundBook (book : Bytes) : Type 0 where
   pub is-sound : sound sha256 book ≡ true

@@ -12,8 +12,8 @@ use Rattle.protocol.specs.BytesLaws.{AreBytes}
 use Rattle.protocol.specs.CodecLaws.{last-decode}
 use Rattle.protocol.specs.RowLaws.{in-range, range-in}
 use Rattle.protocol.specs.GrantedLaws.{Granted, granted}
-use Rattle.fields.specs.Ready.{Ready, Within}
-use Rattle.fields.specs.ReadyLaws.{ready}
+use Rattle.fields.specs.Book.{Ready, Within}
+use Rattle.fields.specs.BookLaws.{ready}
 use Rattle.replica.specs.SoundBook.{SoundBook}
 
 pub sound-book : (book : Bytes) → AreBytes book → sound sha256 book ≡ true → SoundBook book

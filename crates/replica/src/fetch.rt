@@ -10,7 +10,7 @@ ghost use Rattle.protocol.specs.Bytes.{overFront};
 ghost use Rattle.protocol.specs.Frame.{isCertificate};
 ghost use Rattle.protocol.specs.State.{decode};
 ghost use Rattle.protocol.specs.Fetch.{certificateFrame, hasCertificate, fetchCall};
-ghost use Rattle.fields.specs.Ready.{Within};
+ghost use Rattle.fields.specs.Book.{Within};
 ghost use Rattle.answers.specs.Answers.{doneAnswer};
 ghost use Rattle.replica.specs.SoundBook.{SoundBook};
 

@@ -7,13 +7,13 @@ ghost use lib.Dec.{eqb};
 ghost use Rattle.sha256.specs.Digest.{sha256 as sha};
 ghost use Rattle.protocol.specs.State.{decode, encode, flag, withTimerFired};
 ghost use Rattle.protocol.specs.Signal.{signalCall};
-ghost use Rattle.fields.specs.Ready.{Sized};
+ghost use Rattle.fields.specs.Book.{Readable};
 ghost use Rattle.answers.specs.Answers.{doneAnswer};
 ghost use Rattle.replica.specs.SoundBook.{SoundBook};
 
 // Whether the height is the current one and its timer has not fired yet.
 fn timer_runs(book: &[u8], height: usize) -> bool
-    requires { ⌜ Sized (now book) ⌝ }
+    requires { ⌜ Readable (now book) ⌝ }
     ensures { λ r. ⌜ r ≡ (eqb height (decode (now (book .entry)) .current) && not (flag 1 (decode (now (book .entry))))) ⌝ }
 {
     let current = fields::head::current(book);

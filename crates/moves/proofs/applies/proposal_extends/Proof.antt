@@ -3,7 +3,7 @@ use mathlib.Core.Path.{sym, ap, _∙_}
 use lib.ListN.{length}
 use Rattle.sha256.specs.Digest.{sha256}
 use Rattle.protocol.specs.State.{decode}
-use Rattle.fields.specs.Ready.{Within}
+use Rattle.fields.specs.Book.{Within}
 use Rattle.moves.specs.AppliesLaws.{held-extends, held-none}
 use Rattle.moves.specs.MovableLaws.{within-current, proposal-size}
 use borrow.Author.Needs.{needs}
