@@ -19,17 +19,15 @@ use Rattle.protocol.specs.MaskLaws.{below-lt}
 use Rattle.protocol.specs.TestsLaws.{or-true}
 use Rattle.protocol.specs.RowLaws.{row, row-passes, in-range, range-in, not-passed}
 use Rattle.protocol.specs.CodecLaws.{last-decode}
-use Rattle.protocol.specs.GrantedLaws.{Granted, HeightRange, granted}
+use Rattle.protocol.specs.GrantedLaws.{HeightRange, height-range}
 use Rattle.protocol.specs.Deliver.{readRows}
-use Rattle.fields.specs.Book.{Ready, Readable}
-use Rattle.fields.specs.BookLaws.{ready}
+use Rattle.fields.specs.Book.{Readable, SoundBook}
+use Rattle.fields.specs.BookLaws.{sound-book}
 use Rattle.delivery.specs.Given.{Read}
 
 -- a sound book is readable
 pub sound-readable : (digest : Bytes → Bytes) (book : Bytes) → AreBytes book → sound digest book ≡ true → Readable book
-sound-readable digest book small e =
-    let is : Ready book = ready digest book small e in
-    record { sized = is .sized; replicas = granted digest book e .state .n-high; heights = is .heights }
+sound-readable digest book small e = sound-book digest book small e .ready .readable
 
 -- ---- what the rows say
 pub statement-kind : (k : ℕ) → 1 ≤ k → k ≤ 4 → isStatement k ≡ true
@@ -72,13 +70,13 @@ module _ (digest : Bytes → Bytes) (book frame : Bytes) (small : AreBytes book)
 
   here : Read book (frameHeight frame) frame
   here =
-      let g : Granted digest book = granted digest book is in
+      let g : SoundBook digest book = sound-book digest book small is in
       let range = in-range 1 (last (decode book)) (frameHeight frame) (rows-say .1) in
-      let numbers : HeightRange (decode book .n) (at (decode book) (frameHeight frame)) = g .ranges (frameHeight frame) (range .0) (range .1) in
+      let numbers : HeightRange (decode book .n) (at (decode book) (frameHeight frame)) =
+      height-range digest (decode book) (g .state) (frameHeight frame) (range .0) (range .1) in
       record {
         spot = record {
-          ready = ready digest book small is;
-          readable = sound-readable digest book small is;
+          ready = g .ready;
           within = record { low = range .0; high = rw (last-decode book) at (range .1) };
           status-small = numbers .status-small;
         };
