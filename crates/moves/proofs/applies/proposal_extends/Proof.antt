@@ -16,7 +16,7 @@ extends-requires c κs =
     let book = start .args .book .now in
     let height = c .before .before .before .before .current in
     let inside : Within book (height .result) = within-current book (start .pre .0) (start .pre .1 .1) (height .result) (height .ensures .0) in
-    (start .pre .0 .readable, (start .pre .1 .0, (inside, ap length (c .before .proposal .ensures) ∙ proposal-size book (start .pre .0 .readable) (height .result) inside)))
+    (start .pre .0 .ready .readable, (start .pre .1 .0, (inside, ap length (c .before .proposal .ensures) ∙ proposal-size book (start .pre .0 .ready .readable) (height .result) inside)))
 
 returns : tie.Need-returns
 returns c =
