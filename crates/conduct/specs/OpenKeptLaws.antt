@@ -7,7 +7,7 @@ use mathlib.Core.Bool.{true}
 use lib.ListN.{length, length-map}
 use borrow.Author.Tests.{eqb-true, ltb-true}
 use Rattle.protocol.specs.Bytes.{Bytes}
-use Rattle.protocol.specs.State.{State, noHeight, at, last}
+use Rattle.protocol.specs.State.{State, noHeight, at, last, maximumReplicas}
 use Rattle.protocol.specs.Sound.{view}
 use Rattle.protocol.specs.Open.{newState, openInRange}
 use Rattle.protocol.specs.EveryLaws.{Every, every-at}
@@ -16,19 +16,20 @@ use Rattle.protocol.specs.CodecLaws.{at-suc}
 use Rattle.protocol.specs.NewBookLaws.{Bare, all-bare, bare-sound}
 use Rattle.protocol.specs.NewStateLaws.{new-shaped}
 use Rattle.protocol.specs.SoundLaws.{SoundState, SoundHeight}
+use Rattle.protocol.specs.Block.{maximumHeights}
 
 module _ (digest : Bytes → Bytes) (n own heights : ℕ) (leaders : Bytes) (ranges : openInRange n own heights leaders ≡ true) where
   abbrev s : State
   s = newState n own leaders
 
-  n-range : (1 ≤ n) × (n ≤ 16)
+  n-range : (1 ≤ n) × (n ≤ maximumReplicas)
   unfolding openInRange
-  n-range = in-range 1 16 n (row _ 0 ranges)
+  n-range = in-range 1 maximumReplicas n (row _ 0 ranges)
 
-  last-range : (1 ≤ last s) × (last s ≤ 63)
+  last-range : (1 ≤ last s) × (last s ≤ maximumHeights)
   unfolding openInRange last newState
   last-range =
-      let many = in-range 1 63 heights (row _ 2 ranges) in
+      let many = in-range 1 maximumHeights heights (row _ 2 ranges) in
       let exact : length leaders ≡ heights = eqb-true _ _ (row _ 3 ranges) in
       rw (length-map, exact) many
 

@@ -13,18 +13,15 @@ use Rattle.protocol.specs.Sound.{sound}
 use Rattle.protocol.specs.BytesLaws.{AreBytes}
 use Rattle.protocol.specs.CodecLaws.{last-decode}
 use Rattle.protocol.specs.DeliverLaws.{ReadFrame, read-facts}
-use Rattle.protocol.specs.GrantedLaws.{Granted, HeightRange, granted}
+use Rattle.protocol.specs.GrantedLaws.{HeightRange, height-range}
 use Rattle.protocol.specs.Deliver.{readRows}
-use Rattle.fields.specs.Ready.{Ready}
-use Rattle.fields.specs.ReadyLaws.{ready}
-use Rattle.state.specs.Memo.{Readable}
+use Rattle.fields.specs.Book.{Readable, SoundBook}
+use Rattle.fields.specs.BookLaws.{sound-book}
 use Rattle.delivery.specs.Given.{Read}
 
 -- a sound book is readable
 pub sound-readable : (digest : Bytes → Bytes) (book : Bytes) → AreBytes book → sound digest book ≡ true → Readable book
-sound-readable digest book small e =
-    let is : Ready book = ready digest book small e in
-    record { sized = is .sized; replicas = granted digest book e .state .n-high; heights = is .heights }
+sound-readable digest book small e = sound-book digest book small e .ready .readable
 
 -- ---- a frame that is read
 module _ (digest : Bytes → Bytes) (book frame : Bytes) (small : AreBytes book) (is : sound digest book ≡ true) (passes : firstRefusal (readRows (decode book) frame) ≡ none) where
@@ -33,12 +30,12 @@ module _ (digest : Bytes → Bytes) (book frame : Bytes) (small : AreBytes book)
 
   here : Read book (frameHeight frame) frame
   here =
-      let g : Granted digest book = granted digest book is in
-      let numbers : HeightRange (decode book .n) (at (decode book) (frameHeight frame)) = g .ranges (frameHeight frame) (tested .low) (tested .high) in
+      let g : SoundBook digest book = sound-book digest book small is in
+      let numbers : HeightRange (decode book .n) (at (decode book) (frameHeight frame)) =
+      height-range digest (decode book) (g .state) (frameHeight frame) (tested .low) (tested .high) in
       record {
         spot = record {
-          ready = ready digest book small is;
-          readable = sound-readable digest book small is;
+          ready = g .ready;
           within = record { low = tested .low; high = rw (last-decode book) at (tested .high) };
           status-small = numbers .status-small;
         };

@@ -6,13 +6,11 @@ use Rattle.protocol.specs.Frame.{frameHeight}
 use Rattle.protocol.specs.State.{decode, at}
 use Rattle.protocol.specs.GrantedLaws.{HeightRange}
 use Rattle.protocol.specs.DeliverLaws.{ReadFrame}
-use Rattle.fields.specs.Ready.{Ready, Within}
-use Rattle.state.specs.Memo.{Readable}
+use Rattle.fields.specs.Book.{Ready, Within}
 
 -- a height of a book that can be read and written
 pub record Spot (book : Bytes) (h : ℕ) : Type 0 where
   pub ready : Ready book
-  pub readable : Readable book
   pub within : Within book h
   pub status-small : at (decode book) h .status ≤ 3
 

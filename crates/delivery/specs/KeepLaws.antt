@@ -16,8 +16,7 @@ use Rattle.protocol.specs.CodecLaws.{last-decode}
 use Rattle.protocol.specs.PlaceLaws.{with-with, at-with, shaped-at, shaped-with}
 use Rattle.protocol.specs.ChangeLaws.{named-height}
 use Rattle.protocol.specs.Deliver.{withProposal, withVote, notarize}
-use Rattle.fields.specs.Ready.{Ready}
-use Rattle.fields.specs.ReadyLaws.{ready-state, ready-height, same-heights, last-with-height}
+use Rattle.fields.specs.BookLaws.{ready-state, ready-height, same-heights, last-with-height}
 use Rattle.delivery.specs.Refusal.{isKept, keptBook}
 use Rattle.delivery.specs.Given.{Spot}
 
@@ -87,10 +86,6 @@ shaped-written : (s : State) (h : ℕ) (y : Height) → 1 ≤ h → Shaped s →
 shaped-written s zero y low shaped fits = absurd (omega arith)
 shaped-written s (suc i) y low shaped fits = shaped-with s i y shaped fits
 
-same-n : (s : State) (h : ℕ) (y : Height) → withHeight s h y .n ≡ s .n
-unfolding withHeight
-same-n s h y = refl
-
 module _ (book : Bytes) (h : ℕ) (spot : Spot book h) (y : Height) (fits : ShapedHeight y) where
   in-state : h ≤ last (decode book)
   in-state = rw (last-decode book) (spot .within .high)
@@ -102,18 +97,11 @@ module _ (book : Bytes) (h : ℕ) (spot : Spot book h) (y : Height) (fits : Shap
   heights-same = same-heights book (withHeight (decode book) h y) (last-with-height (decode book) h y)
 
   spot-written : y .status ≤ 3 → Spot (encode (withHeight (decode book) h y)) h
-  spot-written small =
-      let ready : Ready (encode (withHeight (decode book) h y)) = ready-height book (spot .ready) h y fits in
-      record {
-        ready = ready;
-        readable = record {
-          sized = ready .sized;
-          replicas = rw (decoded, same-n (decode book) h y) (spot .readable .replicas);
-          heights = rw heights-same (spot .readable .heights);
-        };
-        within = record { low = spot .within .low; high = rw heights-same (spot .within .high) };
-        status-small = rw (decoded, at-written (decode book) h y (spot .within .low) in-state) small;
-      }
+  spot-written small = record {
+    ready = ready-height book (spot .ready) h y fits;
+    within = record { low = spot .within .low; high = rw heights-same (spot .within .high) };
+    status-small = rw (decoded, at-written (decode book) h y (spot .within .low) in-state) small;
+  }
 
   pub spot-after : (after : Bytes) → after ≡ encode (withHeight (decode book) h y) → y .status ≤ 3 → Spot after h
   spot-after after e small = rw e (spot-written small)

@@ -15,10 +15,11 @@ use wire::frame::frame_signer;
 ghost use mathlib.Core.Path.{_≡_};
 ghost use Rattle.protocol.specs.Bytes.{same};
 ghost use Rattle.protocol.specs.Tests.{implies, firstRefusal};
-ghost use Rattle.protocol.specs.State.{decode, at};
+ghost use Rattle.protocol.specs.State.{decode};
 ghost use Rattle.protocol.specs.Deliver.{clashRows};
 ghost use Rattle.delivery.specs.Refusal.{refusalOf, voteAgrees};
 ghost use Rattle.delivery.specs.Given.{Read};
+ghost use Rattle.fields.specs.Book.{heightIn};
 
 // Whether what a frame carries is what is kept, where that is to be asked.
 fn agrees(asked: bool, kept: &[u8], carried: &[u8]) -> bool
@@ -34,7 +35,7 @@ fn agrees(asked: bool, kept: &[u8], carried: &[u8]) -> bool
 // Whether a vote for a block is the signer's kept one, if there is one. Other kinds pass.
 fn vote_agrees(book: &[u8], h: usize, frame: &[u8]) -> bool
     requires { ⌜ Read (now book) h (now frame) ⌝ }
-    ensures { λ r. ⌜ r ≡ voteAgrees (at (decode (now (book .entry))) h) (now (frame .entry)) ⌝ }
+    ensures { λ r. ⌜ r ≡ voteAgrees (heightIn (now (book .entry)) h) (now (frame .entry)) ⌝ }
 {
     if frame_kind(frame) == 2 {
         let s = frame_signer(frame);

@@ -21,16 +21,19 @@ ghost use Prim.Native.Nat.{_<_, _≤_};
 ghost use Rattle.sha256.specs.Digest.{sha256 as sha};
 ghost use Rattle.protocol.specs.Frame.{signer};
 ghost use Rattle.protocol.specs.State.{decode, at};
-ghost use Rattle.protocol.specs.Sound.{view};
 ghost use Rattle.protocol.specs.Deliver.{keepProposal, keepBlockVote, keepBlockCertificate, keep as keeps};
+ghost use Rattle.protocol.specs.Mask.{maskLimit};
 ghost use Rattle.delivery.specs.Refusal.{isKept, keptBook, joinSigners};
 ghost use Rattle.delivery.specs.Given.{Spot, Read};
+ghost use Rattle.fields.specs.Book.{heightIn, bookView};
 
 // Keeps a proposal where none is held, and notarizes it if its votes are a quorum.
 fn keep_proposal(book: &mut [u8], h: usize, frame: &[u8]) -> bool
     requires { ⌜ Read (now book) h (now frame) ⌝ }
-    ensures answer { λ r. ⌜ r ≡ isKept (keepProposal sha (view (decode (now (book .entry)))) (at (decode (now (book .entry))) h) (now (frame .entry))) ⌝ }
-    ensures book { λ _. ⌜ now (book .exit) ≡ keptBook (now (book .entry)) h (keepProposal sha (view (decode (now (book .entry)))) (at (decode (now (book .entry))) h) (now (frame .entry))) ⌝ }
+    ensures answer { λ r. ⌜ r ≡ isKept
+        (keepProposal sha (bookView (now (book .entry))) (heightIn (now (book .entry)) h) (now (frame .entry))) ⌝ }
+    ensures book { λ _. ⌜ now (book .exit) ≡ keptBook (now (book .entry)) h
+        (keepProposal sha (bookView (now (book .entry))) (heightIn (now (book .entry)) h) (now (frame .entry))) ⌝ }
 {
     if holds_proposal(book, h) {
         false
@@ -46,8 +49,10 @@ fn keep_proposal(book: &mut [u8], h: usize, frame: &[u8]) -> bool
 fn keep_block_vote(book: &mut [u8], h: usize, frame: &[u8]) -> bool
     requires { ⌜ Read (now book) h (now frame) ⌝ }
     requires { ⌜ signer (now frame) < decode (now book) .n ⌝ }
-    ensures answer { λ r. ⌜ r ≡ isKept (keepBlockVote sha (view (decode (now (book .entry)))) (at (decode (now (book .entry))) h) (now (frame .entry))) ⌝ }
-    ensures book { λ _. ⌜ now (book .exit) ≡ keptBook (now (book .entry)) h (keepBlockVote sha (view (decode (now (book .entry)))) (at (decode (now (book .entry))) h) (now (frame .entry))) ⌝ }
+    ensures answer { λ r. ⌜ r ≡ isKept
+        (keepBlockVote sha (bookView (now (book .entry))) (heightIn (now (book .entry)) h) (now (frame .entry))) ⌝ }
+    ensures book { λ _. ⌜ now (book .exit) ≡ keptBook (now (book .entry)) h
+        (keepBlockVote sha (bookView (now (book .entry))) (heightIn (now (book .entry)) h) (now (frame .entry))) ⌝ }
 {
     let s = frame_signer(frame);
     if in_mask(voter_mask(book, h), s) {
@@ -62,8 +67,9 @@ fn keep_block_vote(book: &mut [u8], h: usize, frame: &[u8]) -> bool
 // Keeps a certified block with its signers where none is notarized.
 fn keep_block_certificate(book: &mut [u8], h: usize, frame: &[u8]) -> bool
     requires { ⌜ Read (now book) h (now frame) ⌝ }
-    ensures answer { λ r. ⌜ r ≡ isKept (keepBlockCertificate (at (decode (now (book .entry))) h) (now (frame .entry))) ⌝ }
-    ensures book { λ _. ⌜ now (book .exit) ≡ keptBook (now (book .entry)) h (keepBlockCertificate (at (decode (now (book .entry))) h) (now (frame .entry))) ⌝ }
+    ensures answer { λ r. ⌜ r ≡ isKept (keepBlockCertificate (heightIn (now (book .entry)) h) (now (frame .entry))) ⌝ }
+    ensures book { λ _. ⌜ now (book .exit) ≡ keptBook (now (book .entry)) h
+        (keepBlockCertificate (heightIn (now (book .entry)) h) (now (frame .entry))) ⌝ }
 {
     if is_notarized(book, h) {
         false
@@ -77,9 +83,10 @@ fn keep_block_certificate(book: &mut [u8], h: usize, frame: &[u8]) -> bool
 fn join_signers(book: &mut [u8], h: usize, k: usize, signers: usize) -> bool
     requires { ⌜ Spot (now book) h ⌝ }
     requires { ⌜ (1 ≤ k) × (k ≤ 2) ⌝ }
-    requires { ⌜ signers < 65536 ⌝ }
-    ensures answer { λ r. ⌜ r ≡ isKept (joinSigners k (at (decode (now (book .entry))) h) signers) ⌝ }
-    ensures book { λ _. ⌜ now (book .exit) ≡ keptBook (now (book .entry)) h (joinSigners k (at (decode (now (book .entry))) h) signers) ⌝ }
+    requires { ⌜ signers < maskLimit ⌝ }
+    ensures answer { λ r. ⌜ r ≡ isKept (joinSigners k (heightIn (now (book .entry)) h) signers) ⌝ }
+    ensures book { λ _. ⌜ now (book .exit) ≡ keptBook (now (book .entry)) h
+        (joinSigners k (heightIn (now (book .entry)) h) signers) ⌝ }
 {
     let held = mask_at(book, h, k);
     let joined = held | signers;
@@ -95,7 +102,8 @@ fn join_signers(book: &mut [u8], h: usize, k: usize, signers: usize) -> bool
 pub fn keep(book: &mut [u8], h: usize, frame: &[u8]) -> bool
     requires { ⌜ Read (now book) h (now frame) ⌝ }
     ensures answer { λ r. ⌜ r ≡ isKept (keeps sha (decode (now (book .entry))) (now (frame .entry))) ⌝ }
-    ensures book { λ _. ⌜ now (book .exit) ≡ keptBook (now (book .entry)) h (keeps sha (decode (now (book .entry))) (now (frame .entry))) ⌝ }
+    ensures book { λ _. ⌜ now (book .exit) ≡ keptBook (now (book .entry)) h
+        (keeps sha (decode (now (book .entry))) (now (frame .entry))) ⌝ }
 {
     let kind = frame_kind(frame);
     if kind == 1 {

@@ -8,15 +8,16 @@ use state::tally::voters_for;
 ghost use mathlib.Core.Path.{_≡_};
 ghost use mathlib.Core.Bool.{_&&_, not};
 ghost use Rattle.sha256.specs.Digest.{sha256 as sha};
-ghost use Rattle.protocol.specs.State.{decode, encode, at, withHeight, holdsProposal, isNotarized};
-ghost use Rattle.protocol.specs.Sound.{view};
+ghost use Rattle.protocol.specs.State.{holdsProposal, isNotarized};
 ghost use Rattle.protocol.specs.Deliver.{notarize as notarized};
 ghost use Rattle.delivery.specs.Given.{Spot};
+ghost use Rattle.fields.specs.Book.{heightIn, bookView, changed};
 
 // Whether height `h` holds a proposal and has no notarized block yet.
 fn awaits_votes(book: &[u8], h: usize) -> bool
     requires { ⌜ Spot (now book) h ⌝ }
-    ensures { λ r. ⌜ r ≡ (not (isNotarized (at (decode (now (book .entry))) h)) && holdsProposal (at (decode (now (book .entry))) h)) ⌝ }
+    ensures { λ r. ⌜ r ≡
+        (not (isNotarized (heightIn (now (book .entry)) h)) && holdsProposal (heightIn (now (book .entry)) h)) ⌝ }
 {
     if is_notarized(book, h) {
         false
@@ -28,8 +29,8 @@ fn awaits_votes(book: &[u8], h: usize) -> bool
 // Notarizes the held proposal of height `h`, whose digest this is, if it awaits votes and has a quorum of them.
 pub fn notarize_with(book: &mut [u8], h: usize, digest: &[u8])
     requires { ⌜ Spot (now book) h ⌝ }
-    requires { ⌜ now digest ≡ sha (at (decode (now book)) h .proposal) ⌝ }
-    ensures { λ _. ⌜ now (book .exit) ≡ encode (withHeight (decode (now (book .entry))) h (notarized sha (view (decode (now (book .entry)))) (at (decode (now (book .entry))) h))) ⌝ }
+    requires { ⌜ now digest ≡ sha (heightIn (now book) h .proposal) ⌝ }
+    ensures { λ _. ⌜ now (book .exit) ≡ changed (now (book .entry)) h (notarized sha (bookView (now (book .entry)))) ⌝ }
 {
     if awaits_votes(book, h) {
         let voters = voters_for(book, h, digest);
@@ -42,7 +43,7 @@ pub fn notarize_with(book: &mut [u8], h: usize, digest: &[u8])
 // The same for a proposal that the book holds already: its digest is taken where it lies, and only if it awaits votes.
 pub fn notarize(book: &mut [u8], h: usize)
     requires { ⌜ Spot (now book) h ⌝ }
-    ensures { λ _. ⌜ now (book .exit) ≡ encode (withHeight (decode (now (book .entry))) h (notarized sha (view (decode (now (book .entry)))) (at (decode (now (book .entry))) h))) ⌝ }
+    ensures { λ _. ⌜ now (book .exit) ≡ changed (now (book .entry)) h (notarized sha (bookView (now (book .entry)))) ⌝ }
 {
     if awaits_votes(book, h) {
         let digest = sha256::sha256(proposal(book, h));

@@ -4,6 +4,8 @@ ghost use Prim.Native.Nat.{_<_, _≤_};
 ghost use lib.ListN.{length};
 ghost use Rattle.sha256.specs.Digest.{sha256 as sha};
 ghost use Rattle.protocol.specs.Frame.{kind, signer, frameDigest, frameBlock, isStatement};
+ghost use Rattle.protocol.specs.Mask.{maskLimit};
+ghost use Rattle.protocol.specs.State.{maximumReplicas};
 ghost use Rattle.delivery.specs.Refusal.{signersOf};
 
 // The digest's place in a frame, 32 bytes.
@@ -42,8 +44,8 @@ pub fn is_statement(frame: &[u8]) -> bool
 // The mask of a frame's signers: the one of a statement, or those of a certificate.
 pub fn frame_signers(frame: &[u8]) -> usize
     requires { ⌜ length (now frame) ≡ 224 ⌝ }
-    requires { ⌜ (kind (now frame) ≤ 4 → signer (now frame) < 16) ⌝ }
-    ensures { λ r. ⌜ (r ≡ signersOf (now (frame .entry))) × (r < 65536) ⌝ }
+    requires { ⌜ (kind (now frame) ≤ 4 → signer (now frame) < maximumReplicas) ⌝ }
+    ensures { λ r. ⌜ (r ≡ signersOf (now (frame .entry))) × (r < maskLimit) ⌝ }
 {
     if is_statement(frame) {
         fields::mask::bit(wire::frame::frame_signer(frame))

@@ -16,8 +16,7 @@ ghost use lib.ListN.{length};
 ghost use Rattle.protocol.specs.Tests.{firstRefusal};
 ghost use Rattle.protocol.specs.State.{decode};
 ghost use Rattle.protocol.specs.Deliver.{readRows};
-ghost use Rattle.fields.specs.Ready.{Within};
-ghost use Rattle.state.specs.Memo.{Readable};
+ghost use Rattle.fields.specs.Book.{Within, Readable};
 ghost use Rattle.delivery.specs.Refusal.{refusalOf, threeRows, membersFit, leaderSigned, signersEnough, memberRows};
 
 // The number of the first of three tests that fails, and 0 where none does.

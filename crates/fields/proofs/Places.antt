@@ -10,7 +10,7 @@ use Rattle.protocol.specs.StateLaws.{ShapedHeight}
 use Rattle.protocol.specs.CodecLaws.{Exact, last-decode, decode-shaped}
 use Rattle.protocol.specs.PlaceLaws.{suc-pred, shaped-at}
 use Rattle.protocol.specs.FieldLaws.{read-leader, read-status, read-certificate-mask, read-dummy-mask, read-finalize-mask, read-voter-mask, read-proposal, read-notarized, read-vote}
-use Rattle.fields.specs.Ready.{Within}
+use Rattle.fields.specs.Book.{Within}
 use Rattle.fields.specs.Numbered.{maskAt, blockAt}
 
 -- a lent part, as its place and its size

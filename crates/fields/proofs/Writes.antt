@@ -17,7 +17,7 @@ use Rattle.protocol.specs.WriteLaws.{withStatus, withCertificateMask, withNotar
 use Rattle.protocol.specs.ChangeLaws.{named-height}
 use Rattle.protocol.specs.BookLaws.{book-pool, book-proposal, book-dummy-mask, book-finalize-mask, book-vote}
 use Rattle.protocol.specs.PoolLaws.{book-finish}
-use Rattle.fields.specs.Ready.{Ready, Within}
+use Rattle.fields.specs.Book.{Ready, Within}
 use Rattle.fields.specs.Numbered.{withMaskAt}
 use Rattle.fields.proofs.Places.{height-shaped}
 
@@ -48,7 +48,7 @@ book-block : (book : Bytes) → Ready book → (i : ℕ) → i < bookHeights boo
     encode (withHeight (decode book) (suc i) (withNotarized (at (decode book) (suc i)) mask block))
 book-block book ready i inside mask block e =
     let within : i < last (decode book) = rw (last-decode book) inside in
-    let shaped : Shaped (decode book) = decode-shaped book (ready .size) in
+    let shaped : Shaped (decode book) = decode-shaped book (ready .readable .sized .size) in
     rw (named-height book i (ready .whole), last-decode book) at
     (write-block (decode book) shaped i within (at (decode book) (suc i)) (shaped-at (decode book) i shaped within) mask block e)
 
@@ -58,15 +58,15 @@ module _ (book : Bytes) (ready : Ready book) where
       put book (64 + 16 * to) (part book (64 + 16 * from) 16) ≡
       encode (withPool (decode book) (decode book .pendingCount) (put (decode book .pool) (16 * to) (part (decode book .pool) (16 * from) 16)))
   moved-place from to down small =
-      let size : length (part (decode book .pool) (16 * from) 16) ≡ 16 = length-part (decode book .pool) (16 * from) 16 (omega (arith, decode-shaped book (ready .size) .pool-size)) in
+      let size : length (part (decode book .pool) (16 * from) 16) ≡ 16 = length-part (decode book .pool) (16 * from) 16 (omega (arith, decode-shaped book (ready .readable .sized .size) .pool-size)) in
       ap (λ (entry : Bytes). put book (64 + 16 * to) entry) (read-entry book from small) ∙
-      book-pool book (ready .whole) (ready .size) (16 * to) (part (decode book .pool) (16 * from) 16) (omega arith)
+      book-pool book (ready .whole) (ready .readable .sized .size) (16 * to) (part (decode book .pool) (16 * from) 16) (omega arith)
 
   -- `copied` is the book after the entry was copied, and `cleared` after the places past it were cleared
   pub finished-pool : (count : ℕ) (entry : Bytes) → count < 32 → length entry ≡ 16 → (copied cleared : Bytes) →
       copied ≡ put book (64 + 16 * count) entry → cleared ≡ put copied (64 + 16 * (count + 1)) (zeros (512 - 16 * (count + 1))) →
       set cleared 6 (count + 1) ≡ encode (withPending (decode book) (pieces 16 count (decode book .pool) ++ (entry ∷ [])))
-  finished-pool count entry few e copied cleared copy clear = rw (clear, copy) (book-finish book (ready .whole) (ready .size) count entry few e)
+  finished-pool count entry few e copied cleared copy clear = rw (clear, copy) (book-finish book (ready .whole) (ready .readable .sized .size) count entry few e)
 
 -- ---- height `h`, where the code has computed its places
 module _ (book : Bytes) (ready : Ready book) (h : ℕ) (within : Within book h) where
@@ -83,11 +83,11 @@ module _ (book : Bytes) (ready : Ready book) (h : ℕ) (within : Within book h) 
     kept-mask (suc zero) low high mask =
         rw content-place
         (named (λ i. put book (576 + 16 * (h - 1) + 4) (le16 mask) ≡ encode (withHeight (decode book) i (withMaskAt (at (decode book) i) 1 mask)))
-        (book-dummy-mask book (ready .whole) (ready .size) (h - 1) inside mask))
+        (book-dummy-mask book (ready .whole) (ready .readable .sized .size) (h - 1) inside mask))
     kept-mask (suc (suc zero)) low high mask =
         rw content-place
         (named (λ i. put book (576 + 16 * (h - 1) + 6) (le16 mask) ≡ encode (withHeight (decode book) i (withMaskAt (at (decode book) i) 2 mask)))
-        (book-finalize-mask book (ready .whole) (ready .size) (h - 1) inside mask))
+        (book-finalize-mask book (ready .whole) (ready .readable .sized .size) (h - 1) inside mask))
     kept-mask (suc (suc (suc k))) low high mask = absurd (omega arith)
 
     module _ (body : ℕ) (body-place : body ≡ 576 + 16 * bookHeights book + 864 * (h - 1)) where
@@ -103,7 +103,7 @@ module _ (book : Bytes) (ready : Ready book) (h : ℕ) (within : Within book h) 
             rw (content-place, body-place, status-is)
             (named (λ k. put (set book (576 + 16 * (h - 1) + 1) (at (decode book) k .status + 1)) (576 + 16 * bookHeights book + 864 * (h - 1)) block ≡
             encode (withHeight (decode book) k (withProposal (at (decode book) k) block)))
-            (book-proposal book (ready .whole) (ready .size) (h - 1) inside block e))
+            (book-proposal book (ready .whole) (ready .readable .sized .size) (h - 1) inside block e))
 
         -- `copied` is the book after the block was copied to its place, and `marked` after status and mask were written
         pub kept-notarized : (mask : ℕ) (block : Bytes) → length block ≡ 176 → (copied : Bytes) → copied ≡ put book (body + 176) block →
@@ -120,7 +120,7 @@ module _ (book : Bytes) (ready : Ready book) (h : ℕ) (within : Within book h) 
             (marked : Bytes) → marked ≡ put (set copied (content + 1) (status + 2)) (content + 2) (le16 mask) →
             marked ≡ encode (withHeight (decode book) h (withNotarized (at (decode book) h) mask (at (decode book) h .proposal)))
         kept-held mask copied copy marked mark =
-            kept-notarized mask (at (decode book) h .proposal) (height-shaped book h (ready .size) within .proposal-size) copied
+            kept-notarized mask (at (decode book) h .proposal) (height-shaped book h (ready .readable .sized .size) within .proposal-size) copied
             (copy ∙ ap (λ (block : Bytes). put book (body + 176) block) held-proposal) marked mark
 
       -- `marked` is the book after the voter mask was written
@@ -131,4 +131,4 @@ module _ (book : Bytes) (ready : Ready book) (h : ℕ) (within : Within book h) 
           rw (mark, content-place, body-place, mask-is)
           (named (λ k. put (put book (576 + 16 * (h - 1) + 8) (le16 (at (decode book) k .voterMask + 2 ^ r))) (576 + 16 * bookHeights book + 864 * (h - 1) + (352 + 32 * r)) digest ≡
           encode (withHeight (decode book) k (withVote (at (decode book) k) r digest)))
-          (book-vote book (ready .whole) (ready .size) (h - 1) inside r digest small e))
+          (book-vote book (ready .whole) (ready .readable .sized .size) (h - 1) inside r digest small e))

@@ -6,6 +6,7 @@ ghost use lib.ListN.{length};
 ghost use Rattle.protocol.specs.Bytes.{zeros};
 ghost use Rattle.protocol.specs.State.{encode};
 ghost use Rattle.protocol.specs.Open.{newState};
+ghost use Rattle.protocol.specs.Block.{maximumHeights};
 
 // Writes the book of `n` replicas and the replica's own number, with replica 0 as the leader of every height.
 fn led_by_zero(book: &mut [u8], n: usize, own: usize, heights: usize)
@@ -25,7 +26,7 @@ fn led_by_zero(book: &mut [u8], n: usize, own: usize, heights: usize)
 // Writes the book of `n` replicas, the replica's own number, and the leader of each height.
 pub fn new_book(book: &mut [u8], n: usize, own: usize, leaders: &[u8])
     requires { ⌜ length (now book) ≡ 576 + 880 * length (now leaders) ⌝ }
-    requires { ⌜ length (now leaders) ≤ 63 ⌝ }
+    requires { ⌜ length (now leaders) ≤ maximumHeights ⌝ }
     requires { ⌜ (n < 256) × (own < 256) ⌝ }
     ensures { λ _. ⌜ now (book .exit) ≡ encode (newState n own (now (leaders .entry))) ⌝ }
 {

@@ -12,18 +12,19 @@ ghost use Prim.Native.Nat.{_+_, _^_, _<_, _≤_};
 ghost use lib.ListN.{length, set};
 ghost use Rattle.protocol.specs.Bytes.{le16};
 ghost use Rattle.protocol.specs.BytesLaws.{put};
-ghost use Rattle.protocol.specs.State.{decode, encode, at, withHeight};
+ghost use Rattle.protocol.specs.State.{maximumReplicas};
 ghost use Rattle.protocol.specs.Deliver.{withProposal, withNotarized, withVote};
-ghost use Rattle.fields.specs.Ready.{Ready, Within};
+ghost use Rattle.protocol.specs.Mask.{maskLimit};
+ghost use Rattle.fields.specs.Book.{Ready, Within, heightIn, changed};
 ghost use Rattle.fields.specs.Numbered.{withMaskAt};
 
 // Keeps a block as the held proposal of height `h`.
 pub fn keep_proposal(book: &mut [u8], h: usize, block: &[u8])
     requires { ⌜ Ready (now book) ⌝ }
     requires { ⌜ Within (now book) h ⌝ }
-    requires { ⌜ at (decode (now book)) h .status ≤ 3 ⌝ }
+    requires { ⌜ heightIn (now book) h .status ≤ 3 ⌝ }
     requires { ⌜ length (now block) ≡ 176 ⌝ }
-    ensures { λ _. ⌜ now (book .exit) ≡ encode (withHeight (decode (now (book .entry))) h (withProposal (at (decode (now (book .entry))) h) (now (block .entry)))) ⌝ }
+    ensures { λ _. ⌜ now (book .exit) ≡ changed (now (book .entry)) h (λ x. withProposal x (now (block .entry))) ⌝ }
 {
     let content = content_at(h);
     let body = body_at(book, h);
@@ -36,8 +37,9 @@ pub fn keep_proposal(book: &mut [u8], h: usize, block: &[u8])
 fn mark_notarized(book: &mut [u8], content: usize, held: usize, mask: usize)
     requires { ⌜ content + 16 ≤ length (now book) ⌝ }
     requires { ⌜ held ≤ 3 ⌝ }
-    requires { ⌜ mask < 65536 ⌝ }
-    ensures { λ _. ⌜ now (book .exit) ≡ put (set (now (book .entry)) (content + 1) (held + 2)) (content + 2) (le16 mask) ⌝ }
+    requires { ⌜ mask < maskLimit ⌝ }
+    ensures { λ _. ⌜ now (book .exit) ≡
+        put (set (now (book .entry)) (content + 1) (held + 2)) (content + 2) (le16 mask) ⌝ }
 {
     book[content + 1] = (held + 2) as u8;
     put_word(book, content + 2, mask);
@@ -47,10 +49,11 @@ fn mark_notarized(book: &mut [u8], content: usize, held: usize, mask: usize)
 pub fn keep_notarized(book: &mut [u8], h: usize, mask: usize, block: &[u8])
     requires { ⌜ Ready (now book) ⌝ }
     requires { ⌜ Within (now book) h ⌝ }
-    requires { ⌜ at (decode (now book)) h .status ≤ 3 ⌝ }
+    requires { ⌜ heightIn (now book) h .status ≤ 3 ⌝ }
     requires { ⌜ length (now block) ≡ 176 ⌝ }
-    requires { ⌜ mask < 65536 ⌝ }
-    ensures { λ _. ⌜ now (book .exit) ≡ encode (withHeight (decode (now (book .entry))) h (withNotarized (at (decode (now (book .entry))) h) mask (now (block .entry)))) ⌝ }
+    requires { ⌜ mask < maskLimit ⌝ }
+    ensures { λ _. ⌜ now (book .exit) ≡
+        changed (now (book .entry)) h (λ x. withNotarized x mask (now (block .entry))) ⌝ }
 {
     let content = content_at(h);
     let body = body_at(book, h);
@@ -63,9 +66,9 @@ pub fn keep_notarized(book: &mut [u8], h: usize, mask: usize, block: &[u8])
 pub fn notarize_held(book: &mut [u8], h: usize, mask: usize)
     requires { ⌜ Ready (now book) ⌝ }
     requires { ⌜ Within (now book) h ⌝ }
-    requires { ⌜ at (decode (now book)) h .status ≤ 3 ⌝ }
-    requires { ⌜ mask < 65536 ⌝ }
-    ensures { λ _. ⌜ now (book .exit) ≡ encode (withHeight (decode (now (book .entry))) h (withNotarized (at (decode (now (book .entry))) h) mask (at (decode (now (book .entry))) h .proposal))) ⌝ }
+    requires { ⌜ heightIn (now book) h .status ≤ 3 ⌝ }
+    requires { ⌜ mask < maskLimit ⌝ }
+    ensures { λ _. ⌜ now (book .exit) ≡ changed (now (book .entry)) h (λ x. withNotarized x mask (x .proposal)) ⌝ }
 {
     let content = content_at(h);
     let body = body_at(book, h);
@@ -79,8 +82,8 @@ pub fn keep_mask(book: &mut [u8], h: usize, k: usize, mask: usize)
     requires { ⌜ Ready (now book) ⌝ }
     requires { ⌜ Within (now book) h ⌝ }
     requires { ⌜ (1 ≤ k) × (k ≤ 2) ⌝ }
-    requires { ⌜ mask < 65536 ⌝ }
-    ensures { λ _. ⌜ now (book .exit) ≡ encode (withHeight (decode (now (book .entry))) h (withMaskAt (at (decode (now (book .entry))) h) k mask)) ⌝ }
+    requires { ⌜ mask < maskLimit ⌝ }
+    ensures { λ _. ⌜ now (book .exit) ≡ changed (now (book .entry)) h (λ x. withMaskAt x k mask) ⌝ }
 {
     let content = content_at(h);
     put_word(book, content + (2 + 2 * k), mask);
@@ -90,10 +93,10 @@ pub fn keep_mask(book: &mut [u8], h: usize, k: usize, mask: usize)
 pub fn keep_vote(book: &mut [u8], h: usize, s: usize, digest: &[u8])
     requires { ⌜ Ready (now book) ⌝ }
     requires { ⌜ Within (now book) h ⌝ }
-    requires { ⌜ s < 16 ⌝ }
-    requires { ⌜ at (decode (now book)) h .voterMask + 2 ^ s < 65536 ⌝ }
+    requires { ⌜ s < maximumReplicas ⌝ }
+    requires { ⌜ heightIn (now book) h .voterMask + 2 ^ s < maskLimit ⌝ }
     requires { ⌜ length (now digest) ≡ 32 ⌝ }
-    ensures { λ _. ⌜ now (book .exit) ≡ encode (withHeight (decode (now (book .entry))) h (withVote (at (decode (now (book .entry))) h) s (now (digest .entry)))) ⌝ }
+    ensures { λ _. ⌜ now (book .exit) ≡ changed (now (book .entry)) h (λ x. withVote x s (now (digest .entry))) ⌝ }
 {
     let content = content_at(h);
     let body = body_at(book, h);

@@ -4,8 +4,8 @@ ghost use mathlib.Core.Path.{_≡_};
 ghost use Prim.Native.Nat.{_<_};
 ghost use lib.ListN.{length};
 ghost use Rattle.protocol.specs.View.{quorum as isQuorum, isDummy};
-ghost use Rattle.fields.specs.Ready.{Within};
-ghost use Rattle.fields.specs.Shown.{Shown, viewOf};
+ghost use Rattle.protocol.specs.Mask.{maskLimit};
+ghost use Rattle.fields.specs.Book.{Within, Shown, viewOf};
 
 pub enum Kind {
     Replica,
@@ -37,7 +37,7 @@ pub fn block(kind: Kind, book: &[u8], h: usize) -> &[u8]
 pub fn dummy_mask(kind: Kind, book: &[u8], h: usize) -> usize
     requires { ⌜ Shown kind (now book) ⌝ }
     requires { ⌜ Within (now book) h ⌝ }
-    ensures { λ r. ⌜ (r ≡ viewOf kind (now (book .entry)) .dummyMask h) × (r < 65536) ⌝ }
+    ensures { λ r. ⌜ (r ≡ viewOf kind (now (book .entry)) .dummyMask h) × (r < maskLimit) ⌝ }
 {
     match kind {
         Kind::Replica => crate::height::dummy_mask(book, h),
@@ -47,7 +47,7 @@ pub fn dummy_mask(kind: Kind, book: &[u8], h: usize) -> usize
 pub fn finalize_mask(kind: Kind, book: &[u8], h: usize) -> usize
     requires { ⌜ Shown kind (now book) ⌝ }
     requires { ⌜ Within (now book) h ⌝ }
-    ensures { λ r. ⌜ (r ≡ viewOf kind (now (book .entry)) .finalizeMask h) × (r < 65536) ⌝ }
+    ensures { λ r. ⌜ (r ≡ viewOf kind (now (book .entry)) .finalizeMask h) × (r < maskLimit) ⌝ }
 {
     match kind {
         Kind::Replica => crate::height::finalize_mask(book, h),
@@ -57,7 +57,7 @@ pub fn finalize_mask(kind: Kind, book: &[u8], h: usize) -> usize
 // Whether a mask holds two thirds of the book's replicas.
 pub fn quorum(kind: Kind, book: &[u8], mask: usize) -> bool
     requires { ⌜ Shown kind (now book) ⌝ }
-    requires { ⌜ mask < 65536 ⌝ }
+    requires { ⌜ mask < maskLimit ⌝ }
     ensures { λ r. ⌜ r ≡ isQuorum (viewOf kind (now (book .entry))) mask ⌝ }
 {
     match kind {

@@ -1,4 +1,5 @@
 // The fields of a replica's book: reading them where they lie, and writing them in place.
+pub mod bounds;
 pub mod fresh;
 pub mod head;
 pub mod height;

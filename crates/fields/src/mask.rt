@@ -1,11 +1,12 @@
 // Masks of replicas: who is in one, one replica's bit, and masks that hold none but the first replicas.
 ghost use mathlib.Core.Path.{_≡_};
 ghost use Prim.Native.Nat.{_^_, _<_, _≤_};
-ghost use Rattle.protocol.specs.Mask.{inMask, belowBit};
+ghost use Rattle.protocol.specs.Mask.{inMask, belowBit, maskLimit};
+ghost use Rattle.protocol.specs.State.{maximumReplicas};
 
 // Whether replica `s` is in a mask.
 pub fn in_mask(mask: usize, s: usize) -> bool
-    requires { ⌜ s < 16 ⌝ }
+    requires { ⌜ s < maximumReplicas ⌝ }
     ensures { λ r. ⌜ r ≡ inMask mask s ⌝ }
 {
     (mask >> s) % 2 == 1
@@ -13,15 +14,15 @@ pub fn in_mask(mask: usize, s: usize) -> bool
 
 // The mask that holds replica `s` alone.
 pub fn bit(s: usize) -> usize
-    requires { ⌜ s ≤ 16 ⌝ }
-    ensures { λ r. ⌜ (r ≡ 2 ^ s) × (r ≤ 65536) ⌝ }
+    requires { ⌜ s ≤ maximumReplicas ⌝ }
+    ensures { λ r. ⌜ (r ≡ 2 ^ s) × (r ≤ maskLimit) ⌝ }
 {
     1 << s
 }
 
 // Whether a mask holds none but the first `n` replicas.
 pub fn below(n: usize, mask: usize) -> bool
-    requires { ⌜ n ≤ 16 ⌝ }
+    requires { ⌜ n ≤ maximumReplicas ⌝ }
     ensures { λ r. ⌜ r ≡ belowBit n mask ⌝ }
 {
     mask < bit(n)

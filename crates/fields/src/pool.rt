@@ -8,14 +8,14 @@ ghost use mathlib.Core.List.{[], _∷_, _++_};
 ghost use lib.ListN.{length};
 ghost use Rattle.protocol.specs.Bytes.{part, pieces};
 ghost use Rattle.protocol.specs.BytesLaws.{put};
-ghost use Rattle.protocol.specs.State.{decode, encode, withPool};
+ghost use Rattle.protocol.specs.State.{decode, withPool, maximumPending};
 ghost use Rattle.protocol.specs.Submit.{withPending};
-ghost use Rattle.fields.specs.Ready.{Sized, Ready};
+ghost use Rattle.fields.specs.Book.{Readable, Ready, recoded};
 
 // Place `k` of the pool, 16 bytes: an entry, if it is pending.
 pub fn pending_entry(book: &[u8], k: usize) -> &[u8]
-    requires { ⌜ Sized (now book) ⌝ }
-    requires { ⌜ k < 32 ⌝ }
+    requires { ⌜ Readable (now book) ⌝ }
+    requires { ⌜ k < maximumPending ⌝ }
     ensures { λ r. ⌜ now r ≡ part (decode (now (book .entry)) .pool) (16 * k) 16 ⌝ }
 {
     let from = 64 + 16 * k;
@@ -25,8 +25,9 @@ pub fn pending_entry(book: &[u8], k: usize) -> &[u8]
 // Copies place `from` of the pool to a place that is not after it.
 pub fn move_entry(book: &mut [u8], from: usize, to: usize)
     requires { ⌜ Ready (now book) ⌝ }
-    requires { ⌜ (to ≤ from) × (from < 32) ⌝ }
-    ensures { λ _. ⌜ now (book .exit) ≡ encode (withPool (decode (now (book .entry))) (decode (now (book .entry)) .pendingCount) (put (decode (now (book .entry)) .pool) (16 * to) (part (decode (now (book .entry)) .pool) (16 * from) 16))) ⌝ }
+    requires { ⌜ (to ≤ from) × (from < maximumPending) ⌝ }
+    ensures { λ _. ⌜ now (book .exit) ≡ recoded (now (book .entry)) (λ s.
+        withPool s (s .pendingCount) (put (s .pool) (16 * to) (part (s .pool) (16 * from) 16))) ⌝ }
 {
     copy_inside(book, 64 + 16 * from, 64 + 16 * to, 16);
 }
@@ -34,9 +35,10 @@ pub fn move_entry(book: &mut [u8], from: usize, to: usize)
 // Makes the pool's first `count` places and one new entry all that is pending.
 pub fn finish_pool(book: &mut [u8], count: usize, entry: &[u8])
     requires { ⌜ Ready (now book) ⌝ }
-    requires { ⌜ count < 32 ⌝ }
+    requires { ⌜ count < maximumPending ⌝ }
     requires { ⌜ length (now entry) ≡ 16 ⌝ }
-    ensures { λ _. ⌜ now (book .exit) ≡ encode (withPending (decode (now (book .entry))) (pieces 16 count (decode (now (book .entry)) .pool) ++ (now (entry .entry) ∷ []))) ⌝ }
+    ensures { λ _. ⌜ now (book .exit) ≡ recoded (now (book .entry)) (λ s.
+        withPending s (pieces 16 count (s .pool) ++ (now (entry .entry) ∷ []))) ⌝ }
 {
     copy_to(book, 64 + 16 * count, entry);
     clear(book, 64 + 16 * (count + 1), 512 - 16 * (count + 1));

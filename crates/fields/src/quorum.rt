@@ -1,15 +1,14 @@
 // Quorums of masks, and the dummy blocks that they notarize.
 ghost use mathlib.Core.Path.{_≡_};
 ghost use Prim.Native.Nat.{_<_, _≤_};
-ghost use Rattle.protocol.specs.Mask.{ones};
+ghost use Rattle.protocol.specs.Mask.{ones, maskLimit};
 ghost use Rattle.protocol.specs.View.{quorum as isQuorum, isDummy};
-ghost use Rattle.protocol.specs.State.{decode};
-ghost use Rattle.protocol.specs.Sound.{view};
-ghost use Rattle.fields.specs.Ready.{Sized, Within};
+ghost use Rattle.protocol.specs.State.{maximumReplicas};
+ghost use Rattle.fields.specs.Book.{Readable, Within, bookView};
 
 // How many of the replicas below `n` are in a mask: one pass over its bits.
 fn count(n: usize, mask: usize) -> usize
-    requires { ⌜ (n < 17) × (mask < 65536) ⌝ }
+    requires { ⌜ (n ≤ maximumReplicas) × (mask < maskLimit) ⌝ }
     ensures { λ r. ⌜ (r ≡ ones mask n) × (r ≤ n) ⌝ }
 {
     let mut rest = mask;
@@ -25,10 +24,9 @@ fn count(n: usize, mask: usize) -> usize
 
 // Whether a mask holds two thirds of the book's replicas.
 pub fn quorum(book: &[u8], mask: usize) -> bool
-    requires { ⌜ Sized (now book) ⌝ }
-    requires { ⌜ decode (now book) .n ≤ 16 ⌝ }
-    requires { ⌜ mask < 65536 ⌝ }
-    ensures { λ r. ⌜ r ≡ isQuorum (view (decode (now (book .entry)))) mask ⌝ }
+    requires { ⌜ Readable (now book) ⌝ }
+    requires { ⌜ mask < maskLimit ⌝ }
+    ensures { λ r. ⌜ r ≡ isQuorum (bookView (now (book .entry))) mask ⌝ }
 {
     let n = crate::head::replicas(book);
     2 * n <= 3 * count(n, mask)
@@ -36,10 +34,9 @@ pub fn quorum(book: &[u8], mask: usize) -> bool
 
 // Whether the dummy block of height `h` is notarized.
 pub fn is_dummy(book: &[u8], h: usize) -> bool
-    requires { ⌜ Sized (now book) ⌝ }
-    requires { ⌜ decode (now book) .n ≤ 16 ⌝ }
+    requires { ⌜ Readable (now book) ⌝ }
     requires { ⌜ Within (now book) h ⌝ }
-    ensures { λ r. ⌜ r ≡ isDummy (view (decode (now (book .entry)))) h ⌝ }
+    ensures { λ r. ⌜ r ≡ isDummy (bookView (now (book .entry))) h ⌝ }
 {
     quorum(book, crate::height::dummy_mask(book, h))
 }

@@ -1,5 +1,5 @@
--- Which books are movable: the sound ones. And what a movable book says of its current height and its blocks.
-use Prim.Native.Nat.{ℕ, zero, suc, _-_, _≤_, _<_}
+-- What a sound book says of its current height and its blocks.
+use Prim.Native.Nat.{ℕ, _-_, _≤_}
 use native.Mathlib.Omega.{arith}
 use mathlib.Core.Path.{_≡_, subst}
 use mathlib.Core.Bool.{true}
@@ -8,20 +8,13 @@ use lib.Dec.{leb}
 use borrow.Author.Tests.{leb-true}
 use Rattle.sha256.specs.Digest.{sha256}
 use Rattle.protocol.specs.Bytes.{Bytes}
-use Rattle.protocol.specs.BytesLaws.{AreBytes}
-use Rattle.protocol.specs.Block.{blockWellFormed}
-use Rattle.protocol.specs.State.{State, at, last, decode, bookHeights}
+use Rattle.protocol.specs.State.{at, decode, bookHeights}
 use Rattle.protocol.specs.StateLaws.{ShapedHeight}
-use Rattle.protocol.specs.CodecLaws.{last-decode, decode-shaped, notarized-in}
+use Rattle.protocol.specs.CodecLaws.{last-decode, decode-shaped}
 use Rattle.protocol.specs.PlaceLaws.{suc-pred, shaped-at}
-use Rattle.protocol.specs.Sound.{view, sound}
-use Rattle.protocol.specs.SoundLaws.{SoundState}
-use Rattle.protocol.specs.GrantedLaws.{Granted, granted}
+use Rattle.protocol.specs.Sound.{sound}
 use Rattle.protocol.specs.Move.{isRunning}
-use Rattle.fields.specs.Ready.{Within, Ready}
-use Rattle.fields.specs.ReadyLaws.{ready}
-use Rattle.state.specs.Memo.{Readable}
-use Rattle.moves.specs.Movable.{Movable}
+use Rattle.fields.specs.Book.{Within, Readable, SoundBook}
 
 -- ---- the current height
 pub running-is : (book : Bytes) → leb (decode book .current) (bookHeights book) ≡ isRunning (decode book)
@@ -31,9 +24,9 @@ running-is book = rw (last-decode book)
 pub running-high : (book : Bytes) → isRunning (decode book) ≡ true → decode book .current ≤ bookHeights book
 running-high book e = leb-true _ _ (rw (← running-is book) at e)
 
-module _ (book : Bytes) (m : Movable book) where
+module _ (book : Bytes) (m : SoundBook sha256 book) where
   pub within-current : decode book .current ≤ bookHeights book → (c : ℕ) → c ≡ decode book .current → Within book c
-  within-current high c is = record { low = let low = m .current-low in omega arith; high = omega arith }
+  within-current high c is = record { low = let low = m .state .current-low in omega arith; high = omega arith }
 
   module _ (e : isRunning (decode book) ≡ true) (c : ℕ) (is : c ≡ decode book .current) where
     pub current-high : c ≤ bookHeights book
@@ -57,27 +50,3 @@ module _ (book : Bytes) (r : Readable book) (h : ℕ) (w : Within book h) where
 
   pub notarized-size : length (at (decode book) h .notarized) ≡ 176
   notarized-size = height-shaped .notarized-size
-
--- ---- sound books
-formed-of : (s : State) → SoundState sha256 s → (i : ℕ) → 1 ≤ i → view s .hasBlock i ≡ true → blockWellFormed i (view s .block i) ≡ true
-unfolding view
-formed-of s facts zero low e = absurd (omega arith)
-formed-of s facts (suc i) low e =
-    let inside : i < last s = notarized-in s i e in
-    facts .each (suc i) low (omega arith) .notarized-formed e
-
-pub movable : (book : Bytes) → AreBytes book → sound sha256 book ≡ true → Movable book
-movable book small e =
-    let g : Granted sha256 book = granted sha256 book e in
-    let is-ready : Ready book = ready sha256 book small e in
-    let count = last-decode book in
-    let high = g .state .current-high in
-    record {
-      readable = record { sized = is-ready .sized; replicas = g .state .n-high; heights = is-ready .heights };
-      ready = is-ready;
-      flags-small = g .state .flags-small;
-      current-low = g .state .current-low;
-      current-high = omega arith;
-      pending-few = g .state .pending-few;
-      formed = formed-of (decode book) (g .state);
-    }

@@ -21,11 +21,12 @@ use Rattle.protocol.specs.View.{digestAt}
 use Rattle.protocol.specs.LinkedLaws.{linked-complete}
 use Rattle.protocol.specs.ParentLaws.{isSome-parent}
 use Rattle.protocol.specs.Move.{isSome, someOr, parentBelow, offered, proposedBlock}
-use Rattle.fields.specs.ReadyLaws.{ready-state}
+use Rattle.protocol.specs.LogLaws.{view-formed}
+use Rattle.fields.specs.BookLaws.{ready-state}
+use Rattle.fields.specs.Book.{SoundBook}
 use Rattle.state.specs.Walkable.{Walkable}
-use Rattle.moves.specs.Movable.{Movable}
 
-module _ (book : Bytes) (m : Movable book) where
+module _ (book : Bytes) (m : SoundBook sha256 book) where
   abbrev s : State
   s = decode book
 
@@ -37,16 +38,16 @@ module _ (book : Bytes) (m : Movable book) where
       let same-height : j ≡ found .0 = is ∙ ap (someOr 0) (found .1) in
       let within : found .0 ≤ s .current - 1 = found .2 .within in
       record {
-        readable = m .readable;
+        shown = m .ready .readable;
         high = omega arith;
         is-linked = rw same-height (linked-complete sha256 (view s) (found .2 .isLinked));
-        formed = m .formed;
+        formed = view-formed sha256 s (m .state);
       }
 
   entries-sized : (j : ℕ) → Every (Sized 16) (offered s j)
   unfolding offered pending
   entries-sized j =
-      let few = m .pending-few in
+      let few = m .state .pending-few in
       let size = ready-state book (m .ready) .pool-size in
       every-take 8 (every-without _ (pieces-sized 16 (s .pendingCount) (s .pool) (omega arith)))
 

@@ -18,8 +18,7 @@ use Rattle.protocol.specs.View.{linked}
 use Rattle.protocol.specs.Answer.{accepted, Certificate, onBlock, onDummy, pass, certificateKind}
 use Rattle.protocol.specs.Certificates.{certificateFrame}
 use Rattle.protocol.specs.Move.{unused, written, dummyVoteStep, outputStep, newFinalized, passesBy, passStep, someOr, parentBelow, proposedBlock, proposeStep, blockVoteStep}
-use Rattle.state.specs.Memo.{Readable}
-use Rattle.fields.specs.Ready.{Within}
+use Rattle.fields.specs.Book.{Within, Readable}
 use Rattle.answers.specs.declared.answer.Moved.the-variants as Moved
 use Rattle.answers.specs.declared.answer.Certificate as code
 use Rattle.answers.specs.Answers.{movedAnswer, certificateOf}

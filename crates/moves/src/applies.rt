@@ -7,15 +7,15 @@ ghost use Prim.Native.Nat.{_≤_, _<_};
 ghost use Rattle.sha256.specs.Digest.{sha256 as sha};
 ghost use Rattle.protocol.specs.State.{decode, flag as isFlagged, bookHeights};
 ghost use Rattle.protocol.specs.Move.{isRunning, isSome, someOr, parentBelow, newFinalized, dummyVoteApplies, passApplies, proposeApplies, blockVoteApplies};
-ghost use Rattle.fields.specs.Ready.{Sized};
+ghost use Rattle.protocol.specs.Block.{maximumHeights};
+ghost use Rattle.fields.specs.Book.{Readable, SoundBook};
 ghost use Rattle.state.specs.Memo.{Memo};
 ghost use Rattle.state.specs.Parent.{parentOption};
-ghost use Rattle.moves.specs.Movable.{Movable};
 ghost use Rattle.moves.specs.Held.{heldExtends};
 
 // Whether the current height is one of the book's.
 pub fn is_running(book: &[u8]) -> bool
-    requires { ⌜ Sized (now book) ⌝ }
+    requires { ⌜ Readable (now book) ⌝ }
     ensures { λ r. ⌜ r ≡ isRunning (decode (now (book .entry))) ⌝ }
 {
     current(book) <= heights(book)
@@ -23,7 +23,7 @@ pub fn is_running(book: &[u8]) -> bool
 
 // Whether flag `k` of the current height, one of 1, 2, 4 and 8, is set.
 pub fn flag(book: &[u8], k: usize) -> bool
-    requires { ⌜ Sized (now book) ⌝ }
+    requires { ⌜ Readable (now book) ⌝ }
     requires { ⌜ 1 ≤ k ⌝ }
     ensures { λ r. ⌜ r ≡ isFlagged k (decode (now (book .entry))) ⌝ }
 {
@@ -32,7 +32,7 @@ pub fn flag(book: &[u8], k: usize) -> bool
 
 // The best chain of the height below the current one. The memory keeps each height from a second digest.
 fn chain_below(book: &[u8], known: &mut [u8]) -> Parent
-    requires { ⌜ Movable (now book) ⌝ }
+    requires { ⌜ SoundBook sha (now book) ⌝ }
     requires { ⌜ Memo (now book) (now known) ⌝ }
     ensures answer { λ r. ⌜ parentOption r ≡ parentBelow sha (decode (now (book .entry))) ⌝ }
     ensures memo { λ _. ⌜ Memo (now (book .entry)) (now (known .exit)) ⌝ }
@@ -43,7 +43,7 @@ fn chain_below(book: &[u8], known: &mut [u8]) -> Parent
 
 // Whether there is such a chain.
 fn has_chain_below(book: &[u8], known: &mut [u8]) -> bool
-    requires { ⌜ Movable (now book) ⌝ }
+    requires { ⌜ SoundBook sha (now book) ⌝ }
     requires { ⌜ Memo (now book) (now known) ⌝ }
     ensures answer { λ r. ⌜ r ≡ isSome (parentBelow sha (decode (now (book .entry)))) ⌝ }
     ensures memo { λ _. ⌜ Memo (now (book .entry)) (now (known .exit)) ⌝ }
@@ -56,7 +56,7 @@ fn has_chain_below(book: &[u8], known: &mut [u8]) -> bool
 
 // The height of its last block, and 0 where there is none.
 pub fn parent_below(book: &[u8], known: &mut [u8]) -> usize
-    requires { ⌜ Movable (now book) ⌝ }
+    requires { ⌜ SoundBook sha (now book) ⌝ }
     requires { ⌜ Memo (now book) (now known) ⌝ }
     ensures answer { λ r. ⌜ r ≡ someOr 0 (parentBelow sha (decode (now (book .entry)))) ⌝ }
     ensures memo { λ _. ⌜ Memo (now (book .entry)) (now (known .exit)) ⌝ }
@@ -69,7 +69,7 @@ pub fn parent_below(book: &[u8], known: &mut [u8]) -> usize
 
 // Move 1: the timer fired, and no dummy vote was cast.
 pub fn dummy_vote_applies(book: &[u8]) -> bool
-    requires { ⌜ Movable (now book) ⌝ }
+    requires { ⌜ Readable (now book) ⌝ }
     ensures { λ r. ⌜ r ≡ dummyVoteApplies (decode (now (book .entry))) ⌝ }
 {
     if is_running(book) {
@@ -85,10 +85,10 @@ pub fn dummy_vote_applies(book: &[u8]) -> bool
 
 // Move 2 looks for the largest finalized height of the whole book.
 pub fn new_finalized(book: &[u8], known: &mut [u8]) -> usize
-    requires { ⌜ Movable (now book) ⌝ }
+    requires { ⌜ SoundBook sha (now book) ⌝ }
     requires { ⌜ Memo (now book) (now known) ⌝ }
     ensures answer { λ r. ⌜ r ≡ newFinalized sha (decode (now (book .entry))) ⌝ }
-    ensures small { λ r. ⌜ r < 64 ⌝ }
+    ensures small { λ r. ⌜ r ≤ maximumHeights ⌝ }
     ensures memo { λ _. ⌜ Memo (now (book .entry)) (now (known .exit)) ⌝ }
 {
     let top = heights(book);
@@ -97,7 +97,7 @@ pub fn new_finalized(book: &[u8], known: &mut [u8]) -> usize
 
 // Move 3: the current height is linked, or its dummy block is notarized and a chain ends below.
 pub fn pass_applies(book: &[u8], known: &mut [u8]) -> bool
-    requires { ⌜ Movable (now book) ⌝ }
+    requires { ⌜ SoundBook sha (now book) ⌝ }
     requires { ⌜ Memo (now book) (now known) ⌝ }
     ensures answer { λ r. ⌜ r ≡ passApplies sha (decode (now (book .entry))) ⌝ }
     ensures memo { λ _. ⌜ Memo (now (book .entry)) (now (known .exit)) ⌝ }
@@ -118,7 +118,7 @@ pub fn pass_applies(book: &[u8], known: &mut [u8]) -> bool
 
 // Move 4: the replica leads the current height and has not proposed, and a chain ends below.
 pub fn propose_applies(book: &[u8], known: &mut [u8]) -> bool
-    requires { ⌜ Movable (now book) ⌝ }
+    requires { ⌜ SoundBook sha (now book) ⌝ }
     requires { ⌜ Memo (now book) (now known) ⌝ }
     ensures answer { λ r. ⌜ r ≡ proposeApplies sha (decode (now (book .entry))) ⌝ }
     ensures memo { λ _. ⌜ Memo (now (book .entry)) (now (known .exit)) ⌝ }
@@ -140,7 +140,7 @@ pub fn propose_applies(book: &[u8], known: &mut [u8]) -> bool
 
 // Move 5: no block vote was cast, and the held proposal extends a linked height.
 pub fn block_vote_applies(book: &[u8], known: &mut [u8]) -> bool
-    requires { ⌜ Movable (now book) ⌝ }
+    requires { ⌜ SoundBook sha (now book) ⌝ }
     requires { ⌜ Memo (now book) (now known) ⌝ }
     ensures answer { λ r. ⌜ r ≡ blockVoteApplies sha (decode (now (book .entry))) ⌝ }
     ensures memo { λ _. ⌜ Memo (now (book .entry)) (now (known .exit)) ⌝ }
@@ -158,7 +158,7 @@ pub fn block_vote_applies(book: &[u8], known: &mut [u8]) -> bool
 
 // Whether a proposal of the current height is held that extends a linked height.
 fn proposal_extends(book: &[u8], known: &mut [u8]) -> bool
-    requires { ⌜ Movable (now book) ⌝ }
+    requires { ⌜ SoundBook sha (now book) ⌝ }
     requires { ⌜ Memo (now book) (now known) ⌝ }
     requires { ⌜ decode (now book) .current ≤ bookHeights (now book) ⌝ }
     ensures answer { λ r. ⌜ r ≡ heldExtends sha (decode (now (book .entry))) ⌝ }

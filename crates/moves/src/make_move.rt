@@ -18,15 +18,17 @@ ghost use Rattle.protocol.specs.State.{decode};
 ghost use Rattle.protocol.specs.Move.{step as firstMove, moveCall};
 ghost use Rattle.state.specs.Memo.{Memo};
 ghost use Rattle.answers.specs.Answers.{movedAnswer};
-ghost use Rattle.moves.specs.Movable.{Movable, Took};
+ghost use Rattle.moves.specs.Movable.{Took};
 ghost use Rattle.moves.specs.Later.{laterStep};
+ghost use Rattle.fields.specs.Book.{SoundBook};
 
 // Moves 3, 4 and 5: the first that applies, and else none.
 fn later_step(book: &mut [u8], reply: &mut [u8], known: &mut [u8]) -> Moved
-    requires { ⌜ Movable (now book) ⌝ }
+    requires { ⌜ SoundBook sha (now book) ⌝ }
     requires { ⌜ Memo (now book) (now known) ⌝ }
     requires { ⌜ 448 ≤ length (now reply) ⌝ }
-    ensures { λ r. ⌜ Took (laterStep (decode (now (book .entry)))) (now (reply .entry)) r (now (book .exit)) (now (reply .exit)) ⌝ }
+    ensures { λ r. ⌜ Took (laterStep (decode (now (book .entry))))
+        (now (reply .entry)) r (now (book .exit)) (now (reply .exit)) ⌝ }
 {
     if pass_applies(book, known) {
         return pass(book, reply, known);
@@ -42,10 +44,11 @@ fn later_step(book: &mut [u8], reply: &mut [u8], known: &mut [u8]) -> Moved
 
 // The first move that applies, on a sound book.
 fn step(book: &mut [u8], reply: &mut [u8], known: &mut [u8]) -> Moved
-    requires { ⌜ Movable (now book) ⌝ }
+    requires { ⌜ SoundBook sha (now book) ⌝ }
     requires { ⌜ Memo (now book) (now known) ⌝ }
     requires { ⌜ 448 ≤ length (now reply) ⌝ }
-    ensures { λ r. ⌜ Took (firstMove sha (decode (now (book .entry)))) (now (reply .entry)) r (now (book .exit)) (now (reply .exit)) ⌝ }
+    ensures { λ r. ⌜ Took (firstMove sha (decode (now (book .entry))))
+        (now (reply .entry)) r (now (book .exit)) (now (reply .exit)) ⌝ }
 {
     if dummy_vote_applies(book) {
         return cast_dummy_vote(book, reply);

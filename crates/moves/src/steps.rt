@@ -10,26 +10,28 @@ use fields::head::own;
 use fields::head::set_head;
 ghost use mathlib.Core.Path.{_≡_};
 ghost use mathlib.Core.Bool.{true, not, cond};
-ghost use Prim.Native.Nat.{_≤_, _<_};
+ghost use Prim.Native.Nat.{_≤_};
 ghost use lib.ListN.{length};
 ghost use Rattle.sha256.specs.Digest.{sha256 as sha};
-ghost use Rattle.protocol.specs.Bytes.{zeros, overFront};
+ghost use Rattle.protocol.specs.Bytes.{overFront};
 ghost use Rattle.protocol.specs.BytesLaws.{put};
-ghost use Rattle.protocol.specs.Frame.{finalize, proposal as proposalFrame};
 ghost use Rattle.protocol.specs.State.{decode, encode, flag as isFlagged, bookHeights};
 ghost use Rattle.protocol.specs.Answer.{accepted, onBlock, onDummy};
-ghost use Rattle.protocol.specs.Move.{dummyVoteStep, outputStep, passStep, proposedBlock, proposeStep, blockVoteStep, newFinalized, parentBelow, isSome};
+ghost use Rattle.protocol.specs.Move.{dummyVoteStep, outputStep, passStep, proposeStep, blockVoteStep, newFinalized, parentBelow, isSome};
+ghost use Rattle.protocol.specs.Block.{maximumHeights};
 ghost use Rattle.state.specs.Memo.{Memo};
 ghost use Rattle.state.specs.Walkable.{Walkable};
 ghost use Rattle.answers.specs.Answers.{movedAnswer, certificateOf};
-ghost use Rattle.moves.specs.Movable.{Movable, Took};
-ghost use Rattle.moves.specs.Pass.{certificateOn};
+ghost use Rattle.moves.specs.Movable.{Took};
+ghost use Rattle.moves.specs.Pass.{certificateOn, finalizeOn, proposalOn};
+ghost use Rattle.fields.specs.Book.{SoundBook, Readable};
 
 // Move 1: casts the dummy vote. Costs 224 stores to the reply and three to the book.
 pub fn cast_dummy_vote(book: &mut [u8], reply: &mut [u8]) -> Moved
-    requires { ⌜ Movable (now book) ⌝ }
+    requires { ⌜ SoundBook sha (now book) ⌝ }
     requires { ⌜ 448 ≤ length (now reply) ⌝ }
-    ensures { λ r. ⌜ Took (dummyVoteStep (decode (now (book .entry)))) (now (reply .entry)) r (now (book .exit)) (now (reply .exit)) ⌝ }
+    ensures { λ r. ⌜ Took (dummyVoteStep (decode (now (book .entry))))
+        (now (reply .entry)) r (now (book .exit)) (now (reply .exit)) ⌝ }
 {
     let c = current(book);
     let seen = flags(book);
@@ -41,9 +43,9 @@ pub fn cast_dummy_vote(book: &mut [u8], reply: &mut [u8]) -> Moved
 
 // Move 2: makes `g` the finalized height. It writes no frame. Costs three stores.
 pub fn settle(book: &mut [u8], g: usize) -> Moved
-    requires { ⌜ Movable (now book) ⌝ }
+    requires { ⌜ SoundBook sha (now book) ⌝ }
     requires { ⌜ g ≡ newFinalized sha (decode (now book)) ⌝ }
-    requires { ⌜ g < 64 ⌝ }
+    requires { ⌜ g ≤ maximumHeights ⌝ }
     ensures answer { λ r. ⌜ movedAnswer r ≡ accepted (outputStep sha (decode (now (book .entry))) .move) ⌝ }
     ensures book { λ _. ⌜ now (book .exit) ≡ encode (outputStep sha (decode (now (book .entry))) .after) ⌝ }
 {
@@ -55,7 +57,7 @@ pub fn settle(book: &mut [u8], g: usize) -> Moved
 
 // Whether the timer of the current height has not fired.
 fn in_time(book: &[u8]) -> bool
-    requires { ⌜ Movable (now book) ⌝ }
+    requires { ⌜ Readable (now book) ⌝ }
     ensures { λ r. ⌜ r ≡ not (isFlagged 1 (decode (now (book .entry)))) ⌝ }
 {
     !flag(book, 1)
@@ -64,11 +66,12 @@ fn in_time(book: &[u8]) -> bool
 // Writes a pass's first frame: the certificate of the current height's block where that is linked, else of its dummy block.
 // Costs 224 stores.
 fn write_pass_certificate(book: &[u8], reply: &mut [u8], linked: bool) -> Certificate
-    requires { ⌜ Movable (now book) ⌝ }
+    requires { ⌜ SoundBook sha (now book) ⌝ }
     requires { ⌜ decode (now book) .current ≤ bookHeights (now book) ⌝ }
     requires { ⌜ 448 ≤ length (now reply) ⌝ }
     ensures answer { λ r. ⌜ certificateOf r ≡ cond linked onBlock onDummy ⌝ }
-    ensures reply { λ _. ⌜ now (reply .exit) ≡ overFront (certificateOn linked (decode (now (book .entry)))) (now (reply .entry)) ⌝ }
+    ensures reply { λ _. ⌜ now (reply .exit) ≡
+        overFront (certificateOn linked (decode (now (book .entry)))) (now (reply .entry)) ⌝ }
 {
     let c = current(book);
     if linked {
@@ -83,9 +86,10 @@ fn write_pass_certificate(book: &[u8], reply: &mut [u8], linked: bool) -> Certif
 
 // Writes a pass's second frame, from byte 224 on: a finalize statement, or zero bytes. Costs 224 stores.
 fn write_pass_finalize(book: &[u8], reply: &mut [u8], finalizes: bool)
-    requires { ⌜ Movable (now book) ⌝ }
+    requires { ⌜ Readable (now book) ⌝ }
     requires { ⌜ 448 ≤ length (now reply) ⌝ }
-    ensures { λ _. ⌜ now (reply .exit) ≡ put (now (reply .entry)) 224 (cond finalizes (finalize (decode (now (book .entry)) .own) (decode (now (book .entry)) .current)) (zeros 224)) ⌝ }
+    ensures { λ _. ⌜ now (reply .exit) ≡
+        put (now (reply .entry)) 224 (finalizeOn finalizes (decode (now (book .entry)))) ⌝ }
 {
     if finalizes {
         let c = current(book);
@@ -99,11 +103,12 @@ fn write_pass_finalize(book: &[u8], reply: &mut [u8], finalizes: bool)
 // Move 3: passes to the next height, on the block where the current height is linked, and else on the dummy block. It
 // finalizes on either, by the timer alone. Costs 448 stores to the reply and three to the book; the memory spares a second walk.
 pub fn pass(book: &mut [u8], reply: &mut [u8], known: &mut [u8]) -> Moved
-    requires { ⌜ Movable (now book) ⌝ }
+    requires { ⌜ SoundBook sha (now book) ⌝ }
     requires { ⌜ Memo (now book) (now known) ⌝ }
     requires { ⌜ decode (now book) .current ≤ bookHeights (now book) ⌝ }
     requires { ⌜ 448 ≤ length (now reply) ⌝ }
-    ensures { λ r. ⌜ Took (passStep sha (decode (now (book .entry)))) (now (reply .entry)) r (now (book .exit)) (now (reply .exit)) ⌝ }
+    ensures { λ r. ⌜ Took (passStep sha (decode (now (book .entry))))
+        (now (reply .entry)) r (now (book .exit)) (now (reply .exit)) ⌝ }
 {
     let c = current(book);
     let settled = finalized(book);
@@ -118,11 +123,12 @@ pub fn pass(book: &mut [u8], reply: &mut [u8], known: &mut [u8]) -> Moved
 // Writes a proposal of a block on the block of height `j`: the frame first, and the block, with its entries, in its place.
 // Costs one digest, if the memory keeps none, and a walk of the chain for each pending entry, 32 at most.
 fn write_proposal(book: &[u8], reply: &mut [u8], j: usize, known: &mut [u8])
-    requires { ⌜ Movable (now book) ⌝ }
+    requires { ⌜ SoundBook sha (now book) ⌝ }
     requires { ⌜ Memo (now book) (now known) ⌝ }
     requires { ⌜ Walkable (now book) j ⌝ }
     requires { ⌜ 448 ≤ length (now reply) ⌝ }
-    ensures { λ _. ⌜ now (reply .exit) ≡ overFront (proposalFrame (decode (now (book .entry)) .own) (decode (now (book .entry)) .current) (proposedBlock sha (decode (now (book .entry))) j)) (now (reply .entry)) ⌝ }
+    ensures { λ _. ⌜ now (reply .exit) ≡
+        overFront (proposalOn j (decode (now (book .entry)))) (now (reply .entry)) ⌝ }
 {
     let c = current(book);
     let signer = own(book);
@@ -133,12 +139,13 @@ fn write_proposal(book: &[u8], reply: &mut [u8], j: usize, known: &mut [u8])
 
 // Move 4: proposes a block on the best chain below the current height.
 pub fn propose(book: &mut [u8], reply: &mut [u8], known: &mut [u8]) -> Moved
-    requires { ⌜ Movable (now book) ⌝ }
+    requires { ⌜ SoundBook sha (now book) ⌝ }
     requires { ⌜ Memo (now book) (now known) ⌝ }
     requires { ⌜ decode (now book) .current ≤ bookHeights (now book) ⌝ }
     requires { ⌜ isSome (parentBelow sha (decode (now book))) ≡ true ⌝ }
     requires { ⌜ 448 ≤ length (now reply) ⌝ }
-    ensures { λ r. ⌜ Took (proposeStep sha (decode (now (book .entry)))) (now (reply .entry)) r (now (book .exit)) (now (reply .exit)) ⌝ }
+    ensures { λ r. ⌜ Took (proposeStep sha (decode (now (book .entry))))
+        (now (reply .entry)) r (now (book .exit)) (now (reply .exit)) ⌝ }
 {
     let c = current(book);
     let seen = flags(book);
@@ -151,10 +158,11 @@ pub fn propose(book: &mut [u8], reply: &mut [u8], known: &mut [u8]) -> Moved
 
 // Move 5: votes for the held proposal by its digest. Costs one digest and 224 stores.
 pub fn cast_block_vote(book: &mut [u8], reply: &mut [u8]) -> Moved
-    requires { ⌜ Movable (now book) ⌝ }
+    requires { ⌜ SoundBook sha (now book) ⌝ }
     requires { ⌜ decode (now book) .current ≤ bookHeights (now book) ⌝ }
     requires { ⌜ 448 ≤ length (now reply) ⌝ }
-    ensures { λ r. ⌜ Took (blockVoteStep sha (decode (now (book .entry)))) (now (reply .entry)) r (now (book .exit)) (now (reply .exit)) ⌝ }
+    ensures { λ r. ⌜ Took (blockVoteStep sha (decode (now (book .entry))))
+        (now (reply .entry)) r (now (book .exit)) (now (reply .exit)) ⌝ }
 {
     let c = current(book);
     let seen = flags(book);

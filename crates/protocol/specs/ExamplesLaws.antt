@@ -15,9 +15,9 @@ use Rattle.protocol.specs.Bytes.{Bytes, byteAt, word16, le16, part, zero
 use Rattle.protocol.specs.Tests.{allOf, inRange, firstRefusal}
 use Rattle.protocol.specs.TestsLaws.{and-true}
 use Rattle.protocol.specs.RowLaws.{in-range, row-passes}
-use Rattle.protocol.specs.Block.{parentHeight, entryCount, newBlock, allEntries}
+use Rattle.protocol.specs.Block.{maximumHeights, parentHeight, entryCount, newBlock, allEntries}
 use Rattle.protocol.specs.Mask.{inMask, maskOf, ones, union, belowBit, weigh, total}
-use Rattle.protocol.specs.State.{State, at, last, encode, decode, headBytes, bookSize, flag, pending, withHead}
+use Rattle.protocol.specs.State.{State, at, last, encode, decode, headBytes, bookSize, flag, pending, withHead, maximumReplicas}
 use Rattle.protocol.specs.View.{View, quorum, isDummy, dummyRun, digestAt, parentOf, chain, chainWithin, logAt, extends, extendsOver}
 use Rattle.protocol.specs.Sound.{view}
 use Rattle.protocol.specs.Answer.{Outcome, Delivery, fresh, idle, voteDummy, accepted, Done, done, unlessRefused}
@@ -69,7 +69,7 @@ open-rows x =
     open-answer (firstRefusal (openRows (x .old) (x .n) (x .own) (x .heights) (x .leaders))) (x .old)
     (record { answer = accepted done; book = encode (newState (x .n) (x .own) (x .leaders)) }) (x .opens)
 
-ranges-of : (n own heights : ℕ) (leaders : Bytes) → (1 ≤ n) × (n ≤ 16) → (1 ≤ heights) × (heights ≤ 63) → own < n →
+ranges-of : (n own heights : ℕ) (leaders : Bytes) → (1 ≤ n) × (n ≤ maximumReplicas) → (1 ≤ heights) × (heights ≤ maximumHeights) → own < n →
     length leaders ≡ heights → all (λ x. ltb x n) leaders ≡ true →
     (leader : ℕ) × (rest : Bytes) × (leaders ≡ leader ∷ rest) × Ranges n own leader rest
 unfolding all
@@ -93,12 +93,12 @@ open-ranges : (n own heights : ℕ) (leaders : Bytes) → openInRange n own heig
     (leader : ℕ) × (rest : Bytes) × (leaders ≡ leader ∷ rest) × Ranges n own leader rest
 unfolding openInRange allOf
 open-ranges n own heights leaders q =
-    let q1 = and-true (inRange 1 16 n) _ q in
+    let q1 = and-true (inRange 1 maximumReplicas n) _ q in
     let q2 = and-true (ltb own n) _ (q1 .1) in
-    let q3 = and-true (inRange 1 63 heights) _ (q2 .1) in
+    let q3 = and-true (inRange 1 maximumHeights heights) _ (q2 .1) in
     let q4 = and-true (eqb (length leaders) heights) _ (q3 .1) in
     let q5 = and-true (all (λ x. ltb x n) leaders) true (q4 .1) in
-    ranges-of n own heights leaders (in-range 1 16 n (q1 .0)) (in-range 1 63 heights (q3 .0)) (ltb-true own n (q2 .0))
+    ranges-of n own heights leaders (in-range 1 maximumReplicas n (q1 .0)) (in-range 1 maximumHeights heights (q3 .0)) (ltb-true own n (q2 .0))
     (eqb-true (length leaders) heights (q4 .0)) (q5 .0)
 
 opened-new : (x : Start) → opened x ≡ encode (newState (x .n) (x .own) (x .leaders))

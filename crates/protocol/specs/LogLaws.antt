@@ -7,7 +7,7 @@ use mathlib.Core.Bool.{true}
 use lib.ListN.{length}
 use Rattle.protocol.specs.Bytes.{Bytes, join}
 use Rattle.protocol.specs.Block.{blockWellFormed}
-use Rattle.protocol.specs.State.{State}
+use Rattle.protocol.specs.State.{State, maximumEntries}
 use Rattle.protocol.specs.View.{linked, isFinalized, quorum, logAt}
 use Rattle.protocol.specs.Sound.{view, log}
 use Rattle.protocol.specs.TestsLaws.{and-true}
@@ -30,12 +30,12 @@ module _ (digest : Bytes → Bytes) (s : State) (facts : SoundState digest s) wh
       go (inl z) = ap (linked digest (view s)) z ∙ linked-zero digest (view s)
       go (inr z) = unfold isFinalized in and-true _ (quorum (view s) (view s .finalizeMask (s .finalized))) z .0
 
-  -- ---- the log that ends at any linked height: at most eight entries for each of 63 heights
+  -- ---- the log that ends at any linked height: at most eight entries for each height
   module _ (h : ℕ) (e : linked digest (view s) h ≡ true) where
     pub log-bytes-at : length (join (logAt (view s) h)) ≡ 16 * length (logAt (view s) h)
     log-bytes-at = log-length digest (view s) view-formed h e
 
-    pub log-few-at : length (logAt (view s) h) ≤ 504
+    pub log-few-at : length (logAt (view s) h) ≤ maximumEntries
     log-few-at =
         let bound = log-bound digest (view s) view-formed h e in
         let within = linked-in digest s h e in
@@ -47,6 +47,6 @@ module _ (digest : Bytes → Bytes) (s : State) (facts : SoundState digest s) wh
   unfolding log
   log-bytes = log-bytes-at (s .finalized) finalized-linked
 
-  pub log-few : length (log s) ≤ 504
+  pub log-few : length (log s) ≤ maximumEntries
   unfolding log
   log-few = log-few-at (s .finalized) finalized-linked

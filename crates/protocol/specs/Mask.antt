@@ -4,6 +4,10 @@ use mathlib.Core.Bool.{Bool, _||_, cond}
 use mathlib.Core.List.{List, [], _∷_}
 use lib.Dec.{eqb, ltb}
 
+-- a mask has two bytes, a bit for each replica
+abbrev pub maskLimit : ℕ
+maskLimit = 65536
+
 -- whether replica `s` is in a mask
 unfoldable pub inMask : ℕ → ℕ → Bool
 inMask mask s = eqb (mask / 2 ^ s % 2) 1

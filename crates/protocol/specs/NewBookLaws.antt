@@ -12,13 +12,14 @@ use borrow.Author.Tests.{ltb-true}
 use Rattle.protocol.specs.Bytes.{Bytes, zeros, all}
 use Rattle.protocol.specs.TestsLaws.{and-true}
 use Rattle.protocol.specs.EveryLaws.{Every, none, one}
-use Rattle.protocol.specs.State.{State, Height, at, last, encode, decode, noHeight, holdsProposal, isNotarized}
+use Rattle.protocol.specs.Block.{maximumHeights}
+use Rattle.protocol.specs.State.{State, Height, at, last, encode, decode, noHeight, holdsProposal, isNotarized, maximumReplicas}
 use Rattle.protocol.specs.StateLaws.{Shaped, ShapedHeight, decode-encode}
 use Rattle.protocol.specs.View.{View}
 use Rattle.protocol.specs.Sound.{view, sound}
 use Rattle.protocol.specs.SoundLaws.{SoundHeight, sound-encode}
 use Rattle.protocol.specs.NewStateLaws.{new-shaped}
-use Rattle.protocol.specs.Open.{newHeight, newState}
+use Rattle.protocol.specs.Open.{newHeight, startState, newState}
 use Rattle.protocol.specs.Deliver.{withMasks}
 
 -- what holds of each element and of the default holds of any place
@@ -99,26 +100,16 @@ bare-sound v h x b = record {
 -- the new state of these leaders, but with flags, and with a dummy and a finalize mask at height 1
 module _ (n own flags dummy final leader : ℕ) (leaders : Bytes) where
   abbrev pub early : State
-  early = record {
-    edition = 1;
-    n = n;
-    own = own;
-    flags = flags;
-    current = 1;
-    finalized = 0;
-    pendingCount = 0;
-    pool = zeros 512;
-    heights = firstHeight leader dummy final ∷ map newHeight leaders;
-  }
+  early = startState n own flags (firstHeight leader dummy final ∷ map newHeight leaders)
 
 -- what Open asks of its arguments, for a list of leaders that is not empty
 pub record Ranges (n own leader : ℕ) (leaders : Bytes) : Type 0 where
   pub some-replica : 1 ≤ n
-  pub few-replicas : n ≤ 16
+  pub few-replicas : n ≤ maximumReplicas
   pub own-below : own < n
   pub leader-below : leader < n
   pub leaders-below : all (λ x. ltb x n) leaders ≡ true
-  pub few-heights : length leaders < 63
+  pub few-heights : length leaders < maximumHeights
 
 module _ (n own flags dummy final leader : ℕ) (leaders : Bytes) (ranges : Ranges n own leader leaders)
     (flags-below : flags < 16) (dummy-below : dummy < 2 ^ n) (final-below : final < 2 ^ n) where

@@ -7,7 +7,7 @@ use lib.Dec.{eqb, ltb}
 use Rattle.protocol.specs.Bytes.{Bytes, zeros, all}
 use Rattle.protocol.specs.Tests.{allOf, inRange, Row, firstRefusal}
 use Rattle.protocol.specs.Block.{maximumHeights}
-use Rattle.protocol.specs.State.{State, Height, encode, bookSize, poolSize}
+use Rattle.protocol.specs.State.{State, Height, encode, bookSize, poolSize, maximumReplicas}
 use Rattle.protocol.specs.Answer.{Outcome, Done, done, accepted, unlessRefused}
 
 unfoldable pub newHeight : ℕ → Height
@@ -23,23 +23,27 @@ newHeight leader = record {
   voteDigests = zeros 512;
 }
 
-unfoldable pub newState : ℕ → ℕ → Bytes → State
-newState n own leaders = record {
+-- a state at height 1 with nothing pending
+abbrev pub startState : (n own flags : ℕ) → List Height → State
+startState n own flags heights = record {
   edition = 1;
   n = n;
   own = own;
-  flags = 0;
+  flags = flags;
   current = 1;
   finalized = 0;
   pendingCount = 0;
   pool = zeros poolSize;
-  heights = map newHeight leaders;
+  heights = heights;
 }
+
+unfoldable pub newState : ℕ → ℕ → Bytes → State
+newState n own leaders = startState n own 0 (map newHeight leaders)
 
 -- the ranges that refusal 2 asks for
 unfoldable pub openInRange : ℕ → ℕ → ℕ → Bytes → Bool
 openInRange n own heights leaders = allOf
-    (inRange 1 16 n ∷
+    (inRange 1 maximumReplicas n ∷
     ltb own n ∷
     inRange 1 maximumHeights heights ∷
     eqb (length leaders) heights ∷

@@ -8,7 +8,7 @@ use Rattle.protocol.specs.Bytes.{Bytes, byteAt, part, isZero}
 use Rattle.protocol.specs.Tests.{allOf, implies, inRange, everyHeight}
 use Rattle.protocol.specs.Block.{maximumHeights, blockWellFormed}
 use Rattle.protocol.specs.Mask.{belowBit}
-use Rattle.protocol.specs.State.{State, Height, at, decode, bookSize, holdsProposal, isNotarized, bookHeights}
+use Rattle.protocol.specs.State.{State, Height, at, decode, bookSize, holdsProposal, isNotarized, bookHeights, maximumReplicas, maximumPending}
 use Rattle.protocol.specs.View.{View, quorum, isFinalized, logOf}
 
 unfoldable pub view : State → View
@@ -51,13 +51,13 @@ module _ (digest : Bytes → Bytes) where
       let heights : ℕ = bookHeights book in
       allOf
       (eqb (length book) (bookSize heights) ∷
-      inRange 1 16 (s .n) ∷
+      inRange 1 maximumReplicas (s .n) ∷
       ltb (s .own) (s .n) ∷
       inRange 1 maximumHeights heights ∷
       eqb (s .edition) 1 ∷
       inRange 1 (heights + 1) (s .current) ∷
       ltb (s .flags) 16 ∷
-      leb (s .pendingCount) 32 ∷
+      leb (s .pendingCount) maximumPending ∷
       everyHeight (λ h. ltb (at s h .leader) (s .n)) heights ∷
       everyHeight (λ h. masksBelow (s .n) (at s h)) heights ∷
       everyHeight (λ h. leb (at s h .status) 3) heights ∷

@@ -9,9 +9,9 @@ use lib.Dec.{eqb, leb, ltb}
 use borrow.Author.Tests.{eqb-true, eq-eqb, leb-true, le-leb, ltb-true, lt-ltb}
 use Rattle.protocol.specs.Bytes.{Bytes, byteAt, part, isZero}
 use Rattle.protocol.specs.Tests.{implies}
-use Rattle.protocol.specs.Block.{blockWellFormed}
+use Rattle.protocol.specs.Block.{maximumHeights, blockWellFormed}
 use Rattle.protocol.specs.Mask.{belowBit}
-use Rattle.protocol.specs.State.{State, Height, at, last, decode, encode, bookSize, holdsProposal, isNotarized, bookHeights}
+use Rattle.protocol.specs.State.{State, Height, at, last, decode, encode, bookSize, holdsProposal, isNotarized, bookHeights, maximumReplicas, maximumPending}
 use Rattle.protocol.specs.View.{View, quorum, extendsOver, linkedWithin, linked, isFinalized}
 use Rattle.protocol.specs.Sound.{view, masksBelow, blocksWellFormed, contentZeros, sound}
 use Rattle.protocol.specs.EveryLaws.{none, one}
@@ -39,14 +39,14 @@ pub record SoundState (digest : Bytes → Bytes) (s : State) : Type 0 where
   pub shaped : Shaped s
   pub first-edition : s .edition ≡ 1
   pub n-low : 1 ≤ s .n
-  pub n-high : s .n ≤ 16
+  pub n-high : s .n ≤ maximumReplicas
   pub own-below : s .own < s .n
   pub last-low : 1 ≤ last s
-  pub last-high : last s ≤ 63
+  pub last-high : last s ≤ maximumHeights
   pub current-low : 1 ≤ s .current
   pub current-high : s .current ≤ last s + 1
   pub flags-small : s .flags < 16
-  pub pending-few : s .pendingCount ≤ 32
+  pub pending-few : s .pendingCount ≤ maximumPending
   pub each : (h : ℕ) → 1 ≤ h → h ≤ last s → SoundHeight (view s) h (at s h)
   pub final : (s .finalized ≡ 0) ⊎ (isFinalized digest (view s) (s .finalized) ≡ true)
 
@@ -123,7 +123,7 @@ module _ (digest : Bytes → Bytes) where
     unfolding sound bookSize
     exact = eqb-true _ _ (row _ 0 e)
 
-    heights-range : (1 ≤ H) × (H ≤ 63)
+    heights-range : (1 ≤ H) × (H ≤ maximumHeights)
     unfolding sound
     heights-range = in-range _ _ _ (row _ 3 e)
 
@@ -135,7 +135,7 @@ module _ (digest : Bytes → Bytes) where
     unfolding sound
     current-range = in-range _ _ _ (row _ 5 e)
 
-    n-range : (1 ≤ S .n) × (S .n ≤ 16)
+    n-range : (1 ≤ S .n) × (S .n ≤ maximumReplicas)
     unfolding sound
     n-range = in-range _ _ _ (row _ 1 e)
 

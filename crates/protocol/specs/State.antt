@@ -5,7 +5,7 @@ use mathlib.Core.List.{List, [], _∷_, _++_, map}
 use lib.ListN.{length, getD, set, drop}
 use lib.Dec.{eqb, leb}
 use Rattle.protocol.specs.Bytes.{Bytes, byteAt, word16, le16, part, zeros, join, pieces}
-use Rattle.protocol.specs.Block.{entrySize}
+use Rattle.protocol.specs.Block.{entrySize, maximumHeights, blockEntries}
 
 -- what is kept of one height
 pub record Height : Type 0 where
@@ -34,6 +34,16 @@ pub record State : Type 0 where
   pub pendingCount : ℕ
   pub pool : Bytes
   pub heights : List Height
+
+-- ---- bounds: how many replicas and pending entries a book has at most, and how many entries a chain; its heights: `maximumHeights`
+abbrev pub maximumReplicas : ℕ
+maximumReplicas = 16
+
+abbrev pub maximumPending : ℕ
+maximumPending = 32
+
+abbrev pub maximumEntries : ℕ
+maximumEntries = maximumHeights * blockEntries
 
 -- ---- sizes
 abbrev pub poolSize : ℕ
@@ -141,10 +151,10 @@ unfoldable pub voteOf : Height → ℕ → Bytes
 voteOf x s = part (x .voteDigests) (32 * s) 32
 
 -- ---- changes
--- all that a call may change is given anew; the rest stays from the opening on
-abbrev pub renewed : State → (flags current finalized pendingCount : ℕ) → Bytes → List Height → State
-renewed s flags current finalized pendingCount pool heights = record {
-  edition = s .edition;
+-- all that may change is given anew; the rest stays from the opening on
+abbrev pub renewedIn : (edition : ℕ) → State → (flags current finalized pendingCount : ℕ) → Bytes → List Height → State
+renewedIn edition s flags current finalized pendingCount pool heights = record {
+  edition = edition;
   n = s .n;
   own = s .own;
   flags = flags;
@@ -155,19 +165,14 @@ renewed s flags current finalized pendingCount pool heights = record {
   heights = heights;
 }
 
+-- all that a call may change is given anew
+abbrev pub renewed : State → (flags current finalized pendingCount : ℕ) → Bytes → List Height → State
+renewed s flags current finalized pendingCount pool heights = renewedIn (s .edition) s flags current finalized pendingCount pool heights
+
 -- the same state in a book of another edition
 unfoldable pub withEdition : ℕ → State → State
-withEdition edition s = record {
-  edition = edition;
-  n = s .n;
-  own = s .own;
-  flags = s .flags;
-  current = s .current;
-  finalized = s .finalized;
-  pendingCount = s .pendingCount;
-  pool = s .pool;
-  heights = s .heights;
-}
+withEdition edition s =
+    renewedIn edition s (s .flags) (s .current) (s .finalized) (s .pendingCount) (s .pool) (s .heights)
 
 unfoldable pub withHeight : State → ℕ → Height → State
 withHeight s h x =

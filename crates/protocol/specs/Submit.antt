@@ -7,7 +7,7 @@ use lib.Dec.{eqb, ltb}
 use Rattle.protocol.specs.Bytes.{Bytes, zeros, join, holds, without}
 use Rattle.protocol.specs.Tests.{Row, firstRefusal}
 use Rattle.protocol.specs.Block.{entrySize}
-use Rattle.protocol.specs.State.{State, encode, decode, pending, poolSize, renewed}
+use Rattle.protocol.specs.State.{State, encode, decode, pending, poolSize, renewed, maximumPending}
 use Rattle.protocol.specs.Sound.{sound, log}
 use Rattle.protocol.specs.Answer.{Outcome, Done, done, accepted, unlessRefused}
 
@@ -28,7 +28,7 @@ module _ (digest : Bytes → Bytes) where
       (1, sound digest book) ∷
       (4, eqb (length entry) entrySize) ∷
       (13, not (holds entry (pending s) || holds entry (log s))) ∷
-      (12, ltb (length (stillPending s)) 32) ∷ []
+      (12, ltb (length (stillPending s)) maximumPending) ∷ []
 
   unfoldable pub submitCall : Bytes → Bytes → Outcome Done
   submitCall book entry =

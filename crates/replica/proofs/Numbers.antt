@@ -9,7 +9,7 @@ use lib.Dec.{eqb, leb, ltb}
 use borrow.Author.Tests.{lt-ltb, le-ltb, ltb-true, eqb-true, eq-eqb, ne-eqb}
 use Rattle.protocol.specs.Bytes.{Bytes, all}
 use Rattle.protocol.specs.Tests.{allOf, inRange}
-use Rattle.protocol.specs.State.{State, decode, encode, last, flag, pending, withHead, withTimerFired, bookSize, bookHeights}
+use Rattle.protocol.specs.State.{State, decode, encode, last, flag, pending, withHead, withTimerFired, bookSize, bookHeights, maximumReplicas, maximumPending}
 use Rattle.protocol.specs.Sound.{log}
 use Rattle.protocol.specs.Submit.{stillPending}
 use Rattle.protocol.specs.EntriesLaws.{pending-length}
@@ -18,6 +18,7 @@ use Rattle.protocol.specs.Open.{openInRange}
 use Rattle.protocol.specs.Frame.{isCertificate}
 use Rattle.protocol.specs.CodecLaws.{last-decode}
 use Rattle.protocol.specs.RowLaws.{not-passed, row, in-range, all-at, at-all}
+use Rattle.protocol.specs.Block.{maximumHeights}
 
 pub in-book : (book : Bytes) (h heights : ℕ) → heights ≡ bookHeights book → (leb 1 h && leb h heights) ≡ inRange 1 (last (decode book)) h
 unfolding inRange
@@ -37,23 +38,23 @@ module _ (n : ℕ) (leaders : Bytes) where
       (λ e. true≢false (sym (all-at (λ leader. ltb leader n) leaders i e inside) ∙ le-ltb (getD leaders i 0) n high)))
 
 pub open-fits : (n own heights : ℕ) (leaders : Bytes) (led : Bool) → led ≡ all (λ leader. ltb leader n) leaders →
-    ((leb 1 n && leb n 16) && (ltb own n && ((leb 1 heights && leb heights 63) && (eqb (length leaders) heights && led)))) ≡ openInRange n own heights leaders
+    ((leb 1 n && leb n maximumReplicas) && (ltb own n && ((leb 1 heights && leb heights maximumHeights) && (eqb (length leaders) heights && led)))) ≡ openInRange n own heights leaders
 unfolding openInRange allOf inRange
 open-fits n own heights leaders led e = rw (e, and-true (all (λ leader. ltb leader n) leaders))
 
 -- what the ranges grant
 pub record Fitting (n own heights : ℕ) (leaders : Bytes) : Type 0 where
-  pub n-high : n ≤ 16
+  pub n-high : n ≤ maximumReplicas
   pub own-below : own < n
-  pub few : heights ≤ 63
+  pub few : heights ≤ maximumHeights
   pub listed : length leaders ≡ heights
 
 pub fitting : (n own heights : ℕ) (leaders : Bytes) → openInRange n own heights leaders ≡ true → Fitting n own heights leaders
 unfolding openInRange
 fitting n own heights leaders e = record {
-  n-high = in-range 1 16 n (row _ 0 e) .1;
+  n-high = in-range 1 maximumReplicas n (row _ 0 e) .1;
   own-below = ltb-true own n (row _ 1 e);
-  few = in-range 1 63 heights (row _ 2 e) .1;
+  few = in-range 1 maximumHeights heights (row _ 2 e) .1;
   listed = eqb-true (length leaders) heights (row _ 3 e);
 }
 
@@ -77,7 +78,7 @@ unfolding withTimerFired
 fired book flags current finalized after e p q r = e ∙ rw (p, q, r)
 
 -- ---- Submit
-pub few-stay : (s : State) (count : ℕ) → count ≡ s .pendingCount → count < 32 → true ≡ ltb (length (stillPending s)) 32
+pub few-stay : (s : State) (count : ℕ) → count ≡ s .pendingCount → count < maximumPending → true ≡ ltb (length (stillPending s)) maximumPending
 unfolding stillPending
 few-stay s count e few =
     sym (lt-ltb (length (stillPending s)) 32 (omega (arith, without-short (log s) (pending s), pending-length s, e, few)))

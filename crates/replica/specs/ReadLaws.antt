@@ -12,23 +12,22 @@ use Rattle.protocol.specs.Bytes.{Bytes, join, overFront}
 use Rattle.protocol.specs.State.{State, decode}
 use Rattle.protocol.specs.Sound.{view, sound, log}
 use Rattle.protocol.specs.View.{logAt}
-use Rattle.protocol.specs.GrantedLaws.{Granted, granted}
+use Rattle.protocol.specs.SoundLaws.{sound-decode}
 use Rattle.protocol.specs.LogLaws.{view-formed, finalized-linked, log-bytes}
 use Rattle.protocol.specs.Read.{logSize, sizeCall, readPart, readBuffer}
 use Rattle.state.specs.Walkable.{Walkable}
 use Rattle.answers.specs.declared.answer.Size.the-variants as Size
 use Rattle.answers.specs.Answers.{sizeAnswer}
-use Rattle.replica.specs.SoundBook.{SoundBook}
+use Rattle.fields.specs.Book.{SoundBook}
 
 -- ---- the log's chain
-pub walkable : (book : Bytes) (g : ℕ) → SoundBook book → g ≡ decode book .finalized → Walkable book g
+pub walkable : (book : Bytes) (g : ℕ) → SoundBook sha256 book → g ≡ decode book .finalized → Walkable book g
 walkable book g s e =
-    let grants : Granted sha256 book = granted sha256 book (s .is-sound) in
     rw e (record {
-      readable = s .readable;
-      high = s .finalized;
-      is-linked = finalized-linked sha256 (decode book) (grants .state);
-      formed = view-formed sha256 (decode book) (grants .state);
+      shown = s .ready .readable;
+      high = s .finalized-high;
+      is-linked = finalized-linked sha256 (decode book) (s .state);
+      formed = view-formed sha256 (decode book) (s .state);
     })
 
 pub log-at : (s : State) (g : ℕ) → g ≡ s .finalized → logAt (view s) g ≡ log s
@@ -77,7 +76,7 @@ module _ (book buffer : Bytes) where
     read-done after g h f written =
         let whole : readPart sha256 book buffer ≡ join (log (decode book)) =
         part-whole e (le-leb (16 * length (log (decode book))) (length buffer) (rw counted at h)) in
-        let bytes = log-bytes sha256 (decode book) (granted sha256 book e .state) in (
+        let bytes = log-bytes sha256 (decode book) (sound-decode sha256 book e) in (
           ap (λ (k : ℕ). 16 * k) counted ∙ sym bytes ∙ sym (ap length whole),
           written ∙ ap (λ (p : Bytes). overFront p buffer) (ap join (log-at (decode book) g f) ∙ sym whole),
         )

@@ -11,9 +11,8 @@ ghost use Rattle.protocol.specs.Frame.{isCertificate};
 ghost use Rattle.protocol.specs.State.{decode};
 ghost use Rattle.protocol.specs.Fetch.{hasCertificate, fetchCall};
 ghost use Rattle.protocol.specs.Certificates.{certificateFrame};
-ghost use Rattle.fields.specs.Ready.{Within};
+ghost use Rattle.fields.specs.Book.{Within, SoundBook, Readable};
 ghost use Rattle.answers.specs.Answers.{doneAnswer};
-ghost use Rattle.replica.specs.SoundBook.{SoundBook};
 
 // Whether a kind is a certificate's.
 fn is_certificate(kind: usize) -> bool
@@ -24,7 +23,7 @@ fn is_certificate(kind: usize) -> bool
 
 // Whether the book has the certificate of that kind and height. The masks of kinds 5 to 7 are the first three of a height.
 fn has_certificate(book: &[u8], kind: usize, height: usize) -> bool
-    requires { ⌜ SoundBook (now book) ⌝ }
+    requires { ⌜ Readable (now book) ⌝ }
     requires { ⌜ Within (now book) height ⌝ }
     requires { ⌜ (5 ≤ kind) × (kind ≤ 7) ⌝ }
     ensures { λ r. ⌜ r ≡ hasCertificate (decode (now (book .entry))) kind height ⌝ }
@@ -38,11 +37,12 @@ fn has_certificate(book: &[u8], kind: usize, height: usize) -> bool
 
 // Writes the certificate of that kind and height to the front of the reply. Stores 224 bytes.
 fn write_certificate(book: &[u8], kind: usize, height: usize, reply: &mut [u8])
-    requires { ⌜ SoundBook (now book) ⌝ }
+    requires { ⌜ Readable (now book) ⌝ }
     requires { ⌜ Within (now book) height ⌝ }
     requires { ⌜ (5 ≤ kind) × (kind ≤ 7) ⌝ }
     requires { ⌜ 224 ≤ length (now reply) ⌝ }
-    ensures { λ _. ⌜ now (reply .exit) ≡ overFront (certificateFrame (decode (now (book .entry))) kind height) (now (reply .entry)) ⌝ }
+    ensures { λ _. ⌜ now (reply .exit) ≡
+        overFront (certificateFrame (decode (now (book .entry))) kind height) (now (reply .entry)) ⌝ }
 {
     let mask = fields::height::mask_at(book, height, kind - 5);
     if kind == 5 {
@@ -55,11 +55,13 @@ fn write_certificate(book: &[u8], kind: usize, height: usize, reply: &mut [u8])
 
 // The certificate of a height that the book has, by a kind that is a certificate's.
 fn fetch_at(book: &[u8], kind: usize, height: usize, reply: &mut [u8]) -> Answer
-    requires { ⌜ SoundBook (now book) ⌝ }
+    requires { ⌜ SoundBook sha (now book) ⌝ }
     requires { ⌜ Within (now book) height ⌝ }
     requires { ⌜ isCertificate kind ≡ true ⌝ }
-    ensures answer { λ r. ⌜ doneAnswer r ≡ fetchCall sha (now (book .entry)) kind height (now (reply .entry)) .answer ⌝ }
-    ensures reply { λ _. ⌜ now (reply .exit) ≡ fetchCall sha (now (book .entry)) kind height (now (reply .entry)) .reply ⌝ }
+    ensures answer { λ r. ⌜ doneAnswer r ≡
+        fetchCall sha (now (book .entry)) kind height (now (reply .entry)) .answer ⌝ }
+    ensures reply { λ _. ⌜ now (reply .exit) ≡
+        fetchCall sha (now (book .entry)) kind height (now (reply .entry)) .reply ⌝ }
 {
     if 224 <= reply.len() {
         if has_certificate(book, kind, height) {
@@ -75,9 +77,11 @@ fn fetch_at(book: &[u8], kind: usize, height: usize, reply: &mut [u8]) -> Answer
 
 // The certificate of a sound book.
 fn fetch_sound(book: &[u8], kind: usize, height: usize, reply: &mut [u8]) -> Answer
-    requires { ⌜ SoundBook (now book) ⌝ }
-    ensures answer { λ r. ⌜ doneAnswer r ≡ fetchCall sha (now (book .entry)) kind height (now (reply .entry)) .answer ⌝ }
-    ensures reply { λ _. ⌜ now (reply .exit) ≡ fetchCall sha (now (book .entry)) kind height (now (reply .entry)) .reply ⌝ }
+    requires { ⌜ SoundBook sha (now book) ⌝ }
+    ensures answer { λ r. ⌜ doneAnswer r ≡
+        fetchCall sha (now (book .entry)) kind height (now (reply .entry)) .answer ⌝ }
+    ensures reply { λ _. ⌜ now (reply .exit) ≡
+        fetchCall sha (now (book .entry)) kind height (now (reply .entry)) .reply ⌝ }
 {
     if is_certificate(kind) {
         if in_book(book, height) {

@@ -1,5 +1,7 @@
 // Open: a new book for `n` replicas, the replica's own number, and the leader of each height.
 use answers::answer::Answer;
+use fields::bounds::MAXIMUM_HEIGHTS;
+use fields::bounds::MAXIMUM_REPLICAS;
 ghost use mathlib.Core.Path.{_≡_};
 ghost use lib.Dec.{ltb};
 ghost use Rattle.protocol.specs.Bytes.{all};
@@ -26,9 +28,9 @@ fn leaders_below(leaders: &[u8], n: usize) -> bool
 fn numbers_fit(n: usize, own: usize, heights: usize, leaders: &[u8]) -> bool
     ensures { λ r. ⌜ r ≡ openInRange n own heights (now (leaders .entry)) ⌝ }
 {
-    let replicas = (1 <= n) & (n <= 16);
+    let replicas = (1 <= n) & (n <= MAXIMUM_REPLICAS);
     let place = own < n;
-    let count = (1 <= heights) & (heights <= 63);
+    let count = (1 <= heights) & (heights <= MAXIMUM_HEIGHTS);
     let listed = leaders.len() == heights;
     let led = leaders_below(leaders, n);
     replicas & (place & (count & (listed & led)))

@@ -4,16 +4,16 @@ ghost use mathlib.Core.Path.{_≡_};
 ghost use Prim.Native.Nat.{_≤_};
 ghost use lib.ListN.{length};
 ghost use Rattle.sha256.specs.Digest.{sha256 as sha};
-ghost use Rattle.protocol.specs.State.{decode};
+ghost use Rattle.protocol.specs.State.{decode, maximumEntries};
 ghost use Rattle.protocol.specs.Sound.{log};
 ghost use Rattle.protocol.specs.Read.{sizeCall, readPart, readBuffer};
 ghost use Rattle.answers.specs.Answers.{sizeAnswer};
-ghost use Rattle.replica.specs.SoundBook.{SoundBook};
+ghost use Rattle.fields.specs.Book.{SoundBook};
 
 // How many entries the log of a sound book has. Reads two bytes of each of its blocks, 63 at most.
 fn log_count(book: &[u8]) -> usize
-    requires { ⌜ SoundBook (now book) ⌝ }
-    ensures { λ r. ⌜ (r ≡ length (log (decode (now (book .entry))))) × (r ≤ 504) ⌝ }
+    requires { ⌜ SoundBook sha (now book) ⌝ }
+    ensures { λ r. ⌜ (r ≡ length (log (decode (now (book .entry))))) × (r ≤ maximumEntries) ⌝ }
 {
     let finalized = fields::head::finalized(book);
     state::entries::chain_entries(book, finalized)
@@ -33,7 +33,7 @@ pub fn size(book: &[u8]) -> Size
 
 // Copies the log of a sound book to the front of the buffer, if the buffer is long enough, and says how many bytes it wrote.
 fn read_sound(book: &[u8], buffer: &mut [u8]) -> usize
-    requires { ⌜ SoundBook (now book) ⌝ }
+    requires { ⌜ SoundBook sha (now book) ⌝ }
     ensures length { λ r. ⌜ r ≡ length (readPart sha (now (book .entry)) (now (buffer .entry))) ⌝ }
     ensures buffer { λ _. ⌜ now (buffer .exit) ≡ readBuffer sha (now (book .entry)) (now (buffer .entry)) ⌝ }
 {

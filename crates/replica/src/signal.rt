@@ -5,16 +5,16 @@ ghost use mathlib.Core.Path.{_≡_};
 ghost use mathlib.Core.Bool.{_&&_, not};
 ghost use lib.Dec.{eqb};
 ghost use Rattle.sha256.specs.Digest.{sha256 as sha};
-ghost use Rattle.protocol.specs.State.{decode, encode, flag, withTimerFired};
+ghost use Rattle.protocol.specs.State.{decode, flag, withTimerFired};
 ghost use Rattle.protocol.specs.Signal.{signalCall};
-ghost use Rattle.fields.specs.Ready.{Sized};
+ghost use Rattle.fields.specs.Book.{Readable, SoundBook, recoded};
 ghost use Rattle.answers.specs.Answers.{doneAnswer};
-ghost use Rattle.replica.specs.SoundBook.{SoundBook};
 
 // Whether the height is the current one and its timer has not fired yet.
 fn timer_runs(book: &[u8], height: usize) -> bool
-    requires { ⌜ Sized (now book) ⌝ }
-    ensures { λ r. ⌜ r ≡ (eqb height (decode (now (book .entry)) .current) && not (flag 1 (decode (now (book .entry))))) ⌝ }
+    requires { ⌜ Readable (now book) ⌝ }
+    ensures { λ r. ⌜ r ≡
+        (eqb height (decode (now (book .entry)) .current) && not (flag 1 (decode (now (book .entry))))) ⌝ }
 {
     let current = fields::head::current(book);
     let flags = fields::head::flags(book);
@@ -23,8 +23,8 @@ fn timer_runs(book: &[u8], height: usize) -> bool
 
 // Sets the timer's flag of a sound book.
 fn fire(book: &mut [u8])
-    requires { ⌜ SoundBook (now book) ⌝ }
-    ensures { λ _. ⌜ now (book .exit) ≡ encode (withTimerFired (decode (now (book .entry)))) ⌝ }
+    requires { ⌜ SoundBook sha (now book) ⌝ }
+    ensures { λ _. ⌜ now (book .exit) ≡ recoded (now (book .entry)) withTimerFired ⌝ }
 {
     let flags = fields::head::flags(book);
     let current = fields::head::current(book);
@@ -34,7 +34,7 @@ fn fire(book: &mut [u8])
 
 // The signal to a sound book.
 fn signal_sound(book: &mut [u8], height: usize) -> Answer
-    requires { ⌜ SoundBook (now book) ⌝ }
+    requires { ⌜ SoundBook sha (now book) ⌝ }
     ensures answer { λ r. ⌜ doneAnswer r ≡ signalCall sha (now (book .entry)) height .answer ⌝ }
     ensures book { λ _. ⌜ now (book .exit) ≡ signalCall sha (now (book .entry)) height .book ⌝ }
 {

@@ -1,21 +1,23 @@
 // Submit: one more pending entry, after those that the log holds are dropped.
 use answers::answer::Answer;
+use fields::bounds::MAXIMUM_PENDING;
 ghost use mathlib.Core.Path.{_≡_};
-ghost use mathlib.Core.Bool.{false, _||_};
+ghost use mathlib.Core.Bool.{false};
 ghost use lib.ListN.{length};
 ghost use lib.Dec.{ltb};
 ghost use Rattle.sha256.specs.Digest.{sha256 as sha};
 ghost use Rattle.protocol.specs.Bytes.{holds};
-ghost use Rattle.protocol.specs.State.{decode, pending};
+ghost use Rattle.protocol.specs.State.{decode, pending, maximumPending};
 ghost use Rattle.protocol.specs.Sound.{log};
 ghost use Rattle.protocol.specs.Submit.{stillPending, submitCall};
 ghost use Rattle.answers.specs.Answers.{doneAnswer};
-ghost use Rattle.replica.specs.SoundBook.{SoundBook};
+ghost use Rattle.fields.specs.Book.{SoundBook};
+ghost use Rattle.replica.specs.SubmitLaws.{isEntryKnown};
 
 // Whether an entry is pending or in the log. Compares it with those pending, 32 at most, and with the log.
 fn is_known(book: &[u8], entry: &[u8]) -> bool
-    requires { ⌜ SoundBook (now book) ⌝ }
-    ensures { λ r. ⌜ r ≡ (holds (now (entry .entry)) (pending (decode (now (book .entry)))) || holds (now (entry .entry)) (log (decode (now (book .entry))))) ⌝ }
+    requires { ⌜ SoundBook sha (now book) ⌝ }
+    ensures { λ r. ⌜ r ≡ isEntryKnown (decode (now (book .entry))) (now (entry .entry)) ⌝ }
 {
     if state::entries::is_pending(book, entry) {
         true
@@ -27,22 +29,22 @@ fn is_known(book: &[u8], entry: &[u8]) -> bool
 
 // Whether a place is left once the entries that the log holds are dropped. Walks the log for each of them only where all 32 places are taken.
 fn leaves_room(book: &[u8]) -> bool
-    requires { ⌜ SoundBook (now book) ⌝ }
-    ensures { λ r. ⌜ r ≡ ltb (length (stillPending (decode (now (book .entry))))) 32 ⌝ }
+    requires { ⌜ SoundBook sha (now book) ⌝ }
+    ensures { λ r. ⌜ r ≡ ltb (length (stillPending (decode (now (book .entry))))) maximumPending ⌝ }
 {
     let count = fields::head::pending_count(book);
-    if count < 32 {
+    if count < MAXIMUM_PENDING {
         true
     } else {
-        state::entries::unlogged_count(book) < 32
+        state::entries::unlogged_count(book) < MAXIMUM_PENDING
     }
 }
 
 // Keeps an entry that is new to a sound book, if there is a place for it.
 fn submit_new(book: &mut [u8], entry: &[u8]) -> Answer
-    requires { ⌜ SoundBook (now book) ⌝ }
+    requires { ⌜ SoundBook sha (now book) ⌝ }
     requires { ⌜ length (now entry) ≡ 16 ⌝ }
-    requires { ⌜ (holds (now entry) (pending (decode (now book))) || holds (now entry) (log (decode (now book)))) ≡ false ⌝ }
+    requires { ⌜ isEntryKnown (decode (now book)) (now entry) ≡ false ⌝ }
     ensures answer { λ r. ⌜ doneAnswer r ≡ submitCall sha (now (book .entry)) (now (entry .entry)) .answer ⌝ }
     ensures book { λ _. ⌜ now (book .exit) ≡ submitCall sha (now (book .entry)) (now (entry .entry)) .book ⌝ }
 {
@@ -56,7 +58,7 @@ fn submit_new(book: &mut [u8], entry: &[u8]) -> Answer
 
 // An entry for a sound book.
 fn submit_sound(book: &mut [u8], entry: &[u8]) -> Answer
-    requires { ⌜ SoundBook (now book) ⌝ }
+    requires { ⌜ SoundBook sha (now book) ⌝ }
     ensures answer { λ r. ⌜ doneAnswer r ≡ submitCall sha (now (book .entry)) (now (entry .entry)) .answer ⌝ }
     ensures book { λ _. ⌜ now (book .exit) ≡ submitCall sha (now (book .entry)) (now (entry .entry)) .book ⌝ }
 {

@@ -17,6 +17,7 @@ use Rattle.protocol.specs.RowLaws.{row, row-passes}
 use Rattle.protocol.specs.ParentLaws.{largestFinalized-is}
 use Rattle.protocol.specs.SoundLaws.{sound-decode}
 use Rattle.protocol.specs.LogLaws.{log-few}
+use Rattle.protocol.specs.Block.{maximumHeights}
 use Rattle.replica_c.specs.Packing.{answeredHeight, answeredSize}
 
 module _ (digest : Bytes → Bytes) where
@@ -42,14 +43,14 @@ module _ (digest : Bytes → Bytes) where
         cond-elim Within (proposeApplies digest s) (λ e. running (row _ 0 e)) λ _.
         cond-elim Within (blockVoteApplies digest s) (λ e. running (row _ 0 e)) λ _. omega arith
 
-  pub move-height-low : (book reply : Bytes) → answeredHeight (moveCall digest book reply .answer) ≤ 63
+  pub move-height-low : (book reply : Bytes) → answeredHeight (moveCall digest book reply .answer) ≤ maximumHeights
   unfolding moveCall
   move-height-low book reply = go (firstRefusal (moveRows digest book reply)) is-sound
     where
       is-sound : firstRefusal (moveRows digest book reply) ≡ none → sound digest book ≡ true
       is-sound passes = unfold moveRows in row-passes _ _ passes .0
 
-      go : (r : Option ℕ) → (r ≡ none → sound digest book ≡ true) → answeredHeight (unlessMoveRefused r book reply (step digest (decode book)) .answer) ≤ 63
+      go : (r : Option ℕ) → (r ≡ none → sound digest book ≡ true) → answeredHeight (unlessMoveRefused r book reply (step digest (decode book)) .answer) ≤ maximumHeights
       go none e = unfold unlessMoveRefused moved answeredHeight in
           omega (arith, step-within (decode book), sound-decode digest book (e refl) .last-high)
       go (some number) e = unfold unlessMoveRefused answeredHeight in omega arith

@@ -30,6 +30,7 @@ use Rattle.protocol.specs.Move.{Step, firstStep, step, dummyVoteApplies, dummyV
 use Rattle.protocol.specs.Move.{passApplies, passesBy, passStep, proposeApplies, proposeStep}
 use Rattle.protocol.specs.Move.{blockVoteApplies, blockVoteStep, idleStep}
 use Rattle.protocol.specs.Move.{MoveOutcome, moved, unlessMoveRefused, moveRows, moveCall}
+use Rattle.protocol.specs.Block.{maximumHeights}
 use Rattle.answers.specs.MoveNumbers.{answerNumbers, moveCertificate, moveFinalize}
 use Rattle.replica_c.specs.Packing.{packedDone, packedDelivery, packedMove, packedSize}
 use Rattle.replica_c.specs.Packing.{passKinds, answeredHeight, answeredSize}
@@ -149,7 +150,7 @@ kinds (pass h certificate finalized) = (refl, certificate-kind-low certificate, 
 kinds (propose h) = (refl, omega arith, omega arith)
 kinds (voteBlock h) = (refl, omega arith, omega arith)
 
-move-read-back : (a : Answer Move) → Numbered a → answeredHeight a ≤ 63 → MoveRead (packedMove a) a
+move-read-back : (a : Answer Move) → Numbered a → answeredHeight a ≤ maximumHeights → MoveRead (packedMove a) a
 unfolding packedMove answeredHeight answerNumbers
 move-read-back (refused number) ok low =
     unfold unpackedRefusal unpackedMove unpackedHeight unpackedCertificate unpackedFinalize in

@@ -18,6 +18,7 @@ ghost use Rattle.protocol.specs.Signal.{signalCall};
 ghost use Rattle.protocol.specs.Submit.{submitCall};
 ghost use Rattle.protocol.specs.Fetch.{fetchCall};
 ghost use Rattle.protocol.specs.Read.{readPart, readBuffer, sizeCall};
+ghost use Rattle.protocol.specs.Block.{maximumHeights};
 ghost use Rattle.answers.specs.Answers.{doneAnswer, deliveredAnswer, certificateOf, movedAnswer, sizeAnswer};
 ghost use Rattle.replica_c.specs.Interface.{interfaceNumber};
 ghost use Rattle.replica_c.specs.Packing.{packedDone, packedDelivery, packedMove, packedSize, answeredHeight, answeredSize};
@@ -133,7 +134,7 @@ fn finalized_number(finalised: bool) -> usize
 
 // A move's place in document 01's list, its height and the kinds of a pass's frames, each at its place in the answer.
 fn move_number(number: usize, height: usize, kinds: usize) -> usize
-    requires { ⌜ (number < 8) × (height ≤ 63) × (kinds < 65536) ⌝ }
+    requires { ⌜ (number < 8) × (height ≤ maximumHeights) × (kinds < 65536) ⌝ }
     ensures { λ r. ⌜ r ≡ 256 * number + 65536 * height + 4294967296 * kinds ⌝ }
 {
     256 * number + 65536 * height + 4294967296 * kinds
@@ -141,7 +142,7 @@ fn move_number(number: usize, height: usize, kinds: usize) -> usize
 
 // The number for the answer of Move. No answer of Move names a height above 63 (specs/PackingLaws), so the sum fits.
 fn moved_number(answer: Moved) -> usize
-    requires { ⌜ answeredHeight (movedAnswer answer) ≤ 63 ⌝ }
+    requires { ⌜ answeredHeight (movedAnswer answer) ≤ maximumHeights ⌝ }
     ensures { λ r. ⌜ r ≡ packedMove (movedAnswer answer) ⌝ }
 {
     match answer {

@@ -9,7 +9,7 @@ use lib.ListN.{length, take, drop, length-append}
 use Rattle.protocol.specs.Bytes.{Bytes, part, same, join, holds, overFront}
 use Rattle.protocol.specs.BytesLaws.{put, length-part}
 use Rattle.protocol.specs.Block.{parentHeight, entryCount, entries}
-use Rattle.protocol.specs.State.{decode, at}
+use Rattle.protocol.specs.State.{maximumEntries}
 use Rattle.protocol.specs.Sound.{view}
 use Rattle.protocol.specs.View.{View, logAt}
 use Rattle.protocol.specs.FormedLaws.{Formed, formed}
@@ -18,22 +18,11 @@ use Rattle.protocol.specs.ChainLaws.{log-suc, log-length, log-bound}
 use Rattle.protocol.specs.PiecesLaws.{join-append}
 use Rattle.fields.proofs.Places.{cut-part}
 use Rattle.sha256.specs.Digest.{sha256}
-use Rattle.state.specs.Walkable.{Walkable, WalkableAs}
-use Rattle.fields.specs.Shown.{viewOf}
+use Rattle.state.specs.Walkable.{WalkableAs}
+use Rattle.fields.specs.Book.{viewOf}
 use Rattle.fields.specs.declared.kind.Kind.{Kind}
-use Rattle.fields.specs.declared.kind.Kind.the-variants.{Replica}
 use Rattle.protocol.specs.EntriesLaws.{log-start, entries-next, entries-done, entries-length, join-entries, holds-first, holds-next, holds-none, holds-back, holds-front}
 use Rattle.protocol.specs.FrontLaws.{front-join, front-none}
-
--- a replica's book is walkable as its kind
-pub replica-walkable : {book : Bytes} {h : ℕ} → Walkable book h → WalkableAs Replica book h
-unfolding decode
-replica-walkable w = record {
-  shown = record { sized = w .readable .sized; replicas = w .readable .replicas; heights = w .readable .heights };
-  high = w .high;
-  is-linked = w .is-linked;
-  formed = w .formed;
-}
 
 pub record Step (kind : Kind) (book : Bytes) (h : ℕ) (block : Bytes) : Type 0 where
   pub parent : WalkableAs kind book (parentHeight block)
@@ -59,7 +48,7 @@ walk-step {kind} {book} {h = suc i} w low e =
       log = log-suc sha256 (viewOf kind book) i (w .is-linked);
     })
 
-pub walk-few : {kind : Kind} {book : Bytes} {h : ℕ} → WalkableAs kind book h → length (logAt (viewOf kind book) h) ≤ 504
+pub walk-few : {kind : Kind} {book : Bytes} {h : ℕ} → WalkableAs kind book h → length (logAt (viewOf kind book) h) ≤ maximumEntries
 walk-few {kind} {book} {h} w =
     let bound = log-bound sha256 (viewOf kind book) (w .formed) h (w .is-linked) in
     let high = w .high in

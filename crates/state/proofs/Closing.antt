@@ -1,14 +1,14 @@
 -- The pool while it is closed up: the book says the same chain, and the entries of the places looked at that stay are in front.
 use Prim.Native.Nat.{ℕ, _*_, _≤_, _<_}
 use native.Mathlib.Omega.{arith}
-use mathlib.Core.Path.{_≡_, refl, sym, ap, subst, _∙_}
+use mathlib.Core.Path.{_≡_, sym, ap, subst, _∙_}
 use mathlib.Core.Bool.{true}
 use mathlib.Core.List.{List, [], _∷_, _++_}
 use lib.ListN.{length, take, length-take}
 use Rattle.protocol.specs.Bytes.{Bytes, part, pieces, without}
 use Rattle.protocol.specs.BytesLaws.{put}
 use Rattle.protocol.specs.Block.{blockWellFormed}
-use Rattle.protocol.specs.State.{State, decode, encode, last, pending, withPool, bookHeights}
+use Rattle.protocol.specs.State.{State, decode, encode, last, pending, withPool, bookHeights, maximumPending}
 use Rattle.protocol.specs.Sound.{view, log}
 use Rattle.protocol.specs.View.{View, linked, logAt}
 use Rattle.protocol.specs.Submit.{withPending, stillPending}
@@ -17,18 +17,14 @@ use Rattle.protocol.specs.StateLaws.{decode-encode}
 use Rattle.protocol.specs.PiecesLaws.{Sized as SizedBytes}
 use Rattle.protocol.specs.PoolLaws.{moved, moved-view, moved-last, moved-pending, moved-pieces, moved-shaped, moved-entry, moved-more, without-short}
 use Rattle.protocol.specs.EntriesLaws.{lacked-sized, pending-all}
-use Rattle.fields.specs.Ready.{Ready}
-use Rattle.fields.specs.ReadyLaws.{ready-state, ready-moved}
+use Rattle.fields.specs.Book.{Ready}
+use Rattle.fields.specs.BookLaws.{ready-state, ready-moved}
 use Rattle.sha256.specs.Digest.{sha256}
 use Rattle.state.specs.Walkable.{Walkable}
 
 -- the entries of the first `k` places that the log does not hold
 abbrev pub staying : State → ℕ → List Bytes
 staying s k = without (log s) (take k (pending s))
-
-moved-n : (s : State) (es : List Bytes) → moved s es .n ≡ s .n
-unfolding moved withPool
-moved-n s es = refl
 
 pub staying-few : (s : State) (k : ℕ) → length (staying s k) ≤ k
 staying-few s k =
@@ -40,7 +36,7 @@ pub staying-all : (s : State) (k : ℕ) → s .pendingCount ≤ k → staying s 
 unfolding stillPending
 staying-all s k h = ap (without (log s)) (pending-all s k h)
 
-module _ (book : Bytes) (r : Ready book) (few : decode book .pendingCount ≤ 32) (k : ℕ) (within : k ≤ 32) where
+module _ (book : Bytes) (r : Ready book) (few : decode book .pendingCount ≤ maximumPending) (k : ℕ) (within : k ≤ maximumPending) where
   abbrev es : List Bytes
   es = staying (decode book) k
 
@@ -50,7 +46,7 @@ module _ (book : Bytes) (r : Ready book) (few : decode book .pendingCount ≤ 32
   sized : Every (SizedBytes 16) es
   sized = lacked-sized (decode book) (log (decode book)) k pool-size few
 
-  fit : length es ≤ 32
+  fit : length es ≤ maximumPending
   fit = let short = staying-few (decode book) k in omega arith
 
   module _ (after : Bytes) (closed : after ≡ encode (moved (decode book) es)) where
@@ -64,12 +60,12 @@ module _ (book : Bytes) (r : Ready book) (few : decode book .pendingCount ≤ 32
     closed-view = ap view closed-state ∙ moved-view (decode book) es
 
     closed-heights : bookHeights after ≡ bookHeights book
-    closed-heights = sym (closed-ready .count) ∙ ap last closed-state ∙ moved-last (decode book) es ∙ r .count
+    closed-heights = sym (closed-ready .readable .sized .count) ∙ ap last closed-state ∙ moved-last (decode book) es ∙ r .readable .sized .count
 
     pub closed-length : length after ≡ length book
     closed-length =
-        let now = closed-ready .size in
-        let then = r .size in
+        let now = closed-ready .readable .sized .size in
+        let then = r .readable .sized .size in
         let same = closed-heights in
         omega arith
 
@@ -77,11 +73,8 @@ module _ (book : Bytes) (r : Ready book) (few : decode book .pendingCount ≤ 32
     closed-walk {h} w =
         let same = closed-heights in
         let high = w .high in
-        let heights = closed-ready .heights in
-        let n-same : decode after .n ≡ decode book .n = ap (λ (x : State). x .n) closed-state ∙ moved-n (decode book) es in
-        let n-few = w .readable .replicas in
         record {
-          readable = record { sized = closed-ready .sized; replicas = omega arith; heights = heights };
+          shown = closed-ready .readable;
           high = omega arith;
           is-linked = subst (λ (v : View). linked sha256 v h ≡ true) (sym closed-view) (w .is-linked);
           formed = subst (λ (v : View). (i : ℕ) → 1 ≤ i → v .hasBlock i ≡ true → blockWellFormed i (v .block i) ≡ true) (sym closed-view) (w .formed);
@@ -96,7 +89,7 @@ module _ (book : Bytes) (r : Ready book) (few : decode book .pendingCount ≤ 32
     closed-place =
         ap (λ (x : State). part (x .pool) (16 * k) 16) closed-state ∙ moved-entry (decode book) pool-size es sized k (staying-few (decode book) k)
 
-    pub closed-more : (kept : ℕ) {next : Bytes} {more : List Bytes} → kept ≡ length es → k < 32 →
+    pub closed-more : (kept : ℕ) {next : Bytes} {more : List Bytes} → kept ≡ length es → k < maximumPending →
         next ≡ encode (withPool (decode after) (decode after .pendingCount) (put (decode after .pool) (16 * kept) (part (decode after .pool) (16 * k) 16))) →
         more ≡ es ++ (part (decode book .pool) (16 * k) 16 ∷ []) → next ≡ encode (moved (decode book) more)
     closed-more kept count inside e m =

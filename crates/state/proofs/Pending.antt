@@ -9,7 +9,7 @@ use lib.ListN.{length, take, drop, length-append, length-drop}
 use Rattle.protocol.specs.Bytes.{Bytes, part, same, holds, overFront, without}
 use Rattle.protocol.specs.BytesLaws.{put, length-part}
 use Rattle.protocol.specs.Block.{newBlock}
-use Rattle.protocol.specs.State.{State, decode, pending}
+use Rattle.protocol.specs.State.{State, decode, pending, maximumPending}
 use Rattle.protocol.specs.Sound.{view, log}
 use Rattle.protocol.specs.View.{logAt}
 use Rattle.protocol.specs.Submit.{stillPending}
@@ -27,9 +27,9 @@ pub walk-at : {book : Bytes} {h k : ℕ} → Walkable book h → k ≡ h → Wal
 walk-at {book} w e = subst (λ (i : ℕ). Walkable book i) (sym e) w
 
 pub pool-length : {book : Bytes} {h : ℕ} → Walkable book h → length (decode book .pool) ≡ 512
-pool-length {book} w = decode-shaped book (w .readable .sized .size) .pool-size
+pool-length {book} w = decode-shaped book (w .shown .sized .size) .pool-size
 
-pub place-length : (pool : Bytes) (k : ℕ) {entry : Bytes} → length pool ≡ 512 → k < 32 → entry ≡ part pool (16 * k) 16 → length entry ≡ 16
+pub place-length : (pool : Bytes) (k : ℕ) {entry : Bytes} → length pool ≡ 512 → k < maximumPending → entry ≡ part pool (16 * k) 16 → length entry ≡ 16
 place-length pool k size few e = ap length e ∙ length-part pool (16 * k) 16 (omega arith)
 
 -- ---- one looked for

@@ -1,4 +1,4 @@
--- What is asked of a book by the functions of this crate, and what a memory says of a book.
+-- What a memory says of a book.
 use Prim.Native.Nat.{ℕ, zero, suc, _+_, _*_, _≤_, _<_}
 use mathlib.Core.Path.{_≡_}
 use mathlib.Core.Bool.{true, false, cond}
@@ -8,16 +8,9 @@ use Rattle.protocol.specs.Block.{maximumHeights}
 use Rattle.protocol.specs.State.{decode, bookHeights}
 use Rattle.protocol.specs.View.{View, linked, isDummy}
 use Rattle.protocol.specs.Sound.{view}
-use Rattle.fields.specs.Ready.{Sized}
-use Rattle.fields.specs.Shown.{viewOf}
+use Rattle.fields.specs.Book.{viewOf}
 use Rattle.fields.specs.declared.kind.Kind.{Kind}
 use Rattle.sha256.specs.Digest.{sha256}
-
--- a book of the right length with at most 16 replicas
-pub record Readable (book : Bytes) : Type 0 where
-  pub sized : Sized book
-  pub replicas : decode book .n ≤ 16
-  pub heights : bookHeights book ≤ 63
 
 -- the height below the run of dummies that ends at `h`: the dummy blocks of the heights after it up to `h` are notarized, its own is not
 unfoldable pub runStart : View → ℕ → ℕ

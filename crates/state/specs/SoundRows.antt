@@ -4,23 +4,24 @@ use mathlib.Core.Bool.{Bool, _||_}
 use mathlib.Core.List.{List, [], _∷_}
 use lib.ListN.{length}
 use lib.Dec.{eqb, leb, ltb}
-use Rattle.protocol.specs.Bytes.{Bytes, byteAt, part, isZero}
+use Rattle.protocol.specs.Bytes.{Bytes, part, isZero}
 use Rattle.protocol.specs.Tests.{allOf, implies, inRange, everyHeight}
 use Rattle.protocol.specs.Block.{maximumHeights}
-use Rattle.protocol.specs.State.{at, decode, bookSize, isNotarized, bookHeights}
+use Rattle.protocol.specs.State.{decode, bookSize, isNotarized, bookHeights, maximumReplicas, maximumPending}
 use Rattle.protocol.specs.View.{quorum, isFinalized}
-use Rattle.protocol.specs.Sound.{view, masksBelow, blocksWellFormed, contentZeros}
+use Rattle.protocol.specs.Sound.{masksBelow, blocksWellFormed, contentZeros}
+use Rattle.fields.specs.Book.{heightIn, bookView}
 
 -- what the numbers of the head must be
 unfoldable pub numberRows : Bytes → List Bool
 numberRows book =
-    inRange 1 16 (decode book .n) ∷
+    inRange 1 maximumReplicas (decode book .n) ∷
     ltb (decode book .own) (decode book .n) ∷
     inRange 1 maximumHeights (bookHeights book) ∷
     eqb (decode book .edition) 1 ∷
     inRange 1 (bookHeights book + 1) (decode book .current) ∷
     ltb (decode book .flags) 16 ∷
-    leb (decode book .pendingCount) 32 ∷ []
+    leb (decode book .pendingCount) maximumPending ∷ []
 
 -- what the length and the first 64 bytes must be
 unfoldable pub headRows : Bytes → List Bool
@@ -29,14 +30,18 @@ headRows book =
     allOf (numberRows book) ∷
     isZero (part book 8 56) ∷ []
 
+-- the notarized block of height `h`, if there is one, has the certificate of a quorum
+abbrev pub certificateRow : Bytes → ℕ → Bool
+certificateRow book h = implies (isNotarized (heightIn book h)) (quorum (bookView book) (heightIn book h .certificateMask))
+
 -- what height `h` must be
 unfoldable pub heightRows : Bytes → ℕ → List Bool
 heightRows book h =
-    ltb (at (decode book) h .leader) (decode book .n) ∷
-    masksBelow (decode book .n) (at (decode book) h) ∷
-    leb (at (decode book) h .status) 3 ∷
-    blocksWellFormed h (at (decode book) h) ∷
-    implies (isNotarized (at (decode book) h)) (quorum (view (decode book)) (at (decode book) h .certificateMask)) ∷
+    ltb (heightIn book h .leader) (decode book .n) ∷
+    masksBelow (decode book .n) (heightIn book h) ∷
+    leb (heightIn book h .status) 3 ∷
+    blocksWellFormed h (heightIn book h) ∷
+    certificateRow book h ∷
     isZero (contentZeros book h) ∷ []
 
 -- what all but the finalized height must be
@@ -45,4 +50,4 @@ bookRows book = allOf (headRows book) ∷ everyHeight (λ h. allOf (heightRows b
 
 -- the finalized height is 0 or finalized
 unfoldable pub finalRow : (Bytes → Bytes) → Bytes → Bool
-finalRow digest book = eqb (decode book .finalized) 0 || isFinalized digest (view (decode book)) (decode book .finalized)
+finalRow digest book = eqb (decode book .finalized) 0 || isFinalized digest (bookView book) (decode book .finalized)

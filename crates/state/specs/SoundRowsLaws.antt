@@ -13,8 +13,9 @@ use Rattle.protocol.specs.EveryLaws.{none, one}
 use Rattle.protocol.specs.TestsLaws.{and-true, both-ways}
 use Rattle.protocol.specs.RowLaws.{row, all-of, true-and, every-height-at, every-height, in-range, is-zero-byte, zeros-is-zero}
 use Rattle.protocol.specs.BytesLaws.{length-zeros}
-use Rattle.fields.specs.ReadyLaws.{sized}
-use Rattle.state.specs.Memo.{Readable, Memo, memorySize}
+use Rattle.fields.specs.BookLaws.{readable as make-readable}
+use Rattle.fields.specs.Book.{Readable}
+use Rattle.state.specs.Memo.{Memo, memorySize}
 use Rattle.state.specs.SoundRows.{numberRows, headRows, heightRows, finalRow}
 
 module _ (digest : Bytes → Bytes) (book : Bytes) where
@@ -78,12 +79,7 @@ unfolding headRows numberRows bookSize
 readable book e =
     let numbers : allOf (numberRows book) ≡ true = row _ 1 e in
     let size : length book ≡ 576 + 880 * bookHeights book = eqb-true _ _ (row _ 0 e) in
-    let few : bookHeights book ≤ 63 = in-range _ _ _ (row _ 2 numbers) .1 in
-    record {
-      sized = sized book size few;
-      replicas = in-range _ _ _ (row _ 0 numbers) .1;
-      heights = few;
-    }
+    make-readable book size (in-range _ _ _ (row _ 0 numbers) .1) (in-range _ _ _ (row _ 2 numbers) .1)
 
 -- zeros say nothing of any height
 pub zero-memo : (book known : Bytes) → Readable book → known ≡ zeros memorySize → Memo book known

@@ -7,13 +7,14 @@ ghost use lib.ListN.{length};
 ghost use Rattle.protocol.specs.Bytes.{join, holds, overFront};
 ghost use Rattle.protocol.specs.Block.{entryCount, entries};
 ghost use Rattle.protocol.specs.View.{logAt};
-ghost use Rattle.fields.specs.Shown.{viewOf};
+ghost use Rattle.protocol.specs.State.{maximumEntries};
+ghost use Rattle.fields.specs.Book.{viewOf};
 ghost use Rattle.state.specs.Walkable.{WalkableAs};
 
 // How many entries the chain that ends in height `h` has. Reads three bytes of each of its blocks, 63 at most.
 pub fn chain_entries(kind: Kind, book: &[u8], h: usize) -> usize
     requires { ⌜ WalkableAs kind (now book) h ⌝ }
-    ensures { λ r. ⌜ (r ≡ length (logAt (viewOf kind (now (book .entry))) h)) × (r ≤ 504) ⌝ }
+    ensures { λ r. ⌜ (r ≡ length (logAt (viewOf kind (now (book .entry))) h)) × (r ≤ maximumEntries) ⌝ }
 {
     let mut sum = 0;
     let mut at = h;
@@ -66,7 +67,8 @@ pub fn copy_chain(kind: Kind, book: &[u8], h: usize, count: usize, buffer: &mut 
     requires { ⌜ WalkableAs kind (now book) h ⌝ }
     requires { ⌜ count ≡ length (logAt (viewOf kind (now book)) h) ⌝ }
     requires { ⌜ 16 * count ≤ length (now buffer) ⌝ }
-    ensures { λ _. ⌜ now (buffer .exit) ≡ overFront (join (logAt (viewOf kind (now (book .entry))) h)) (now (buffer .entry)) ⌝ }
+    ensures { λ _. ⌜ now (buffer .exit) ≡
+        overFront (join (logAt (viewOf kind (now (book .entry))) h)) (now (buffer .entry)) ⌝ }
 {
     let mut end = count;
     let mut at = h;

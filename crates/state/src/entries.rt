@@ -4,20 +4,19 @@ ghost use mathlib.Core.Path.{_≡_};
 ghost use mathlib.Core.List.{[], _∷_, _++_};
 ghost use Prim.Native.Nat.{_*_, _<_, _≤_};
 ghost use lib.ListN.{length};
-ghost use Rattle.protocol.specs.Bytes.{byteAt, join, holds, overFront};
+ghost use Rattle.protocol.specs.Bytes.{join, holds, overFront};
 ghost use Rattle.protocol.specs.Block.{entries, newBlock};
-ghost use Rattle.protocol.specs.State.{decode, encode, pending};
-ghost use Rattle.protocol.specs.Sound.{view};
+ghost use Rattle.protocol.specs.State.{decode, pending, maximumPending, maximumEntries};
 ghost use Rattle.protocol.specs.View.{logAt};
 ghost use Rattle.protocol.specs.Move.{offered};
 ghost use Rattle.protocol.specs.Submit.{stillPending, withPending};
-ghost use Rattle.fields.specs.Ready.{Sized, Ready};
+ghost use Rattle.fields.specs.Book.{Readable, Ready, bookView, recoded};
 ghost use Rattle.state.specs.Walkable.{Walkable};
 
 // How many entries the chain that ends in height `h` has.
 pub fn chain_entries(book: &[u8], h: usize) -> usize
     requires { ⌜ Walkable (now book) h ⌝ }
-    ensures { λ r. ⌜ (r ≡ length (logAt (view (decode (now (book .entry)))) h)) × (r ≤ 504) ⌝ }
+    ensures { λ r. ⌜ (r ≡ length (logAt (bookView (now (book .entry))) h)) × (r ≤ maximumEntries) ⌝ }
 {
     crate::chains::chain_entries(Kind::Replica, book, h)
 }
@@ -25,7 +24,7 @@ pub fn chain_entries(book: &[u8], h: usize) -> usize
 // Whether the chain that ends in height `h` has this entry.
 pub fn chain_holds(book: &[u8], h: usize, entry: &[u8]) -> bool
     requires { ⌜ Walkable (now book) h ⌝ }
-    ensures { λ r. ⌜ r ≡ holds (now (entry .entry)) (logAt (view (decode (now (book .entry)))) h) ⌝ }
+    ensures { λ r. ⌜ r ≡ holds (now (entry .entry)) (logAt (bookView (now (book .entry))) h) ⌝ }
 {
     crate::chains::chain_holds(Kind::Replica, book, h, entry)
 }
@@ -33,9 +32,10 @@ pub fn chain_holds(book: &[u8], h: usize, entry: &[u8]) -> bool
 // Copies the `count` entries of the chain that ends in height `h` to the front of the buffer, oldest first.
 pub fn copy_chain(book: &[u8], h: usize, count: usize, buffer: &mut [u8])
     requires { ⌜ Walkable (now book) h ⌝ }
-    requires { ⌜ count ≡ length (logAt (view (decode (now book))) h) ⌝ }
+    requires { ⌜ count ≡ length (logAt (bookView (now book)) h) ⌝ }
     requires { ⌜ 16 * count ≤ length (now buffer) ⌝ }
-    ensures { λ _. ⌜ now (buffer .exit) ≡ overFront (join (logAt (view (decode (now (book .entry)))) h)) (now (buffer .entry)) ⌝ }
+    ensures { λ _. ⌜ now (buffer .exit) ≡
+        overFront (join (logAt (bookView (now (book .entry))) h)) (now (buffer .entry)) ⌝ }
 {
     crate::chains::copy_chain(Kind::Replica, book, h, count, buffer)
 }
@@ -44,9 +44,10 @@ pub fn copy_chain(book: &[u8], h: usize, count: usize, buffer: &mut [u8])
 // height `j` lacks, at the front of `block`. Walks that chain once for each pending entry, 32 times at most.
 pub fn offer(book: &[u8], c: usize, j: usize, digest: &[u8], block: &mut [u8])
     requires { ⌜ Walkable (now book) j ⌝ }
-    requires { ⌜ decode (now book) .pendingCount ≤ 32 ⌝ }
+    requires { ⌜ decode (now book) .pendingCount ≤ maximumPending ⌝ }
     requires { ⌜ (c < 65536) × (length (now digest) ≡ 32) × (176 ≤ length (now block)) ⌝ }
-    ensures { λ _. ⌜ now (block .exit) ≡ overFront (newBlock c j (now (digest .entry)) (offered (decode (now (book .entry))) j)) (now (block .entry)) ⌝ }
+    ensures { λ _. ⌜ now (block .exit) ≡
+        overFront (newBlock c j (now (digest .entry)) (offered (decode (now (book .entry))) j)) (now (block .entry)) ⌝ }
 {
     wire::block::start_block(block, c, j, digest);
     let count = fields::head::pending_count(book);
@@ -69,8 +70,8 @@ pub fn offer(book: &[u8], c: usize, j: usize, digest: &[u8], block: &mut [u8])
 // How many pending entries the log does not hold. Walks the log once for each of them, 32 times at most.
 pub fn unlogged_count(book: &[u8]) -> usize
     requires { ⌜ Walkable (now book) (decode (now book) .finalized) ⌝ }
-    requires { ⌜ decode (now book) .pendingCount ≤ 32 ⌝ }
-    ensures { λ r. ⌜ (r ≡ length (stillPending (decode (now (book .entry))))) × (r ≤ 32) ⌝ }
+    requires { ⌜ decode (now book) .pendingCount ≤ maximumPending ⌝ }
+    ensures { λ r. ⌜ (r ≡ length (stillPending (decode (now (book .entry))))) × (r ≤ maximumPending) ⌝ }
 {
     let finalized = fields::head::finalized(book);
     let count = fields::head::pending_count(book);
@@ -89,8 +90,8 @@ pub fn unlogged_count(book: &[u8]) -> usize
 
 // Whether this entry is pending. Compares at most 32 entries.
 pub fn is_pending(book: &[u8], entry: &[u8]) -> bool
-    requires { ⌜ Sized (now book) ⌝ }
-    requires { ⌜ decode (now book) .pendingCount ≤ 32 ⌝ }
+    requires { ⌜ Readable (now book) ⌝ }
+    requires { ⌜ decode (now book) .pendingCount ≤ maximumPending ⌝ }
     ensures { λ r. ⌜ r ≡ holds (now (entry .entry)) (pending (decode (now (book .entry)))) ⌝ }
 {
     let count = fields::head::pending_count(book);
@@ -110,9 +111,10 @@ pub fn is_pending(book: &[u8], entry: &[u8]) -> bool
 pub fn keep_unlogged(book: &mut [u8], entry: &[u8])
     requires { ⌜ Ready (now book) ⌝ }
     requires { ⌜ Walkable (now book) (decode (now book) .finalized) ⌝ }
-    requires { ⌜ (decode (now book) .pendingCount ≤ 32) × (length (stillPending (decode (now book))) < 32) ⌝ }
+    requires { ⌜ (decode (now book) .pendingCount ≤ maximumPending) × (length (stillPending (decode (now book))) < maximumPending) ⌝ }
     requires { ⌜ length (now entry) ≡ 16 ⌝ }
-    ensures { λ _. ⌜ now (book .exit) ≡ encode (withPending (decode (now (book .entry))) (stillPending (decode (now (book .entry))) ++ (now (entry .entry) ∷ []))) ⌝ }
+    ensures { λ _. ⌜ now (book .exit) ≡ recoded (now (book .entry)) (λ s.
+        withPending s (stillPending s ++ (now (entry .entry) ∷ []))) ⌝ }
 {
     let log_height = fields::head::finalized(book);
     let count = fields::head::pending_count(book);

@@ -10,8 +10,7 @@ ghost use Rattle.protocol.specs.Bytes.{same};
 ghost use Rattle.protocol.specs.Block.{parentDigest};
 ghost use Rattle.protocol.specs.State.{bookHeights};
 ghost use Rattle.protocol.specs.View.{digestAt, linked as isLinked, extends as doesExtend, isFinalized, largestFinalized, parentOf};
-ghost use Rattle.fields.specs.Ready.{Within};
-ghost use Rattle.fields.specs.Shown.{Shown, viewOf};
+ghost use Rattle.fields.specs.Book.{Within, Shown, viewOf};
 ghost use Rattle.state.specs.Memo.{MemoAs};
 ghost use Rattle.state.specs.Parent.{parentOption};
 

@@ -8,8 +8,7 @@ ghost use Rattle.sha256.specs.Digest.{sha256 as sha};
 ghost use Rattle.protocol.specs.Bytes.{part};
 ghost use Rattle.protocol.specs.State.{bookHeights};
 ghost use Rattle.protocol.specs.View.{dummyRun};
-ghost use Rattle.fields.specs.Ready.{Within};
-ghost use Rattle.fields.specs.Shown.{Shown, viewOf};
+ghost use Rattle.fields.specs.Book.{Within, Shown, viewOf};
 ghost use Rattle.state.specs.Memo.{MemoAs, runStart};
 
 // The size of a memory of the largest book.

@@ -1,5 +1,8 @@
 // Soundness of a book: one pass over its bytes, and one digest for each block of the finalized chain.
 use crate::memory::SIZE;
+use fields::bounds::MAXIMUM_HEIGHTS;
+use fields::bounds::MAXIMUM_PENDING;
+use fields::bounds::MAXIMUM_REPLICAS;
 use fields::height::holds_proposal;
 use fields::height::is_notarized;
 use fields::height::notarized;
@@ -16,12 +19,12 @@ ghost use Rattle.protocol.specs.Bytes.{zeros, isZero};
 ghost use Rattle.protocol.specs.BytesLaws.{AreBytes};
 ghost use Rattle.protocol.specs.Tests.{allOf, implies, everyHeight};
 ghost use Rattle.protocol.specs.Block.{blockWellFormed};
-ghost use Rattle.protocol.specs.State.{decode, at, isNotarized, bookHeights};
+ghost use Rattle.protocol.specs.State.{decode, at, bookHeights};
 ghost use Rattle.protocol.specs.View.{quorum};
-ghost use Rattle.protocol.specs.Sound.{view, masksBelow, contentZeros, sound as isSound};
-ghost use Rattle.fields.specs.Ready.{Within};
-ghost use Rattle.state.specs.Memo.{Readable, Memo, memorySize};
-ghost use Rattle.state.specs.SoundRows.{numberRows, headRows, heightRows, bookRows, finalRow};
+ghost use Rattle.protocol.specs.Sound.{masksBelow, contentZeros, sound as isSound};
+ghost use Rattle.fields.specs.Book.{Within, Readable, heightIn};
+ghost use Rattle.state.specs.Memo.{Memo, memorySize};
+ghost use Rattle.state.specs.SoundRows.{numberRows, headRows, certificateRow, heightRows, bookRows, finalRow};
 
 // Whether the numbers of the head are in their ranges.
 fn numbers_sound(book: &[u8]) -> bool
@@ -35,11 +38,12 @@ fn numbers_sound(book: &[u8]) -> bool
     let current = byte(book, 4);
     let pending = byte(book, 6);
     let edition = byte(book, 7);
-    let replicas = (1 <= n) & (n <= 16);
-    let length = (1 <= heights) & (heights <= 63);
+    let replicas = (1 <= n) & (n <= MAXIMUM_REPLICAS);
+    let length = (1 <= heights) & (heights <= MAXIMUM_HEIGHTS);
     let place = (1 <= current) & (current <= heights + 1);
     replicas
-        & ((own < n) & (length & ((edition == 1) & (place & ((flags < 16) & (pending <= 32))))))
+        & ((own < n)
+            & (length & ((edition == 1) & (place & ((flags < 16) & (pending <= MAXIMUM_PENDING))))))
 }
 
 // Whether the length is that of the heights, and the head as it must be.
@@ -60,7 +64,7 @@ fn head_sound(book: &[u8]) -> bool
 fn masks_sound(book: &[u8], h: usize) -> bool
     requires { ⌜ Readable (now book) ⌝ }
     requires { ⌜ Within (now book) h ⌝ }
-    ensures { λ r. ⌜ r ≡ masksBelow (decode (now (book .entry)) .n) (at (decode (now (book .entry))) h) ⌝ }
+    ensures { λ r. ⌜ r ≡ masksBelow (decode (now (book .entry)) .n) (heightIn (now (book .entry)) h) ⌝ }
 {
     let n = fields::head::replicas(book);
     let certificate = below(n, fields::height::certificate_mask(book, h));
@@ -85,7 +89,7 @@ fn block_sound(there: bool, block: &[u8], h: usize) -> bool
 fn certificate_sound(book: &[u8], h: usize) -> bool
     requires { ⌜ Readable (now book) ⌝ }
     requires { ⌜ Within (now book) h ⌝ }
-    ensures { λ r. ⌜ r ≡ implies (isNotarized (at (decode (now (book .entry))) h)) (quorum (view (decode (now (book .entry)))) (at (decode (now (book .entry))) h .certificateMask)) ⌝ }
+    ensures { λ r. ⌜ r ≡ certificateRow (now (book .entry)) h ⌝ }
 {
     if is_notarized(book, h) {
         fields::quorum::quorum(book, fields::height::certificate_mask(book, h))
@@ -123,7 +127,8 @@ fn height_sound(book: &[u8], h: usize) -> bool
 // Whether every height is as it must be. Looks at each once, and ends at the first that is not.
 fn heights_sound(book: &[u8]) -> bool
     requires { ⌜ Readable (now book) ⌝ }
-    ensures { λ r. ⌜ r ≡ everyHeight (λ h. allOf (heightRows (now (book .entry)) h)) (bookHeights (now (book .entry))) ⌝ }
+    ensures { λ r. ⌜ r ≡
+        everyHeight (λ h. allOf (heightRows (now (book .entry)) h)) (bookHeights (now (book .entry))) ⌝ }
 {
     let last = fields::head::heights(book);
     let mut h = 0;

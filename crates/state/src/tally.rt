@@ -3,18 +3,18 @@ ghost use mathlib.Core.Path.{_≡_};
 ghost use mathlib.Core.Bool.{_&&_};
 ghost use Prim.Native.Nat.{_<_};
 ghost use Rattle.protocol.specs.Bytes.{same};
-ghost use Rattle.protocol.specs.Mask.{inMask};
-ghost use Rattle.protocol.specs.State.{decode, at, voteOf};
+ghost use Rattle.protocol.specs.Mask.{inMask, maskLimit};
+ghost use Rattle.protocol.specs.State.{decode, at, voteOf, maximumReplicas};
 ghost use Rattle.protocol.specs.Deliver.{votersFor};
-ghost use Rattle.fields.specs.Ready.{Sized, Within};
-ghost use Rattle.state.specs.Memo.{Readable};
+ghost use Rattle.fields.specs.Book.{Readable, Within, heightIn};
 
 // Whether replica `s` is one of the voters and its kept vote is for this digest. Compares at most 32 bytes.
 fn votes_for(book: &[u8], h: usize, s: usize, voters: usize, digest: &[u8]) -> bool
-    requires { ⌜ Sized (now book) ⌝ }
+    requires { ⌜ Readable (now book) ⌝ }
     requires { ⌜ Within (now book) h ⌝ }
-    requires { ⌜ s < 16 ⌝ }
-    ensures { λ r. ⌜ r ≡ (inMask voters s && same (voteOf (at (decode (now (book .entry))) h) s) (now (digest .entry))) ⌝ }
+    requires { ⌜ s < maximumReplicas ⌝ }
+    ensures { λ r. ⌜ r ≡
+        (inMask voters s && same (voteOf (heightIn (now (book .entry)) h) s) (now (digest .entry))) ⌝ }
 {
     if fields::mask::in_mask(voters, s) {
         wire::bytes::same_bytes(fields::height::vote_digest(book, h, s), digest)
@@ -27,7 +27,9 @@ fn votes_for(book: &[u8], h: usize, s: usize, voters: usize, digest: &[u8]) -> b
 pub fn voters_for(book: &[u8], h: usize, digest: &[u8]) -> usize
     requires { ⌜ Readable (now book) ⌝ }
     requires { ⌜ Within (now book) h ⌝ }
-    ensures { λ r. ⌜ (r ≡ votersFor (at (decode (now (book .entry))) h) (now (digest .entry)) (decode (now (book .entry)) .n)) × (r < 65536) ⌝ }
+    ensures voters { λ r. ⌜ r ≡
+        votersFor (heightIn (now (book .entry)) h) (now (digest .entry)) (decode (now (book .entry)) .n) ⌝ }
+    ensures small { λ r. ⌜ r < maskLimit ⌝ }
 {
     let n = fields::head::replicas(book);
     let voters = fields::height::voter_mask(book, h);

@@ -2,6 +2,7 @@
 use Prim.Native.Nat.{_≤_}
 use mathlib.Core.Path.{sym, ap, subst, _∙_}
 use Rattle.protocol.specs.Answer.{Answer, Move}
+use Rattle.protocol.specs.Block.{maximumHeights}
 use Rattle.sha256.specs.Digest.{sha256}
 use Rattle.replica_c.specs.Packing.{packedMove, answeredHeight}
 use Rattle.replica_c.specs.PackingLaws.{move-height-low}
@@ -16,7 +17,7 @@ use Rattle.replica_c.proofs.moved_number.Reads as moved-number-reads
 moved-number-requires : tie.Need-moved-number-requires
 moved-number-requires c κs =
     let told = c .before .before .before .before .make-move in
-    subst (λ (a : Answer Move). answeredHeight a ≤ 63) (sym (told .ensures .0)) (move-height-low sha256 _ _)
+    subst (λ (a : Answer Move). answeredHeight a ≤ maximumHeights) (sym (told .ensures .0)) (move-height-low sha256 _ _)
 
 returns : tie.Need-returns
 returns c =

@@ -2,6 +2,7 @@
 use Prim.Native.Nat.{ℕ, _+_, _*_, _≤_}
 use mathlib.Core.Path.{_≡_, sym, ap, ap₂, subst, _∙_}
 use Rattle.protocol.specs.Answer.{moveNumber, moveHeight}
+use Rattle.protocol.specs.Block.{maximumHeights}
 use Rattle.answers.specs.Answers.{movedAnswer}
 use Rattle.answers.specs.declared.answer.Moved.{Moved}
 use Rattle.replica_c.specs.Packing.{packedMove, passKinds, answeredHeight}
@@ -15,8 +16,8 @@ use Rattle.replica_c.proofs.finalized_number.Reads as finalized-number-
 use Rattle.replica_c.proofs.move_number.Reads as move-number-reads
 
 -- the height that the required bound speaks of is the one that the case names
-low : {answer given : Moved} → answer ≡ given → answeredHeight (movedAnswer answer) ≤ 63 → answeredHeight (movedAnswer given) ≤ 63
-low e = subst (λ (a : Moved). answeredHeight (movedAnswer a) ≤ 63) e
+low : {answer given : Moved} → answer ≡ given → answeredHeight (movedAnswer answer) ≤ maximumHeights → answeredHeight (movedAnswer given) ≤ maximumHeights
+low e = subst (λ (a : Moved). answeredHeight (movedAnswer a) ≤ maximumHeights) e
 
 move-number-requires : tie.Need-move-number-requires
 unfolding answeredHeight moveHeight movedAnswer

@@ -12,16 +12,17 @@ use Rattle.delivery.specs.Refusal.{voteAgrees}
 use borrow.Author.Needs.{needs}
 use Rattle.delivery.proofs.clash.vote_agrees.Statement.{statement}
 use Rattle.delivery.proofs.clash.vote_agrees.Tie as tie
+use Rattle.fields.specs.BookLaws.{few-replicas}
 
 in-mask-requires : tie.Need-in-mask-requires
 in-mask-requires c κs =
     let start = c .before .before .before .before .before .before in
-    omega (arith, start .pre .read .signer-small (omega (arith, c .before .before .before .frame-kind .ensures .0)), start .pre .spot .readable .replicas)
+    omega (arith, start .pre .read .signer-small (omega (arith, c .before .before .before .frame-kind .ensures .0)), few-replicas _ (start .pre .spot .ready .readable))
 
 vote-digest-requires : tie.Need-vote-digest-requires
 vote-digest-requires c κs =
     let start = c .before .before .before .before .before .before .before in
-    (start .pre .spot .readable .sized, (start .pre .spot .within, omega (arith, start .pre .read .signer-small (omega (arith, c .before .before .before .before .frame-kind .ensures .0)), start .pre .spot .readable .replicas)))
+    (start .pre .spot .ready .readable, (start .pre .spot .within, omega (arith, start .pre .read .signer-small (omega (arith, c .before .before .before .before .frame-kind .ensures .0)), few-replicas _ (start .pre .spot .ready .readable))))
 
 returns : tie.Need-returns
 unfolding voteAgrees

@@ -12,6 +12,7 @@ use Rattle.delivery.specs.KindLaws.{kind-one, kind-two, kind-five, dummy
 use borrow.Author.Needs.{needs}
 use Rattle.delivery.proofs.keep.keep.Statement.{statement}
 use Rattle.delivery.proofs.keep.keep.Tie as tie
+use Rattle.fields.specs.BookLaws.{few-replicas}
 
 returns : tie.Need-returns
 returns c =
@@ -48,7 +49,7 @@ returns-3 c =
 frame-signers-requires : tie.Need-frame-signers-requires
 frame-signers-requires c κs =
     let start = c .before .before .before .before .before .before in
-    (start .pre .read .size, λ l. omega (arith, start .pre .read .signer-small l, start .pre .spot .readable .replicas))
+    (start .pre .read .size, λ l. omega (arith, start .pre .read .signer-small l, few-replicas _ (start .pre .spot .ready .readable)))
 
 returns-4 : tie.Need-returns-4
 returns-4 c =

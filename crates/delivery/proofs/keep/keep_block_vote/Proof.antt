@@ -13,13 +13,14 @@ use Rattle.delivery.specs.KeepLaws.{known-frame, new-frame, room, same-b
 use borrow.Author.Needs.{needs}
 use Rattle.delivery.proofs.keep.keep_block_vote.Statement.{statement}
 use Rattle.delivery.proofs.keep.keep_block_vote.Tie as tie
+use Rattle.fields.specs.BookLaws.{few-replicas}
 
 in-mask-requires : tie.Need-in-mask-requires
 in-mask-requires c κs =
     let start = c .before .before .before .before .before in
     let given = start .pre .0 in
     let signed = c .before .before .frame-signer .ensures .0 in
-    omega (arith, signed, start .pre .1, given .spot .readable .replicas)
+    omega (arith, signed, start .pre .1, few-replicas _ (given .spot .ready .readable))
 
 keep-vote-requires : tie.Need-keep-vote-requires
 keep-vote-requires c κs =
@@ -33,7 +34,7 @@ keep-vote-requires c κs =
     let here = c .before .before .before .before .before .before .frame-signer .result in
     let missing = sym (ap (λ (m : ℕ). inMask m here) held) ∙ sym (c .before .before .before .in-mask .ensures) ∙ c .before .before .if1 .left in
     let fits = room (decode book .n) (x .voterMask) here (omega (arith, signed, start .pre .1)) (given .range .voter-below) (given .range .mask-bound) missing in
-    (given .spot .ready, (given .spot .within, (omega (arith, signed, start .pre .1, given .spot .readable .replicas), (fits, c .frame-digest .ensures .1))))
+    (given .spot .ready, (given .spot .within, (omega (arith, signed, start .pre .1, few-replicas _ (given .spot .ready .readable)), (fits, c .frame-digest .ensures .1))))
 
 notarize-requires : tie.Need-notarize-requires
 notarize-requires c κs =
@@ -44,7 +45,7 @@ notarize-requires c κs =
     let x = at (decode book) h in
     let signed = c .before .before .before .before .before .before .before .before .before .before .frame-signer .ensures .0 in
     let here = c .before .before .before .before .before .before .before .before .before .before .frame-signer .result in
-    let fits = shaped-vote x here _ (omega (arith, signed, start .pre .1, given .spot .readable .replicas)) (c .before .before .before .before .frame-digest .ensures .1) (shaped-here book h (given .spot)) in
+    let fits = shaped-vote x here _ (omega (arith, signed, start .pre .1, few-replicas _ (given .spot .ready .readable))) (c .before .before .before .before .frame-digest .ensures .1) (shaped-here book h (given .spot)) in
     spot-after book h (given .spot) _ fits _ (c .before .before .before .keep-vote .ensures) (vote-status x _ _ (given .spot .status-small))
 
 returns : tie.Need-returns
@@ -72,7 +73,7 @@ returns-2 c =
     let missing = same-bit held signed (branch .before .in-mask .ensures) ∙ branch .if1 .left in
     let named = c .before .before .before .before .before .before .before .frame-digest .ensures in
     let here = branch .before .before .before .before .frame-signer .result in
-    let fits = shaped-vote x here _ (omega (arith, signed, start .pre .1, given .spot .readable .replicas)) (named .1) (shaped-here book h (given .spot)) in
+    let fits = shaped-vote x here _ (omega (arith, signed, start .pre .1, few-replicas _ (given .spot .ready .readable))) (named .1) (shaped-here book h (given .spot)) in
     let counted = notarized-after book h (given .spot) _ fits sha256 _ _ (c .before .before .before .before .before .before .keep-vote .ensures) (c .before .before .notarize .ensures) in
     new-frame book h _ _ _ missing
     (counted ∙ ap₂ (λ (k : ℕ) (digest : Bytes). encode (withHeight (decode book) h (notarize sha256 (view (decode book)) (withVote x k digest)))) signed (named .0))

@@ -2,14 +2,14 @@
 use mathlib.Core.Path.{_≡_, ap, _∙_}
 use Rattle.protocol.specs.Sound.{view}
 use Rattle.protocol.specs.View.{View}
-use Rattle.fields.proofs.Showing.{replica-sized, replica-view}
+use Rattle.fields.proofs.Showing.{replica-readable, replica-view}
 use Rattle.fields.proofs.kind.has_block.Statement.{statement}
 use Rattle.fields.proofs.kind.has_block.Tie as tie
 
 is-notarized-requires : tie.Need-is-notarized-requires
 is-notarized-requires c κs =
     let start = c .before in
-    (replica-sized (start .args .kind) (start .args .book .now) (start .pre .0 .sized), start .pre .1)
+    (replica-readable (start .args .kind) (start .args .book .now) (start .pre .0), start .pre .1)
 
 returns : tie.Need-returns
 unfolding view

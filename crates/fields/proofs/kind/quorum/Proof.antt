@@ -1,19 +1,14 @@
 -- `quorum` meets its contract.
-use Prim.Native.Nat.{ℕ, _≤_}
-use mathlib.Core.Path.{_≡_, ap, subst, _∙_}
-use Rattle.protocol.specs.FieldLaws.{read-n}
+use mathlib.Core.Path.{ap, _∙_}
 use Rattle.protocol.specs.View.{View, quorum as isQuorum}
-use Rattle.fields.proofs.Showing.{replica-sized, replica-view}
+use Rattle.fields.proofs.Showing.{replica-readable, replica-view}
 use Rattle.fields.proofs.kind.quorum.Statement.{statement}
 use Rattle.fields.proofs.kind.quorum.Tie as tie
 
 quorum-requires : tie.Need-quorum-requires
 quorum-requires c κs =
     let start = c .before in
-    let book = start .args .book .now in (
-      replica-sized (start .args .kind) book (start .pre .0 .sized),
-      (subst (λ (n : ℕ). n ≤ 16) (read-n book) (start .pre .0 .replicas), start .pre .1),
-    )
+    (replica-readable (start .args .kind) (start .args .book .now) (start .pre .0), start .pre .1)
 
 returns : tie.Need-returns
 returns c =

@@ -12,13 +12,13 @@ linked-requires : tie.Need-linked-requires
 linked-requires c κs =
     let start = c .before .before .before .before .before .before in
     let height = c .before .current in
-    (start .pre .0 .readable, (start .pre .1, current-high (start .args .book .now) (start .pre .0) (sym (c .before .before .before .is-running .ensures) ∙ c .before .before .if1 .taken) (height .result) (height .ensures .0)))
+    (start .pre .0 .ready .readable, (start .pre .1, current-high (start .args .book .now) (start .pre .0) (sym (c .before .before .before .is-running .ensures) ∙ c .before .before .if1 .taken) (height .result) (height .ensures .0)))
 
 is-dummy-requires : tie.Need-is-dummy-requires
 is-dummy-requires c κs =
     let start = c .before .before .before .before .before .before .before .before .before .before in
     let height = c .before .before .before .before .before .current in
-    (start .pre .0 .readable .sized, (start .pre .0 .readable .replicas, current-within (start .args .book .now) (start .pre .0) (sym (c .before .before .before .before .before .before .before .is-running .ensures) ∙ c .before .before .before .before .before .before .if1 .taken) (height .result) (height .ensures .0)))
+    (start .pre .0 .ready .readable, current-within (start .args .book .now) (start .pre .0) (sym (c .before .before .before .before .before .before .before .is-running .ensures) ∙ c .before .before .before .before .before .before .if1 .taken) (height .result) (height .ensures .0))
 
 returns : tie.Need-returns
 returns c =

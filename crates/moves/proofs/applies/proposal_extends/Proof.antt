@@ -3,7 +3,7 @@ use mathlib.Core.Path.{sym, ap, _∙_}
 use lib.ListN.{length}
 use Rattle.sha256.specs.Digest.{sha256}
 use Rattle.protocol.specs.State.{decode}
-use Rattle.fields.specs.Ready.{Within}
+use Rattle.fields.specs.Book.{Within}
 use Rattle.moves.specs.AppliesLaws.{held-extends, held-none}
 use Rattle.moves.specs.MovableLaws.{within-current, proposal-size}
 use borrow.Author.Needs.{needs}
@@ -16,7 +16,7 @@ extends-requires c κs =
     let book = start .args .book .now in
     let height = c .before .before .before .before .current in
     let inside : Within book (height .result) = within-current book (start .pre .0) (start .pre .1 .1) (height .result) (height .ensures .0) in
-    (start .pre .0 .readable, (start .pre .1 .0, (inside, ap length (c .before .proposal .ensures) ∙ proposal-size book (start .pre .0 .readable) (height .result) inside)))
+    (start .pre .0 .ready .readable, (start .pre .1 .0, (inside, ap length (c .before .proposal .ensures) ∙ proposal-size book (start .pre .0 .ready .readable) (height .result) inside)))
 
 returns : tie.Need-returns
 returns c =

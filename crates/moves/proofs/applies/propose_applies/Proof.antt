@@ -11,7 +11,7 @@ use Rattle.moves.proofs.applies.propose_applies.Tie as tie
 leader-requires : tie.Need-leader-requires
 leader-requires c κs =
     let start = c .before .before .before .before .before in
-    (start .pre .0 .readable .sized, current-within (start .args .book .now) (start .pre .0) (sym (c .before .before .is-running .ensures) ∙ c .before .if1 .taken) (c .current .result) (c .current .ensures .0))
+    (start .pre .0 .ready .readable, current-within (start .args .book .now) (start .pre .0) (sym (c .before .before .is-running .ensures) ∙ c .before .if1 .taken) (c .current .result) (c .current .ensures .0))
 
 returns : tie.Need-returns
 returns c =

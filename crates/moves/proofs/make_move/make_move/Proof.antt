@@ -4,7 +4,8 @@ use mathlib.Core.Path.{refl, sym, _∙_}
 use lib.ListN.{length}
 use borrow.Author.Tests.{le-leb, lt-leb}
 use Rattle.protocol.specs.Bytes.{zeros}
-use Rattle.moves.specs.MovableLaws.{movable}
+use Rattle.sha256.specs.Digest.{sha256}
+use Rattle.fields.specs.BookLaws.{sound-book}
 use Rattle.moves.specs.OrderLaws.{called, called-short, called-unsound}
 use borrow.Author.Needs.{needs}
 use Rattle.moves.proofs.make_move.make_move.Statement.{statement}
@@ -20,7 +21,7 @@ step-requires c κs =
     let book = start .args .book .now in
     let whether = c .before .before .before .before .before .before .sound in
     let yes = c .before .before .before .before .if1 .taken in
-    (movable book (λ i. omega (arith, c .before .before .before .before .before .before .before .before .before .before .slice-known .given i)) (sym (whether .ensures .0) ∙ yes), (whether .ensures .1 .0 yes, c .before .before .before .if2 .taken))
+    (sound-book sha256 book (λ i. omega (arith, c .before .before .before .before .before .before .before .before .before .before .slice-known .given i)) (sym (whether .ensures .0) ∙ yes), (whether .ensures .1 .0 yes, c .before .before .before .if2 .taken))
 
 returns : tie.Need-returns
 returns c =

@@ -12,7 +12,7 @@ linked-requires : tie.Need-linked-requires
 linked-requires c κs =
     let height = c .before .before .before .before in
     let start = height .before .before .before .before .before in
-    (start .pre .0 .readable, (start .pre .1 .0, omega (arith, height .current .ensures .0, start .pre .1 .1 .0)))
+    (start .pre .0 .ready .readable, (start .pre .1 .0, omega (arith, height .current .ensures .0, start .pre .1 .1 .0)))
 
 returns : tie.Need-returns
 returns c =
@@ -25,7 +25,7 @@ returns c =
     let height = settled .before .before in
     let start = height .before .before .before .before .before in
     let book = start .args .book .now in
-    took-pass book (start .pre .0 .readable) (within-current book (start .pre .0) (start .pre .1 .1 .0) (decode book .current) refl)
+    took-pass book (start .pre .0 .ready .readable) (within-current book (start .pre .0) (start .pre .1 .1 .0) (decode book .current) refl)
     (start .args .reply .now) (head .set-head .last .0) (certificate .write-pass-certificate .last .1 .0) (finalize .write-pass-finalize .last .1 .0)
     (height .current .result) (settled .finalized .result) (link .linked .result) (certificate .write-pass-certificate .result) (timer .in-time .result)
     (height .current .ensures .0) (settled .finalized .ensures .0) (link .linked .ensures .0) (timer .in-time .ensures)

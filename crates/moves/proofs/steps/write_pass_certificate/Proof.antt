@@ -17,7 +17,7 @@ write-block-certificate-requires c κs =
     let height = c .before .before .before .before .current in
     let inside = within-current book (start .pre .0) (start .pre .1 .0) (height .result) (height .ensures .0) in
     let room = start .pre .1 .1 in
-    (omega (arith, room), ((omega (arith, height .ensures .1), c .before .before .certificate-mask .ensures .1), ap length (c .notarized .ensures) ∙ notarized-size book (start .pre .0 .readable) (height .result) inside))
+    (omega (arith, room), ((omega (arith, height .ensures .1), c .before .before .certificate-mask .ensures .1), ap length (c .notarized .ensures) ∙ notarized-size book (start .pre .0 .ready .readable) (height .result) inside))
 
 returns : tie.Need-returns
 unfolding certificateOf

@@ -14,7 +14,7 @@ use Rattle.moves.proofs.steps.write_proposal.Tie as tie
 parent-digest-requires : tie.Need-parent-digest-requires
 parent-digest-requires c κs =
     let start = c .before .before .before .before .before .before in
-    (start .pre .0 .readable, (start .pre .1 .0, start .pre .1 .1 .0 .high))
+    (start .pre .0 .ready .readable, (start .pre .1 .0, start .pre .1 .1 .0 .high))
 
 offer-requires : tie.Need-offer-requires
 offer-requires c κs =
@@ -22,7 +22,7 @@ offer-requires c κs =
     let plain = c .before .before .before .before .write-plain in
     let room = start .pre .1 .1 .1 in
     let kept = plain .kept .0 in
-    (start .pre .1 .1 .0, (start .pre .0 .pending-few, (search needs, search needs, simp (length-take, length-drop) (omega arith))))
+    (start .pre .1 .1 .0, (start .pre .0 .state .pending-few, (search needs, search needs, simp (length-take, length-drop) (omega arith))))
 
 returns : tie.Need-returns
 returns c =

@@ -18,7 +18,7 @@ write-block-certificate-requires c κs =
       z .pre .1 .1 .1,
       (
         (small, c .before .before .before .mask-at .ensures .1),
-        ap length (c .before .notarized .ensures) ∙ notarized-size (z .args .book .now) (z .args .height) (z .pre .0 .readable .sized .size) (z .pre .1 .0),
+        ap length (c .before .notarized .ensures) ∙ notarized-size (z .args .book .now) (z .args .height) (z .pre .0 .sized .size) (z .pre .1 .0),
       ),
     )
 

@@ -9,6 +9,7 @@ use Rattle.replica.proofs.Numbers.{fitting, long-enough, not-long-enoug
 use borrow.Author.Needs.{needs}
 use Rattle.replica.proofs.open.open.Statement.{statement}
 use Rattle.replica.proofs.open.open.Tie as tie
+use Rattle.protocol.specs.Block.{maximumHeights}
 
 mul-if2 : tie.Need-mul-if2
 mul-if2 c =
@@ -27,7 +28,7 @@ new-book-requires c κs =
     let z = c .before .before .before .before .before .before in
     let fits = fitting (z .args .n) (z .args .own) (z .args .heights) (z .args .leaders .now) (sym (c .before .before .before .numbers-fit .ensures) ∙ c .before .before .if1 .taken) in
     let size : length (z .args .book .now) ≡ 576 + 880 * length (z .args .leaders .now) = omega arith in
-    let few : length (z .args .leaders .now) ≤ 63 = omega arith in
+    let few : length (z .args .leaders .now) ≤ maximumHeights = omega arith in
     (size, (few, (omega arith, omega arith)))
 
 returns : tie.Need-returns

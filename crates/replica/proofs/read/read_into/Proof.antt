@@ -3,14 +3,14 @@ use mathlib.Core.Path.{_≡_, sym, _∙_}
 use mathlib.Core.Bool.{false}
 use Rattle.sha256.specs.Digest.{sha256}
 use Rattle.protocol.specs.Sound.{sound}
-use Rattle.replica.specs.SoundBookLaws.{sound-book}
+use Rattle.fields.specs.BookLaws.{sound-book}
 use Rattle.replica.specs.ReadLaws.{read-unsound}
 use borrow.Author.Needs.{needs}
 use Rattle.replica.proofs.read.read_into.Statement.{statement}
 use Rattle.replica.proofs.read.read_into.Tie as tie
 
 read-sound-requires : tie.Need-read-sound-requires
-read-sound-requires c κs = sound-book _ (c .before .before .is-sound .ensures .1) (sym (c .before .before .is-sound .ensures .0) ∙ c .before .if1 .taken)
+read-sound-requires c κs = sound-book sha256 _ (c .before .before .is-sound .ensures .1) (sym (c .before .before .is-sound .ensures .0) ∙ c .before .if1 .taken)
 
 returns-2 : tie.Need-returns-2
 returns-2 c =

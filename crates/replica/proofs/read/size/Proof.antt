@@ -3,14 +3,14 @@ use mathlib.Core.Path.{_≡_, sym, _∙_}
 use mathlib.Core.Bool.{true, false}
 use Rattle.sha256.specs.Digest.{sha256}
 use Rattle.protocol.specs.Sound.{sound}
-use Rattle.replica.specs.SoundBookLaws.{sound-book}
+use Rattle.fields.specs.BookLaws.{sound-book}
 use Rattle.replica.specs.ReadLaws.{size-unsound, size-sound}
 use borrow.Author.Needs.{needs}
 use Rattle.replica.proofs.read.size.Statement.{statement}
 use Rattle.replica.proofs.read.size.Tie as tie
 
 log-count-requires : tie.Need-log-count-requires
-log-count-requires c κs = sound-book _ (c .before .is-sound .ensures .1) (sym (c .before .is-sound .ensures .0) ∙ c .if1 .taken)
+log-count-requires c κs = sound-book sha256 _ (c .before .is-sound .ensures .1) (sym (c .before .is-sound .ensures .0) ∙ c .if1 .taken)
 
 returns : tie.Need-returns
 returns c =

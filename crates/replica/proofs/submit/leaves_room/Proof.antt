@@ -11,7 +11,7 @@ use Rattle.replica.proofs.submit.leaves_room.Tie as tie
 unlogged-count-requires : tie.Need-unlogged-count-requires
 unlogged-count-requires c κs =
     let z = c .before .before .before in
-    (walkable (z .args .book .now) (decode (z .args .book .now) .finalized) (z .pre) refl, z .pre .pending)
+    (walkable (z .args .book .now) (decode (z .args .book .now) .finalized) (z .pre) refl, z .pre .state .pending-few)
 
 returns : tie.Need-returns
 returns c = let z = c .before .before .before in few-stay (decode (z .args .book .now)) (c .before .pending-count .result) (c .before .pending-count .ensures .0) (c .if1 .taken)

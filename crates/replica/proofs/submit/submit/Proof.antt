@@ -3,7 +3,7 @@ use mathlib.Core.Path.{_≡_, sym, _∙_}
 use mathlib.Core.Bool.{false}
 use Rattle.sha256.specs.Digest.{sha256}
 use Rattle.protocol.specs.Sound.{sound}
-use Rattle.replica.specs.SoundBookLaws.{sound-book}
+use Rattle.fields.specs.BookLaws.{sound-book}
 use Rattle.replica.specs.AnswerLaws.{outcome-refused}
 use Rattle.replica.specs.SubmitLaws.{submit-unsound}
 use borrow.Author.Needs.{needs}
@@ -11,7 +11,7 @@ use Rattle.replica.proofs.submit.submit.Statement.{statement}
 use Rattle.replica.proofs.submit.submit.Tie as tie
 
 submit-sound-requires : tie.Need-submit-sound-requires
-submit-sound-requires c κs = sound-book _ (c .before .before .is-sound .ensures .1) (sym (c .before .before .is-sound .ensures .0) ∙ c .before .if1 .taken)
+submit-sound-requires c κs = sound-book sha256 _ (c .before .before .is-sound .ensures .1) (sym (c .before .before .is-sound .ensures .0) ∙ c .before .if1 .taken)
 
 returns-2 : tie.Need-returns-2
 returns-2 c =

@@ -20,7 +20,7 @@ keep-unlogged-requires c κs =
     let z = c .before .before .before .before .before .before in
     let s = decode (z .args .book .now) in
     let few : length (stillPending s) < 32 = ltb-true (length (stillPending s)) 32 (sym (c .before .before .leaves-room .ensures) ∙ c .before .if1 .taken) in
-    (z .pre .0 .ready, (walkable (z .args .book .now) (s .finalized) (z .pre .0) refl, ((z .pre .0 .pending, few), z .pre .1 .0)))
+    (z .pre .0 .ready, (walkable (z .args .book .now) (s .finalized) (z .pre .0) refl, ((z .pre .0 .state .pending-few, few), z .pre .1 .0)))
 
 returns : tie.Need-returns
 returns c =

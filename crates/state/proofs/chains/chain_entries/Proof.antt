@@ -7,7 +7,7 @@ use Rattle.protocol.specs.State.{decode}
 use Rattle.protocol.specs.Sound.{view}
 use Rattle.protocol.specs.View.{logAt}
 use Rattle.state.specs.Walkable.{WalkableAs}
-use Rattle.fields.specs.Shown.{viewOf}
+use Rattle.fields.specs.Book.{viewOf}
 use Rattle.protocol.specs.EntriesLaws.{log-start}
 use Rattle.state.proofs.ChainWalk.{walk-step, walk-few, walk-parent, walk-count}
 use Rattle.state.proofs.chains.chain_entries.Statement.{statement}

@@ -6,7 +6,7 @@ use Rattle.protocol.specs.State.{decode}
 use Rattle.protocol.specs.Sound.{view}
 use Rattle.protocol.specs.View.{logAt}
 use Rattle.state.specs.Walkable.{WalkableAs}
-use Rattle.fields.specs.Shown.{viewOf}
+use Rattle.fields.specs.Book.{viewOf}
 use Rattle.protocol.specs.EntriesLaws.{log-start, holds-none}
 use Rattle.state.proofs.ChainWalk.{walk-step, walk-parent, walk-found, walk-on}
 use Rattle.state.proofs.chains.chain_holds.Statement.{statement}

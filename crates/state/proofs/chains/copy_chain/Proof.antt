@@ -9,7 +9,7 @@ use Rattle.protocol.specs.State.{decode}
 use Rattle.protocol.specs.Sound.{view}
 use Rattle.protocol.specs.View.{logAt}
 use Rattle.state.specs.Walkable.{WalkableAs}
-use Rattle.fields.specs.Shown.{viewOf}
+use Rattle.fields.specs.Book.{viewOf}
 use Rattle.state.proofs.ChainWalk.{walk-step, walk-parent, walk-count, piece-length, copy-more, copied-all}
 use Rattle.state.proofs.chains.copy_chain.Statement.{statement}
 use Rattle.state.proofs.chains.copy_chain.Tie as tie

@@ -6,12 +6,12 @@ use mathlib.Core.Bool.{Bool}
 use mathlib.Core.List.{List, [], _∷_, _++_}
 use lib.ListN.{length}
 use Rattle.protocol.specs.Bytes.{Bytes, part, holds, without}
-use Rattle.protocol.specs.State.{State, decode, encode}
+use Rattle.protocol.specs.State.{State, decode, encode, maximumPending}
 use Rattle.protocol.specs.Sound.{view, log}
 use Rattle.protocol.specs.View.{logAt}
 use Rattle.protocol.specs.PoolLaws.{moved, moved-none}
 use Rattle.protocol.specs.EntriesLaws.{place-leaves, place-stays}
-use Rattle.fields.specs.Ready.{Ready}
+use Rattle.fields.specs.Book.{Ready}
 use Rattle.state.proofs.Pending.{walk-at, one-more}
 use Rattle.state.proofs.Closing.{staying, staying-few, staying-all, closed-ready, closed-walk, closed-log, closed-place, closed-length, closed-more, closed-end}
 use Rattle.state.proofs.entries.keep_unlogged.Statement.{statement}
@@ -34,10 +34,10 @@ module _ (at : tie.At-loop Inv-loop μ-loop) where
   abbrev s : State
   s = decode book
 
-  few : s .pendingCount ≤ 32
+  few : s .pendingCount ≤ maximumPending
   few = start .pre .1 .1 .0 .0
 
-  within : at .loop .k ≤ 32
+  within : at .loop .k ≤ maximumPending
   within = let most = few in omega arith
 
   ready-now : Ready (at .loop .book)
@@ -53,17 +53,17 @@ module _ (at : tie.At-loop Inv-loop μ-loop) where
       e ∙ ap (holds entry) (closed-log book (start .pre .0) few (at .loop .k) within (at .loop .book) (at .loop .inv .2) (finalized .result) (finalized .ensures .0))
 
 finalized-requires : tie.Need-finalized-requires Inv-loop μ-loop
-finalized-requires c κs = c .before .before .before .pre .0 .sized
+finalized-requires c κs = c .before .before .before .pre .0 .readable
 
 pending-count-requires : tie.Need-pending-count-requires Inv-loop μ-loop
-pending-count-requires c κs = c .before .before .before .before .before .pre .0 .sized
+pending-count-requires c κs = c .before .before .before .before .before .pre .0 .readable
 
 loop-holds : tie.Need-loop-holds Inv-loop μ-loop
 unfolding without
 loop-holds c = (omega arith, refl, sym (ap encode (moved-none (decode (c .before .before .before .before .before .before .args .book .now))) ∙ c .before .before .before .before .before .before .pre .0 .whole))
 
 pending-entry-requires : tie.Need-pending-entry-requires Inv-loop μ-loop
-pending-entry-requires c κs = (ready-now (c .before .before) .sized, let most = few (c .before .before) in omega arith)
+pending-entry-requires c κs = (ready-now (c .before .before) .readable, let most = few (c .before .before) in omega arith)
 
 chain-holds-requires : tie.Need-chain-holds-requires Inv-loop μ-loop
 chain-holds-requires c κs =
@@ -123,7 +123,7 @@ finish-pool-requires c κs =
     let at = c .before .before in
     let over : s at .pendingCount ≤ at .loop .k = omega arith in
     let all = ap length (staying-all (s at) (at .loop .k) over) in
-    let count : at .loop .kept < 32 = omega (arith, start at .pre .1 .1 .0 .1) in
+    let count : at .loop .kept < maximumPending = omega (arith, start at .pre .1 .1 .0 .1) in
     (ready-now at, (count, start at .pre .1 .1 .1))
 
 same-length : tie.Need-same-length Inv-loop μ-loop

@@ -66,11 +66,11 @@ start-block-requires : tie.Need-start-block-requires Inv-loop μ-loop
 start-block-requires c κs =
     let w = c .before .before .before .before .pre .0 in
     let high = w .high in
-    let heights = w .readable .heights in
+    let heights = w .shown .heights in
     search needs
 
 pending-count-requires : tie.Need-pending-count-requires Inv-loop μ-loop
-pending-count-requires c κs = c .before .before .before .before .before .before .before .pre .0 .readable .sized
+pending-count-requires c κs = c .before .before .before .before .before .before .before .pre .0 .shown
 
 loop-holds : tie.Need-loop-holds Inv-loop μ-loop
 unfolding without
@@ -80,7 +80,7 @@ loop-holds c =
     (omega arith, refl, omega arith, begun-again (newBlock (args .c) (args .j) (args .digest .now) []) (args .block .now) (began .ensures))
 
 pending-entry-requires : tie.Need-pending-entry-requires Inv-loop μ-loop
-pending-entry-requires c κs = (c .before .before .before .before .before .before .before .before .before .before .pre .0 .readable .sized, omega arith)
+pending-entry-requires c κs = (c .before .before .before .before .before .before .before .before .before .before .pre .0 .shown, omega arith)
 
 same-length : tie.Need-same-length Inv-loop μ-loop
 same-length c = same-size (c .before .before .before)

@@ -19,17 +19,17 @@ abbrev μ-loop : tie.MeasureT-loop
 μ-loop book finalized count kept₀ k₀ kept k = count - k
 
 finalized-requires : tie.Need-finalized-requires Inv-loop μ-loop
-finalized-requires c κs = c .before .pre .0 .readable .sized
+finalized-requires c κs = c .before .pre .0 .shown
 
 pending-count-requires : tie.Need-pending-count-requires Inv-loop μ-loop
-pending-count-requires c κs = c .before .before .pre .0 .readable .sized
+pending-count-requires c κs = c .before .before .pre .0 .shown
 
 loop-holds : tie.Need-loop-holds Inv-loop μ-loop
 unfolding without
 loop-holds c = (omega arith, refl, omega arith)
 
 pending-entry-requires : tie.Need-pending-entry-requires Inv-loop μ-loop
-pending-entry-requires c κs = (c .before .before .before .before .before .pre .0 .readable .sized, omega arith)
+pending-entry-requires c κs = (c .before .before .before .before .before .pre .0 .shown, omega arith)
 
 chain-holds-requires : tie.Need-chain-holds-requires Inv-loop μ-loop
 chain-holds-requires c κs = walk-at (c .before .before .before .before .before .before .pre .0) (c .before .before .before .before .finalized .ensures .0)

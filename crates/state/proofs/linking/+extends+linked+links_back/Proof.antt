@@ -8,7 +8,7 @@ use borrow.Author.Tests.{lt-ltb, le-ltb}
 use Rattle.sha256.specs.Digest.{sha256}
 use Rattle.protocol.specs.Bytes.{Bytes}
 use Rattle.protocol.specs.View.{extends as extends-test}
-use Rattle.fields.specs.Shown.{viewOf}
+use Rattle.fields.specs.Book.{viewOf}
 use Rattle.state.proofs.Walk.{extends-by-digest, extends-not-run, extends-not-linked, extends-not-below, linked-start, linked-by-block, not-linked-without}
 use Rattle.state.proofs.Stores.{remember-linked, remember-unlinked}
 use borrow.Fn.Kinds.{In}

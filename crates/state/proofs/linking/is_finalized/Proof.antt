@@ -1,7 +1,7 @@
 -- `is_finalized` meets its contract: where the finalize mask is a quorum, a height is finalized if it is linked, and else it is not.
 use Prim.Native.Nat.{ℕ}
 use mathlib.Core.Path.{sym, ap, _∙_}
-use Rattle.fields.specs.Shown.{viewOf}
+use Rattle.fields.specs.Book.{viewOf}
 use Rattle.protocol.specs.View.{quorum}
 use Rattle.state.proofs.Walk.{finalized-by-link, not-finalized-without}
 use borrow.Author.Needs.{needs}

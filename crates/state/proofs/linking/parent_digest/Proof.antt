@@ -4,7 +4,7 @@ use native.Mathlib.Omega.{arith}
 use mathlib.Core.Path.{_∙_}
 use Rattle.protocol.specs.Bytes.{zeros}
 use Rattle.protocol.specs.BytesLaws.{length-zeros}
-use Rattle.fields.specs.Shown.{viewOf}
+use Rattle.fields.specs.Book.{viewOf}
 use Rattle.state.proofs.Walk.{digest-start, digest-copied}
 use borrow.Author.Needs.{needs}
 use Rattle.state.proofs.linking.parent_digest.Statement.{statement}

@@ -3,7 +3,7 @@ use native.Mathlib.Omega.{arith}
 use borrow.Author.Needs.{needs}
 use mathlib.Core.Path.{_≡_, sym, _∙_}
 use Rattle.protocol.specs.Bytes.{word16}
-use Rattle.fields.specs.Shown.{viewOf}
+use Rattle.fields.specs.Book.{viewOf}
 use Rattle.state.proofs.Stores.{start-zero, start-within, start-back, start-here, remember-run}
 use Prim.Native.Nat.{ℕ, _+_, _*_, _<_}
 use borrow.Fn.Kinds.{In}

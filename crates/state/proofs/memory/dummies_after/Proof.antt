@@ -2,7 +2,7 @@
 use Prim.Native.Nat.{ℕ}
 use mathlib.Core.Path.{ap, _∙_}
 use lib.Dec.{leb}
-use Rattle.fields.specs.Shown.{viewOf}
+use Rattle.fields.specs.Book.{viewOf}
 use Rattle.state.proofs.Stores.{run-none, run-is}
 use borrow.Author.Needs.{needs}
 use Rattle.state.proofs.memory.dummies_after.Statement.{statement}
