@@ -21,7 +21,7 @@ book =
     (opening 4 2 2 (0 ∷ 1 ∷ []) ∷ delivery (blockCertificate 1 7 first) ∷ delivery (finalizeCertificate 1 7) ∷
     delivery (dummyCertificate 2 7) ∷ moving (zeros 448) ∷ moving (zeros 448) ∷ [])
 
--- each call that is not refused on this book, and then one that is; a known frame; a buffer that is too short
+-- each call that is not refused on this book, and then one that is; a known frame; buffers that are too short
 calls : List Call
 calls =
     opening 3 1 2 (0 ∷ 1 ∷ []) ∷ opening 3 3 2 (0 ∷ 1 ∷ []) ∷
@@ -31,11 +31,11 @@ calls =
     submitting (replicate 16 2) ∷ submitting (replicate 16 1) ∷
     sizing ∷
     reading (zeros 17) ∷ reading (zeros 15) ∷
-    fetching 7 1 (zeros 224) ∷ fetching 7 2 (zeros 224) ∷ []
+    fetching 7 1 (zeros 224) ∷ fetching 7 1 (zeros 223) ∷ fetching 7 2 (zeros 224) ∷ []
 
 accepted : map (λ call. effect standIn book call .accepted) calls ≡
     true ∷ false ∷ true ∷ false ∷ true ∷ true ∷ false ∷ true ∷ false ∷ true ∷ false ∷ true ∷ true ∷ true ∷
-    true ∷ false ∷ []
+    true ∷ false ∷ false ∷ []
 unfolding tools first book calls
 accepted = refl
 
@@ -50,24 +50,24 @@ numbers none = []
 numbers (some opened) = opened .n ∷ opened .own ∷ []
 
 opens : map (λ call. numbers (effect standIn book call .opens)) calls ≡
-    (3 ∷ 1 ∷ []) ∷ [] ∷ [] ∷ [] ∷ [] ∷ [] ∷ [] ∷ [] ∷ [] ∷ [] ∷ [] ∷ [] ∷ [] ∷ [] ∷ [] ∷ [] ∷ []
+    (3 ∷ 1 ∷ []) ∷ [] ∷ [] ∷ [] ∷ [] ∷ [] ∷ [] ∷ [] ∷ [] ∷ [] ∷ [] ∷ [] ∷ [] ∷ [] ∷ [] ∷ [] ∷ [] ∷ []
 unfolding tools first book calls numbers
 opens = refl
 
 delivers : map (λ call. effect standIn book call .delivers) calls ≡
     [] ∷ [] ∷ (dummyVote 3 2 ∷ []) ∷ [] ∷ (dummyVote 0 2 ∷ []) ∷ [] ∷ [] ∷ [] ∷ [] ∷ [] ∷ [] ∷ [] ∷ [] ∷ [] ∷
-    [] ∷ [] ∷ []
+    [] ∷ [] ∷ [] ∷ []
 unfolding tools first book calls
 delivers = refl
 
 writes : map (λ call. effect standIn book call .writes) calls ≡
     [] ∷ [] ∷ [] ∷ [] ∷ [] ∷ (dummyCertificate 2 7 ∷ finalize 2 2 ∷ []) ∷ [] ∷ [] ∷ [] ∷ [] ∷ [] ∷ [] ∷ [] ∷ [] ∷
-    (finalizeCertificate 1 7 ∷ []) ∷ [] ∷ []
+    (finalizeCertificate 1 7 ∷ []) ∷ [] ∷ [] ∷ []
 unfolding tools first book calls
 writes = refl
 
 reads : map (λ call. effect standIn book call .reads) calls ≡
     none ∷ none ∷ none ∷ none ∷ none ∷ none ∷ none ∷ none ∷ none ∷ none ∷ none ∷ none ∷ some (replicate 16 1) ∷
-    some [] ∷ none ∷ none ∷ []
+    some [] ∷ none ∷ none ∷ none ∷ []
 unfolding tools first book calls
 reads = refl
