@@ -39,7 +39,7 @@ pub fn entry_count(block: &[u8]) -> usize
     byte(block, 4)
 }
 
-// Whether a block is as it must be at height `h`. Reads each of the 176 bytes at most twice, the fields first, and copies none.
+// Whether a block is as it must be at height `h`. Reads no byte more than three times, the fields first, and copies none.
 pub fn block_well_formed(block: &[u8], h: usize) -> bool
     ensures { λ r. ⌜ r ≡ blockWellFormed h (now (block .entry)) ⌝ }
 {

@@ -46,7 +46,7 @@ pub fn frame_mask(frame: &[u8]) -> usize
     word(frame, 4)
 }
 
-// Whether a frame is as its kind must be. Reads each of the 224 bytes at most twice, the fields first, and copies none.
+// Whether a frame is as its kind must be. Reads no byte more than three times, the fields first, and copies none.
 pub fn frame_well_formed(frame: &[u8]) -> bool
     ensures { λ r. ⌜ r ≡ frameWellFormed (now (frame .entry)) ⌝ }
 {

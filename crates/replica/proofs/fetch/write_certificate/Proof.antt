@@ -14,7 +14,7 @@ use Rattle.replica.proofs.fetch.write_certificate.Tie as tie
 write-block-certificate-requires : tie.Need-write-block-certificate-requires
 write-block-certificate-requires c κs =
     let z = c .before .before .before .before .before .before in
-    let small : z .args .height < 256 = omega arith in (
+    let small : z .args .height < 65536 = omega arith in (
       z .pre .1 .1 .1,
       (
         (small, c .before .before .before .mask-at .ensures .1),
