@@ -1,4 +1,4 @@
--- What is asked of a book: that it can be read, that it can be written, that it is sound. Each rung has the one before it.
+-- What is asked of a book: that it can be read, written, is sound. Each of these rungs has the one before it.
 use Prim.Native.Nat.{ℕ, _+_, _*_, _≤_}
 use mathlib.Core.Path.{_≡_}
 use mathlib.Core.Bool.{true}

@@ -35,7 +35,7 @@ pub record State : Type 0 where
   pub pool : Bytes
   pub heights : List Height
 
--- ---- bounds: how many replicas and pending entries a book has at most, and how many entries a chain; its heights: `maximumHeights`
+-- ---- bounds of replicas, of pending entries and of the entries of a chain; that of heights is `maximumHeights`
 abbrev pub maximumReplicas : ℕ
 maximumReplicas = 16
 
@@ -167,7 +167,8 @@ renewedIn edition s flags current finalized pendingCount pool heights = record {
 
 -- all that a call may change is given anew
 abbrev pub renewed : State → (flags current finalized pendingCount : ℕ) → Bytes → List Height → State
-renewed s flags current finalized pendingCount pool heights = renewedIn (s .edition) s flags current finalized pendingCount pool heights
+renewed s flags current finalized pendingCount pool heights =
+    renewedIn (s .edition) s flags current finalized pendingCount pool heights
 
 -- the same state in a book of another edition
 unfoldable pub withEdition : ℕ → State → State

@@ -13,12 +13,12 @@ use Rattle.replica.proofs.fetch.fetch_at.Tie as tie
 has-certificate-requires : tie.Need-has-certificate-requires
 has-certificate-requires c κs =
     let z = c .before .before .before in
-    (z .pre .0, (z .pre .1 .0, certificate-range (z .args .kind) (z .pre .1 .1)))
+    (z .pre .0 .ready .readable, (z .pre .1 .0, certificate-range (z .args .kind) (z .pre .1 .1)))
 
 write-certificate-requires : tie.Need-write-certificate-requires
 write-certificate-requires c κs =
     let z = c .before .before .before .before .before .before in
-    (z .pre .0, (z .pre .1 .0, (certificate-range (z .args .kind) (z .pre .1 .1), c .before .before .before .if1 .taken)))
+    (z .pre .0 .ready .readable, (z .pre .1 .0, (certificate-range (z .args .kind) (z .pre .1 .1), c .before .before .before .if1 .taken)))
 
 returns : tie.Need-returns
 returns c =
