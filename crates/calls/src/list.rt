@@ -1,5 +1,5 @@
-// A list, line by line. The buffers that it names have places of 65536 bytes each in two memories, one for the books and one for
-// what else is lent; a name that is given bytes has them in both.
+// A list, line by line. A buffer that it names has one of sixteen places: its name stands there in the table, its size sixteen
+// further on, and its bytes, 65536 at most, in two memories, one for the books and one for what else is lent.
 use crate::literal::literal;
 use crate::made::made;
 use crate::operands;
@@ -12,55 +12,41 @@ use lines::print::text;
 ghost use Prim.Native.Nat.{_≤_};
 
 // Takes a free place for a name that is given and has none.
-fn enter(call: Call, names: &mut [usize], name: usize) {
+fn enter(call: Call, table: &mut [usize], name: usize) {
     let Call::Give = call else {
         return;
     };
-    let Value::Nothing = operands::slot(names, name) else {
+    let Value::Nothing = operands::slot(table, name) else {
         return;
     };
-    let Value::Is(k) = operands::slot(names, 0) else {
+    let Value::Is(k) = operands::slot(table, 0) else {
         return;
     };
-    if k < names.len() {
-        names[k] = name;
-    }
-}
-
-// The place of the second buffer of a call; of one that is lent none, the place of its book.
-fn second(call: Call, values: [usize; 5]) -> usize {
-    match call {
-        Call::Fetch => values[3],
-        Call::Move | Call::Read => values[1],
-        _ => values[0],
-    }
-}
-
-// How many bytes the literal of a call has.
-fn literal_size(call: Call, values: [usize; 5]) -> usize {
-    match call {
-        Call::Open => values[4],
-        Call::Deliver | Call::Submit => values[1],
-        _ => 0,
+    if k < table.len() {
+        table[k] = name;
     }
 }
 
 // How many bytes the buffer at a place has.
-fn size_at(sizes: &[usize], k: usize) -> usize
+fn size_at(table: &[usize], k: usize) -> usize
     ensures { λ r. ⌜ r ≤ 65536 ⌝ }
 {
-    if k < sizes.len() {
-        let size = sizes[k];
-        if size <= 65536 {
-            return size;
-        }
+    if table.len() < 32 {
+        return 0;
+    }
+    if 16 <= k {
+        return 0;
+    }
+    let size = table[16 + k];
+    if size <= 65536 {
+        return size;
     }
     0
 }
 
 // The bytes of the buffer at a place; none where there is no such place.
-fn buffer<'a>(memory: &'a mut [u8], sizes: &[usize], k: usize) -> &'a mut [u8] {
-    let size = size_at(sizes, k);
+fn buffer<'a>(memory: &'a mut [u8], table: &[usize], k: usize) -> &'a mut [u8] {
+    let size = size_at(table, k);
     if k < memory.len() / 65536 {
         let from = 65536 * k;
         let to = from + size;
@@ -73,57 +59,54 @@ fn buffer<'a>(memory: &'a mut [u8], sizes: &[usize], k: usize) -> &'a mut [u8] {
 // Gives the bytes of a literal to the buffer at a place.
 fn give(
     bytes: &[u8],
-    values: [usize; 5],
+    values: [usize; 10],
     books: &mut [u8],
     replies: &mut [u8],
-    sizes: &mut [usize],
+    table: &mut [usize],
 ) {
-    let k = values[0];
-    if k < sizes.len() {
-        sizes[k] = values[1];
-        literal(bytes, buffer(books, sizes, k));
-        literal(bytes, buffer(replies, sizes, k));
+    let k = values[1];
+    if table.len() < 32 {
+        return;
+    }
+    if k < 16 {
+        table[16 + k] = values[6];
+        literal(bytes, buffer(books, table, k));
+        literal(bytes, buffer(replies, table, k));
     }
 }
 
 // Makes a call on the buffers at the places that its words name.
 fn lend(
     call: Call,
-    values: [usize; 5],
+    values: [usize; 10],
     bytes: &[u8],
     books: &mut [u8],
     replies: &mut [u8],
-    sizes: &[usize],
+    table: &[usize],
 ) {
-    let size = literal_size(call, values);
+    let size = values[6];
     if size <= bytes.len() {
-        let book = buffer(books, sizes, values[0]);
-        let reply = buffer(replies, sizes, second(call, values));
+        let book = buffer(books, table, values[1]);
+        let reply = buffer(replies, table, values[5]);
         made(call, values, &bytes[0..size], book, reply);
     }
 }
 
 // Does what a line says. Answers the number of the first word that does not fit, counted from 1, or 0.
-fn make(
-    line: &[u8],
-    books: &mut [u8],
-    replies: &mut [u8],
-    names: &mut [usize],
-    sizes: &mut [usize],
-) -> usize {
-    let call = operands::named(word(line, 0));
+fn make(line: &[u8], books: &mut [u8], replies: &mut [u8], table: &mut [usize]) -> usize {
+    let call = operands::named(name(word(line, 0)));
     let mut bytes = io::large_buffer();
-    let mut values = [0usize; 5];
-    enter(call, names, name(word(line, 1)));
-    let wrong = operands::read(call, line, names, &mut bytes, &mut values);
+    let mut values = [0usize; 10];
+    enter(call, table, name(word(line, 1)));
+    let wrong = operands::read(call, line, table, &mut bytes, &mut values);
     if 0 < wrong {
         return wrong;
     }
     if let Call::Give = call {
-        give(word(line, 2), values, books, replies, sizes);
+        give(word(line, 2), values, books, replies, table);
         return 0;
     }
-    lend(call, values, &bytes, books, replies, sizes);
+    lend(call, values, &bytes, books, replies, table);
     0
 }
 
@@ -154,8 +137,7 @@ fn play_line(
     number: usize,
     books: &mut [u8],
     replies: &mut [u8],
-    names: &mut [usize],
-    sizes: &mut [usize],
+    table: &mut [usize],
 ) {
     if is_remark(line) {
         text(line);
@@ -164,7 +146,7 @@ fn play_line(
     }
     let call = call_text(line);
     text(call);
-    let wrong = make(call, books, replies, names, sizes);
+    let wrong = make(call, books, replies, table);
     if 0 < wrong {
         lines::print::word(b"\nline", number);
         lines::print::word(b", word", wrong);
@@ -174,18 +156,12 @@ fn play_line(
 }
 
 // Plays the whole list.
-pub fn play(
-    list: &[u8],
-    books: &mut [u8],
-    replies: &mut [u8],
-    names: &mut [usize],
-    sizes: &mut [usize],
-) {
+pub fn play(list: &[u8], books: &mut [u8], replies: &mut [u8], table: &mut [usize]) {
     let mut at = 0;
     let mut number = 1;
     while at < list.len() {
         let end = find(list, at, b'\n');
-        play_line(&list[at..end], number, books, replies, names, sizes);
+        play_line(&list[at..end], number, books, replies, table);
         at = end + 1;
         number += 1;
     }

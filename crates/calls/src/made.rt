@@ -15,23 +15,23 @@ fn read(book: &[u8], buffer: &mut [u8]) {
     answered::part(part.len());
 }
 
-// The call alone.
-fn answer(call: Call, values: [usize; 5], bytes: &[u8], book: &mut [u8], reply: &mut [u8]) {
+// The call alone, with its words at their digits (`operands::shape`).
+fn answer(call: Call, values: [usize; 10], bytes: &[u8], book: &mut [u8], reply: &mut [u8]) {
     match call {
         Call::Open => answered::done(replica::open::open(
             book,
-            values[1],
             values[2],
             values[3],
+            values[4],
             bytes,
         )),
         Call::Deliver => answered::delivered(replica::deliver::deliver(book, bytes)),
         Call::Move => answered::moved(replica::make_move::make_move(book, reply)),
-        Call::Signal => answered::done(replica::signal::signal(book, values[1])),
+        Call::Signal => answered::done(replica::signal::signal(book, values[2])),
         Call::Submit => answered::done(replica::submit::submit(book, bytes)),
         Call::Size => answered::size(replica::read::size(book)),
         Call::Read => read(book, reply),
-        Call::Fetch => answered::done(replica::fetch::fetch(book, values[1], values[2], reply)),
+        Call::Fetch => answered::done(replica::fetch::fetch(book, values[2], values[3], reply)),
         Call::Give => {}
         Call::Unknown => {}
     }
@@ -46,7 +46,7 @@ fn lends(call: Call) -> bool {
 }
 
 // The call and what stands behind it in a recorded list.
-pub fn made(call: Call, values: [usize; 5], bytes: &[u8], book: &mut [u8], reply: &mut [u8]) {
+pub fn made(call: Call, values: [usize; 10], bytes: &[u8], book: &mut [u8], reply: &mut [u8]) {
     text(b" = ");
     answer(call, values, bytes, book, reply);
     digest(book);

@@ -16,15 +16,8 @@ fn main() {
     let size = io::read_full(libc::STDIN_FILENO, &mut text);
     let mut books = memory();
     let mut replies = memory();
-    let mut names = [0usize; 16];
-    let mut sizes = [0usize; 16];
-    list::play(
-        &text[..size],
-        &mut books,
-        &mut replies,
-        &mut names,
-        &mut sizes,
-    );
+    let mut table = [0usize; 32];
+    list::play(&text[..size], &mut books, &mut replies, &mut table);
     if 1048576 <= size {
         lines::print::text(b"the list has 1048576 bytes or more, and was read no further\n");
     }

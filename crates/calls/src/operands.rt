@@ -1,4 +1,4 @@
-// The calls by name, and the words behind the name: `b` for a buffer that has been given, `n` for a number, `x` for bytes.
+// The calls by name, and what the words behind the name stand for.
 use crate::literal::literal;
 use crate::words::Value;
 use crate::words::name;
@@ -18,43 +18,43 @@ pub enum Call {
     Unknown,
 }
 
-// The call of this name.
-pub fn named(verb: &[u8]) -> Call {
-    if check::same(verb, b"give") {
-        return Call::Give;
+// The call of a name, whose letters are the bytes of the number (`words::name`).
+pub fn named(name: usize) -> Call {
+    match name {
+        // give, open, deliver
+        0x6769_7665 => Call::Give,
+        0x6f70_656e => Call::Open,
+        0x64_656c_6976_6572 => Call::Deliver,
+        // move, signal, submit
+        0x6d6f_7665 => Call::Move,
+        0x7369_676e_616c => Call::Signal,
+        0x7375_626d_6974 => Call::Submit,
+        // size, read, fetch
+        0x7369_7a65 => Call::Size,
+        0x7265_6164 => Call::Read,
+        0x66_6574_6368 => Call::Fetch,
+        _ => Call::Unknown,
     }
-    if check::same(verb, b"open") {
-        return Call::Open;
-    }
-    if check::same(verb, b"deliver") {
-        return Call::Deliver;
-    }
-    if check::same(verb, b"move") {
-        return Call::Move;
-    }
-    if check::same(verb, b"signal") {
-        return Call::Signal;
-    }
-    if check::same(verb, b"submit") {
-        return Call::Submit;
-    }
-    if check::same(verb, b"size") {
-        return Call::Size;
-    }
-    if check::same(verb, b"read") {
-        return Call::Read;
-    }
-    if check::same(verb, b"fetch") {
-        return Call::Fetch;
-    }
-    Call::Unknown
 }
 
-// The place of a name in the table; 0 stands at free places.
-pub fn slot(names: &[usize], name: usize) -> Value {
+// The words behind the name, a digit each, from the last digit on: 1 the book, 2 to 4 numbers, 5 the second buffer, 6 bytes.
+fn shape(call: Call) -> usize {
+    match call {
+        Call::Open => 64321,
+        Call::Give | Call::Deliver | Call::Submit => 61,
+        Call::Move | Call::Read => 51,
+        Call::Signal => 21,
+        Call::Size => 1,
+        Call::Fetch => 5321,
+        Call::Unknown => 0,
+    }
+}
+
+// The place of a name in the table, which has sixteen names; 0 stands for no name.
+pub fn slot(table: &[usize], name: usize) -> Value {
     let mut k = 0;
-    while k < names.len() {
-        if names[k] == name {
+    while k < 16 && k < table.len() {
+        if table[k] == name {
             return Value::Is(k);
         }
         k += 1;
@@ -63,55 +63,43 @@ pub fn slot(names: &[usize], name: usize) -> Value {
 }
 
 // What one word stands for: the place of a buffer, a number, or how many bytes were put at the front of `out`.
-fn operand(kind: u8, word: &[u8], names: &[usize], out: &mut [u8]) -> Value {
-    if word.len() == 0 || (kind == b'b' && 8 < word.len()) {
+fn operand(kind: usize, word: &[u8], table: &[usize], out: &mut [u8]) -> Value {
+    if word.len() == 0 {
         return Value::Nothing;
     }
     match kind {
-        b'n' => number(word),
-        b'x' => literal(word, out),
-        _ => slot(names, name(word)),
+        2 | 3 | 4 => number(word),
+        6 => literal(word, out),
+        _ => if word.len() <= 8 {
+            slot(table, name(word))
+        } else {
+            Value::Nothing
+        },
     }
 }
 
-// What the words behind the name stand for. Answers the number of the first word that does not fit, counted from 1, or 0.
-fn operands(
-    line: &[u8],
-    kinds: &[u8],
-    names: &[usize],
-    out: &mut [u8],
-    values: &mut [usize; 5],
-) -> usize {
-    let mut k = 0;
-    while k < 5 && k < kinds.len() {
-        match operand(kinds[k], word(line, k + 1), names, out) {
-            Value::Is(value) => values[k] = value,
-            Value::Nothing => return k + 2,
-        }
-        k += 1;
-    }
-    if word(line, k + 1).len() == 0 {
-        0
-    } else {
-        k + 2
-    }
-}
-
-// The same with the words that this call takes.
+// What the words behind the name stand for, each at its digit in `values`. Answers the number of the first word that does not fit,
+// counted from 1, or 0.
 pub fn read(
     call: Call,
     line: &[u8],
-    names: &[usize],
+    table: &[usize],
     out: &mut [u8],
-    values: &mut [usize; 5],
+    values: &mut [usize; 10],
 ) -> usize {
-    match call {
-        Call::Open => operands(line, b"bnnnx", names, out, values),
-        Call::Give | Call::Deliver | Call::Submit => operands(line, b"bx", names, out, values),
-        Call::Move | Call::Read => operands(line, b"bb", names, out, values),
-        Call::Signal => operands(line, b"bn", names, out, values),
-        Call::Size => operands(line, b"b", names, out, values),
-        Call::Fetch => operands(line, b"bnnb", names, out, values),
-        Call::Unknown => 1,
+    let mut left = shape(call);
+    let mut k = 1;
+    if left == 0 {
+        return 1;
     }
+    while k < 6 && left > 0 {
+        let kind = left % 10;
+        match operand(kind, word(line, k), table, out) {
+            Value::Is(value) => values[kind] = value,
+            Value::Nothing => return k + 1,
+        }
+        left = left / 10;
+        k += 1;
+    }
+    if word(line, k).len() == 0 { 0 } else { k + 1 }
 }

@@ -89,7 +89,7 @@ pub fn number(word: &[u8]) -> Value {
     }
 }
 
-// A name of up to eight letters as one number, which is not 0.
+// The last eight letters of a word as one number, which is not 0.
 pub fn name(word: &[u8]) -> usize {
     let mut name: usize = 0;
     let mut i = 0;

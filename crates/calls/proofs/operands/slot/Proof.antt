@@ -1,15 +1,14 @@
--- `slot` is safe and ends: `k` counts up to the number of places.
+-- `slot` is safe and ends: `k` counts up to 16 at most.
 use Prim.Native.Nat.{_≤_, _-_}
-use lib.ListN.{length}
 use borrow.Author.Needs.{needs}
 use Rattle.calls.proofs.operands.slot.Statement.{statement}
 use Rattle.calls.proofs.operands.slot.Tie as tie
 
 abbrev Inv-loop : tie.InvT-loop
-Inv-loop names name k₀ k = k ≤ length names
+Inv-loop table name k₀ k = k ≤ 16
 
 abbrev μ-loop : tie.MeasureT-loop
-μ-loop names name k₀ k = length names - k
+μ-loop table name k₀ k = 16 - k
 
 pub slot-spec : {M : Type 1} → statement M
 slot-spec =
@@ -17,6 +16,7 @@ slot-spec =
     (tie.spec
     Inv-loop
     μ-loop
+    (λ c. search needs)
     (λ c. search needs)
     (λ c. search needs)
     (λ c. search needs)
