@@ -1,15 +1,8 @@
 // Read, and the buffer around the part that it returns: the program lends the middle of an array of dots, prints the
 // part, and, once it is done with the part, looks at the whole array. It reads a register that fits, one that is too
 // long for what is lent, and a book that is not sound.
-use libc::STDOUT_FILENO;
-
-fn wide(x: usize) -> u64 {
-    x as u64
-}
-
-fn text(words: &[u8]) {
-    io::write_all(STDOUT_FILENO, words);
-}
+use lines::print::text;
+use lines::print::word;
 
 // The book after one more move of its replica, which is delivered what it wrote: zero bytes are refused.
 fn moved(before: [u8; 1456]) -> [u8; 1456] {
@@ -49,8 +42,7 @@ fn reading(what: &[u8], book: [u8; 1456], size: usize) {
     if size <= 24 {
         let end = 4 + size;
         let part = replica::read::read(&book, &mut array[4..end]);
-        text(b": part of ");
-        io::print_decimal(STDOUT_FILENO, wide(part.len()));
+        word(b": part of", part.len());
         text(b" \"");
         text(part);
         text(b"\"");

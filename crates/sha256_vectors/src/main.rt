@@ -1,33 +1,26 @@
 // Digests of known messages, a line each: the message's name or its number of bytes, and the digest.
 // The file stdout beside src/ has the digests that sha256sum gives: tests/sha256-expected wrote it.
-use libc::STDOUT_FILENO;
+use lines::print::hex;
+use lines::print::number;
+use lines::print::text;
 
 // The rest of a line: a space, the digest of the message in hexadecimal, and the line's end.
 fn end_line(message: &[u8]) {
-    let digest = sha256::sha256(message);
-    io::write_all(STDOUT_FILENO, b" ");
-    let mut i = 0;
-    while i < 32 {
-        io::print_hex(STDOUT_FILENO, wide(digest[i]), 2);
-        i += 1;
-    }
-    io::write_all(STDOUT_FILENO, b"\n");
-}
-
-fn wide(x: u8) -> u64 {
-    x as u64
+    text(b" ");
+    hex(&sha256::sha256(message));
+    text(b"\n");
 }
 
 fn named(name: &[u8], message: &[u8]) {
-    io::write_all(STDOUT_FILENO, name);
+    text(name);
     end_line(message);
 }
 
 // The first `size` of the bytes.
 fn counted(bytes: &[u8], size: usize) {
     if size <= bytes.len() {
-        io::print_decimal(STDOUT_FILENO, size as u64);
-        end_line(&bytes[..size]);
+        number(size);
+        end_line(&bytes[0..size]);
     }
 }
 

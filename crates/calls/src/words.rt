@@ -1,0 +1,101 @@
+// The words of a line, which single blanks divide, and the numbers that they stand for.
+ghost use Prim.Native.Nat.{_<_, _≤_};
+ghost use lib.ListN.{length};
+
+// What a word stands for, or that it stands for nothing.
+pub enum Value {
+    Is(usize),
+    Nothing,
+}
+
+// The first place from `from` on that has this byte, or the end.
+pub fn find(text: &[u8], from: usize, byte: u8) -> usize
+    requires { ⌜ from ≤ length (now text) ⌝ }
+    ensures { λ r. ⌜ (from ≤ r) × (r ≤ length (now (text .entry))) ⌝ }
+{
+    let mut at = from;
+    while at < text.len() && text[at] != byte {
+        at += 1;
+    }
+    at
+}
+
+// The place behind the first such byte from `from` on, or the end.
+fn behind(text: &[u8], from: usize, byte: u8) -> usize
+    requires { ⌜ from ≤ length (now text) ⌝ }
+    ensures { λ r. ⌜ (from ≤ r) × (r ≤ length (now (text .entry))) ⌝ }
+{
+    let end = find(text, from, byte);
+    if end < text.len() { end + 1 } else { end }
+}
+
+// Word `k` of a line, counted from 0; no bytes where there is none.
+pub fn word(line: &[u8], k: usize) -> &[u8] {
+    let mut at = 0;
+    let mut left = k;
+    while left > 0 {
+        at = behind(line, at, b' ');
+        left -= 1;
+    }
+    let end = find(line, at, b' ');
+    &line[at..end]
+}
+
+fn wide(byte: u8) -> usize
+    ensures { λ r. ⌜ r < 256 ⌝ }
+{
+    byte as usize
+}
+
+// The value of a hexadecimal digit, or 16.
+pub fn digit(byte: u8) -> usize
+    ensures { λ r. ⌜ r ≤ 16 ⌝ }
+{
+    let value = wide(byte);
+    if value < 48 {
+        return 16;
+    }
+    if value <= 57 {
+        return value - 48;
+    }
+    if value < 97 {
+        return 16;
+    }
+    if value <= 102 {
+        return value - 87;
+    }
+    16
+}
+
+// The number that a word of decimal digits stands for.
+pub fn number(word: &[u8]) -> Value {
+    let mut value: usize = 0;
+    let mut i = 0;
+    while i < word.len() {
+        let next = digit(word[i]);
+        if 9 < next {
+            return Value::Nothing;
+        }
+        if (18446744073709551615 - next) / 10 < value {
+            return Value::Nothing;
+        }
+        value = 10 * value + next;
+        i += 1;
+    }
+    if i == 0 {
+        Value::Nothing
+    } else {
+        Value::Is(value)
+    }
+}
+
+// The last eight letters of a word as one number, which is not 0.
+pub fn name(word: &[u8]) -> usize {
+    let mut name: usize = 0;
+    let mut i = 0;
+    while i < word.len() {
+        name = name % 72057594037927936 * 256 + wide(word[i]);
+        i += 1;
+    }
+    name
+}
