@@ -1,13 +1,13 @@
 // The rehearsal of document 01: one replica of four stations, number 2, with three heights led by 0, 1 and 2. It reads frames
 // from standard input, delivers each (a short last one too), and then moves until idle; its own frames are not fed back.
-mod lines;
+mod printed;
 
 use answers::answer::Moved;
 
 // Moves until idle and prints a line for each move. A season of three heights has no more than six moves in a row.
 fn move_until_idle(book: &mut [u8], reply: &mut [u8]) {
     let mut turns: u64 = 1000;
-    while turns > 0 && lines::moved(replica::make_move::make_move(book, reply)) {
+    while turns > 0 && printed::moved(replica::make_move::make_move(book, reply)) {
         turns -= 1;
     }
 }
@@ -20,11 +20,11 @@ fn next_frame(book: &mut [u8], reply: &mut [u8]) -> bool {
         return false;
     }
     if got < 224 {
-        lines::delivered(replica::deliver::deliver(book, &frame[..got]), &frame);
+        printed::delivered(replica::deliver::deliver(book, &frame[..got]), &frame);
         move_until_idle(book, reply);
         return false;
     }
-    lines::delivered(replica::deliver::deliver(book, &frame), &frame);
+    printed::delivered(replica::deliver::deliver(book, &frame), &frame);
     move_until_idle(book, reply);
     true
 }
