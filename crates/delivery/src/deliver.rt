@@ -50,7 +50,7 @@ pub fn deliver(book: &mut [u8], frame: &[u8]) -> Delivered
     ensures answer { λ r. ⌜ deliveredAnswer r ≡ deliverCall sha256 (now (book .entry)) (now (frame .entry)) .answer ⌝ }
     ensures book { λ _. ⌜ now (book .exit) ≡ deliverCall sha256 (now (book .entry)) (now (frame .entry)) .book ⌝ }
 {
-    if state::sound::is_sound(book) {
+    if soundness::is_sound(book) {
         deliver_sound(book, frame)
     } else {
         Delivered::Refused(1)

@@ -4,7 +4,7 @@ use fields::height::is_notarized;
 use fields::height::proposal;
 use fields::keep::notarize_held;
 use fields::quorum::quorum;
-use state::tally::voters_for;
+use tally::voters_for;
 ghost use mathlib.Core.Path.{_≡_};
 ghost use mathlib.Core.Bool.{_&&_, not};
 ghost use Rattle.sha256.specs.Digest.{sha256 as sha};

@@ -43,23 +43,23 @@ use Rattle.agreement.specs.AgreementLaws.{agreement}
 use Rattle.agreement.specs.AnyDigest.{AnyDigest}
 use Rattle.agreement.specs.AnyDigestLaws.{any-digest}
 use Rattle.agreement.specs.Turns.{nextBlock}
-use Rattle.conduct.specs.Refusals.{Refuses}
-use Rattle.conduct.specs.RefusalsLaws.{open-refuses, deliver-refuses, move-refuses, signal-refuses, submit-refuses, size-refuses, fetch-refuses}
-use Rattle.conduct.specs.BookBytes.{openedBook, Signals, Submits, headOf}
-use Rattle.conduct.specs.BookBytesLaws.{open-bytes, signal-bytes, submit-bytes, move-bytes}
-use Rattle.conduct.specs.Keeping.{Keeps, AllTallied}
-use Rattle.conduct.specs.KeepingLaws.{deliver-keeps}
-use Rattle.conduct.specs.KeepsExactLaws.{keeps-exact}
-use Rattle.conduct.specs.SoundKept.{sound-kept, sound-opened}
-use Rattle.conduct.specs.Tallying.{tallied-kept-all, tallied-opened}
-use Rattle.conduct.specs.Readable.{SameSetting}
-use Rattle.conduct.specs.WrittenRead.{MoveWritten, move-written-read, FetchWritten, fetch-written-read}
-use Rattle.simplex.specs.Steps.{FiveSteps}
-use Rattle.simplex.specs.StepsLaws.{five-steps}
-use Rattle.simplex.specs.Idle.{IdlesJustThen, MovesEnd}
-use Rattle.simplex.specs.IdleLaws.{idles-just-then, moves-end}
-use Rattle.simplex.specs.Register.{ReadsChain, CannotRead}
-use Rattle.simplex.specs.RegisterLaws.{reads-chain, reads-nothing}
+use Rattle.call_laws.specs.Refusals.{Refuses}
+use Rattle.call_laws.specs.RefusalsLaws.{open-refuses, deliver-refuses, move-refuses, signal-refuses, submit-refuses, size-refuses, fetch-refuses}
+use Rattle.call_laws.specs.BookBytes.{openedBook, Signals, Submits, headOf}
+use Rattle.call_laws.specs.BookBytesLaws.{open-bytes, signal-bytes, submit-bytes, move-bytes}
+use Rattle.call_laws.specs.Keeping.{Keeps, AllTallied}
+use Rattle.call_laws.specs.KeepingLaws.{deliver-keeps}
+use Rattle.call_laws.specs.KeepsExactLaws.{keeps-exact}
+use Rattle.call_laws.specs.SoundKept.{sound-kept, sound-opened}
+use Rattle.call_laws.specs.Tallying.{tallied-kept-all, tallied-opened}
+use Rattle.call_laws.specs.Readable.{SameSetting}
+use Rattle.call_laws.specs.WrittenRead.{MoveWritten, move-written-read, FetchWritten, fetch-written-read}
+use Rattle.paper.specs.Steps.{FiveSteps}
+use Rattle.paper.specs.StepsLaws.{five-steps}
+use Rattle.paper.specs.Idle.{IdlesJustThen, MovesEnd}
+use Rattle.paper.specs.IdleLaws.{idles-just-then, moves-end}
+use Rattle.paper.specs.Register.{ReadsChain, CannotRead}
+use Rattle.paper.specs.RegisterLaws.{reads-chain, reads-nothing}
 
 -- ---- demand 1: refusals
 -- each call is refused by the number of its first row that fails, if one does, and then no byte lent to it changes

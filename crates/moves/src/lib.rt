@@ -1,4 +1,2 @@
-// Move: which of the five moves apply, and what each writes and changes.
-pub mod applies;
+// Move: the first of the five moves that applies is made.
 pub mod make_move;
-pub mod steps;

@@ -1,24 +1,24 @@
 // Move: the first of the five moves that applies is made, and the call says which.
-use crate::applies::block_vote_applies;
-use crate::applies::dummy_vote_applies;
-use crate::applies::new_finalized;
-use crate::applies::pass_applies;
-use crate::applies::propose_applies;
-use crate::steps::cast_block_vote;
-use crate::steps::cast_dummy_vote;
-use crate::steps::pass;
-use crate::steps::propose;
-use crate::steps::settle;
 use answers::answer::Moved;
+use applies::block_vote_applies;
+use applies::dummy_vote_applies;
+use applies::new_finalized;
+use applies::pass_applies;
+use applies::propose_applies;
+use steps::cast_block_vote;
+use steps::cast_dummy_vote;
+use steps::pass;
+use steps::propose;
+use steps::settle;
 ghost use mathlib.Core.Path.{_≡_};
 ghost use Prim.Native.Nat.{_≤_};
 ghost use lib.ListN.{length};
 ghost use Rattle.sha256.specs.Digest.{sha256 as sha};
 ghost use Rattle.protocol.specs.State.{decode};
 ghost use Rattle.protocol.specs.Move.{step as firstMove, moveCall};
-ghost use Rattle.state.specs.Memo.{Memo};
+ghost use Rattle.linking.specs.Memo.{Memo};
 ghost use Rattle.answers.specs.Answers.{movedAnswer};
-ghost use Rattle.moves.specs.Movable.{Took};
+ghost use Rattle.applies.specs.Movable.{Took};
 ghost use Rattle.moves.specs.Later.{laterStep};
 ghost use Rattle.fields.specs.Book.{SoundBook};
 
@@ -67,8 +67,8 @@ pub fn make_move(book: &mut [u8], reply: &mut [u8]) -> Moved
     ensures book { λ _. ⌜ now (book .exit) ≡ moveCall sha (now (book .entry)) (now (reply .entry)) .book ⌝ }
     ensures reply { λ _. ⌜ now (reply .exit) ≡ moveCall sha (now (book .entry)) (now (reply .entry)) .reply ⌝ }
 {
-    let mut known = [0u8; state::memory::SIZE];
-    if state::sound::sound(book, &mut known) {
+    let mut known = [0u8; linking::memory::SIZE];
+    if soundness::sound(book, &mut known) {
         if 448 <= reply.len() {
             step(book, reply, &mut known)
         } else {

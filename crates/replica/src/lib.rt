@@ -3,7 +3,6 @@ pub mod deliver;
 pub mod fetch;
 pub mod make_move;
 pub mod open;
-mod range;
 pub mod read;
 pub mod signal;
 pub mod submit;

@@ -1,49 +1,20 @@
 // Register size and Read: the log of a sound book, by length and by bytes.
 use answers::answer::Size;
 ghost use mathlib.Core.Path.{_≡_};
-ghost use Prim.Native.Nat.{_≤_};
 ghost use lib.ListN.{length};
 ghost use Rattle.sha256.specs.Digest.{sha256 as sha};
-ghost use Rattle.protocol.specs.State.{decode, maximumEntries};
-ghost use Rattle.protocol.specs.Sound.{log};
 ghost use Rattle.protocol.specs.Read.{sizeCall, readPart, readBuffer};
 ghost use Rattle.answers.specs.Answers.{sizeAnswer};
-ghost use Rattle.fields.specs.Book.{SoundBook};
-
-// How many entries the log of a sound book has. Reads two bytes of each of its blocks, 63 at most.
-fn log_count(book: &[u8]) -> usize
-    requires { ⌜ SoundBook sha (now book) ⌝ }
-    ensures { λ r. ⌜ (r ≡ length (log (decode (now (book .entry))))) × (r ≤ maximumEntries) ⌝ }
-{
-    let finalized = fields::head::finalized(book);
-    state::entries::chain_entries(book, finalized)
-}
 
 // The length of the log in bytes. Reads the book once to see that it is sound.
 pub fn size(book: &[u8]) -> Size
     ensures { λ r. ⌜ sizeAnswer r ≡ sizeCall sha (now (book .entry)) ⌝ }
 {
-    if state::sound::is_sound(book) {
-        let count = log_count(book);
+    if soundness::is_sound(book) {
+        let count = log_calls::read::log_count(book);
         Size::Bytes(16 * count)
     } else {
         Size::Refused(1)
-    }
-}
-
-// Copies the log of a sound book to the front of the buffer, if the buffer is long enough, and says how many bytes it wrote.
-fn read_sound(book: &[u8], buffer: &mut [u8]) -> usize
-    requires { ⌜ SoundBook sha (now book) ⌝ }
-    ensures length { λ r. ⌜ r ≡ length (readPart sha (now (book .entry)) (now (buffer .entry))) ⌝ }
-    ensures buffer { λ _. ⌜ now (buffer .exit) ≡ readBuffer sha (now (book .entry)) (now (buffer .entry)) ⌝ }
-{
-    let finalized = fields::head::finalized(book);
-    let count = log_count(book);
-    if 16 * count <= buffer.len() {
-        state::entries::copy_chain(book, finalized, count, buffer);
-        16 * count
-    } else {
-        0
     }
 }
 
@@ -53,8 +24,8 @@ pub fn read_into(book: &[u8], buffer: &mut [u8]) -> usize
     ensures length { λ r. ⌜ r ≡ length (readPart sha (now (book .entry)) (now (buffer .entry))) ⌝ }
     ensures buffer { λ _. ⌜ now (buffer .exit) ≡ readBuffer sha (now (book .entry)) (now (buffer .entry)) ⌝ }
 {
-    if state::sound::is_sound(book) {
-        read_sound(book, buffer)
+    if soundness::is_sound(book) {
+        log_calls::read::read_sound(book, buffer)
     } else {
         0
     }

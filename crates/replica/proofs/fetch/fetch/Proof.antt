@@ -4,8 +4,8 @@ use mathlib.Core.Bool.{false}
 use Rattle.sha256.specs.Digest.{sha256}
 use Rattle.protocol.specs.Sound.{sound}
 use Rattle.fields.specs.BookLaws.{sound-book}
-use Rattle.replica.specs.AnswerLaws.{fetch-refused}
-use Rattle.replica.specs.CallLaws.{fetch-unsound}
+use Rattle.answers.specs.AnswerLaws.{fetch-refused}
+use Rattle.answers.specs.CallLaws.{fetch-unsound}
 use borrow.Author.Needs.{needs}
 use Rattle.replica.proofs.fetch.fetch.Statement.{statement}
 use Rattle.replica.proofs.fetch.fetch.Tie as tie

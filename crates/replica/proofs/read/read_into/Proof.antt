@@ -4,7 +4,7 @@ use mathlib.Core.Bool.{false}
 use Rattle.sha256.specs.Digest.{sha256}
 use Rattle.protocol.specs.Sound.{sound}
 use Rattle.fields.specs.BookLaws.{sound-book}
-use Rattle.replica.specs.ReadLaws.{read-unsound}
+use Rattle.log_calls.specs.ReadLaws.{read-unsound}
 use borrow.Author.Needs.{needs}
 use Rattle.replica.proofs.read.read_into.Statement.{statement}
 use Rattle.replica.proofs.read.read_into.Tie as tie

@@ -4,7 +4,7 @@ use mathlib.Core.Bool.{true, false}
 use Rattle.sha256.specs.Digest.{sha256}
 use Rattle.protocol.specs.Sound.{sound}
 use Rattle.fields.specs.BookLaws.{sound-book}
-use Rattle.replica.specs.ReadLaws.{size-unsound, size-sound}
+use Rattle.log_calls.specs.ReadLaws.{size-unsound, size-sound}
 use borrow.Author.Needs.{needs}
 use Rattle.replica.proofs.read.size.Statement.{statement}
 use Rattle.replica.proofs.read.size.Tie as tie

@@ -4,8 +4,8 @@ use mathlib.Core.Bool.{false}
 use Rattle.sha256.specs.Digest.{sha256}
 use Rattle.protocol.specs.Sound.{sound}
 use Rattle.fields.specs.BookLaws.{sound-book}
-use Rattle.replica.specs.AnswerLaws.{outcome-refused}
-use Rattle.replica.specs.CallLaws.{signal-unsound}
+use Rattle.answers.specs.AnswerLaws.{outcome-refused}
+use Rattle.answers.specs.CallLaws.{signal-unsound}
 use borrow.Author.Needs.{needs}
 use Rattle.replica.proofs.signal.signal.Statement.{statement}
 use Rattle.replica.proofs.signal.signal.Tie as tie

@@ -4,8 +4,8 @@ use mathlib.Core.Bool.{false}
 use Rattle.sha256.specs.Digest.{sha256}
 use Rattle.protocol.specs.Sound.{sound}
 use Rattle.fields.specs.BookLaws.{sound-book}
-use Rattle.replica.specs.AnswerLaws.{outcome-refused}
-use Rattle.replica.specs.SubmitLaws.{submit-unsound}
+use Rattle.answers.specs.AnswerLaws.{outcome-refused}
+use Rattle.log_calls.specs.SubmitLaws.{submit-unsound}
 use borrow.Author.Needs.{needs}
 use Rattle.replica.proofs.submit.submit.Statement.{statement}
 use Rattle.replica.proofs.submit.submit.Tie as tie

@@ -1,0 +1,12 @@
+-- `is_running` meets its contract: the book says as many heights as its state has.
+use Rattle.applies.specs.MovableLaws.{running-is}
+use borrow.Author.Needs.{needs}
+use Rattle.applies.proofs.is_running.Statement.{statement}
+use Rattle.applies.proofs.is_running.Tie as tie
+
+returns : tie.Need-returns
+returns c =
+    rw (c .before .current .ensures .0, c .heights .ensures .0) (running-is (c .before .before .before .args .book .now))
+
+pub is-running-spec : {M : Type 1} → statement M
+is-running-spec = tie.close (tie.spec (λ c κs. search needs) (λ c κs. search needs) returns)

@@ -1,0 +1,18 @@
+-- `new_finalized` meets its contract: the top of the walk is the last height of the book.
+use native.Mathlib.Omega.{arith}
+use mathlib.Core.Path.{_∙_}
+use Rattle.sha256.specs.Digest.{sha256}
+use Rattle.applies.specs.AppliesLaws.{newest-is}
+use borrow.Author.Needs.{needs}
+use Rattle.applies.proofs.new_finalized.Statement.{statement}
+use Rattle.applies.proofs.new_finalized.Tie as tie
+
+returns : tie.Need-returns
+returns c =
+    let found = c .before .before .largest-finalized in
+    let top = c .before .before .before .before .heights in
+    (found .ensures .0 ∙ newest-is sha256 (c .before .before .before .before .before .before .before .args .book .now) (top .result) (top .ensures .0), (omega (arith, found .ensures .1 .0, top .ensures .1), found .ensures .1 .1))
+
+pub new-finalized-spec : {M : Type 1} → statement M
+new-finalized-spec =
+    tie.close (tie.spec (λ c κs. search needs) (λ c κs. search needs) (λ c. search needs) returns)

@@ -1,0 +1,173 @@
+// Which of the moves apply to a book: one test for each, over a memory of linked heights.
+use fields::head::current;
+use fields::head::heights;
+use linking::links::Parent;
+ghost use mathlib.Core.Path.{_≡_};
+ghost use Prim.Native.Nat.{_≤_, _<_};
+ghost use Rattle.sha256.specs.Digest.{sha256 as sha};
+ghost use Rattle.protocol.specs.State.{decode, flag as isFlagged, bookHeights};
+ghost use Rattle.protocol.specs.Move.{isRunning, isSome, someOr, parentBelow, newFinalized, dummyVoteApplies, passApplies, proposeApplies, blockVoteApplies};
+ghost use Rattle.protocol.specs.Block.{maximumHeights};
+ghost use Rattle.fields.specs.Book.{Readable, SoundBook};
+ghost use Rattle.linking.specs.Memo.{Memo};
+ghost use Rattle.linking.specs.Parent.{parentOption};
+ghost use Rattle.applies.specs.Held.{heldExtends};
+
+// Whether the current height is one of the book's.
+pub fn is_running(book: &[u8]) -> bool
+    requires { ⌜ Readable (now book) ⌝ }
+    ensures { λ r. ⌜ r ≡ isRunning (decode (now (book .entry))) ⌝ }
+{
+    current(book) <= heights(book)
+}
+
+// Whether flag `k` of the current height, one of 1, 2, 4 and 8, is set.
+pub fn flag(book: &[u8], k: usize) -> bool
+    requires { ⌜ Readable (now book) ⌝ }
+    requires { ⌜ 1 ≤ k ⌝ }
+    ensures { λ r. ⌜ r ≡ isFlagged k (decode (now (book .entry))) ⌝ }
+{
+    fields::head::flags(book) / k % 2 == 1
+}
+
+// The best chain of the height below the current one. The memory keeps each height from a second digest.
+fn chain_below(book: &[u8], known: &mut [u8]) -> Parent
+    requires { ⌜ SoundBook sha (now book) ⌝ }
+    requires { ⌜ Memo (now book) (now known) ⌝ }
+    ensures answer { λ r. ⌜ parentOption r ≡ parentBelow sha (decode (now (book .entry))) ⌝ }
+    ensures memo { λ _. ⌜ Memo (now (book .entry)) (now (known .exit)) ⌝ }
+{
+    let c = current(book);
+    linking::links::parent_of(book, c - 1, known)
+}
+
+// Whether there is such a chain.
+fn has_chain_below(book: &[u8], known: &mut [u8]) -> bool
+    requires { ⌜ SoundBook sha (now book) ⌝ }
+    requires { ⌜ Memo (now book) (now known) ⌝ }
+    ensures answer { λ r. ⌜ r ≡ isSome (parentBelow sha (decode (now (book .entry)))) ⌝ }
+    ensures memo { λ _. ⌜ Memo (now (book .entry)) (now (known .exit)) ⌝ }
+{
+    match chain_below(book, known) {
+        Parent::At(_) => true,
+        Parent::Nothing => false,
+    }
+}
+
+// The height of its last block, and 0 where there is none.
+pub fn parent_below(book: &[u8], known: &mut [u8]) -> usize
+    requires { ⌜ SoundBook sha (now book) ⌝ }
+    requires { ⌜ Memo (now book) (now known) ⌝ }
+    ensures answer { λ r. ⌜ r ≡ someOr 0 (parentBelow sha (decode (now (book .entry)))) ⌝ }
+    ensures memo { λ _. ⌜ Memo (now (book .entry)) (now (known .exit)) ⌝ }
+{
+    match chain_below(book, known) {
+        Parent::At(j) => j,
+        Parent::Nothing => 0,
+    }
+}
+
+// Move 1: the timer fired, and no dummy vote was cast.
+pub fn dummy_vote_applies(book: &[u8]) -> bool
+    requires { ⌜ Readable (now book) ⌝ }
+    ensures { λ r. ⌜ r ≡ dummyVoteApplies (decode (now (book .entry))) ⌝ }
+{
+    if is_running(book) {
+        if flag(book, 1) {
+            if flag(book, 2) { false } else { true }
+        } else {
+            false
+        }
+    } else {
+        false
+    }
+}
+
+// Move 2 looks for the largest finalized height of the whole book.
+pub fn new_finalized(book: &[u8], known: &mut [u8]) -> usize
+    requires { ⌜ SoundBook sha (now book) ⌝ }
+    requires { ⌜ Memo (now book) (now known) ⌝ }
+    ensures answer { λ r. ⌜ r ≡ newFinalized sha (decode (now (book .entry))) ⌝ }
+    ensures small { λ r. ⌜ r ≤ maximumHeights ⌝ }
+    ensures memo { λ _. ⌜ Memo (now (book .entry)) (now (known .exit)) ⌝ }
+{
+    let top = heights(book);
+    linking::links::largest_finalized(book, top, known)
+}
+
+// Move 3: the current height is linked, or its dummy block is notarized and a chain ends below.
+pub fn pass_applies(book: &[u8], known: &mut [u8]) -> bool
+    requires { ⌜ SoundBook sha (now book) ⌝ }
+    requires { ⌜ Memo (now book) (now known) ⌝ }
+    ensures answer { λ r. ⌜ r ≡ passApplies sha (decode (now (book .entry))) ⌝ }
+    ensures memo { λ _. ⌜ Memo (now (book .entry)) (now (known .exit)) ⌝ }
+{
+    if is_running(book) {
+        let c = current(book);
+        if linking::links::linked(book, c, known) {
+            true
+        } else if fields::quorum::is_dummy(book, c) {
+            has_chain_below(book, known)
+        } else {
+            false
+        }
+    } else {
+        false
+    }
+}
+
+// Move 4: the replica leads the current height and has not proposed, and a chain ends below.
+pub fn propose_applies(book: &[u8], known: &mut [u8]) -> bool
+    requires { ⌜ SoundBook sha (now book) ⌝ }
+    requires { ⌜ Memo (now book) (now known) ⌝ }
+    ensures answer { λ r. ⌜ r ≡ proposeApplies sha (decode (now (book .entry))) ⌝ }
+    ensures memo { λ _. ⌜ Memo (now (book .entry)) (now (known .exit)) ⌝ }
+{
+    if is_running(book) {
+        if fields::height::leader(book, current(book)) == fields::head::own(book) {
+            if flag(book, 8) {
+                false
+            } else {
+                has_chain_below(book, known)
+            }
+        } else {
+            false
+        }
+    } else {
+        false
+    }
+}
+
+// Move 5: no block vote was cast, and the held proposal extends a linked height.
+pub fn block_vote_applies(book: &[u8], known: &mut [u8]) -> bool
+    requires { ⌜ SoundBook sha (now book) ⌝ }
+    requires { ⌜ Memo (now book) (now known) ⌝ }
+    ensures answer { λ r. ⌜ r ≡ blockVoteApplies sha (decode (now (book .entry))) ⌝ }
+    ensures memo { λ _. ⌜ Memo (now (book .entry)) (now (known .exit)) ⌝ }
+{
+    if is_running(book) {
+        if flag(book, 4) {
+            false
+        } else {
+            proposal_extends(book, known)
+        }
+    } else {
+        false
+    }
+}
+
+// Whether a proposal of the current height is held that extends a linked height.
+fn proposal_extends(book: &[u8], known: &mut [u8]) -> bool
+    requires { ⌜ SoundBook sha (now book) ⌝ }
+    requires { ⌜ Memo (now book) (now known) ⌝ }
+    requires { ⌜ decode (now book) .current ≤ bookHeights (now book) ⌝ }
+    ensures answer { λ r. ⌜ r ≡ heldExtends sha (decode (now (book .entry))) ⌝ }
+    ensures memo { λ _. ⌜ Memo (now (book .entry)) (now (known .exit)) ⌝ }
+{
+    let c = current(book);
+    if fields::height::holds_proposal(book, c) {
+        linking::links::extends(book, c, fields::height::proposal(book, c), known)
+    } else {
+        false
+    }
+}

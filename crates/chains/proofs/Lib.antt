@@ -1,0 +1,3 @@
+pub mod ChainWalk
+pub mod Pending
+pub mod Closing

@@ -1,0 +1,88 @@
+-- `block_holds` meets its contract: the entries before `k` are not the one looked for.
+use Prim.Native.Nat.{_≤_, _<_, _-_}
+use native.Mathlib.Omega.{arith}
+use mathlib.Core.Path.{_≡_, refl, sym, _∙_}
+use borrow.Author.Needs.{needs}
+use lib.ListN.{drop}
+use Rattle.protocol.specs.Bytes.{holds}
+use Rattle.protocol.specs.Block.{entryCount, entries}
+use Rattle.chains.proofs.ChainWalk.{entry-found, entry-differs, entries-over}
+use Rattle.chains.proofs.chains.block_holds.Statement.{statement}
+use Rattle.chains.proofs.chains.block_holds.Tie as tie
+
+abbrev Inv-loop : tie.InvT-loop
+Inv-loop block entry count k₀ k = (k ≤ count) × (holds entry (entries block) ≡ holds entry (drop k (entries block)))
+
+abbrev μ-loop : tie.MeasureT-loop
+μ-loop block entry count k₀ k = count - k
+
+entry-count-requires : tie.Need-entry-count-requires Inv-loop μ-loop
+entry-count-requires c κs = search needs
+
+loop-holds : tie.Need-loop-holds Inv-loop μ-loop
+loop-holds c = (omega arith, refl)
+
+mul-from : tie.Need-mul-from Inv-loop μ-loop
+mul-from c = omega arith
+
+add-from : tie.Need-add-from Inv-loop μ-loop
+add-from c = omega arith
+
+add-same-bytes : tie.Need-add-same-bytes Inv-loop μ-loop
+add-same-bytes c = omega arith
+
+sub-same-bytes : tie.Need-sub-same-bytes Inv-loop μ-loop
+sub-same-bytes c = omega arith
+
+part-same-bytes-start : tie.Need-part-same-bytes-start Inv-loop μ-loop
+part-same-bytes-start c = omega arith
+
+part-same-bytes-end : tie.Need-part-same-bytes-end Inv-loop μ-loop
+part-same-bytes-end c = omega arith
+
+returns : tie.Need-returns Inv-loop μ-loop
+returns c =
+    let at = c .before .before .before .before in
+    let args = at .before .before .before .before .args in
+    let inside : at .loop .k < entryCount (args .block .now) = omega arith in
+    sym (at .loop .inv .1 ∙ entry-found (args .entry .now) (args .block .now) (at .loop .k) inside (c .before .same-bytes .ensures) (c .if1 .taken))
+
+add-k : tie.Need-add-k Inv-loop μ-loop
+add-k c = omega arith
+
+loop-less : tie.Need-loop-less Inv-loop μ-loop
+loop-less c = omega arith
+
+loop-again : tie.Need-loop-again Inv-loop μ-loop
+loop-again c =
+    let at = c .before .before .before .before in
+    let args = at .before .before .before .before .args in
+    let inside : at .loop .k < entryCount (args .block .now) = omega arith in
+    (omega arith, at .loop .inv .1 ∙ entry-differs (args .entry .now) (args .block .now) (at .loop .k) inside (c .before .same-bytes .ensures) (c .if1 .left))
+
+returns-2 : tie.Need-returns-2 Inv-loop μ-loop
+returns-2 c =
+    let args = c .before .before .before .before .before .args in
+    let over : entryCount (args .block .now) ≤ c .before .loop .k = omega arith in
+    sym (c .before .loop .inv .1 ∙ entries-over (args .entry .now) (args .block .now) (c .before .loop .k) over)
+
+pub block-holds-spec : {M : Type 1} → statement M
+block-holds-spec =
+    tie.close
+    (tie.spec
+    Inv-loop
+    μ-loop
+    entry-count-requires
+    loop-holds
+    mul-from
+    add-from
+    add-same-bytes
+    sub-same-bytes
+    part-same-bytes-start
+    part-same-bytes-end
+    (λ c κs. search needs)
+    returns
+    add-k
+    loop-less
+    loop-again
+    returns-2)

@@ -1,0 +1,163 @@
+-- `keep_unlogged` meets its contract: after `k` places, those of their entries that the log lacks are in front of the pool.
+use Prim.Native.Nat.{_*_, _≤_, _<_, _-_}
+use native.Mathlib.Omega.{arith}
+use mathlib.Core.Path.{_≡_, refl, sym, ap, _∙_}
+use mathlib.Core.Bool.{Bool}
+use mathlib.Core.List.{List, [], _∷_, _++_}
+use lib.ListN.{length}
+use Rattle.protocol.specs.Bytes.{Bytes, part, holds, without}
+use Rattle.protocol.specs.State.{State, decode, encode, maximumPending}
+use Rattle.protocol.specs.Sound.{view, log}
+use Rattle.protocol.specs.View.{logAt}
+use Rattle.protocol.specs.PoolLaws.{moved, moved-none}
+use Rattle.protocol.specs.EntriesLaws.{place-leaves, place-stays}
+use Rattle.fields.specs.Book.{Ready}
+use Rattle.chains.proofs.Pending.{walk-at, one-more}
+use Rattle.chains.proofs.Closing.{staying, staying-few, staying-all, closed-ready, closed-walk, closed-log, closed-place, closed-length, closed-more, closed-end}
+use Rattle.chains.proofs.entries.keep_unlogged.Statement.{statement}
+use Rattle.chains.proofs.entries.keep_unlogged.Tie as tie
+
+abbrev Inv-loop : tie.InvT-loop
+Inv-loop book₀ entry finalized count kept₀ k₀ book kept k = (k ≤ count) × (kept ≡ length (staying (decode book₀) k)) × (book ≡ encode (moved (decode book₀) (staying (decode book₀) k)))
+
+abbrev μ-loop : tie.MeasureT-loop
+μ-loop book₀ entry finalized count kept₀ k₀ book kept k = count - k
+
+-- what is known whenever the loop's test is reached
+module _ (at : tie.At-loop Inv-loop μ-loop) where
+  abbrev start : tie.Start Inv-loop μ-loop
+  start = at .before .before .before .before .before .before .before
+
+  abbrev book : Bytes
+  book = start .args .book .now
+
+  abbrev s : State
+  s = decode book
+
+  few : s .pendingCount ≤ maximumPending
+  few = start .pre .1 .1 .0 .0
+
+  within : at .loop .k ≤ maximumPending
+  within = let most = few in omega arith
+
+  ready-now : Ready (at .loop .book)
+  ready-now = closed-ready book (start .pre .0) few (at .loop .k) within (at .loop .book) (at .loop .inv .2)
+
+  -- the entry at place `k` is that of the book as it was, and so is the log that it is looked for in
+  entry-now : {entry : Bytes} → entry ≡ part (decode (at .loop .book) .pool) (16 * at .loop .k) 16 → entry ≡ part (s .pool) (16 * at .loop .k) 16
+  entry-now e = e ∙ closed-place book (start .pre .0) few (at .loop .k) within (at .loop .book) (at .loop .inv .2)
+
+  found-now : (entry : Bytes) {found : Bool} → found ≡ holds entry (logAt (view (decode (at .loop .book))) (at .before .before .before .finalized .result)) → found ≡ holds entry (log s)
+  found-now entry e =
+      let finalized = at .before .before .before .finalized in
+      e ∙ ap (holds entry) (closed-log book (start .pre .0) few (at .loop .k) within (at .loop .book) (at .loop .inv .2) (finalized .result) (finalized .ensures .0))
+
+finalized-requires : tie.Need-finalized-requires Inv-loop μ-loop
+finalized-requires c κs = c .before .before .before .pre .0 .readable
+
+pending-count-requires : tie.Need-pending-count-requires Inv-loop μ-loop
+pending-count-requires c κs = c .before .before .before .before .before .pre .0 .readable
+
+loop-holds : tie.Need-loop-holds Inv-loop μ-loop
+unfolding without
+loop-holds c = (omega arith, refl, sym (ap encode (moved-none (decode (c .before .before .before .before .before .before .args .book .now))) ∙ c .before .before .before .before .before .before .pre .0 .whole))
+
+pending-entry-requires : tie.Need-pending-entry-requires Inv-loop μ-loop
+pending-entry-requires c κs = (ready-now (c .before .before) .readable, let most = few (c .before .before) in omega arith)
+
+chain-holds-requires : tie.Need-chain-holds-requires Inv-loop μ-loop
+chain-holds-requires c κs =
+    let at = c .before .before .before in
+    closed-walk (book at) (start at .pre .0) (few at) (at .loop .k) (within at) (at .loop .book) (at .loop .inv .2) (walk-at (start at .pre .1 .0) (at .before .before .before .finalized .ensures .0))
+
+add-k : tie.Need-add-k Inv-loop μ-loop
+add-k c = omega arith
+
+loop-less : tie.Need-loop-less Inv-loop μ-loop
+loop-less c = omega arith
+
+loop-again : tie.Need-loop-again Inv-loop μ-loop
+loop-again c =
+    let at = c .before .before .before .before .before in
+    let inside : at .loop .k < s at .pendingCount = omega arith in
+    let leaves = place-leaves (s at) (log (s at)) (at .loop .k) inside (entry-now at (c .before .before .pending-entry .ensures)) (found-now at (c .before .before .pending-entry .result .now) (c .before .chain-holds .ensures)) (c .if1 .taken) in
+    (omega arith, at .loop .inv .1 ∙ ap length (sym leaves), at .loop .inv .2 ∙ ap (λ (l : List Bytes). encode (moved (s at) l)) (sym leaves))
+
+move-entry-requires : tie.Need-move-entry-requires Inv-loop μ-loop
+move-entry-requires c κs =
+    let at = c .before .before .before .before .before .before in
+    let most = few at in
+    let short = staying-few (s at) (at .loop .k) in
+    (ready-now at, omega arith)
+
+add-kept : tie.Need-add-kept Inv-loop μ-loop
+add-kept c =
+    let at = c .before .before .before .before .before .before .before .before .before in
+    let short = staying-few (s at) (at .loop .k) in
+    omega arith
+
+add-k-2 : tie.Need-add-k-2 Inv-loop μ-loop
+add-k-2 c = omega arith
+
+loop-less-2 : tie.Need-loop-less-2 Inv-loop μ-loop
+loop-less-2 c = omega arith
+
+loop-again-2 : tie.Need-loop-again-2 Inv-loop μ-loop
+loop-again-2 c =
+    let tested = c .before .before .before .before in
+    let asked = tested .before .before in
+    let at = tested .before .before .before .before .before in
+    let most = few at in
+    let inside : at .loop .k < s at .pendingCount = omega arith in
+    let entry = asked .pending-entry .result .now in
+    let read = entry-now at (asked .pending-entry .ensures) in
+    let stays = place-stays (s at) (log (s at)) (at .loop .k) inside read (found-now at entry (tested .before .chain-holds .ensures)) (tested .if1 .left) in (
+      omega arith,
+      one-more (staying (s at) (at .loop .k)) entry (at .loop .inv .1) stays,
+      closed-more (book at) (start at .pre .0) most (at .loop .k) (within at) (at .loop .book) (at .loop .inv .2) (at .loop .kept) (at .loop .inv .1) (omega arith)
+          (c .before .before .move-entry .ensures) (stays ∙ ap (λ (e : Bytes). staying (s at) (at .loop .k) ++ (e ∷ [])) read),
+    )
+
+finish-pool-requires : tie.Need-finish-pool-requires Inv-loop μ-loop
+finish-pool-requires c κs =
+    let at = c .before .before in
+    let over : s at .pendingCount ≤ at .loop .k = omega arith in
+    let all = ap length (staying-all (s at) (at .loop .k) over) in
+    let count : at .loop .kept < maximumPending = omega (arith, start at .pre .1 .1 .0 .1) in
+    (ready-now at, (count, start at .pre .1 .1 .1))
+
+same-length : tie.Need-same-length Inv-loop μ-loop
+same-length c =
+    let at = c .before .before .before .before .before in
+    let size = closed-length (book at) (start at .pre .0) (few at) (at .loop .k) (within at) (at .loop .book) (at .loop .inv .2) in
+    omega arith
+
+returns : tie.Need-returns Inv-loop μ-loop
+returns c =
+    let at = c .before .before .before .before .before in
+    let over : s at .pendingCount ≤ at .loop .k = omega arith in
+    closed-end (book at) (start at .pre .0) (few at) (at .loop .k) (within at) (at .loop .book) (at .loop .inv .2) (at .loop .kept) (start at .args .entry .now) (at .loop .inv .1)
+    (staying-all (s at) (at .loop .k) over) (c .before .before .finish-pool .ensures)
+
+pub keep-unlogged-spec : {M : Type 1} → statement M
+keep-unlogged-spec =
+    tie.close
+    (tie.spec
+    Inv-loop
+    μ-loop
+    finalized-requires
+    pending-count-requires
+    loop-holds
+    pending-entry-requires
+    chain-holds-requires
+    add-k
+    loop-less
+    loop-again
+    move-entry-requires
+    add-kept
+    add-k-2
+    loop-less-2
+    loop-again-2
+    finish-pool-requires
+    same-length
+    returns)

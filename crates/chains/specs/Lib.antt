@@ -1,0 +1,2 @@
+-- What the contracts of chains and entries speak of.
+pub mod Walkable

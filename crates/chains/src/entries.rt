@@ -1,0 +1,133 @@
+// The entries of a replica's book: those of its chains, and its pending ones, in what a chain lacks.
+use fields::kind::Kind;
+ghost use mathlib.Core.Path.{_≡_};
+ghost use mathlib.Core.List.{[], _∷_, _++_};
+ghost use Prim.Native.Nat.{_*_, _<_, _≤_};
+ghost use lib.ListN.{length};
+ghost use Rattle.protocol.specs.Bytes.{join, holds, overFront};
+ghost use Rattle.protocol.specs.Block.{entries, newBlock};
+ghost use Rattle.protocol.specs.State.{decode, pending, maximumPending, maximumEntries};
+ghost use Rattle.protocol.specs.View.{logAt};
+ghost use Rattle.protocol.specs.Move.{offered};
+ghost use Rattle.protocol.specs.Submit.{stillPending, withPending};
+ghost use Rattle.fields.specs.Book.{Readable, Ready, bookView, recoded};
+ghost use Rattle.chains.specs.Walkable.{Walkable};
+
+// How many entries the chain that ends in height `h` has.
+pub fn chain_entries(book: &[u8], h: usize) -> usize
+    requires { ⌜ Walkable (now book) h ⌝ }
+    ensures { λ r. ⌜ (r ≡ length (logAt (bookView (now (book .entry))) h)) × (r ≤ maximumEntries) ⌝ }
+{
+    crate::chains::chain_entries(Kind::Replica, book, h)
+}
+
+// Whether the chain that ends in height `h` has this entry.
+pub fn chain_holds(book: &[u8], h: usize, entry: &[u8]) -> bool
+    requires { ⌜ Walkable (now book) h ⌝ }
+    ensures { λ r. ⌜ r ≡ holds (now (entry .entry)) (logAt (bookView (now (book .entry))) h) ⌝ }
+{
+    crate::chains::chain_holds(Kind::Replica, book, h, entry)
+}
+
+// Copies the `count` entries of the chain that ends in height `h` to the front of the buffer, oldest first.
+pub fn copy_chain(book: &[u8], h: usize, count: usize, buffer: &mut [u8])
+    requires { ⌜ Walkable (now book) h ⌝ }
+    requires { ⌜ count ≡ length (logAt (bookView (now book)) h) ⌝ }
+    requires { ⌜ 16 * count ≤ length (now buffer) ⌝ }
+    ensures { λ _. ⌜ now (buffer .exit) ≡
+        overFront (join (logAt (bookView (now (book .entry))) h)) (now (buffer .entry)) ⌝ }
+{
+    crate::chains::copy_chain(Kind::Replica, book, h, count, buffer)
+}
+
+// Makes the block of height `c` on the block of height `j`, with the first eight pending entries that the chain ending in
+// height `j` lacks, at the front of `block`. Walks that chain once for each pending entry, 32 times at most.
+pub fn offer(book: &[u8], c: usize, j: usize, digest: &[u8], block: &mut [u8])
+    requires { ⌜ Walkable (now book) j ⌝ }
+    requires { ⌜ decode (now book) .pendingCount ≤ maximumPending ⌝ }
+    requires { ⌜ (c < 65536) × (length (now digest) ≡ 32) × (176 ≤ length (now block)) ⌝ }
+    ensures { λ _. ⌜ now (block .exit) ≡
+        overFront (newBlock c j (now (digest .entry)) (offered (decode (now (book .entry))) j)) (now (block .entry)) ⌝ }
+{
+    wire::block::start_block(block, c, j, digest);
+    let count = fields::head::pending_count(book);
+    let mut taken = 0;
+    let mut k = 0;
+    while k < count {
+        let entry = fields::pool::pending_entry(book, k);
+        if taken == 8 {
+            return;
+        } else if chain_holds(book, j, entry) {
+            k += 1;
+        } else {
+            wire::block::add_entry(block, taken, entry);
+            taken += 1;
+            k += 1;
+        }
+    }
+}
+
+// How many pending entries the log does not hold. Walks the log once for each of them, 32 times at most.
+pub fn unlogged_count(book: &[u8]) -> usize
+    requires { ⌜ Walkable (now book) (decode (now book) .finalized) ⌝ }
+    requires { ⌜ decode (now book) .pendingCount ≤ maximumPending ⌝ }
+    ensures { λ r. ⌜ (r ≡ length (stillPending (decode (now (book .entry))))) × (r ≤ maximumPending) ⌝ }
+{
+    let finalized = fields::head::finalized(book);
+    let count = fields::head::pending_count(book);
+    let mut kept = 0;
+    let mut k = 0;
+    while k < count {
+        if chain_holds(book, finalized, fields::pool::pending_entry(book, k)) {
+            k += 1;
+        } else {
+            kept += 1;
+            k += 1;
+        }
+    }
+    kept
+}
+
+// Whether this entry is pending. Compares at most 32 entries.
+pub fn is_pending(book: &[u8], entry: &[u8]) -> bool
+    requires { ⌜ Readable (now book) ⌝ }
+    requires { ⌜ decode (now book) .pendingCount ≤ maximumPending ⌝ }
+    ensures { λ r. ⌜ r ≡ holds (now (entry .entry)) (pending (decode (now (book .entry)))) ⌝ }
+{
+    let count = fields::head::pending_count(book);
+    let mut k = 0;
+    while k < count {
+        if wire::bytes::same_bytes(entry, fields::pool::pending_entry(book, k)) {
+            return true;
+        } else {
+            k += 1;
+        }
+    }
+    false
+}
+
+// Makes the pending entries that the log does not hold, and `entry` after them, all that is pending. Closes the pool up in
+// place and walks the log once for each pending entry, 32 times at most.
+pub fn keep_unlogged(book: &mut [u8], entry: &[u8])
+    requires { ⌜ Ready (now book) ⌝ }
+    requires { ⌜ Walkable (now book) (decode (now book) .finalized) ⌝ }
+    requires { ⌜ (decode (now book) .pendingCount ≤ maximumPending) × (length (stillPending (decode (now book))) < maximumPending) ⌝ }
+    requires { ⌜ length (now entry) ≡ 16 ⌝ }
+    ensures { λ _. ⌜ now (book .exit) ≡ recoded (now (book .entry)) (λ s.
+        withPending s (stillPending s ++ (now (entry .entry) ∷ []))) ⌝ }
+{
+    let log_height = fields::head::finalized(book);
+    let count = fields::head::pending_count(book);
+    let mut kept = 0;
+    let mut k = 0;
+    while k < count {
+        if chain_holds(book, log_height, fields::pool::pending_entry(book, k)) {
+            k += 1;
+        } else {
+            fields::pool::move_entry(book, k, kept);
+            kept += 1;
+            k += 1;
+        }
+    }
+    fields::pool::finish_pool(book, kept, entry);
+}

@@ -1,0 +1,36 @@
+-- `fetch_sound` meets its contract: the kind's row, then the height's.
+use mathlib.Core.Path.{sym, _∙_}
+use Rattle.answers.specs.AnswerLaws.{fetch-refused}
+use Rattle.answers.specs.CallLaws.{fetch-unknown, fetch-outside}
+use Rattle.soundness.specs.SoundBookLaws.{within}
+use borrow.Author.Needs.{needs}
+use Rattle.field_calls.proofs.fetch.fetch_sound.Statement.{statement}
+use Rattle.field_calls.proofs.fetch.fetch_sound.Tie as tie
+
+fetch-at-requires : tie.Need-fetch-at-requires
+fetch-at-requires c κs =
+    let z = c .before .before .before .before .before .before .before in
+    (z .pre, (within (z .args .book .now) (z .args .height) (sym (c .before .before .in-book .ensures) ∙ c .before .if2 .taken), sym (c .before .before .before .before .is-certificate .ensures) ∙ c .before .before .before .if1 .taken))
+
+returns-2 : tie.Need-returns-2
+returns-2 c =
+    let z = c .before .before .before .before .before .before in
+    let kind = sym (c .before .before .before .is-certificate .ensures) ∙ c .before .before .if1 .taken in
+    fetch-refused (fetch-outside (z .args .book .now) (z .args .kind) (z .args .height) (z .args .reply .now) (z .pre .is-sound) kind (sym (c .before .in-book .ensures) ∙ c .if2 .left))
+
+returns-3 : tie.Need-returns-3
+returns-3 c =
+    let z = c .before .before .before .before in
+    fetch-refused (fetch-unknown (z .args .book .now) (z .args .kind) (z .args .height) (z .args .reply .now) (z .pre .is-sound) (sym (c .before .is-certificate .ensures) ∙ c .if1 .left))
+
+pub fetch-sound-spec : {M : Type 1} → statement M
+fetch-sound-spec =
+    tie.close
+    (tie.spec
+    (λ c κs. search needs)
+    (λ c κs. search needs)
+    fetch-at-requires
+    (λ c. search needs)
+    (λ c. search needs)
+    returns-2
+    returns-3)

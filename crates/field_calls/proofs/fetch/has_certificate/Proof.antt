@@ -1,0 +1,28 @@
+-- `has_certificate` meets its contract: a block is notarized, and the signers of the others are a quorum.
+use Prim.Native.Nat.{ℕ}
+use native.Mathlib.Omega.{arith}
+use mathlib.Core.Path.{sym, ap, _∙_}
+use Rattle.protocol.specs.State.{decode}
+use Rattle.protocol.specs.Sound.{view}
+use Rattle.protocol.specs.View.{quorum}
+use Rattle.field_calls.proofs.Certificates.{has-block, has-signers}
+use borrow.Author.Needs.{needs}
+use Rattle.field_calls.proofs.fetch.has_certificate.Statement.{statement}
+use Rattle.field_calls.proofs.fetch.has_certificate.Tie as tie
+
+returns : tie.Need-returns
+returns c =
+    let z = c .before .before .before in
+    c .is-notarized .ensures ∙ sym (has-block (decode (z .args .book .now)) (z .args .kind) (z .args .height) (c .before .if1 .taken))
+
+returns-2 : tie.Need-returns-2
+returns-2 c =
+    let z = c .before .before .before .before in
+    let s = decode (z .args .book .now) in
+    c .quorum .ensures ∙ ap (λ (m : ℕ). quorum (view s) m) (c .before .mask-at .ensures .0)
+    ∙ sym (has-signers s (z .args .kind) (z .args .height) (omega (arith, c .before .before .if1 .left)) (z .pre .1 .1 .1))
+
+pub has-certificate-spec : {M : Type 1} → statement M
+has-certificate-spec =
+    tie.close
+    (tie.spec (λ c κs. search needs) (λ c. search needs) (λ c κs. search needs) (λ c κs. search needs) returns returns-2)

@@ -1,0 +1,35 @@
+// Open: a new book for `n` replicas, the replica's own number, and the leader of each height.
+use fields::bounds::MAXIMUM_HEIGHTS;
+use fields::bounds::MAXIMUM_REPLICAS;
+ghost use mathlib.Core.Path.{_≡_};
+ghost use lib.Dec.{ltb};
+ghost use Rattle.protocol.specs.Bytes.{all};
+ghost use Rattle.protocol.specs.Open.{openInRange};
+
+// Whether every leader is one of the `n` replicas. One pass, up to the first that is not.
+fn leaders_below(leaders: &[u8], n: usize) -> bool
+    ensures { λ r. ⌜ r ≡ all (λ leader. ltb leader n) (now (leaders .entry)) ⌝ }
+{
+    let mut i = 0;
+    while i < leaders.len() {
+        let leader = leaders[i] as usize;
+        if leader < n {
+            i += 1;
+        } else {
+            return false;
+        }
+    }
+    true
+}
+
+// Whether the numbers are in their ranges, and the leaders are as many as the heights.
+pub fn numbers_fit(n: usize, own: usize, heights: usize, leaders: &[u8]) -> bool
+    ensures { λ r. ⌜ r ≡ openInRange n own heights (now (leaders .entry)) ⌝ }
+{
+    let replicas = (1 <= n) & (n <= MAXIMUM_REPLICAS);
+    let place = own < n;
+    let count = (1 <= heights) & (heights <= MAXIMUM_HEIGHTS);
+    let listed = leaders.len() == heights;
+    let led = leaders_below(leaders, n);
+    replicas & (place & (count & (listed & led)))
+}

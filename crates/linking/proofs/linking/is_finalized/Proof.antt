@@ -1,0 +1,31 @@
+-- `is_finalized` meets its contract: where the finalize mask is a quorum, a height is finalized if it is linked, and else it is not.
+use Prim.Native.Nat.{ℕ}
+use mathlib.Core.Path.{sym, ap, _∙_}
+use Rattle.fields.specs.Book.{viewOf}
+use Rattle.protocol.specs.View.{quorum}
+use Rattle.linking.proofs.Walk.{finalized-by-link, not-finalized-without}
+use borrow.Author.Needs.{needs}
+use Rattle.linking.proofs.linking.is_finalized.Statement.{statement}
+use Rattle.linking.proofs.linking.is_finalized.Tie as tie
+
+returns : tie.Need-returns
+returns c =
+    let z = c .before .before .before .before .before .before .before .before .before in
+    let mask = c .before .before .before .before .before .before .finalize-mask in
+    let v = viewOf (z .args .kind) (z .args .book .now) in (
+      c .before .before .linked .ensures .0
+          ∙ finalized-by-link v (z .args .h) (ap (λ (m : ℕ). quorum v m) (sym (mask .ensures .0)) ∙ sym (c .before .before .before .before .before .quorum .ensures) ∙ c .before .before .before .before .if1 .taken),
+      c .before .before .linked .ensures .1,
+    )
+
+returns-2 : tie.Need-returns-2
+returns-2 c =
+    let z = c .before .before .before .before .before in
+    let mask = c .before .before .finalize-mask in
+    let v = viewOf (z .args .kind) (z .args .book .now) in
+    (sym (not-finalized-without v (z .args .h) (ap (λ (m : ℕ). quorum v m) (sym (mask .ensures .0)) ∙ sym (c .before .quorum .ensures) ∙ c .if1 .left)), z .pre .1 .0)
+
+pub is-finalized-spec : {M : Type 1} → statement M
+is-finalized-spec =
+    tie.close
+    (tie.spec (λ c κs. search needs) (λ c κs. search needs) (λ c κs. search needs) (λ c. search needs) returns returns-2)

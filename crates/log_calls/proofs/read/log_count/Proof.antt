@@ -1,0 +1,21 @@
+-- `log_count` meets its contract: the log ends at the finalized height.
+use mathlib.Core.Path.{ap, _∙_}
+use lib.ListN.{length}
+use Rattle.protocol.specs.State.{decode}
+use Rattle.log_calls.specs.ReadLaws.{walkable, log-at}
+use borrow.Author.Needs.{needs}
+use Rattle.log_calls.proofs.read.log_count.Statement.{statement}
+use Rattle.log_calls.proofs.read.log_count.Tie as tie
+
+chain-entries-requires : tie.Need-chain-entries-requires
+chain-entries-requires c κs =
+    let z = c .before .before in
+    walkable (z .args .book .now) (c .finalized .result) (z .pre) (c .finalized .ensures .0)
+
+returns : tie.Need-returns
+returns c =
+    let z = c .before .before .before in
+    (c .chain-entries .ensures .0 ∙ ap length (log-at (decode (z .args .book .now)) _ (c .before .finalized .ensures .0)), c .chain-entries .ensures .1)
+
+pub log-count-spec : {M : Type 1} → statement M
+log-count-spec = tie.close (tie.spec (λ c κs. search needs) chain-entries-requires returns)

@@ -1,0 +1,40 @@
+-- `read_sound` meets its contract: the whole log is copied, or nothing.
+use mathlib.Core.Path.{sym, ap, _∙_}
+use lib.ListN.{length}
+use Rattle.protocol.specs.State.{decode}
+use Rattle.log_calls.specs.ReadLaws.{walkable, log-at, read-short, read-done}
+use borrow.Author.Needs.{needs}
+use Rattle.log_calls.proofs.read.read_sound.Statement.{statement}
+use Rattle.log_calls.proofs.read.read_sound.Tie as tie
+
+copy-chain-requires : tie.Need-copy-chain-requires
+copy-chain-requires c κs =
+    let z = c .before .before .before .before .before .before in
+    let ends = c .before .before .before .finalized .ensures .0 in (
+      walkable (z .args .book .now) _ (z .pre) ends,
+      (c .before .before .log-count .ensures .0 ∙ sym (ap length (log-at (decode (z .args .book .now)) _ ends)), c .before .if1 .taken),
+    )
+
+returns : tie.Need-returns
+returns c =
+    let z = c .before .before .before .before .before .before .before .before .before in
+    read-done (z .args .book .now) (z .args .buffer .now) (z .pre .is-sound) _ (c .before .before .before .before .before .log-count .ensures .0) _ _ (c .before .before .before .before .if1 .taken) (c .before .before .before .before .before .before .finalized .ensures .0)
+    (c .before .before .copy-chain .ensures)
+
+returns-2 : tie.Need-returns-2
+returns-2 c =
+    let z = c .before .before .before .before .before in
+    read-short (z .args .book .now) (z .args .buffer .now) (z .pre .is-sound) _ (c .before .log-count .ensures .0) (c .if1 .left)
+
+pub read-sound-spec : {M : Type 1} → statement M
+read-sound-spec =
+    tie.close
+    (tie.spec
+    (λ c κs. search needs)
+    (λ c κs. search needs)
+    (λ c. search needs)
+    copy-chain-requires
+    (λ c. search needs)
+    (λ c. search needs)
+    returns
+    returns-2)

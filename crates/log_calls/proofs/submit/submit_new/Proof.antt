@@ -1,0 +1,49 @@
+-- `submit_new` meets its contract: an entry that is new is kept if fewer than 32 stay pending.
+use Prim.Native.Nat.{_<_}
+use mathlib.Core.Path.{refl, sym, _∙_}
+use lib.ListN.{length}
+use borrow.Author.Tests.{eq-eqb, ltb-true}
+use Rattle.protocol.specs.State.{decode}
+use Rattle.protocol.specs.Submit.{stillPending}
+use Rattle.answers.specs.AnswerLaws.{outcome-done, outcome-refused}
+use Rattle.log_calls.specs.SubmitLaws.{submit-full, submit-done}
+use Rattle.log_calls.specs.ReadLaws.{walkable}
+use borrow.Author.Needs.{needs}
+use Rattle.log_calls.proofs.submit.submit_new.Statement.{statement}
+use Rattle.log_calls.proofs.submit.submit_new.Tie as tie
+
+leaves-room-requires : tie.Need-leaves-room-requires
+leaves-room-requires c κs = let z = c .before .before .before in z .pre .0
+
+keep-unlogged-requires : tie.Need-keep-unlogged-requires
+keep-unlogged-requires c κs =
+    let z = c .before .before .before .before .before .before in
+    let s = decode (z .args .book .now) in
+    let few : length (stillPending s) < 32 = ltb-true (length (stillPending s)) 32 (sym (c .before .before .leaves-room .ensures) ∙ c .before .if1 .taken) in
+    (z .pre .0 .ready, (walkable (z .args .book .now) (s .finalized) (z .pre .0) refl, ((z .pre .0 .state .pending-few, few), z .pre .1 .0)))
+
+returns : tie.Need-returns
+returns c =
+    let z = c .before .before .before .before .before .before .before .before .before in
+    let room = sym (c .before .before .before .before .before .leaves-room .ensures) ∙ c .before .before .before .before .if1 .taken in
+    let fits = eq-eqb (length (z .args .entry .now)) 16 (z .pre .1 .0) in
+    outcome-done (submit-done (z .args .book .now) (z .args .entry .now) (z .pre .0 .is-sound) fits (z .pre .1 .1) room)
+    (c .before .before .keep-unlogged .ensures)
+
+returns-2 : tie.Need-returns-2
+returns-2 c =
+    let z = c .before .before .before .before .before in
+    let room = sym (c .before .leaves-room .ensures) ∙ c .if1 .left in
+    let fits = eq-eqb (length (z .args .entry .now)) 16 (z .pre .1 .0) in
+    outcome-refused (submit-full (z .args .book .now) (z .args .entry .now) (z .pre .0 .is-sound) fits (z .pre .1 .1) room)
+
+pub submit-new-spec : {M : Type 1} → statement M
+submit-new-spec =
+    tie.close
+    (tie.spec
+    leaves-room-requires
+    keep-unlogged-requires
+    (λ c. search needs)
+    returns
+    (λ c. search needs)
+    returns-2)

@@ -1,0 +1,37 @@
+-- `submit_sound` meets its contract: the length's row, then that of entries that are known.
+use mathlib.Core.Path.{sym, _∙_}
+use lib.ListN.{length}
+use borrow.Author.Tests.{eq-eqb, ne-eqb}
+use Rattle.answers.specs.AnswerLaws.{outcome-refused}
+use Rattle.log_calls.specs.SubmitLaws.{submit-unfit, submit-known}
+use borrow.Author.Needs.{needs}
+use Rattle.log_calls.proofs.submit.submit_sound.Statement.{statement}
+use Rattle.log_calls.proofs.submit.submit_sound.Tie as tie
+
+submit-new-requires : tie.Need-submit-new-requires
+submit-new-requires c κs =
+    let z = c .before .before .before .before .before .before .before in
+    (z .pre, (c .before .before .before .before .if1 .taken, sym (c .before .before .is-known .ensures) ∙ c .before .if2 .left))
+
+returns : tie.Need-returns
+returns c =
+    let z = c .before .before .before .before .before .before in
+    let fits = eq-eqb (length (z .args .entry .now)) 16 (c .before .before .before .if1 .taken) in
+    outcome-refused (submit-known (z .args .book .now) (z .args .entry .now) (z .pre .is-sound) fits (sym (c .before .is-known .ensures) ∙ c .if2 .taken))
+
+returns-3 : tie.Need-returns-3
+returns-3 c =
+    let z = c .before .before .before in
+    outcome-refused (submit-unfit (z .args .book .now) (z .args .entry .now) (z .pre .is-sound) (ne-eqb (length (z .args .entry .now)) 16 (c .if1 .left)))
+
+pub submit-sound-spec : {M : Type 1} → statement M
+submit-sound-spec =
+    tie.close
+    (tie.spec
+    (λ c κs. search needs)
+    submit-new-requires
+    (λ c. search needs)
+    returns
+    (λ c. search needs)
+    (λ c. search needs)
+    returns-3)

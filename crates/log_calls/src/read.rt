@@ -1,0 +1,34 @@
+// Register size and Read: the log of a sound book, by length and by bytes.
+ghost use mathlib.Core.Path.{_≡_};
+ghost use Prim.Native.Nat.{_≤_};
+ghost use lib.ListN.{length};
+ghost use Rattle.sha256.specs.Digest.{sha256 as sha};
+ghost use Rattle.protocol.specs.State.{decode, maximumEntries};
+ghost use Rattle.protocol.specs.Sound.{log};
+ghost use Rattle.protocol.specs.Read.{readPart, readBuffer};
+ghost use Rattle.fields.specs.Book.{SoundBook};
+
+// How many entries the log of a sound book has. Reads two bytes of each of its blocks, 63 at most.
+pub fn log_count(book: &[u8]) -> usize
+    requires { ⌜ SoundBook sha (now book) ⌝ }
+    ensures { λ r. ⌜ (r ≡ length (log (decode (now (book .entry))))) × (r ≤ maximumEntries) ⌝ }
+{
+    let finalized = fields::head::finalized(book);
+    chains::entries::chain_entries(book, finalized)
+}
+
+// Copies the log of a sound book to the front of the buffer, if the buffer is long enough, and says how many bytes it wrote.
+pub fn read_sound(book: &[u8], buffer: &mut [u8]) -> usize
+    requires { ⌜ SoundBook sha (now book) ⌝ }
+    ensures length { λ r. ⌜ r ≡ length (readPart sha (now (book .entry)) (now (buffer .entry))) ⌝ }
+    ensures buffer { λ _. ⌜ now (buffer .exit) ≡ readBuffer sha (now (book .entry)) (now (buffer .entry)) ⌝ }
+{
+    let finalized = fields::head::finalized(book);
+    let count = log_count(book);
+    if 16 * count <= buffer.len() {
+        chains::entries::copy_chain(book, finalized, count, buffer);
+        16 * count
+    } else {
+        0
+    }
+}

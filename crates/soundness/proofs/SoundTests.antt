@@ -1,0 +1,121 @@
+-- The tests that the code of soundness makes are the rows of the definition, group by group.
+use Prim.Native.Nat.{ℕ, suc, _+_, _-_, _*_, _<_}
+use native.Mathlib.Omega.{arith}
+use native.Mathlib.Numerals.{add-one}
+use mathlib.Core.Path.{_≡_, refl, sym, _∙_}
+use mathlib.Core.Logic.{_≢_}
+use mathlib.Core.Bool.{Bool, true, false, _&&_, and-true, true≢false}
+use lib.ListN.{length, take, drop}
+use lib.Dec.{eqb, leb, ltb}
+use borrow.Author.Tests.{eq-eqb, ne-eqb}
+use Rattle.protocol.specs.Bytes.{Bytes, byteAt, part, isZero}
+use Rattle.protocol.specs.Tests.{allOf, implies, inRange, everyHeight}
+use Rattle.protocol.specs.Block.{blockWellFormed}
+use Rattle.protocol.specs.Mask.{belowBit}
+use Rattle.protocol.specs.State.{Height, at, decode, bookSize, holdsProposal, isNotarized, bookHeights}
+use Rattle.protocol.specs.View.{quorum, isFinalized}
+use Rattle.protocol.specs.Sound.{view, masksBelow, blocksWellFormed, contentZeros, sound}
+use Rattle.protocol.specs.RowLaws.{row, true-and, row-fails}
+use Rattle.protocol.specs.CodecLaws.{last-decode}
+use Rattle.protocol.specs.SoundLaws.{not-finalized-past}
+use Rattle.soundness.specs.SoundRows.{numberRows, headRows, heightRows, bookRows, finalRow}
+use Rattle.soundness.specs.SoundRowsLaws.{sound-is}
+
+-- ---- the head
+module _ (book : Bytes) where
+  pub numbers-are :
+      ((leb 1 (byteAt book 0) && leb (byteAt book 0) 16) &&
+      (ltb (byteAt book 1) (byteAt book 0) &&
+      ((leb 1 (bookHeights book) && leb (bookHeights book) 63) &&
+      (eqb (byteAt book 7) 1 &&
+      ((leb 1 (byteAt book 4) && leb (byteAt book 4) (bookHeights book + 1)) &&
+      (ltb (byteAt book 3) 16 && leb (byteAt book 6) 32)))))) ≡ allOf (numberRows book)
+  unfolding numberRows decode inRange allOf
+  numbers-are = simp and-true
+
+  pub head-are : (eqb (length book) (576 + 880 * bookHeights book) && (allOf (numberRows book) && isZero (part book 8 56))) ≡ allOf (headRows book)
+  unfolding headRows bookSize allOf
+  head-are = simp and-true
+
+  pub head-short : length book < 576 → allOf (headRows book) ≡ false
+  unfolding headRows bookSize
+  head-short short = row-fails _ 0 (ne-eqb (length book) (576 + 880 * bookHeights book) (λ e. omega arith))
+
+-- ---- masks
+pub masks-are : (n : ℕ) (x : Height) →
+    (belowBit n (x .certificateMask) && (belowBit n (x .dummyMask) && (belowBit n (x .finalizeMask) && belowBit n (x .voterMask)))) ≡ masksBelow n x
+unfolding masksBelow allOf
+masks-are n x = simp and-true
+
+-- ---- what is tested only where something is held
+pub where-held : (a b : Bool) → a ≡ true → implies a b ≡ b
+unfolding implies
+where-held a b e = rw e
+
+pub where-none : (a b : Bool) → a ≡ false → implies a b ≡ true
+unfolding implies
+where-none a b e = rw e
+
+-- ---- one height
+pub unused-are : (book : Bytes) (h from : ℕ) → from ≡ 576 + 16 * (h - 1) → isZero (take (from + 10 + 6 - (from + 10)) (drop (from + 10) book)) ≡ isZero (contentZeros book h)
+unfolding contentZeros part
+unused-are book h from place = let six : from + 10 + 6 - (from + 10) ≡ 6 = omega arith in rw (six, place)
+
+module _ (book : Bytes) (h : ℕ) where
+  abbrev x : Height
+  x = at (decode book) h
+
+  pub height-are :
+      (ltb (x .leader) (decode book .n) &&
+      (masksBelow (decode book .n) x &&
+      (leb (x .status) 3 &&
+      ((implies (holdsProposal x) (blockWellFormed h (x .proposal)) && implies (isNotarized x) (blockWellFormed h (x .notarized))) &&
+      (implies (isNotarized x) (quorum (view (decode book)) (x .certificateMask)) && isZero (contentZeros book h)))))) ≡ allOf (heightRows book h)
+  unfolding heightRows blocksWellFormed allOf
+  height-are = simp and-true
+
+-- ---- every height
+pub every-more : (test : ℕ → Bool) (h : ℕ) → everyHeight test h ≡ true → test (h + 1) ≡ true → everyHeight test (h + 1) ≡ true
+unfolding everyHeight
+every-more test h before next = rw add-one (true-and (everyHeight test h) (test (suc h)) before (rw add-one at next))
+
+-- ---- the finalized height
+module _ (digest : Bytes → Bytes) (book : Bytes) where
+  pub final-none : decode book .finalized ≡ 0 → finalRow digest book ≡ true
+  unfolding finalRow
+  final-none e = rw (eq-eqb (decode book .finalized) 0 e)
+
+  pub final-some : decode book .finalized ≢ 0 → finalRow digest book ≡ isFinalized digest (view (decode book)) (decode book .finalized)
+  unfolding finalRow
+  final-some f = rw (ne-eqb (decode book .finalized) 0 f)
+
+  pub final-past : decode book .finalized ≢ 0 → bookHeights book < decode book .finalized → finalRow digest book ≡ false
+  final-past f past = final-some f ∙ not-finalized-past digest (decode book) (decode book .finalized) (rw (last-decode book) past)
+
+  -- ---- the three groups
+  abbrev every : Bool
+  every = everyHeight (λ h. allOf (heightRows book h)) (bookHeights book)
+
+  pub rows-by-heights : allOf (headRows book) ≡ true → every ≡ allOf (bookRows book)
+  unfolding bookRows allOf
+  rows-by-heights head = rw head (sym (and-true every))
+
+  pub rows-not-head : allOf (headRows book) ≡ false → false ≡ allOf (bookRows book)
+  unfolding bookRows allOf
+  rows-not-head head = rw head
+
+  pub sound-final : allOf (bookRows book) ≡ true → finalRow digest book ≡ sound digest book
+  unfolding bookRows
+  sound-final rows =
+      let head : allOf (headRows book) ≡ true = row _ 0 rows in
+      let heights : every ≡ true = row _ 1 rows in
+      sym (sound-is digest book ∙ rw (head, heights))
+
+  pub not-sound-rows : allOf (bookRows book) ≡ false → false ≡ sound digest book
+  unfolding bookRows allOf
+  not-sound-rows rows = sym (sound-is digest book ∙ neither (allOf (headRows book)) every (finalRow digest book) rows)
+    where
+      neither : (a b c : Bool) → (a && (b && true)) ≡ false → (a && (b && c)) ≡ false
+      neither true true c e = absurd (true≢false e)
+      neither true false c e = refl
+      neither false b c e = refl

@@ -1,0 +1,28 @@
+-- `finalized_alone` meets its contract: height 0 passes, and a memory of zeros knows nothing.
+use mathlib.Core.Path.{refl, sym, _∙_}
+use Rattle.sha256.specs.Digest.{sha256}
+use Rattle.protocol.specs.Bytes.{zeros}
+use Rattle.soundness.specs.SoundRowsLaws.{zero-memo}
+use Rattle.soundness.proofs.SoundTests.{final-none}
+use borrow.Author.Needs.{needs}
+use Rattle.soundness.proofs.finalized_alone.Statement.{statement}
+use Rattle.soundness.proofs.finalized_alone.Tie as tie
+
+returns : tie.Need-returns
+returns c = sym (final-none sha256 (c .before .before .before .args .book .now) (sym (c .before .finalized .ensures .0) ∙ c .if1 .taken))
+
+finalized-sound-requires : tie.Need-finalized-sound-requires
+finalized-sound-requires c κs = (c .before .before .before .before .pre, zero-memo (c .before .before .before .before .args .book .now) _ (c .before .before .before .before .pre) (unfold zeros in refl))
+
+returns-2 : tie.Need-returns-2
+returns-2 c = c .before .finalized-sound .ensures .0
+
+pub finalized-alone-spec : {M : Type 1} → statement M
+finalized-alone-spec =
+    tie.close
+    (tie.spec
+    (λ c κs. search needs)
+    returns
+    (λ c. search needs)
+    finalized-sound-requires
+    returns-2)

@@ -1,0 +1,67 @@
+-- `heights_sound` meets its contract: after each turn the heights passed are as they must be.
+use Prim.Native.Nat.{ℕ, _+_, _-_, _≤_}
+use native.Mathlib.Omega.{arith}
+use mathlib.Core.Path.{_≡_, refl, sym, ap, _∙_}
+use mathlib.Core.Bool.{true}
+use Rattle.protocol.specs.Tests.{allOf, everyHeight}
+use Rattle.protocol.specs.RowLaws.{every-height-fails}
+use Rattle.protocol.specs.State.{bookHeights}
+use Rattle.soundness.specs.SoundRows.{heightRows}
+use Rattle.soundness.proofs.SoundTests.{every-more}
+use borrow.Author.Needs.{needs}
+use Rattle.soundness.proofs.heights_sound.Statement.{statement}
+use Rattle.soundness.proofs.heights_sound.Tie as tie
+
+abbrev Inv-loop : tie.InvT-loop
+Inv-loop book last h₀ h = (h ≤ last) × (everyHeight (λ k. allOf (heightRows book k)) h ≡ true)
+
+abbrev μ-loop : tie.MeasureT-loop
+μ-loop book last h₀ h = last - h
+
+loop-holds : tie.Need-loop-holds Inv-loop μ-loop
+unfolding everyHeight
+loop-holds c = (omega arith, refl)
+
+add-height-sound : tie.Need-add-height-sound Inv-loop μ-loop
+add-height-sound c = omega arith
+
+add-h : tie.Need-add-h Inv-loop μ-loop
+add-h c = omega arith
+
+loop-less : tie.Need-loop-less Inv-loop μ-loop
+loop-less c = omega arith
+
+loop-again : tie.Need-loop-again Inv-loop μ-loop
+loop-again c =
+    let start = c .before .before .before .before .before .before in
+    let at = c .before .before .before .loop in
+    (omega arith, every-more (λ k. allOf (heightRows (start .args .book .now) k)) (at .h) (at .inv .1) (sym (c .before .height-sound .ensures) ∙ c .if1 .taken))
+
+returns : tie.Need-returns Inv-loop μ-loop
+returns c =
+    let start = c .before .before .before .before .before .before in
+    let at = c .before .before .before .loop in
+    sym (every-height-fails (λ k. allOf (heightRows (start .args .book .now) k)) (bookHeights (start .args .book .now)) (at .h + 1) (omega arith) (omega arith)
+    (sym (c .before .height-sound .ensures) ∙ c .if1 .left))
+
+returns-2 : tie.Need-returns-2 Inv-loop μ-loop
+returns-2 c =
+    let start = c .before .before .before .before in
+    let end : c .before .loop .h ≡ bookHeights (start .args .book .now) = omega arith in
+    sym (ap (λ (h : ℕ). everyHeight (λ k. allOf (heightRows (start .args .book .now) k)) h) (sym end) ∙ c .before .loop .inv .1)
+
+pub heights-sound-spec : {M : Type 1} → statement M
+heights-sound-spec =
+    tie.close
+    (tie.spec
+    Inv-loop
+    μ-loop
+    (λ c κs. search needs)
+    loop-holds
+    add-height-sound
+    (λ c κs. search needs)
+    add-h
+    loop-less
+    loop-again
+    returns
+    returns-2)

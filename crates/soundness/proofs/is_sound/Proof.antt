@@ -1,0 +1,26 @@
+-- `is_sound` meets its contract: its two tests are the groups of rows, and a slice has bytes.
+use native.Mathlib.Omega.{arith}
+use mathlib.Core.Path.{sym, _∙_}
+use Rattle.sha256.specs.Digest.{sha256}
+use Rattle.soundness.proofs.SoundTests.{sound-final, not-sound-rows}
+use borrow.Author.Needs.{needs}
+use Rattle.soundness.proofs.is_sound.Statement.{statement}
+use Rattle.soundness.proofs.is_sound.Tie as tie
+
+finalized-alone-requires : tie.Need-finalized-alone-requires
+finalized-alone-requires c κs = c .before .rows-sound .ensures .1 (c .if1 .taken)
+
+returns : tie.Need-returns
+returns c = (
+  c .finalized-alone .ensures ∙ sound-final sha256 (c .before .before .before .before .args .book .now) (sym (c .before .before .rows-sound .ensures .0) ∙ c .before .if1 .taken),
+  λ i. omega (arith, c .before .before .before .shared-slice-known .given i),
+)
+
+returns-2 : tie.Need-returns-2
+returns-2 c = (
+  not-sound-rows sha256 (c .before .before .before .args .book .now) (sym (c .before .rows-sound .ensures .0) ∙ c .if1 .left),
+  λ i. omega (arith, c .before .before .shared-slice-known .given i),
+)
+
+pub is-sound-spec : {M : Type 1} → statement M
+is-sound-spec = tie.close (tie.spec (λ c κs. search needs) finalized-alone-requires returns returns-2)

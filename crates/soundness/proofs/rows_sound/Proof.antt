@@ -1,0 +1,26 @@
+-- `rows_sound` meets its contract: its two tests are the groups of rows, and a sound head can be read.
+use mathlib.Core.Path.{_≡_, sym, _∙_}
+use mathlib.Core.Bool.{true, false≢true}
+use Rattle.sha256.specs.Digest.{sha256}
+use Rattle.protocol.specs.Tests.{allOf}
+use Rattle.soundness.specs.SoundRows.{headRows}
+use Rattle.soundness.specs.SoundRowsLaws.{readable}
+use Rattle.soundness.proofs.SoundTests.{rows-by-heights, rows-not-head}
+use borrow.Author.Needs.{needs}
+use Rattle.soundness.proofs.rows_sound.Statement.{statement}
+use Rattle.soundness.proofs.rows_sound.Tie as tie
+
+heights-sound-requires : tie.Need-heights-sound-requires
+heights-sound-requires c κs = readable (c .before .before .before .args .book .now) (sym (c .before .head-sound .ensures) ∙ c .if1 .taken)
+
+returns : tie.Need-returns
+returns c =
+    let book = c .before .before .before .before .args .book .now in
+    let head : allOf (headRows book) ≡ true = sym (c .before .before .head-sound .ensures) ∙ c .before .if1 .taken in
+    (c .heights-sound .ensures ∙ rows-by-heights sha256 book head, λ passed. readable book head)
+
+returns-2 : tie.Need-returns-2
+returns-2 c = (rows-not-head sha256 (c .before .before .before .args .book .now) (sym (c .before .head-sound .ensures) ∙ c .if1 .left), λ passed. absurd (false≢true passed))
+
+pub rows-sound-spec : {M : Type 1} → statement M
+rows-sound-spec = tie.close (tie.spec (λ c κs. search needs) heights-sound-requires returns returns-2)

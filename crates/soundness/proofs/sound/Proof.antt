@@ -1,0 +1,35 @@
+-- `sound` meets its contract: its two tests are the groups of rows, and the memory of zeros that it is lent is the first one.
+use mathlib.Core.Path.{sym, ap, _∙_}
+use mathlib.Core.Bool.{false≢true}
+use lib.ListN.{length}
+use Rattle.sha256.specs.Digest.{sha256}
+use Rattle.protocol.specs.BytesLaws.{length-zeros}
+use Rattle.linking.specs.Memo.{memorySize}
+use Rattle.soundness.specs.SoundRowsLaws.{zero-memo}
+use Rattle.soundness.proofs.SoundTests.{sound-final, not-sound-rows}
+use borrow.Author.Needs.{needs}
+use Rattle.soundness.proofs.sound.Statement.{statement}
+use Rattle.soundness.proofs.sound.Tie as tie
+
+finalized-sound-requires : tie.Need-finalized-sound-requires
+finalized-sound-requires c κs =
+    let start = c .before .before .before .before .before in
+    let readable = c .before .before .rows-sound .ensures .1 (c .before .if1 .taken) in
+    (readable, zero-memo (start .args .book .now) (start .args .known .now) readable (start .pre))
+
+returns : tie.Need-returns
+returns c =
+    let final = c .before .before .finalized-sound in
+    let test = c .before .before .before .before in
+    let start = test .before .before .before .before in
+    let size = final .kept .1 .0 ∙ ap length (start .pre) ∙ length-zeros memorySize in
+    (final .ensures .0 ∙ sound-final sha256 (start .args .book .now) (sym (test .before .rows-sound .ensures .0) ∙ test .if1 .taken), ((λ passed. final .ensures .1), size))
+
+returns-2 : tie.Need-returns-2
+returns-2 c =
+    let z = c .before .before .before .before in
+    (not-sound-rows sha256 (z .args .book .now) (sym (c .before .rows-sound .ensures .0) ∙ c .if1 .left), ((λ passed. absurd (false≢true passed)), ap length (z .pre) ∙ length-zeros memorySize))
+
+pub sound-spec : {M : Type 1} → statement M
+sound-spec =
+    tie.close (tie.spec (λ c κs. search needs) finalized-sound-requires (λ c. search needs) returns returns-2)

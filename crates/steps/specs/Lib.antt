@@ -1,0 +1,4 @@
+-- What the steps speak of, and laws about it.
+pub mod Pass
+pub mod ProposeLaws
+pub mod StepsLaws
