@@ -1,5 +1,5 @@
 -- What the tests of the moves speak of, and laws about it.
 pub mod AppliesLaws
 pub mod Held
-pub mod Movable
-pub mod MovableLaws
+pub mod Took
+pub mod RunningLaws

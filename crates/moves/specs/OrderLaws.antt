@@ -18,7 +18,7 @@ use Rattle.protocol.specs.Move.{Step, firstStep, step, written, unused, moved, 
 use Rattle.answers.specs.declared.answer.Moved.{Moved}
 use Rattle.answers.specs.declared.answer.Moved.the-variants as Moved
 use Rattle.answers.specs.Answers.{movedAnswer}
-use Rattle.applies.specs.Movable.{Took}
+use Rattle.applies.specs.Took.{Took}
 use Rattle.moves.specs.Later.{laterStep}
 
 -- ---- which step

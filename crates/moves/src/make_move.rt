@@ -18,7 +18,7 @@ ghost use Rattle.protocol.specs.State.{decode};
 ghost use Rattle.protocol.specs.Move.{step as firstMove, moveCall};
 ghost use Rattle.linking.specs.Memo.{Memo};
 ghost use Rattle.answers.specs.Answers.{movedAnswer};
-ghost use Rattle.applies.specs.Movable.{Took};
+ghost use Rattle.applies.specs.Took.{Took};
 ghost use Rattle.moves.specs.Later.{laterStep};
 ghost use Rattle.fields.specs.Book.{SoundBook};
 

@@ -1,4 +1,4 @@
 -- Soundness in the order of the code, and what a book that was found sound grants.
 pub mod SoundRows
 pub mod SoundRowsLaws
-pub mod SoundBookLaws
+pub mod WithinLaws

@@ -22,8 +22,8 @@ use Rattle.fields.specs.Book.{Within, Readable}
 use Rattle.answers.specs.declared.answer.Moved.the-variants as Moved
 use Rattle.answers.specs.declared.answer.Certificate as code
 use Rattle.answers.specs.Answers.{movedAnswer, certificateOf}
-use Rattle.applies.specs.Movable.{Took}
-use Rattle.applies.specs.MovableLaws.{notarized-size}
+use Rattle.applies.specs.Took.{Took}
+use Rattle.applies.specs.RunningLaws.{notarized-size}
 use Rattle.steps.specs.Pass.{certificateOn}
 
 -- ---- sizes

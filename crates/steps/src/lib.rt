@@ -22,7 +22,7 @@ ghost use Rattle.protocol.specs.Block.{maximumHeights};
 ghost use Rattle.linking.specs.Memo.{Memo};
 ghost use Rattle.chains.specs.Walkable.{Walkable};
 ghost use Rattle.answers.specs.Answers.{movedAnswer, certificateOf};
-ghost use Rattle.applies.specs.Movable.{Took};
+ghost use Rattle.applies.specs.Took.{Took};
 ghost use Rattle.steps.specs.Pass.{certificateOn, finalizeOn, proposalOn};
 ghost use Rattle.fields.specs.Book.{SoundBook, Readable};
 

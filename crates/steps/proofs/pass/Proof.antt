@@ -3,7 +3,7 @@ use native.Mathlib.Omega.{arith}
 use mathlib.Core.Path.{refl}
 use Rattle.protocol.specs.State.{decode}
 use Rattle.steps.specs.StepsLaws.{took-pass}
-use Rattle.applies.specs.MovableLaws.{within-current}
+use Rattle.applies.specs.RunningLaws.{within-current}
 use borrow.Author.Needs.{needs}
 use Rattle.steps.proofs.pass.Statement.{statement}
 use Rattle.steps.proofs.pass.Tie as tie

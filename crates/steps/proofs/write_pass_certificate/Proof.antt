@@ -4,7 +4,7 @@ use mathlib.Core.Path.{ap, _∙_}
 use lib.ListN.{length}
 use Rattle.protocol.specs.State.{decode}
 use Rattle.answers.specs.Answers.{certificateOf}
-use Rattle.applies.specs.MovableLaws.{within-current, notarized-size}
+use Rattle.applies.specs.RunningLaws.{within-current, notarized-size}
 use Rattle.steps.specs.StepsLaws.{wrote-block, wrote-dummy}
 use borrow.Author.Needs.{needs}
 use Rattle.steps.proofs.write_pass_certificate.Statement.{statement}

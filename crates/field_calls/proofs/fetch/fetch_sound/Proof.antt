@@ -2,7 +2,7 @@
 use mathlib.Core.Path.{sym, _∙_}
 use Rattle.answers.specs.AnswerLaws.{fetch-refused}
 use Rattle.answers.specs.CallLaws.{fetch-unknown, fetch-outside}
-use Rattle.soundness.specs.SoundBookLaws.{within}
+use Rattle.soundness.specs.WithinLaws.{within}
 use borrow.Author.Needs.{needs}
 use Rattle.field_calls.proofs.fetch.fetch_sound.Statement.{statement}
 use Rattle.field_calls.proofs.fetch.fetch_sound.Tie as tie

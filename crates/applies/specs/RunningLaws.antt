@@ -1,4 +1,4 @@
--- What a sound book says of its current height and its blocks.
+-- The current height, and whether a book is running.
 use Prim.Native.Nat.{ℕ, _-_, _≤_}
 use native.Mathlib.Omega.{arith}
 use mathlib.Core.Path.{_≡_, subst}
