@@ -1,23 +1,8 @@
 -- Demand 3: the claim over lists of calls, its proof, and two lists that meet every premise.
 pub mod Lists
-pub mod GrantsLaws
-pub mod BackingLaws
-pub mod KeepingLaws
-pub mod StatementsLaws
-pub mod MovingLaws
-pub mod RunLaws
-pub mod OpeningLaws
-pub mod FetchingLaws
-pub mod ReplicaLaws
-pub mod ChainsLaws
-pub mod AgreementLaws
 pub mod Met
-pub mod MetLaws
 pub mod ListTests
-pub mod ListTestsLaws
 pub mod Turns
-pub mod TurnsLaws
 pub mod Witness
-pub mod WitnessLaws
 pub mod AnyDigest
-pub mod AnyDigestLaws
+pub mod Laws

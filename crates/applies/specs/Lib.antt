@@ -1,5 +1,4 @@
 -- What the tests of the moves speak of, and laws about it.
-pub mod AppliesLaws
 pub mod Held
 pub mod Took
-pub mod RunningLaws
+pub mod Laws

@@ -5,8 +5,7 @@ use mathlib.Core.Path.{_≡_}
 use mathlib.Core.Bool.{false}
 use mathlib.Core.List.{List, [], _∷_, _++_, map}
 use lib.ListN.{length, set}
-use Rattle.protocol.specs.Bytes.{Bytes, byteAt, zeros, join}
-use Rattle.protocol.specs.BytesLaws.{put}
+use Rattle.protocol.specs.Bytes.{Bytes, byteAt, zeros, join, put}
 use Rattle.protocol.specs.State.{State, decode, flag, pending}
 use Rattle.protocol.specs.Submit.{stillPending}
 

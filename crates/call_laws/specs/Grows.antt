@@ -3,8 +3,8 @@ use Prim.Native.Nat.{ℕ, _≤_}
 use mathlib.Core.Path.{_≡_}
 use mathlib.Core.Bool.{true}
 use lib.ListN.{length}
+use Rattle.protocol.specs.Mask.{Within}
 use Rattle.protocol.specs.View.{View}
-use Rattle.protocol.specs.MaskLaws.{Within}
 
 -- two views of the same replicas
 pub record SameReplicas (v v′ : View) : Type 0 where

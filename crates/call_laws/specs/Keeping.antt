@@ -8,8 +8,7 @@ use mathlib.Core.Logic.{_⊎_, _≢_}
 use mathlib.Core.Bool.{Bool, true, false, _&&_, _||_, cond}
 use lib.Dec.{eqb}
 use lib.ListN.{length}
-use Rattle.protocol.specs.Bytes.{Bytes, byteAt}
-use Rattle.protocol.specs.BytesLaws.{AreBytes}
+use Rattle.protocol.specs.Bytes.{Bytes, byteAt, AreBytes}
 use Rattle.protocol.specs.Answer.{Delivery, known, fresh}
 use Rattle.protocol.specs.Mask.{inMask}
 use Rattle.protocol.specs.Frame.{kind, signer, frameHeight, signerMask, frameDigest, frameBlock, isProposal, isBlockVote}

@@ -4,11 +4,10 @@ use mathlib.Core.Path.{_≡_}
 use mathlib.Core.List.{List, map}
 use mathlib.Core.Option.{none}
 use lib.ListN.{length}
-use Rattle.protocol.specs.Bytes.{Bytes}
+use Rattle.protocol.specs.Every.{Every}
+use Rattle.protocol.specs.Bytes.{Bytes, Sized}
 use Rattle.protocol.specs.Tests.{firstRefusal}
 use Rattle.protocol.specs.Block.{digestSize}
-use Rattle.protocol.specs.EveryLaws.{Every}
-use Rattle.protocol.specs.PiecesLaws.{Sized}
 use Rattle.protocol.specs.Frame.{frameSize}
 use Rattle.protocol.specs.State.{State, at, last}
 use Rattle.protocol.specs.Deliver.{readRows}

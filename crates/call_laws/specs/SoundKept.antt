@@ -9,7 +9,7 @@ use Rattle.protocol.specs.Sound.{sound}
 use Rattle.protocol.specs.Answer.{accepted, done}
 use Rattle.protocol.specs.Open.{openCall}
 use Rattle.protocol.specs.Call.{Call, opening, delivery, moving, signalling, submitting, sizing, reading, fetching, effect, bookAfter, bookAfterAll}
-use Rattle.call_laws.specs.SoundKeptLaws.{open-kept, open-made, deliver-kept, move-kept, signal-kept, submit-kept}
+use Rattle.call_laws.specs.Laws.SoundKeptLaws.{open-kept, open-made, deliver-kept, move-kept, signal-kept, submit-kept}
 
 module _ (digest : Bytes → Bytes) where
   -- each call on a sound book leaves a sound book

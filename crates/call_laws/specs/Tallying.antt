@@ -12,7 +12,7 @@ use Rattle.protocol.specs.Open.{openCall}
 use Rattle.protocol.specs.Call.{Call, opening, delivery, moving, signalling, submitting, sizing, reading, fetching, effect, bookAfter, bookAfterAll}
 use Rattle.call_laws.specs.Keeping.{AllTallied}
 use Rattle.call_laws.specs.SoundKept.{sound-kept}
-use Rattle.call_laws.specs.TallyingLaws.{open-tallied, open-keeps, deliver-keeps-tallies, move-keeps, signal-keeps, submit-keeps}
+use Rattle.call_laws.specs.Laws.TallyingLaws.{open-tallied, open-keeps, deliver-keeps-tallies, move-keeps, signal-keeps, submit-keeps}
 
 module _ (digest : Bytes → Bytes) where
   -- each call on a sound book keeps that all its heights are tallied

@@ -14,8 +14,8 @@ use Rattle.protocol.specs.Fetch.{fetchCall}
 use Rattle.call_laws.specs.Readable.{SameSetting, DigestSized, Said}
 use Rattle.call_laws.specs.Named.{moveAnswerFrames, moveAnswerFields, fetchAnswerFrames, fetchAnswerFields}
 use Rattle.call_laws.specs.Reply.{Wrote, blankAfter}
-use Rattle.call_laws.specs.ReadLaws.{zero-frame}
-use Rattle.call_laws.specs.CallWrittenLaws.{move-named, move-said, move-wrote, fetch-named, fetch-said, fetch-wrote}
+use Rattle.call_laws.specs.Laws.ReadLaws.{zero-frame}
+use Rattle.call_laws.specs.Laws.CallWrittenLaws.{move-named, move-said, move-wrote, fetch-named, fetch-said, fetch-wrote}
 
 -- ---- Move
 -- what holds of the frames that a move on `book` writes to `reply`, for each other book

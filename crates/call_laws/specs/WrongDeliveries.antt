@@ -9,10 +9,9 @@ use mathlib.Core.List.{[], _∷_}
 use lib.ListN.{length, set, List·getD-eq-default}
 use lib.Dec.{ltb}
 use borrow.Author.Tests.{ltb-true}
-use Rattle.protocol.specs.Bytes.{Bytes, byteAt, zeros, all}
-use Rattle.protocol.specs.BytesLaws.{AreBytes, put}
-use Rattle.protocol.specs.TestsLaws.{le-or-lt}
-use Rattle.protocol.specs.RowLaws.{all-at}
+use Rattle.protocol.specs.Bytes.{Bytes, byteAt, zeros, all, AreBytes, put}
+use Rattle.protocol.specs.Laws.TestsLaws.{le-or-lt}
+use Rattle.protocol.specs.Laws.RowLaws.{all-at}
 use Rattle.protocol.specs.Block.{newBlock}
 use Rattle.protocol.specs.Frame.{blockCertificate, dummyVote, proposal}
 use Rattle.protocol.specs.State.{encode, decode, withHeight, at}

@@ -6,23 +6,23 @@ use mathlib.Core.Path.{_≡_, sym, ap, subst, _∙_}
 use mathlib.Core.Bool.{Bool, true, false}
 use mathlib.Core.List.{List, _++_}
 use lib.ListN.{length, take, drop, length-append}
-use Rattle.protocol.specs.Bytes.{Bytes, part, same, join, holds, overFront}
-use Rattle.protocol.specs.BytesLaws.{put, length-part}
+use Rattle.protocol.specs.Bytes.{Bytes, part, same, join, holds, overFront, put}
+use Rattle.protocol.specs.Laws.BytesLaws.{length-part}
 use Rattle.protocol.specs.Block.{parentHeight, entryCount, entries}
 use Rattle.protocol.specs.State.{maximumEntries}
 use Rattle.protocol.specs.Sound.{view}
 use Rattle.protocol.specs.View.{View, logAt}
-use Rattle.protocol.specs.FormedLaws.{Formed, formed}
-use Rattle.protocol.specs.LinkedLaws.{linked-parent}
-use Rattle.protocol.specs.ChainLaws.{log-suc, log-length, log-bound}
-use Rattle.protocol.specs.PiecesLaws.{join-append}
+use Rattle.protocol.specs.Laws.FormedLaws.{Formed, formed}
+use Rattle.protocol.specs.Laws.LinkedLaws.{linked-parent}
+use Rattle.protocol.specs.Laws.ChainLaws.{log-suc, log-length, log-bound}
+use Rattle.protocol.specs.Laws.PiecesLaws.{join-append}
 use Rattle.fields.proofs.Places.{cut-part}
 use Rattle.sha256.specs.Digest.{sha256}
 use Rattle.chains.specs.Walkable.{WalkableAs}
 use Rattle.fields.specs.Book.{viewOf}
 use Rattle.fields.specs.declared.kind.Kind.{Kind}
-use Rattle.protocol.specs.EntriesLaws.{log-start, entries-next, entries-done, entries-length, join-entries, holds-first, holds-next, holds-none, holds-back, holds-front}
-use Rattle.protocol.specs.FrontLaws.{front-join, front-none}
+use Rattle.protocol.specs.Laws.EntriesLaws.{log-start, entries-next, entries-done, entries-length, join-entries, holds-first, holds-next, holds-none, holds-back, holds-front}
+use Rattle.protocol.specs.Laws.FrontLaws.{front-join, front-none}
 
 pub record Step (kind : Kind) (book : Bytes) (h : ℕ) (block : Bytes) : Type 0 where
   pub parent : WalkableAs kind book (parentHeight block)

@@ -5,20 +5,18 @@ use mathlib.Core.Path.{_≡_, sym, ap, subst, _∙_}
 use mathlib.Core.Bool.{true}
 use mathlib.Core.List.{List, [], _∷_, _++_}
 use lib.ListN.{length, take, length-take}
-use Rattle.protocol.specs.Bytes.{Bytes, part, pieces, without}
-use Rattle.protocol.specs.BytesLaws.{put}
+use Rattle.protocol.specs.Every.{Every}
+use Rattle.protocol.specs.Bytes.{Bytes, part, pieces, without, put, Sized as SizedBytes}
 use Rattle.protocol.specs.Block.{blockWellFormed}
 use Rattle.protocol.specs.State.{State, decode, encode, last, pending, withPool, bookHeights, maximumPending}
 use Rattle.protocol.specs.Sound.{view, log}
 use Rattle.protocol.specs.View.{View, linked, logAt}
 use Rattle.protocol.specs.Submit.{withPending, stillPending}
-use Rattle.protocol.specs.EveryLaws.{Every}
-use Rattle.protocol.specs.StateLaws.{decode-encode}
-use Rattle.protocol.specs.PiecesLaws.{Sized as SizedBytes}
-use Rattle.protocol.specs.PoolLaws.{moved, moved-view, moved-last, moved-pending, moved-pieces, moved-shaped, moved-entry, moved-more, without-short}
-use Rattle.protocol.specs.EntriesLaws.{lacked-sized, pending-all}
+use Rattle.protocol.specs.Laws.StateLaws.{decode-encode}
+use Rattle.protocol.specs.Laws.PoolLaws.{moved, moved-view, moved-last, moved-pending, moved-pieces, moved-shaped, moved-entry, moved-more, without-short}
+use Rattle.protocol.specs.Laws.EntriesLaws.{lacked-sized, pending-all}
 use Rattle.fields.specs.Book.{Ready}
-use Rattle.fields.specs.BookLaws.{ready-state, ready-moved}
+use Rattle.fields.specs.Laws.BookLaws.{ready-state, ready-moved}
 use Rattle.sha256.specs.Digest.{sha256}
 use Rattle.chains.specs.Walkable.{Walkable}
 

@@ -6,20 +6,19 @@ use mathlib.Core.Path.{_≡_, refl, sym, ap, subst, _∙_}
 use mathlib.Core.Bool.{Bool, true, false}
 use mathlib.Core.List.{List, [], _∷_, _++_}
 use lib.ListN.{length, take, drop, length-append, length-drop}
-use Rattle.protocol.specs.Bytes.{Bytes, part, same, holds, overFront, without}
-use Rattle.protocol.specs.BytesLaws.{put, length-part}
+use Rattle.protocol.specs.Every.{Every, none}
+use Rattle.protocol.specs.Bytes.{Bytes, part, same, holds, overFront, without, put, Sized}
+use Rattle.protocol.specs.Laws.BytesLaws.{length-part}
 use Rattle.protocol.specs.Block.{newBlock}
 use Rattle.protocol.specs.State.{State, decode, pending, maximumPending}
 use Rattle.protocol.specs.Sound.{view, log}
 use Rattle.protocol.specs.View.{logAt}
 use Rattle.protocol.specs.Submit.{stillPending}
-use Rattle.protocol.specs.EveryLaws.{Every, none}
-use Rattle.protocol.specs.PiecesLaws.{Sized}
-use Rattle.protocol.specs.CodecLaws.{decode-shaped}
-use Rattle.protocol.specs.EntriesLaws.{pending-next, pending-done, pending-all, holds-first, holds-next, holds-none}
-use Rattle.protocol.specs.BlockLaws.{new-block-size}
-use Rattle.protocol.specs.BuildLaws.{block-more}
-use Rattle.protocol.specs.FrontLaws.{front-again}
+use Rattle.protocol.specs.Laws.CodecLaws.{decode-shaped}
+use Rattle.protocol.specs.Laws.EntriesLaws.{pending-next, pending-done, pending-all, holds-first, holds-next, holds-none}
+use Rattle.protocol.specs.Laws.BlockLaws.{new-block-size}
+use Rattle.protocol.specs.Laws.BuildLaws.{block-more}
+use Rattle.protocol.specs.Laws.FrontLaws.{front-again}
 use Rattle.chains.specs.Walkable.{Walkable}
 
 -- ---- a book's places

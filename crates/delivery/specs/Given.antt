@@ -1,11 +1,11 @@
 -- What the inner functions of Deliver ask of the book, of a height, and of a frame that is read.
 use Prim.Native.Nat.{ℕ, _≤_}
 use mathlib.Core.Path.{_≡_}
+use Rattle.protocol.specs.ReadFrame.{ReadFrame}
+use Rattle.protocol.specs.SoundState.{HeightRange}
 use Rattle.protocol.specs.Bytes.{Bytes}
 use Rattle.protocol.specs.Frame.{frameHeight}
 use Rattle.protocol.specs.State.{decode, at}
-use Rattle.protocol.specs.GrantedLaws.{HeightRange}
-use Rattle.protocol.specs.DeliverLaws.{ReadFrame}
 use Rattle.fields.specs.Book.{Ready, Within}
 
 -- a height of a book that can be read and written

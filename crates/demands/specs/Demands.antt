@@ -22,13 +22,12 @@ use mathlib.Core.List.{List, [], _∷_}
 use lib.ListN.{length}
 use borrow.Author.Tests.{le-leb}
 use Rattle.sha256.specs.Digest.{sha256}
-use Rattle.sha256.specs.DigestLaws.{sha256-length}
-use Rattle.protocol.specs.Bytes.{Bytes}
-use Rattle.protocol.specs.BytesLaws.{AreBytes}
+use Rattle.sha256.specs.Laws.DigestLaws.{sha256-length}
+use Rattle.protocol.specs.Bytes.{Bytes, AreBytes}
 use Rattle.protocol.specs.Tests.{firstRefusal}
 use Rattle.protocol.specs.State.{decode}
 use Rattle.protocol.specs.Sound.{sound}
-use Rattle.protocol.specs.SoundLaws.{sound-decode}
+use Rattle.protocol.specs.Laws.SoundLaws.{sound-decode}
 use Rattle.protocol.specs.Answer.{Done, Delivery, Move, accepted, done}
 use Rattle.protocol.specs.Open.{openRows, openCall}
 use Rattle.protocol.specs.Deliver.{deliverRows, deliverCall}
@@ -39,27 +38,27 @@ use Rattle.protocol.specs.Read.{sizeCall, readPart, readBuffer}
 use Rattle.protocol.specs.Fetch.{fetchRows, fetchCall}
 use Rattle.protocol.specs.Call.{Call, bookAfter, bookAfterAll}
 use Rattle.agreement.specs.Lists.{Agreement}
-use Rattle.agreement.specs.AgreementLaws.{agreement}
+use Rattle.agreement.specs.Laws.AgreementLaws.{agreement}
 use Rattle.agreement.specs.AnyDigest.{AnyDigest}
-use Rattle.agreement.specs.AnyDigestLaws.{any-digest}
+use Rattle.agreement.specs.Laws.AnyDigestLaws.{any-digest}
 use Rattle.agreement.specs.Turns.{nextBlock}
 use Rattle.call_laws.specs.Refusals.{Refuses}
-use Rattle.call_laws.specs.RefusalsLaws.{open-refuses, deliver-refuses, move-refuses, signal-refuses, submit-refuses, size-refuses, fetch-refuses}
+use Rattle.call_laws.specs.Laws.RefusalsLaws.{open-refuses, deliver-refuses, move-refuses, signal-refuses, submit-refuses, size-refuses, fetch-refuses}
 use Rattle.call_laws.specs.BookBytes.{openedBook, Signals, Submits, headOf}
-use Rattle.call_laws.specs.BookBytesLaws.{open-bytes, signal-bytes, submit-bytes, move-bytes}
+use Rattle.call_laws.specs.Laws.BookBytesLaws.{open-bytes, signal-bytes, submit-bytes, move-bytes}
 use Rattle.call_laws.specs.Keeping.{Keeps, AllTallied}
-use Rattle.call_laws.specs.KeepingLaws.{deliver-keeps}
-use Rattle.call_laws.specs.KeepsExactLaws.{keeps-exact}
+use Rattle.call_laws.specs.Laws.KeepingLaws.{deliver-keeps}
+use Rattle.call_laws.specs.Laws.KeepsExactLaws.{keeps-exact}
 use Rattle.call_laws.specs.SoundKept.{sound-kept, sound-opened}
 use Rattle.call_laws.specs.Tallying.{tallied-kept-all, tallied-opened}
 use Rattle.call_laws.specs.Readable.{SameSetting}
 use Rattle.call_laws.specs.WrittenRead.{MoveWritten, move-written-read, FetchWritten, fetch-written-read}
 use Rattle.paper.specs.Steps.{FiveSteps}
-use Rattle.paper.specs.StepsLaws.{five-steps}
+use Rattle.paper.specs.Laws.StepsLaws.{five-steps}
 use Rattle.paper.specs.Idle.{IdlesJustThen, MovesEnd}
-use Rattle.paper.specs.IdleLaws.{idles-just-then, moves-end}
+use Rattle.paper.specs.Laws.IdleLaws.{idles-just-then, moves-end}
 use Rattle.paper.specs.Register.{ReadsChain, CannotRead}
-use Rattle.paper.specs.RegisterLaws.{reads-chain, reads-nothing}
+use Rattle.paper.specs.Laws.RegisterLaws.{reads-chain, reads-nothing}
 
 -- ---- demand 1: refusals
 -- each call is refused by the number of its first row that fails, if one does, and then no byte lent to it changes

@@ -11,8 +11,8 @@ use Rattle.protocol.specs.Sound.{view}
 use Rattle.protocol.specs.Frame.{isCertificate, frameOf, blockCertificate, dummyCertificate, finalizeCertificate}
 use Rattle.protocol.specs.Fetch.{hasCertificate}
 use Rattle.protocol.specs.Certificates.{certificateFrame}
-use Rattle.protocol.specs.TestsLaws.{le-or-lt}
-use Rattle.protocol.specs.RowLaws.{in-range}
+use Rattle.protocol.specs.Laws.TestsLaws.{le-or-lt}
+use Rattle.protocol.specs.Laws.RowLaws.{in-range}
 use Rattle.fields.specs.Numbered.{maskAt}
 
 pub certificate-range : (k : ℕ) → isCertificate k ≡ true → (5 ≤ k) × (k ≤ 7)

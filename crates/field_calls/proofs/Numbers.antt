@@ -12,8 +12,8 @@ use Rattle.protocol.specs.Tests.{allOf, inRange}
 use Rattle.protocol.specs.State.{decode, encode, last, flag, withHead, withTimerFired, bookSize, bookHeights, maximumReplicas}
 use Rattle.protocol.specs.Open.{openInRange}
 use Rattle.protocol.specs.Frame.{isCertificate}
-use Rattle.protocol.specs.CodecLaws.{last-decode}
-use Rattle.protocol.specs.RowLaws.{not-passed, row, in-range, all-at, at-all}
+use Rattle.protocol.specs.Laws.CodecLaws.{last-decode}
+use Rattle.protocol.specs.Laws.RowLaws.{not-passed, row, in-range, all-at, at-all}
 use Rattle.protocol.specs.Block.{maximumHeights}
 
 pub in-book : (book : Bytes) (h heights : ℕ) → heights ≡ bookHeights book → (leb 1 h && leb h heights) ≡ inRange 1 (last (decode book)) h

@@ -7,7 +7,7 @@ use mathlib.Core.Logic.{_⊎_, ⊎-elim}
 use lib.ListN.{length, set}
 use lib.Seq.{paste, paste-suc, getD-set-other}
 use Rattle.protocol.specs.Bytes.{Bytes, byteAt, part}
-use Rattle.protocol.specs.BytesLaws.{length-part, byte-part}
+use Rattle.protocol.specs.Laws.BytesLaws.{length-part, byte-part}
 
 -- the places are apart, or the bytes go down
 abbrev pub Apart : ℕ → ℕ → ℕ → Type 0

@@ -6,11 +6,11 @@ use native.Mathlib.Numerals.{add-one}
 use mathlib.Core.Path.{_≡_, sym, ap, _∙_}
 use lib.ListN.{length, set}
 use lib.Seq.{paste, paste-suc, paste-zero, length-paste}
-use Rattle.protocol.specs.Bytes.{Bytes, byteAt, zeros}
+use Rattle.protocol.specs.Bytes.{Bytes, byteAt, zeros, put}
 use Rattle.protocol.specs.State.{encode}
 use Rattle.protocol.specs.Open.{newState}
-use Rattle.protocol.specs.BytesLaws.{put, put-all, put-paste, length-zeros}
-use Rattle.protocol.specs.NewStateLaws.{new-from-zeros, new-leader}
+use Rattle.protocol.specs.Laws.BytesLaws.{put-all, put-paste, length-zeros}
+use Rattle.protocol.specs.Laws.NewStateLaws.{new-from-zeros, new-leader}
 
 pub head-made : (n own heights : ℕ) (book cleared : Bytes) → length book ≡ 576 + 880 * heights → cleared ≡ put book 0 (zeros (length book)) →
     set (set (set (set (set cleared 0 n) 1 own) 2 heights) 4 1) 7 1 ≡ encode (newState n own (zeros heights))

@@ -4,12 +4,12 @@ use native.Mathlib.Omega.{arith}
 use native.Mathlib.Nat.{add-zero}
 use mathlib.Core.Path.{_≡_, ap, subst, _∙_}
 use lib.ListN.{length, take, drop}
+use Rattle.protocol.specs.SoundState.{ShapedHeight}
 use Rattle.protocol.specs.Bytes.{Bytes, byteAt, word16, part}
 use Rattle.protocol.specs.State.{Height, at, last, decode, voteOf, bookHeights}
-use Rattle.protocol.specs.StateLaws.{ShapedHeight}
-use Rattle.protocol.specs.CodecLaws.{Exact, last-decode, decode-shaped}
-use Rattle.protocol.specs.PlaceLaws.{suc-pred, shaped-at}
-use Rattle.protocol.specs.FieldLaws.{read-leader, read-status, read-certificate-mask, read-dummy-mask, read-finalize-mask, read-voter-mask, read-proposal, read-notarized, read-vote}
+use Rattle.protocol.specs.Laws.CodecLaws.{Exact, last-decode, decode-shaped}
+use Rattle.protocol.specs.Laws.PlaceLaws.{suc-pred, shaped-at}
+use Rattle.protocol.specs.Laws.FieldLaws.{read-leader, read-status, read-certificate-mask, read-dummy-mask, read-finalize-mask, read-voter-mask, read-proposal, read-notarized, read-vote}
 use Rattle.fields.specs.Book.{Within}
 use Rattle.fields.specs.Numbered.{maskAt, blockAt}
 

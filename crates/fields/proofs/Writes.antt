@@ -4,19 +4,19 @@ use native.Mathlib.Omega.{arith}
 use mathlib.Core.Path.{_≡_, refl, ap, subst, _∙_}
 use mathlib.Core.List.{[], _∷_, _++_}
 use lib.ListN.{length, set}
-use Rattle.protocol.specs.Bytes.{Bytes, le16, part, zeros, pieces}
+use Rattle.protocol.specs.SoundState.{ShapedHeight, Shaped}
+use Rattle.protocol.specs.Bytes.{Bytes, le16, part, zeros, pieces, put}
 use Rattle.protocol.specs.State.{State, Height, headBytes, encode, decode, at, last, withHead, withHeight, withPool, bookHeights}
 use Rattle.protocol.specs.Deliver.{withProposal, withNotarized, withVote}
 use Rattle.protocol.specs.Submit.{withPending}
-use Rattle.protocol.specs.BytesLaws.{put, length-part}
-use Rattle.protocol.specs.StateLaws.{Shaped, ShapedHeight}
-use Rattle.protocol.specs.CodecLaws.{last-decode, decode-shaped}
-use Rattle.protocol.specs.PlaceLaws.{suc-pred, shaped-at}
-use Rattle.protocol.specs.FieldLaws.{read-proposal, read-entry}
-use Rattle.protocol.specs.WriteLaws.{withStatus, withCertificateMask, withNotarizedBytes, write-status, write-certificate-mask, write-notarized}
-use Rattle.protocol.specs.ChangeLaws.{named-height}
-use Rattle.protocol.specs.BookLaws.{book-pool, book-proposal, book-dummy-mask, book-finalize-mask, book-vote}
-use Rattle.protocol.specs.PoolLaws.{book-finish}
+use Rattle.protocol.specs.Laws.BytesLaws.{length-part}
+use Rattle.protocol.specs.Laws.CodecLaws.{last-decode, decode-shaped}
+use Rattle.protocol.specs.Laws.PlaceLaws.{suc-pred, shaped-at}
+use Rattle.protocol.specs.Laws.FieldLaws.{read-proposal, read-entry}
+use Rattle.protocol.specs.Laws.WriteLaws.{withStatus, withCertificateMask, withNotarizedBytes, write-status, write-certificate-mask, write-notarized}
+use Rattle.protocol.specs.Laws.ChangeLaws.{named-height}
+use Rattle.protocol.specs.Laws.BookLaws.{book-pool, book-proposal, book-dummy-mask, book-finalize-mask, book-vote}
+use Rattle.protocol.specs.Laws.PoolLaws.{book-finish}
 use Rattle.fields.specs.Book.{Ready, Within}
 use Rattle.fields.specs.Numbered.{withMaskAt}
 use Rattle.fields.proofs.Places.{height-shaped}

@@ -1,4 +1,4 @@
 -- What the contracts of a book's fields speak of, and laws about it.
 pub mod Book
-pub mod BookLaws
 pub mod Numbered
+pub mod Laws

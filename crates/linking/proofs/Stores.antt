@@ -8,10 +8,10 @@ use lib.ListN.{length, set, length-set}
 use lib.Dec.{eqb, leb}
 use lib.Seq.{getD-set-same, getD-set-other, ext-getD}
 use borrow.Author.Tests.{eqb-false, eqb-true, le-leb, lt-leb}
-use Rattle.protocol.specs.Bytes.{Bytes, byteAt, word16, le16, part}
-use Rattle.protocol.specs.BytesLaws.{put, length-put, length-part, byte-part, put-other, put-there, put-word, word16-le16}
+use Rattle.protocol.specs.Bytes.{Bytes, byteAt, word16, le16, part, put}
+use Rattle.protocol.specs.Laws.BytesLaws.{length-put, length-part, byte-part, put-other, put-there, put-word, word16-le16}
 use Rattle.protocol.specs.View.{View, linked, isDummy, dummyRun}
-use Rattle.protocol.specs.TestsLaws.{le-or-lt}
+use Rattle.protocol.specs.Laws.TestsLaws.{le-or-lt}
 use Rattle.sha256.specs.Digest.{sha256}
 use Rattle.linking.specs.Memo.{Known, KnownAt, runStart}
 

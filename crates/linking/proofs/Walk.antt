@@ -8,12 +8,12 @@ use mathlib.Core.List.{[], _∷_}
 use mathlib.Core.Option.{some, none}
 use lib.ListN.{length, take, drop}
 use lib.Dec.{ltb}
-use Rattle.protocol.specs.Bytes.{Bytes, part, zeros, same}
+use Rattle.protocol.specs.Bytes.{Bytes, part, zeros, same, put}
 use Rattle.protocol.specs.Block.{parentHeight, parentDigest}
 use Rattle.protocol.specs.Tests.{allOf}
 use Rattle.protocol.specs.View.{View, quorum, isDummy, digestAt, linked, extends, extendsOver, dummyRun, isFinalized, largestFinalized, parentOf}
-use Rattle.protocol.specs.BytesLaws.{length-part, put, put-all}
-use Rattle.protocol.specs.LinkedLaws.{linked-suc, linked-zero}
+use Rattle.protocol.specs.Laws.BytesLaws.{length-part, put-all}
+use Rattle.protocol.specs.Laws.LinkedLaws.{linked-suc, linked-zero}
 use Rattle.sha256.specs.Digest.{sha256}
 
 -- ---- the digest that a block names

@@ -9,8 +9,8 @@ use borrow.Author.Tests.{lt-ltb}
 use Rattle.protocol.specs.State.{State, pending, maximumPending}
 use Rattle.protocol.specs.Sound.{log}
 use Rattle.protocol.specs.Submit.{stillPending}
-use Rattle.protocol.specs.EntriesLaws.{pending-length}
-use Rattle.protocol.specs.PoolLaws.{without-short}
+use Rattle.protocol.specs.Laws.EntriesLaws.{pending-length}
+use Rattle.protocol.specs.Laws.PoolLaws.{without-short}
 
 -- ---- Submit
 pub few-stay : (s : State) (count : ℕ) → count ≡ s .pendingCount → count < maximumPending → true ≡ ltb (length (stillPending s)) maximumPending

@@ -1,3 +1,3 @@
 -- What Submit, Register size and Read answer, row by row.
-pub mod ReadLaws
-pub mod SubmitLaws
+pub mod EntryKnown
+pub mod Laws

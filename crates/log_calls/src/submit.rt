@@ -5,12 +5,12 @@ ghost use mathlib.Core.Path.{_≡_};
 ghost use mathlib.Core.Bool.{false};
 ghost use lib.ListN.{length};
 ghost use lib.Dec.{ltb};
+ghost use Rattle.log_calls.specs.EntryKnown.{isEntryKnown};
 ghost use Rattle.sha256.specs.Digest.{sha256 as sha};
 ghost use Rattle.protocol.specs.State.{decode, maximumPending};
 ghost use Rattle.protocol.specs.Submit.{stillPending, submitCall};
 ghost use Rattle.answers.specs.Answers.{doneAnswer};
 ghost use Rattle.fields.specs.Book.{SoundBook};
-ghost use Rattle.log_calls.specs.SubmitLaws.{isEntryKnown};
 
 // Whether an entry is pending or in the log. Compares it with those pending, 32 at most, and with the log.
 fn is_known(book: &[u8], entry: &[u8]) -> bool

@@ -1,3 +1,3 @@
 -- What the choice of a move speaks of, and laws about it.
 pub mod Later
-pub mod OrderLaws
+pub mod Laws

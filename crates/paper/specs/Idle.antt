@@ -3,9 +3,8 @@ use Prim.Native.Nat.{ℕ, _+_, _-_, _≤_}
 use mathlib.Core.Path.{_≡_}
 use mathlib.Core.Logic.{_↔_}
 use mathlib.Core.Bool.{false}
-use Rattle.protocol.specs.Bytes.{Bytes}
+use Rattle.protocol.specs.Bytes.{Bytes, AreBytes}
 use Rattle.protocol.specs.State.{State, decode, last}
-use Rattle.protocol.specs.BytesLaws.{AreBytes}
 use Rattle.protocol.specs.Answer.{accepted, idle}
 use Rattle.protocol.specs.Move.{step, afterMoves, moveCall, dummyVoteApplies, outputApplies, passApplies, proposeApplies, blockVoteApplies}
 

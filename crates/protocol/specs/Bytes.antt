@@ -1,5 +1,6 @@
 -- Byte strings, as lists of numbers: fields, parts, tests and joins.
-use Prim.Native.Nat.{ℕ, zero, suc, _+_, _*_, _/_, _%_}
+use mathlib.Core.Path.{_≡_}
+use Prim.Native.Nat.{ℕ, zero, suc, _+_, _*_, _/_, _%_, _<_}
 use mathlib.Core.Bool.{Bool, true, false, _&&_, cond}
 use mathlib.Core.List.{List, [], _∷_, _++_}
 use lib.ListN.{length, getD, take, drop, replicate}
@@ -65,3 +66,15 @@ holds x (y ∷ ys) = cond (same x y) true (holds x ys)
 unfoldable pub without : List Bytes → List Bytes → List Bytes
 without taken [] = []
 without taken (e ∷ es) = cond (holds e taken) (without taken es) (e ∷ without taken es)
+
+-- every number of the list is a byte, as in a byte slice
+abbrev pub AreBytes : Bytes → Type 0
+AreBytes bytes = (i : ℕ) → byteAt bytes i < 256
+
+-- `new` in the place of as many bytes from `i` on
+unfoldable pub put : Bytes → ℕ → Bytes → Bytes
+put bytes i new = take i bytes ++ (new ++ drop (i + length new) bytes)
+
+-- a byte string of that length
+abbrev pub Sized : ℕ → Bytes → Type 0
+Sized k b = length b ≡ k

@@ -1,6 +1,7 @@
 -- Masks: sets of replicas as the bits of a number, and how many are in one.
-use Prim.Native.Nat.{ℕ, zero, suc, _+_, _/_, _%_, _^_}
-use mathlib.Core.Bool.{Bool, _||_, cond}
+use mathlib.Core.Path.{_≡_}
+use Prim.Native.Nat.{ℕ, zero, suc, _+_, _/_, _%_, _^_, _<_}
+use mathlib.Core.Bool.{Bool, _||_, cond, true}
 use mathlib.Core.List.{List, [], _∷_}
 use lib.Dec.{eqb, ltb}
 
@@ -38,3 +39,7 @@ weigh p (w ∷ ws) = cond (p 0) w 0 + weigh (λ t. p (suc t)) ws
 unfoldable pub total : List ℕ → ℕ
 total [] = 0
 total (w ∷ ws) = w + total ws
+
+-- every bit of `a` below `n` is one of `b`
+abbrev pub Within : ℕ → ℕ → ℕ → Type 0
+Within n a b = (t : ℕ) → t < n → inMask a t ≡ true → inMask b t ≡ true

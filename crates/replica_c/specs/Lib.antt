@@ -1,7 +1,6 @@
 -- An answer as one number for C, that its parts fit and are read back by the header's functions, and the number of the
 -- interface.
 pub mod Packing
-pub mod PackingLaws
 pub mod Unpacking
-pub mod UnpackingLaws
 pub mod Interface
+pub mod Laws

@@ -10,10 +10,10 @@ use lib.ListN.{length, getD, take, drop, set, length-append, drop-of-length-le}
 use lib.Seq.{sets, sets-eq, take-at, drop-at, take-suc, take-all, append-snoc, take-length, length-take-le}
 use Rattle.sha256.specs.Bytes.{Bytes}
 use Rattle.sha256.specs.Padding.{bigEndian, zeros}
-use Rattle.sha256.specs.PaddingLaws.{zeros-length, zeros-add, bigEndian-low}
+use Rattle.sha256.specs.Laws.PaddingLaws.{zeros-length, zeros-add, bigEndian-low}
 use Rattle.sha256.specs.Ending.{opened}
 use Rattle.sha256.specs.Digest.{wordsBytes}
-use Rattle.sha256.specs.DigestLaws.{wordsBytes-length, wordsBytes-append}
+use Rattle.sha256.specs.Laws.DigestLaws.{wordsBytes-length, wordsBytes-append}
 
 -- a run of stores into zeros, from the first zero on
 stored : (front values : Bytes) (at count : ℕ) → length front ≡ at → at + length values ≤ count

@@ -15,11 +15,11 @@ use Rattle.protocol.specs.Mask.{belowBit}
 use Rattle.protocol.specs.State.{Height, at, decode, bookSize, holdsProposal, isNotarized, bookHeights}
 use Rattle.protocol.specs.View.{quorum, isFinalized}
 use Rattle.protocol.specs.Sound.{view, masksBelow, blocksWellFormed, contentZeros, sound}
-use Rattle.protocol.specs.RowLaws.{row, true-and, row-fails}
-use Rattle.protocol.specs.CodecLaws.{last-decode}
-use Rattle.protocol.specs.SoundLaws.{not-finalized-past}
+use Rattle.protocol.specs.Laws.RowLaws.{row, true-and, row-fails}
+use Rattle.protocol.specs.Laws.CodecLaws.{last-decode}
+use Rattle.protocol.specs.Laws.SoundLaws.{not-finalized-past}
 use Rattle.soundness.specs.SoundRows.{numberRows, headRows, heightRows, bookRows, finalRow}
-use Rattle.soundness.specs.SoundRowsLaws.{sound-is}
+use Rattle.soundness.specs.Laws.SoundRowsLaws.{sound-is}
 
 -- ---- the head
 module _ (book : Bytes) where

@@ -1,4 +1,3 @@
 -- Soundness in the order of the code, and what a book that was found sound grants.
 pub mod SoundRows
-pub mod SoundRowsLaws
-pub mod WithinLaws
+pub mod Laws

@@ -1,4 +1,3 @@
 -- What the steps speak of, and laws about it.
 pub mod Pass
-pub mod ProposeLaws
-pub mod StepsLaws
+pub mod Laws

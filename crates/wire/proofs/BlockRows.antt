@@ -8,7 +8,7 @@ use lib.Dec.{eqb, leb, ltb}
 use borrow.Author.Tests.{eq-eqb, ne-eqb, leb-true}
 use Rattle.protocol.specs.Bytes.{Bytes, byteAt, part, isZero}
 use Rattle.protocol.specs.Tests.{allOf, implies}
-use Rattle.protocol.specs.RowLaws.{row}
+use Rattle.protocol.specs.Laws.RowLaws.{row}
 use Rattle.protocol.specs.Block.{blockHeight, parentHeight, entryCount, parentDigest, blockWellFormed}
 use Rattle.wire.specs.Parts.{blockFields, blockParent, blockRest}
 

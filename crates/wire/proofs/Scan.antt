@@ -10,8 +10,8 @@ use lib.ListN.{length, getD, take, set, replicate, length-replicate, getD-replic
 use lib.Seq.{paste, paste-suc}
 use borrow.Author.Tests.{eq-eqb, eqb-true}
 use Rattle.protocol.specs.Bytes.{Bytes, byteAt, all, isZero, same, zeros}
-use Rattle.protocol.specs.TestsLaws.{and-true, both-ways}
-use Rattle.protocol.specs.RowLaws.{true-and, not-passed}
+use Rattle.protocol.specs.Laws.TestsLaws.{and-true, both-ways}
+use Rattle.protocol.specs.Laws.RowLaws.{true-and, not-passed}
 
 or-zero : (a b : ℕ) → bitOr a b ≡ 0 → (a ≡ 0) × (b ≡ 0)
 or-zero a b e =

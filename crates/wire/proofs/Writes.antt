@@ -4,9 +4,8 @@ use native.Mathlib.Omega.{arith}
 use mathlib.Core.Path.{_≡_, refl}
 use mathlib.Core.List.{[], _∷_, _++_}
 use lib.ListN.{length, length-append}
-use Rattle.protocol.specs.Bytes.{Bytes, le16, zeros, join, overFront}
-use Rattle.protocol.specs.BytesLaws.{put}
-use Rattle.protocol.specs.FrontLaws.{starts, goes-on}
+use Rattle.protocol.specs.Bytes.{Bytes, le16, zeros, join, overFront, put}
+use Rattle.protocol.specs.Laws.FrontLaws.{starts, goes-on}
 use Rattle.protocol.specs.Block.{newBlock}
 use Rattle.protocol.specs.Frame.{frameOf}
 use Rattle.wire.specs.Parts.{frameHead}

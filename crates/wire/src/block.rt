@@ -10,8 +10,7 @@ ghost use mathlib.Core.Path.{_≡_};
 ghost use mathlib.Core.List.{[], _∷_};
 ghost use Prim.Native.Nat.{_+_, _*_, _<_, _≤_};
 ghost use lib.ListN.{length};
-ghost use Rattle.protocol.specs.Bytes.{overFront};
-ghost use Rattle.protocol.specs.BytesLaws.{put};
+ghost use Rattle.protocol.specs.Bytes.{overFront, put};
 ghost use Rattle.protocol.specs.Block.{blockHeight, parentHeight, entryCount, blockWellFormed, newBlock};
 ghost use Rattle.wire.specs.Parts.{blockFields, blockParent, blockRest};
 

@@ -3,8 +3,7 @@ ghost use mathlib.Core.Path.{_≡_};
 ghost use Prim.Native.Nat.{_+_, _<_, _≤_};
 ghost use lib.ListN.{length};
 ghost use mathlib.Core.List.{[], _∷_};
-ghost use Rattle.protocol.specs.Bytes.{byteAt, word16, le16, zeros, isZero, same};
-ghost use Rattle.protocol.specs.BytesLaws.{put};
+ghost use Rattle.protocol.specs.Bytes.{byteAt, word16, le16, zeros, isZero, same, put};
 
 // Whether every byte is 0. Costs one pass, with no early end, so that it can go many bytes at a time.
 pub fn is_zero(bytes: &[u8]) -> bool

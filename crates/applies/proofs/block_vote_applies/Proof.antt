@@ -2,8 +2,8 @@
 use mathlib.Core.Path.{sym, _∙_}
 use Rattle.sha256.specs.Digest.{sha256}
 use Rattle.protocol.specs.State.{decode}
-use Rattle.applies.specs.AppliesLaws.{vote-stopped, vote-cast, vote-held}
-use Rattle.applies.specs.RunningLaws.{running-high}
+use Rattle.applies.specs.Laws.AppliesLaws.{vote-stopped, vote-cast, vote-held}
+use Rattle.applies.specs.Laws.RunningLaws.{running-high}
 use borrow.Author.Needs.{needs}
 use Rattle.applies.proofs.block_vote_applies.Statement.{statement}
 use Rattle.applies.proofs.block_vote_applies.Tie as tie

@@ -2,7 +2,7 @@
 use mathlib.Core.Path.{_∙_}
 use Rattle.sha256.specs.Digest.{sha256}
 use Rattle.protocol.specs.State.{decode}
-use Rattle.applies.specs.AppliesLaws.{below-is}
+use Rattle.applies.specs.Laws.AppliesLaws.{below-is}
 use borrow.Author.Needs.{needs}
 use Rattle.applies.proofs.chain_below.Statement.{statement}
 use Rattle.applies.proofs.chain_below.Tie as tie

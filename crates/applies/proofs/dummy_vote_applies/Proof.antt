@@ -1,7 +1,7 @@
 -- `dummy_vote_applies` meets its contract: its tests are the rows of move 1.
 use mathlib.Core.Path.{sym, _∙_}
 use Rattle.protocol.specs.State.{decode}
-use Rattle.applies.specs.AppliesLaws.{dummy-stopped, dummy-in-time, dummy-cast, dummy-now}
+use Rattle.applies.specs.Laws.AppliesLaws.{dummy-stopped, dummy-in-time, dummy-cast, dummy-now}
 use borrow.Author.Needs.{needs}
 use Rattle.applies.proofs.dummy_vote_applies.Statement.{statement}
 use Rattle.applies.proofs.dummy_vote_applies.Tie as tie

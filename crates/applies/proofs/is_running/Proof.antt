@@ -1,5 +1,5 @@
 -- `is_running` meets its contract: the book says as many heights as its state has.
-use Rattle.applies.specs.RunningLaws.{running-is}
+use Rattle.applies.specs.Laws.RunningLaws.{running-is}
 use borrow.Author.Needs.{needs}
 use Rattle.applies.proofs.is_running.Statement.{statement}
 use Rattle.applies.proofs.is_running.Tie as tie

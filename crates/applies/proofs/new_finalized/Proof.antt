@@ -2,7 +2,7 @@
 use native.Mathlib.Omega.{arith}
 use mathlib.Core.Path.{_∙_}
 use Rattle.sha256.specs.Digest.{sha256}
-use Rattle.applies.specs.AppliesLaws.{newest-is}
+use Rattle.applies.specs.Laws.AppliesLaws.{newest-is}
 use borrow.Author.Needs.{needs}
 use Rattle.applies.proofs.new_finalized.Statement.{statement}
 use Rattle.applies.proofs.new_finalized.Tie as tie

@@ -4,8 +4,8 @@ use lib.ListN.{length}
 use Rattle.sha256.specs.Digest.{sha256}
 use Rattle.protocol.specs.State.{decode}
 use Rattle.fields.specs.Book.{Within}
-use Rattle.applies.specs.AppliesLaws.{held-extends, held-none}
-use Rattle.applies.specs.RunningLaws.{within-current, proposal-size}
+use Rattle.applies.specs.Laws.AppliesLaws.{held-extends, held-none}
+use Rattle.applies.specs.Laws.RunningLaws.{within-current, proposal-size}
 use borrow.Author.Needs.{needs}
 use Rattle.applies.proofs.proposal_extends.Statement.{statement}
 use Rattle.applies.proofs.proposal_extends.Tie as tie

@@ -2,8 +2,8 @@
 use mathlib.Core.Path.{sym, _∙_}
 use Rattle.sha256.specs.Digest.{sha256}
 use Rattle.protocol.specs.State.{decode}
-use Rattle.applies.specs.AppliesLaws.{leads, leads-not, propose-stopped, propose-follows, propose-done, propose-chain}
-use Rattle.applies.specs.RunningLaws.{current-within}
+use Rattle.applies.specs.Laws.AppliesLaws.{leads, leads-not, propose-stopped, propose-follows, propose-done, propose-chain}
+use Rattle.applies.specs.Laws.RunningLaws.{current-within}
 use borrow.Author.Needs.{needs}
 use Rattle.applies.proofs.propose_applies.Statement.{statement}
 use Rattle.applies.proofs.propose_applies.Tie as tie

@@ -5,7 +5,7 @@ use Rattle.protocol.specs.Answer.{Answer, Move}
 use Rattle.protocol.specs.Block.{maximumHeights}
 use Rattle.sha256.specs.Digest.{sha256}
 use Rattle.replica_c.specs.Packing.{packedMove, answeredHeight}
-use Rattle.replica_c.specs.PackingLaws.{move-height-low}
+use Rattle.replica_c.specs.Laws.PackingLaws.{move-height-low}
 use borrow.Author.Needs.{needs}
 use Rattle.replica_c.proofs.mavunilai_move.Statement.{statement}
 use Rattle.replica_c.proofs.mavunilai_move.Tie as tie

@@ -4,7 +4,7 @@ use mathlib.Core.Path.{sym, ap, subst, _∙_}
 use Rattle.protocol.specs.Answer.{Answer}
 use Rattle.sha256.specs.Digest.{sha256}
 use Rattle.replica_c.specs.Packing.{packedSize, answeredSize}
-use Rattle.replica_c.specs.PackingLaws.{size-low}
+use Rattle.replica_c.specs.Laws.PackingLaws.{size-low}
 use borrow.Author.Needs.{needs}
 use Rattle.replica_c.proofs.mavunilai_size.Statement.{statement}
 use Rattle.replica_c.proofs.mavunilai_size.Tie as tie

@@ -2,7 +2,7 @@
 use mathlib.Core.Path.{refl, sym, _∙_}
 use Rattle.sha256.specs.Digest.{sha256}
 use Rattle.protocol.specs.Bytes.{zeros}
-use Rattle.soundness.specs.SoundRowsLaws.{zero-memo}
+use Rattle.soundness.specs.Laws.SoundRowsLaws.{zero-memo}
 use Rattle.soundness.proofs.SoundTests.{final-none}
 use borrow.Author.Needs.{needs}
 use Rattle.soundness.proofs.finalized_alone.Statement.{statement}

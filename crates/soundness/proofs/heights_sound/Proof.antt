@@ -4,7 +4,7 @@ use native.Mathlib.Omega.{arith}
 use mathlib.Core.Path.{_≡_, refl, sym, ap, _∙_}
 use mathlib.Core.Bool.{true}
 use Rattle.protocol.specs.Tests.{allOf, everyHeight}
-use Rattle.protocol.specs.RowLaws.{every-height-fails}
+use Rattle.protocol.specs.Laws.RowLaws.{every-height-fails}
 use Rattle.protocol.specs.State.{bookHeights}
 use Rattle.soundness.specs.SoundRows.{heightRows}
 use Rattle.soundness.proofs.SoundTests.{every-more}

@@ -4,7 +4,7 @@ use mathlib.Core.Bool.{true, false≢true}
 use Rattle.sha256.specs.Digest.{sha256}
 use Rattle.protocol.specs.Tests.{allOf}
 use Rattle.soundness.specs.SoundRows.{headRows}
-use Rattle.soundness.specs.SoundRowsLaws.{readable}
+use Rattle.soundness.specs.Laws.SoundRowsLaws.{readable}
 use Rattle.soundness.proofs.SoundTests.{rows-by-heights, rows-not-head}
 use borrow.Author.Needs.{needs}
 use Rattle.soundness.proofs.rows_sound.Statement.{statement}

@@ -1,6 +1,6 @@
 -- `cast_block_vote` meets its contract: the frame and the head are those of move 5.
 use Rattle.protocol.specs.State.{decode}
-use Rattle.steps.specs.StepsLaws.{took-block-vote}
+use Rattle.steps.specs.Laws.StepsLaws.{took-block-vote}
 use borrow.Author.Needs.{needs}
 use Rattle.steps.proofs.cast_block_vote.Statement.{statement}
 use Rattle.steps.proofs.cast_block_vote.Tie as tie

@@ -1,6 +1,6 @@
 -- `cast_dummy_vote` meets its contract: the frame and the head are those of move 1.
 use Rattle.protocol.specs.State.{decode}
-use Rattle.steps.specs.StepsLaws.{took-dummy-vote}
+use Rattle.steps.specs.Laws.StepsLaws.{took-dummy-vote}
 use borrow.Author.Needs.{needs}
 use Rattle.steps.proofs.cast_dummy_vote.Statement.{statement}
 use Rattle.steps.proofs.cast_dummy_vote.Tie as tie

@@ -2,8 +2,8 @@
 use native.Mathlib.Omega.{arith}
 use mathlib.Core.Path.{refl}
 use Rattle.protocol.specs.State.{decode}
-use Rattle.steps.specs.StepsLaws.{took-pass}
-use Rattle.applies.specs.RunningLaws.{within-current}
+use Rattle.steps.specs.Laws.StepsLaws.{took-pass}
+use Rattle.applies.specs.Laws.RunningLaws.{within-current}
 use borrow.Author.Needs.{needs}
 use Rattle.steps.proofs.pass.Statement.{statement}
 use Rattle.steps.proofs.pass.Tie as tie

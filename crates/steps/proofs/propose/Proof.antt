@@ -1,8 +1,8 @@
 -- `propose` meets its contract: the frame and the head are those of move 4, on the best chain below.
 use mathlib.Core.Path.{refl}
 use Rattle.protocol.specs.State.{decode}
-use Rattle.steps.specs.ProposeLaws.{walkable}
-use Rattle.steps.specs.StepsLaws.{took-propose}
+use Rattle.steps.specs.Laws.ProposeLaws.{walkable}
+use Rattle.steps.specs.Laws.StepsLaws.{took-propose}
 use borrow.Author.Needs.{needs}
 use Rattle.steps.proofs.propose.Statement.{statement}
 use Rattle.steps.proofs.propose.Tie as tie

@@ -1,6 +1,6 @@
 -- `settle` meets its contract: it writes the head of the state after move 2.
 use Rattle.protocol.specs.State.{decode}
-use Rattle.steps.specs.StepsLaws.{settled-answer, settled-book}
+use Rattle.steps.specs.Laws.StepsLaws.{settled-answer, settled-book}
 use borrow.Author.Needs.{needs}
 use Rattle.steps.proofs.settle.Statement.{statement}
 use Rattle.steps.proofs.settle.Tie as tie

@@ -5,8 +5,8 @@ use mathlib.Core.Path.{_∙_}
 use lib.ListN.{length}
 use Rattle.protocol.specs.State.{decode}
 use Rattle.protocol.specs.Frame.{finalize}
-use Rattle.protocol.specs.FrontLaws.{front-in-part}
-use Rattle.steps.specs.StepsLaws.{finalize-size}
+use Rattle.protocol.specs.Laws.FrontLaws.{front-in-part}
+use Rattle.steps.specs.Laws.StepsLaws.{finalize-size}
 use borrow.Author.Needs.{needs}
 use Rattle.steps.proofs.write_pass_finalize.Statement.{statement}
 use Rattle.steps.proofs.write_pass_finalize.Tie as tie

@@ -5,8 +5,8 @@ use lib.ListN.{length, length-take, length-drop}
 use Rattle.protocol.specs.Block.{newBlock}
 use Rattle.protocol.specs.State.{decode}
 use Rattle.protocol.specs.Move.{offered}
-use Rattle.protocol.specs.FrontLaws.{front-in-part}
-use Rattle.steps.specs.ProposeLaws.{wrote-proposal, proposed-size}
+use Rattle.protocol.specs.Laws.FrontLaws.{front-in-part}
+use Rattle.steps.specs.Laws.ProposeLaws.{wrote-proposal, proposed-size}
 use borrow.Author.Needs.{needs}
 use Rattle.steps.proofs.write_proposal.Statement.{statement}
 use Rattle.steps.proofs.write_proposal.Tie as tie

@@ -4,7 +4,7 @@ use native.Mathlib.Omega.{arith}
 use mathlib.Core.Path.{_≡_, refl, ap, _∙_}
 use lib.ListN.{length}
 use Rattle.protocol.specs.Bytes.{join, overFront}
-use Rattle.protocol.specs.BytesLaws.{length-put}
+use Rattle.protocol.specs.Laws.BytesLaws.{length-put}
 use Rattle.protocol.specs.State.{decode}
 use Rattle.protocol.specs.Sound.{view}
 use Rattle.protocol.specs.View.{logAt}

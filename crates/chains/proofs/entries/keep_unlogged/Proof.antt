@@ -9,8 +9,8 @@ use Rattle.protocol.specs.Bytes.{Bytes, part, holds, without}
 use Rattle.protocol.specs.State.{State, decode, encode, maximumPending}
 use Rattle.protocol.specs.Sound.{view, log}
 use Rattle.protocol.specs.View.{logAt}
-use Rattle.protocol.specs.PoolLaws.{moved, moved-none}
-use Rattle.protocol.specs.EntriesLaws.{place-leaves, place-stays}
+use Rattle.protocol.specs.Laws.PoolLaws.{moved, moved-none}
+use Rattle.protocol.specs.Laws.EntriesLaws.{place-leaves, place-stays}
 use Rattle.fields.specs.Book.{Ready}
 use Rattle.chains.proofs.Pending.{walk-at, one-more}
 use Rattle.chains.proofs.Closing.{staying, staying-few, staying-all, closed-ready, closed-walk, closed-log, closed-place, closed-length, closed-more, closed-end}

@@ -5,15 +5,14 @@ use mathlib.Core.Path.{_≡_, refl, sym, ap, _∙_}
 use mathlib.Core.List.{List, []}
 use borrow.Author.Needs.{needs}
 use lib.ListN.{length, take}
-use Rattle.protocol.specs.Bytes.{Bytes, part, overFront, without}
+use Rattle.protocol.specs.Every.{Every, none}
+use Rattle.protocol.specs.Bytes.{Bytes, part, overFront, without, Sized}
 use Rattle.protocol.specs.Block.{newBlock}
 use Rattle.protocol.specs.State.{State, decode, pending}
 use Rattle.protocol.specs.Sound.{view}
 use Rattle.protocol.specs.View.{logAt}
 use Rattle.protocol.specs.Move.{offered}
-use Rattle.protocol.specs.EveryLaws.{Every, none}
-use Rattle.protocol.specs.PiecesLaws.{Sized}
-use Rattle.protocol.specs.EntriesLaws.{place-leaves, place-stays, lacked-sized, pending-all, eight-taken, few-taken}
+use Rattle.protocol.specs.Laws.EntriesLaws.{place-leaves, place-stays, lacked-sized, pending-all, eight-taken, few-taken}
 use Rattle.chains.proofs.Pending.{pool-length, place-length, one-more, begun-again, filled-length, filled-more, filled-over}
 use Rattle.chains.proofs.entries.offer.Statement.{statement}
 use Rattle.chains.proofs.entries.offer.Tie as tie

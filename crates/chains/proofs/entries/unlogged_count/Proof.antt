@@ -7,7 +7,7 @@ use Rattle.protocol.specs.State.{decode, pending}
 use Rattle.protocol.specs.Sound.{view}
 use Rattle.protocol.specs.View.{logAt}
 use Rattle.protocol.specs.Bytes.{without}
-use Rattle.protocol.specs.EntriesLaws.{place-leaves, place-stays}
+use Rattle.protocol.specs.Laws.EntriesLaws.{place-leaves, place-stays}
 use Rattle.chains.proofs.Pending.{walk-at, one-more, all-stay}
 use Rattle.chains.proofs.entries.unlogged_count.Statement.{statement}
 use Rattle.chains.proofs.entries.unlogged_count.Tie as tie

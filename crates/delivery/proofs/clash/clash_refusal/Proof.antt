@@ -1,6 +1,6 @@
 -- `clash_refusal` meets its contract: the tests are the rows, in their order.
 use Rattle.protocol.specs.State.{decode}
-use Rattle.delivery.specs.RefusalLaws.{clash-rows}
+use Rattle.delivery.specs.Laws.RefusalLaws.{clash-rows}
 use borrow.Author.Needs.{needs}
 use Rattle.delivery.proofs.clash.clash_refusal.Statement.{statement}
 use Rattle.delivery.proofs.clash.clash_refusal.Tie as tie

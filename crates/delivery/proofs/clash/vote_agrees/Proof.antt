@@ -7,12 +7,12 @@ use Rattle.protocol.specs.Bytes.{Bytes, same}
 use Rattle.protocol.specs.Tests.{implies}
 use Rattle.protocol.specs.Frame.{kind}
 use Rattle.protocol.specs.State.{decode, at, voteOf}
-use Rattle.delivery.specs.KeepLaws.{same-bit}
+use Rattle.delivery.specs.Laws.KeepLaws.{same-bit}
 use Rattle.delivery.specs.Refusal.{voteAgrees}
 use borrow.Author.Needs.{needs}
 use Rattle.delivery.proofs.clash.vote_agrees.Statement.{statement}
 use Rattle.delivery.proofs.clash.vote_agrees.Tie as tie
-use Rattle.fields.specs.BookLaws.{few-replicas}
+use Rattle.fields.specs.Laws.BookLaws.{few-replicas}
 
 in-mask-requires : tie.Need-in-mask-requires
 in-mask-requires c κs =

@@ -7,12 +7,12 @@ use lib.Dec.{eqb}
 use Rattle.sha256.specs.Digest.{sha256}
 use Rattle.protocol.specs.State.{decode, at}
 use Rattle.delivery.specs.Refusal.{joinSigners}
-use Rattle.delivery.specs.KeepLaws.{same-kept}
-use Rattle.delivery.specs.KindLaws.{kind-one, kind-two, kind-five, dummy-joins, finalize-joins}
+use Rattle.delivery.specs.Laws.KeepLaws.{same-kept}
+use Rattle.delivery.specs.Laws.KindLaws.{kind-one, kind-two, kind-five, dummy-joins, finalize-joins}
 use borrow.Author.Needs.{needs}
 use Rattle.delivery.proofs.keep.keep.Statement.{statement}
 use Rattle.delivery.proofs.keep.keep.Tie as tie
-use Rattle.fields.specs.BookLaws.{few-replicas}
+use Rattle.fields.specs.Laws.BookLaws.{few-replicas}
 
 returns : tie.Need-returns
 returns c =

@@ -4,7 +4,7 @@ use mathlib.Core.Path.{sym, ap₂, _∙_}
 use Rattle.protocol.specs.Bytes.{Bytes}
 use Rattle.protocol.specs.State.{decode, encode, at, withHeight}
 use Rattle.protocol.specs.Deliver.{withNotarized, keepBlockCertificate}
-use Rattle.delivery.specs.KeepLaws.{known-frame, new-frame}
+use Rattle.delivery.specs.Laws.KeepLaws.{known-frame, new-frame}
 use borrow.Author.Needs.{needs}
 use Rattle.delivery.proofs.keep.keep_block_certificate.Statement.{statement}
 use Rattle.delivery.proofs.keep.keep_block_certificate.Tie as tie

@@ -7,13 +7,13 @@ use Rattle.protocol.specs.Bytes.{Bytes}
 use Rattle.protocol.specs.Mask.{inMask}
 use Rattle.protocol.specs.State.{decode, encode, at, withHeight}
 use Rattle.protocol.specs.Sound.{view}
-use Rattle.protocol.specs.ChangeLaws.{shaped-vote}
+use Rattle.protocol.specs.Laws.ChangeLaws.{shaped-vote}
 use Rattle.protocol.specs.Deliver.{withVote, notarize, keepBlockVote}
-use Rattle.delivery.specs.KeepLaws.{known-frame, new-frame, room, same-bit, shaped-here, vote-status, spot-after, notarized-after}
+use Rattle.delivery.specs.Laws.KeepLaws.{known-frame, new-frame, room, same-bit, shaped-here, vote-status, spot-after, notarized-after}
 use borrow.Author.Needs.{needs}
 use Rattle.delivery.proofs.keep.keep_block_vote.Statement.{statement}
 use Rattle.delivery.proofs.keep.keep_block_vote.Tie as tie
-use Rattle.fields.specs.BookLaws.{few-replicas}
+use Rattle.fields.specs.Laws.BookLaws.{few-replicas}
 
 in-mask-requires : tie.Need-in-mask-requires
 in-mask-requires c κs =

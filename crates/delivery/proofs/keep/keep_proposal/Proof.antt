@@ -4,9 +4,9 @@ use Rattle.sha256.specs.Digest.{sha256}
 use Rattle.protocol.specs.Bytes.{Bytes}
 use Rattle.protocol.specs.State.{Height, decode, encode, at, withHeight}
 use Rattle.protocol.specs.Sound.{view}
-use Rattle.protocol.specs.ChangeLaws.{shaped-proposal}
+use Rattle.protocol.specs.Laws.ChangeLaws.{shaped-proposal}
 use Rattle.protocol.specs.Deliver.{withProposal, notarize, keepProposal}
-use Rattle.delivery.specs.KeepLaws.{known-frame, new-frame, shaped-here, kept-proposal, proposal-status, spot-after, height-after, notarized-after}
+use Rattle.delivery.specs.Laws.KeepLaws.{known-frame, new-frame, shaped-here, kept-proposal, proposal-status, spot-after, height-after, notarized-after}
 use borrow.Author.Needs.{needs}
 use Rattle.delivery.proofs.keep.keep_proposal.Statement.{statement}
 use Rattle.delivery.proofs.keep.keep_proposal.Tie as tie

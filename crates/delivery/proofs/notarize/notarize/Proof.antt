@@ -2,8 +2,8 @@
 use mathlib.Core.Path.{sym, ap, _∙_}
 use Rattle.sha256.specs.Digest.{sha256}
 use Rattle.protocol.specs.State.{Height, decode, encode, at, withHeight}
-use Rattle.delivery.specs.KeepLaws.{same-book}
-use Rattle.delivery.specs.NotarizeLaws.{awaits-none}
+use Rattle.delivery.specs.Laws.KeepLaws.{same-book}
+use Rattle.delivery.specs.Laws.NotarizeLaws.{awaits-none}
 use borrow.Author.Needs.{needs}
 use Rattle.delivery.proofs.notarize.notarize.Statement.{statement}
 use Rattle.delivery.proofs.notarize.notarize.Tie as tie

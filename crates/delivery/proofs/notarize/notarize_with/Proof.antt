@@ -4,8 +4,8 @@ use Rattle.sha256.specs.Digest.{sha256}
 use Rattle.protocol.specs.Bytes.{Bytes}
 use Rattle.protocol.specs.State.{Height, decode, encode, at, withHeight}
 use Rattle.protocol.specs.Deliver.{votersFor}
-use Rattle.delivery.specs.KeepLaws.{same-book}
-use Rattle.delivery.specs.NotarizeLaws.{notarizes, too-few, awaits-none}
+use Rattle.delivery.specs.Laws.KeepLaws.{same-book}
+use Rattle.delivery.specs.Laws.NotarizeLaws.{notarizes, too-few, awaits-none}
 use borrow.Author.Needs.{needs}
 use Rattle.delivery.proofs.notarize.notarize_with.Statement.{statement}
 use Rattle.delivery.proofs.notarize.notarize_with.Tie as tie

@@ -1,7 +1,7 @@
 -- `first_refusal` meets its contract: the first test that fails gives its number.
 use mathlib.Core.Path.{sym, _∙_}
 use Rattle.delivery.specs.Refusal.{refusalOf}
-use Rattle.delivery.specs.RefusalLaws.{refusal-some, first-fails, second-fails, third-fails, none-fails}
+use Rattle.delivery.specs.Laws.RefusalLaws.{refusal-some, first-fails, second-fails, third-fails, none-fails}
 use Rattle.delivery.proofs.refuse.first_refusal.Statement.{statement}
 use Rattle.delivery.proofs.refuse.first_refusal.Tie as tie
 

@@ -3,10 +3,10 @@ use native.Mathlib.Omega.{arith}
 use mathlib.Core.Path.{sym, _∙_}
 use Rattle.protocol.specs.State.{decode, last}
 use Rattle.protocol.specs.Frame.{frameHeight}
-use Rattle.protocol.specs.RowLaws.{in-range, range-in, not-passed}
+use Rattle.protocol.specs.Laws.RowLaws.{in-range, range-in, not-passed}
 use Rattle.delivery.specs.Refusal.{refusalOf}
-use Rattle.delivery.specs.RefusalLaws.{read-malformed, read-outside, read-inside}
-use Rattle.protocol.specs.DeliverLaws.{formed-size}
+use Rattle.delivery.specs.Laws.RefusalLaws.{read-malformed, read-outside, read-inside}
+use Rattle.protocol.specs.Laws.DeliverLaws.{formed-size}
 use borrow.Author.Needs.{needs}
 use Rattle.delivery.proofs.refuse.read_refusal.Statement.{statement}
 use Rattle.delivery.proofs.refuse.read_refusal.Tie as tie

@@ -2,9 +2,9 @@
 use mathlib.Core.Path.{sym, _∙_}
 use lib.ListN.{length}
 use borrow.Author.Tests.{le-leb, lt-leb}
-use Rattle.answers.specs.AnswerLaws.{fetch-answered, fetch-refused}
-use Rattle.answers.specs.CallLaws.{fetch-short, fetch-lacking, fetch-done}
-use Rattle.soundness.specs.WithinLaws.{in-heights}
+use Rattle.answers.specs.Laws.AnswerLaws.{fetch-answered, fetch-refused}
+use Rattle.answers.specs.Laws.CallLaws.{fetch-short, fetch-lacking, fetch-done}
+use Rattle.soundness.specs.Laws.WithinLaws.{in-heights}
 use Rattle.field_calls.proofs.Certificates.{certificate-range}
 use borrow.Author.Needs.{needs}
 use Rattle.field_calls.proofs.fetch.fetch_at.Statement.{statement}

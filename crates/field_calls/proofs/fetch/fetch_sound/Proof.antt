@@ -1,8 +1,8 @@
 -- `fetch_sound` meets its contract: the kind's row, then the height's.
 use mathlib.Core.Path.{sym, _∙_}
-use Rattle.answers.specs.AnswerLaws.{fetch-refused}
-use Rattle.answers.specs.CallLaws.{fetch-unknown, fetch-outside}
-use Rattle.soundness.specs.WithinLaws.{within}
+use Rattle.answers.specs.Laws.AnswerLaws.{fetch-refused}
+use Rattle.answers.specs.Laws.CallLaws.{fetch-unknown, fetch-outside}
+use Rattle.soundness.specs.Laws.WithinLaws.{within}
 use borrow.Author.Needs.{needs}
 use Rattle.field_calls.proofs.fetch.fetch_sound.Statement.{statement}
 use Rattle.field_calls.proofs.fetch.fetch_sound.Tie as tie

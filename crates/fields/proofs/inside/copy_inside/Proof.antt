@@ -5,7 +5,7 @@ use mathlib.Core.Path.{_≡_, refl, ap, _∙_}
 use lib.ListN.{length, length-set}
 use lib.Seq.{paste, paste-zero}
 use Rattle.protocol.specs.Bytes.{byteAt, part}
-use Rattle.protocol.specs.BytesLaws.{length-part, put-paste}
+use Rattle.protocol.specs.Laws.BytesLaws.{length-part, put-paste}
 use Rattle.fields.proofs.Copies.{copy-more, rest-kept}
 use Rattle.fields.proofs.inside.copy_inside.Statement.{statement}
 use Rattle.fields.proofs.inside.copy_inside.Tie as tie

@@ -1,7 +1,7 @@
 -- `pending_entry` meets its contract: the pool starts at byte 64, and its places have 16 bytes each.
 use mathlib.Core.Path.{_∙_}
 use Prim.Native.Nat.{_+_, _*_}
-use Rattle.protocol.specs.FieldLaws.{read-entry}
+use Rattle.protocol.specs.Laws.FieldLaws.{read-entry}
 use Rattle.fields.proofs.Places.{cut-part}
 use borrow.Author.Needs.{needs}
 use Rattle.fields.proofs.pool.pending_entry.Statement.{statement}

@@ -1,6 +1,6 @@
 -- `quorum` meets its contract: it counts the mask and compares as the definition does.
 use mathlib.Core.Path.{refl, sym, _∙_}
-use Rattle.protocol.specs.QuorumLaws.{quorum-even}
+use Rattle.protocol.specs.Laws.QuorumLaws.{quorum-even}
 use Rattle.protocol.specs.State.{decode}
 use Rattle.protocol.specs.Sound.{view}
 use borrow.Author.Needs.{needs}

@@ -3,7 +3,7 @@ use Prim.Native.Nat.{_+_, _-_, _*_}
 use native.Mathlib.Omega.{arith}
 use mathlib.Core.Path.{_∙_}
 use Rattle.protocol.specs.Bytes.{zeros}
-use Rattle.protocol.specs.BytesLaws.{length-zeros}
+use Rattle.protocol.specs.Laws.BytesLaws.{length-zeros}
 use Rattle.fields.specs.Book.{viewOf}
 use Rattle.linking.proofs.Walk.{digest-start, digest-copied}
 use borrow.Author.Needs.{needs}

@@ -2,7 +2,7 @@
 use mathlib.Core.Path.{ap, _∙_}
 use lib.ListN.{length}
 use Rattle.protocol.specs.State.{decode}
-use Rattle.log_calls.specs.ReadLaws.{walkable, log-at}
+use Rattle.log_calls.specs.Laws.ReadLaws.{walkable, log-at}
 use borrow.Author.Needs.{needs}
 use Rattle.log_calls.proofs.read.log_count.Statement.{statement}
 use Rattle.log_calls.proofs.read.log_count.Tie as tie

@@ -2,7 +2,7 @@
 use mathlib.Core.Path.{sym, ap, _∙_}
 use lib.ListN.{length}
 use Rattle.protocol.specs.State.{decode}
-use Rattle.log_calls.specs.ReadLaws.{walkable, log-at, read-short, read-done}
+use Rattle.log_calls.specs.Laws.ReadLaws.{walkable, log-at, read-short, read-done}
 use borrow.Author.Needs.{needs}
 use Rattle.log_calls.proofs.read.read_sound.Statement.{statement}
 use Rattle.log_calls.proofs.read.read_sound.Tie as tie

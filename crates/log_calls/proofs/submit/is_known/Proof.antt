@@ -4,7 +4,7 @@ use mathlib.Core.List.{List}
 use Rattle.protocol.specs.Bytes.{Bytes, holds}
 use Rattle.protocol.specs.State.{decode, pending}
 use Rattle.protocol.specs.Sound.{log}
-use Rattle.log_calls.specs.ReadLaws.{walkable, log-at}
+use Rattle.log_calls.specs.Laws.ReadLaws.{walkable, log-at}
 use Rattle.log_calls.proofs.Numbers.{first-holds, second-holds}
 use borrow.Author.Needs.{needs}
 use Rattle.log_calls.proofs.submit.is_known.Statement.{statement}

@@ -3,7 +3,7 @@ use mathlib.Core.Path.{refl, ap}
 use lib.Dec.{ltb}
 use borrow.Author.Needs.{needs}
 use Rattle.protocol.specs.State.{decode}
-use Rattle.log_calls.specs.ReadLaws.{walkable}
+use Rattle.log_calls.specs.Laws.ReadLaws.{walkable}
 use Rattle.log_calls.proofs.Numbers.{few-stay}
 use Rattle.log_calls.proofs.submit.leaves_room.Statement.{statement}
 use Rattle.log_calls.proofs.submit.leaves_room.Tie as tie

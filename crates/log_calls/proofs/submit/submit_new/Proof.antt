@@ -5,9 +5,9 @@ use lib.ListN.{length}
 use borrow.Author.Tests.{eq-eqb, ltb-true}
 use Rattle.protocol.specs.State.{decode}
 use Rattle.protocol.specs.Submit.{stillPending}
-use Rattle.answers.specs.AnswerLaws.{outcome-done, outcome-refused}
-use Rattle.log_calls.specs.SubmitLaws.{submit-full, submit-done}
-use Rattle.log_calls.specs.ReadLaws.{walkable}
+use Rattle.answers.specs.Laws.AnswerLaws.{outcome-done, outcome-refused}
+use Rattle.log_calls.specs.Laws.SubmitLaws.{submit-full, submit-done}
+use Rattle.log_calls.specs.Laws.ReadLaws.{walkable}
 use borrow.Author.Needs.{needs}
 use Rattle.log_calls.proofs.submit.submit_new.Statement.{statement}
 use Rattle.log_calls.proofs.submit.submit_new.Tie as tie

@@ -2,8 +2,8 @@
 use mathlib.Core.Path.{sym, _∙_}
 use lib.ListN.{length}
 use borrow.Author.Tests.{eq-eqb, ne-eqb}
-use Rattle.answers.specs.AnswerLaws.{outcome-refused}
-use Rattle.log_calls.specs.SubmitLaws.{submit-unfit, submit-known}
+use Rattle.answers.specs.Laws.AnswerLaws.{outcome-refused}
+use Rattle.log_calls.specs.Laws.SubmitLaws.{submit-unfit, submit-known}
 use borrow.Author.Needs.{needs}
 use Rattle.log_calls.proofs.submit.submit_sound.Statement.{statement}
 use Rattle.log_calls.proofs.submit.submit_sound.Tie as tie

@@ -1,8 +1,8 @@
 -- `later_step` meets its contract: the first of the last three moves whose test passes.
 use mathlib.Core.Path.{sym, _∙_}
 use Rattle.protocol.specs.State.{decode}
-use Rattle.applies.specs.RunningLaws.{running-high}
-use Rattle.moves.specs.OrderLaws.{later-pass, later-propose, later-vote, later-idle, pass-running, propose-running, propose-has, vote-running, took-as, took-idle}
+use Rattle.applies.specs.Laws.RunningLaws.{running-high}
+use Rattle.moves.specs.Laws.OrderLaws.{later-pass, later-propose, later-vote, later-idle, pass-running, propose-running, propose-has, vote-running, took-as, took-idle}
 use borrow.Author.Needs.{needs}
 use Rattle.moves.proofs.make_move.later_step.Statement.{statement}
 use Rattle.moves.proofs.make_move.later_step.Tie as tie

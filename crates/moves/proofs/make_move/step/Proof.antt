@@ -1,7 +1,7 @@
 -- `step` meets its contract: the first of the five moves whose test passes.
 use mathlib.Core.Path.{sym, _∙_}
 use Rattle.protocol.specs.State.{decode}
-use Rattle.moves.specs.OrderLaws.{step-dummy, step-output, step-later, outputs, outputs-not, took-as, took-output}
+use Rattle.moves.specs.Laws.OrderLaws.{step-dummy, step-output, step-later, outputs, outputs-not, took-as, took-output}
 use borrow.Author.Needs.{needs}
 use Rattle.moves.proofs.make_move.step.Statement.{statement}
 use Rattle.moves.proofs.make_move.step.Tie as tie

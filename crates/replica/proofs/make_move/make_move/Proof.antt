@@ -1,7 +1,7 @@
 -- `make_move` meets its contract: its answer is that of the moves, and so are the answer's numbers.
 use mathlib.Core.Path.{ap, _∙_}
 use Rattle.answers.specs.MoveNumbers.{answerNumbers}
-use Rattle.answers.specs.MoveNumbersLaws.{moved-numbers}
+use Rattle.answers.specs.Laws.MoveNumbersLaws.{moved-numbers}
 use borrow.Author.Needs.{needs}
 use Rattle.replica.proofs.make_move.make_move.Statement.{statement}
 use Rattle.replica.proofs.make_move.make_move.Tie as tie

@@ -3,8 +3,8 @@ use native.Mathlib.Omega.{arith}
 use Prim.Native.Nat.{_+_, _*_, _≤_}
 use mathlib.Core.Path.{_≡_, sym, _∙_}
 use lib.ListN.{length}
-use Rattle.answers.specs.AnswerLaws.{outcome-done, outcome-refused}
-use Rattle.answers.specs.CallLaws.{open-unfit, open-short, open-done}
+use Rattle.answers.specs.Laws.AnswerLaws.{outcome-done, outcome-refused}
+use Rattle.answers.specs.Laws.CallLaws.{open-unfit, open-short, open-done}
 use Rattle.field_calls.proofs.Numbers.{fitting, long-enough, not-long-enough}
 use borrow.Author.Needs.{needs}
 use Rattle.replica.proofs.open.open.Statement.{statement}

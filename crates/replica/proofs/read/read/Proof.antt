@@ -1,6 +1,6 @@
 -- `read` meets its contract: the part that was written is the front of the buffer, and begins where the buffer does.
 use mathlib.Core.Path.{refl}
-use Rattle.log_calls.specs.ReadLaws.{read-front, read-length}
+use Rattle.log_calls.specs.Laws.ReadLaws.{read-front, read-length}
 use borrow.Author.Needs.{needs}
 use Rattle.replica.proofs.read.read.Statement.{statement}
 use Rattle.replica.proofs.read.read.Tie as tie

@@ -1,7 +1,7 @@
 -- `add_words` meets its contract: each of the eight sums wraps as the standard's does. Assumes nothing.
 use Rattle.sha256.specs.Words.{add}
 use Rattle.sha256.specs.Compression.{addWords}
-use Rattle.sha256.specs.CompressionLaws.{eight-words}
+use Rattle.sha256.specs.Laws.CompressionLaws.{eight-words}
 use borrow.Author.Needs.{needs}
 use Rattle.sha256.proofs.compression.add_words.Statement.{statement}
 use Rattle.sha256.proofs.compression.add_words.Tie as tie

@@ -1,6 +1,6 @@
 -- `compress` meets its contract: the words of the block, the rounds with the schedule beside them, the last rounds, and the sum. Assumes nothing.
 use denote.Ref.{now}
-use Rattle.sha256.specs.StepsLaws.{compressed}
+use Rattle.sha256.specs.Laws.StepsLaws.{compressed}
 use borrow.Author.Needs.{needs}
 use Rattle.sha256.proofs.compression.compress.Statement.{statement}
 use Rattle.sha256.proofs.compression.compress.Tie as tie

@@ -7,7 +7,7 @@ use mathlib.Core.List.{List}
 use denote.Ref.{now}
 use borrow.Author.Needs.{needs}
 use Rattle.sha256.specs.Steps.{roundsFrom, extendedFrom}
-use Rattle.sha256.specs.StepsLaws.{start-state, start-words, turn-rounds, turn-words, turn-agrees}
+use Rattle.sha256.specs.Laws.StepsLaws.{start-state, start-words, turn-rounds, turn-words, turn-agrees}
 use Rattle.sha256.proofs.compression.first_rounds.Statement.{statement}
 use Rattle.sha256.proofs.compression.first_rounds.Tie as tie
 

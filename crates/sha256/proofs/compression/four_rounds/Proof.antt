@@ -1,5 +1,5 @@
 -- `four_rounds` meets its contract, by that of `one_round` at each of the four calls. Assumes nothing.
-use Rattle.sha256.specs.StepsLaws.{four-rounds}
+use Rattle.sha256.specs.Laws.StepsLaws.{four-rounds}
 use denote.Ref.{now}
 use borrow.Author.Needs.{needs}
 use Rattle.sha256.proofs.compression.four_rounds.Statement.{statement}

@@ -1,5 +1,5 @@
 -- `four_steps` meets its contract, by that of `step` at each of the four calls. Assumes nothing.
-use Rattle.sha256.specs.StepsLaws.{four-steps}
+use Rattle.sha256.specs.Laws.StepsLaws.{four-steps}
 use denote.Ref.{now}
 use borrow.Author.Needs.{needs}
 use Rattle.sha256.proofs.compression.four_steps.Statement.{statement}

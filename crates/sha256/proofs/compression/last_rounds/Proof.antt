@@ -5,7 +5,7 @@ use native.Mathlib.Omega.{arith}
 use denote.Ref.{now}
 use borrow.Author.Needs.{needs}
 use Rattle.sha256.specs.Steps.{roundsFrom}
-use Rattle.sha256.specs.StepsLaws.{start-state, turn-rounds}
+use Rattle.sha256.specs.Laws.StepsLaws.{start-state, turn-rounds}
 use Rattle.sha256.proofs.compression.last_rounds.Statement.{statement}
 use Rattle.sha256.proofs.compression.last_rounds.Tie as tie
 

@@ -1,6 +1,6 @@
 -- `one_round` meets its contract: each sum wraps as the standard's does, and each word stands where the round puts it. Assumes nothing.
 use Rattle.sha256.specs.Compression.{round}
-use Rattle.sha256.specs.CompressionLaws.{variables-by}
+use Rattle.sha256.specs.Laws.CompressionLaws.{variables-by}
 use borrow.Author.Needs.{needs}
 use Rattle.sha256.proofs.compression.one_round.Statement.{statement}
 use Rattle.sha256.proofs.compression.one_round.Tie as tie

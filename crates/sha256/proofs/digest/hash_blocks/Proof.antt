@@ -8,7 +8,7 @@ use lib.ListN.{length}
 use Rattle.sha256.specs.Digest.{hashBlocks}
 use lib.ListN.{length-take, length-drop}
 use Rattle.sha256.specs.Digest.{hashAll}
-use Rattle.sha256.specs.DigestLaws.{hashBlocks-next}
+use Rattle.sha256.specs.Laws.DigestLaws.{hashBlocks-next}
 use Rattle.sha256.proofs.digest.hash_blocks.Statement.{statement}
 use Rattle.sha256.proofs.digest.hash_blocks.Tie as tie
 

@@ -5,8 +5,8 @@ use native.Mathlib.Omega.{arith}
 use lib.ListN.{length}
 use Rattle.sha256.specs.Padding.{zeros}
 use Rattle.sha256.specs.Ending.{opened}
-use Rattle.sha256.specs.EndingLaws.{opened-length, ends-here, ends-later}
-use Rattle.sha256.specs.DigestLaws.{hashAll-block}
+use Rattle.sha256.specs.Laws.EndingLaws.{opened-length, ends-here, ends-later}
+use Rattle.sha256.specs.Laws.DigestLaws.{hashAll-block}
 use borrow.Author.Needs.{needs}
 use Rattle.sha256.proofs.digest.hash_rest.Statement.{statement}
 use Rattle.sha256.proofs.digest.hash_rest.Tie as tie

@@ -1,7 +1,7 @@
 -- digest::sha256 meets its contract: the whole blocks where they lie, then the rest with the padding.
 -- Assumes nothing.
 use mathlib.Core.Path.{_∙_}
-use Rattle.sha256.specs.DigestLaws.{sha256-parts}
+use Rattle.sha256.specs.Laws.DigestLaws.{sha256-parts}
 use borrow.Author.Needs.{needs}
 use Rattle.sha256.proofs.digest.sha256.Statement.{statement}
 use Rattle.sha256.proofs.digest.sha256.Tie as tie

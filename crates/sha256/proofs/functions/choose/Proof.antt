@@ -1,5 +1,5 @@
 -- `choose` meets its contract, by the law of Ch's shorter form. Assumes nothing.
-use Rattle.sha256.specs.FunctionsLaws.{ch-is}
+use Rattle.sha256.specs.Laws.FunctionsLaws.{ch-is}
 use Rattle.sha256.specs.Words.{_&_, _⊕_}
 use native.Mathlib.Omega.{arith}
 use Rattle.sha256.proofs.functions.choose.Statement.{statement}

@@ -1,5 +1,5 @@
 -- `lower_sigma_0` meets its contract, by the law that rotations nest. Assumes nothing.
-use Rattle.sha256.specs.FunctionsLaws.{σ0-is}
+use Rattle.sha256.specs.Laws.FunctionsLaws.{σ0-is}
 use Rattle.sha256.specs.Words.{_⊕_, shr}
 use native.Mathlib.Omega.{arith}
 use borrow.Author.Needs.{needs}

@@ -1,5 +1,5 @@
 -- `majority` meets its contract, by the law of Maj's shorter form. Assumes nothing.
-use Rattle.sha256.specs.FunctionsLaws.{maj-is}
+use Rattle.sha256.specs.Laws.FunctionsLaws.{maj-is}
 use Rattle.sha256.specs.Words.{_&_, _⊕_}
 use Rattle.sha256.proofs.functions.majority.Statement.{statement}
 use Rattle.sha256.proofs.functions.majority.Tie as tie

@@ -7,7 +7,7 @@ use borrow.Author.Needs.{needs}
 use lib.ListN.{length, take, set}
 use Rattle.sha256.specs.Padding.{zeros}
 use Rattle.sha256.specs.Ending.{opened}
-use Rattle.sha256.specs.EndingLaws.{opened-length}
+use Rattle.sha256.specs.Laws.EndingLaws.{opened-length}
 use Rattle.sha256.proofs.Stores.{copied, closed}
 use Rattle.sha256.proofs.padding.begin.Statement.{statement}
 use Rattle.sha256.proofs.padding.begin.Tie as tie

@@ -5,7 +5,7 @@ use native.Mathlib.Omega.{arith}
 use lib.ListN.{length, take, length-set}
 use borrow.Author.Needs.{needs}
 use Rattle.sha256.specs.Schedule.{messageWords}
-use Rattle.sha256.specs.ScheduleLaws.{words-more}
+use Rattle.sha256.specs.Laws.ScheduleLaws.{words-more}
 use Rattle.sha256.proofs.schedule.message_words.Statement.{statement}
 use Rattle.sha256.proofs.schedule.message_words.Tie as tie
 

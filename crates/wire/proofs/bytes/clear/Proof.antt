@@ -6,7 +6,7 @@ use mathlib.Core.Path.{_≡_, refl, _∙_}
 use lib.ListN.{length, length-set}
 use lib.Seq.{paste, paste-zero}
 use Rattle.protocol.specs.Bytes.{zeros}
-use Rattle.protocol.specs.BytesLaws.{put-paste, length-zeros}
+use Rattle.protocol.specs.Laws.BytesLaws.{put-paste, length-zeros}
 use Rattle.wire.proofs.Scan.{clear-more}
 use Rattle.wire.proofs.bytes.clear.Statement.{statement}
 use Rattle.wire.proofs.bytes.clear.Tie as tie

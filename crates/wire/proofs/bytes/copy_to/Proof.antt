@@ -5,7 +5,7 @@ use native.Mathlib.Numerals.{add-one}
 use mathlib.Core.Path.{_≡_, refl, _∙_}
 use lib.ListN.{length, length-set}
 use lib.Seq.{paste, paste-zero, paste-suc}
-use Rattle.protocol.specs.BytesLaws.{put-paste}
+use Rattle.protocol.specs.Laws.BytesLaws.{put-paste}
 use Rattle.wire.proofs.bytes.copy_to.Statement.{statement}
 use Rattle.wire.proofs.bytes.copy_to.Tie as tie
 

@@ -1,6 +1,6 @@
 -- `put_byte` meets its contract: one store is one byte put.
 use mathlib.Core.Path.{sym}
-use Rattle.protocol.specs.BytesLaws.{put-byte}
+use Rattle.protocol.specs.Laws.BytesLaws.{put-byte}
 use borrow.Author.Needs.{needs}
 use Rattle.wire.proofs.bytes.put_byte.Statement.{statement}
 use Rattle.wire.proofs.bytes.put_byte.Tie as tie

@@ -1,6 +1,6 @@
 -- `put_word` meets its contract: two stores are the two bytes of the number put.
 use mathlib.Core.Path.{sym}
-use Rattle.protocol.specs.BytesLaws.{put-word}
+use Rattle.protocol.specs.Laws.BytesLaws.{put-word}
 use borrow.Author.Needs.{needs}
 use Rattle.wire.proofs.bytes.put_word.Statement.{statement}
 use Rattle.wire.proofs.bytes.put_word.Tie as tie

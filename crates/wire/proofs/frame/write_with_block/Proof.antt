@@ -1,6 +1,6 @@
 -- `write_with_block` meets its contract: no digest and the block follow the head.
 use Rattle.protocol.specs.Bytes.{zeros}
-use Rattle.protocol.specs.BytesLaws.{length-zeros}
+use Rattle.protocol.specs.Laws.BytesLaws.{length-zeros}
 use Rattle.wire.proofs.Writes.{frame-follows}
 use borrow.Author.Needs.{needs}
 use Rattle.wire.proofs.frame.write_with_block.Statement.{statement}

@@ -1,0 +1,113 @@
+-- The list passes the tests whatever the digest, by computation up to one comparison: the digest that a replica's vote
+-- carries with that of the block.
+use Prim.Native.Nat.{ℕ}
+use native.Mathlib.Omega.{arith}
+use mathlib.Core.Path.{_≡_, refl, sym, ap, _∙_}
+use mathlib.Core.Logic.{_≢_}
+use mathlib.Core.Bool.{Bool, true, false, cond, _&&_}
+use mathlib.Core.List.{List, [], _∷_, _++_}
+use mathlib.Core.Option.{some, none}
+use lib.ListN.{length, take}
+use lib.Seq.{take-append-seam}
+use Rattle.protocol.specs.Bytes.{Bytes, byteAt, same, zeros}
+use Rattle.protocol.specs.Frame.{blockVote, dummyCertificate, dummyVote, finalize}
+use Rattle.protocol.specs.Laws.RowLaws.{eq-same, row}
+use Rattle.protocol.specs.Tests.{allOf}
+use Rattle.agreement.specs.AnyDigest.{AnyDigest, agreed, list, oneDigest, otherDigest, split, timeouts}
+use Rattle.agreement.specs.ListTests.{everyHonest, hearsAt, keepsOneBook, notForged, readsAt, showsOnly, someIn, writesAt}
+use Rattle.agreement.specs.Laws.ListTestsLaws.{every-honest, forged-sound, hears-found, keeps-sound, one-block-sound, reads-found, writes-found}
+use Rattle.agreement.specs.Lists.{Member, Statement, finalizes, statementOf, votesBlock, votesDummy}
+use Rattle.agreement.specs.Met.{Met}
+use Rattle.agreement.specs.Laws.MetLaws.{OneBegins, applied}
+use Rattle.agreement.specs.Turns.{dishonest, entry, everyTurn, nextBlock}
+use Rattle.agreement.specs.Laws.TurnsLaws.{entry-not-empty, few, honest-0, honest-1}
+
+-- the digests differ in their first byte
+two-digests : oneDigest ≢ otherDigest
+unfolding oneDigest otherDigest
+two-digests e = let z : _≡_ {A = ℕ} 1 2 = ap (λ (d : Bytes). byteAt d 0) e in omega arith
+
+module _ (digest : Bytes → Bytes) where
+  -- all that computes without the digest, in one test
+  tests : List Member → Bool
+  tests l = allOf
+      (everyHonest dishonest (λ s. keepsOneBook digest 4 s none l) 4 ∷
+      showsOnly digest 4 dishonest (nextBlock ∷ []) l ∷
+      someIn (readsAt digest entry 0) l ∷
+      someIn (readsAt digest entry 1) l ∷
+      someIn (hearsAt digest (blockVote 3 1 oneDigest) 0) l ∷
+      someIn (hearsAt digest (blockVote 3 1 otherDigest) 1) l ∷
+      someIn (hearsAt digest (dummyVote 3 1) 0) l ∷
+      someIn (hearsAt digest (finalize 3 1) 1) l ∷
+      someIn (writesAt digest (dummyCertificate 1 11) 0) l ∷
+      someIn (writesAt digest (dummyCertificate 1 11) 1) l ∷ [])
+
+  tested : tests (list digest) ≡ true
+  unfolding everyTurn tests list oneDigest otherDigest split timeouts agreed
+  tested = refl
+
+  -- what replica 3 states in the four frames
+  abbrev States3 : Bytes → Statement → Type 0
+  States3 frame statement = statementOf digest frame 3 ≡ some statement
+
+  says : States3 (blockVote 3 1 oneDigest) (votesBlock 1 oneDigest) ×
+      States3 (blockVote 3 1 otherDigest) (votesBlock 1 otherDigest) ×
+      States3 (dummyVote 3 1) (votesDummy 1) × States3 (finalize 3 1) (finalizes 1)
+  unfolding everyTurn oneDigest otherDigest
+  says = (refl, refl, refl, refl)
+
+  -- ---- nothing is forged
+  -- the digest in a vote for the block is the block's
+  abbrev ownVote : Bool
+  ownVote = same (digest nextBlock) (take 32 (digest nextBlock ++ zeros 176))
+
+  -- what the test comes to: the certificate is delivered three times, each time in the names of replicas 0 and 1
+  abbrev backed : Bool → Bool
+  backed b =
+      let name : Bool = cond b true false && true in
+      let certificate : Bool = (((name && name) && true) && true) && true in
+      certificate && (certificate && (certificate && true))
+
+  comes-to : notForged digest 4 dishonest [] (list digest) ≡ backed ownVote
+  unfolding everyTurn list oneDigest otherDigest split timeouts agreed
+  comes-to = refl
+
+  module _ (size : length (digest nextBlock) ≡ 32) where
+    own-vote : ownVote ≡ true
+    own-vote =
+        let front = take-append-seam (digest nextBlock) (zeros 176) in
+        eq-same _ _ (sym front ∙ ap (λ (k : ℕ). take k (digest nextBlock ++ zeros 176)) size)
+
+    unforged : notForged digest 4 dishonest [] (list digest) ≡ true
+    unforged = comes-to ∙ ap backed own-vote
+
+    met : Met digest 4 dishonest (list digest) entry
+    unfolding tests
+    met = record {
+      few = few;
+      keeps = λ s h. keeps-sound digest 4 s (list digest) (every-honest dishonest _ 4 (row _ 0 tested) s h);
+      unforged = forged-sound digest 4 dishonest (list digest) unforged;
+      collisionless = one-block-sound digest 4 dishonest nextBlock (list digest) (row _ 1 tested);
+      honest-0 = honest-0;
+      honest-1 = honest-1;
+      reads-0 = reads-found digest (list digest) entry 0 (row _ 2 tested);
+      reads-1 = reads-found digest (list digest) entry 1 (row _ 3 tested);
+      not-empty = entry-not-empty;
+    }
+
+    pub any-digest : AnyDigest digest
+    unfolding tests
+    any-digest = record {
+      met = met;
+      one-vote = hears-found digest (list digest) _ 0 3 _ (says .0) (row _ 4 tested);
+      other-vote = hears-found digest (list digest) _ 1 3 _ (says .1) (row _ 5 tested);
+      two-digests = two-digests;
+      dummy-vote = hears-found digest (list digest) _ 0 3 _ (says .2) (row _ 6 tested);
+      finalize-vote = hears-found digest (list digest) _ 1 3 _ (says .3) (row _ 7 tested);
+      dummy-0 = writes-found digest (list digest) _ 0 (row _ 8 tested);
+      dummy-1 = writes-found digest (list digest) _ 1 (row _ 9 tested);
+    }
+
+    -- agreement, applied to the list
+    pub agreed-on : OneBegins entry entry
+    agreed-on = applied digest 4 dishonest (list digest) entry met

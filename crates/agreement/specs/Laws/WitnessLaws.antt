@@ -1,0 +1,81 @@
+-- The list of the witness passes the tests, by computation, and so meets the premises.
+use Prim.Native.Nat.{ℕ}
+use native.Mathlib.Omega.{arith}
+use mathlib.Core.Path.{_≡_, refl, ap}
+use mathlib.Core.Logic.{_≢_}
+use mathlib.Core.Bool.{Bool, true}
+use mathlib.Core.List.{List, [], _∷_}
+use mathlib.Core.Option.{some, none}
+use Rattle.protocol.specs.Block.{newBlock}
+use Rattle.protocol.specs.Bytes.{Bytes, byteAt, join, le16, word16, zeros}
+use Rattle.protocol.specs.Frame.{dummyCertificate, frameBlock, frameHeight, frameOf, kind, proposal, signer}
+use Rattle.protocol.specs.Laws.RowLaws.{row}
+use Rattle.protocol.specs.Tests.{allOf}
+use Rattle.agreement.specs.ListTests.{everyHonest, hearsAt, keepsOneBook, noCollision, notForged, readsAt, showsOnly, someIn, writesAt}
+use Rattle.agreement.specs.Laws.ListTestsLaws.{collision-sound, every-honest, forged-sound, hears-found, keeps-sound, reads-found, writes-found}
+use Rattle.agreement.specs.Lists.{Member, proposes, statementOf, when}
+use Rattle.agreement.specs.Met.{Met}
+use Rattle.agreement.specs.Laws.MetLaws.{OneBegins, applied}
+use Rattle.agreement.specs.Turns.{dishonest, entry, everyTurn, nextBlock}
+use Rattle.agreement.specs.Laws.TurnsLaws.{entry-not-empty, few, honest-0, honest-1}
+use Rattle.agreement.specs.Witness.{Witness, agreed, list, oneBlock, otherBlock, sample, split, timeouts}
+
+abbrev blocks : List Bytes
+blocks = oneBlock ∷ otherBlock ∷ nextBlock ∷ []
+
+-- all that is to be computed, in one test
+tests : List Member → Bool
+tests l = allOf
+    (everyHonest dishonest (λ s. keepsOneBook sample 4 s none l) 4 ∷
+    notForged sample 4 dishonest [] l ∷
+    showsOnly sample 4 dishonest blocks l ∷
+    noCollision sample blocks ∷
+    someIn (readsAt sample entry 0) l ∷
+    someIn (readsAt sample entry 1) l ∷
+    someIn (hearsAt sample (proposal 3 1 oneBlock) 0) l ∷
+    someIn (hearsAt sample (proposal 3 1 otherBlock) 1) l ∷
+    someIn (writesAt sample (dummyCertificate 1 7) 0) l ∷
+    someIn (writesAt sample (dummyCertificate 1 7) 1) l ∷ [])
+
+tested : tests list ≡ true
+unfolding everyTurn tests list sample oneBlock otherBlock split timeouts agreed
+tested = refl
+
+-- ---- from tests to facts
+proposal-says : (block : Bytes) → statementOf sample (proposal 3 1 block) 3 ≡ some (proposes 1 block)
+unfolding statementOf when proposal frameOf kind signer frameHeight frameBlock word16 le16 zeros
+proposal-says block = refl
+
+-- the two blocks differ in their first entry
+two-blocks : oneBlock ≢ otherBlock
+unfolding oneBlock otherBlock newBlock le16 zeros join
+two-blocks e = let z : _≡_ {A = ℕ} 10 11 = ap (λ (b : Bytes). byteAt b 48) e in omega arith
+
+met : Met sample 4 dishonest list entry
+unfolding tests
+met = record {
+  few = few;
+  keeps = λ s h. keeps-sound sample 4 s list (every-honest dishonest _ 4 (row _ 0 tested) s h);
+  unforged = forged-sound sample 4 dishonest list (row _ 1 tested);
+  collisionless = collision-sound sample 4 dishonest blocks list (row _ 2 tested) (row _ 3 tested);
+  honest-0 = honest-0;
+  honest-1 = honest-1;
+  reads-0 = reads-found sample list entry 0 (row _ 4 tested);
+  reads-1 = reads-found sample list entry 1 (row _ 5 tested);
+  not-empty = entry-not-empty;
+}
+
+pub witness : Witness
+unfolding tests
+witness = record {
+  met = met;
+  one-proposal = hears-found sample list _ 0 3 _ (proposal-says oneBlock) (row _ 6 tested);
+  other-proposal = hears-found sample list _ 1 3 _ (proposal-says otherBlock) (row _ 7 tested);
+  two-blocks = two-blocks;
+  dummy-0 = writes-found sample list _ 0 (row _ 8 tested);
+  dummy-1 = writes-found sample list _ 1 (row _ 9 tested);
+}
+
+-- agreement, applied to the list
+pub agreed-on : OneBegins entry entry
+agreed-on = applied sample 4 dishonest list entry met

@@ -1,0 +1,23 @@
+-- What is proved of the definitions beside this folder: nothing here has to be believed.
+pub mod KeepsStateLaws
+pub mod KeptBytesLaws
+pub mod KeepingLaws
+pub mod KeepsExactLaws
+pub mod RefusalsLaws
+pub mod BookBytesLaws
+pub mod TallyingLaws
+pub mod GrowsLaws
+pub mod HeadKeptLaws
+pub mod HeightKeptLaws
+pub mod KeepLaws
+pub mod OpenKeptLaws
+pub mod DeliverKeptLaws
+pub mod GrowingLaws
+pub mod MoveKeptLaws
+pub mod SubmitKeptLaws
+pub mod SoundKeptLaws
+pub mod FrameLaws
+pub mod ReadLaws
+pub mod ReplyLaws
+pub mod WrittenReadLaws
+pub mod CallWrittenLaws

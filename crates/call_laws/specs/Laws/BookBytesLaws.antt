@@ -1,0 +1,167 @@
+-- Open, Signal, Submit and Move leave what `BookBytes` says.
+use Prim.Native.Nat.{ℕ, _+_, _-_, _*_, _≤_, _<_}
+use native.Mathlib.Omega.{arith}
+use mathlib.Core.Path.{_≡_, refl, sym, ap, _∙_}
+use mathlib.Core.Bool.{true, not}
+use mathlib.Core.List.{List, [], _∷_, _++_, map, append-assoc}
+use mathlib.Core.Option.{Option, some, none}
+use lib.ListN.{length, set, length-append, length-map}
+use lib.Dec.{eqb}
+use borrow.Author.Tests.{eqb-true, le-leb, ltb-true, not-true}
+use Rattle.protocol.specs.Every.{Every, none, one}
+use Rattle.protocol.specs.Bytes.{Bytes, le16, zeros, join, AreBytes, put, Sized}
+use Rattle.protocol.specs.Tests.{firstRefusal}
+use Rattle.protocol.specs.Laws.BytesLaws.{put-all, zeros-add}
+use Rattle.protocol.specs.Answer.{done, accepted, unlessRefused}
+use Rattle.protocol.specs.State.{State, decode, encode, headBytes, contentBytes, bodyBytes, withHead, withTimerFired, flag, pending, withPool}
+use Rattle.protocol.specs.Sound.{sound, log}
+use Rattle.protocol.specs.Open.{newHeight, newState, openRows, openInRange, openCall}
+use Rattle.protocol.specs.Move.{step, moved, moveRows, moveCall, unlessMoveRefused}
+use Rattle.protocol.specs.Signal.{signalRows, signalCall}
+use Rattle.protocol.specs.Submit.{withPending, stillPending, submitRows, submitCall}
+use Rattle.protocol.specs.Laws.TestsLaws.{and-true}
+use Rattle.protocol.specs.Laws.RowLaws.{row, row-passes}
+use Rattle.protocol.specs.Laws.EveryLaws.{every-append}
+use Rattle.protocol.specs.Laws.PiecesLaws.{pieces-join}
+use Rattle.protocol.specs.Laws.PoolLaws.{every-without, pending-pool-size}
+use Rattle.protocol.specs.Laws.PendingLaws.{pending-sized}
+use Rattle.protocol.specs.Laws.StateLaws.{decode-encode}
+use Rattle.protocol.specs.Laws.WriteLaws.{write-pool, write-pending-count}
+use Rattle.protocol.specs.Laws.MoveLaws.{head-only}
+use Rattle.protocol.specs.Laws.SoundLaws.{sound-decode, encode-decode}
+use Rattle.call_laws.specs.Laws.KeepsStateLaws.{refused≢accepted}
+use Rattle.call_laws.specs.Laws.SubmitKeptLaws.{submit-sound}
+use Rattle.call_laws.specs.BookBytes.{openedBook, Signals, entriesAfter, Submits, headOf}
+
+-- to prove something of a call that says no more than that it was done, prove it where no row refuses
+done-call : (P : Bytes → Type 0) (r : Option ℕ) (book made : Bytes) → (r ≡ none → P made) →
+    unlessRefused r book (record { answer = accepted done; book = made }) .answer ≡ accepted done →
+    P (unlessRefused r book (record { answer = accepted done; book = made }) .book)
+unfolding unlessRefused
+done-call P none book made f e = f refl
+done-call P (some number) book made f e = absurd (refused≢accepted number done e)
+
+-- ---- Open
+one-content : (leader : ℕ) → contentBytes (newHeight leader) ≡ leader ∷ zeros 15
+unfolding contentBytes newHeight le16 zeros
+one-content leader = refl
+
+new-content : (leaders : Bytes) →
+    join (map contentBytes (map newHeight leaders)) ≡ join (map (λ leader. leader ∷ zeros 15) leaders)
+unfolding join
+new-content [] = refl
+new-content (leader ∷ leaders) = rw (one-content leader, new-content leaders)
+
+new-bodies : (leaders : Bytes) → join (map bodyBytes (map newHeight leaders)) ≡ zeros (864 * length leaders)
+unfolding join
+new-bodies [] = unfold zeros in refl
+new-bodies (leader ∷ leaders) =
+    let more : 864 + 864 * length leaders ≡ 864 * length (leader ∷ leaders) = omega arith in
+    let first : bodyBytes (newHeight leader) ≡ zeros 864 = unfold bodyBytes newHeight in
+    rw (zeros-add 176 512, zeros-add 176 688) in
+    rw (first, new-bodies leaders, ← more) (zeros-add 864 (864 * length leaders))
+
+new-book : (n own : ℕ) (leaders : Bytes) → encode (newState n own leaders) ≡ openedBook n own (length leaders) leaders
+unfolding encode headBytes newState openedBook
+new-book n own leaders =
+    rw (new-content leaders, new-bodies leaders, length-map leaders newHeight, ← zeros-add 56 512)
+    (simp append-assoc)
+
+pub open-bytes : (book : Bytes) (n own heights : ℕ) (leaders : Bytes) →
+    openCall book n own heights leaders .answer ≡ accepted done →
+    openCall book n own heights leaders .book ≡ openedBook n own heights leaders
+unfolding openCall
+open-bytes book n own heights leaders =
+    done-call (λ (b : Bytes). b ≡ openedBook n own heights leaders)
+    (firstRefusal (openRows book n own heights leaders)) book (encode (newState n own leaders)) made
+  where
+    made : firstRefusal (openRows book n own heights leaders) ≡ none →
+        encode (newState n own leaders) ≡ openedBook n own heights leaders
+    made passes = unfold openRows openInRange in
+        let count : length leaders ≡ heights = eqb-true _ _ (row _ 3 (row-passes _ _ passes .0)) in
+        new-book n own leaders ∙ ap (λ (k : ℕ). openedBook n own k leaders) count
+
+-- ---- calls on a sound book, whose numbers are bytes
+module _ (digest : Bytes → Bytes) (book : Bytes) (small : AreBytes book) where
+  abbrev s : State
+  s = decode book
+
+  -- ---- Signal
+  timer-bytes : encode (withTimerFired s) ≡ set (encode s) 3 (s .flags + 1)
+  unfolding withTimerFired withHead encode headBytes
+  timer-bytes = refl
+
+  pub signal-bytes : (h : ℕ) → signalCall digest book h .answer ≡ accepted done →
+      Signals book h (signalCall digest book h .book)
+  unfolding signalCall
+  signal-bytes h = done-call (Signals book h) (firstRefusal (signalRows digest book h)) book
+      (encode (withTimerFired s)) fired
+    where
+      fired : firstRefusal (signalRows digest book h) ≡ none → Signals book h (encode (withTimerFired s))
+      fired passes = unfold signalRows in
+          let r1 = row-passes _ _ passes in
+          let r14 = and-true (eqb h (s .current)) (not (flag 1 s)) (row-passes _ _ (row-passes _ _ (r1 .1) .1) .0) in
+          record {
+            current = eqb-true _ _ (r14 .0) ∙ unfold decode in refl;
+            was-clear = not-true _ (r14 .1);
+            bytes = timer-bytes ∙ rw (encode-decode digest book (r1 .0) small) (unfold decode in refl);
+          }
+
+  -- ---- Submit
+  pool-bytes : (es : List Bytes) → length (s .pool) ≡ 512 → length (join es ++ zeros (512 - 16 * length es)) ≡ 512 →
+      encode (withPending s es) ≡ put (set (encode s) 6 (length es)) 64 (join es ++ zeros (512 - 16 * length es))
+  unfolding withPool withPending
+  pool-bytes es size new-size =
+      let pool : Bytes = join es ++ zeros (512 - 16 * length es) in
+      let counted : State = withPool s (length es) (s .pool) in
+      let wrote = write-pool counted size 0 pool (omega arith) in
+      let whole : put (s .pool) 0 pool ≡ pool = put-all (s .pool) pool (size ∙ sym new-size) in
+      sym (rw (write-pending-count s (length es))
+      (wrote ∙ ap (λ (p : Bytes). encode (withPool s (length es) p)) whole))
+
+  pub submit-bytes : (entry : Bytes) → submitCall digest book entry .answer ≡ accepted done →
+      Submits book entry (submitCall digest book entry .book)
+  unfolding submitCall
+  submit-bytes entry = done-call (Submits book entry) (firstRefusal (submitRows digest book entry)) book
+      (encode (withPending s (entriesAfter book entry))) kept
+    where
+      kept : firstRefusal (submitRows digest book entry) ≡ none →
+          Submits book entry (encode (withPending s (entriesAfter book entry)))
+      kept passes = unfold submitRows in
+          let r1 = row-passes _ _ passes in
+          let r4 = row-passes _ _ (r1 .1) in
+          let room : length (stillPending s) < 32 = ltb-true _ _ (row-passes _ _ (row-passes _ _ (r4 .1) .1) .0) in
+          let size : length entry ≡ 16 = eqb-true _ _ (r4 .0) in
+          let state = sound-decode digest book (r1 .0) in
+          let few : length (entriesAfter book entry) ≤ 32 = simp length-append (omega arith) in
+          let left : Every (Sized 16) (stillPending s) = unfold stillPending in
+          every-without (log s) (pending-sized digest s state) in
+          let sized : Every (Sized 16) (entriesAfter book entry) = every-append left (one size none) in
+          record {
+            room = few;
+            bytes =
+                pool-bytes (entriesAfter book entry) (state .shaped .pool-size)
+                (pending-pool-size (entriesAfter book entry) sized few) ∙
+                rw (encode-decode digest book (r1 .0) small);
+            now-pending =
+                ap pending (decode-encode (withPending s (entriesAfter book entry))
+                (submit-sound digest s state entry size room .shaped)) ∙
+                unfold pending withPending in pieces-join 16 (entriesAfter book entry) _ sized;
+          }
+
+  -- ---- Move
+  head-bytes : (flags current finalized : ℕ) →
+      encode (withHead s flags current finalized) ≡ set (set (set (encode s) 3 flags) 4 current) 5 finalized
+  unfolding withHead encode headBytes
+  head-bytes flags current finalized = refl
+
+  pub move-bytes : (reply : Bytes) → sound digest book ≡ true → 448 ≤ length reply →
+      moveCall digest book reply .book ≡ headOf book (step digest s .after)
+  unfolding moveCall moveRows firstRefusal unlessMoveRefused moved
+  move-bytes reply ok room = rw (ok, le-leb 448 (length reply) room)
+      (after (step digest s .after) (head-only digest s))
+    where
+      after : (s′ : State) → (flags current finalized : ℕ) × (s′ ≡ withHead s flags current finalized) →
+          encode s′ ≡ headOf book s′
+      after s′ (flags, current, finalized, e) =
+          rw e (head-bytes flags current finalized ∙ rw (encode-decode digest book ok small) (unfold withHead in refl))

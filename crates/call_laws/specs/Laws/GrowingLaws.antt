@@ -1,0 +1,40 @@
+-- As frames are delivered and moves made, what a sound book shows only grows.
+use mathlib.Core.Path.{_≡_, refl}
+use mathlib.Core.Bool.{true}
+use Rattle.protocol.specs.SoundState.{SoundState}
+use Rattle.protocol.specs.Bytes.{Bytes}
+use Rattle.protocol.specs.Answer.{Outcome, Delivery}
+use Rattle.protocol.specs.Frame.{frameHeight}
+use Rattle.protocol.specs.State.{State, decode, withHeight}
+use Rattle.protocol.specs.Laws.StateLaws.{decode-encode}
+use Rattle.protocol.specs.Sound.{view, sound}
+use Rattle.protocol.specs.Laws.SoundLaws.{sound-decode}
+use Rattle.protocol.specs.Deliver.{deliverCall}
+use Rattle.protocol.specs.Laws.DeliverLaws.{deliver-cases}
+use Rattle.protocol.specs.Move.{step}
+use Rattle.protocol.specs.Laws.MoveLaws.{step-body}
+use Rattle.call_laws.specs.Grows.{Grows}
+use Rattle.call_laws.specs.Laws.GrowsLaws.{same-grows}
+use Rattle.call_laws.specs.Laws.DeliverKeptLaws.{keep-grows, keep-sound}
+
+module _ (digest : Bytes → Bytes) where
+  pub deliver-grows : (book frame : Bytes) → sound digest book ≡ true →
+      Grows (view (decode book)) (view (decode (deliverCall digest book frame .book)))
+  deliver-grows book frame was =
+      deliver-cases digest book frame (λ (o : Outcome Delivery). Grows (view s) (view (decode (o .book))))
+      (λ _ _. same-grows s s refl refl) (λ _ _. same-grows s s refl refl)
+      (λ y accepts e.
+      rw (decode-encode (withHeight s (frameHeight frame) y)
+      (keep-sound digest s state frame (accepts .read) y e .shaped))
+      (keep-grows digest s state frame (accepts .read) y e))
+    where
+      s : State
+      s = decode book
+
+      state : SoundState digest s
+      state = sound-decode digest book was
+
+  pub step-grows : (s : State) → Grows (view s) (view (step digest s .after))
+  step-grows s =
+      let body = step-body digest s in
+      same-grows s (step digest s .after) (body .same-n) (body .same-heights)

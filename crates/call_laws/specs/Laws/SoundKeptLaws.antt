@@ -1,0 +1,110 @@
+-- Call by call: a sound book is left sound.
+use Prim.Native.Nat.{ℕ}
+use native.Mathlib.Omega.{arith}
+use mathlib.Core.Path.{_≡_, refl}
+use mathlib.Core.Bool.{true}
+use mathlib.Core.List.{List, [], _∷_, _++_}
+use mathlib.Core.Option.{Option, some, none}
+use lib.Dec.{eqb}
+use borrow.Author.Tests.{eqb-true, ltb-true}
+use Rattle.protocol.specs.SoundState.{SoundState}
+use Rattle.protocol.specs.Bytes.{Bytes}
+use Rattle.protocol.specs.Tests.{Row, firstRefusal}
+use Rattle.protocol.specs.Frame.{frameHeight}
+use Rattle.protocol.specs.State.{State, encode, decode, withHeight, withTimerFired}
+use Rattle.protocol.specs.Sound.{sound}
+use Rattle.protocol.specs.Answer.{Answer, refused, accepted, Outcome, Delivery, Done, done, unlessRefused}
+use Rattle.protocol.specs.Open.{newState, openRows, openCall}
+use Rattle.protocol.specs.Deliver.{deliverCall}
+use Rattle.protocol.specs.Move.{step, moved, unlessMoveRefused, moveRows, moveCall}
+use Rattle.protocol.specs.Signal.{signalRows, signalCall}
+use Rattle.protocol.specs.Submit.{withPending, stillPending, submitRows, submitCall}
+use Rattle.protocol.specs.Laws.TestsLaws.{and-true}
+use Rattle.protocol.specs.Laws.RowLaws.{row-passes}
+use Rattle.protocol.specs.Laws.DeliverLaws.{deliver-cases}
+use Rattle.protocol.specs.Laws.SoundLaws.{sound-decode, sound-encode}
+use Rattle.call_laws.specs.Laws.OpenKeptLaws.{open-sound}
+use Rattle.call_laws.specs.Laws.DeliverKeptLaws.{keep-sound}
+use Rattle.call_laws.specs.Laws.MoveKeptLaws.{step-sound, timer-sound}
+use Rattle.call_laws.specs.Laws.SubmitKeptLaws.{submit-sound}
+
+-- to prove something of the book after a call, prove it of the old book and of the new one where no row refuses
+pub unless-refused : {A : Type 0} (P : Bytes → Type 0) (rows : List Row) (book : Bytes) (outcome : Outcome A) →
+    P book → (firstRefusal rows ≡ none → P (outcome .book)) → P (unlessRefused (firstRefusal rows) book outcome .book)
+unless-refused P rows book outcome old new = go (firstRefusal rows) new
+  where
+    go : (r : Option ℕ) → (r ≡ none → P (outcome .book)) → P (unlessRefused r book outcome .book)
+    go none f = unfold unlessRefused in f refl
+    go (some number) f = unfold unlessRefused in old
+
+module _ (digest : Bytes → Bytes) where
+  abbrev Sound : Bytes → Type 0
+  Sound book = sound digest book ≡ true
+
+  module _ (book : Bytes) (was : Sound book) where
+    abbrev s : State
+    s = decode book
+
+    state : SoundState digest s
+    state = sound-decode digest book was
+
+    pub deliver-kept : (frame : Bytes) → Sound (deliverCall digest book frame .book)
+    deliver-kept frame = deliver-cases digest book frame (λ (o : Outcome Delivery). Sound (o .book))
+        (λ _ _. was) (λ _ _. was) (λ y accepts e.
+        sound-encode digest (withHeight s (frameHeight frame) y) (keep-sound digest s state frame (accepts .read) y e))
+
+    pub move-kept : (reply : Bytes) → Sound (moveCall digest book reply .book)
+    unfolding moveCall
+    move-kept reply = go (firstRefusal (moveRows digest book reply))
+      where
+        go : (r : Option ℕ) → Sound (unlessMoveRefused r book reply (step digest s) .book)
+        go none = unfold unlessMoveRefused moved in sound-encode digest (step digest s .after) (step-sound digest s state)
+        go (some number) = unfold unlessMoveRefused in was
+
+    fired : (h : ℕ) → firstRefusal (signalRows digest book h) ≡ none → Sound (encode (withTimerFired s))
+    unfolding signalRows
+    fired h passes =
+        let r6 = row-passes _ _ (row-passes _ _ passes .1) in
+        let r14 = and-true (eqb h (s .current)) _ (row-passes _ _ (r6 .1) .0) in
+        sound-encode digest (withTimerFired s) (timer-sound digest s state (r14 .1))
+
+    pub signal-kept : (h : ℕ) → Sound (signalCall digest book h .book)
+    unfolding signalCall
+    signal-kept h = unless-refused Sound (signalRows digest book h) book (record { answer = accepted done; book = encode (withTimerFired s) }) was (fired h)
+
+    abbrev submitted : Bytes → Bytes
+    submitted entry = encode (withPending s (stillPending s ++ (entry ∷ [])))
+
+    appended : (entry : Bytes) → firstRefusal (submitRows digest book entry) ≡ none → Sound (submitted entry)
+    unfolding submitRows
+    appended entry passes =
+        let r4 = row-passes _ _ (row-passes _ _ passes .1) in
+        let r12 = row-passes _ _ (row-passes _ _ (r4 .1) .1) in
+        sound-encode digest (withPending s (stillPending s ++ (entry ∷ []))) (submit-sound digest s state entry (eqb-true _ _ (r4 .0)) (ltb-true _ _ (r12 .0)))
+
+    pub submit-kept : (entry : Bytes) → Sound (submitCall digest book entry .book)
+    unfolding submitCall
+    submit-kept entry = unless-refused Sound (submitRows digest book entry) book (record { answer = accepted done; book = submitted entry }) was (appended entry)
+
+  -- ---- Open, over any bytes
+  module _ (book : Bytes) (n own heights : ℕ) (leaders : Bytes) where
+    made : firstRefusal (openRows book n own heights leaders) ≡ none → Sound (encode (newState n own leaders))
+    unfolding openRows
+    made passes = sound-encode digest (newState n own leaders) (open-sound digest n own heights leaders (row-passes _ _ passes .0))
+
+    pub open-kept : Sound book → Sound (openCall book n own heights leaders .book)
+    unfolding openCall
+    open-kept was = unless-refused Sound (openRows book n own heights leaders) book (record { answer = accepted done; book = encode (newState n own leaders) }) was made
+
+    pub open-made : openCall book n own heights leaders .answer ≡ accepted done → Sound (openCall book n own heights leaders .book)
+    unfolding openCall
+    open-made opened = go (firstRefusal (openRows book n own heights leaders)) made opened
+      where
+        go : (r : Option ℕ) → (r ≡ none → Sound (encode (newState n own leaders))) →
+            unlessRefused r book (record { answer = accepted done; book = encode (newState n own leaders) }) .answer ≡ accepted done →
+            Sound (unlessRefused r book (record { answer = accepted done; book = encode (newState n own leaders) }) .book)
+        go none f e = unfold unlessRefused in f refl
+        go (some number) f e = unfold unlessRefused in
+            let never : _≡_ {A = Answer Done} (refused number) (accepted done) = e in
+            let z : _≡_ {A = ℕ} 0 1 = cc in
+            absurd (omega arith)

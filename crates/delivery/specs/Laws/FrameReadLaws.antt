@@ -1,0 +1,53 @@
+-- What soundness and the rows of reading grant: a height to read and write, and a frame whose signers are replicas.
+use Prim.Native.Nat.{ℕ}
+use mathlib.Core.Path.{_≡_, refl, sym, subst}
+use mathlib.Core.Bool.{true}
+use mathlib.Core.List.{[], append-nil}
+use mathlib.Core.Option.{none}
+use lib.ListN.{length}
+use Rattle.protocol.specs.ReadFrame.{ReadFrame}
+use Rattle.protocol.specs.SoundState.{HeightRange}
+use Rattle.protocol.specs.Bytes.{Bytes, AreBytes}
+use Rattle.protocol.specs.Tests.{firstRefusal}
+use Rattle.protocol.specs.Frame.{frameHeight}
+use Rattle.protocol.specs.State.{decode, at}
+use Rattle.protocol.specs.Sound.{sound}
+use Rattle.protocol.specs.Laws.CodecLaws.{last-decode}
+use Rattle.protocol.specs.Laws.DeliverLaws.{read-facts}
+use Rattle.protocol.specs.Laws.GrantedLaws.{height-range}
+use Rattle.protocol.specs.Deliver.{readRows}
+use Rattle.fields.specs.Book.{Readable, SoundBook}
+use Rattle.fields.specs.Laws.BookLaws.{sound-book}
+use Rattle.delivery.specs.Given.{Read}
+
+-- a sound book is readable
+pub sound-readable : (digest : Bytes → Bytes) (book : Bytes) → AreBytes book → sound digest book ≡ true → Readable book
+sound-readable digest book small e = sound-book digest book small e .ready .readable
+
+-- ---- a frame that is read
+module _ (digest : Bytes → Bytes) (book frame : Bytes) (small : AreBytes book) (is : sound digest book ≡ true) (passes : firstRefusal (readRows (decode book) frame) ≡ none) where
+  tested : ReadFrame (decode book) frame
+  tested = read-facts (decode book) frame [] (rw append-nil passes) .0
+
+  here : Read book (frameHeight frame) frame
+  here =
+      let g : SoundBook digest book = sound-book digest book small is in
+      let numbers : HeightRange (decode book .n) (at (decode book) (frameHeight frame)) =
+      height-range digest (decode book) (g .state) (frameHeight frame) (tested .low) (tested .high) in
+      record {
+        spot = record {
+          ready = g .ready;
+          within = record { low = tested .low; high = rw (last-decode book) at (tested .high) };
+          status-small = numbers .status-small;
+        };
+        range = numbers;
+        read = tested;
+        height = refl;
+      }
+
+  -- at the height that code read
+  pub frame-read : (h : ℕ) → h ≡ frameHeight frame → Read book h frame
+  frame-read h e = subst (λ (k : ℕ). Read book k frame) (sym e) here
+
+  pub frame-size : length frame ≡ 224
+  frame-size = tested .size

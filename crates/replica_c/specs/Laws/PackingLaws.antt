@@ -1,0 +1,64 @@
+-- What the calls answer is small: a move's height is at most 63 and a size at most 8,064, so that each has room in its place of the packing.
+use Prim.Native.Nat.{ℕ, _≤_}
+use native.Mathlib.Omega.{arith}
+use mathlib.Core.Path.{_≡_, refl}
+use mathlib.Core.Bool.{true}
+use mathlib.Core.Option.{Option, some, none}
+use borrow.Author.Tests.{leb-true}
+use Rattle.protocol.specs.Bytes.{Bytes}
+use Rattle.protocol.specs.Tests.{firstRefusal}
+use Rattle.protocol.specs.State.{State, last, decode}
+use Rattle.protocol.specs.Sound.{view, sound}
+use Rattle.protocol.specs.Answer.{Answer, moveHeight}
+use Rattle.protocol.specs.Move.{Step, firstStep, step, isRunning, newFinalized, dummyVoteApplies, dummyVoteStep, outputApplies, outputStep, passApplies, passStep, proposeApplies, proposeStep, blockVoteApplies, blockVoteStep, idleStep, moved, unlessMoveRefused, moveRows, moveCall}
+use Rattle.protocol.specs.Read.{logSize, sizeCall}
+use Rattle.protocol.specs.Laws.TestsLaws.{and-true, cond-elim}
+use Rattle.protocol.specs.Laws.RowLaws.{row, row-passes}
+use Rattle.protocol.specs.Laws.ParentLaws.{largestFinalized-is}
+use Rattle.protocol.specs.Laws.SoundLaws.{sound-decode}
+use Rattle.protocol.specs.Laws.LogLaws.{log-few}
+use Rattle.protocol.specs.Block.{maximumHeights}
+use Rattle.replica_c.specs.Packing.{answeredHeight, answeredSize}
+
+module _ (digest : Bytes → Bytes) where
+  -- ---- Move: a step names a height of the book, or is idle and names 0
+  module _ (s : State) where
+    abbrev Within : Step → Type 0
+    Within st = moveHeight (st .move) ≤ last s
+
+    running : isRunning s ≡ true → s .current ≤ last s
+    unfolding isRunning
+    running = leb-true _ _
+
+    output-within : newFinalized digest s ≤ last s
+    unfolding newFinalized
+    output-within = largestFinalized-is digest (view s) (last s) .within
+
+    step-within : Within (step digest s)
+    unfolding step firstStep moveHeight dummyVoteApplies dummyVoteStep outputStep passApplies passStep proposeApplies proposeStep blockVoteApplies blockVoteStep idleStep
+    step-within =
+        cond-elim Within (dummyVoteApplies s) (λ e. running (row _ 0 e)) λ _.
+        cond-elim Within (outputApplies digest s) (λ _. output-within) λ _.
+        cond-elim Within (passApplies digest s) (λ e. running (and-true _ _ e .0)) λ _.
+        cond-elim Within (proposeApplies digest s) (λ e. running (row _ 0 e)) λ _.
+        cond-elim Within (blockVoteApplies digest s) (λ e. running (row _ 0 e)) λ _. omega arith
+
+  pub move-height-low : (book reply : Bytes) → answeredHeight (moveCall digest book reply .answer) ≤ maximumHeights
+  unfolding moveCall
+  move-height-low book reply = go (firstRefusal (moveRows digest book reply)) is-sound
+    where
+      is-sound : firstRefusal (moveRows digest book reply) ≡ none → sound digest book ≡ true
+      is-sound passes = unfold moveRows in row-passes _ _ passes .0
+
+      go : (r : Option ℕ) → (r ≡ none → sound digest book ≡ true) → answeredHeight (unlessMoveRefused r book reply (step digest (decode book)) .answer) ≤ maximumHeights
+      go none e = unfold unlessMoveRefused moved answeredHeight in
+          omega (arith, step-within (decode book), sound-decode digest book (e refl) .last-high)
+      go (some number) e = unfold unlessMoveRefused answeredHeight in omega arith
+
+  -- ---- Register size: 16 bytes for each of at most 504 entries
+  pub size-low : (book : Bytes) → answeredSize (sizeCall digest book) ≤ 8064
+  unfolding sizeCall logSize answeredSize
+  size-low book =
+      cond-elim (λ (a : Answer ℕ). answeredSize a ≤ 8064) (sound digest book)
+      (λ e. omega (arith, log-few digest (decode book) (sound-decode digest book e)))
+      (λ _. omega arith)
