@@ -9,9 +9,12 @@ use Rattle.applies.proofs.chain_below.Tie as tie
 
 returns : tie.Need-returns
 returns c =
-    let found = c .before .before .parent-of in
-    let height = c .before .before .before .before .current in
-    (found .ensures .0 ∙ below-is sha256 (decode (c .before .before .before .before .before .before .before .args .book .now)) (height .result) (height .ensures .0), found .ensures .1)
+    let after-parent-of = c .before .before in
+    let after-current = after-parent-of .before .before in
+    let start = after-current .before .before .before in
+    let found = after-parent-of .parent-of in
+    let height = after-current .current in
+    (found .ensures .0 ∙ below-is sha256 (decode (start .args .book .now)) (height .result) (height .ensures .0), found .ensures .1)
 
 pub chain-below-spec : {M : Type 1} → statement M
 chain-below-spec =

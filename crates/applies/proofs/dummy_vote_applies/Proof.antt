@@ -8,19 +8,37 @@ use Rattle.applies.proofs.dummy_vote_applies.Tie as tie
 
 returns : tie.Need-returns
 returns c =
-    sym (dummy-cast (decode (c .before .before .before .before .before .before .before .args .book .now)) (sym (c .before .before .before .before .before .is-running .ensures) ∙ c .before .before .before .before .if1 .taken) (sym (c .before .before .before .flag .ensures) ∙ c .before .before .if2 .taken) (sym (c .before .flag2 .ensures) ∙ c .if3 .taken))
+    let after-flag2 = c .before in
+    let after-if2 = after-flag2 .before in
+    let after-flag = after-if2 .before in
+    let after-if1 = after-flag .before in
+    let after-is-running = after-if1 .before in
+    let start = after-is-running .before .before in
+    sym (dummy-cast (decode (start .args .book .now)) (sym (after-is-running .is-running .ensures) ∙ after-if1 .if1 .taken) (sym (after-flag .flag .ensures) ∙ after-if2 .if2 .taken) (sym (after-flag2 .flag2 .ensures) ∙ c .if3 .taken))
 
 returns-2 : tie.Need-returns-2
 returns-2 c =
-    sym (dummy-now (decode (c .before .before .before .before .before .before .before .args .book .now)) (sym (c .before .before .before .before .before .is-running .ensures) ∙ c .before .before .before .before .if1 .taken) (sym (c .before .before .before .flag .ensures) ∙ c .before .before .if2 .taken) (sym (c .before .flag2 .ensures) ∙ c .if3 .left))
+    let after-flag2 = c .before in
+    let after-if2 = after-flag2 .before in
+    let after-flag = after-if2 .before in
+    let after-if1 = after-flag .before in
+    let after-is-running = after-if1 .before in
+    let start = after-is-running .before .before in
+    sym (dummy-now (decode (start .args .book .now)) (sym (after-is-running .is-running .ensures) ∙ after-if1 .if1 .taken) (sym (after-flag .flag .ensures) ∙ after-if2 .if2 .taken) (sym (after-flag2 .flag2 .ensures) ∙ c .if3 .left))
 
 returns-3 : tie.Need-returns-3
 returns-3 c =
-    sym (dummy-in-time (decode (c .before .before .before .before .before .args .book .now)) (sym (c .before .before .before .is-running .ensures) ∙ c .before .before .if1 .taken) (sym (c .before .flag .ensures) ∙ c .if2 .left))
+    let after-flag = c .before in
+    let after-if1 = after-flag .before in
+    let after-is-running = after-if1 .before in
+    let start = after-is-running .before .before in
+    sym (dummy-in-time (decode (start .args .book .now)) (sym (after-is-running .is-running .ensures) ∙ after-if1 .if1 .taken) (sym (after-flag .flag .ensures) ∙ c .if2 .left))
 
 returns-4 : tie.Need-returns-4
 returns-4 c =
-    sym (dummy-stopped (decode (c .before .before .before .args .book .now)) (sym (c .before .is-running .ensures) ∙ c .if1 .left))
+    let after-is-running = c .before in
+    let start = after-is-running .before .before in
+    sym (dummy-stopped (decode (start .args .book .now)) (sym (after-is-running .is-running .ensures) ∙ c .if1 .left))
 
 pub dummy-vote-applies-spec : {M : Type 1} → statement M
 dummy-vote-applies-spec =

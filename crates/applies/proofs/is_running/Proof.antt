@@ -6,7 +6,9 @@ use Rattle.applies.proofs.is_running.Tie as tie
 
 returns : tie.Need-returns
 returns c =
-    rw (c .before .current .ensures .0, c .heights .ensures .0) (running-is (c .before .before .before .args .book .now))
+    let after-current = c .before in
+    let start = after-current .before .before in
+    rw (after-current .current .ensures .0, c .heights .ensures .0) (running-is (start .args .book .now))
 
 pub is-running-spec : {M : Type 1} → statement M
 is-running-spec = tie.close (tie.spec (λ c κs. search needs) (λ c κs. search needs) returns)

@@ -9,9 +9,12 @@ use Rattle.applies.proofs.new_finalized.Tie as tie
 
 returns : tie.Need-returns
 returns c =
-    let found = c .before .before .largest-finalized in
-    let top = c .before .before .before .before .heights in
-    (found .ensures .0 ∙ newest-is sha256 (c .before .before .before .before .before .before .before .args .book .now) (top .result) (top .ensures .0), (omega (arith, found .ensures .1 .0, top .ensures .1), found .ensures .1 .1))
+    let after-largest-finalized = c .before .before in
+    let after-heights = after-largest-finalized .before .before in
+    let start = after-heights .before .before .before in
+    let found = after-largest-finalized .largest-finalized in
+    let top = after-heights .heights in
+    (found .ensures .0 ∙ newest-is sha256 (start .args .book .now) (top .result) (top .ensures .0), (omega (arith, found .ensures .1 .0, top .ensures .1), found .ensures .1 .1))
 
 pub new-finalized-spec : {M : Type 1} → statement M
 new-finalized-spec =

@@ -10,41 +10,67 @@ use Rattle.applies.proofs.pass_applies.Tie as tie
 
 linked-requires : tie.Need-linked-requires
 linked-requires c κs =
-    let start = c .before .before .before .before .before .before in
-    let height = c .before .current in
-    (start .pre .0 .ready .readable, (start .pre .1, current-high (start .args .book .now) (start .pre .0) (sym (c .before .before .before .is-running .ensures) ∙ c .before .before .if1 .taken) (height .result) (height .ensures .0)))
+    let after-current = c .before in
+    let after-if1 = after-current .before in
+    let after-is-running = after-if1 .before in
+    let start = after-is-running .before .before .before in
+    let height = after-current .current in
+    (start .pre .0 .ready .readable, (start .pre .1, current-high (start .args .book .now) (start .pre .0) (sym (after-is-running .is-running .ensures) ∙ after-if1 .if1 .taken) (height .result) (height .ensures .0)))
 
 is-dummy-requires : tie.Need-is-dummy-requires
 is-dummy-requires c κs =
-    let start = c .before .before .before .before .before .before .before .before .before .before in
-    let height = c .before .before .before .before .before .current in
-    (start .pre .0 .ready .readable, current-within (start .args .book .now) (start .pre .0) (sym (c .before .before .before .before .before .before .before .is-running .ensures) ∙ c .before .before .before .before .before .before .if1 .taken) (height .result) (height .ensures .0))
+    let after-current = c .before .before .before .before .before in
+    let after-if1 = after-current .before in
+    let after-is-running = after-if1 .before in
+    let start = after-is-running .before .before .before in
+    let height = after-current .current in
+    (start .pre .0 .ready .readable, current-within (start .args .book .now) (start .pre .0) (sym (after-is-running .is-running .ensures) ∙ after-if1 .if1 .taken) (height .result) (height .ensures .0))
 
 returns : tie.Need-returns
 returns c =
-    let start = c .before .before .before .before .before .before .before .before .before .before in
-    let height = c .before .before .before .before .before .current in
-    let link = c .before .before .before .linked in
-    (sym (pass-linked sha256 (decode (start .args .book .now)) (height .result) (height .ensures .0) (sym (c .before .before .before .before .before .before .before .is-running .ensures) ∙ c .before .before .before .before .before .before .if1 .taken) (sym (link .ensures .0) ∙ c .if2 .taken)), link .ensures .1)
+    let after-linked = c .before .before .before in
+    let after-current = after-linked .before .before in
+    let after-if1 = after-current .before in
+    let after-is-running = after-if1 .before in
+    let start = after-is-running .before .before .before in
+    let height = after-current .current in
+    let link = after-linked .linked in
+    (sym (pass-linked sha256 (decode (start .args .book .now)) (height .result) (height .ensures .0) (sym (after-is-running .is-running .ensures) ∙ after-if1 .if1 .taken) (sym (link .ensures .0) ∙ c .if2 .taken)), link .ensures .1)
 
 returns-2 : tie.Need-returns-2
 returns-2 c =
-    let start = c .before .before .before .before .before .before .before .before .before .before .before .before .before .before .before .before in
-    let height = c .before .before .before .before .before .before .before .before .before .before .before .current in
-    let link = c .before .before .before .before .before .before .before .before .before .linked in
-    let chain = c .before .before .has-chain-below in
-    (chain .ensures .0 ∙ sym (pass-chain sha256 (decode (start .args .book .now)) (height .result) (height .ensures .0) (sym (c .before .before .before .before .before .before .before .before .before .before .before .before .before .is-running .ensures) ∙ c .before .before .before .before .before .before .before .before .before .before .before .before .if1 .taken) (sym (link .ensures .0) ∙ c .before .before .before .before .before .before .if2 .left) (sym (c .before .before .before .before .before .is-dummy .ensures) ∙ c .before .before .before .before .if3 .taken)), chain .ensures .1)
+    let after-has-chain-below = c .before .before in
+    let after-if3 = after-has-chain-below .before .before in
+    let after-is-dummy = after-if3 .before in
+    let after-if2 = after-is-dummy .before in
+    let after-linked = after-if2 .before .before .before in
+    let after-current = after-linked .before .before in
+    let after-if1 = after-current .before in
+    let after-is-running = after-if1 .before in
+    let start = after-is-running .before .before .before in
+    let height = after-current .current in
+    let link = after-linked .linked in
+    let chain = after-has-chain-below .has-chain-below in
+    (chain .ensures .0 ∙ sym (pass-chain sha256 (decode (start .args .book .now)) (height .result) (height .ensures .0) (sym (after-is-running .is-running .ensures) ∙ after-if1 .if1 .taken) (sym (link .ensures .0) ∙ after-if2 .if2 .left) (sym (after-is-dummy .is-dummy .ensures) ∙ after-if3 .if3 .taken)), chain .ensures .1)
 
 returns-3 : tie.Need-returns-3
 returns-3 c =
-    let start = c .before .before .before .before .before .before .before .before .before .before .before .before in
-    let height = c .before .before .before .before .before .before .before .current in
-    let link = c .before .before .before .before .before .linked in
-    (sym (pass-neither sha256 (decode (start .args .book .now)) (height .result) (height .ensures .0) (sym (c .before .before .before .before .before .before .before .before .before .is-running .ensures) ∙ c .before .before .before .before .before .before .before .before .if1 .taken) (sym (link .ensures .0) ∙ c .before .before .if2 .left) (sym (c .before .is-dummy .ensures) ∙ c .if3 .left)), link .ensures .1)
+    let after-is-dummy = c .before in
+    let after-if2 = after-is-dummy .before in
+    let after-linked = after-if2 .before .before .before in
+    let after-current = after-linked .before .before in
+    let after-if1 = after-current .before in
+    let after-is-running = after-if1 .before in
+    let start = after-is-running .before .before .before in
+    let height = after-current .current in
+    let link = after-linked .linked in
+    (sym (pass-neither sha256 (decode (start .args .book .now)) (height .result) (height .ensures .0) (sym (after-is-running .is-running .ensures) ∙ after-if1 .if1 .taken) (sym (link .ensures .0) ∙ after-if2 .if2 .left) (sym (after-is-dummy .is-dummy .ensures) ∙ c .if3 .left)), link .ensures .1)
 
 returns-4 : tie.Need-returns-4
 returns-4 c =
-    (sym (pass-stopped sha256 (decode (c .before .before .before .before .args .book .now)) (sym (c .before .is-running .ensures) ∙ c .if1 .left)), c .before .before .before .before .pre .1)
+    let after-is-running = c .before in
+    let start = after-is-running .before .before .before in
+    (sym (pass-stopped sha256 (decode (start .args .book .now)) (sym (after-is-running .is-running .ensures) ∙ c .if1 .left)), start .pre .1)
 
 pub pass-applies-spec : {M : Type 1} → statement M
 pass-applies-spec =

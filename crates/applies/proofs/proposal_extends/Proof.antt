@@ -12,24 +12,33 @@ use Rattle.applies.proofs.proposal_extends.Tie as tie
 
 extends-requires : tie.Need-extends-requires
 extends-requires c κs =
-    let start = c .before .before .before .before .before .before .before in
+    let after-proposal = c .before in
+    let after-current = after-proposal .before .before .before in
+    let start = after-current .before .before .before in
     let book = start .args .book .now in
-    let height = c .before .before .before .before .current in
+    let height = after-current .current in
     let inside : Within book (height .result) = within-current book (start .pre .0) (start .pre .1 .1) (height .result) (height .ensures .0) in
-    (start .pre .0 .ready .readable, (start .pre .1 .0, (inside, ap length (c .before .proposal .ensures) ∙ proposal-size book (start .pre .0 .ready .readable) (height .result) inside)))
+    (start .pre .0 .ready .readable, (start .pre .1 .0, (inside, ap length (after-proposal .proposal .ensures) ∙ proposal-size book (start .pre .0 .ready .readable) (height .result) inside)))
 
 returns : tie.Need-returns
 returns c =
-    let start = c .before .before .before .before .before .before .before .before .before .before in
-    let height = c .before .before .before .before .before .before .before .current in
-    let found = c .before .before .extends in
-    (found .ensures .0 ∙ held-extends sha256 (decode (start .args .book .now)) (height .result) (height .ensures .0) (c .before .before .before .before .proposal .result .now) (sym (c .before .before .before .before .before .before .holds-proposal .ensures) ∙ c .before .before .before .before .before .if1 .taken) (c .before .before .before .before .proposal .ensures), found .ensures .1)
+    let after-extends = c .before .before in
+    let after-proposal = after-extends .before .before in
+    let after-if1 = after-proposal .before in
+    let after-holds-proposal = after-if1 .before in
+    let after-current = after-holds-proposal .before in
+    let start = after-current .before .before .before in
+    let height = after-current .current in
+    let found = after-extends .extends in
+    (found .ensures .0 ∙ held-extends sha256 (decode (start .args .book .now)) (height .result) (height .ensures .0) (after-proposal .proposal .result .now) (sym (after-holds-proposal .holds-proposal .ensures) ∙ after-if1 .if1 .taken) (after-proposal .proposal .ensures), found .ensures .1)
 
 returns-2 : tie.Need-returns-2
 returns-2 c =
-    let start = c .before .before .before .before .before in
-    let height = c .before .before .current in
-    (sym (held-none sha256 (decode (start .args .book .now)) (height .result) (height .ensures .0) (sym (c .before .holds-proposal .ensures) ∙ c .if1 .left)), start .pre .1 .0)
+    let after-holds-proposal = c .before in
+    let after-current = after-holds-proposal .before in
+    let start = after-current .before .before .before in
+    let height = after-current .current in
+    (sym (held-none sha256 (decode (start .args .book .now)) (height .result) (height .ensures .0) (sym (after-holds-proposal .holds-proposal .ensures) ∙ c .if1 .left)), start .pre .1 .0)
 
 pub proposal-extends-spec : {M : Type 1} → statement M
 proposal-extends-spec =

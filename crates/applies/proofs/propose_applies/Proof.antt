@@ -10,34 +10,59 @@ use Rattle.applies.proofs.propose_applies.Tie as tie
 
 leader-requires : tie.Need-leader-requires
 leader-requires c κs =
-    let start = c .before .before .before .before .before in
-    (start .pre .0 .ready .readable, current-within (start .args .book .now) (start .pre .0) (sym (c .before .before .is-running .ensures) ∙ c .before .if1 .taken) (c .current .result) (c .current .ensures .0))
+    let after-if1 = c .before in
+    let after-is-running = after-if1 .before in
+    let start = after-is-running .before .before .before in
+    (start .pre .0 .ready .readable, current-within (start .args .book .now) (start .pre .0) (sym (after-is-running .is-running .ensures) ∙ after-if1 .if1 .taken) (c .current .result) (c .current .ensures .0))
 
 returns : tie.Need-returns
 returns c =
-    let start = c .before .before .before .before .before .before .before .before .before .before in
+    let after-flag = c .before in
+    let after-if2 = after-flag .before in
+    let after-own = after-if2 .before in
+    let after-leader = after-own .before in
+    let after-current = after-leader .before in
+    let after-if1 = after-current .before in
+    let after-is-running = after-if1 .before in
+    let start = after-is-running .before .before .before in
     let s = decode (start .args .book .now) in
-    let leads-it = leads sha256 s (c .before .before .before .before .before .current .result) (c .before .before .before .before .before .current .ensures .0) (c .before .before .before .before .leader .result) (c .before .before .before .own .result) (c .before .before .before .before .leader .ensures .0) (c .before .before .before .own .ensures .0) (c .before .before .if2 .taken) in
-    (sym (propose-done sha256 s (sym (c .before .before .before .before .before .before .before .is-running .ensures) ∙ c .before .before .before .before .before .before .if1 .taken) leads-it (sym (c .before .flag .ensures) ∙ c .if3 .taken)), start .pre .1)
+    let leads-it = leads sha256 s (after-current .current .result) (after-current .current .ensures .0) (after-leader .leader .result) (after-own .own .result) (after-leader .leader .ensures .0) (after-own .own .ensures .0) (after-if2 .if2 .taken) in
+    (sym (propose-done sha256 s (sym (after-is-running .is-running .ensures) ∙ after-if1 .if1 .taken) leads-it (sym (after-flag .flag .ensures) ∙ c .if3 .taken)), start .pre .1)
 
 returns-2 : tie.Need-returns-2
 returns-2 c =
-    let start = c .before .before .before .before .before .before .before .before .before .before .before .before .before .before in
+    let after-has-chain-below = c .before .before in
+    let after-if3 = after-has-chain-below .before .before in
+    let after-flag = after-if3 .before in
+    let after-if2 = after-flag .before in
+    let after-own = after-if2 .before in
+    let after-leader = after-own .before in
+    let after-current = after-leader .before in
+    let after-if1 = after-current .before in
+    let after-is-running = after-if1 .before in
+    let start = after-is-running .before .before .before in
     let s = decode (start .args .book .now) in
-    let chain = c .before .before .has-chain-below in
-    let leads-it = leads sha256 s (c .before .before .before .before .before .before .before .before .before .current .result) (c .before .before .before .before .before .before .before .before .before .current .ensures .0) (c .before .before .before .before .before .before .before .before .leader .result) (c .before .before .before .before .before .before .before .own .result) (c .before .before .before .before .before .before .before .before .leader .ensures .0) (c .before .before .before .before .before .before .before .own .ensures .0) (c .before .before .before .before .before .before .if2 .taken) in
-    (chain .ensures .0 ∙ sym (propose-chain sha256 s (sym (c .before .before .before .before .before .before .before .before .before .before .before .is-running .ensures) ∙ c .before .before .before .before .before .before .before .before .before .before .if1 .taken) leads-it (sym (c .before .before .before .before .before .flag .ensures) ∙ c .before .before .before .before .if3 .left)), chain .ensures .1)
+    let chain = after-has-chain-below .has-chain-below in
+    let leads-it = leads sha256 s (after-current .current .result) (after-current .current .ensures .0) (after-leader .leader .result) (after-own .own .result) (after-leader .leader .ensures .0) (after-own .own .ensures .0) (after-if2 .if2 .taken) in
+    (chain .ensures .0 ∙ sym (propose-chain sha256 s (sym (after-is-running .is-running .ensures) ∙ after-if1 .if1 .taken) leads-it (sym (after-flag .flag .ensures) ∙ after-if3 .if3 .left)), chain .ensures .1)
 
 returns-3 : tie.Need-returns-3
 returns-3 c =
-    let start = c .before .before .before .before .before .before .before .before in
+    let after-own = c .before in
+    let after-leader = after-own .before in
+    let after-current = after-leader .before in
+    let after-if1 = after-current .before in
+    let after-is-running = after-if1 .before in
+    let start = after-is-running .before .before .before in
     let s = decode (start .args .book .now) in
-    let follows = leads-not sha256 s (c .before .before .before .current .result) (c .before .before .before .current .ensures .0) (c .before .before .leader .result) (c .before .own .result) (c .before .before .leader .ensures .0) (c .before .own .ensures .0) (c .if2 .left) in
-    (sym (propose-follows sha256 s (sym (c .before .before .before .before .before .is-running .ensures) ∙ c .before .before .before .before .if1 .taken) follows), start .pre .1)
+    let follows = leads-not sha256 s (after-current .current .result) (after-current .current .ensures .0) (after-leader .leader .result) (after-own .own .result) (after-leader .leader .ensures .0) (after-own .own .ensures .0) (c .if2 .left) in
+    (sym (propose-follows sha256 s (sym (after-is-running .is-running .ensures) ∙ after-if1 .if1 .taken) follows), start .pre .1)
 
 returns-4 : tie.Need-returns-4
 returns-4 c =
-    (sym (propose-stopped sha256 (decode (c .before .before .before .before .args .book .now)) (sym (c .before .is-running .ensures) ∙ c .if1 .left)), c .before .before .before .before .pre .1)
+    let after-is-running = c .before in
+    let start = after-is-running .before .before .before in
+    (sym (propose-stopped sha256 (decode (start .args .book .now)) (sym (after-is-running .is-running .ensures) ∙ c .if1 .left)), start .pre .1)
 
 pub propose-applies-spec : {M : Type 1} → statement M
 propose-applies-spec =

@@ -11,7 +11,8 @@ use Rattle.replica_c.proofs.delivered_number.Reads as delivered-number-
 
 returns : tie.Need-returns
 returns c =
-    let told = c .before .before .before .deliver in
+    let after-deliver = c .before .before .before in
+    let told = after-deliver .deliver in
     (c .delivered-number .ensures ∙ ap packedDelivery (told .ensures .0), told .ensures .1)
 
 pub mavunilai-deliver-spec : {M : Type 1} → statement M

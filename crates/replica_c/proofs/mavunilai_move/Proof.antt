@@ -16,12 +16,14 @@ use Rattle.replica_c.proofs.moved_number.Reads as moved-number-reads
 
 moved-number-requires : tie.Need-moved-number-requires
 moved-number-requires c κs =
-    let told = c .before .before .before .before .make-move in
+    let after-make-move = c .before .before .before .before in
+    let told = after-make-move .make-move in
     subst (λ (a : Answer Move). answeredHeight a ≤ maximumHeights) (sym (told .ensures .0)) (move-height-low sha256 _ _)
 
 returns : tie.Need-returns
 returns c =
-    let told = c .before .before .before .before .before .make-move in
+    let after-make-move = c .before .before .before .before .before in
+    let told = after-make-move .make-move in
     (c .moved-number .ensures ∙ ap packedMove (told .ensures .0), (told .ensures .1 .0, told .ensures .1 .1 .0))
 
 pub mavunilai-move-spec : {M : Type 1} → statement M

@@ -11,7 +11,8 @@ use Rattle.replica_c.proofs.done_number.Reads as done-number-reads
 
 returns : tie.Need-returns
 returns c =
-    let told = c .before .before .before .open in
+    let after-open = c .before .before .before in
+    let told = after-open .open in
     (c .done-number .ensures ∙ ap packedDone (told .ensures .0), told .ensures .1)
 
 pub mavunilai-open-spec : {M : Type 1} → statement M

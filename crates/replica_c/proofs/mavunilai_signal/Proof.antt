@@ -11,7 +11,8 @@ use Rattle.replica_c.proofs.done_number.Reads as done-number-reads
 
 returns : tie.Need-returns
 returns c =
-    let told = c .before .before .before .signal in
+    let after-signal = c .before .before .before in
+    let told = after-signal .signal in
     (c .done-number .ensures ∙ ap packedDone (told .ensures .0), told .ensures .1)
 
 pub mavunilai-signal-spec : {M : Type 1} → statement M

@@ -11,7 +11,8 @@ use Rattle.replica_c.proofs.done_number.Reads as done-number-reads
 
 returns : tie.Need-returns
 returns c =
-    let told = c .before .before .before .submit in
+    let after-submit = c .before .before .before in
+    let told = after-submit .submit in
     (c .done-number .ensures ∙ ap packedDone (told .ensures .0), told .ensures .1)
 
 pub mavunilai-submit-spec : {M : Type 1} → statement M

@@ -21,23 +21,38 @@ low e = subst (λ (a : Moved). answeredHeight (movedAnswer a) ≤ maximumHeights
 
 move-number-requires : tie.Need-move-number-requires
 unfolding answeredHeight moveHeight movedAnswer
-move-number-requires c κs = (search needs, low (c .before .answer .given .1) (c .before .before .before .pre), search needs)
+move-number-requires c κs =
+    let after-answer = c .before in
+    let start = after-answer .before .before in
+    (search needs, low (after-answer .answer .given .1) (start .pre), search needs)
 
 move-number-requires-2 : tie.Need-move-number-requires-2
 unfolding answeredHeight moveHeight movedAnswer
-move-number-requires-2 c κs = (search needs, low (c .before .answer2 .given .1) (c .before .before .before .pre), search needs)
+move-number-requires-2 c κs =
+    let after-answer2 = c .before in
+    let start = after-answer2 .before .before in
+    (search needs, low (after-answer2 .answer2 .given .1) (start .pre), search needs)
 
 move-number-requires-3 : tie.Need-move-number-requires-3
 unfolding answeredHeight moveHeight movedAnswer
-move-number-requires-3 c κs = (search needs, low (c .before .before .before .answer3 .given .1) (c .before .before .before .before .before .pre), search needs)
+move-number-requires-3 c κs =
+    let after-answer3 = c .before .before .before in
+    let start = after-answer3 .before .before in
+    (search needs, low (after-answer3 .answer3 .given .1) (start .pre), search needs)
 
 move-number-requires-4 : tie.Need-move-number-requires-4
 unfolding answeredHeight moveHeight movedAnswer
-move-number-requires-4 c κs = (search needs, low (c .before .answer4 .given .1) (c .before .before .before .pre), search needs)
+move-number-requires-4 c κs =
+    let after-answer4 = c .before in
+    let start = after-answer4 .before .before in
+    (search needs, low (after-answer4 .answer4 .given .1) (start .pre), search needs)
 
 move-number-requires-5 : tie.Need-move-number-requires-5
 unfolding answeredHeight moveHeight movedAnswer
-move-number-requires-5 c κs = (search needs, low (c .before .answer5 .given .1) (c .before .before .before .pre), search needs)
+move-number-requires-5 c κs =
+    let after-answer5 = c .before in
+    let start = after-answer5 .before .before in
+    (search needs, low (after-answer5 .answer5 .given .1) (start .pre), search needs)
 
 returns : tie.Need-returns
 unfolding packedMove passKinds moveNumber moveHeight movedAnswer
@@ -54,10 +69,13 @@ returns-3 c = c .move-number2 .ensures ∙ ap (λ (a : Moved). packedMove (moved
 returns-4 : tie.Need-returns-4
 unfolding packedMove passKinds moveNumber moveHeight movedAnswer
 returns-4 c =
-    let h = c .before .before .before .before .answer3 .given .0 .0 in
+    let after-finalized-number = c .before in
+    let after-certificate-number = after-finalized-number .before in
+    let after-answer3 = after-certificate-number .before .before in
+    let h = after-answer3 .answer3 .given .0 .0 in
     c .move-number3 .ensures
-    ∙ ap₂ (λ (a b : ℕ). 256 * 3 + 65536 * h + 4294967296 * (a + 256 * b)) (c .before .before .certificate-number .ensures .0) (c .before .finalized-number .ensures .0)
-    ∙ ap (λ (a : Moved). packedMove (movedAnswer a)) (sym (c .before .before .before .before .answer3 .given .1))
+    ∙ ap₂ (λ (a b : ℕ). 256 * 3 + 65536 * h + 4294967296 * (a + 256 * b)) (after-certificate-number .certificate-number .ensures .0) (after-finalized-number .finalized-number .ensures .0)
+    ∙ ap (λ (a : Moved). packedMove (movedAnswer a)) (sym (after-answer3 .answer3 .given .1))
 
 returns-5 : tie.Need-returns-5
 unfolding packedMove passKinds moveNumber moveHeight movedAnswer

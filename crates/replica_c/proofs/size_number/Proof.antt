@@ -12,7 +12,10 @@ use Rattle.replica_c.proofs.size_number.Lts as lts
 
 mul-result : tie.Need-mul-result
 unfolding answeredSize sizeAnswer
-mul-result c = omega (arith, c .before .before .before .pre, ap (λ (a : Size). answeredSize (sizeAnswer a)) (c .before .answer .given .1))
+mul-result c =
+    let after-answer = c .before in
+    let start = after-answer .before .before in
+    omega (arith, start .pre, ap (λ (a : Size). answeredSize (sizeAnswer a)) (after-answer .answer .given .1))
 
 returns : tie.Need-returns
 unfolding packedSize sizeAnswer

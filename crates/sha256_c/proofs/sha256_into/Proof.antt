@@ -30,20 +30,25 @@ abbrev μ-loop : tie.MeasureT-loop
 
 returns : tie.Need-returns Inv-loop μ-loop
 unfolding written
-returns c = (sym (lt-leb 32 _ (c .if1 .taken)), rw (lt-leb 32 (length (c .before .before .before .args .out .now)) (c .if1 .taken)))
+returns c =
+    let start = c .before .before .before in
+    (sym (lt-leb 32 _ (c .if1 .taken)), rw (lt-leb 32 (length (start .args .out .now)) (c .if1 .taken)))
 
 loop-holds : tie.Need-loop-holds Inv-loop μ-loop
 loop-holds c = (search needs, refl, refl)
 
 loop-again : tie.Need-loop-again Inv-loop μ-loop
 loop-again c =
-    let digest = c .before .before .sha256 .result in
-    let out = c .before .before .before .before .before .before .args .out .now in
+    let after-loop = c .before in
+    let after-sha256 = after-loop .before in
+    let start = after-sha256 .before .before .before .before in
+    let digest = after-sha256 .sha256 .result in
+    let out = start .args .out .now in
     let whole : length digest ≡ 32 = search needs in
-    let i = c .before .loop .i in
-    let inv = c .before .loop .inv in (
+    let i = after-loop .loop .i in
+    let inv = after-loop .loop .inv in (
       search needs,
-      length-set (c .before .loop .out) i _ ∙ inv .1,
+      length-set (after-loop .loop .out) i _ ∙ inv .1,
       rw (inv .2) (copied digest out i (omega arith) (omega arith)),
     )
 
@@ -53,14 +58,17 @@ same-length c = c .before .loop .inv .1
 returns-2 : tie.Need-returns-2 Inv-loop μ-loop
 unfolding written
 returns-2 c =
-    let out = c .before .before .before .before .before .before .args .out .now in
-    let digest = c .before .before .sha256 .result in
+    let after-loop = c .before in
+    let after-sha256 = after-loop .before in
+    let start = after-sha256 .before .before .before .before in
+    let out = start .args .out .now in
+    let digest = after-sha256 .sha256 .result in
     let room : leb 32 (length out) ≡ true = le-leb 32 (length out) (omega arith) in
-    let done : c .before .loop .i ≡ 32 = omega arith in
+    let done : after-loop .loop .i ≡ 32 = omega arith in
     let whole : length digest ≡ 32 = search needs in
-    let ended : c .before .loop .out ≡ digest ++ drop 32 out
-    = c .before .loop .inv .2 ∙ rw (done, take-all 32 digest (omega arith)) in
-    (sym room, rw (room, ← c .before .before .sha256 .ensures) ended)
+    let ended : after-loop .loop .out ≡ digest ++ drop 32 out
+    = after-loop .loop .inv .2 ∙ rw (done, take-all 32 digest (omega arith)) in
+    (sym room, rw (room, ← after-sha256 .sha256 .ensures) ended)
 
 pub sha256-into-spec : {M : Type 1} → statement M
 sha256-into-spec =

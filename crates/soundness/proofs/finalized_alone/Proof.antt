@@ -9,10 +9,15 @@ use Rattle.soundness.proofs.finalized_alone.Statement.{statement}
 use Rattle.soundness.proofs.finalized_alone.Tie as tie
 
 returns : tie.Need-returns
-returns c = sym (final-none sha256 (c .before .before .before .args .book .now) (sym (c .before .finalized .ensures .0) ∙ c .if1 .taken))
+returns c =
+    let after-finalized = c .before in
+    let start = after-finalized .before .before in
+    sym (final-none sha256 (start .args .book .now) (sym (after-finalized .finalized .ensures .0) ∙ c .if1 .taken))
 
 finalized-sound-requires : tie.Need-finalized-sound-requires
-finalized-sound-requires c κs = (c .before .before .before .before .pre, zero-memo (c .before .before .before .before .args .book .now) _ (c .before .before .before .before .pre) (unfold zeros in refl))
+finalized-sound-requires c κs =
+    let start = c .before .before .before .before in
+    (start .pre, zero-memo (start .args .book .now) _ (start .pre) (unfold zeros in refl))
 
 returns-2 : tie.Need-returns-2
 returns-2 c = c .before .finalized-sound .ensures .0

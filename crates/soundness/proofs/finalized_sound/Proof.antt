@@ -18,8 +18,9 @@ is-finalized-requires c κs =
 
 returns : tie.Need-returns
 returns c =
-    let start = c .before .before .before .before in
-    (sym (final-none sha256 (start .args .book .now) (sym (c .before .finalized .ensures .0) ∙ c .if1 .taken)), start .pre .1)
+    let after-finalized = c .before in
+    let start = after-finalized .before .before .before in
+    (sym (final-none sha256 (start .args .book .now) (sym (after-finalized .finalized .ensures .0) ∙ c .if1 .taken)), start .pre .1)
 
 returns-2 : tie.Need-returns-2
 returns-2 c =

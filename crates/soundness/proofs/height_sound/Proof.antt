@@ -6,14 +6,16 @@ use Rattle.soundness.proofs.height_sound.Tie as tie
 
 returns : tie.Need-returns
 returns c =
-    let notarized = c .before .before .before in
+    let after-certificate-sound = c .before in
+    let after-block-sound2 = after-certificate-sound .before in
+    let notarized = after-block-sound2 .before in
     let proposal = notarized .before .before .before in
     let masks = proposal .before .before .before in
     let start = masks .before .before .before .before in
     rw (
       c .unused-sound .ensures,
-      c .before .certificate-sound .ensures,
-      c .before .before .block-sound2 .ensures,
+      after-certificate-sound .certificate-sound .ensures,
+      after-block-sound2 .block-sound2 .ensures,
       notarized .notarized .ensures,
       notarized .before .is-notarized .ensures,
       notarized .before .before .block-sound .ensures,

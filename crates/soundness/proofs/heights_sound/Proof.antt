@@ -33,22 +33,27 @@ loop-less c = omega arith
 
 loop-again : tie.Need-loop-again Inv-loop μ-loop
 loop-again c =
-    let start = c .before .before .before .before .before .before in
-    let at = c .before .before .before .loop in
-    (omega arith, every-more (λ k. allOf (heightRows (start .args .book .now) k)) (at .h) (at .inv .1) (sym (c .before .height-sound .ensures) ∙ c .if1 .taken))
+    let after-height-sound = c .before in
+    let after-loop = after-height-sound .before .before in
+    let start = after-loop .before .before .before in
+    let at = after-loop .loop in
+    (omega arith, every-more (λ k. allOf (heightRows (start .args .book .now) k)) (at .h) (at .inv .1) (sym (after-height-sound .height-sound .ensures) ∙ c .if1 .taken))
 
 returns : tie.Need-returns Inv-loop μ-loop
 returns c =
-    let start = c .before .before .before .before .before .before in
-    let at = c .before .before .before .loop in
+    let after-height-sound = c .before in
+    let after-loop = after-height-sound .before .before in
+    let start = after-loop .before .before .before in
+    let at = after-loop .loop in
     sym (every-height-fails (λ k. allOf (heightRows (start .args .book .now) k)) (bookHeights (start .args .book .now)) (at .h + 1) (omega arith) (omega arith)
-    (sym (c .before .height-sound .ensures) ∙ c .if1 .left))
+    (sym (after-height-sound .height-sound .ensures) ∙ c .if1 .left))
 
 returns-2 : tie.Need-returns-2 Inv-loop μ-loop
 returns-2 c =
-    let start = c .before .before .before .before in
-    let end : c .before .loop .h ≡ bookHeights (start .args .book .now) = omega arith in
-    sym (ap (λ (h : ℕ). everyHeight (λ k. allOf (heightRows (start .args .book .now) k)) h) (sym end) ∙ c .before .loop .inv .1)
+    let after-loop = c .before in
+    let start = after-loop .before .before .before in
+    let end : after-loop .loop .h ≡ bookHeights (start .args .book .now) = omega arith in
+    sym (ap (λ (h : ℕ). everyHeight (λ k. allOf (heightRows (start .args .book .now) k)) h) (sym end) ∙ after-loop .loop .inv .1)
 
 pub heights-sound-spec : {M : Type 1} → statement M
 heights-sound-spec =

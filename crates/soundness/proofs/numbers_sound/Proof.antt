@@ -6,15 +6,21 @@ use Rattle.soundness.proofs.numbers_sound.Tie as tie
 
 returns : tie.Need-returns
 returns c =
-    let start = c .before .before .before .before .before .before .before .before in
+    let after-byte6 = c .before in
+    let after-byte5 = after-byte6 .before in
+    let after-byte4 = after-byte5 .before in
+    let after-byte3 = after-byte4 .before in
+    let after-byte2 = after-byte3 .before in
+    let after-byte = after-byte2 .before in
+    let start = after-byte .before .before in
     rw (
       c .byte7 .ensures .0,
-      c .before .byte6 .ensures .0,
-      c .before .before .byte5 .ensures .0,
-      c .before .before .before .byte4 .ensures .0,
-      c .before .before .before .before .byte3 .ensures .0,
-      c .before .before .before .before .before .byte2 .ensures .0,
-      c .before .before .before .before .before .before .byte .ensures .0,
+      after-byte6 .byte6 .ensures .0,
+      after-byte5 .byte5 .ensures .0,
+      after-byte4 .byte4 .ensures .0,
+      after-byte3 .byte3 .ensures .0,
+      after-byte2 .byte2 .ensures .0,
+      after-byte .byte .ensures .0,
     )
     (numbers-are (start .args .book .now))
 

@@ -11,16 +11,25 @@ use Rattle.soundness.proofs.rows_sound.Statement.{statement}
 use Rattle.soundness.proofs.rows_sound.Tie as tie
 
 heights-sound-requires : tie.Need-heights-sound-requires
-heights-sound-requires c κs = readable (c .before .before .before .args .book .now) (sym (c .before .head-sound .ensures) ∙ c .if1 .taken)
+heights-sound-requires c κs =
+    let after-head-sound = c .before in
+    let start = after-head-sound .before .before in
+    readable (start .args .book .now) (sym (after-head-sound .head-sound .ensures) ∙ c .if1 .taken)
 
 returns : tie.Need-returns
 returns c =
-    let book = c .before .before .before .before .args .book .now in
-    let head : allOf (headRows book) ≡ true = sym (c .before .before .head-sound .ensures) ∙ c .before .if1 .taken in
+    let after-if1 = c .before in
+    let after-head-sound = after-if1 .before in
+    let start = after-head-sound .before .before in
+    let book = start .args .book .now in
+    let head : allOf (headRows book) ≡ true = sym (after-head-sound .head-sound .ensures) ∙ after-if1 .if1 .taken in
     (c .heights-sound .ensures ∙ rows-by-heights sha256 book head, λ passed. readable book head)
 
 returns-2 : tie.Need-returns-2
-returns-2 c = (rows-not-head sha256 (c .before .before .before .args .book .now) (sym (c .before .head-sound .ensures) ∙ c .if1 .left), λ passed. absurd (false≢true passed))
+returns-2 c =
+    let after-head-sound = c .before in
+    let start = after-head-sound .before .before in
+    (rows-not-head sha256 (start .args .book .now) (sym (after-head-sound .head-sound .ensures) ∙ c .if1 .left), λ passed. absurd (false≢true passed))
 
 pub rows-sound-spec : {M : Type 1} → statement M
 rows-sound-spec = tie.close (tie.spec (λ c κs. search needs) heights-sound-requires returns returns-2)

@@ -13,22 +13,26 @@ use Rattle.soundness.proofs.sound.Tie as tie
 
 finalized-sound-requires : tie.Need-finalized-sound-requires
 finalized-sound-requires c κs =
-    let start = c .before .before .before .before .before in
-    let readable = c .before .before .rows-sound .ensures .1 (c .before .if1 .taken) in
+    let after-if1 = c .before in
+    let after-rows-sound = after-if1 .before in
+    let start = after-rows-sound .before .before .before in
+    let readable = after-rows-sound .rows-sound .ensures .1 (after-if1 .if1 .taken) in
     (readable, zero-memo (start .args .book .now) (start .args .known .now) readable (start .pre))
 
 returns : tie.Need-returns
 returns c =
-    let final = c .before .before .finalized-sound in
-    let test = c .before .before .before .before in
+    let after-finalized-sound = c .before .before in
+    let test = after-finalized-sound .before .before in
+    let final = after-finalized-sound .finalized-sound in
     let start = test .before .before .before .before in
     let size = final .kept .1 .0 ∙ ap length (start .pre) ∙ length-zeros memorySize in
     (final .ensures .0 ∙ sound-final sha256 (start .args .book .now) (sym (test .before .rows-sound .ensures .0) ∙ test .if1 .taken), ((λ passed. final .ensures .1), size))
 
 returns-2 : tie.Need-returns-2
 returns-2 c =
-    let z = c .before .before .before .before in
-    (not-sound-rows sha256 (z .args .book .now) (sym (c .before .rows-sound .ensures .0) ∙ c .if1 .left), ((λ passed. absurd (false≢true passed)), ap length (z .pre) ∙ length-zeros memorySize))
+    let after-rows-sound = c .before in
+    let z = after-rows-sound .before .before .before in
+    (not-sound-rows sha256 (z .args .book .now) (sym (after-rows-sound .rows-sound .ensures .0) ∙ c .if1 .left), ((λ passed. absurd (false≢true passed)), ap length (z .pre) ∙ length-zeros memorySize))
 
 pub sound-spec : {M : Type 1} → statement M
 sound-spec =

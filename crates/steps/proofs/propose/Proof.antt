@@ -9,22 +9,29 @@ use Rattle.steps.proofs.propose.Tie as tie
 
 write-proposal-requires : tie.Need-write-proposal-requires
 write-proposal-requires c κs =
-    let start = c .before .before .before .before .before .before .before .before .before .before .before .before .before .before .before .before .before in
-    let found = c .before .before .before .before .before .parent-below in
+    let after-parent-below = c .before .before .before .before .before in
+    let start = after-parent-below .before .before .before .before .before .before .before .before .before .before .before .before in
+    let found = after-parent-below .parent-below in
     (start .pre .0, (found .ensures .1, (walkable (start .args .book .now) (start .pre .0) (start .pre .1 .1 .0) (start .pre .1 .1 .1 .0) (found .result) (found .ensures .0), start .pre .1 .1 .1 .1)))
 
 returns : tie.Need-returns
 returns c =
-    let start = c .before .before .before .before .before .before .before .before .before .before .before .before .before .before .before .before .before .before .before .before .before .before .before .before .before .before in
+    let after-set-head = c .before .before in
+    let after-write-proposal = after-set-head .before .before .before .before .before .before in
+    let after-parent-below = after-write-proposal .before .before .before .before .before .before in
+    let after-finalized = after-parent-below .before .before .before in
+    let after-flags = after-finalized .before .before in
+    let after-current = after-flags .before .before in
+    let start = after-current .before .before .before .before .before in
     let s = decode (start .args .book .now) in
-    let height = c .before .before .before .before .before .before .before .before .before .before .before .before .before .before .before .before .before .before .before .before .before .current in
-    let seen = c .before .before .before .before .before .before .before .before .before .before .before .before .before .before .before .before .before .before .before .flags in
-    let settled = c .before .before .before .before .before .before .before .before .before .before .before .before .before .before .before .before .before .finalized in
-    let found = c .before .before .before .before .before .before .before .before .before .before .before .before .before .before .parent-below in
-    let proposed = c .before .before .before .before .before .before .before .before .write-proposal in
-    took-propose s (start .args .reply .now) (c .before .before .set-head .last .0) (proposed .last .1 .0)
+    let height = after-current .current in
+    let seen = after-flags .flags in
+    let settled = after-finalized .finalized in
+    let found = after-parent-below .parent-below in
+    let proposed = after-write-proposal .write-proposal in
+    took-propose s (start .args .reply .now) (after-set-head .set-head .last .0) (proposed .last .1 .0)
     (height .result) (s .own) (seen .result) (settled .result) (height .ensures .0) refl (seen .ensures .0) (settled .ensures .0)
-    (found .result) (found .ensures .0) (c .before .before .set-head .ensures) (proposed .ensures)
+    (found .result) (found .ensures .0) (after-set-head .set-head .ensures) (proposed .ensures)
 
 pub propose-spec : {M : Type 1} → statement M
 propose-spec =

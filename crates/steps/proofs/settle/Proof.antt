@@ -7,11 +7,14 @@ use Rattle.steps.proofs.settle.Tie as tie
 
 returns : tie.Need-returns
 returns c =
-    let start = c .before .before .before .before .before .before .before .before .before in
+    let after-set-head = c .before .before in
+    let after-flags = after-set-head .before .before in
+    let after-current = after-flags .before .before in
+    let start = after-current .before .before .before in
     let s = decode (start .args .book .now) in
-    let height = c .before .before .before .before .before .before .current in
-    let seen = c .before .before .before .before .flags in
-    (settled-answer s (start .args .g) (start .pre .1 .0), settled-book s (start .args .g) (start .pre .1 .0) (c .before .before .set-head .last .0) (height .result) (seen .result) (height .ensures .0) (seen .ensures .0) (c .before .before .set-head .ensures))
+    let height = after-current .current in
+    let seen = after-flags .flags in
+    (settled-answer s (start .args .g) (start .pre .1 .0), settled-book s (start .args .g) (start .pre .1 .0) (after-set-head .set-head .last .0) (height .result) (seen .result) (height .ensures .0) (seen .ensures .0) (after-set-head .set-head .ensures))
 
 pub settle-spec : {M : Type 1} → statement M
 settle-spec =

@@ -12,12 +12,14 @@ use Rattle.steps.proofs.write_pass_certificate.Tie as tie
 
 write-block-certificate-requires : tie.Need-write-block-certificate-requires
 write-block-certificate-requires c κs =
-    let start = c .before .before .before .before .before .before .before in
+    let after-certificate-mask = c .before .before in
+    let after-current = after-certificate-mask .before .before in
+    let start = after-current .before .before .before in
     let book = start .args .book .now in
-    let height = c .before .before .before .before .current in
+    let height = after-current .current in
     let inside = within-current book (start .pre .0) (start .pre .1 .0) (height .result) (height .ensures .0) in
     let room = start .pre .1 .1 in
-    (omega (arith, room), ((omega (arith, height .ensures .1), c .before .before .certificate-mask .ensures .1), ap length (c .notarized .ensures) ∙ notarized-size book (start .pre .0 .ready .readable) (height .result) inside))
+    (omega (arith, room), ((omega (arith, height .ensures .1), after-certificate-mask .certificate-mask .ensures .1), ap length (c .notarized .ensures) ∙ notarized-size book (start .pre .0 .ready .readable) (height .result) inside))
 
 returns : tie.Need-returns
 unfolding certificateOf

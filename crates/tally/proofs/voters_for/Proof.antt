@@ -39,10 +39,11 @@ loop-less c = omega arith
 
 loop-again : tie.Need-loop-again Inv-loop μ-loop
 loop-again c =
-    let at = c .before .before .before in
+    let after-votes-for = c .before in
+    let at = after-votes-for .before .before in
     let args = at .before .before .before .before .before .args in
     let test = votes (heightAt (decode (args .book .now)) (args .h)) (at .before .voter-mask .result) (args .digest .now) in
-    (omega arith, bit-next (at .loop .bit) (at .loop .s) (at .loop .inv .1), mask-with test (at .loop .s) (at .loop .mask) (at .loop .inv .2) (at .loop .bit) (at .loop .inv .1) (sym (c .before .votes-for .ensures) ∙ c .if1 .taken), omega arith)
+    (omega arith, bit-next (at .loop .bit) (at .loop .s) (at .loop .inv .1), mask-with test (at .loop .s) (at .loop .mask) (at .loop .inv .2) (at .loop .bit) (at .loop .inv .1) (sym (after-votes-for .votes-for .ensures) ∙ c .if1 .taken), omega arith)
 
 mul-bit-2 : tie.Need-mul-bit-2 Inv-loop μ-loop
 mul-bit-2 c =
@@ -58,10 +59,11 @@ loop-less-2 c = omega arith
 
 loop-again-2 : tie.Need-loop-again-2 Inv-loop μ-loop
 loop-again-2 c =
-    let at = c .before .before .before in
+    let after-votes-for = c .before in
+    let at = after-votes-for .before .before in
     let args = at .before .before .before .before .before .args in
     let test = votes (heightAt (decode (args .book .now)) (args .h)) (at .before .voter-mask .result) (args .digest .now) in
-    (omega arith, bit-next (at .loop .bit) (at .loop .s) (at .loop .inv .1), mask-without test (at .loop .s) (at .loop .mask) (at .loop .inv .2) (sym (c .before .votes-for .ensures) ∙ c .if1 .left), omega arith)
+    (omega arith, bit-next (at .loop .bit) (at .loop .s) (at .loop .inv .1), mask-without test (at .loop .s) (at .loop .mask) (at .loop .inv .2) (sym (after-votes-for .votes-for .ensures) ∙ c .if1 .left), omega arith)
 
 returns : tie.Need-returns Inv-loop μ-loop
 returns c =

@@ -42,10 +42,11 @@ part-same-bytes-end c = omega arith
 
 returns : tie.Need-returns Inv-loop μ-loop
 returns c =
-    let at = c .before .before .before .before in
+    let after-same-bytes = c .before in
+    let at = after-same-bytes .before .before .before in
     let args = at .before .before .before .before .args in
     let inside : at .loop .k < entryCount (args .block .now) = omega arith in
-    sym (at .loop .inv .1 ∙ entry-found (args .entry .now) (args .block .now) (at .loop .k) inside (c .before .same-bytes .ensures) (c .if1 .taken))
+    sym (at .loop .inv .1 ∙ entry-found (args .entry .now) (args .block .now) (at .loop .k) inside (after-same-bytes .same-bytes .ensures) (c .if1 .taken))
 
 add-k : tie.Need-add-k Inv-loop μ-loop
 add-k c = omega arith
@@ -55,16 +56,19 @@ loop-less c = omega arith
 
 loop-again : tie.Need-loop-again Inv-loop μ-loop
 loop-again c =
-    let at = c .before .before .before .before in
+    let after-same-bytes = c .before in
+    let at = after-same-bytes .before .before .before in
     let args = at .before .before .before .before .args in
     let inside : at .loop .k < entryCount (args .block .now) = omega arith in
-    (omega arith, at .loop .inv .1 ∙ entry-differs (args .entry .now) (args .block .now) (at .loop .k) inside (c .before .same-bytes .ensures) (c .if1 .left))
+    (omega arith, at .loop .inv .1 ∙ entry-differs (args .entry .now) (args .block .now) (at .loop .k) inside (after-same-bytes .same-bytes .ensures) (c .if1 .left))
 
 returns-2 : tie.Need-returns-2 Inv-loop μ-loop
 returns-2 c =
-    let args = c .before .before .before .before .before .args in
-    let over : entryCount (args .block .now) ≤ c .before .loop .k = omega arith in
-    sym (c .before .loop .inv .1 ∙ entries-over (args .entry .now) (args .block .now) (c .before .loop .k) over)
+    let after-loop = c .before in
+    let start = after-loop .before .before .before .before in
+    let args = start .args in
+    let over : entryCount (args .block .now) ≤ after-loop .loop .k = omega arith in
+    sym (after-loop .loop .inv .1 ∙ entries-over (args .entry .now) (args .block .now) (after-loop .loop .k) over)
 
 pub block-holds-spec : {M : Type 1} → statement M
 block-holds-spec =

@@ -35,14 +35,19 @@ entry-count-requires c κs =
 
 add-sum : tie.Need-add-sum Inv-loop μ-loop
 add-sum c =
-    let at = c .before .before .before in
-    let step = walk-step (at .loop .inv .0) (c .before .before .loop-test .taken) (c .before .block .ensures .0) in
+    let after-block = c .before in
+    let after-loop-test = after-block .before in
+    let at = after-loop-test .before in
+    let step = walk-step (at .loop .inv .0) (after-loop-test .loop-test .taken) (after-block .block .ensures .0) in
     let few = walk-few (at .before .before .pre) in
     omega arith
 
 parent-height-requires : tie.Need-parent-height-requires Inv-loop μ-loop
 parent-height-requires c κs =
-    let step = walk-step (c .before .before .before .loop .inv .0) (c .before .before .loop-test .taken) (c .before .block .ensures .0) in
+    let after-block = c .before in
+    let after-loop-test = after-block .before in
+    let after-loop = after-loop-test .before in
+    let step = walk-step (after-loop .loop .inv .0) (after-loop-test .loop-test .taken) (after-block .block .ensures .0) in
     step .size
 
 loop-less : tie.Need-loop-less Inv-loop μ-loop
@@ -60,10 +65,12 @@ loop-again c =
 
 returns : tie.Need-returns Inv-loop μ-loop
 returns c =
-    let kind = c .before .before .before .args .kind in
-    let book = c .before .before .before .args .book .now in
-    let none = ap length (log-start (viewOf kind book) (c .before .loop .at) (c .loop-test .left)) in
-    let few = walk-few (c .before .before .before .pre) in
+    let after-loop = c .before in
+    let start = after-loop .before .before in
+    let kind = start .args .kind in
+    let book = start .args .book .now in
+    let none = ap length (log-start (viewOf kind book) (after-loop .loop .at) (c .loop-test .left)) in
+    let few = walk-few (start .pre) in
     omega arith
 
 pub chain-entries-spec : {M : Type 1} → statement M

@@ -54,19 +54,22 @@ loop-less c =
 
 loop-again : tie.Need-loop-again Inv-loop μ-loop
 loop-again c =
-    let turn = c .before .before .before in
+    let after-if1 = c .before in
+    let after-block-holds = after-if1 .before in
+    let turn = after-block-holds .before in
     let loop = turn .before .before .loop in
     let entry = turn .before .before .before .before .before .args .entry .now in
     let step = walk-step (loop .inv .0) (turn .before .loop-test .taken) (turn .block .ensures .0) in
-    (walk-parent step (c .parent-height .ensures .0), loop .inv .1 ∙ walk-on entry step (c .parent-height .ensures .0) (sym (c .before .before .block-holds .ensures) ∙ c .before .if1 .left))
+    (walk-parent step (c .parent-height .ensures .0), loop .inv .1 ∙ walk-on entry step (c .parent-height .ensures .0) (sym (after-block-holds .block-holds .ensures) ∙ after-if1 .if1 .left))
 
 returns-2 : tie.Need-returns-2 Inv-loop μ-loop
 returns-2 c =
-    let start = c .before .before .before .before in
+    let after-loop = c .before in
+    let start = after-loop .before .before .before in
     let kind = start .args .kind in
     let book = start .args .book .now in
     let entry = start .args .entry .now in
-    sym (c .before .loop .inv .1 ∙ ap (holds entry) (log-start (viewOf kind book) (c .before .loop .at) (c .loop-test .left)) ∙ holds-none entry)
+    sym (after-loop .loop .inv .1 ∙ ap (holds entry) (log-start (viewOf kind book) (after-loop .loop .at) (c .loop-test .left)) ∙ holds-none entry)
 
 pub chain-holds-spec : {M : Type 1} → statement M
 chain-holds-spec =

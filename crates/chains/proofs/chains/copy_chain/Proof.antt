@@ -67,11 +67,12 @@ part-copy-to-end c =
 
 copy-to-requires : tie.Need-copy-to-requires Inv-loop μ-loop
 copy-to-requires c κs =
-    let turn = c .before .before .before in
+    let after-entry-count = c .before .before in
+    let turn = after-entry-count .before in
     let step = walk-step (turn .before .before .loop .inv .0) (turn .before .loop-test .taken) (turn .block .ensures .0) in
-    let few : c .before .before .entry-count .result ≤ 8 = omega arith in
-    let size = piece-length (turn .block .result .now) (c .before .before .entry-count .result) (step .size) few in
-    let count = walk-count step refl (c .before .before .entry-count .ensures .0) in
+    let few : after-entry-count .entry-count .result ≤ 8 = omega arith in
+    let size = piece-length (turn .block .result .now) (after-entry-count .entry-count .result) (step .size) few in
+    let count = walk-count step refl (after-entry-count .entry-count .ensures .0) in
     omega arith
 
 parent-height-requires : tie.Need-parent-height-requires Inv-loop μ-loop
@@ -88,10 +89,11 @@ loop-less c =
 
 loop-again : tie.Need-loop-again Inv-loop μ-loop
 loop-again c =
-    let turn = c .before .before .before .before .before .before .before in
+    let after-copy-to = c .before .before .before in
+    let read = after-copy-to .before .before .before in
+    let turn = read .before in
     let loop = turn .before .before .loop in
-    let read = c .before .before .before .before .before .before in
-    let copied = c .before .before .before .copy-to .ensures in
+    let copied = after-copy-to .copy-to .ensures in
     let step = walk-step (turn .before .before .loop .inv .0) (turn .before .loop-test .taken) (turn .block .ensures .0) in
     let few : read .entry-count .result ≤ 8 = omega arith in
     let size = piece-length (turn .block .result .now) (read .entry-count .result) (step .size) few in
@@ -108,9 +110,11 @@ same-length c = c .before .loop .inv .2
 
 returns : tie.Need-returns Inv-loop μ-loop
 returns c =
-    let kind = c .before .before .before .before .args .kind in
-    let book = c .before .before .before .before .args .book .now in
-    copied-all (viewOf kind book) (c .before .loop .at) (c .before .loop .buffer) (c .loop-test .left) (c .before .loop .inv .4)
+    let after-loop = c .before in
+    let start = after-loop .before .before .before in
+    let kind = start .args .kind in
+    let book = start .args .book .now in
+    copied-all (viewOf kind book) (after-loop .loop .at) (after-loop .loop .buffer) (c .loop-test .left) (after-loop .loop .inv .4)
 
 pub copy-chain-spec : {M : Type 1} → statement M
 copy-chain-spec =

@@ -23,14 +23,20 @@ loop-holds : tie.Need-loop-holds Inv-loop μ-loop
 loop-holds c = (omega arith, refl)
 
 pending-entry-requires : tie.Need-pending-entry-requires Inv-loop μ-loop
-pending-entry-requires c κs = (c .before .before .before .before .before .pre .0, omega arith)
+pending-entry-requires c κs =
+    let start = c .before .before .before .before .before in
+    (start .pre .0, omega arith)
 
 returns : tie.Need-returns Inv-loop μ-loop
 returns c =
-    let loop = c .before .before .before .before .loop in
-    let args = c .before .before .before .before .before .before .before .before .args in
+    let after-same-bytes = c .before in
+    let after-pending-entry = after-same-bytes .before in
+    let after-loop = after-pending-entry .before .before in
+    let start = after-loop .before .before .before .before in
+    let loop = after-loop .loop in
+    let args = start .args in
     let inside : loop .k < decode (args .book .now) .pendingCount = omega arith in
-    sym (loop .inv .1 ∙ pending-found (decode (args .book .now)) (args .entry .now) (loop .k) inside (c .before .before .pending-entry .ensures) (c .before .same-bytes .ensures) (c .if1 .taken))
+    sym (loop .inv .1 ∙ pending-found (decode (args .book .now)) (args .entry .now) (loop .k) inside (after-pending-entry .pending-entry .ensures) (after-same-bytes .same-bytes .ensures) (c .if1 .taken))
 
 add-k : tie.Need-add-k Inv-loop μ-loop
 add-k c = omega arith
@@ -40,15 +46,21 @@ loop-less c = omega arith
 
 loop-again : tie.Need-loop-again Inv-loop μ-loop
 loop-again c =
-    let loop = c .before .before .before .before .loop in
-    let args = c .before .before .before .before .before .before .before .before .args in
+    let after-same-bytes = c .before in
+    let after-pending-entry = after-same-bytes .before in
+    let after-loop = after-pending-entry .before .before in
+    let start = after-loop .before .before .before .before in
+    let loop = after-loop .loop in
+    let args = start .args in
     let inside : loop .k < decode (args .book .now) .pendingCount = omega arith in
-    (omega arith, loop .inv .1 ∙ pending-differs (decode (args .book .now)) (args .entry .now) (loop .k) inside (c .before .before .pending-entry .ensures) (c .before .same-bytes .ensures) (c .if1 .left))
+    (omega arith, loop .inv .1 ∙ pending-differs (decode (args .book .now)) (args .entry .now) (loop .k) inside (after-pending-entry .pending-entry .ensures) (after-same-bytes .same-bytes .ensures) (c .if1 .left))
 
 returns-2 : tie.Need-returns-2 Inv-loop μ-loop
 returns-2 c =
-    let loop = c .before .loop in
-    let args = c .before .before .before .before .before .args in
+    let after-loop = c .before in
+    let start = after-loop .before .before .before .before in
+    let loop = after-loop .loop in
+    let args = start .args in
     let over : decode (args .book .now) .pendingCount ≤ loop .k = omega arith in
     sym (loop .inv .1 ∙ pending-over (decode (args .book .now)) (args .entry .now) (loop .k) over)
 

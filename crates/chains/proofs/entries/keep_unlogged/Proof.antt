@@ -53,14 +53,20 @@ module _ (at : tie.At-loop Inv-loop μ-loop) where
       e ∙ ap (holds entry) (closed-log book (start .pre .0) few (at .loop .k) within (at .loop .book) (at .loop .inv .2) (finalized .result) (finalized .ensures .0))
 
 finalized-requires : tie.Need-finalized-requires Inv-loop μ-loop
-finalized-requires c κs = c .before .before .before .pre .0 .readable
+finalized-requires c κs =
+    let start = c .before .before .before in
+    start .pre .0 .readable
 
 pending-count-requires : tie.Need-pending-count-requires Inv-loop μ-loop
-pending-count-requires c κs = c .before .before .before .before .before .pre .0 .readable
+pending-count-requires c κs =
+    let start = c .before .before .before .before .before in
+    start .pre .0 .readable
 
 loop-holds : tie.Need-loop-holds Inv-loop μ-loop
 unfolding without
-loop-holds c = (omega arith, refl, sym (ap encode (moved-none (decode (c .before .before .before .before .before .before .args .book .now))) ∙ c .before .before .before .before .before .before .pre .0 .whole))
+loop-holds c =
+    let start = c .before .before .before .before .before .before in
+    (omega arith, refl, sym (ap encode (moved-none (decode (start .args .book .now))) ∙ start .pre .0 .whole))
 
 pending-entry-requires : tie.Need-pending-entry-requires Inv-loop μ-loop
 pending-entry-requires c κs = (ready-now (c .before .before) .readable, let most = few (c .before .before) in omega arith)
@@ -78,9 +84,11 @@ loop-less c = omega arith
 
 loop-again : tie.Need-loop-again Inv-loop μ-loop
 loop-again c =
-    let at = c .before .before .before .before .before in
+    let after-chain-holds = c .before in
+    let after-pending-entry = after-chain-holds .before in
+    let at = after-pending-entry .before .before .before in
     let inside : at .loop .k < s at .pendingCount = omega arith in
-    let leaves = place-leaves (s at) (log (s at)) (at .loop .k) inside (entry-now at (c .before .before .pending-entry .ensures)) (found-now at (c .before .before .pending-entry .result .now) (c .before .chain-holds .ensures)) (c .if1 .taken) in
+    let leaves = place-leaves (s at) (log (s at)) (at .loop .k) inside (entry-now at (after-pending-entry .pending-entry .ensures)) (found-now at (after-pending-entry .pending-entry .result .now) (after-chain-holds .chain-holds .ensures)) (c .if1 .taken) in
     (omega arith, at .loop .inv .1 ∙ ap length (sym leaves), at .loop .inv .2 ∙ ap (λ (l : List Bytes). encode (moved (s at) l)) (sym leaves))
 
 move-entry-requires : tie.Need-move-entry-requires Inv-loop μ-loop
@@ -104,7 +112,8 @@ loop-less-2 c = omega arith
 
 loop-again-2 : tie.Need-loop-again-2 Inv-loop μ-loop
 loop-again-2 c =
-    let tested = c .before .before .before .before in
+    let after-move-entry = c .before .before in
+    let tested = after-move-entry .before .before in
     let asked = tested .before .before in
     let at = tested .before .before .before .before .before in
     let most = few at in
@@ -115,7 +124,7 @@ loop-again-2 c =
       omega arith,
       one-more (staying (s at) (at .loop .k)) entry (at .loop .inv .1) stays,
       closed-more (book at) (start at .pre .0) most (at .loop .k) (within at) (at .loop .book) (at .loop .inv .2) (at .loop .kept) (at .loop .inv .1) (omega arith)
-          (c .before .before .move-entry .ensures) (stays ∙ ap (λ (e : Bytes). staying (s at) (at .loop .k) ++ (e ∷ [])) read),
+          (after-move-entry .move-entry .ensures) (stays ∙ ap (λ (e : Bytes). staying (s at) (at .loop .k) ++ (e ∷ [])) read),
     )
 
 finish-pool-requires : tie.Need-finish-pool-requires Inv-loop μ-loop
@@ -134,10 +143,11 @@ same-length c =
 
 returns : tie.Need-returns Inv-loop μ-loop
 returns c =
-    let at = c .before .before .before .before .before in
+    let after-finish-pool = c .before .before in
+    let at = after-finish-pool .before .before .before in
     let over : s at .pendingCount ≤ at .loop .k = omega arith in
     closed-end (book at) (start at .pre .0) (few at) (at .loop .k) (within at) (at .loop .book) (at .loop .inv .2) (at .loop .kept) (start at .args .entry .now) (at .loop .inv .1)
-    (staying-all (s at) (at .loop .k) over) (c .before .before .finish-pool .ensures)
+    (staying-all (s at) (at .loop .k) over) (after-finish-pool .finish-pool .ensures)
 
 pub keep-unlogged-spec : {M : Type 1} → statement M
 keep-unlogged-spec =

@@ -63,23 +63,30 @@ module _ (at : tie.At-loop Inv-loop μ-loop) where
 
 start-block-requires : tie.Need-start-block-requires Inv-loop μ-loop
 start-block-requires c κs =
-    let w = c .before .before .before .before .pre .0 in
+    let start = c .before .before .before .before in
+    let w = start .pre .0 in
     let high = w .high in
     let heights = w .shown .heights in
     search needs
 
 pending-count-requires : tie.Need-pending-count-requires Inv-loop μ-loop
-pending-count-requires c κs = c .before .before .before .before .before .before .before .pre .0 .shown
+pending-count-requires c κs =
+    let start = c .before .before .before .before .before .before .before in
+    start .pre .0 .shown
 
 loop-holds : tie.Need-loop-holds Inv-loop μ-loop
 unfolding without
 loop-holds c =
-    let began = c .before .before .before .start-block in
-    let args = c .before .before .before .before .before .before .before .before .args in
+    let after-start-block = c .before .before .before in
+    let start = after-start-block .before .before .before .before .before in
+    let began = after-start-block .start-block in
+    let args = start .args in
     (omega arith, refl, omega arith, begun-again (newBlock (args .c) (args .j) (args .digest .now) []) (args .block .now) (began .ensures))
 
 pending-entry-requires : tie.Need-pending-entry-requires Inv-loop μ-loop
-pending-entry-requires c κs = (c .before .before .before .before .before .before .before .before .before .before .pre .0 .shown, omega arith)
+pending-entry-requires c κs =
+    let start = c .before .before .before .before .before .before .before .before .before .before in
+    (start .pre .0 .shown, omega arith)
 
 same-length : tie.Need-same-length Inv-loop μ-loop
 same-length c = same-size (c .before .before .before)
@@ -92,7 +99,9 @@ returns c =
     all-over at (eight-taken (log at) (pending (s at)) (at .loop .k) size)
 
 chain-holds-requires : tie.Need-chain-holds-requires Inv-loop μ-loop
-chain-holds-requires c κs = c .before .before .before .before .before .before .before .before .before .before .before .before .pre .0
+chain-holds-requires c κs =
+    let start = c .before .before .before .before .before .before .before .before .before .before .before .before in
+    start .pre .0
 
 add-k : tie.Need-add-k Inv-loop μ-loop
 add-k c = omega arith
@@ -102,10 +111,12 @@ loop-less c = omega arith
 
 loop-again : tie.Need-loop-again Inv-loop μ-loop
 loop-again c =
-    let at = c .before .before .before .before .before in
+    let after-chain-holds = c .before in
+    let after-pending-entry = after-chain-holds .before .before in
+    let at = after-pending-entry .before .before in
     let args = start at .args in
     let inside : at .loop .k < s at .pendingCount = omega arith in
-    let leaves = place-leaves (s at) (log at) (at .loop .k) inside (c .before .before .before .pending-entry .ensures) (c .before .chain-holds .ensures) (c .if2 .taken) in (
+    let leaves = place-leaves (s at) (log at) (at .loop .k) inside (after-pending-entry .pending-entry .ensures) (after-chain-holds .chain-holds .ensures) (c .if2 .taken) in (
       omega arith,
       at .loop .inv .1 ∙ ap length (sym leaves),
       at .loop .inv .2,
@@ -114,10 +125,12 @@ loop-again c =
 
 add-entry-requires : tie.Need-add-entry-requires Inv-loop μ-loop
 add-entry-requires c κs =
-    let at = c .before .before .before .before .before .before in
+    let after-if1 = c .before .before .before in
+    let after-pending-entry = after-if1 .before in
+    let at = after-pending-entry .before .before in
     let size = same-size at in
-    let more : at .loop .taken < 8 = omega (arith, c .before .before .before .if1 .left) in
-    (omega arith, (more, entry-size at (omega arith) (c .before .before .before .before .pending-entry .ensures)))
+    let more : at .loop .taken < 8 = omega (arith, after-if1 .if1 .left) in
+    (omega arith, (more, entry-size at (omega arith) (after-pending-entry .pending-entry .ensures)))
 
 add-taken : tie.Need-add-taken Inv-loop μ-loop
 add-taken c = omega arith
@@ -130,7 +143,8 @@ loop-less-2 c = omega arith
 
 loop-again-2 : tie.Need-loop-again-2 Inv-loop μ-loop
 loop-again-2 c =
-    let tested = c .before .before .before .before in
+    let after-add-entry = c .before .before in
+    let tested = after-add-entry .before .before in
     let asked = tested .before .before .before in
     let at = tested .before .before .before .before .before in
     let args = start at .args in
@@ -142,7 +156,7 @@ loop-again-2 c =
       one-more (es at) entry (at .loop .inv .1) stays,
       omega arith,
       filled-more (args .c) (args .j) (args .digest .now) (start at .pre .1 .1 .1) (begun at) (es at) entry (sized at) (at .loop .inv .1) more
-          (entry-size at inside (asked .pending-entry .ensures)) stays (at .loop .inv .3) (c .before .before .add-entry .ensures),
+          (entry-size at inside (asked .pending-entry .ensures)) stays (at .loop .inv .3) (after-add-entry .add-entry .ensures),
     )
 
 same-length-2 : tie.Need-same-length-2 Inv-loop μ-loop

@@ -29,10 +29,15 @@ unfolding without
 loop-holds c = (omega arith, refl, omega arith)
 
 pending-entry-requires : tie.Need-pending-entry-requires Inv-loop μ-loop
-pending-entry-requires c κs = (c .before .before .before .before .before .pre .0 .shown, omega arith)
+pending-entry-requires c κs =
+    let start = c .before .before .before .before .before in
+    (start .pre .0 .shown, omega arith)
 
 chain-holds-requires : tie.Need-chain-holds-requires Inv-loop μ-loop
-chain-holds-requires c κs = walk-at (c .before .before .before .before .before .before .pre .0) (c .before .before .before .before .finalized .ensures .0)
+chain-holds-requires c κs =
+    let after-finalized = c .before .before .before .before in
+    let start = after-finalized .before .before in
+    walk-at (start .pre .0) (after-finalized .finalized .ensures .0)
 
 add-k : tie.Need-add-k Inv-loop μ-loop
 add-k c = omega arith
@@ -42,12 +47,14 @@ loop-less c = omega arith
 
 loop-again : tie.Need-loop-again Inv-loop μ-loop
 loop-again c =
-    let at = c .before .before .before .before in
+    let after-chain-holds = c .before in
+    let after-pending-entry = after-chain-holds .before in
+    let at = after-pending-entry .before .before in
     let loop = at .loop in
     let s = decode (at .before .before .before .before .args .book .now) in
     let log = logAt (view s) (at .before .before .finalized .result) in
     let inside : loop .k < s .pendingCount = omega arith in
-    let leaves = place-leaves s log (loop .k) inside (c .before .before .pending-entry .ensures) (c .before .chain-holds .ensures) (c .if1 .taken) in
+    let leaves = place-leaves s log (loop .k) inside (after-pending-entry .pending-entry .ensures) (after-chain-holds .chain-holds .ensures) (c .if1 .taken) in
     (omega arith, loop .inv .1 ∙ ap length (sym leaves), omega arith)
 
 add-kept : tie.Need-add-kept Inv-loop μ-loop
@@ -61,13 +68,15 @@ loop-less-2 c = omega arith
 
 loop-again-2 : tie.Need-loop-again-2 Inv-loop μ-loop
 loop-again-2 c =
-    let at = c .before .before .before .before in
+    let after-chain-holds = c .before in
+    let after-pending-entry = after-chain-holds .before in
+    let at = after-pending-entry .before .before in
     let loop = at .loop in
     let s = decode (at .before .before .before .before .args .book .now) in
     let log = logAt (view s) (at .before .before .finalized .result) in
     let inside : loop .k < s .pendingCount = omega arith in
-    let stays = place-stays s log (loop .k) inside (c .before .before .pending-entry .ensures) (c .before .chain-holds .ensures) (c .if1 .left) in
-    (omega arith, one-more (without log (take (loop .k) (pending s))) (c .before .before .pending-entry .result .now) (loop .inv .1) stays, omega arith)
+    let stays = place-stays s log (loop .k) inside (after-pending-entry .pending-entry .ensures) (after-chain-holds .chain-holds .ensures) (c .if1 .left) in
+    (omega arith, one-more (without log (take (loop .k) (pending s))) (after-pending-entry .pending-entry .result .now) (loop .inv .1) stays, omega arith)
 
 returns : tie.Need-returns Inv-loop μ-loop
 returns c =

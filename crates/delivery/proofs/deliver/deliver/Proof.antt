@@ -16,10 +16,11 @@ returns c = c .before .before .deliver-sound .ensures
 returns-2 : tie.Need-returns-2
 unfolding deliveredAnswer
 returns-2 c =
-    let start = c .before .before .before .before .before in
+    let after-is-sound = c .before in
+    let start = after-is-sound .before .before .before .before in
     let book = start .args .book .now in
     let frame = start .args .frame .now in
-    rw (call-unsound sha256 book frame (sym (c .before .is-sound .ensures .0) ∙ c .if1 .left)) (refl, refl)
+    rw (call-unsound sha256 book frame (sym (after-is-sound .is-sound .ensures .0) ∙ c .if1 .left)) (refl, refl)
 
 pub deliver-spec : {M : Type 1} → statement M
 deliver-spec = tie.close (tie.spec (λ c κs. search needs) deliver-sound-requires (λ c. search needs) returns (λ c. search needs) returns-2)

@@ -10,30 +10,33 @@ use Rattle.delivery.proofs.deliver.deliver_read.Tie as tie
 returns : tie.Need-returns
 unfolding deliveredAnswer
 returns c =
-    let branch = c .before .before .before .before .before in
+    let after-keep = c .before .before .before in
+    let branch = after-keep .before .before in
     let start = branch .before .before .before .before .before in
     let book = start .args .book .now in
     let frame = start .args .frame .now in
     rw (read-kept sha256 book frame (zero-passes _ _ (branch .before .clash-refusal .ensures) (branch .if1 .taken)))
-    (kept-fresh sha256 book frame (start .args .h) (start .pre .height) _ _ (sym (c .if2 .taken) ∙ c .before .before .before .keep .ensures .0) (c .before .before .before .keep .ensures .1))
+    (kept-fresh sha256 book frame (start .args .h) (start .pre .height) _ _ (sym (c .if2 .taken) ∙ after-keep .keep .ensures .0) (after-keep .keep .ensures .1))
 
 returns-2 : tie.Need-returns-2
 unfolding deliveredAnswer
 returns-2 c =
-    let branch = c .before .before .before .before .before in
+    let after-keep = c .before .before .before in
+    let branch = after-keep .before .before in
     let start = branch .before .before .before .before .before in
     let book = start .args .book .now in
     let frame = start .args .frame .now in
     rw (read-kept sha256 book frame (zero-passes _ _ (branch .before .clash-refusal .ensures) (branch .if1 .taken)))
-    (kept-known sha256 book frame (start .args .h) _ _ (sym (c .if2 .left) ∙ c .before .before .before .keep .ensures .0) (c .before .before .before .keep .ensures .1))
+    (kept-known sha256 book frame (start .args .h) _ _ (sym (c .if2 .left) ∙ after-keep .keep .ensures .0) (after-keep .keep .ensures .1))
 
 returns-3 : tie.Need-returns-3
 unfolding deliveredAnswer
 returns-3 c =
-    let start = c .before .before .before .before .before in
+    let after-clash-refusal = c .before in
+    let start = after-clash-refusal .before .before .before .before in
     let book = start .args .book .now in
     let frame = start .args .frame .now in
-    rw (read-refused sha256 book frame _ (number-refuses _ _ (c .before .clash-refusal .ensures) (c .if1 .left))) (refl, refl)
+    rw (read-refused sha256 book frame _ (number-refuses _ _ (after-clash-refusal .clash-refusal .ensures) (c .if1 .left))) (refl, refl)
 
 pub deliver-read-spec : {M : Type 1} → statement M
 deliver-read-spec = tie.close (tie.spec (λ c κs. search needs) (λ c κs. search needs) (λ c. search needs) returns (λ c. search needs) returns-2 (λ c. search needs) returns-3)

@@ -11,40 +11,49 @@ use Rattle.delivery.proofs.deliver.deliver_sound.Tie as tie
 
 read-refusal-requires : tie.Need-read-refusal-requires
 read-refusal-requires c κs =
-    let start = c .before .before .before in
-    sound-readable sha256 (start .args .book .now) (λ i. omega (arith, c .before .before .slice-known .given i)) (start .pre)
+    let after-slice-known = c .before .before in
+    let start = after-slice-known .before in
+    sound-readable sha256 (start .args .book .now) (λ i. omega (arith, after-slice-known .slice-known .given i)) (start .pre)
 
 frame-height-requires : tie.Need-frame-height-requires
 frame-height-requires c κs =
-    let start = c .before .before .before .before .before .before in
+    let after-if1 = c .before in
+    let after-read-refusal = after-if1 .before in
+    let after-slice-known = after-read-refusal .before .before .before in
+    let start = after-slice-known .before in
     let book = start .args .book .now in
     let frame = start .args .frame .now in
-    let passes = zero-passes _ _ (c .before .before .read-refusal .ensures) (c .before .if1 .taken) in
-    frame-size sha256 book frame (λ i. omega (arith, c .before .before .before .before .before .slice-known .given i)) (start .pre) passes
+    let passes = zero-passes _ _ (after-read-refusal .read-refusal .ensures) (after-if1 .if1 .taken) in
+    frame-size sha256 book frame (λ i. omega (arith, after-slice-known .slice-known .given i)) (start .pre) passes
 
 deliver-read-requires : tie.Need-deliver-read-requires
 deliver-read-requires c κs =
-    let start = c .before .before .before .before .before .before .before in
+    let after-if1 = c .before .before in
+    let after-read-refusal = after-if1 .before in
+    let after-slice-known = after-read-refusal .before .before .before in
+    let start = after-slice-known .before in
     let book = start .args .book .now in
     let frame = start .args .frame .now in
-    let passes = zero-passes _ _ (c .before .before .before .read-refusal .ensures) (c .before .before .if1 .taken) in
-    frame-read sha256 book frame (λ i. omega (arith, c .before .before .before .before .before .before .slice-known .given i)) (start .pre) passes _ (c .frame-height .ensures .0)
+    let passes = zero-passes _ _ (after-read-refusal .read-refusal .ensures) (after-if1 .if1 .taken) in
+    frame-read sha256 book frame (λ i. omega (arith, after-slice-known .slice-known .given i)) (start .pre) passes _ (c .frame-height .ensures .0)
 
 returns : tie.Need-returns
 returns c =
-    let branch = c .before .before .before .before .before in
+    let after-deliver-read = c .before .before in
+    let branch = after-deliver-read .before .before .before in
     let start = branch .before .before .before .before .before in
     let book = start .args .book .now in
     let frame = start .args .frame .now in
-    rw (call-read sha256 book frame (start .pre) (zero-passes _ _ (branch .before .read-refusal .ensures) (branch .if1 .taken))) (c .before .before .deliver-read .ensures)
+    rw (call-read sha256 book frame (start .pre) (zero-passes _ _ (branch .before .read-refusal .ensures) (branch .if1 .taken))) (after-deliver-read .deliver-read .ensures)
 
 returns-2 : tie.Need-returns-2
 unfolding deliveredAnswer
 returns-2 c =
-    let start = c .before .before .before .before .before in
+    let after-read-refusal = c .before in
+    let start = after-read-refusal .before .before .before .before in
     let book = start .args .book .now in
     let frame = start .args .frame .now in
-    rw (call-refused sha256 book frame _ (start .pre) (number-refuses _ _ (c .before .read-refusal .ensures) (c .if1 .left))) (refl, refl)
+    rw (call-refused sha256 book frame _ (start .pre) (number-refuses _ _ (after-read-refusal .read-refusal .ensures) (c .if1 .left))) (refl, refl)
 
 pub deliver-sound-spec : {M : Type 1} → statement M
 deliver-sound-spec =

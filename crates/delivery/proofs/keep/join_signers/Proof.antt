@@ -13,29 +13,32 @@ use Rattle.delivery.proofs.keep.join_signers.Tie as tie
 
 keep-mask-requires : tie.Need-keep-mask-requires
 keep-mask-requires c κs =
-    let start = c .before .before .before .before .before in
+    let after-mask-at = c .before .before in
+    let start = after-mask-at .before .before .before in
     let spot = start .pre .0 in
-    (spot .ready, (spot .within, (start .pre .1 .0, or-lt 16 _ _ (c .before .before .mask-at .ensures .1) (start .pre .1 .1))))
+    (spot .ready, (spot .within, (start .pre .1 .0, or-lt 16 _ _ (after-mask-at .mask-at .ensures .1) (start .pre .1 .1))))
 
 returns : tie.Need-returns
 unfolding joinSigners
 returns c =
-    let start = c .before .before .before .before in
-    let held = c .before .mask-at .ensures .0 in
+    let after-mask-at = c .before in
+    let start = after-mask-at .before .before .before in
+    let held = after-mask-at .mask-at .ensures .0 in
     let joined = ap (λ (mask : ℕ). bitOr mask (start .args .signers)) held in
     known-frame (start .args .book .now) (start .args .h) _ _ (eq-eqb _ _ (sym joined ∙ c .if1 .taken ∙ held))
 
 returns-2 : tie.Need-returns-2
 unfolding joinSigners
 returns-2 c =
-    let branch = c .before .before .before .before in
+    let after-keep-mask = c .before .before in
+    let branch = after-keep-mask .before .before in
     let start = branch .before .before .before .before in
     let book = start .args .book .now in
     let h = start .args .h in
     let held = branch .before .mask-at .ensures .0 in
     let joined = ap (λ (mask : ℕ). bitOr mask (start .args .signers)) held in
     let more = ne-eqb _ _ (λ e. branch .if1 .left (joined ∙ e ∙ sym held)) in
-    new-frame book h _ _ _ more (c .before .before .keep-mask .ensures ∙ ap (λ (mask : ℕ). encode (withHeight (decode book) h (withMaskAt (at (decode book) h) (start .args .k) mask))) joined)
+    new-frame book h _ _ _ more (after-keep-mask .keep-mask .ensures ∙ ap (λ (mask : ℕ). encode (withHeight (decode book) h (withMaskAt (at (decode book) h) (start .args .k) mask))) joined)
 
 pub join-signers-spec : {M : Type 1} → statement M
 join-signers-spec =

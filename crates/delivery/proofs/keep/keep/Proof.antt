@@ -16,35 +16,39 @@ use Rattle.fields.specs.Laws.BookLaws.{few-replicas}
 
 returns : tie.Need-returns
 returns c =
-    let branch = c .before .before .before .before in
+    let after-keep-proposal = c .before .before in
+    let branch = after-keep-proposal .before .before in
     let start = branch .before .before .before .before in
     let book = start .args .book .now in
     let h = start .args .h in
     let decides = kind-one sha256 book h (start .args .frame .now) (start .pre) (sym (branch .before .frame-kind .ensures .0) ∙ branch .if1 .taken) in
-    same-kept book h _ _ _ _ decides (c .before .before .keep-proposal .ensures)
+    same-kept book h _ _ _ _ decides (after-keep-proposal .keep-proposal .ensures)
 
 keep-block-vote-requires : tie.Need-keep-block-vote-requires
 keep-block-vote-requires c κs =
-    let start = c .before .before .before .before .before .before in
-    (start .pre, start .pre .read .signer-small (omega (arith, c .before .before .before .frame-kind .ensures .0, start .pre .read .kind-low)))
+    let after-frame-kind = c .before .before .before in
+    let start = after-frame-kind .before .before .before in
+    (start .pre, start .pre .read .signer-small (omega (arith, after-frame-kind .frame-kind .ensures .0, start .pre .read .kind-low)))
 
 returns-2 : tie.Need-returns-2
 returns-2 c =
-    let branch = c .before .before .before .before in
+    let after-keep-block-vote = c .before .before in
+    let branch = after-keep-block-vote .before .before in
     let start = branch .before .before .before .before .before in
     let book = start .args .book .now in
     let h = start .args .h in
     let decides = kind-two sha256 book h (start .args .frame .now) (start .pre) (sym (branch .before .before .frame-kind .ensures .0) ∙ branch .if2 .taken) in
-    same-kept book h _ _ _ _ decides (c .before .before .keep-block-vote .ensures)
+    same-kept book h _ _ _ _ decides (after-keep-block-vote .keep-block-vote .ensures)
 
 returns-3 : tie.Need-returns-3
 returns-3 c =
-    let branch = c .before .before .before .before in
+    let after-keep-block-certificate = c .before .before in
+    let branch = after-keep-block-certificate .before .before in
     let start = branch .before .before .before .before .before .before in
     let book = start .args .book .now in
     let h = start .args .h in
     let decides = kind-five sha256 book h (start .args .frame .now) (start .pre) (sym (branch .before .before .before .frame-kind .ensures .0) ∙ branch .if3 .taken) in
-    same-kept book h _ _ _ _ decides (c .before .before .keep-block-certificate .ensures)
+    same-kept book h _ _ _ _ decides (after-keep-block-certificate .keep-block-certificate .ensures)
 
 frame-signers-requires : tie.Need-frame-signers-requires
 frame-signers-requires c κs =
@@ -53,18 +57,20 @@ frame-signers-requires c κs =
 
 returns-4 : tie.Need-returns-4
 returns-4 c =
-    let branch = c .before .before .before .before in
+    let after-join-signers = c .before .before in
+    let branch = after-join-signers .before .before in
     let asked = branch .before .before .before .before .before in
     let start = asked .before .before .before in
     let book = start .args .book .now in
     let h = start .args .h in
     let dummy = sym (ap (λ (kind : ℕ). eqb kind 3 || eqb kind 6) (asked .frame-kind .ensures .0)) ∙ branch .if4 .taken in
     let decides = dummy-joins sha256 book h (start .args .frame .now) (start .pre) dummy ∙ ap (λ (signers : ℕ). joinSigners 1 (at (decode book) h) signers) (sym (branch .before .frame-signers .ensures .0)) in
-    same-kept book h _ _ _ _ decides (c .before .before .join-signers .ensures)
+    same-kept book h _ _ _ _ decides (after-join-signers .join-signers .ensures)
 
 returns-5 : tie.Need-returns-5
 returns-5 c =
-    let branch = c .before .before .before .before in
+    let after-join-signers2 = c .before .before in
+    let branch = after-join-signers2 .before .before in
     let others = branch .before .before in
     let asked = others .before .before .before in
     let start = asked .before .before .before in
@@ -75,7 +81,7 @@ returns-5 c =
     let decides = finalize-joins sha256 book h (start .args .frame .now) (start .pre)
     (λ e. others .before .before .if1 .left (kind ∙ e)) (λ e. others .before .if2 .left (kind ∙ e)) (λ e. others .if3 .left (kind ∙ e)) finalize
     ∙ ap (λ (signers : ℕ). joinSigners 2 (at (decode book) h) signers) (sym (branch .before .frame-signers .ensures .0)) in
-    same-kept book h _ _ _ _ decides (c .before .before .join-signers2 .ensures)
+    same-kept book h _ _ _ _ decides (after-join-signers2 .join-signers2 .ensures)
 
 pub keep-spec : {M : Type 1} → statement M
 keep-spec =

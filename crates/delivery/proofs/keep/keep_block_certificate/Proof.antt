@@ -11,30 +11,35 @@ use Rattle.delivery.proofs.keep.keep_block_certificate.Tie as tie
 
 keep-notarized-requires : tie.Need-keep-notarized-requires
 keep-notarized-requires c κs =
-    let start = c .before .before .before .before .before .before .before .before in
+    let after-frame-mask = c .before in
+    let start = after-frame-mask .before .before .before .before .before .before .before in
     let given = start .pre in
-    (given .spot .ready, (given .spot .within, (given .spot .status-small, (c .frame-block .ensures .1, c .before .frame-mask .ensures .1))))
+    (given .spot .ready, (given .spot .within, (given .spot .status-small, (c .frame-block .ensures .1, after-frame-mask .frame-mask .ensures .1))))
 
 returns : tie.Need-returns
 unfolding keepBlockCertificate
 returns c =
-    let start = c .before .before .before .before .before in
+    let after-is-notarized = c .before in
+    let start = after-is-notarized .before .before .before .before in
     let book = start .args .book .now in
     let h = start .args .h in
-    known-frame book h _ _ (sym (c .before .is-notarized .ensures) ∙ c .if1 .taken)
+    known-frame book h _ _ (sym (after-is-notarized .is-notarized .ensures) ∙ c .if1 .taken)
 
 returns-2 : tie.Need-returns-2
 unfolding keepBlockCertificate
 returns-2 c =
-    let branch = c .before .before .before .before .before .before in
+    let after-keep-notarized = c .before .before in
+    let after-frame-block = after-keep-notarized .before in
+    let after-frame-mask = after-frame-block .before in
+    let branch = after-frame-mask .before .before in
     let start = branch .before .before .before .before .before in
     let book = start .args .book .now in
     let h = start .args .h in
     let x = at (decode book) h in
     let free = sym (branch .before .is-notarized .ensures) ∙ branch .if1 .left in
-    let signed = c .before .before .before .before .frame-mask .ensures .0 in
-    let carried = c .before .before .before .frame-block .ensures .0 in
-    new-frame book h _ _ _ free (c .before .before .keep-notarized .ensures ∙ ap₂ (λ (mask : ℕ) (block : Bytes). encode (withHeight (decode book) h (withNotarized x mask block))) signed carried)
+    let signed = after-frame-mask .frame-mask .ensures .0 in
+    let carried = after-frame-block .frame-block .ensures .0 in
+    new-frame book h _ _ _ free (after-keep-notarized .keep-notarized .ensures ∙ ap₂ (λ (mask : ℕ) (block : Bytes). encode (withHeight (decode book) h (withNotarized x mask block))) signed carried)
 
 pub keep-block-certificate-spec : {M : Type 1} → statement M
 keep-block-certificate-spec =

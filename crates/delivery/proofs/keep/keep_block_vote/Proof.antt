@@ -17,52 +17,66 @@ use Rattle.fields.specs.Laws.BookLaws.{few-replicas}
 
 in-mask-requires : tie.Need-in-mask-requires
 in-mask-requires c κs =
-    let start = c .before .before .before .before .before in
+    let after-frame-signer = c .before .before in
+    let start = after-frame-signer .before .before .before in
     let given = start .pre .0 in
-    let signed = c .before .before .frame-signer .ensures .0 in
+    let signed = after-frame-signer .frame-signer .ensures .0 in
     omega (arith, signed, start .pre .1, few-replicas _ (given .spot .ready .readable))
 
 keep-vote-requires : tie.Need-keep-vote-requires
 keep-vote-requires c κs =
-    let start = c .before .before .before .before .before .before .before .before .before in
+    let after-if1 = c .before .before in
+    let after-in-mask = after-if1 .before in
+    let after-voter-mask = after-in-mask .before in
+    let after-frame-signer = after-voter-mask .before .before in
+    let start = after-frame-signer .before .before .before in
     let book = start .args .book .now in
     let h = start .args .h in
     let given = start .pre .0 in
     let x = at (decode book) h in
-    let held = c .before .before .before .before .voter-mask .ensures .0 in
-    let signed = c .before .before .before .before .before .before .frame-signer .ensures .0 in
-    let here = c .before .before .before .before .before .before .frame-signer .result in
-    let missing = sym (ap (λ (m : ℕ). inMask m here) held) ∙ sym (c .before .before .before .in-mask .ensures) ∙ c .before .before .if1 .left in
+    let held = after-voter-mask .voter-mask .ensures .0 in
+    let signed = after-frame-signer .frame-signer .ensures .0 in
+    let here = after-frame-signer .frame-signer .result in
+    let missing = sym (ap (λ (m : ℕ). inMask m here) held) ∙ sym (after-in-mask .in-mask .ensures) ∙ after-if1 .if1 .left in
     let fits = room (decode book .n) (x .voterMask) here (omega (arith, signed, start .pre .1)) (given .range .voter-below) (given .range .mask-bound) missing in
     (given .spot .ready, (given .spot .within, (omega (arith, signed, start .pre .1, few-replicas _ (given .spot .ready .readable)), (fits, c .frame-digest .ensures .1))))
 
 notarize-requires : tie.Need-notarize-requires
 notarize-requires c κs =
-    let start = c .before .before .before .before .before .before .before .before .before .before .before .before .before in
+    let after-keep-vote = c .before .before .before in
+    let after-frame-digest = after-keep-vote .before in
+    let after-frame-signer = after-frame-digest .before .before .before .before .before .before in
+    let start = after-frame-signer .before .before .before in
     let book = start .args .book .now in
     let h = start .args .h in
     let given = start .pre .0 in
     let x = at (decode book) h in
-    let signed = c .before .before .before .before .before .before .before .before .before .before .frame-signer .ensures .0 in
-    let here = c .before .before .before .before .before .before .before .before .before .before .frame-signer .result in
-    let fits = shaped-vote x here _ (omega (arith, signed, start .pre .1, few-replicas _ (given .spot .ready .readable))) (c .before .before .before .before .frame-digest .ensures .1) (shaped-here book h (given .spot)) in
-    spot-after book h (given .spot) _ fits _ (c .before .before .before .keep-vote .ensures) (vote-status x _ _ (given .spot .status-small))
+    let signed = after-frame-signer .frame-signer .ensures .0 in
+    let here = after-frame-signer .frame-signer .result in
+    let fits = shaped-vote x here _ (omega (arith, signed, start .pre .1, few-replicas _ (given .spot .ready .readable))) (after-frame-digest .frame-digest .ensures .1) (shaped-here book h (given .spot)) in
+    spot-after book h (given .spot) _ fits _ (after-keep-vote .keep-vote .ensures) (vote-status x _ _ (given .spot .status-small))
 
 returns : tie.Need-returns
 unfolding keepBlockVote
 returns c =
-    let start = c .before .before .before .before .before .before .before in
+    let after-in-mask = c .before in
+    let after-voter-mask = after-in-mask .before in
+    let after-frame-signer = after-voter-mask .before .before in
+    let start = after-frame-signer .before .before .before in
     let book = start .args .book .now in
     let h = start .args .h in
-    let held = c .before .before .voter-mask .ensures .0 in
-    let signed = c .before .before .before .before .frame-signer .ensures .0 in
-    let there = same-bit held signed (c .before .in-mask .ensures) ∙ c .if1 .taken in
+    let held = after-voter-mask .voter-mask .ensures .0 in
+    let signed = after-frame-signer .frame-signer .ensures .0 in
+    let there = same-bit held signed (after-in-mask .in-mask .ensures) ∙ c .if1 .taken in
     known-frame book h _ _ there
 
 returns-2 : tie.Need-returns-2
 unfolding keepBlockVote
 returns-2 c =
-    let branch = c .before .before .before .before .before .before .before .before .before in
+    let after-notarize = c .before .before in
+    let after-keep-vote = after-notarize .before .before .before .before in
+    let after-frame-digest = after-keep-vote .before in
+    let branch = after-frame-digest .before .before in
     let start = branch .before .before .before .before .before .before .before in
     let book = start .args .book .now in
     let h = start .args .h in
@@ -71,10 +85,10 @@ returns-2 c =
     let held = branch .before .before .voter-mask .ensures .0 in
     let signed = branch .before .before .before .before .frame-signer .ensures .0 in
     let missing = same-bit held signed (branch .before .in-mask .ensures) ∙ branch .if1 .left in
-    let named = c .before .before .before .before .before .before .before .frame-digest .ensures in
+    let named = after-frame-digest .frame-digest .ensures in
     let here = branch .before .before .before .before .frame-signer .result in
     let fits = shaped-vote x here _ (omega (arith, signed, start .pre .1, few-replicas _ (given .spot .ready .readable))) (named .1) (shaped-here book h (given .spot)) in
-    let counted = notarized-after book h (given .spot) _ fits sha256 _ _ (c .before .before .before .before .before .before .keep-vote .ensures) (c .before .before .notarize .ensures) in
+    let counted = notarized-after book h (given .spot) _ fits sha256 _ _ (after-keep-vote .keep-vote .ensures) (after-notarize .notarize .ensures) in
     new-frame book h _ _ _ missing
     (counted ∙ ap₂ (λ (k : ℕ) (digest : Bytes). encode (withHeight (decode book) h (notarize sha256 (view (decode book)) (withVote x k digest)))) signed (named .0))
 

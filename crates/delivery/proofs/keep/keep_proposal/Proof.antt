@@ -13,42 +13,49 @@ use Rattle.delivery.proofs.keep.keep_proposal.Tie as tie
 
 notarize-with-requires : tie.Need-notarize-with-requires
 notarize-with-requires c κs =
-    let branch = c .before .before .before .before .before .before .before .before in
+    let after-keep-proposal = c .before .before .before .before in
+    let after-frame-block = after-keep-proposal .before in
+    let after-frame-block-digest = after-frame-block .before .before in
+    let branch = after-frame-block-digest .before in
     let start = branch .before .before .before .before .before in
     let book = start .args .book .now in
     let h = start .args .h in
     let spot = start .pre .spot in
     let x = at (decode book) h in
     let free = sym (branch .before .holds-proposal .ensures) ∙ branch .if1 .left in
-    let carried = c .before .before .before .before .before .frame-block .ensures in
+    let carried = after-frame-block .frame-block .ensures in
     let fits = shaped-proposal x _ (carried .1) (shaped-here book h spot) in
-    let kept = c .before .before .before .before .keep-proposal .ensures in
+    let kept = after-keep-proposal .keep-proposal .ensures in
     let held = ap (λ (y : Height). y .proposal) (height-after book h spot _ fits _ kept) ∙ kept-proposal x _ ∙ carried .0 in (
       spot-after book h spot _ fits _ kept (proposal-status x _ (spot .status-small) free),
-      c .before .before .before .before .before .before .before .frame-block-digest .ensures ∙ sym (ap sha256 held),
+      after-frame-block-digest .frame-block-digest .ensures ∙ sym (ap sha256 held),
     )
 
 returns : tie.Need-returns
 unfolding keepProposal
 returns c =
-    let start = c .before .before .before .before .before in
+    let after-holds-proposal = c .before in
+    let start = after-holds-proposal .before .before .before .before in
     let book = start .args .book .now in
     let h = start .args .h in
-    known-frame book h _ _ (sym (c .before .holds-proposal .ensures) ∙ c .if1 .taken)
+    known-frame book h _ _ (sym (after-holds-proposal .holds-proposal .ensures) ∙ c .if1 .taken)
 
 returns-2 : tie.Need-returns-2
 unfolding keepProposal
 returns-2 c =
-    let branch = c .before .before .before .before .before .before .before .before .before .before .before in
+    let after-notarize-with = c .before .before in
+    let after-keep-proposal = after-notarize-with .before .before .before .before .before in
+    let after-frame-block = after-keep-proposal .before in
+    let branch = after-frame-block .before .before .before in
     let start = branch .before .before .before .before .before in
     let book = start .args .book .now in
     let h = start .args .h in
     let given = start .pre in
     let x = at (decode book) h in
     let free = sym (branch .before .holds-proposal .ensures) ∙ branch .if1 .left in
-    let carried = c .before .before .before .before .before .before .before .before .frame-block .ensures in
+    let carried = after-frame-block .frame-block .ensures in
     let fits = shaped-proposal x _ (carried .1) (shaped-here book h (given .spot)) in
-    let counted = notarized-after book h (given .spot) _ fits sha256 _ _ (c .before .before .before .before .before .before .before .keep-proposal .ensures) (c .before .before .notarize-with .ensures) in
+    let counted = notarized-after book h (given .spot) _ fits sha256 _ _ (after-keep-proposal .keep-proposal .ensures) (after-notarize-with .notarize-with .ensures) in
     new-frame book h _ _ _ free (counted ∙ ap (λ (block : Bytes). encode (withHeight (decode book) h (notarize sha256 (view (decode book)) (withProposal x block)))) (carried .0))
 
 pub keep-proposal-spec : {M : Type 1} → statement M

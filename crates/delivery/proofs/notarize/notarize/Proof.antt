@@ -10,8 +10,10 @@ use Rattle.delivery.proofs.notarize.notarize.Tie as tie
 
 notarize-with-requires : tie.Need-notarize-with-requires
 notarize-with-requires c κs =
-    let start = c .before .before .before .before .before .before .before .before .before in
-    let hashed = c .before .before .sha256 .ensures ∙ ap sha256 (c .before .before .before .proposal .ensures) in
+    let after-sha256 = c .before .before in
+    let after-proposal = after-sha256 .before in
+    let start = after-proposal .before .before .before .before .before .before in
+    let hashed = after-sha256 .sha256 .ensures ∙ ap sha256 (after-proposal .proposal .ensures) in
     (start .pre, hashed)
 
 returns : tie.Need-returns
@@ -19,10 +21,11 @@ returns c = c .before .before .notarize-with .ensures
 
 returns-2 : tie.Need-returns-2
 returns-2 c =
-    let start = c .before .before .before .before in
+    let after-awaits-votes = c .before in
+    let start = after-awaits-votes .before .before .before in
     let book = start .args .book .now in
     let h = start .args .h in
-    let stays = awaits-none sha256 (decode book) (at (decode book) h) (sym (c .before .awaits-votes .ensures) ∙ c .if1 .left) in
+    let stays = awaits-none sha256 (decode book) (at (decode book) h) (sym (after-awaits-votes .awaits-votes .ensures) ∙ c .if1 .left) in
     sym (ap (λ (y : Height). encode (withHeight (decode book) h y)) stays ∙ same-book book h (start .pre))
 
 pub notarize-spec : {M : Type 1} → statement M

@@ -12,7 +12,8 @@ use Rattle.delivery.proofs.notarize.notarize_with.Tie as tie
 
 returns : tie.Need-returns
 returns c =
-    let inner = c .before .before .before .before in
+    let after-notarize-held = c .before .before in
+    let inner = after-notarize-held .before .before in
     let outer = inner .before .before .before .before .before in
     let start = outer .before .before .before .before .before in
     let book = start .args .book .now in
@@ -22,25 +23,28 @@ returns c =
     let enough = sym (inner .before .quorum .ensures) ∙ inner .if2 .taken in
     let tally = inner .before .before .before .voters-for .ensures .0 ∙ ap (λ (digest : Bytes). votersFor x digest (decode book .n)) (start .pre .1) in
     let becomes = notarizes sha256 (decode book) x _ tally awaits enough in
-    c .before .before .notarize-held .ensures ∙ sym (ap (λ (y : Height). encode (withHeight (decode book) h y)) becomes)
+    after-notarize-held .notarize-held .ensures ∙ sym (ap (λ (y : Height). encode (withHeight (decode book) h y)) becomes)
 
 returns-2 : tie.Need-returns-2
 returns-2 c =
-    let start = c .before .before .before .before .before .before .before .before .before .before in
+    let after-quorum = c .before in
+    let after-voters-for = after-quorum .before .before in
+    let start = after-voters-for .before .before .before .before .before .before .before in
     let book = start .args .book .now in
     let h = start .args .h in
     let x = at (decode book) h in
-    let few = sym (c .before .quorum .ensures) ∙ c .if2 .left in
-    let tally = c .before .before .before .voters-for .ensures .0 ∙ ap (λ (digest : Bytes). votersFor x digest (decode book .n)) (start .pre .1) in
+    let few = sym (after-quorum .quorum .ensures) ∙ c .if2 .left in
+    let tally = after-voters-for .voters-for .ensures .0 ∙ ap (λ (digest : Bytes). votersFor x digest (decode book .n)) (start .pre .1) in
     let stays = too-few sha256 (decode book) x _ tally few in
     sym (ap (λ (y : Height). encode (withHeight (decode book) h y)) stays ∙ same-book book h (start .pre .0))
 
 returns-3 : tie.Need-returns-3
 returns-3 c =
-    let start = c .before .before .before .before .before in
+    let after-awaits-votes = c .before in
+    let start = after-awaits-votes .before .before .before .before in
     let book = start .args .book .now in
     let h = start .args .h in
-    let stays = awaits-none sha256 (decode book) (at (decode book) h) (sym (c .before .awaits-votes .ensures) ∙ c .if1 .left) in
+    let stays = awaits-none sha256 (decode book) (at (decode book) h) (sym (after-awaits-votes .awaits-votes .ensures) ∙ c .if1 .left) in
     sym (ap (λ (y : Height). encode (withHeight (decode book) h y)) stays ∙ same-book book h (start .pre .0))
 
 pub notarize-with-spec : {M : Type 1} → statement M

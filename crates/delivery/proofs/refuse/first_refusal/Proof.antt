@@ -10,7 +10,11 @@ unfolding refusalOf
 returns c = sym (none-fails _ _ _ _ _ _ (c .before .before .if1 .taken) (c .before .if2 .taken) (c .if3 .taken))
 
 returns-2 : tie.Need-returns-2
-returns-2 c = refusal-some _ (c .before .before .before .pre .2) ∙ sym (third-fails _ _ _ _ _ _ (c .before .before .if1 .taken) (c .before .if2 .taken) (c .if3 .left))
+returns-2 c =
+    let after-if2 = c .before in
+    let after-if1 = after-if2 .before in
+    let start = after-if1 .before in
+    refusal-some _ (start .pre .2) ∙ sym (third-fails _ _ _ _ _ _ (after-if1 .if1 .taken) (after-if2 .if2 .taken) (c .if3 .left))
 
 returns-3 : tie.Need-returns-3
 returns-3 c = refusal-some _ (c .before .before .pre .1) ∙ sym (second-fails _ _ _ _ _ _ (c .before .if1 .taken) (c .if2 .left))

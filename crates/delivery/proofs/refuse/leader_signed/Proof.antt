@@ -10,11 +10,18 @@ use Rattle.delivery.proofs.refuse.leader_signed.Tie as tie
 
 returns : tie.Need-returns
 unfolding leaderSigned implies
-returns c = rw (sym (c .before .before .before .frame-kind .ensures .0) ∙ c .before .before .if1 .taken, c .before .frame-signer .ensures .0, c .leader .ensures .0)
+returns c =
+    let after-frame-signer = c .before in
+    let after-if1 = after-frame-signer .before in
+    let after-frame-kind = after-if1 .before in
+    rw (sym (after-frame-kind .frame-kind .ensures .0) ∙ after-if1 .if1 .taken, after-frame-signer .frame-signer .ensures .0, c .leader .ensures .0)
 
 returns-2 : tie.Need-returns-2
 unfolding leaderSigned implies
-returns-2 c = rw (ne-eqb (kind (c .before .before .before .before .args .frame .now)) 1 (λ e. c .if1 .left (c .before .frame-kind .ensures .0 ∙ e)))
+returns-2 c =
+    let after-frame-kind = c .before in
+    let start = after-frame-kind .before .before .before in
+    rw (ne-eqb (kind (start .args .frame .now)) 1 (λ e. c .if1 .left (after-frame-kind .frame-kind .ensures .0 ∙ e)))
 
 pub leader-signed-spec : {M : Type 1} → statement M
 leader-signed-spec = tie.close (tie.spec (λ c κs. search needs) (λ c κs. search needs) (λ c κs. search needs) returns returns-2)

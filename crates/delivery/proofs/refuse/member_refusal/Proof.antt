@@ -7,7 +7,10 @@ use Rattle.delivery.proofs.refuse.member_refusal.Tie as tie
 returns : tie.Need-returns
 unfolding memberRows
 returns c =
-    rw (← c .before .signers-enough .ensures, ← c .before .before .leader-signed .ensures, ← c .before .before .before .members-fit .ensures)
+    let after-signers-enough = c .before in
+    let after-leader-signed = after-signers-enough .before in
+    let after-members-fit = after-leader-signed .before in
+    rw (← after-signers-enough .signers-enough .ensures, ← after-leader-signed .leader-signed .ensures, ← after-members-fit .members-fit .ensures)
     (c .first-refusal .ensures)
 
 pub member-refusal-spec : {M : Type 1} → statement M

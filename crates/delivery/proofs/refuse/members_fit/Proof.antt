@@ -9,13 +9,21 @@ use Rattle.delivery.proofs.refuse.members_fit.Tie as tie
 
 returns : tie.Need-returns
 unfolding membersFit
-returns c = rw (sym (c .before .before .is-statement .ensures) ∙ c .before .if1 .taken, c .frame-signer .ensures .0, c .before .before .before .replicas .ensures .0)
+returns c =
+    let after-if1 = c .before in
+    let after-is-statement = after-if1 .before in
+    let after-replicas = after-is-statement .before in
+    rw (sym (after-is-statement .is-statement .ensures) ∙ after-if1 .if1 .taken, c .frame-signer .ensures .0, after-replicas .replicas .ensures .0)
 
 returns-2 : tie.Need-returns-2
 unfolding membersFit
 returns-2 c =
-    rw (sym (c .before .before .before .is-statement .ensures) ∙ c .before .before .if1 .left)
-    (c .below .ensures ∙ ap₂ (λ (n mask : ℕ). belowBit n mask) (c .before .before .before .before .replicas .ensures .0) (c .before .frame-mask .ensures .0))
+    let after-frame-mask = c .before in
+    let after-if1 = after-frame-mask .before in
+    let after-is-statement = after-if1 .before in
+    let after-replicas = after-is-statement .before in
+    rw (sym (after-is-statement .is-statement .ensures) ∙ after-if1 .if1 .left)
+    (c .below .ensures ∙ ap₂ (λ (n mask : ℕ). belowBit n mask) (after-replicas .replicas .ensures .0) (after-frame-mask .frame-mask .ensures .0))
 
 pub members-fit-spec : {M : Type 1} → statement M
 members-fit-spec =

@@ -16,8 +16,12 @@ returns c = rw (sym (c .before .is-statement .ensures) ∙ c .if1 .taken)
 returns-2 : tie.Need-returns-2
 unfolding signersEnough
 returns-2 c =
-    rw (sym (c .before .before .before .is-statement .ensures) ∙ c .before .before .if1 .left)
-    (c .quorum .ensures ∙ ap (λ (mask : ℕ). quorum (view (decode (c .before .before .before .before .before .before .args .book .now))) mask) (c .before .frame-mask .ensures .0))
+    let after-frame-mask = c .before in
+    let after-if1 = after-frame-mask .before in
+    let after-is-statement = after-if1 .before in
+    let start = after-is-statement .before .before .before in
+    rw (sym (after-is-statement .is-statement .ensures) ∙ after-if1 .if1 .left)
+    (c .quorum .ensures ∙ ap (λ (mask : ℕ). quorum (view (decode (start .args .book .now))) mask) (after-frame-mask .frame-mask .ensures .0))
 
 pub signers-enough-spec : {M : Type 1} → statement M
 signers-enough-spec = tie.close (tie.spec (λ c κs. search needs) (λ c κs. search needs) (λ c κs. search needs) returns returns-2)

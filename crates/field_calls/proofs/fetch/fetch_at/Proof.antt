@@ -17,24 +17,31 @@ has-certificate-requires c κs =
 
 write-certificate-requires : tie.Need-write-certificate-requires
 write-certificate-requires c κs =
-    let z = c .before .before .before .before .before .before in
-    (z .pre .0 .ready .readable, (z .pre .1 .0, (certificate-range (z .args .kind) (z .pre .1 .1), c .before .before .before .if1 .taken)))
+    let after-if1 = c .before .before .before in
+    let z = after-if1 .before .before .before in
+    (z .pre .0 .ready .readable, (z .pre .1 .0, (certificate-range (z .args .kind) (z .pre .1 .1), after-if1 .if1 .taken)))
 
 returns : tie.Need-returns
 returns c =
-    let z = c .before .before .before .before .before .before .before .before .before in
+    let after-write-certificate = c .before .before in
+    let after-if2 = after-write-certificate .before .before in
+    let after-has-certificate = after-if2 .before in
+    let after-if1 = after-has-certificate .before in
+    let z = after-if1 .before .before .before in
     let inside = in-heights (z .args .book .now) (z .args .height) (z .pre .1 .0) in
-    let long = le-leb 224 (length (z .args .reply .now)) (c .before .before .before .before .before .before .if1 .taken) in
-    let has = sym (c .before .before .before .before .before .has-certificate .ensures) ∙ c .before .before .before .before .if2 .taken in
+    let long = le-leb 224 (length (z .args .reply .now)) (after-if1 .if1 .taken) in
+    let has = sym (after-has-certificate .has-certificate .ensures) ∙ after-if2 .if2 .taken in
     fetch-answered (fetch-done (z .args .book .now) (z .args .kind) (z .args .height) (z .args .reply .now) (z .pre .0 .is-sound) (z .pre .1 .1) inside long has)
-    (c .before .before .write-certificate .ensures)
+    (after-write-certificate .write-certificate .ensures)
 
 returns-2 : tie.Need-returns-2
 returns-2 c =
-    let z = c .before .before .before .before .before in
+    let after-has-certificate = c .before in
+    let after-if1 = after-has-certificate .before in
+    let z = after-if1 .before .before .before in
     let inside = in-heights (z .args .book .now) (z .args .height) (z .pre .1 .0) in
-    let long = le-leb 224 (length (z .args .reply .now)) (c .before .before .if1 .taken) in
-    let lacks = sym (c .before .has-certificate .ensures) ∙ c .if2 .left in
+    let long = le-leb 224 (length (z .args .reply .now)) (after-if1 .if1 .taken) in
+    let lacks = sym (after-has-certificate .has-certificate .ensures) ∙ c .if2 .left in
     fetch-refused (fetch-lacking (z .args .book .now) (z .args .kind) (z .args .height) (z .args .reply .now) (z .pre .0 .is-sound) (z .pre .1 .1) inside long lacks)
 
 returns-3 : tie.Need-returns-3

@@ -12,15 +12,18 @@ use Rattle.field_calls.proofs.fetch.has_certificate.Tie as tie
 
 returns : tie.Need-returns
 returns c =
-    let z = c .before .before .before in
-    c .is-notarized .ensures ∙ sym (has-block (decode (z .args .book .now)) (z .args .kind) (z .args .height) (c .before .if1 .taken))
+    let after-if1 = c .before in
+    let z = after-if1 .before .before in
+    c .is-notarized .ensures ∙ sym (has-block (decode (z .args .book .now)) (z .args .kind) (z .args .height) (after-if1 .if1 .taken))
 
 returns-2 : tie.Need-returns-2
 returns-2 c =
-    let z = c .before .before .before .before in
+    let after-mask-at = c .before in
+    let after-if1 = after-mask-at .before in
+    let z = after-if1 .before .before in
     let s = decode (z .args .book .now) in
-    c .quorum .ensures ∙ ap (λ (m : ℕ). quorum (view s) m) (c .before .mask-at .ensures .0)
-    ∙ sym (has-signers s (z .args .kind) (z .args .height) (omega (arith, c .before .before .if1 .left)) (z .pre .1 .1 .1))
+    c .quorum .ensures ∙ ap (λ (m : ℕ). quorum (view s) m) (after-mask-at .mask-at .ensures .0)
+    ∙ sym (has-signers s (z .args .kind) (z .args .height) (omega (arith, after-if1 .if1 .left)) (z .pre .1 .1 .1))
 
 pub has-certificate-spec : {M : Type 1} → statement M
 has-certificate-spec =

@@ -13,28 +13,33 @@ use Rattle.field_calls.proofs.fetch.write_certificate.Tie as tie
 
 write-block-certificate-requires : tie.Need-write-block-certificate-requires
 write-block-certificate-requires c κs =
-    let z = c .before .before .before .before .before .before in
+    let after-notarized = c .before in
+    let after-mask-at = after-notarized .before .before in
+    let z = after-mask-at .before .before .before in
     let small : z .args .height < 65536 = omega arith in (
       z .pre .1 .1 .1,
       (
-        (small, c .before .before .before .mask-at .ensures .1),
-        ap length (c .before .notarized .ensures) ∙ notarized-size (z .args .book .now) (z .args .height) (z .pre .0 .sized .size) (z .pre .1 .0),
+        (small, after-mask-at .mask-at .ensures .1),
+        ap length (after-notarized .notarized .ensures) ∙ notarized-size (z .args .book .now) (z .args .height) (z .pre .0 .sized .size) (z .pre .1 .0),
       ),
     )
 
 returns : tie.Need-returns
 returns c =
-    let branch = c .before .before .before .before .before in
+    let after-write-block-certificate = c .before .before in
+    let after-notarized = after-write-block-certificate .before .before in
+    let branch = after-notarized .before in
     let z = branch .before .before .before .before in
-    c .before .before .write-block-certificate .ensures
+    after-write-block-certificate .write-block-certificate .ensures
     ∙ ap (λ (frame : Bytes). overFront frame (z .args .reply .now))
-    (frame-block (decode (z .args .book .now)) (z .args .kind) (z .args .height) _ (branch .before .mask-at .ensures .0) _ (branch .if1 .taken) (c .before .before .before .before .notarized .ensures))
+    (frame-block (decode (z .args .book .now)) (z .args .kind) (z .args .height) _ (branch .before .mask-at .ensures .0) _ (branch .if1 .taken) (after-notarized .notarized .ensures))
 
 returns-2 : tie.Need-returns-2
 returns-2 c =
-    let branch = c .before .before .before .before in
+    let after-write-plain = c .before .before in
+    let branch = after-write-plain .before .before in
     let z = branch .before .before .before .before in
-    c .before .before .write-plain .ensures
+    after-write-plain .write-plain .ensures
     ∙ ap (λ (frame : Bytes). overFront frame (z .args .reply .now))
     (frame-signers (decode (z .args .book .now)) (z .args .kind) (z .args .height) _ (branch .before .mask-at .ensures .0) (omega (arith, branch .if1 .left)) (z .pre .1 .1 .0 .1))
 

@@ -29,12 +29,15 @@ loop-less : tie.Need-loop-less Inv-loop μ-loop
 loop-less c = omega arith
 
 loop-again : tie.Need-loop-again Inv-loop μ-loop
-loop-again c = (omega arith, below-more _ _ (c .before .before .before .loop .inv .1) (c .if1 .taken))
+loop-again c =
+    let after-loop = c .before .before .before in
+    (omega arith, below-more _ _ (after-loop .loop .inv .1) (c .if1 .taken))
 
 returns : tie.Need-returns Inv-loop μ-loop
 returns c =
-    let start = c .before .before .before .before in
-    not-below (start .args .n) (start .args .leaders .now) (c .before .before .before .loop .i) (omega arith) (c .if1 .left)
+    let after-loop = c .before .before .before in
+    let start = after-loop .before in
+    not-below (start .args .n) (start .args .leaders .now) (after-loop .loop .i) (omega arith) (c .if1 .left)
 
 returns-2 : tie.Need-returns-2 Inv-loop μ-loop
 returns-2 c =

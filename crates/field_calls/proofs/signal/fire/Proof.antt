@@ -6,9 +6,12 @@ use Rattle.field_calls.proofs.signal.fire.Tie as tie
 
 returns : tie.Need-returns
 returns c =
-    let z = c .before .before .before .before .before .before .before .before .before .before .before in
     let set = c .before .before in
-    fired (z .args .book .now) _ _ _ _ (set .set-head .ensures) (c .before .before .before .before .before .before .before .before .flags .ensures .0) (c .before .before .before .before .before .before .current .ensures .0) (c .before .before .before .before .finalized .ensures .0)
+    let after-finalized = set .before .before in
+    let after-current = after-finalized .before .before in
+    let after-flags = after-current .before .before in
+    let z = after-flags .before .before .before in
+    fired (z .args .book .now) _ _ _ _ (set .set-head .ensures) (after-flags .flags .ensures .0) (after-current .current .ensures .0) (after-finalized .finalized .ensures .0)
 
 pub fire-spec : {M : Type 1} → statement M
 fire-spec =

@@ -11,10 +11,13 @@ use Rattle.field_calls.proofs.signal.signal_sound.Tie as tie
 returns : tie.Need-returns
 unfolding signalCall signalRows firstRefusal unlessRefused doneAnswer
 returns c =
-    let timer = c .before .before .before .before .before .before in
+    let after-fire = c .before .before in
+    let after-if2 = after-fire .before .before in
+    let after-if1 = after-if2 .before in
+    let timer = after-if1 .before in
     let height = timer .before .before in
     let start = height .before .before .before in
-    rw (start .pre .is-sound, ← height .in-book .ensures, ← timer .timer-runs .ensures, c .before .before .before .before .before .if1 .taken, c .before .before .before .before .if2 .taken) (refl, c .before .before .fire .ensures)
+    rw (start .pre .is-sound, ← height .in-book .ensures, ← timer .timer-runs .ensures, after-if1 .if1 .taken, after-if2 .if2 .taken) (refl, after-fire .fire .ensures)
 
 returns-2 : tie.Need-returns-2
 unfolding signalCall signalRows firstRefusal unlessRefused doneAnswer

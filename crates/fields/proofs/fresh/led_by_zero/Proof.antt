@@ -20,8 +20,9 @@ slice-write-book-5 c = simp length-set (omega arith)
 
 returns : tie.Need-returns
 returns c =
-    let start = c .before .before .before .before .before in
-    head-made (start .args .n) (start .args .own) (start .args .heights) (start .args .book .now) _ (start .pre .0) (c .before .before .clear .ensures)
+    let after-clear = c .before .before in
+    let start = after-clear .before .before .before in
+    head-made (start .args .n) (start .args .own) (start .args .heights) (start .args .book .now) _ (start .pre .0) (after-clear .clear .ensures)
 
 pub led-by-zero-spec : {M : Type 1} → statement M
 led-by-zero-spec =

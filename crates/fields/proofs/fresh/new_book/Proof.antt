@@ -18,9 +18,10 @@ abbrev μ-loop : tie.MeasureT-loop
 
 loop-holds : tie.Need-loop-holds Inv-loop μ-loop
 loop-holds c =
-    let start = c .before .before .before .before .before .before in
+    let after-led-by-zero = c .before .before in
+    let start = after-led-by-zero .before .before .before .before in
     let leaders = start .args .leaders .now in
-    let made = c .before .before .led-by-zero in
+    let made = after-led-by-zero .led-by-zero in
     (omega arith, made .ensures ∙ ap (λ l. encode (newState (start .args .n) (start .args .own) l)) (led-none leaders), omega (arith, made .kept .0))
 
 shared-slice-read-book : tie.Need-shared-slice-read-book Inv-loop μ-loop
@@ -43,8 +44,10 @@ loop-less c = omega arith
 
 loop-again : tie.Need-loop-again Inv-loop μ-loop
 loop-again c =
-    let args = c .before .before .before .before .before .before .before .before .before .args in
-    let at = c .before .before .loop in (
+    let after-loop = c .before .before in
+    let start = after-loop .before .before .before .before .before .before .before in
+    let args = start .args in
+    let at = after-loop .loop in (
       omega arith,
       led-more (args .n) (args .own) (args .leaders .now) (at .i) (at .book) (at .inv .1) (omega arith),
       rw length-set (at .inv .2),
@@ -55,8 +58,10 @@ same-length c = omega arith
 
 returns : tie.Need-returns Inv-loop μ-loop
 returns c =
-    let args = c .before .before .before .before .before .before .before .before .args in
-    let at = c .before .loop in
+    let after-loop = c .before in
+    let start = after-loop .before .before .before .before .before .before .before in
+    let args = start .args in
+    let at = after-loop .loop in
     at .inv .1 ∙ ap (λ l. encode (newState (args .n) (args .own) l)) (led-all (args .leaders .now) (at .i) (omega arith))
 
 pub new-book-spec : {M : Type 1} → statement M

@@ -6,8 +6,9 @@ use Rattle.fields.proofs.height.vote_digest.Tie as tie
 
 returns : tie.Need-returns
 returns c =
-    let start = c .before .before .before in
-    vote-at (start .args .book .now) (start .args .h) (start .pre .1 .0) _ (c .before .body-at .ensures) (start .args .s) (start .pre .1 .1)
+    let after-body-at = c .before in
+    let start = after-body-at .before .before in
+    vote-at (start .args .book .now) (start .args .h) (start .pre .1 .0) _ (after-body-at .body-at .ensures) (start .args .s) (start .pre .1 .1)
 
 pub vote-digest-spec : {M : Type 1} → statement M
 vote-digest-spec =

@@ -43,9 +43,10 @@ loop-less c = omega arith
 
 loop-again : tie.Need-loop-again Inv-loop μ-loop
 loop-again c =
-    let start = c .before .before .before in
+    let after-loop = c .before .before in
+    let start = after-loop .before in
     let args = start .args in
-    let at = c .before .before .loop in (
+    let at = after-loop .loop in (
       omega arith,
       copy-more (args .bytes .now) (at .bytes) (args .from) (args .to) (args .count) (at .i) (at .inv .1) (at .inv .3 (at .i) (omega arith) (omega arith)) (omega arith) (start .pre .0) (start .pre .1 .0),
       rw length-set (at .inv .2),

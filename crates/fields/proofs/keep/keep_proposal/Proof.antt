@@ -15,11 +15,12 @@ same-length c = c .before .before .copy-to .kept .0 ∙ simp length-set
 
 returns : tie.Need-returns
 returns c =
-    let read = c .before .before .before .before in
+    let after-copy-to = c .before .before in
+    let read = after-copy-to .before .before in
     let placed = read .before .before in
     let begun = placed .before .before in
     let start = begun .before .before .before in
-    c .before .before .copy-to .ensures ∙
+    after-copy-to .copy-to .ensures ∙
     kept-proposal (start .args .book .now) (start .pre .0) (start .args .h) (start .pre .1 .0) _ (begun .content-at .ensures) _ (placed .body-at .ensures) _
     (read .status .ensures .0) (start .args .block .now) (start .pre .1 .1 .1)
 

@@ -8,13 +8,14 @@ use Rattle.fields.proofs.keep.keep_vote.Tie as tie
 
 returns : tie.Need-returns
 returns c =
-    let marked = c .before .before .before .before .before .before in
+    let after-copy-to = c .before .before in
+    let marked = after-copy-to .before .before .before .before in
     let read = marked .before .before .before in
     let placed = read .before .before in
     let begun = placed .before .before in
     let start = begun .before .before .before in
     let small = start .pre .1 .1 .0 in
-    c .before .before .copy-to .ensures ∙
+    after-copy-to .copy-to .ensures ∙
     kept-vote (start .args .book .now) (start .pre .0) (start .args .h) (start .pre .1 .0) _ (begun .content-at .ensures) _ (placed .body-at .ensures)
     (start .args .s) (start .args .digest .now) small (start .pre .1 .1 .1 .1) _ (omega (arith, read .voter-mask .ensures .0, marked .before .bit .ensures .0)) _
     (marked .put-word .ensures)

@@ -11,13 +11,14 @@ copy-inside-requires c κs = (search needs, (search needs, inr (omega arith)))
 
 returns : tie.Need-returns
 returns c =
-    let copied = c .before .before .before .before .before .before in
+    let after-mark-notarized = c .before .before in
+    let copied = after-mark-notarized .before .before .before .before in
     let read = copied .before .before in
     let placed = read .before .before in
     let begun = placed .before .before in
     let start = begun .before .before in
     kept-held (start .args .book .now) (start .pre .0) (start .args .h) (start .pre .1 .0) _ (begun .content-at .ensures) _ (placed .body-at .ensures) _
-    (read .status .ensures .0) (start .args .mask) _ (copied .copy-inside .ensures) _ (c .before .before .mark-notarized .ensures)
+    (read .status .ensures .0) (start .args .mask) _ (copied .copy-inside .ensures) _ (after-mark-notarized .mark-notarized .ensures)
 
 pub notarize-held-spec : {M : Type 1} → statement M
 notarize-held-spec =

@@ -7,13 +7,18 @@ use Rattle.fields.proofs.pool.finish_pool.Statement.{statement}
 use Rattle.fields.proofs.pool.finish_pool.Tie as tie
 
 same-length : tie.Need-same-length
-same-length c = simp length-set (c .before .before .clear .kept .0 ∙ c .before .before .before .before .before .before .copy-to .kept .0)
+same-length c =
+    let after-clear = c .before .before in
+    let after-copy-to = after-clear .before .before .before .before in
+    simp length-set (after-clear .clear .kept .0 ∙ after-copy-to .copy-to .kept .0)
 
 returns : tie.Need-returns
 returns c =
-    let start = c .before .before .before .before .before .before .before .before .before .before in
+    let after-clear = c .before .before in
+    let after-copy-to = after-clear .before .before .before .before in
+    let start = after-copy-to .before .before .before .before in
     finished-pool (start .args .book .now) (start .pre .0) (start .args .count) (start .args .entry .now) (start .pre .1 .0) (start .pre .1 .1) _ _
-    (c .before .before .before .before .before .before .copy-to .ensures) (c .before .before .clear .ensures)
+    (after-copy-to .copy-to .ensures) (after-clear .clear .ensures)
 
 pub finish-pool-spec : {M : Type 1} → statement M
 finish-pool-spec =

@@ -12,8 +12,9 @@ copy-inside-requires c κs = (search needs, (search needs, inl (omega arith)))
 
 returns : tie.Need-returns
 returns c =
-    let start = c .before .before .before .before .before in
-    c .before .before .copy-inside .ensures ∙
+    let after-copy-inside = c .before .before in
+    let start = after-copy-inside .before .before .before in
+    after-copy-inside .copy-inside .ensures ∙
     moved-place (start .args .book .now) (start .pre .0) (start .args .from) (start .args .to) (start .pre .1 .0) (start .pre .1 .1)
 
 pub move-entry-spec : {M : Type 1} → statement M

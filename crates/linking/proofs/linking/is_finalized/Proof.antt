@@ -10,20 +10,26 @@ use Rattle.linking.proofs.linking.is_finalized.Tie as tie
 
 returns : tie.Need-returns
 returns c =
-    let z = c .before .before .before .before .before .before .before .before .before in
-    let mask = c .before .before .before .before .before .before .finalize-mask in
+    let after-linked = c .before .before in
+    let after-if1 = after-linked .before .before in
+    let after-quorum = after-if1 .before in
+    let after-finalize-mask = after-quorum .before in
+    let z = after-finalize-mask .before .before .before in
+    let mask = after-finalize-mask .finalize-mask in
     let v = viewOf (z .args .kind) (z .args .book .now) in (
-      c .before .before .linked .ensures .0
-          ∙ finalized-by-link v (z .args .h) (ap (λ (m : ℕ). quorum v m) (sym (mask .ensures .0)) ∙ sym (c .before .before .before .before .before .quorum .ensures) ∙ c .before .before .before .before .if1 .taken),
-      c .before .before .linked .ensures .1,
+      after-linked .linked .ensures .0
+          ∙ finalized-by-link v (z .args .h) (ap (λ (m : ℕ). quorum v m) (sym (mask .ensures .0)) ∙ sym (after-quorum .quorum .ensures) ∙ after-if1 .if1 .taken),
+      after-linked .linked .ensures .1,
     )
 
 returns-2 : tie.Need-returns-2
 returns-2 c =
-    let z = c .before .before .before .before .before in
-    let mask = c .before .before .finalize-mask in
+    let after-quorum = c .before in
+    let after-finalize-mask = after-quorum .before in
+    let z = after-finalize-mask .before .before .before in
+    let mask = after-finalize-mask .finalize-mask in
     let v = viewOf (z .args .kind) (z .args .book .now) in
-    (sym (not-finalized-without v (z .args .h) (ap (λ (m : ℕ). quorum v m) (sym (mask .ensures .0)) ∙ sym (c .before .quorum .ensures) ∙ c .if1 .left)), z .pre .1 .0)
+    (sym (not-finalized-without v (z .args .h) (ap (λ (m : ℕ). quorum v m) (sym (mask .ensures .0)) ∙ sym (after-quorum .quorum .ensures) ∙ c .if1 .left)), z .pre .1 .0)
 
 pub is-finalized-spec : {M : Type 1} → statement M
 is-finalized-spec =

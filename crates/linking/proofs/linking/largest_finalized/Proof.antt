@@ -25,24 +25,34 @@ loop-holds c =
 
 is-finalized-requires : tie.Need-is-finalized-requires Inv-loop μ-loop
 is-finalized-requires c κs =
-    let z = c .before .before .before .before .before in
-    (z .pre .0, (c .before .before .loop .inv .2, record { low = omega arith; high = omega arith }))
+    let after-loop = c .before .before in
+    let z = after-loop .before .before .before in
+    (z .pre .0, (after-loop .loop .inv .2, record { low = omega arith; high = omega arith }))
 
 same-length : tie.Need-same-length Inv-loop μ-loop
-same-length c = c .before .before .before .is-finalized .kept .1 .1 .1 .0 ∙ c .before .before .before .before .before .before .loop .inv .3
+same-length c =
+    let after-is-finalized = c .before .before .before in
+    let after-loop = after-is-finalized .before .before .before in
+    after-is-finalized .is-finalized .kept .1 .1 .1 .0 ∙ after-loop .loop .inv .3
 
 returns : tie.Need-returns Inv-loop μ-loop
 returns c =
-    let v = viewOf (c .before .before .before .before .before .before .before .before .before .args .kind) (c .before .before .before .before .before .before .before .before .before .args .book .now) in
-    let loop = c .before .before .before .before .before .before .loop in
-    let found = c .before .before .before .is-finalized in
+    let after-is-finalized = c .before .before .before in
+    let after-loop = after-is-finalized .before .before .before in
+    let start = after-loop .before .before .before in
+    let v = viewOf (start .args .kind) (start .args .book .now) in
+    let loop = after-loop .loop in
+    let found = after-is-finalized .is-finalized in
     (largest-here v (loop .h) (omega arith) (sym (found .ensures .0) ∙ c .if1 .taken) ∙ loop .inv .1, (loop .inv .0, found .ensures .1))
 
 loop-again : tie.Need-loop-again Inv-loop μ-loop
 loop-again c =
-    let v = viewOf (c .before .before .before .before .before .before .before .before .before .args .kind) (c .before .before .before .before .before .before .before .before .before .args .book .now) in
-    let loop = c .before .before .before .before .before .before .loop in
-    let found = c .before .before .before .is-finalized in
+    let after-is-finalized = c .before .before .before in
+    let after-loop = after-is-finalized .before .before .before in
+    let start = after-loop .before .before .before in
+    let v = viewOf (start .args .kind) (start .args .book .now) in
+    let loop = after-loop .loop in
+    let found = after-is-finalized .is-finalized in
     (omega arith, largest-below v (loop .h) (omega arith) (sym (found .ensures .0) ∙ c .if1 .left) ∙ loop .inv .1, found .ensures .1, found .kept .1 .1 .1 .0 ∙ loop .inv .3)
 
 same-length-2 : tie.Need-same-length-2 Inv-loop μ-loop
@@ -50,8 +60,10 @@ same-length-2 c = c .before .loop .inv .3
 
 returns-2 : tie.Need-returns-2 Inv-loop μ-loop
 returns-2 c =
-    let v = viewOf (c .before .before .before .before .args .kind) (c .before .before .before .before .args .book .now) in
-    let loop = c .before .loop in
+    let after-loop = c .before in
+    let start = after-loop .before .before .before in
+    let v = viewOf (start .args .kind) (start .args .book .now) in
+    let loop = after-loop .loop in
     (largest-none v (loop .h) (omega arith) ∙ loop .inv .1, (omega arith, loop .inv .2))
 
 pub largest-finalized-spec : {M : Type 1} → statement M

@@ -14,8 +14,9 @@ parent-digest-requires c κs =
 
 returns : tie.Need-returns
 returns c =
-    let z = c .before .before .before .before .before .before .before .before .before .before in
-    let named = c .before .before .before .before .before .parent-digest in
+    let after-parent-digest = c .before .before .before .before .before in
+    let z = after-parent-digest .before .before .before .before .before in
+    let named = after-parent-digest .parent-digest in
     let block = z .args .block .now in
     (c .same-bytes .ensures ∙ names-digest block (named .result) ∙ ap (λ (d : Bytes). same (parentDigest block) d) (named .ensures .0), named .ensures .1)
 

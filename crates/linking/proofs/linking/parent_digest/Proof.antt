@@ -27,10 +27,13 @@ copy-to-requires c κs = omega arith
 returns-2 : tie.Need-returns-2
 unfolding zeros
 returns-2 c =
-    let z = c .before .before .before .before .before .before .before .before .before .before .before .before in
+    let after-copy-to = c .before in
+    let after-keep-digest = after-copy-to .before .before .before .before .before .before in
+    let after-if1 = after-keep-digest .before .before in
+    let z = after-if1 .before .before .before in
     let j = z .args .j in
-    let kept = c .before .before .before .before .before .before .before .keep-digest in
-    (c .before .copy-to .ensures ∙ digest-copied (viewOf (z .args .kind) (z .args .book .now)) (kept .last .1 .1 .1 .0) (zeros 32) j (36 * j + 4 + 32 - (36 * j + 4)) (c .before .before .before .before .before .before .before .before .before .if1 .left) (omega arith) (length-zeros 32) (omega arith) (kept .ensures .0), kept .ensures .1)
+    let kept = after-keep-digest .keep-digest in
+    (after-copy-to .copy-to .ensures ∙ digest-copied (viewOf (z .args .kind) (z .args .book .now)) (kept .last .1 .1 .1 .0) (zeros 32) j (36 * j + 4 + 32 - (36 * j + 4)) (after-if1 .if1 .left) (omega arith) (length-zeros 32) (omega arith) (kept .ensures .0), kept .ensures .1)
 
 pub parent-digest-spec : {M : Type 1} → statement M
 parent-digest-spec =

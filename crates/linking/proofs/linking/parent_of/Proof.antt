@@ -26,18 +26,25 @@ loop-holds c =
 
 linked-requires : tie.Need-linked-requires Inv-loop μ-loop
 linked-requires c κs =
-    let z = c .before .before .before .before .before in
-    (z .pre .0, (c .before .before .loop .inv .2, omega arith))
+    let after-loop = c .before .before in
+    let z = after-loop .before .before .before in
+    (z .pre .0, (after-loop .loop .inv .2, omega arith))
 
 same-length : tie.Need-same-length Inv-loop μ-loop
-same-length c = c .before .before .before .linked .kept .1 .1 .1 .0 ∙ c .before .before .before .before .before .before .loop .inv .3
+same-length c =
+    let after-linked = c .before .before .before in
+    let after-loop = after-linked .before .before .before in
+    after-linked .linked .kept .1 .1 .1 .0 ∙ after-loop .loop .inv .3
 
 returns : tie.Need-returns Inv-loop μ-loop
 unfolding parentOption
 returns c =
-    let v = viewOf (c .before .before .before .before .before .before .before .before .before .args .kind) (c .before .before .before .before .before .before .before .before .before .args .book .now) in
-    let loop = c .before .before .before .before .before .before .loop in
-    let found = c .before .before .before .linked in
+    let after-linked = c .before .before .before in
+    let after-loop = after-linked .before .before .before in
+    let start = after-loop .before .before .before in
+    let v = viewOf (start .args .kind) (start .args .book .now) in
+    let loop = after-loop .loop in
+    let found = after-linked .linked in
     (parent-here v (loop .h) (omega arith) (sym (found .ensures .0) ∙ c .if1 .taken) ∙ loop .inv .1, found .ensures .1)
 
 is-dummy-requires : tie.Need-is-dummy-requires Inv-loop μ-loop
@@ -47,21 +54,34 @@ is-dummy-requires c κs =
 
 loop-again : tie.Need-loop-again Inv-loop μ-loop
 loop-again c =
-    let v = viewOf (c .before .before .before .before .before .before .before .before .before .before .before .args .kind) (c .before .before .before .before .before .before .before .before .before .before .before .args .book .now) in
-    let loop = c .before .before .before .before .before .before .before .before .loop in
-    let found = c .before .before .before .before .before .linked in
-    (omega arith, parent-below v (loop .h) (omega arith) (sym (found .ensures .0) ∙ c .before .before .if1 .left) (sym (c .before .is-dummy .ensures) ∙ c .if2 .taken) ∙ loop .inv .1, found .ensures .1, found .kept .1 .1 .1 .0 ∙ loop .inv .3)
+    let after-is-dummy = c .before in
+    let after-if1 = after-is-dummy .before in
+    let after-linked = after-if1 .before .before .before in
+    let after-loop = after-linked .before .before .before in
+    let start = after-loop .before .before .before in
+    let v = viewOf (start .args .kind) (start .args .book .now) in
+    let loop = after-loop .loop in
+    let found = after-linked .linked in
+    (omega arith, parent-below v (loop .h) (omega arith) (sym (found .ensures .0) ∙ after-if1 .if1 .left) (sym (after-is-dummy .is-dummy .ensures) ∙ c .if2 .taken) ∙ loop .inv .1, found .ensures .1, found .kept .1 .1 .1 .0 ∙ loop .inv .3)
 
 same-length-2 : tie.Need-same-length-2 Inv-loop μ-loop
-same-length-2 c = c .before .before .before .before .before .linked .kept .1 .1 .1 .0 ∙ c .before .before .before .before .before .before .before .before .loop .inv .3
+same-length-2 c =
+    let after-linked = c .before .before .before .before .before in
+    let after-loop = after-linked .before .before .before in
+    after-linked .linked .kept .1 .1 .1 .0 ∙ after-loop .loop .inv .3
 
 returns-2 : tie.Need-returns-2 Inv-loop μ-loop
 unfolding parentOption
 returns-2 c =
-    let v = viewOf (c .before .before .before .before .before .before .before .before .before .before .before .args .kind) (c .before .before .before .before .before .before .before .before .before .before .before .args .book .now) in
-    let loop = c .before .before .before .before .before .before .before .before .loop in
-    let found = c .before .before .before .before .before .linked in
-    (parent-stops v (loop .h) (omega arith) (sym (found .ensures .0) ∙ c .before .before .if1 .left) (sym (c .before .is-dummy .ensures) ∙ c .if2 .left) ∙ loop .inv .1, found .ensures .1)
+    let after-is-dummy = c .before in
+    let after-if1 = after-is-dummy .before in
+    let after-linked = after-if1 .before .before .before in
+    let after-loop = after-linked .before .before .before in
+    let start = after-loop .before .before .before in
+    let v = viewOf (start .args .kind) (start .args .book .now) in
+    let loop = after-loop .loop in
+    let found = after-linked .linked in
+    (parent-stops v (loop .h) (omega arith) (sym (found .ensures .0) ∙ after-if1 .if1 .left) (sym (after-is-dummy .is-dummy .ensures) ∙ c .if2 .left) ∙ loop .inv .1, found .ensures .1)
 
 same-length-3 : tie.Need-same-length-3 Inv-loop μ-loop
 same-length-3 c = c .before .loop .inv .3
@@ -69,8 +89,10 @@ same-length-3 c = c .before .loop .inv .3
 returns-3 : tie.Need-returns-3 Inv-loop μ-loop
 unfolding parentOption
 returns-3 c =
-    let v = viewOf (c .before .before .before .before .args .kind) (c .before .before .before .before .args .book .now) in
-    let loop = c .before .loop in
+    let after-loop = c .before in
+    let start = after-loop .before .before .before in
+    let v = viewOf (start .args .kind) (start .args .book .now) in
+    let loop = after-loop .loop in
     (parent-start v (loop .h) (omega arith) ∙ loop .inv .1, loop .inv .2)
 
 pub parent-of-spec : {M : Type 1} → statement M

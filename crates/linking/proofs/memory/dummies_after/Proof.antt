@@ -20,8 +20,9 @@ run-start-requires c κs =
 
 returns-2 : tie.Need-returns-2
 returns-2 c =
-    let z = c .before .before .before .before .before .before .before in
-    let start = c .before .before .run-start in
+    let after-run-start = c .before .before in
+    let z = after-run-start .before .before .before .before .before in
+    let start = after-run-start .run-start in
     (ap (λ (s : ℕ). leb s (z .args .j)) (start .ensures .0) ∙ run-is (viewOf (z .args .kind) (z .args .book .now)) (z .args .j) (z .args .top) (z .pre .1 .1 .0), start .ensures .1 .1)
 
 pub dummies-after-spec : {M : Type 1} → statement M

@@ -16,12 +16,16 @@ returns c =
 
 returns-2 : tie.Need-returns-2
 returns-2 c =
-    let z = c .before .before .before .before .before .before .before .before .before .before .before in
-    let copied = c .before .before .copy-to in
-    let hashed = c .before .before .before .before .before .sha256 in
+    let after-copy-to = c .before .before in
+    let after-sha256 = after-copy-to .before .before .before in
+    let after-block = after-sha256 .before in
+    let after-if1 = after-block .before in
+    let z = after-if1 .before .before .before .before in
+    let copied = after-copy-to .copy-to in
+    let hashed = after-sha256 .sha256 in
     let whole : length (hashed .result) ≡ 32 = omega arith in
-    stored (viewOf (z .args .kind) (z .args .book .now)) (z .args .known .now) (z .pre .1 .0) (z .args .j) (omega arith) (hashed .result) whole (c .before .before .before .before .before .before .before .if1 .left)
-    (hashed .ensures ∙ ap sha256 (c .before .before .before .before .before .before .block .ensures .0)) (copied .last .0) (copied .ensures)
+    stored (viewOf (z .args .kind) (z .args .book .now)) (z .args .known .now) (z .pre .1 .0) (z .args .j) (omega arith) (hashed .result) whole (after-if1 .if1 .left)
+    (hashed .ensures ∙ ap sha256 (after-block .block .ensures .0)) (copied .last .0) (copied .ensures)
 
 pub keep-digest-spec : {M : Type 1} → statement M
 keep-digest-spec =

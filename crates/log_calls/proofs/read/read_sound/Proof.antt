@@ -9,22 +9,30 @@ use Rattle.log_calls.proofs.read.read_sound.Tie as tie
 
 copy-chain-requires : tie.Need-copy-chain-requires
 copy-chain-requires c κs =
-    let z = c .before .before .before .before .before .before in
-    let ends = c .before .before .before .finalized .ensures .0 in (
+    let after-if1 = c .before in
+    let after-log-count = after-if1 .before in
+    let after-finalized = after-log-count .before in
+    let z = after-finalized .before .before .before in
+    let ends = after-finalized .finalized .ensures .0 in (
       walkable (z .args .book .now) _ (z .pre) ends,
-      (c .before .before .log-count .ensures .0 ∙ sym (ap length (log-at (decode (z .args .book .now)) _ ends)), c .before .if1 .taken),
+      (after-log-count .log-count .ensures .0 ∙ sym (ap length (log-at (decode (z .args .book .now)) _ ends)), after-if1 .if1 .taken),
     )
 
 returns : tie.Need-returns
 returns c =
-    let z = c .before .before .before .before .before .before .before .before .before in
-    read-done (z .args .book .now) (z .args .buffer .now) (z .pre .is-sound) _ (c .before .before .before .before .before .log-count .ensures .0) _ _ (c .before .before .before .before .if1 .taken) (c .before .before .before .before .before .before .finalized .ensures .0)
-    (c .before .before .copy-chain .ensures)
+    let after-copy-chain = c .before .before in
+    let after-if1 = after-copy-chain .before .before in
+    let after-log-count = after-if1 .before in
+    let after-finalized = after-log-count .before in
+    let z = after-finalized .before .before .before in
+    read-done (z .args .book .now) (z .args .buffer .now) (z .pre .is-sound) _ (after-log-count .log-count .ensures .0) _ _ (after-if1 .if1 .taken) (after-finalized .finalized .ensures .0)
+    (after-copy-chain .copy-chain .ensures)
 
 returns-2 : tie.Need-returns-2
 returns-2 c =
-    let z = c .before .before .before .before .before in
-    read-short (z .args .book .now) (z .args .buffer .now) (z .pre .is-sound) _ (c .before .log-count .ensures .0) (c .if1 .left)
+    let after-log-count = c .before in
+    let z = after-log-count .before .before .before .before in
+    read-short (z .args .book .now) (z .args .buffer .now) (z .pre .is-sound) _ (after-log-count .log-count .ensures .0) (c .if1 .left)
 
 pub read-sound-spec : {M : Type 1} → statement M
 read-sound-spec =

@@ -21,11 +21,14 @@ returns c =
 
 returns-2 : tie.Need-returns-2
 returns-2 c =
-    let z = c .before .before .before .before .before .before in
+    let after-finalized = c .before in
+    let after-if1 = after-finalized .before in
+    let after-is-pending = after-if1 .before in
+    let z = after-is-pending .before .before .before in
     let s = decode (z .args .book .now) in
     let entry = z .args .entry .now in
-    second-holds (holds entry (pending s)) (holds entry (log s)) (c .chain-holds .result) (sym (c .before .before .before .is-pending .ensures) ∙ c .before .before .if1 .left)
-    (c .chain-holds .ensures ∙ ap (λ (l : List Bytes). holds entry l) (log-at s _ (c .before .finalized .ensures .0)))
+    second-holds (holds entry (pending s)) (holds entry (log s)) (c .chain-holds .result) (sym (after-is-pending .is-pending .ensures) ∙ after-if1 .if1 .left)
+    (c .chain-holds .ensures ∙ ap (λ (l : List Bytes). holds entry l) (log-at s _ (after-finalized .finalized .ensures .0)))
 
 pub is-known-spec : {M : Type 1} → statement M
 is-known-spec =

@@ -17,23 +17,29 @@ leaves-room-requires c κs = let z = c .before .before .before in z .pre .0
 
 keep-unlogged-requires : tie.Need-keep-unlogged-requires
 keep-unlogged-requires c κs =
-    let z = c .before .before .before .before .before .before in
+    let after-if1 = c .before in
+    let after-leaves-room = after-if1 .before in
+    let z = after-leaves-room .before .before .before .before in
     let s = decode (z .args .book .now) in
-    let few : length (stillPending s) < 32 = ltb-true (length (stillPending s)) 32 (sym (c .before .before .leaves-room .ensures) ∙ c .before .if1 .taken) in
+    let few : length (stillPending s) < 32 = ltb-true (length (stillPending s)) 32 (sym (after-leaves-room .leaves-room .ensures) ∙ after-if1 .if1 .taken) in
     (z .pre .0 .ready, (walkable (z .args .book .now) (s .finalized) (z .pre .0) refl, ((z .pre .0 .state .pending-few, few), z .pre .1 .0)))
 
 returns : tie.Need-returns
 returns c =
-    let z = c .before .before .before .before .before .before .before .before .before in
-    let room = sym (c .before .before .before .before .before .leaves-room .ensures) ∙ c .before .before .before .before .if1 .taken in
+    let after-keep-unlogged = c .before .before in
+    let after-if1 = after-keep-unlogged .before .before in
+    let after-leaves-room = after-if1 .before in
+    let z = after-leaves-room .before .before .before .before in
+    let room = sym (after-leaves-room .leaves-room .ensures) ∙ after-if1 .if1 .taken in
     let fits = eq-eqb (length (z .args .entry .now)) 16 (z .pre .1 .0) in
     outcome-done (submit-done (z .args .book .now) (z .args .entry .now) (z .pre .0 .is-sound) fits (z .pre .1 .1) room)
-    (c .before .before .keep-unlogged .ensures)
+    (after-keep-unlogged .keep-unlogged .ensures)
 
 returns-2 : tie.Need-returns-2
 returns-2 c =
-    let z = c .before .before .before .before .before in
-    let room = sym (c .before .leaves-room .ensures) ∙ c .if1 .left in
+    let after-leaves-room = c .before in
+    let z = after-leaves-room .before .before .before .before in
+    let room = sym (after-leaves-room .leaves-room .ensures) ∙ c .if1 .left in
     let fits = eq-eqb (length (z .args .entry .now)) 16 (z .pre .1 .0) in
     outcome-refused (submit-full (z .args .book .now) (z .args .entry .now) (z .pre .0 .is-sound) fits (z .pre .1 .1) room)
 

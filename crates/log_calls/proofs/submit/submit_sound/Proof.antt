@@ -10,14 +10,19 @@ use Rattle.log_calls.proofs.submit.submit_sound.Tie as tie
 
 submit-new-requires : tie.Need-submit-new-requires
 submit-new-requires c κs =
-    let z = c .before .before .before .before .before .before .before in
-    (z .pre, (c .before .before .before .before .if1 .taken, sym (c .before .before .is-known .ensures) ∙ c .before .if2 .left))
+    let after-if2 = c .before in
+    let after-is-known = after-if2 .before in
+    let after-if1 = after-is-known .before .before in
+    let z = after-if1 .before .before .before in
+    (z .pre, (after-if1 .if1 .taken, sym (after-is-known .is-known .ensures) ∙ after-if2 .if2 .left))
 
 returns : tie.Need-returns
 returns c =
-    let z = c .before .before .before .before .before .before in
-    let fits = eq-eqb (length (z .args .entry .now)) 16 (c .before .before .before .if1 .taken) in
-    outcome-refused (submit-known (z .args .book .now) (z .args .entry .now) (z .pre .is-sound) fits (sym (c .before .is-known .ensures) ∙ c .if2 .taken))
+    let after-is-known = c .before in
+    let after-if1 = after-is-known .before .before in
+    let z = after-if1 .before .before .before in
+    let fits = eq-eqb (length (z .args .entry .now)) 16 (after-if1 .if1 .taken) in
+    outcome-refused (submit-known (z .args .book .now) (z .args .entry .now) (z .pre .is-sound) fits (sym (after-is-known .is-known .ensures) ∙ c .if2 .taken))
 
 returns-3 : tie.Need-returns-3
 returns-3 c =

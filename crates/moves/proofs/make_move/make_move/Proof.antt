@@ -17,29 +17,40 @@ sound-requires c κs = refl
 
 step-requires : tie.Need-step-requires
 step-requires c κs =
-    let start = c .before .before .before .before .before .before .before .before .before .before .before in
+    let after-if2 = c .before .before .before in
+    let after-if1 = after-if2 .before in
+    let after-sound = after-if1 .before .before in
+    let after-slice-known = after-sound .before .before .before .before in
+    let start = after-slice-known .before in
     let book = start .args .book .now in
-    let whether = c .before .before .before .before .before .before .sound in
-    let yes = c .before .before .before .before .if1 .taken in
-    (sound-book sha256 book (λ i. omega (arith, c .before .before .before .before .before .before .before .before .before .before .slice-known .given i)) (sym (whether .ensures .0) ∙ yes), (whether .ensures .1 .0 yes, c .before .before .before .if2 .taken))
+    let whether = after-sound .sound in
+    let yes = after-if1 .if1 .taken in
+    (sound-book sha256 book (λ i. omega (arith, after-slice-known .slice-known .given i)) (sym (whether .ensures .0) ∙ yes), (whether .ensures .1 .0 yes, after-if2 .if2 .taken))
 
 returns : tie.Need-returns
 returns c =
-    let start = c .before .before .before .before .before .before .before .before .before .before .before .before .before .before .before .before .before in
+    let after-step = c .before .before .before .before .before in
+    let after-if2 = after-step .before .before .before .before in
+    let after-if1 = after-if2 .before in
+    let after-sound = after-if1 .before .before in
+    let start = after-sound .before .before .before .before .before in
     let reply = start .args .reply .now in
-    called (start .args .book .now) reply (sym (c .before .before .before .before .before .before .before .before .before .before .before .before .sound .ensures .0) ∙ c .before .before .before .before .before .before .before .before .before .before .if1 .taken) (le-leb 448 (length reply) (c .before .before .before .before .before .before .before .before .before .if2 .taken))
-    (c .before .before .before .before .before .step .result) (c .before .before .before .before .before .step .last .0) (c .before .before .before .before .before .step .last .1 .0) (c .before .before .before .before .before .step .ensures)
+    called (start .args .book .now) reply (sym (after-sound .sound .ensures .0) ∙ after-if1 .if1 .taken) (le-leb 448 (length reply) (after-if2 .if2 .taken))
+    (after-step .step .result) (after-step .step .last .0) (after-step .step .last .1 .0) (after-step .step .ensures)
 
 returns-2 : tie.Need-returns-2
 returns-2 c =
-    let start = c .before .before .before .before .before .before .before .before in
+    let after-if1 = c .before in
+    let after-sound = after-if1 .before .before in
+    let start = after-sound .before .before .before .before .before in
     let reply = start .args .reply .now in
-    called-short (start .args .book .now) reply (sym (c .before .before .before .sound .ensures .0) ∙ c .before .if1 .taken) (lt-leb 448 (length reply) (c .if2 .left))
+    called-short (start .args .book .now) reply (sym (after-sound .sound .ensures .0) ∙ after-if1 .if1 .taken) (lt-leb 448 (length reply) (c .if2 .left))
 
 returns-3 : tie.Need-returns-3
 returns-3 c =
-    let start = c .before .before .before .before .before .before .before in
-    called-unsound (start .args .book .now) (start .args .reply .now) (sym (c .before .before .sound .ensures .0) ∙ c .if1 .left)
+    let after-sound = c .before .before in
+    let start = after-sound .before .before .before .before .before in
+    called-unsound (start .args .book .now) (start .args .reply .now) (sym (after-sound .sound .ensures .0) ∙ c .if1 .left)
 
 pub make-move-spec : {M : Type 1} → statement M
 make-move-spec =

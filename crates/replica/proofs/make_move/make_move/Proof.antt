@@ -8,7 +8,8 @@ use Rattle.replica.proofs.make_move.make_move.Tie as tie
 
 returns : tie.Need-returns
 returns c =
-    let told = c .before .before .before .before .make-move in (
+    let after-make-move = c .before .before .before .before in
+    let told = after-make-move .make-move in (
       told .ensures .0,
       (told .ensures .1 .0, (told .ensures .1 .1, moved-numbers _ ∙ ap answerNumbers (told .ensures .0))),
     )

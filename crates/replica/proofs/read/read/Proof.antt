@@ -7,12 +7,14 @@ use Rattle.replica.proofs.read.read.Tie as tie
 
 slice-aggregate-result : tie.Need-slice-aggregate-result
 slice-aggregate-result c =
-    let told = c .before .before .before .read-into .ensures in
+    let after-read-into = c .before .before .before in
+    let told = after-read-into .read-into .ensures in
     read-length _ _ _ _ (told .0) (told .1)
 
 returns : tie.Need-returns
 returns c =
-    let told = c .before .before .before .read-into .ensures in
+    let after-read-into = c .before .before .before in
+    let told = after-read-into .read-into .ensures in
     (read-front _ _ _ _ (told .0) (told .1), refl)
 
 pub read-spec : {M : Type 1} → statement M

@@ -7,11 +7,15 @@ use Rattle.sha256.proofs.compression.compress.Tie as tie
 
 returns : tie.Need-returns
 returns c =
-    let start = c .before .before .before .before .before .before .before .before .before .before in
-    let words = c .before .before .before .before .before .before .before .before .message-words in
-    let constants = c .before .before .before .before .before .before .before .round-constants in
-    let first = c .before .before .before .before .first-rounds in
-    let last = c .before .last-rounds in
+    let after-last-rounds = c .before in
+    let after-first-rounds = after-last-rounds .before .before .before in
+    let after-round-constants = after-first-rounds .before .before .before in
+    let after-message-words = after-round-constants .before in
+    let start = after-message-words .before .before in
+    let words = after-message-words .message-words in
+    let constants = after-round-constants .round-constants in
+    let first = after-first-rounds .first-rounds in
+    let last = after-last-rounds .last-rounds in
     compressed (now (start .args .block)) (words .result) (first .last .1 .1 .0) (constants .result) (start .args .hash) (first .result) (last .result) (c .add-words .result) (search needs) (words .ensures) (constants .ensures) (first .ensures .0) (first .ensures .1) (last .ensures) (c .add-words .ensures)
 
 pub compress-spec : {M : Type 1} → statement M

@@ -22,8 +22,9 @@ loop-holds c = (omega arith, start-words (now (c .args .k)) (now (c .args .w)) (
 
 loop-again : tie.Need-loop-again Inv-loop μ-loop
 loop-again c =
-    let head = c .before .before .before .loop in
-    let start = c .before .before .before .before in
+    let after-loop = c .before .before .before in
+    let start = after-loop .before in
+    let head = after-loop .loop in
     let first = now (start .args .w) in
     let below : head .i < 12 = omega arith in
     (omega arith, turn-words first (head .w) (c .four-steps .last .1 .1 .0) (head .i) (head .inv .1) (c .four-steps .ensures .1), turn-rounds (now (start .args .k)) (extendedFrom first 0 48) (head .w) (start .args .hash) (head .s) (c .four-steps .result) 0 (head .i) (4 * head .i) (sym (zero-add (4 * head .i))) (turn-agrees first (head .w) (head .i) below (head .inv .1)) (head .inv .2) (c .four-steps .ensures .0))

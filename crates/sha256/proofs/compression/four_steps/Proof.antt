@@ -7,10 +7,13 @@ use Rattle.sha256.proofs.compression.four_steps.Tie as tie
 
 returns : tie.Need-returns
 returns c =
-    let start = c .before .before .before .before .before .before .before .before in
-    let one = c .before .before .before .before .before .before .step in
-    let two = c .before .before .before .before .step2 in
-    let three = c .before .before .step3 in
+    let after-step3 = c .before .before in
+    let after-step2 = after-step3 .before .before in
+    let after-step = after-step2 .before .before in
+    let start = after-step .before .before in
+    let one = after-step .step in
+    let two = after-step2 .step2 in
+    let three = after-step3 .step3 in
     let four = c .step4 in
     let all =
     four-steps (now (start .args .k)) (now (start .args .w)) (start .args .s) (start .args .t) (one .last .1 .1 .0) (two .last .1 .1 .0) (three .last .1 .1 .0) (four .last .1 .1 .0) (one .result) (two .result) (three .result) (four .result) (one .ensures .0) (one .ensures .1) (two .ensures .0) (two .ensures .1) (three .ensures .0) (three .ensures .1) (four .ensures .0) (four .ensures .1) in

@@ -20,8 +20,9 @@ loop-holds c = (omega arith, start-state (now (c .args .k)) (now (c .args .w)) (
 
 loop-again : tie.Need-loop-again Inv-loop μ-loop
 loop-again c =
-    let head = c .before .before .loop in
-    let start = c .before .before .before in
+    let after-loop = c .before .before in
+    let start = after-loop .before in
+    let head = after-loop .loop in
     let words = now (start .args .w) in
     (omega arith, turn-rounds (now (start .args .k)) words words (start .args .start) (head .s) (c .four-rounds .result) 48 (head .i) (48 + 4 * head .i) refl (λ j lt. refl) (head .inv .1) (c .four-rounds .ensures))
 

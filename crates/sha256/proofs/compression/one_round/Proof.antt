@@ -8,17 +8,27 @@ use Rattle.sha256.proofs.compression.one_round.Tie as tie
 returns : tie.Need-returns
 unfolding round
 returns c =
+    let after-wrapping-add-u326 = c .before in
+    let after-wrapping-add-u325 = after-wrapping-add-u326 .before in
+    let after-majority = after-wrapping-add-u325 .before in
+    let after-upper-sigma-0 = after-majority .before in
+    let after-wrapping-add-u324 = after-upper-sigma-0 .before in
+    let after-upper-sigma-1 = after-wrapping-add-u324 .before in
+    let after-wrapping-add-u323 = after-upper-sigma-1 .before in
+    let after-choose = after-wrapping-add-u323 .before in
+    let after-wrapping-add-u322 = after-choose .before in
+    let after-wrapping-add-u32 = after-wrapping-add-u322 .before in
     variables-by _ _ _ _
-    (c .before .before .before .before .before .before .before .before .before .before .wrapping-add-u32 .ensures)
-    (c .before .before .before .before .before .before .before .before .before .wrapping-add-u322 .ensures)
-    (c .before .before .before .before .before .before .before .before .choose .ensures)
-    (c .before .before .before .before .before .before .before .wrapping-add-u323 .ensures)
-    (c .before .before .before .before .before .before .upper-sigma-1 .ensures)
-    (c .before .before .before .before .before .wrapping-add-u324 .ensures)
-    (c .before .before .before .before .upper-sigma-0 .ensures)
-    (c .before .before .before .majority .ensures)
-    (c .before .before .wrapping-add-u325 .ensures)
-    (c .before .wrapping-add-u326 .ensures)
+    (after-wrapping-add-u32 .wrapping-add-u32 .ensures)
+    (after-wrapping-add-u322 .wrapping-add-u322 .ensures)
+    (after-choose .choose .ensures)
+    (after-wrapping-add-u323 .wrapping-add-u323 .ensures)
+    (after-upper-sigma-1 .upper-sigma-1 .ensures)
+    (after-wrapping-add-u324 .wrapping-add-u324 .ensures)
+    (after-upper-sigma-0 .upper-sigma-0 .ensures)
+    (after-majority .majority .ensures)
+    (after-wrapping-add-u325 .wrapping-add-u325 .ensures)
+    (after-wrapping-add-u326 .wrapping-add-u326 .ensures)
     (c .wrapping-add-u327 .ensures)
 
 pub one-round-spec : {M : Type 1} → statement M

@@ -8,7 +8,10 @@ use Rattle.sha256.proofs.compression.step.Statement.{statement}
 use Rattle.sha256.proofs.compression.step.Tie as tie
 
 returns : tie.Need-returns
-returns c = (c .before .before .one-round .ensures, ap (set (now (c .before .before .before .before .before .args .w)) (16 + c .before .before .before .before .before .args .t)) (c .next-word .ensures))
+returns c =
+    let after-one-round = c .before .before in
+    let start = after-one-round .before .before .before in
+    (after-one-round .one-round .ensures, ap (set (now (start .args .w)) (16 + start .args .t)) (c .next-word .ensures))
 
 pub step-spec : {M : Type 1} → statement M
 step-spec =

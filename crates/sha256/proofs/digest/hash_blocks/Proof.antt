@@ -26,11 +26,16 @@ compress-requires : tie.Need-compress-requires Inv-loop μ-loop
 compress-requires c κs = simp (length-take, length-drop) (omega arith)
 
 loop-again : tie.Need-loop-again Inv-loop μ-loop
-loop-again c = (search needs, omega arith, c .compress .ensures ∙ rw (c .before .before .before .loop .inv .2) (hashBlocks-next _ _ (c .before .before .before .loop .at) (c .before .before .before .loop .inv .1)))
+loop-again c =
+    let after-loop = c .before .before .before in
+    (search needs, omega arith, c .compress .ensures ∙ rw (after-loop .loop .inv .2) (hashBlocks-next _ _ (after-loop .loop .at) (after-loop .loop .inv .1)))
 
 returns : tie.Need-returns Inv-loop μ-loop
 unfolding hashAll
-returns c = c .before .loop .inv .2 ∙ ap (hashBlocks (c .before .before .before .args .start) (c .before .before .before .args .bytes .now)) (omega arith)
+returns c =
+    let after-loop = c .before in
+    let start-2 = after-loop .before .before in
+    after-loop .loop .inv .2 ∙ ap (hashBlocks (start-2 .args .start) (start-2 .args .bytes .now)) (omega arith)
 
 pub hash-blocks-spec : {M : Type 1} → statement M
 hash-blocks-spec =

@@ -17,24 +17,31 @@ begin-requires c κs = (refl, omega arith)
 
 returns : tie.Need-returns
 returns c =
-    let start = c .before .before .before .before .before .before .before .before in
+    let after-put-length = c .before .before in
+    let after-if1 = after-put-length .before .before in
+    let after-begin = after-if1 .before in
+    let start = after-begin .before .before .before in
     let asked = start .args in
     c .hash-blocks .ensures
-    ∙ rw (ends-here (asked .rest .now) (asked .size) (start .pre) (c .before .before .before .before .if1 .taken), c .before .before .put-length .ensures .0, c .before .before .before .before .before .begin .ensures .0)
+    ∙ rw (ends-here (asked .rest .now) (asked .size) (start .pre) (after-if1 .if1 .taken), after-put-length .put-length .ensures .0, after-begin .begin .ensures .0)
 
 returns-2 : tie.Need-returns-2
 unfolding zeros
 returns-2 c =
-    let start = c .before .before .before .before .before .before .before .before .before .before in
+    let after-put-length2 = c .before .before in
+    let after-hash-blocks2 = after-put-length2 .before .before in
+    let after-if1 = after-hash-blocks2 .before .before in
+    let after-begin = after-if1 .before in
+    let start = after-begin .before .before .before in
     let asked = start .args in
     let whole : length (opened (asked .rest .now)) ≡ 64 = opened-length (asked .rest .now) (omega arith) in
     c .hash-blocks3 .ensures
     ∙ rw (
-      ends-later (asked .rest .now) (asked .size) (start .pre) (c .before .before .before .before .before .before .if1 .left),
+      ends-later (asked .rest .now) (asked .size) (start .pre) (after-if1 .if1 .left),
       hashAll-block (asked .hash) (opened (asked .rest .now)) _ whole,
-      c .before .before .before .before .hash-blocks2 .ensures,
-      c .before .before .put-length2 .ensures .0,
-      c .before .before .before .before .before .before .before .begin .ensures .0,
+      after-hash-blocks2 .hash-blocks2 .ensures,
+      after-put-length2 .put-length2 .ensures .0,
+      after-begin .begin .ensures .0,
     )
 
 pub hash-rest-spec : {M : Type 1} → statement M

@@ -8,9 +8,13 @@ use Rattle.sha256.proofs.digest.sha256.Tie as tie
 
 returns : tie.Need-returns
 returns c =
+    let after-hash-rest = c .before in
+    let after-hash-blocks = after-hash-rest .before .before in
+    let after-initial-hash = after-hash-blocks .before in
+    let start = after-initial-hash .before .before in
     c .to-bytes .ensures
-    ∙ rw (c .before .hash-rest .ensures, c .before .before .before .hash-blocks .ensures, c .before .before .before .before .initial-hash .ensures)
-    (sha256-parts (c .before .before .before .before .before .before .args .message .now))
+    ∙ rw (after-hash-rest .hash-rest .ensures, after-hash-blocks .hash-blocks .ensures, after-initial-hash .initial-hash .ensures)
+    (sha256-parts (start .args .message .now))
 
 pub sha256-spec : {M : Type 1} → statement M
 sha256-spec =

@@ -8,7 +8,9 @@ use Rattle.sha256.proofs.functions.upper_sigma_0.Tie as tie
 
 returns : tie.Need-returns
 unfolding _⊕_
-returns c = cc (Σ0-is (c .before .before .before .args .x) (omega arith))
+returns c =
+    let start = c .before .before .before in
+    cc (Σ0-is (start .args .x) (omega arith))
 
 pub upper-sigma-0-spec : {M : Type 1} → statement M
 upper-sigma-0-spec =

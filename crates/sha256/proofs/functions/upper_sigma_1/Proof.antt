@@ -8,7 +8,9 @@ use Rattle.sha256.proofs.functions.upper_sigma_1.Tie as tie
 
 returns : tie.Need-returns
 unfolding _⊕_
-returns c = cc (Σ1-is (c .before .before .before .args .x) (omega arith))
+returns c =
+    let start = c .before .before .before in
+    cc (Σ1-is (start .args .x) (omega arith))
 
 pub upper-sigma-1-spec : {M : Type 1} → statement M
 upper-sigma-1-spec =

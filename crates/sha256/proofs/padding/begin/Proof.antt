@@ -23,9 +23,11 @@ loop-holds c = (search needs, c .pre .0)
 
 loop-again : tie.Need-loop-again Inv-loop μ-loop
 loop-again c =
-    let i = c .before .before .loop .i in
-    let rest = c .before .before .before .args .rest .now in
-    (search needs, rw (c .before .before .loop .inv .1) (copied rest i 64 (search needs) (search needs)))
+    let after-loop = c .before .before in
+    let start = after-loop .before in
+    let i = after-loop .loop .i in
+    let rest = start .args .rest .now in
+    (search needs, rw (after-loop .loop .inv .1) (copied rest i 64 (search needs) (search needs)))
 
 returns : tie.Need-returns Inv-loop μ-loop
 returns c =

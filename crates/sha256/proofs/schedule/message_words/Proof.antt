@@ -21,15 +21,19 @@ loop-holds c = (omega arith, refl, refl)
 
 loop-again : tie.Need-loop-again Inv-loop μ-loop
 loop-again c =
-    let head = c .before .before .loop in
+    let after-loop = c .before .before in
+    let start = after-loop .before .before in
+    let head = after-loop .loop in
     let room : head .t < length (head .w) = omega arith in
-    (omega arith, length-set (head .w) (head .t) (c .message-word .result) ∙ head .inv .1, words-more (c .before .before .before .before .args .block .now) (head .w) (head .t) (c .message-word .result) room (head .inv .2) (c .message-word .ensures))
+    (omega arith, length-set (head .w) (head .t) (c .message-word .result) ∙ head .inv .1, words-more (start .args .block .now) (head .w) (head .t) (c .message-word .result) room (head .inv .2) (c .message-word .ensures))
 
 returns : tie.Need-returns Inv-loop μ-loop
 returns c =
-    let head = c .before .loop in
+    let after-loop = c .before in
+    let start = after-loop .before .before in
+    let head = after-loop .loop in
     let all : head .t ≡ 16 = omega arith in
-    subst (λ (n : ℕ). take n (head .w) ≡ messageWords (c .before .before .before .args .block .now) n) all (head .inv .2)
+    subst (λ (n : ℕ). take n (head .w) ≡ messageWords (start .args .block .now) n) all (head .inv .2)
 
 pub message-words-spec : {M : Type 1} → statement M
 message-words-spec =

@@ -10,21 +10,28 @@ use Rattle.wire.proofs.block.block_well_formed.Tie as tie
 
 rest-fits-requires : tie.Need-rest-fits-requires
 rest-fits-requires c κs =
-    let start = c .before .before .before .before in
-    (c .before .before .if1 .taken, few-entries (start .args .h) (start .args .block .now) (sym (c .before .fields-fit .ensures) ∙ c .if2 .taken))
+    let after-fields-fit = c .before in
+    let after-if1 = after-fields-fit .before in
+    let start = after-if1 .before .before in
+    (after-if1 .if1 .taken, few-entries (start .args .h) (start .args .block .now) (sym (after-fields-fit .fields-fit .ensures) ∙ c .if2 .taken))
 
 returns : tie.Need-returns
 returns c =
-    let start = c .before .before .before .before .before in
+    let after-if2 = c .before in
+    let after-fields-fit = after-if2 .before in
+    let after-if1 = after-fields-fit .before in
+    let start = after-if1 .before .before in
     let block = start .args .block .now in
-    c .rest-fits .ensures ∙ sym (goes-through (eq-eqb (length block) 176 (c .before .before .before .if1 .taken))
-    (sym (c .before .before .fields-fit .ensures) ∙ c .before .if2 .taken) (block-is (start .args .h) block))
+    c .rest-fits .ensures ∙ sym (goes-through (eq-eqb (length block) 176 (after-if1 .if1 .taken))
+    (sym (after-fields-fit .fields-fit .ensures) ∙ after-if2 .if2 .taken) (block-is (start .args .h) block))
 
 returns-2 : tie.Need-returns-2
 returns-2 c =
-    let start = c .before .before .before .before in
+    let after-fields-fit = c .before in
+    let after-if1 = after-fields-fit .before in
+    let start = after-if1 .before .before in
     let block = start .args .block .now in
-    sym (stops-second _ (eq-eqb (length block) 176 (c .before .before .if1 .taken)) (sym (c .before .fields-fit .ensures) ∙ c .if2 .left) (block-is (start .args .h) block))
+    sym (stops-second _ (eq-eqb (length block) 176 (after-if1 .if1 .taken)) (sym (after-fields-fit .fields-fit .ensures) ∙ c .if2 .left) (block-is (start .args .h) block))
 
 returns-3 : tie.Need-returns-3
 returns-3 c =

@@ -6,13 +6,17 @@ use Rattle.wire.proofs.block.fields_fit.Tie as tie
 
 returns : tie.Need-returns
 returns c =
-    let start = c .before .before .before .before .before .before in
+    let after-byte2 = c .before in
+    let after-parent-height = after-byte2 .before in
+    let after-byte = after-parent-height .before in
+    let after-block-height = after-byte .before in
+    let start = after-block-height .before .before in
     rw (
       c .entry-count .ensures .0,
-      c .before .byte2 .ensures .0,
-      c .before .before .parent-height .ensures .0,
-      c .before .before .before .byte .ensures .0,
-      c .before .before .before .before .block-height .ensures .0,
+      after-byte2 .byte2 .ensures .0,
+      after-parent-height .parent-height .ensures .0,
+      after-byte .byte .ensures .0,
+      after-block-height .block-height .ensures .0,
     )
     (fields-are (start .args .h) (start .args .block .now))
 

@@ -9,13 +9,16 @@ use Rattle.wire.proofs.block.parent_fits.Tie as tie
 returns : tie.Need-returns
 unfolding part
 returns c =
-    let start = c .before .before .before .before .before in
-    c .is-zero .ensures ∙ sym (parent-none (start .args .block .now) (sym (c .before .before .before .parent-height .ensures .0) ∙ c .before .before .if1 .taken))
+    let after-if1 = c .before .before in
+    let after-parent-height = after-if1 .before in
+    let start = after-parent-height .before .before in
+    c .is-zero .ensures ∙ sym (parent-none (start .args .block .now) (sym (after-parent-height .parent-height .ensures .0) ∙ after-if1 .if1 .taken))
 
 returns-2 : tie.Need-returns-2
 returns-2 c =
-    let start = c .before .before .before in
-    sym (parent-some (start .args .block .now) (λ e. c .if1 .left (c .before .parent-height .ensures .0 ∙ e)))
+    let after-parent-height = c .before in
+    let start = after-parent-height .before .before in
+    sym (parent-some (start .args .block .now) (λ e. c .if1 .left (after-parent-height .parent-height .ensures .0 ∙ e)))
 
 pub parent-fits-spec : {M : Type 1} → statement M
 parent-fits-spec =

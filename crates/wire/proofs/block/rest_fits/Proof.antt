@@ -11,13 +11,16 @@ use Rattle.wire.proofs.block.rest_fits.Tie as tie
 returns : tie.Need-returns
 unfolding part
 returns c =
-    let start = c .before .before .before .before .before .before .before in
+    let after-entry-count = c .before .before in
+    let after-parent-fits = after-entry-count .before in
+    let after-is-zero = after-parent-fits .before in
+    let start = after-is-zero .before .before .before in
     let block = start .args .block .now in
     rw (
-      c .before .before .before .before .is-zero .ensures,
-      c .before .before .before .parent-fits .ensures,
+      after-is-zero .is-zero .ensures,
+      after-parent-fits .parent-fits .ensures,
       c .is-zero2 .ensures,
-      c .before .before .entry-count .ensures .0,
+      after-entry-count .entry-count .ensures .0,
       part-from block (48 + 16 * entryCount block),
     )
     (rest-are block)

@@ -35,8 +35,10 @@ loop-less c = omega arith
 
 loop-again : tie.Need-loop-again Inv-loop μ-loop
 loop-again c =
-    let at = c .before .before .loop in
-    let args = c .before .before .before .args in (
+    let after-loop = c .before .before in
+    let start = after-loop .before in
+    let at = after-loop .loop in
+    let args = start .args in (
       omega arith,
       rw (at .inv .1, add-one) (paste-suc (args .target .now) (args .at) (args .source .now) (at .i) 0 (omega arith) (omega arith)),
       rw length-set (at .inv .2),

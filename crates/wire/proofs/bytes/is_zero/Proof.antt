@@ -31,8 +31,10 @@ loop-less c = omega arith
 
 loop-again : tie.Need-loop-again Inv-loop μ-loop
 loop-again c =
-    let at = c .before .before .loop in
-    let bytes = c .before .before .before .args .bytes .now in
+    let after-loop = c .before .before in
+    let start = after-loop .before in
+    let at = after-loop .loop in
+    let bytes = start .args .bytes .now in
     (omega arith, rw add-one (scan-more (at .seen) bytes (at .i) (omega arith) (at .inv .1)))
 
 returns : tie.Need-returns Inv-loop μ-loop

@@ -7,7 +7,8 @@ use Rattle.wire.proofs.bytes.same_bytes.Tie as tie
 
 returns-2 : tie.Need-returns-2
 returns-2 c =
-    let args = c .before .before .before .args in
+    let start = c .before .before .before in
+    let args = start .args in
     sym (different-lengths (args .a .now) (args .b .now) (c .if1 .left))
 
 pub same-bytes-spec : {M : Type 1} → statement M

@@ -34,8 +34,10 @@ loop-less c = omega arith
 
 loop-again : tie.Need-loop-again Inv-loop μ-loop
 loop-again c =
-    let at = c .before .before .before .loop in
-    let args = c .before .before .before .before .args in
+    let after-loop = c .before .before .before in
+    let start = after-loop .before in
+    let at = after-loop .loop in
+    let args = start .args in
     (omega arith, rw add-one (match-more (at .seen) (args .a .now) (args .b .now) (at .i) (omega arith) (omega arith) (at .inv .1)))
 
 returns : tie.Need-returns Inv-loop μ-loop

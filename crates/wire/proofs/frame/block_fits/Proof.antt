@@ -7,18 +7,23 @@ use Rattle.wire.proofs.frame.block_fits.Tie as tie
 
 returns : tie.Need-returns
 returns c =
-    let start = c .before .before .before .before .before .before in
+    let after-frame-height = c .before in
+    let after-if1 = after-frame-height .before .before in
+    let after-frame-kind = after-if1 .before in
+    let start = after-frame-kind .before .before in
     let frame = start .args .frame .now in
     let whole = block-part frame (start .pre) in
-    let carried = rw (c .before .before .before .before .frame-kind .ensures .0) at (c .before .before .before .if1 .taken) in
-    c .block-well-formed .ensures ∙ rw (c .before .frame-height .ensures .0, whole) (sym (block-carried frame carried))
+    let carried = rw (after-frame-kind .frame-kind .ensures .0) at (after-if1 .if1 .taken) in
+    c .block-well-formed .ensures ∙ rw (after-frame-height .frame-height .ensures .0, whole) (sym (block-carried frame carried))
 
 returns-2 : tie.Need-returns-2
 returns-2 c =
-    let start = c .before .before .before .before .before in
+    let after-if1 = c .before .before in
+    let after-frame-kind = after-if1 .before in
+    let start = after-frame-kind .before .before in
     let frame = start .args .frame .now in
     let whole = block-part frame (start .pre) in
-    let missing = rw (c .before .before .before .frame-kind .ensures .0) at (c .before .before .if1 .left) in
+    let missing = rw (after-frame-kind .frame-kind .ensures .0) at (after-if1 .if1 .left) in
     c .is-zero .ensures ∙ rw whole (sym (block-missing frame missing))
 
 pub block-fits-spec : {M : Type 1} → statement M

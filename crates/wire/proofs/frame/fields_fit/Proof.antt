@@ -6,13 +6,17 @@ use Rattle.wire.proofs.frame.fields_fit.Tie as tie
 
 returns : tie.Need-returns
 returns c =
+    let after-byte = c .before in
+    let after-frame-signer = after-byte .before in
+    let after-frame-kind = after-frame-signer .before in
+    let start = after-frame-kind .before .before in
     rw (
-      c .before .before .before .frame-kind .ensures .0,
-      c .before .before .frame-signer .ensures .0,
-      c .before .byte .ensures .0,
+      after-frame-kind .frame-kind .ensures .0,
+      after-frame-signer .frame-signer .ensures .0,
+      after-byte .byte .ensures .0,
       c .frame-mask .ensures .0,
     )
-    (fields-are (c .before .before .before .before .before .args .frame .now))
+    (fields-are (start .args .frame .now))
 
 pub fields-fit-spec : {M : Type 1} → statement M
 fields-fit-spec =

@@ -10,16 +10,21 @@ use Rattle.wire.proofs.frame.frame_well_formed.Tie as tie
 
 returns : tie.Need-returns
 returns c =
-    let start = c .before .before .before .before .before in
+    let after-if2 = c .before in
+    let after-fields-fit = after-if2 .before in
+    let after-if1 = after-fields-fit .before in
+    let start = after-if1 .before .before in
     let frame = start .args .frame .now in
-    c .rest-fits .ensures ∙ sym (goes-through (eq-eqb (length frame) 224 (c .before .before .before .if1 .taken))
-    (sym (c .before .before .fields-fit .ensures) ∙ c .before .if2 .taken) (frame-is frame))
+    c .rest-fits .ensures ∙ sym (goes-through (eq-eqb (length frame) 224 (after-if1 .if1 .taken))
+    (sym (after-fields-fit .fields-fit .ensures) ∙ after-if2 .if2 .taken) (frame-is frame))
 
 returns-2 : tie.Need-returns-2
 returns-2 c =
-    let start = c .before .before .before .before in
+    let after-fields-fit = c .before in
+    let after-if1 = after-fields-fit .before in
+    let start = after-if1 .before .before in
     let frame = start .args .frame .now in
-    sym (stops-second _ (eq-eqb (length frame) 224 (c .before .before .if1 .taken)) (sym (c .before .fields-fit .ensures) ∙ c .if2 .left) (frame-is frame))
+    sym (stops-second _ (eq-eqb (length frame) 224 (after-if1 .if1 .taken)) (sym (after-fields-fit .fields-fit .ensures) ∙ c .if2 .left) (frame-is frame))
 
 returns-3 : tie.Need-returns-3
 returns-3 c =

@@ -8,13 +8,17 @@ use Rattle.wire.proofs.frame.rest_fits.Tie as tie
 returns : tie.Need-returns
 unfolding part
 returns c =
+    let after-is-zero2 = c .before in
+    let after-is-zero = after-is-zero2 .before .before in
+    let after-frame-kind = after-is-zero .before .before in
+    let start = after-frame-kind .before .before in
     rw (
-      c .before .before .before .is-zero .ensures,
-      c .before .before .before .before .before .frame-kind .ensures .0,
-      c .before .is-zero2 .ensures,
+      after-is-zero .is-zero .ensures,
+      after-frame-kind .frame-kind .ensures .0,
+      after-is-zero2 .is-zero2 .ensures,
       c .block-fits .ensures,
     )
-    (rest-are (c .before .before .before .before .before .before .before .args .frame .now))
+    (rest-are (start .args .frame .now))
 
 pub rest-fits-spec : {M : Type 1} → statement M
 rest-fits-spec =
