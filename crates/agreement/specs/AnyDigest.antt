@@ -6,11 +6,13 @@ use mathlib.Core.Logic.{_≢_}
 use mathlib.Core.List.{List, [], _∷_, _++_, List·Memᴰ}
 use lib.ListN.{replicate}
 use Rattle.protocol.specs.Bytes.{Bytes}
-use Rattle.protocol.specs.Frame.{proposal, blockVote, dummyVote, finalize, blockCertificate, dummyCertificate, finalizeCertificate}
+use Rattle.protocol.specs.Frame.{proposal, blockVote, dummyVote, finalize, blockCertificate, dummyCertificate}
+use Rattle.protocol.specs.Frame.{finalizeCertificate}
 use Rattle.protocol.specs.Call.{signalling}
 use Rattle.agreement.specs.Lists.{Member, votesBlock, votesDummy, finalizes, writes}
 use Rattle.agreement.specs.Met.{Hears, MemberOf, Met}
-use Rattle.agreement.specs.Turns.{Turn, anything, build, dishonest, entry, hear, move, nextBlock, openings, readings}
+use Rattle.agreement.specs.Turns.{Turn, anything, build, dishonest, entry, hear, move, nextBlock, openings}
+use Rattle.agreement.specs.Turns.{readings}
 
 -- ---- the list
 -- two digests that no block of the list need have

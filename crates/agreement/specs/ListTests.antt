@@ -9,7 +9,8 @@ use Rattle.protocol.specs.Tests.{implies}
 use Rattle.protocol.specs.Mask.{inMask}
 use Rattle.protocol.specs.Move.{isSome}
 use Rattle.protocol.specs.Call.{Opened}
-use Rattle.agreement.specs.Lists.{Member, Statement, proposes, votesBlock, votesDummy, finalizes, statementOf, blockIn, leftBy, orElse, does, delivers, writes}
+use Rattle.agreement.specs.Lists.{Member, Statement, proposes, votesBlock, votesDummy, finalizes, statementOf}
+use Rattle.agreement.specs.Lists.{blockIn, leftBy, orElse, does, delivers, writes}
 
 -- ---- over lists and replicas
 unfoldable pub everyIn : {A : Type 0} → (A → Bool) → List A → Bool
@@ -98,7 +99,8 @@ module _ (digest : Bytes → Bytes) where
 
   unfoldable pub noCollision : List Bytes → Bool
   noCollision blocks =
-      everyIn (λ block. everyIn (λ other. implies (same (digest block) (digest other)) (same block other)) blocks) blocks
+      everyIn (λ block. everyIn (λ other. implies (same (digest block) (digest other)) (same block other)) blocks)
+      blocks
 
   -- ---- members of replica `s`: one that reads this part, one to which this frame is delivered, one that writes it
   unfoldable pub readsAt : Bytes → ℕ → Member → Bool

@@ -8,7 +8,9 @@ use mathlib.Core.Option.{Option, some, none}
 use lib.ListN.{length, take}
 use lib.Dec.{eqb}
 use Rattle.protocol.specs.Bytes.{Bytes}
-use Rattle.protocol.specs.Frame.{kind, signer, frameHeight, signerMask, frameDigest, frameBlock, carriesBlock, isProposal, isBlockVote, isDummyVote, isFinalize, isBlockCertificate, isDummyCertificate, isFinalizeCertificate}
+use Rattle.protocol.specs.Frame.{kind, signer, frameHeight, signerMask, frameDigest, frameBlock, carriesBlock}
+use Rattle.protocol.specs.Frame.{isProposal, isBlockVote, isDummyVote, isFinalize, isBlockCertificate}
+use Rattle.protocol.specs.Frame.{isDummyCertificate, isFinalizeCertificate}
 use Rattle.protocol.specs.Mask.{inMask, ones}
 use Rattle.protocol.specs.Call.{Call, Effect, effect}
 
@@ -55,7 +57,8 @@ orElse (some a) other = some a
 orElse none other = other
 
 module _ (digest : Bytes → Bytes) where
-  -- the statement that a frame makes in the name of replica `s`, if it makes one; a certificate makes one for each signer
+  -- the statement that a frame makes in the name of replica `s`, if it makes one; a certificate makes one for each
+  -- signer
   unfoldable pub statementOf : Bytes → ℕ → Option Statement
   statementOf frame s =
       let h : ℕ = frameHeight frame in

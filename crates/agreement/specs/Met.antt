@@ -6,7 +6,8 @@ use mathlib.Core.Logic.{_≢_}
 use mathlib.Core.List.{List, [], List·Memᴰ}
 use mathlib.Core.Option.{some}
 use Rattle.protocol.specs.Bytes.{Bytes}
-use Rattle.agreement.specs.Lists.{Member, Statement, statementOf, delivers, HonestIn, FewDishonest, KeepsOneBook, NotForged, NoCollision, Reads}
+use Rattle.agreement.specs.Lists.{Member, Statement, statementOf, delivers, HonestIn, FewDishonest, KeepsOneBook}
+use Rattle.agreement.specs.Lists.{NotForged, NoCollision, Reads}
 
 -- a member of the list, of this replica, with a property
 abbrev pub MemberOf : List Member → ℕ → (Member → Type 0) → Type 0

@@ -7,11 +7,13 @@ use mathlib.Core.List.{List, [], _∷_, _++_, List·Memᴰ}
 use lib.ListN.{replicate}
 use Rattle.protocol.specs.Bytes.{Bytes, byteAt, part, zeros}
 use Rattle.protocol.specs.Block.{newBlock}
-use Rattle.protocol.specs.Frame.{proposal, blockVote, dummyVote, finalize, blockCertificate, dummyCertificate, finalizeCertificate}
+use Rattle.protocol.specs.Frame.{proposal, blockVote, dummyVote, finalize, blockCertificate, dummyCertificate}
+use Rattle.protocol.specs.Frame.{finalizeCertificate}
 use Rattle.protocol.specs.Call.{signalling}
 use Rattle.agreement.specs.Lists.{Member, proposes, writes}
 use Rattle.agreement.specs.Met.{Hears, MemberOf, Met}
-use Rattle.agreement.specs.Turns.{Turn, anything, build, dishonest, entry, hear, move, nextBlock, openings, readings}
+use Rattle.agreement.specs.Turns.{Turn, anything, build, dishonest, entry, hear, move, nextBlock, openings}
+use Rattle.agreement.specs.Turns.{readings}
 
 -- the stand-in: a digest that computes, and tells the blocks of the list apart, by the height, then the first entry
 -- and a half

@@ -1,7 +1,8 @@
 -- The answers of the code, case by case, as the protocol's answers: document 01's numbers and values.
 use Prim.Native.Nat.{ℕ}
 use Rattle.protocol.specs.Answer as protocol
-use Rattle.protocol.specs.Answer.{refused, accepted, Done, done, Delivery, known, fresh, Move, idle, voteDummy, output, pass, propose, voteBlock, onBlock, onDummy}
+use Rattle.protocol.specs.Answer.{refused, accepted, Done, done, Delivery, known, fresh, Move, idle, voteDummy, output}
+use Rattle.protocol.specs.Answer.{pass, propose, voteBlock, onBlock, onDummy}
 use Rattle.answers.specs.declared.answer.Answer.{Answer}
 use Rattle.answers.specs.declared.answer.Answer.the-variants as Answer
 use Rattle.answers.specs.declared.answer.Delivered.{Delivered}

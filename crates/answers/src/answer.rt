@@ -19,7 +19,8 @@ pub enum Certificate {
     Blank,
 }
 
-// Move, with the height (of `Final`: the new settled height). A pass also says its certificate and whether it finalised.
+// Move, with the height (of `Final`: the new settled height). A pass also says its certificate and whether it
+// finalised.
 pub enum Moved {
     Idle,
     Dummy(usize),

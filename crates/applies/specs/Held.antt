@@ -7,4 +7,5 @@ use Rattle.protocol.specs.Sound.{view}
 
 -- a proposal of the current height is held, and extends a linked height
 unfoldable pub heldExtends : (Bytes → Bytes) → State → Bool
-heldExtends digest s = holdsProposal (at s (s .current)) && extends digest (view s) (s .current) (at s (s .current) .proposal)
+heldExtends digest s = holdsProposal (at s (s .current)) && extends digest (view s) (s .current)
+    (at s (s .current) .proposal)

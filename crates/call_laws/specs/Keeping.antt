@@ -11,14 +11,16 @@ use lib.ListN.{length}
 use Rattle.protocol.specs.Bytes.{Bytes, byteAt, AreBytes}
 use Rattle.protocol.specs.Answer.{Delivery, known, fresh}
 use Rattle.protocol.specs.Mask.{inMask}
-use Rattle.protocol.specs.Frame.{kind, signer, frameHeight, signerMask, frameDigest, frameBlock, isProposal, isBlockVote}
+use Rattle.protocol.specs.Frame.{kind, signer, frameHeight, signerMask, frameDigest, frameBlock, isProposal}
+use Rattle.protocol.specs.Frame.{isBlockVote}
 use Rattle.protocol.specs.State.{State, Height, at, decode, withHeight, holdsProposal, isNotarized, voteOf}
 use Rattle.protocol.specs.View.{View, quorum}
 use Rattle.protocol.specs.Sound.{view, sound}
 use Rattle.protocol.specs.Deliver.{votersFor}
 use Rattle.call_laws.specs.KeptBytes.{SameOutside, deliveryParts}
 
--- a frame of kind `k` makes a statement in the name of replica `t`: one of its own, or one that a certificate says it made
+-- a frame of kind `k` makes a statement in the name of replica `t`: one of its own, or one that a certificate says it
+-- made
 unfoldable pub says : (k statement certificate : ℕ) → Bytes → ℕ → Bool
 says k statement certificate frame t =
     cond (eqb k statement) (eqb (signer frame) t) (eqb k certificate && inMask (signerMask frame) t)

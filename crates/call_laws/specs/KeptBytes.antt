@@ -5,7 +5,8 @@ use mathlib.Core.Bool.{Bool, false, _&&_, _||_, not, cond}
 use mathlib.Core.List.{List, [], _∷_, _++_}
 use lib.Dec.{leb, ltb}
 use Rattle.protocol.specs.Bytes.{Bytes, byteAt}
-use Rattle.protocol.specs.Frame.{kind, signer, frameHeight, isProposal, isBlockVote, isDummyVote, isFinalize, isDummyCertificate, isFinalizeCertificate}
+use Rattle.protocol.specs.Frame.{kind, signer, frameHeight, isProposal, isBlockVote, isDummyVote, isFinalize}
+use Rattle.protocol.specs.Frame.{isDummyCertificate, isFinalizeCertificate}
 use Rattle.protocol.specs.State.{Height, at, decode, isNotarized, bookHeights}
 
 -- a part of a book: its first byte, and how many bytes it has

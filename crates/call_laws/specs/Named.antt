@@ -7,8 +7,10 @@ use Rattle.protocol.specs.Frame.{proposal, blockVote, dummyVote, finalize, isBl
 use Rattle.protocol.specs.State.{State, at}
 use Rattle.protocol.specs.Move.{someOr, parentBelow, proposedBlock}
 use Rattle.protocol.specs.Certificates.{certificateFrame}
-use Rattle.protocol.specs.Answer.{Answer, refused, accepted, Done, Move, idle, voteDummy, output, pass, propose, voteBlock, certificateKind}
-use Rattle.call_laws.specs.Fields.{Fields, proposalFields, blockVoteFields, dummyVoteFields, finalizeFields, blockCertificateFields, dummyCertificateFields, finalizeCertificateFields}
+use Rattle.protocol.specs.Answer.{Answer, refused, accepted, Done, Move, idle, voteDummy, output, pass, propose}
+use Rattle.protocol.specs.Answer.{voteBlock, certificateKind}
+use Rattle.call_laws.specs.Fields.{Fields, proposalFields, blockVoteFields, dummyVoteFields, finalizeFields}
+use Rattle.call_laws.specs.Fields.{blockCertificateFields, dummyCertificateFields, finalizeCertificateFields}
 
 -- what the certificate of kind 5, 6 or 7 of a height says
 unfoldable pub certificateFields : State → ℕ → ℕ → Fields

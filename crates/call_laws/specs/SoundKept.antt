@@ -8,8 +8,10 @@ use Rattle.protocol.specs.Bytes.{Bytes}
 use Rattle.protocol.specs.Sound.{sound}
 use Rattle.protocol.specs.Answer.{accepted, done}
 use Rattle.protocol.specs.Open.{openCall}
-use Rattle.protocol.specs.Call.{Call, opening, delivery, moving, signalling, submitting, sizing, reading, fetching, effect, bookAfter, bookAfterAll}
-use Rattle.call_laws.specs.Laws.SoundKeptLaws.{open-kept, open-made, deliver-kept, move-kept, signal-kept, submit-kept}
+use Rattle.protocol.specs.Call.{Call, opening, delivery, moving, signalling, submitting, sizing, reading, fetching}
+use Rattle.protocol.specs.Call.{effect, bookAfter, bookAfterAll}
+use Rattle.call_laws.specs.Laws.SoundKeptLaws.{open-kept, open-made, deliver-kept, move-kept, signal-kept}
+use Rattle.call_laws.specs.Laws.SoundKeptLaws.{submit-kept}
 
 module _ (digest : Bytes → Bytes) where
   -- each call on a sound book leaves a sound book
@@ -34,5 +36,6 @@ module _ (digest : Bytes → Bytes) where
 
   -- Open that is not refused leaves a sound book, whatever bytes were there
   pub sound-opened : (book : Bytes) (n own heights : ℕ) (leaders : Bytes) →
-      openCall book n own heights leaders .answer ≡ accepted done → sound digest (openCall book n own heights leaders .book) ≡ true
+      openCall book n own heights leaders .answer ≡ accepted done →
+      sound digest (openCall book n own heights leaders .book) ≡ true
   sound-opened book n own heights leaders opened = open-made digest book n own heights leaders opened

@@ -1,4 +1,5 @@
--- No quorum of votes is overlooked: on every book that calls make from an opened one, a height that holds a proposal with a quorum
+-- No quorum of votes is overlooked: on every book that calls make from an opened one, a height that holds a proposal
+-- with a quorum
 -- of kept votes for it has a notarized block.
 use Prim.Native.Nat.{ℕ}
 use mathlib.Core.Path.{_≡_}
@@ -9,10 +10,12 @@ use Rattle.protocol.specs.Sound.{sound}
 use Rattle.protocol.specs.State.{decode}
 use Rattle.protocol.specs.Answer.{accepted, done}
 use Rattle.protocol.specs.Open.{openCall}
-use Rattle.protocol.specs.Call.{Call, opening, delivery, moving, signalling, submitting, sizing, reading, fetching, effect, bookAfter, bookAfterAll}
+use Rattle.protocol.specs.Call.{Call, opening, delivery, moving, signalling, submitting, sizing, reading, fetching}
+use Rattle.protocol.specs.Call.{effect, bookAfter, bookAfterAll}
 use Rattle.call_laws.specs.Keeping.{AllTallied}
 use Rattle.call_laws.specs.SoundKept.{sound-kept}
-use Rattle.call_laws.specs.Laws.TallyingLaws.{open-tallied, open-keeps, deliver-keeps-tallies, move-keeps, signal-keeps, submit-keeps}
+use Rattle.call_laws.specs.Laws.TallyingLaws.{open-tallied, open-keeps, deliver-keeps-tallies, move-keeps}
+use Rattle.call_laws.specs.Laws.TallyingLaws.{signal-keeps, submit-keeps}
 
 module _ (digest : Bytes → Bytes) where
   -- each call on a sound book keeps that all its heights are tallied
@@ -34,9 +37,11 @@ module _ (digest : Bytes → Bytes) where
   unfolding bookAfterAll
   tallied-kept-all book [] was all = all
   tallied-kept-all book (call ∷ calls) was all =
-      tallied-kept-all (bookAfter digest book call) calls (sound-kept digest book call was) (tallied-kept book call was all)
+      tallied-kept-all (bookAfter digest book call) calls (sound-kept digest book call was)
+      (tallied-kept book call was all)
 
   -- Open that is not refused leaves such a book, whatever bytes were there
   pub tallied-opened : (book : Bytes) (n own heights : ℕ) (leaders : Bytes) →
-      openCall book n own heights leaders .answer ≡ accepted done → AllTallied digest (decode (openCall book n own heights leaders .book))
+      openCall book n own heights leaders .answer ≡ accepted done →
+      AllTallied digest (decode (openCall book n own heights leaders .book))
   tallied-opened book n own heights leaders opened = open-tallied digest book n own heights leaders opened

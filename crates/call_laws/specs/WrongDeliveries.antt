@@ -19,7 +19,8 @@ use Rattle.protocol.specs.Deliver.{withNotarized, deliverCall}
 use Rattle.protocol.specs.Open.{openCall}
 use Rattle.protocol.specs.Answer.{Delivery, known, fresh, accepted}
 use Rattle.protocol.specs.Computing.{everything}
-use Rattle.call_laws.specs.KeptBytes.{inParts, proposalParts, dummyParts, keptParts, newlyNotarized, deliveryParts}
+use Rattle.call_laws.specs.KeptBytes.{inParts, proposalParts, dummyParts, keptParts, newlyNotarized}
+use Rattle.call_laws.specs.KeptBytes.{deliveryParts}
 use Rattle.call_laws.specs.Keeping.{Keeps, NewlyKept}
 
 standIn : Bytes → Bytes

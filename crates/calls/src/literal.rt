@@ -17,7 +17,8 @@ fn pair(piece: &[u8], at: usize) -> usize {
     if 16 <= low { 256 } else { 16 * high + low }
 }
 
-// Puts `count` bytes of a piece at `size`: of its first pair over and over, or of one pair after the other. Answers the place behind them.
+// Puts `count` bytes of a piece at `size`: of its first pair over and over, or of one pair after the other. Answers the
+// place behind them.
 fn fill(piece: &[u8], over: bool, count: usize, size: usize, out: &mut [u8]) -> Value {
     if out.len() < size {
         return Value::Nothing;
@@ -56,7 +57,8 @@ fn piece(piece: &[u8], size: usize, out: &mut [u8]) -> Value {
     fill(piece, false, piece.len() / 2, size, out)
 }
 
-// Puts the bytes that a word stands for at the front of `out`. Answers how many, if the word stands for bytes and they find room.
+// Puts the bytes that a word stands for at the front of `out`. Answers how many, if the word stands for bytes and they
+// find room.
 pub fn literal(word: &[u8], out: &mut [u8]) -> Value {
     if check::same(word, b"-") {
         return Value::Is(0);

@@ -37,7 +37,8 @@ pub fn named(name: usize) -> Call {
     }
 }
 
-// The words behind the name, a digit each, from the last digit on: 1 the book, 2 to 4 numbers, 5 the second buffer, 6 bytes.
+// The words behind the name, a digit each, from the last digit on: 1 the book, 2 to 4 numbers, 5 the second buffer, 6
+// bytes.
 fn shape(call: Call) -> usize {
     match call {
         Call::Open => 64321,
@@ -78,7 +79,8 @@ fn operand(kind: usize, word: &[u8], table: &[usize], out: &mut [u8]) -> Value {
     }
 }
 
-// What the words behind the name stand for, each at its digit in `values`. Answers the number of the first word that does not fit,
+// What the words behind the name stand for, each at its digit in `values`. Answers the number of the first word that
+// does not fit,
 // counted from 1, or 0.
 pub fn read(
     call: Call,

@@ -1,4 +1,5 @@
--- The pool while it is closed up: the book says the same chain, and the entries of the places looked at that stay are in front.
+-- The pool while it is closed up: the book says the same chain, and the entries of the places looked at that stay are
+-- in front.
 use Prim.Native.Nat.{ℕ, _*_, _≤_, _<_}
 use native.Mathlib.Omega.{arith}
 use mathlib.Core.Path.{_≡_, sym, ap, subst, _∙_}
@@ -13,7 +14,8 @@ use Rattle.protocol.specs.Sound.{view, log}
 use Rattle.protocol.specs.View.{View, linked, logAt}
 use Rattle.protocol.specs.Submit.{withPending, stillPending}
 use Rattle.protocol.specs.Laws.StateLaws.{decode-encode}
-use Rattle.protocol.specs.Laws.PoolLaws.{moved, moved-view, moved-last, moved-pending, moved-pieces, moved-shaped, moved-entry, moved-more, without-short}
+use Rattle.protocol.specs.Laws.PoolLaws.{moved, moved-view, moved-last, moved-pending, moved-pieces, moved-shaped}
+use Rattle.protocol.specs.Laws.PoolLaws.{moved-entry, moved-more, without-short}
 use Rattle.protocol.specs.Laws.EntriesLaws.{lacked-sized, pending-all}
 use Rattle.fields.specs.Book.{Ready}
 use Rattle.fields.specs.Laws.BookLaws.{ready-state, ready-moved}
@@ -34,7 +36,8 @@ pub staying-all : (s : State) (k : ℕ) → s .pendingCount ≤ k → staying s 
 unfolding stillPending
 staying-all s k h = ap (without (log s)) (pending-all s k h)
 
-module _ (book : Bytes) (r : Ready book) (few : decode book .pendingCount ≤ maximumPending) (k : ℕ) (within : k ≤ maximumPending) where
+module _ (book : Bytes) (r : Ready book) (few : decode book .pendingCount ≤ maximumPending) (k : ℕ)
+    (within : k ≤ maximumPending) where
   abbrev es : List Bytes
   es = staying (decode book) k
 
@@ -52,13 +55,15 @@ module _ (book : Bytes) (r : Ready book) (few : decode book .pendingCount ≤ ma
     closed-ready = subst Ready (sym closed) (ready-moved book r es sized fit)
 
     pub closed-state : decode after ≡ moved (decode book) es
-    closed-state = ap decode closed ∙ decode-encode (moved (decode book) es) (moved-shaped (decode book) pool-size es sized fit (ready-state book r))
+    closed-state = ap decode closed ∙ decode-encode (moved (decode book) es)
+        (moved-shaped (decode book) pool-size es sized fit (ready-state book r))
 
     pub closed-view : view (decode after) ≡ view (decode book)
     closed-view = ap view closed-state ∙ moved-view (decode book) es
 
     closed-heights : bookHeights after ≡ bookHeights book
-    closed-heights = sym (closed-ready .readable .sized .count) ∙ ap last closed-state ∙ moved-last (decode book) es ∙ r .readable .sized .count
+    closed-heights = sym (closed-ready .readable .sized .count) ∙ ap last closed-state ∙ moved-last (decode book) es
+        ∙ r .readable .sized .count
 
     pub closed-length : length after ≡ length book
     closed-length =
@@ -75,34 +80,43 @@ module _ (book : Bytes) (r : Ready book) (few : decode book .pendingCount ≤ ma
           shown = closed-ready .readable;
           high = omega arith;
           is-linked = subst (λ (v : View). linked sha256 v h ≡ true) (sym closed-view) (w .is-linked);
-          formed = subst (λ (v : View). (i : ℕ) → 1 ≤ i → v .hasBlock i ≡ true → blockWellFormed i (v .block i) ≡ true) (sym closed-view) (w .formed);
+          formed = subst (λ (v : View). (i : ℕ) → 1 ≤ i → v .hasBlock i ≡ true → blockWellFormed i (v .block i) ≡ true)
+              (sym closed-view) (w .formed);
         }
 
-    pub closed-log : (finalized : ℕ) → finalized ≡ decode book .finalized → logAt (view (decode after)) finalized ≡ log (decode book)
+    pub closed-log : (finalized : ℕ) → finalized ≡ decode book .finalized →
+        logAt (view (decode after)) finalized ≡ log (decode book)
     unfolding log
     closed-log finalized e = rw (closed-view, e)
 
     -- place `k` is still as it was
     pub closed-place : part (decode after .pool) (16 * k) 16 ≡ part (decode book .pool) (16 * k) 16
     closed-place =
-        ap (λ (x : State). part (x .pool) (16 * k) 16) closed-state ∙ moved-entry (decode book) pool-size es sized k (staying-few (decode book) k)
+        ap (λ (x : State). part (x .pool) (16 * k) 16) closed-state
+        ∙ moved-entry (decode book) pool-size es sized k (staying-few (decode book) k)
 
     pub closed-more : (kept : ℕ) {next : Bytes} {more : List Bytes} → kept ≡ length es → k < maximumPending →
-        next ≡ encode (withPool (decode after) (decode after .pendingCount) (put (decode after .pool) (16 * kept) (part (decode after .pool) (16 * k) 16))) →
+        next ≡ encode (withPool (decode after) (decode after .pendingCount)
+        (put (decode after .pool) (16 * kept) (part (decode after .pool) (16 * k) 16))) →
         more ≡ es ++ (part (decode book .pool) (16 * k) 16 ∷ []) → next ≡ encode (moved (decode book) more)
     closed-more kept count inside e m =
         e ∙
-        ap (λ (x : State). encode (withPool x (x .pendingCount) (put (x .pool) (16 * kept) (part (x .pool) (16 * k) 16)))) closed-state ∙
-        ap (λ (n : ℕ). encode (withPool (moved (decode book) es) (moved (decode book) es .pendingCount) (put (moved (decode book) es .pool) (16 * n) (part (moved (decode book) es .pool) (16 * k) 16)))) count ∙
+        ap (λ (x : State). encode (withPool x (x .pendingCount)
+        (put (x .pool) (16 * kept) (part (x .pool) (16 * k) 16)))) closed-state ∙
+        ap (λ (n : ℕ). encode (withPool (moved (decode book) es) (moved (decode book) es .pendingCount)
+        (put (moved (decode book) es .pool) (16 * n) (part (moved (decode book) es .pool) (16 * k) 16)))) count ∙
         ap encode (moved-more (decode book) pool-size es sized k (staying-few (decode book) k) inside) ∙
         ap (λ (l : List Bytes). encode (moved (decode book) l)) (sym m)
 
     pub closed-end : (kept : ℕ) (entry : Bytes) {end : Bytes} {all : List Bytes} → kept ≡ length es → es ≡ all →
-        end ≡ encode (withPending (decode after) (pieces 16 kept (decode after .pool) ++ (entry ∷ []))) → end ≡ encode (withPending (decode book) (all ++ (entry ∷ [])))
+        end ≡ encode (withPending (decode after) (pieces 16 kept (decode after .pool) ++ (entry ∷ []))) →
+        end ≡ encode (withPending (decode book) (all ++ (entry ∷ [])))
     closed-end kept entry count a e =
         e ∙
         ap (λ (x : State). encode (withPending x (pieces 16 kept (x .pool) ++ (entry ∷ [])))) closed-state ∙
-        ap (λ (n : ℕ). encode (withPending (moved (decode book) es) (pieces 16 n (moved (decode book) es .pool) ++ (entry ∷ [])))) count ∙
-        ap (λ (l : List Bytes). encode (withPending (moved (decode book) es) (l ++ (entry ∷ [])))) (moved-pieces (decode book) pool-size es sized) ∙
+        ap (λ (n : ℕ). encode (withPending (moved (decode book) es)
+        (pieces 16 n (moved (decode book) es .pool) ++ (entry ∷ [])))) count ∙
+        ap (λ (l : List Bytes). encode (withPending (moved (decode book) es) (l ++ (entry ∷ []))))
+        (moved-pieces (decode book) pool-size es sized) ∙
         ap encode (moved-pending (decode book) es (es ++ (entry ∷ []))) ∙
         ap (λ (l : List Bytes). encode (withPending (decode book) (l ++ (entry ∷ [])))) a

@@ -16,7 +16,8 @@ pub record WalkableAs (kind : Kind) (book : Bytes) (h : ℕ) : Type 0 where
   pub shown : Shown kind book
   pub high : h ≤ bookHeights book
   pub is-linked : linked sha256 (viewOf kind book) h ≡ true
-  pub formed : (i : ℕ) → 1 ≤ i → viewOf kind book .hasBlock i ≡ true → blockWellFormed i (viewOf kind book .block i) ≡ true
+  pub formed : (i : ℕ) → 1 ≤ i → viewOf kind book .hasBlock i ≡ true →
+      blockWellFormed i (viewOf kind book .block i) ≡ true
 
 -- of a replica's book
 abbrev pub Walkable : Bytes → ℕ → Type 0

@@ -40,7 +40,8 @@ pub fn copy_chain(book: &[u8], h: usize, count: usize, buffer: &mut [u8])
     crate::chains::copy_chain(Kind::Replica, book, h, count, buffer)
 }
 
-// Makes the block of height `c` on the block of height `j`, with the first eight pending entries that the chain ending in
+// Makes the block of height `c` on the block of height `j`, with the first eight pending entries that the chain ending
+// in
 // height `j` lacks, at the front of `block`. Walks that chain once for each pending entry, 32 times at most.
 pub fn offer(book: &[u8], c: usize, j: usize, digest: &[u8], block: &mut [u8])
     requires { ⌜ Walkable (now book) j ⌝ }
@@ -106,12 +107,14 @@ pub fn is_pending(book: &[u8], entry: &[u8]) -> bool
     false
 }
 
-// Makes the pending entries that the log does not hold, and `entry` after them, all that is pending. Closes the pool up in
+// Makes the pending entries that the log does not hold, and `entry` after them, all that is pending. Closes the pool up
+// in
 // place and walks the log once for each pending entry, 32 times at most.
 pub fn keep_unlogged(book: &mut [u8], entry: &[u8])
     requires { ⌜ Ready (now book) ⌝ }
     requires { ⌜ Walkable (now book) (decode (now book) .finalized) ⌝ }
-    requires { ⌜ (decode (now book) .pendingCount ≤ maximumPending) × (length (stillPending (decode (now book))) < maximumPending) ⌝ }
+    requires { ⌜ (decode (now book) .pendingCount ≤ maximumPending) ×
+        (length (stillPending (decode (now book))) < maximumPending) ⌝ }
     requires { ⌜ length (now entry) ≡ 16 ⌝ }
     ensures { λ _. ⌜ now (book .exit) ≡ recoded (now (book .entry)) (λ s.
         withPending s (stillPending s ++ (now (entry .entry) ∷ []))) ⌝ }

@@ -40,7 +40,8 @@ memberRows s h frame = threeRows 5 7 9 (membersFit s frame) (leaderSigned s h fr
 
 -- ---- the row about the signer's kept vote
 unfoldable pub voteAgrees : Height → Bytes → Bool
-voteAgrees x frame = implies (isBlockVote (kind frame) && inMask (x .voterMask) (signer frame)) (same (voteOf x (signer frame)) (frameDigest frame))
+voteAgrees x frame = implies (isBlockVote (kind frame) && inMask (x .voterMask) (signer frame))
+    (same (voteOf x (signer frame)) (frameDigest frame))
 
 -- ---- signers of a statement or a certificate
 unfoldable pub signersOf : Bytes → ℕ
@@ -66,4 +67,5 @@ keptBook book h (some x) = encode (withHeight (decode book) h x)
 -- Deliver's outcome for a sound book and a frame that is read
 unfoldable pub readOutcome : (Bytes → Bytes) → Bytes → Bytes → Outcome Delivery
 readOutcome digest book frame =
-    unlessRefused (firstRefusal (clashRows (decode book) frame)) book (kept digest book frame (keep digest (decode book) frame))
+    unlessRefused (firstRefusal (clashRows (decode book) frame)) book
+    (kept digest book frame (keep digest (decode book) frame))

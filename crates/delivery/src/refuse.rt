@@ -17,7 +17,8 @@ ghost use Rattle.protocol.specs.Tests.{firstRefusal};
 ghost use Rattle.protocol.specs.State.{decode};
 ghost use Rattle.protocol.specs.Deliver.{readRows};
 ghost use Rattle.fields.specs.Book.{Within, Readable};
-ghost use Rattle.delivery.specs.Refusal.{refusalOf, threeRows, membersFit, leaderSigned, signersEnough, memberRows};
+ghost use Rattle.delivery.specs.Refusal.{refusalOf, threeRows, membersFit, leaderSigned, signersEnough};
+ghost use Rattle.delivery.specs.Refusal.{memberRows};
 
 // The number of the first of three tests that fails, and 0 where none does.
 pub fn first_refusal(a: usize, p: bool, b: usize, q: bool, c: usize, r: bool) -> usize

@@ -43,7 +43,8 @@ use Rattle.agreement.specs.AnyDigest.{AnyDigest}
 use Rattle.agreement.specs.Laws.AnyDigestLaws.{any-digest}
 use Rattle.agreement.specs.Turns.{nextBlock}
 use Rattle.call_laws.specs.Refusals.{Refuses}
-use Rattle.call_laws.specs.Laws.RefusalsLaws.{open-refuses, deliver-refuses, move-refuses, signal-refuses, submit-refuses, size-refuses, fetch-refuses}
+use Rattle.call_laws.specs.Laws.RefusalsLaws.{open-refuses, deliver-refuses, move-refuses, signal-refuses}
+use Rattle.call_laws.specs.Laws.RefusalsLaws.{submit-refuses, size-refuses, fetch-refuses}
 use Rattle.call_laws.specs.BookBytes.{openedBook, Signals, Submits, headOf}
 use Rattle.call_laws.specs.Laws.BookBytesLaws.{open-bytes, signal-bytes, submit-bytes, move-bytes}
 use Rattle.call_laws.specs.Keeping.{Keeps, AllTallied}
@@ -156,7 +157,8 @@ deliveries-keep = deliver-keeps sha256
 
 -- .. and that leaves no choice: an answer and bytes that meet it are those of Deliver
 pub nothing-else-keeps : (book frame : Bytes) (news : Delivery) →
-    deliverCall sha256 book frame .answer ≡ accepted news → AreBytes book → AreBytes (deliverCall sha256 book frame .book) →
+    deliverCall sha256 book frame .answer ≡ accepted news → AreBytes book →
+    AreBytes (deliverCall sha256 book frame .book) →
     (news′ : Delivery) (after : Bytes) → AreBytes after → Keeps sha256 book frame news′ after →
     (news′ ≡ news) × (after ≡ deliverCall sha256 book frame .book)
 nothing-else-keeps = keeps-exact sha256
@@ -176,7 +178,8 @@ pub the-register : (book buffer : Bytes) (size : ℕ) → sizeCall sha256 book �
 the-register = reads-chain sha256
 
 -- each frame written is read over every book of the same n, H and leaders as the same statement
-pub moves-are-read : (book reply other : Bytes) → SameSetting (decode book) (decode other) → MoveWritten sha256 book reply other
+pub moves-are-read : (book reply other : Bytes) → SameSetting (decode book) (decode other) →
+    MoveWritten sha256 book reply other
 moves-are-read = move-written-read sha256 sha256-length
 
 pub fetches-are-read : (book : Bytes) (k h : ℕ) (reply other : Bytes) → SameSetting (decode book) (decode other) →

@@ -33,10 +33,12 @@ module _ (s : State) (k h : ℕ) where
 
   -- ---- the frame
   module _ (mask : ℕ) (held : mask ≡ maskAt (at s h) (k - 5)) where
-    pub frame-block : (block : Bytes) → k ≡ 5 → block ≡ at s h .notarized → blockCertificate h mask block ≡ certificateFrame s k h
+    pub frame-block : (block : Bytes) → k ≡ 5 → block ≡ at s h .notarized →
+        blockCertificate h mask block ≡ certificateFrame s k h
     unfolding certificateFrame
     frame-block block e q = rw (held, e, q)
 
     pub frame-signers : 6 ≤ k → k ≤ 7 → frameOf k 0 h mask (zeros 32) (zeros 176) ≡ certificateFrame s k h
     unfolding certificateFrame dummyCertificate finalizeCertificate
-    frame-signers low high = ⊎-elim (λ (e : k ≡ 6). rw (held, e)) (λ (e : k ≡ 7). rw (held, e)) (six-or-seven k low high)
+    frame-signers low high = ⊎-elim (λ (e : k ≡ 6). rw (held, e)) (λ (e : k ≡ 7). rw (held, e))
+        (six-or-seven k low high)

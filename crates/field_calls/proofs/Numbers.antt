@@ -9,14 +9,16 @@ use lib.Dec.{eqb, leb, ltb}
 use borrow.Author.Tests.{lt-ltb, le-ltb, ltb-true, eqb-true, eq-eqb, ne-eqb}
 use Rattle.protocol.specs.Bytes.{Bytes, all}
 use Rattle.protocol.specs.Tests.{allOf, inRange}
-use Rattle.protocol.specs.State.{decode, encode, last, flag, withHead, withTimerFired, bookSize, bookHeights, maximumReplicas}
+use Rattle.protocol.specs.State.{decode, encode, last, flag, withHead, withTimerFired, bookSize, bookHeights}
+use Rattle.protocol.specs.State.{maximumReplicas}
 use Rattle.protocol.specs.Open.{openInRange}
 use Rattle.protocol.specs.Frame.{isCertificate}
 use Rattle.protocol.specs.Laws.CodecLaws.{last-decode}
 use Rattle.protocol.specs.Laws.RowLaws.{not-passed, row, in-range, all-at, at-all}
 use Rattle.protocol.specs.Block.{maximumHeights}
 
-pub in-book : (book : Bytes) (h heights : ℕ) → heights ≡ bookHeights book → (leb 1 h && leb h heights) ≡ inRange 1 (last (decode book)) h
+pub in-book : (book : Bytes) (h heights : ℕ) → heights ≡ bookHeights book →
+    (leb 1 h && leb h heights) ≡ inRange 1 (last (decode book)) h
 unfolding inRange
 in-book book h heights e = rw (e, last-decode book)
 
@@ -26,15 +28,19 @@ is-certificate k = refl
 
 -- ---- Open
 module _ (n : ℕ) (leaders : Bytes) where
-  pub all-below : (i : ℕ) → length leaders ≤ i → ((k : ℕ) → k < i → getD leaders k 0 < n) → true ≡ all (λ leader. ltb leader n) leaders
-  all-below i past each = sym (at-all (λ leader. ltb leader n) leaders (λ k inside. lt-ltb (getD leaders k 0) n (each k (omega arith))))
+  pub all-below : (i : ℕ) → length leaders ≤ i → ((k : ℕ) → k < i → getD leaders k 0 < n) →
+      true ≡ all (λ leader. ltb leader n) leaders
+  all-below i past each = sym (at-all (λ leader. ltb leader n) leaders
+      (λ k inside. lt-ltb (getD leaders k 0) n (each k (omega arith))))
 
   pub not-below : (i : ℕ) → i < length leaders → n ≤ getD leaders i 0 → false ≡ all (λ leader. ltb leader n) leaders
   not-below i inside high = sym (not-passed (all (λ leader. ltb leader n) leaders)
       (λ e. true≢false (sym (all-at (λ leader. ltb leader n) leaders i e inside) ∙ le-ltb (getD leaders i 0) n high)))
 
 pub open-fits : (n own heights : ℕ) (leaders : Bytes) (led : Bool) → led ≡ all (λ leader. ltb leader n) leaders →
-    ((leb 1 n && leb n maximumReplicas) && (ltb own n && ((leb 1 heights && leb heights maximumHeights) && (eqb (length leaders) heights && led)))) ≡ openInRange n own heights leaders
+    ((leb 1 n && leb n maximumReplicas) && (ltb own
+    n && ((leb 1 heights && leb heights maximumHeights) && (eqb (length leaders) heights && led)))) ≡ openInRange n
+    own heights leaders
 unfolding openInRange allOf inRange
 open-fits n own heights leaders led e = rw (e, and-true (all (λ leader. ltb leader n) leaders))
 
@@ -45,7 +51,8 @@ pub record Fitting (n own heights : ℕ) (leaders : Bytes) : Type 0 where
   pub few : heights ≤ maximumHeights
   pub listed : length leaders ≡ heights
 
-pub fitting : (n own heights : ℕ) (leaders : Bytes) → openInRange n own heights leaders ≡ true → Fitting n own heights leaders
+pub fitting : (n own heights : ℕ) (leaders : Bytes) → openInRange n own heights leaders ≡ true →
+    Fitting n own heights leaders
 unfolding openInRange
 fitting n own heights leaders e = record {
   n-high = in-range 1 maximumReplicas n (row _ 0 e) .1;
@@ -54,11 +61,13 @@ fitting n own heights leaders e = record {
   listed = eqb-true (length leaders) heights (row _ 3 e);
 }
 
-pub long-enough : (book : Bytes) (heights : ℕ) → length book ≡ 576 + 880 * heights → eqb (length book) (bookSize heights) ≡ true
+pub long-enough : (book : Bytes) (heights : ℕ) → length book ≡ 576 + 880 * heights →
+    eqb (length book) (bookSize heights) ≡ true
 unfolding bookSize
 long-enough book heights e = eq-eqb (length book) (576 + 880 * heights) e
 
-pub not-long-enough : (book : Bytes) (heights : ℕ) → (length book ≡ 576 + 880 * heights → ⊥) → eqb (length book) (bookSize heights) ≡ false
+pub not-long-enough : (book : Bytes) (heights : ℕ) → (length book ≡ 576 + 880 * heights → ⊥) →
+    eqb (length book) (bookSize heights) ≡ false
 unfolding bookSize
 not-long-enough book heights f = ne-eqb (length book) (576 + 880 * heights) f
 
@@ -68,7 +77,9 @@ pub timer-runs : (book : Bytes) (h current flags : ℕ) → current ≡ decode b
 unfolding flag
 timer-runs book h current flags p q = rw (p, q, div-one (decode book .flags))
 
-pub fired : (book : Bytes) (flags current finalized : ℕ) (after : Bytes) → after ≡ encode (withHead (decode book) (flags + 1) current finalized) →
-    flags ≡ decode book .flags → current ≡ decode book .current → finalized ≡ decode book .finalized → after ≡ encode (withTimerFired (decode book))
+pub fired : (book : Bytes) (flags current finalized : ℕ) (after : Bytes) →
+    after ≡ encode (withHead (decode book) (flags + 1) current finalized) →
+    flags ≡ decode book .flags → current ≡ decode book .current → finalized ≡ decode book .finalized →
+    after ≡ encode (withTimerFired (decode book))
 unfolding withTimerFired
 fired book flags current finalized after e p q r = e ∙ rw (p, q, r)

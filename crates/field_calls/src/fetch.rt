@@ -21,7 +21,8 @@ fn is_certificate(kind: usize) -> bool
     (5 <= kind) & (kind <= 7)
 }
 
-// Whether the book has the certificate of that kind and height. The masks of kinds 5 to 7 are the first three of a height.
+// Whether the book has the certificate of that kind and height. The masks of kinds 5 to 7 are the first three of a
+// height.
 fn has_certificate(book: &[u8], kind: usize, height: usize) -> bool
     requires { ⌜ Readable (now book) ⌝ }
     requires { ⌜ Within (now book) height ⌝ }

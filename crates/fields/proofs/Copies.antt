@@ -23,7 +23,9 @@ module _ (old new : Bytes) (from to count i : ℕ) where
       paste-suc old to (part old from count) i 0 (omega arith) (rw (length-part old from count p) h) ∙
       ap (λ (k : ℕ). paste old to (part old from count) k) (sym (add-one i))
 
-  pub rest-kept : Apart from to count → ((j : ℕ) → i ≤ j → j < count → byteAt new (from + j) ≡ byteAt old (from + j)) → (v j : ℕ) →
+  pub rest-kept : Apart from to count → ((j : ℕ) → i ≤ j → j < count → byteAt new (from + j) ≡ byteAt old (from + j)) →
+      (v j : ℕ) →
       i + 1 ≤ j → j < count → byteAt (set new (to + i) v) (from + j) ≡ byteAt old (from + j)
   rest-kept apart kept v j low high =
-      getD-set-other new (to + i) (from + j) v 0 (⊎-elim (λ down e. absurd (omega arith)) (λ past e. absurd (omega arith)) apart) ∙ kept j (omega arith) high
+      getD-set-other new (to + i) (from + j) v 0 (⊎-elim (λ down e. absurd (omega arith))
+      (λ past e. absurd (omega arith)) apart) ∙ kept j (omega arith) high

@@ -20,7 +20,8 @@ ones-more mask s = rw add-one
 
 -- ---- the bit of a replica
 -- `1 << s` of a usize
-pub one-shifted : (s : ℕ) → s ≤ 16 → ((1 * 2 ^ s) % 18446744073709551616 ≡ 2 ^ s) × ((1 * 2 ^ s) % 18446744073709551616 ≤ 65536)
+pub one-shifted : (s : ℕ) → s ≤ 16 → ((1 * 2 ^ s) % 18446744073709551616 ≡ 2 ^ s) ×
+    ((1 * 2 ^ s) % 18446744073709551616 ≤ 65536)
 one-shifted s h =
     let is : (1 * 2 ^ s) % 18446744073709551616 ≡ 2 ^ s = rw one-mul (mod-eq-of-lt (pow-lt {j = 64} (omega arith))) in
     (is, rw is (pow-le-pow-right {n = 2} (omega arith) {i = s} {j = 16} h))

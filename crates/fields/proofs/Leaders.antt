@@ -12,10 +12,12 @@ use Rattle.protocol.specs.Open.{newState}
 use Rattle.protocol.specs.Laws.BytesLaws.{put-all, put-paste, length-zeros}
 use Rattle.protocol.specs.Laws.NewStateLaws.{new-from-zeros, new-leader}
 
-pub head-made : (n own heights : ℕ) (book cleared : Bytes) → length book ≡ 576 + 880 * heights → cleared ≡ put book 0 (zeros (length book)) →
+pub head-made : (n own heights : ℕ) (book cleared : Bytes) → length book ≡ 576 + 880 * heights →
+    cleared ≡ put book 0 (zeros (length book)) →
     set (set (set (set (set cleared 0 n) 1 own) 2 heights) 4 1) 7 1 ≡ encode (newState n own (zeros heights))
 head-made n own heights book cleared size clear =
-    rw (clear ∙ put-all book (zeros (length book)) (sym (length-zeros (length book))) ∙ ap zeros size) (new-from-zeros n own heights)
+    rw (clear ∙ put-all book (zeros (length book)) (sym (length-zeros (length book))) ∙ ap zeros size)
+    (new-from-zeros n own heights)
 
 -- the leaders after `i` turns, and zeros after them
 abbrev pub led : Bytes → ℕ → Bytes
@@ -26,14 +28,17 @@ led-none leaders = paste-zero (zeros (length leaders)) 0 leaders
 
 pub led-all : (leaders : Bytes) (i : ℕ) → i ≡ length leaders → led leaders i ≡ leaders
 led-all leaders i e =
-    ap (λ (k : ℕ). led leaders k) e ∙ put-paste (zeros (length leaders)) leaders 0 ∙ put-all (zeros (length leaders)) leaders (length-zeros (length leaders))
+    ap (λ (k : ℕ). led leaders k) e ∙ put-paste (zeros (length leaders)) leaders 0
+    ∙ put-all (zeros (length leaders)) leaders (length-zeros (length leaders))
 
-pub led-more : (n own : ℕ) (leaders : Bytes) (i : ℕ) (book : Bytes) → book ≡ encode (newState n own (led leaders i)) → i < length leaders →
+pub led-more : (n own : ℕ) (leaders : Bytes) (i : ℕ) (book : Bytes) → book ≡ encode (newState n own (led leaders i)) →
+    i < length leaders →
     set book (576 + 16 * i) (byteAt leaders i) ≡ encode (newState n own (led leaders (i + 1)))
 led-more n own leaders i book so-far h =
     let size : length (zeros (length leaders)) ≡ length leaders = length-zeros (length leaders) in
     ap (λ (b : Bytes). set b (576 + 16 * i) (byteAt leaders i)) so-far ∙
-    new-leader n own (led leaders i) i (byteAt leaders i) (rw (length-paste (zeros (length leaders)) 0 leaders i (omega arith) (omega arith)) (omega arith)) ∙
+    new-leader n own (led leaders i) i (byteAt leaders i)
+    (rw (length-paste (zeros (length leaders)) 0 leaders i (omega arith) (omega arith)) (omega arith)) ∙
     ap (λ (l : Bytes). encode (newState n own l))
     (ap (λ (k : ℕ). set (led leaders i) k (byteAt leaders i)) (sym (zero-add i)) ∙
     paste-suc (zeros (length leaders)) 0 leaders i 0 (omega arith) h ∙ ap (λ (k : ℕ). led leaders k) (sym (add-one i)))

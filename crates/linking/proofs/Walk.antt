@@ -11,7 +11,8 @@ use lib.Dec.{ltb}
 use Rattle.protocol.specs.Bytes.{Bytes, part, zeros, same, put}
 use Rattle.protocol.specs.Block.{parentHeight, parentDigest}
 use Rattle.protocol.specs.Tests.{allOf}
-use Rattle.protocol.specs.View.{View, quorum, isDummy, digestAt, linked, extends, extendsOver, dummyRun, isFinalized, largestFinalized, parentOf}
+use Rattle.protocol.specs.View.{View, quorum, isDummy, digestAt, linked, extends, extendsOver, dummyRun, isFinalized}
+use Rattle.protocol.specs.View.{largestFinalized, parentOf}
 use Rattle.protocol.specs.Laws.BytesLaws.{length-part, put-all}
 use Rattle.protocol.specs.Laws.LinkedLaws.{linked-suc, linked-zero}
 use Rattle.sha256.specs.Digest.{sha256}
@@ -28,12 +29,15 @@ digest-block v zero no-zero = absurd (no-zero refl)
 digest-block v (suc j) no-zero = refl
 
 -- the digest that a memory keeps, copied over 32 bytes
-pub digest-copied : (v : View) (known old : Bytes) (j count : ℕ) → j ≢ 0 → count ≡ 32 → length old ≡ 32 → 36 * j + 4 + 32 ≤ length known →
-    part known (36 * j + 4) 32 ≡ sha256 (v .block j) → put old 0 (take count (drop (36 * j + 4) known)) ≡ digestAt sha256 v j
+pub digest-copied : (v : View) (known old : Bytes) (j count : ℕ) → j ≢ 0 → count ≡ 32 → length old ≡ 32 →
+    36 * j + 4 + 32 ≤ length known →
+    part known (36 * j + 4) 32 ≡ sha256 (v .block j) →
+    put old 0 (take count (drop (36 * j + 4) known)) ≡ digestAt sha256 v j
 unfolding part
 digest-copied v known old j count no-zero whole size fits kept =
     ap (λ (k : ℕ). put old 0 (take k (drop (36 * j + 4) known))) whole
-    ∙ put-all old (take 32 (drop (36 * j + 4) known)) (size ∙ sym (unfold part in length-part known (36 * j + 4) 32 fits))
+    ∙ put-all old (take 32 (drop (36 * j + 4) known))
+    (size ∙ sym (unfold part in length-part known (36 * j + 4) 32 fits))
     ∙ kept ∙ digest-block v j no-zero
 
 pub names-digest : (block digest : Bytes) → same (take 32 (drop 16 block)) digest ≡ same (parentDigest block) digest
@@ -43,7 +47,8 @@ names-digest block digest = refl
 -- ---- the rows of a block that extends
 module _ (v : View) (h j : ℕ) (block : Bytes) (names : parentHeight block ≡ j) where
   abbrev Rows : Bool
-  Rows = allOf (ltb j h ∷ linked sha256 v j ∷ same (parentDigest block) (digestAt sha256 v j) ∷ dummyRun v j (h - 1 - j) ∷ [])
+  Rows = allOf (ltb j h ∷ linked sha256 v j ∷ same (parentDigest block) (digestAt sha256 v j) ∷ dummyRun v j
+      (h - 1 - j) ∷ [])
 
   by-rows : extends sha256 v h block ≡ Rows
   unfolding extends extendsOver
@@ -57,13 +62,15 @@ module _ (v : View) (h j : ℕ) (block : Bytes) (names : parentHeight block ≡ 
   unfolding allOf
   extends-not-linked e = by-rows ∙ rw e (and-false (ltb j h))
 
-  pub extends-by-digest : ltb j h ≡ true → linked sha256 v j ≡ true → dummyRun v j (h - 1 - j) ≡ true → extends sha256 v h block ≡ same (parentDigest block) (digestAt sha256 v j)
+  pub extends-by-digest : ltb j h ≡ true → linked sha256 v j ≡ true → dummyRun v j (h - 1 - j) ≡ true →
+      extends sha256 v h block ≡ same (parentDigest block) (digestAt sha256 v j)
   unfolding allOf
   extends-by-digest e e′ e″ = by-rows ∙ rw (e, e′, e″) (and-true (same (parentDigest block) (digestAt sha256 v j)))
 
   pub extends-not-run : dummyRun v j (h - 1 - j) ≡ false → extends sha256 v h block ≡ false
   unfolding allOf
-  extends-not-run e = by-rows ∙ rw e (all-false (ltb j h) (linked sha256 v j) (same (parentDigest block) (digestAt sha256 v j)))
+  extends-not-run e = by-rows ∙ rw e (all-false (ltb j h) (linked sha256 v j)
+      (same (parentDigest block) (digestAt sha256 v j)))
     where
       all-false : (a b c : Bool) → (a && (b && (c && false))) ≡ false
       all-false true true true = refl
@@ -101,7 +108,8 @@ module _ (v : View) where
   largest-here zero low e = absurd (omega arith)
   largest-here (suc i) low e = rw e
 
-  pub largest-below : (h : ℕ) → 1 ≤ h → isFinalized sha256 v h ≡ false → largestFinalized sha256 v (h - 1) ≡ largestFinalized sha256 v h
+  pub largest-below : (h : ℕ) → 1 ≤ h → isFinalized sha256 v h ≡ false →
+      largestFinalized sha256 v (h - 1) ≡ largestFinalized sha256 v h
   unfolding largestFinalized
   largest-below zero low e = absurd (omega arith)
   largest-below (suc i) low e = let back : suc i - 1 ≡ i = omega arith in rw (back, e)
@@ -116,7 +124,8 @@ module _ (v : View) where
   parent-here zero low e = absurd (omega arith)
   parent-here (suc i) low e = rw e
 
-  pub parent-below : (h : ℕ) → 1 ≤ h → linked sha256 v h ≡ false → isDummy v h ≡ true → parentOf sha256 v (h - 1) ≡ parentOf sha256 v h
+  pub parent-below : (h : ℕ) → 1 ≤ h → linked sha256 v h ≡ false → isDummy v h ≡ true →
+      parentOf sha256 v (h - 1) ≡ parentOf sha256 v h
   unfolding parentOf
   parent-below zero low e d = absurd (omega arith)
   parent-below (suc i) low e d = let back : suc i - 1 ≡ i = omega arith in rw (back, e, d)

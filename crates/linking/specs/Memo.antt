@@ -12,7 +12,8 @@ use Rattle.fields.specs.Book.{viewOf}
 use Rattle.fields.specs.declared.kind.Kind.{Kind}
 use Rattle.sha256.specs.Digest.{sha256}
 
--- the height below the run of dummies that ends at `h`: the dummy blocks of the heights after it up to `h` are notarized, its own is not
+-- the height below the run of dummies that ends at `h`: the dummy blocks of the heights after it up to `h` are
+-- notarized, its own is not
 unfoldable pub runStart : View → ℕ → ℕ
 runStart v zero = 0
 runStart v (suc h) = cond (isDummy v (suc h)) (runStart v h) (suc h)
@@ -21,8 +22,10 @@ runStart v (suc h) = cond (isDummy v (suc h)) (runStart v h) (suc h)
 abbrev pub memorySize : ℕ
 memorySize = 36 * (maximumHeights + 1)
 
--- What the 36 bytes of a height say. The first is 1 where the height is known to be linked, and 2 where it is known not to be. The second
--- is 1 where the digest of the height's notarized block is kept, in the last 32 bytes. The two between are 0, or one more than the start
+-- What the 36 bytes of a height say. The first is 1 where the height is known to be linked, and 2 where it is known not
+-- to be. The second
+-- is 1 where the digest of the height's notarized block is kept, in the last 32 bytes. The two between are 0, or one
+-- more than the start
 -- of the run of dummies that ends at the height.
 pub record KnownAt (v : View) (known : Bytes) (h : ℕ) : Type 0 where
   pub is-linked : byteAt known (36 * h) ≡ 1 → linked sha256 v h ≡ true

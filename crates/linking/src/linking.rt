@@ -1,5 +1,7 @@
-// Linked heights: a recursive walk over parent heights. A lent memory keeps what is known, so that in one call each height is
-// looked at once, each run of dummy blocks is counted once, and each block is digested once, however many others name it.
+// Linked heights: a recursive walk over parent heights. A lent memory keeps what is known, so that in one call each
+// height is
+// looked at once, each run of dummy blocks is counted once, and each block is digested once, however many others name
+// it.
 use crate::links::Parent;
 use fields::kind::Kind;
 ghost use mathlib.Core.Path.{_≡_};
@@ -9,7 +11,8 @@ ghost use Rattle.sha256.specs.Digest.{sha256 as sha};
 ghost use Rattle.protocol.specs.Bytes.{same};
 ghost use Rattle.protocol.specs.Block.{parentDigest};
 ghost use Rattle.protocol.specs.State.{bookHeights};
-ghost use Rattle.protocol.specs.View.{digestAt, linked as isLinked, extends as doesExtend, isFinalized, largestFinalized, parentOf};
+ghost use Rattle.protocol.specs.View.{digestAt, linked as isLinked, extends as doesExtend, isFinalized};
+ghost use Rattle.protocol.specs.View.{largestFinalized, parentOf};
 ghost use Rattle.fields.specs.Book.{Within, Shown, viewOf};
 ghost use Rattle.linking.specs.Memo.{MemoAs};
 ghost use Rattle.linking.specs.Parent.{parentOption};
@@ -38,7 +41,8 @@ fn names_parent(kind: Kind, book: &[u8], block: &[u8], j: usize, known: &mut [u8
     requires { ⌜ MemoAs kind (now book) (now known) ⌝ }
     requires { ⌜ length (now block) ≡ 176 ⌝ }
     requires { ⌜ j ≤ bookHeights (now book) ⌝ }
-    ensures answer { λ r. ⌜ r ≡ same (parentDigest (now (block .entry))) (digestAt sha (viewOf kind (now (book .entry))) j) ⌝ }
+    ensures answer { λ r. ⌜ r ≡
+        same (parentDigest (now (block .entry))) (digestAt sha (viewOf kind (now (book .entry))) j) ⌝ }
     ensures memo { λ _. ⌜ MemoAs kind (now (book .entry)) (now (known .exit)) ⌝ }
 {
     let digest = parent_digest(kind, book, j, known);
@@ -141,7 +145,8 @@ pub fn largest_finalized(kind: Kind, book: &[u8], top: usize, known: &mut [u8]) 
     0
 }
 
-// The best chain of height `top`, by its last block's height: the largest linked height with dummies after it up to `top`.
+// The best chain of height `top`, by its last block's height: the largest linked height with dummies after it up to
+// `top`.
 pub fn parent_of(kind: Kind, book: &[u8], top: usize, known: &mut [u8]) -> Parent
     requires { ⌜ Shown kind (now book) ⌝ }
     requires { ⌜ MemoAs kind (now book) (now known) ⌝ }

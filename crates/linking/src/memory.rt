@@ -1,5 +1,7 @@
-// What a call remembers of a book while it walks it, so that it looks at each height, counts each mask and computes each digest once.
-// A memory has 36 bytes a height: whether it is linked, whether its digest is kept, where its run of dummies starts (two bytes), and
+// What a call remembers of a book while it walks it, so that it looks at each height, counts each mask and computes
+// each digest once.
+// A memory has 36 bytes a height: whether it is linked, whether its digest is kept, where its run of dummies starts
+// (two bytes), and
 // the digest.
 use fields::kind::Kind;
 ghost use mathlib.Core.Path.{_≡_};
@@ -14,7 +16,8 @@ ghost use Rattle.linking.specs.Memo.{MemoAs, runStart};
 // The size of a memory of the largest book.
 pub const SIZE: usize = 2304;
 
-// Keeps the digest of the notarized block of height `j`. Costs one digest where it is not kept yet, and one read where it is.
+// Keeps the digest of the notarized block of height `j`. Costs one digest where it is not kept yet, and one read where
+// it is.
 pub fn keep_digest(kind: Kind, book: &[u8], j: usize, known: &mut [u8])
     requires { ⌜ Shown kind (now book) ⌝ }
     requires { ⌜ MemoAs kind (now book) (now known) ⌝ }
@@ -58,7 +61,8 @@ fn run_start(kind: Kind, book: &[u8], h: usize, known: &mut [u8]) -> usize
     }
 }
 
-// Whether the dummy blocks of the heights after `j` up to `top` are notarized. Where there are none, nothing is counted.
+// Whether the dummy blocks of the heights after `j` up to `top` are notarized. Where there are none, nothing is
+// counted.
 pub fn dummies_after(kind: Kind, book: &[u8], j: usize, top: usize, known: &mut [u8]) -> bool
     requires { ⌜ Shown kind (now book) ⌝ }
     requires { ⌜ MemoAs kind (now book) (now known) ⌝ }

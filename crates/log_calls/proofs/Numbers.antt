@@ -13,10 +13,12 @@ use Rattle.protocol.specs.Laws.EntriesLaws.{pending-length}
 use Rattle.protocol.specs.Laws.PoolLaws.{without-short}
 
 -- ---- Submit
-pub few-stay : (s : State) (count : ℕ) → count ≡ s .pendingCount → count < maximumPending → true ≡ ltb (length (stillPending s)) maximumPending
+pub few-stay : (s : State) (count : ℕ) → count ≡ s .pendingCount → count < maximumPending →
+    true ≡ ltb (length (stillPending s)) maximumPending
 unfolding stillPending
 few-stay s count e few =
-    sym (lt-ltb (length (stillPending s)) 32 (omega (arith, without-short (log s) (pending s), pending-length s, e, few)))
+    sym (lt-ltb (length (stillPending s)) 32 (omega
+    (arith, without-short (log s) (pending s), pending-length s, e, few)))
 
 pub first-holds : (a b : Bool) → a ≡ true → true ≡ (a || b)
 first-holds a b e = rw e

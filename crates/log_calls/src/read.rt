@@ -17,7 +17,8 @@ pub fn log_count(book: &[u8]) -> usize
     chains::entries::chain_entries(book, finalized)
 }
 
-// Copies the log of a sound book to the front of the buffer, if the buffer is long enough, and says how many bytes it wrote.
+// Copies the log of a sound book to the front of the buffer, if the buffer is long enough, and says how many bytes it
+// wrote.
 pub fn read_sound(book: &[u8], buffer: &mut [u8]) -> usize
     requires { ⌜ SoundBook sha (now book) ⌝ }
     ensures length { λ r. ⌜ r ≡ length (readPart sha (now (book .entry)) (now (buffer .entry))) ⌝ }

@@ -25,7 +25,8 @@ fn is_known(book: &[u8], entry: &[u8]) -> bool
     }
 }
 
-// Whether a place is left once the entries that the log holds are dropped. Walks the log for each of them only where all 32 places are taken.
+// Whether a place is left once the entries that the log holds are dropped. Walks the log for each of them only where
+// all 32 places are taken.
 fn leaves_room(book: &[u8]) -> bool
     requires { ⌜ SoundBook sha (now book) ⌝ }
     ensures { λ r. ⌜ r ≡ ltb (length (stillPending (decode (now (book .entry))))) maximumPending ⌝ }

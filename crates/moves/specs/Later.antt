@@ -2,7 +2,8 @@
 use mathlib.Core.List.{[], _∷_}
 use Rattle.sha256.specs.Digest.{sha256}
 use Rattle.protocol.specs.State.{State}
-use Rattle.protocol.specs.Move.{Step, firstStep, idleStep, passApplies, passStep, proposeApplies, proposeStep, blockVoteApplies, blockVoteStep}
+use Rattle.protocol.specs.Move.{Step, firstStep, idleStep, passApplies, passStep, proposeApplies, proposeStep}
+use Rattle.protocol.specs.Move.{blockVoteApplies, blockVoteStep}
 
 unfoldable pub laterStep : State → Step
 laterStep s =

@@ -60,7 +60,8 @@ fn step(book: &mut [u8], reply: &mut [u8], known: &mut [u8]) -> Moved
     later_step(book, reply, known)
 }
 
-// Move. Refuses with 1 a book that is not sound, and with 3 a reply of less than 448 bytes; a refused call changes nothing.
+// Move. Refuses with 1 a book that is not sound, and with 3 a reply of less than 448 bytes; a refused call changes
+// nothing.
 // Costs one pass over the book, at most one digest for each height, and one for a proposal or a vote.
 pub fn make_move(book: &mut [u8], reply: &mut [u8]) -> Moved
     ensures answer { λ r. ⌜ movedAnswer r ≡ moveCall sha (now (book .entry)) (now (reply .entry)) .answer ⌝ }

@@ -10,7 +10,8 @@ use Rattle.protocol.specs.State.{State}
 use Rattle.protocol.specs.View.{View, linked, extends, isFinalized, parentOf, digestAt, logAt, quorum}
 use Rattle.protocol.specs.Sound.{view, log}
 use Rattle.protocol.specs.Move.{isSome}
-use Rattle.paper.specs.Paper.{Sequence, height, linearize, lastBlock, lastDigest, Follows, NotarizedBlockchain, FinalizedBlockchain, Finalization, SeenOfHeight, SeenWithBlock}
+use Rattle.paper.specs.Paper.{Sequence, height, linearize, lastBlock, lastDigest, Follows, NotarizedBlockchain}
+use Rattle.paper.specs.Paper.{FinalizedBlockchain, Finalization, SeenOfHeight, SeenWithBlock}
 
 -- what the view of each sound book has: a notarized block is of its height, and votes of a quorum came with it
 pub record Proper (v : View) : Type 0 where
@@ -52,8 +53,10 @@ module _ (digest : Bytes → Bytes) (v : View) where
   unfoldable pub ExtendsIsFollowing : ℕ → Bytes → Type 0
   ExtendsIsFollowing h b = blockHeight b ≡ suc h → (extends digest v (suc h) b ≡ true) ↔ ParentOf h b
 
-  -- a height is finalized if and only if a finalized blockchain ends in its block; the paper lets a dummy block end one too, which
-  -- does not happen below n/3: two quorums share an honest replica, and it never both finalizes a height and votes for its dummy
+  -- a height is finalized if and only if a finalized blockchain ends in its block; the paper lets a dummy block end one
+  -- too, which
+  -- does not happen below n/3: two quorums share an honest replica, and it never both finalizes a height and votes for
+  -- its dummy
   unfoldable pub FinalizedIsSeen : ℕ → Type 0
   FinalizedIsSeen h = 1 ≤ h → (isFinalized digest v h ≡ true) ↔ (SeenWithBlock digest v h × Finalization v h)
 

@@ -1,4 +1,5 @@
--- Nothing idles: a replica answers idle just where no move applies, and moving until idle ends within a known number of moves.
+-- Nothing idles: a replica answers idle just where no move applies, and moving until idle ends within a known number of
+-- moves.
 use Prim.Native.Nat.{ℕ, _+_, _-_, _≤_}
 use mathlib.Core.Path.{_≡_}
 use mathlib.Core.Logic.{_↔_}
@@ -6,7 +7,8 @@ use mathlib.Core.Bool.{false}
 use Rattle.protocol.specs.Bytes.{Bytes, AreBytes}
 use Rattle.protocol.specs.State.{State, decode, last}
 use Rattle.protocol.specs.Answer.{accepted, idle}
-use Rattle.protocol.specs.Move.{step, afterMoves, moveCall, dummyVoteApplies, outputApplies, passApplies, proposeApplies, blockVoteApplies}
+use Rattle.protocol.specs.Move.{step, afterMoves, moveCall, dummyVoteApplies, outputApplies, passApplies}
+use Rattle.protocol.specs.Move.{proposeApplies, blockVoteApplies}
 
 module _ (digest : Bytes → Bytes) where
   -- none of the five moves applies
@@ -33,4 +35,5 @@ module _ (digest : Bytes → Bytes) where
 
   -- with c the current height: at most H + 4 − c moves, and at most one where the season is full
   unfoldable pub MovesEnd : State → Type 0
-  MovesEnd s = (s .current ≤ last s → IdleWithin (last s + 4 - s .current) s) × (last s + 1 ≤ s .current → IdleWithin 1 s)
+  MovesEnd s = (s .current ≤ last s → IdleWithin (last s + 4 - s .current) s) ×
+      (last s + 1 ≤ s .current → IdleWithin 1 s)

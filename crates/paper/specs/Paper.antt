@@ -49,7 +49,8 @@ module _ (v : View) where
   Finalization h = quorum v (v .finalizeMask h) ≡ true
 
 module _ (digest : Bytes → Bytes) where
-  -- the digest of the last block that is no dummy, and zeros where all are: with `lastBlock` it stands for H(b₀, .., bₕ)
+  -- the digest of the last block that is no dummy, and zeros where all are: with `lastBlock` it stands for H(b₀, ..,
+  -- bₕ)
   unfoldable pub lastDigest : Sequence → Bytes
   lastDigest genesis = zeros digestSize
   lastDigest (addDummy c) = lastDigest c
@@ -71,8 +72,10 @@ module _ (digest : Bytes → Bytes) where
     -- a notarized blockchain: a blockchain with a notarization for each block after the genesis block
     pub data NotarizedBlockchain : Sequence → Type 0 where
       start : NotarizedBlockchain genesis
-      dummyNext : {c : Sequence} → NotarizedBlockchain c → NotarizedDummy v (suc (height c)) → NotarizedBlockchain (addDummy c)
-      blockNext : {c : Sequence} {b : Bytes} → NotarizedBlockchain c → Follows c b → NotarizedBlock v (suc (height c)) b → NotarizedBlockchain (addBlock c b)
+      dummyNext : {c : Sequence} → NotarizedBlockchain c → NotarizedDummy v (suc (height c)) →
+          NotarizedBlockchain (addDummy c)
+      blockNext : {c : Sequence} {b : Bytes} → NotarizedBlockchain c → Follows c b →
+          NotarizedBlock v (suc (height c)) b → NotarizedBlockchain (addBlock c b)
 
     -- a finalized blockchain: the genesis block, or a notarized blockchain with a finalization for its last block
     pub data FinalizedBlockchain : Sequence → Type 0 where

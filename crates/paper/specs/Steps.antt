@@ -1,4 +1,5 @@
--- The five steps of the paper's section 2.1, each as an equivalence with the move that a replica makes, what it writes and keeps.
+-- The five steps of the paper's section 2.1, each as an equivalence with the move that a replica makes, what it writes
+-- and keeps.
 -- Document 01 tries the moves in its own order, so a step is stated for states in which no earlier move applies.
 -- Where no step may be taken the replica idles; so the fields of `FiveSteps` cover every state.
 use Prim.Native.Nat.{ℕ, suc, _+_, _-_, _≤_, _<_}
@@ -12,9 +13,11 @@ use Rattle.protocol.specs.Frame.{proposal, blockVote, dummyVote, finalize}
 use Rattle.protocol.specs.State.{State, at, last, flag, withHead, holdsProposal, pending}
 use Rattle.protocol.specs.Sound.{view}
 use Rattle.protocol.specs.Certificates.{certificateFrame}
-use Rattle.protocol.specs.Answer.{Move, idle, voteDummy, output, pass, propose, voteBlock, Certificate, onBlock, onDummy, certificateKind}
+use Rattle.protocol.specs.Answer.{Move, idle, voteDummy, output, pass, propose, voteBlock, Certificate, onBlock}
+use Rattle.protocol.specs.Answer.{onDummy, certificateKind}
 use Rattle.protocol.specs.Move.{step, dummyVoteApplies, outputApplies, passApplies, proposeApplies, chosen}
-use Rattle.paper.specs.Paper.{Sequence, height, linearize, lastBlock, Follows, NotarizedBlockchain, Finalization, SeenOfHeight, SeenWithBlock}
+use Rattle.paper.specs.Paper.{Sequence, height, linearize, lastBlock, Follows, NotarizedBlockchain, Finalization}
+use Rattle.paper.specs.Paper.{SeenOfHeight, SeenWithBlock}
 use Rattle.paper.specs.Blockchains.{ParentOf}
 
 module _ (digest : Bytes → Bytes) (s : State) where
@@ -34,7 +37,8 @@ module _ (digest : Bytes → Bytes) (s : State) where
     pub parent : Sequence
     pub notarized : NotarizedBlockchain digest (view s) parent
     pub its-height : suc (height parent) ≡ s .current
-    pub longest : (c : Sequence) → NotarizedBlockchain digest (view s) c → height c ≡ height parent → lastBlock c ≤ lastBlock parent
+    pub longest : (c : Sequence) → NotarizedBlockchain digest (view s) c → height c ≡ height parent →
+        lastBlock c ≤ lastBlock parent
     pub follows : Follows digest parent block
     pub its-entries : entries block ≡ chosen (without (linearize parent) (pending s))
     pub formed : blockWellFormed (s .current) block ≡ true
@@ -51,7 +55,8 @@ module _ (digest : Bytes → Bytes) (s : State) where
       ((step digest s .move ≡ propose (s .current)) ↔ MayPropose) ×
       (step digest s .move ≡ propose (s .current) →
       (block : Bytes) × Offers block ×
-      Makes (propose (s .current)) (proposal (s .own) (s .current) block ∷ []) (withHead s (s .flags + 8) (s .current) (s .finalized)))
+      Makes (propose (s .current)) (proposal (s .own) (s .current) block ∷ [])
+      (withHead s (s .flags + 8) (s .current) (s .finalized)))
 
   -- ---- step 2: the vote for the dummy block goes out once, after the timer fired and not before
   abbrev pub MayVoteDummy : Type 0
@@ -61,9 +66,11 @@ module _ (digest : Bytes → Bytes) (s : State) where
   DummyBlocks =
       ((step digest s .move ≡ voteDummy (s .current)) ↔ MayVoteDummy) ×
       (step digest s .move ≡ voteDummy (s .current) →
-      Makes (voteDummy (s .current)) (dummyVote (s .own) (s .current) ∷ []) (withHead s (s .flags + 2) (s .current) (s .finalized)))
+      Makes (voteDummy (s .current)) (dummyVote (s .own) (s .current) ∷ [])
+      (withHead s (s .flags + 2) (s .current) (s .finalized)))
 
-  -- ---- step 3: the first proposal kept is voted for, once, if it extends a notarized blockchain; a dummy vote does not matter
+  -- ---- step 3: the first proposal kept is voted for, once, if it extends a notarized blockchain; a dummy vote does
+  -- not matter
   abbrev pub MayVoteBlock : Type 0
   MayVoteBlock =
       Running × (flag 4 s ≡ false) × (holdsProposal (at s (s .current)) ≡ true) ×
@@ -99,7 +106,8 @@ module _ (digest : Bytes → Bytes) (s : State) where
       (((certificate : Certificate) × (finalized : Bool) ×
       (step digest s .move ≡ pass (s .current) certificate finalized)) ↔ MayPass) ×
       (Running → SeenWithBlock digest (view s) (s .current) → Passes onBlock) ×
-      (Running → SeenOfHeight digest (view s) (s .current) → (SeenWithBlock digest (view s) (s .current) → ⊥) → Passes onDummy)
+      (Running → SeenOfHeight digest (view s) (s .current) → (SeenWithBlock digest (view s) (s .current) → ⊥) →
+      Passes onDummy)
 
   -- ---- step 5: the log grows to the highest finalized blockchain that ends in a block
   abbrev pub MayOutput : Type 0

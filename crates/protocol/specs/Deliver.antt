@@ -7,9 +7,12 @@ use lib.ListN.{take, drop}
 use lib.Dec.{eqb, ltb}
 use Rattle.protocol.specs.Bytes.{Bytes, same}
 use Rattle.protocol.specs.Tests.{allOf, implies, inRange, Row, firstRefusal}
-use Rattle.protocol.specs.Frame.{kind, signer, frameHeight, signerMask, frameDigest, frameBlock, frameWellFormed, isStatement, isProposal, isBlockVote, isDummyVote, isFinalize, isBlockCertificate, isDummyCertificate}
+use Rattle.protocol.specs.Frame.{kind, signer, frameHeight, signerMask, frameDigest, frameBlock, frameWellFormed}
+use Rattle.protocol.specs.Frame.{isStatement, isProposal, isBlockVote, isDummyVote, isFinalize}
+use Rattle.protocol.specs.Frame.{isBlockCertificate, isDummyCertificate}
 use Rattle.protocol.specs.Mask.{inMask, maskOf, union, belowBit}
-use Rattle.protocol.specs.State.{State, Height, at, last, withHeight, encode, decode, holdsProposal, isNotarized, voteOf}
+use Rattle.protocol.specs.State.{State, Height, at, last, withHeight, encode, decode, holdsProposal, isNotarized}
+use Rattle.protocol.specs.State.{voteOf}
 use Rattle.protocol.specs.View.{View, quorum}
 use Rattle.protocol.specs.Sound.{view, sound}
 use Rattle.protocol.specs.Answer.{Outcome, Delivery, known, fresh, accepted, unlessRefused}

@@ -69,7 +69,8 @@ carriesBlock k = isProposal k || isBlockCertificate k
 unfoldable pub carriesDigest : ℕ → Bool
 carriesDigest k = isBlockVote k
 
--- all that refusal 4 asks of a frame: its length, its kind, unused fields zero, its block; the high byte of the height is
+-- all that refusal 4 asks of a frame: its length, its kind, unused fields zero, its block; the high byte of the height
+-- is
 -- called zero, so heights are below 256
 unfoldable pub frameWellFormed : Bytes → Bool
 frameWellFormed frame = allOf

@@ -13,7 +13,8 @@ use Rattle.protocol.specs.State.{State, at, last, encode, decode, holdsP
 use Rattle.protocol.specs.View.{View, linked, isDummy, extends, largestFinalized, parentOf, digestAt, logAt}
 use Rattle.protocol.specs.Sound.{view, sound}
 use Rattle.protocol.specs.Certificates.{certificateFrame}
-use Rattle.protocol.specs.Answer.{Answer, refused, accepted, Move, idle, voteDummy, output, pass, propose, voteBlock, Certificate, onBlock, onDummy, certificateKind}
+use Rattle.protocol.specs.Answer.{Answer, refused, accepted, Move, idle, voteDummy, output, pass, propose}
+use Rattle.protocol.specs.Answer.{voteBlock, Certificate, onBlock, onDummy, certificateKind}
 
 -- one move: its name, the state after it and the frames that it writes
 pub record Step : Type 0 where

@@ -8,7 +8,8 @@ use Rattle.protocol.specs.Bytes.{Bytes}
 use Rattle.protocol.specs.Every.{Every}
 use Rattle.protocol.specs.Block.{maximumHeights, blockWellFormed}
 use Rattle.protocol.specs.Mask.{maskLimit}
-use Rattle.protocol.specs.State.{State, Height, at, last, holdsProposal, isNotarized, maximumReplicas, maximumPending}
+use Rattle.protocol.specs.State.{State, Height, at, last, holdsProposal, isNotarized, maximumReplicas}
+use Rattle.protocol.specs.State.{maximumPending}
 use Rattle.protocol.specs.View.{View, quorum, isFinalized}
 use Rattle.protocol.specs.Sound.{view}
 

@@ -80,7 +80,8 @@ module _ (digest : Bytes → Bytes) where
   largestFinalized v zero = 0
   largestFinalized v (suc h) = cond (isFinalized v (suc h)) (suc h) (largestFinalized v h)
 
-  -- the chain of height `h` (document 01), by its last block's height: the largest linked height with dummies after it up to `h`
+  -- the chain of height `h` (document 01), by its last block's height: the largest linked height with dummies after it
+  -- up to `h`
   unfoldable pub parentOf : View → ℕ → Option ℕ
   parentOf v zero = some 0
   parentOf v (suc h) = cond (linked v (suc h)) (some (suc h)) (cond (isDummy v (suc h)) (parentOf v h) none)

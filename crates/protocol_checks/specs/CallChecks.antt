@@ -166,7 +166,8 @@ unfolding calls unlinked
 fetches = refl
 
 -- the frames written, as a list: that one, or none
-fetched-frames : fetchCall standIn unlinked 6 1 (zeros 224) .frames ++ fetchCall standIn unlinked 6 2 (zeros 224) .frames ≡
+fetched-frames : fetchCall standIn unlinked 6 1 (zeros 224) .frames ++ fetchCall standIn unlinked 6 2 (zeros 224)
+    .frames ≡
     dummyCertificate 1 11 ∷ []
 unfolding calls unlinked
 fetched-frames = refl

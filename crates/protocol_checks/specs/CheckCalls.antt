@@ -4,7 +4,9 @@ use mathlib.Core.Bool.{Bool, _&&_, cond}
 use mathlib.Core.List.{List, [], _∷_, _++_}
 use lib.ListN.{length, take, drop}
 use Rattle.protocol.specs.Bytes.{Bytes, same}
-use Rattle.protocol.specs.Answer.{Answer, refused, accepted, Done, Delivery, known, fresh, Move, idle, voteDummy, output, pass, propose, voteBlock, certificateKind, finalizeKind, moveNumber, moveHeight}
+use Rattle.protocol.specs.Answer.{Answer, refused, accepted, Done, Delivery, known, fresh, Move, idle, voteDummy}
+use Rattle.protocol.specs.Answer.{output, pass, propose, voteBlock, certificateKind, finalizeKind, moveNumber}
+use Rattle.protocol.specs.Answer.{moveHeight}
 use Rattle.protocol.specs.Open.{openCall}
 use Rattle.protocol.specs.Deliver.{deliverCall}
 use Rattle.protocol.specs.Move.{moveCall}
@@ -12,7 +14,8 @@ use Rattle.protocol.specs.Signal.{signalCall}
 use Rattle.protocol.specs.Submit.{submitCall}
 use Rattle.protocol.specs.Read.{sizeCall, readPart, readBuffer}
 use Rattle.protocol.specs.Fetch.{fetchCall}
-use Rattle.protocol.specs.Call.{Call, opening, delivery, moving, signalling, submitting, sizing, reading, fetching, bookAfter, bookAfterAll}
+use Rattle.protocol.specs.Call.{Call, opening, delivery, moving, signalling, submitting, sizing, reading, fetching}
+use Rattle.protocol.specs.Call.{bookAfter, bookAfterAll}
 use Rattle.protocol.specs.Computing.{everything}
 
 -- ---- a stand-in for SHA-256: byte i is the sum of each byte times its place counted from 1, plus i, modulo 251
@@ -145,5 +148,6 @@ disagreement i book (x ∷ xs) =
 
 -- opens every definition and these tools
 unfoldable pub tools : Unit {0}
-unfolding everything standIn placeSum countUp numbersOf doneNumbers deliveryNumbers passNumbers moveNumbers answerOf lent lentAfter perform answers refuses splice expect changed agrees disagreement
+unfolding everything standIn placeSum countUp numbersOf doneNumbers deliveryNumbers passNumbers moveNumbers answerOf
+    lent lentAfter perform answers refuses splice expect changed agrees disagreement
 tools = tt

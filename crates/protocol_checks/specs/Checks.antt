@@ -7,7 +7,8 @@ use lib.ListN.{replicate, take}
 use Rattle.protocol.specs.Bytes.{Bytes, zeros}
 use Rattle.protocol.specs.Tests.{allOf}
 use Rattle.protocol.specs.Block.{newBlock}
-use Rattle.protocol.specs.Frame.{frameOf, proposal, blockVote, dummyVote, finalize, blockCertificate, dummyCertificate, finalizeCertificate}
+use Rattle.protocol.specs.Frame.{frameOf, proposal, blockVote, dummyVote, finalize, blockCertificate, dummyCertificate}
+use Rattle.protocol.specs.Frame.{finalizeCertificate}
 use Rattle.protocol.specs.Sound.{sound}
 use Rattle.protocol.specs.Call.{opening, delivery, moving, signalling, submitting, sizing, fetching}
 use Rattle.protocol_checks.specs.CheckCalls.{standIn, after, answers, refuses, splice, tools}
@@ -122,7 +123,8 @@ malformed : allOf
     spoiled (finalize 1 1) (3 ∷ 6 ∷ 15 ∷ 4 ∷ 5 ∷ 16 ∷ 47 ∷ 48 ∷ 223 ∷ []) ∷
     spoiled (dummyCertificate 1 7) (1 ∷ 3 ∷ 6 ∷ 15 ∷ 16 ∷ 47 ∷ 48 ∷ 223 ∷ []) ∷
     spoiled (finalizeCertificate 1 7) (1 ∷ 3 ∷ 6 ∷ 15 ∷ 16 ∷ 47 ∷ 48 ∷ 223 ∷ []) ∷
-    -- of a block also its own zero bytes, a parent that is not below it, a parent digest without a parent, bytes past the entry
+    -- of a block also its own zero bytes, a parent that is not below it, a parent digest without a parent, bytes past
+    -- the entry
     spoiled (proposal 0 1 one) (3 ∷ 6 ∷ 15 ∷ 4 ∷ 5 ∷ 16 ∷ 47 ∷ 49 ∷ 50 ∷ 51 ∷ 53 ∷ 63 ∷ 64 ∷ 95 ∷ 112 ∷ 223 ∷ []) ∷
     spoiled (blockCertificate 1 7 one) (1 ∷ 3 ∷ 6 ∷ 15 ∷ 16 ∷ 47 ∷ 49 ∷ 50 ∷ 51 ∷ 53 ∷ 63 ∷ 64 ∷ 95 ∷ 112 ∷ 223 ∷ []) ∷
     -- another height than the frame's, nine entries, a frame of 223 and of 225 bytes
@@ -135,13 +137,16 @@ malformed = refl
 
 -- the frames as they were are all fresh
 formed : answers single
-    (delivery (blockVote 1 1 (standIn one)) ∷ delivery (dummyVote 1 1) ∷ delivery (finalize 1 1) ∷ delivery (dummyCertificate 1 7) ∷
-    delivery (finalizeCertificate 1 7) ∷ delivery (proposal 0 1 one) ∷ delivery (blockCertificate 1 7 one) ∷ []) ≡ replicate 7 (0 ∷ 1 ∷ [])
+    (delivery (blockVote 1 1 (standIn one)) ∷ delivery (dummyVote 1 1) ∷ delivery (finalize 1 1) ∷ delivery
+    (dummyCertificate 1 7) ∷
+    delivery (finalizeCertificate 1 7) ∷ delivery (proposal 0 1 one) ∷ delivery (blockCertificate 1 7 one) ∷ []) ≡
+    replicate 7 (0 ∷ 1 ∷ [])
 unfolding books
 formed = refl
 
 -- 11 signers of 16 are a quorum (example c), with a mask of two bytes
-eleven : answers sixteen (delivery (dummyCertificate 1 2047) ∷ moving (zeros 448) ∷ []) ≡ (0 ∷ 1 ∷ []) ∷ (0 ∷ 3 ∷ 1 ∷ 6 ∷ 4 ∷ []) ∷ []
+eleven : answers sixteen (delivery (dummyCertificate 1 2047) ∷ moving (zeros 448) ∷ []) ≡ (0 ∷ 1 ∷ []) ∷
+    (0 ∷ 3 ∷ 1 ∷ 6 ∷ 4 ∷ []) ∷ []
 unfolding books
 eleven = refl
 

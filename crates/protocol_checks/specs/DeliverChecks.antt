@@ -8,7 +8,8 @@ use lib.ListN.{replicate}
 use Rattle.protocol.specs.Bytes.{Bytes, zeros}
 use Rattle.protocol.specs.Tests.{firstRefusal}
 use Rattle.protocol.specs.Block.{newBlock}
-use Rattle.protocol.specs.Frame.{proposal, blockVote, dummyVote, finalize, blockCertificate, dummyCertificate, finalizeCertificate}
+use Rattle.protocol.specs.Frame.{proposal, blockVote, dummyVote, finalize, blockCertificate, dummyCertificate}
+use Rattle.protocol.specs.Frame.{finalizeCertificate}
 use Rattle.protocol.specs.State.{State, Height}
 use Rattle.protocol.specs.Deliver.{readRows, clashRows, keep}
 use Rattle.protocol_checks.specs.CheckCalls.{standIn, splice}
@@ -230,7 +231,8 @@ block-places = refl
 
 -- a vote's digest at its signer's place, the first, a middle one and the last of sixteen; the others stay
 vote-places : map
-    (λ s. bodiesOf (keep standIn (ofSixteen (height 0 0 0 0 0 16 [] [] (replicate 512 5))) (blockVote s 1 (counting 1 32))))
+    (λ s. bodiesOf (keep standIn (ofSixteen (height 0 0 0 0 0 16 [] [] (replicate 512 5)))
+    (blockVote s 1 (counting 1 32))))
     (0 ∷ 3 ∷ 4 ∷ 15 ∷ []) ≡
     ([] ∷ [] ∷ (counting 1 32 ++ replicate 480 5) ∷ []) ∷
     ([] ∷ [] ∷ (replicate 96 5 ++ (counting 1 32 ++ replicate 384 5)) ∷ []) ∷

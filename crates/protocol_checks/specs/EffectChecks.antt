@@ -8,7 +8,8 @@ use lib.ListN.{replicate}
 use Rattle.protocol.specs.Bytes.{Bytes, zeros}
 use Rattle.protocol.specs.Block.{newBlock}
 use Rattle.protocol.specs.Frame.{dummyVote, finalize, blockCertificate, dummyCertificate, finalizeCertificate}
-use Rattle.protocol.specs.Call.{Call, Opened, opening, delivery, moving, signalling, submitting, sizing, reading, fetching, effect}
+use Rattle.protocol.specs.Call.{Call, Opened, opening, delivery, moving, signalling, submitting, sizing, reading}
+use Rattle.protocol.specs.Call.{fetching, effect}
 use Rattle.protocol_checks.specs.CheckCalls.{standIn, after, tools}
 
 first : Bytes

@@ -7,8 +7,11 @@ use mathlib.Core.Bool.{Bool, true, not}
 use lib.ListN.{replicate, take}
 use Rattle.protocol.specs.Bytes.{Bytes, zeros}
 use Rattle.protocol.specs.Tests.{allOf}
-use Rattle.protocol.specs.Block.{blockHeight, parentHeight, parentDigest, entryCount, entries, allEntries, blockWellFormed, newBlock}
-use Rattle.protocol.specs.Frame.{kind, signer, frameHeight, signerMask, frameDigest, frameBlock, frameWellFormed, proposal, blockVote, dummyVote, finalize, blockCertificate, dummyCertificate, finalizeCertificate}
+use Rattle.protocol.specs.Block.{blockHeight, parentHeight, parentDigest, entryCount, entries, allEntries}
+use Rattle.protocol.specs.Block.{blockWellFormed, newBlock}
+use Rattle.protocol.specs.Frame.{kind, signer, frameHeight, signerMask, frameDigest, frameBlock, frameWellFormed}
+use Rattle.protocol.specs.Frame.{proposal, blockVote, dummyVote, finalize, blockCertificate, dummyCertificate}
+use Rattle.protocol.specs.Frame.{finalizeCertificate}
 use Rattle.protocol_checks.specs.CheckCalls.{countUp, splice}
 use Rattle.protocol_checks.specs.CheckStates.{entry, counting, freePlaces, passing, stateTools}
 

@@ -10,7 +10,8 @@ use Rattle.protocol.specs.Frame.{proposal, blockVote, dummyVote, finalize, bloc
 use Rattle.protocol.specs.State.{State, Height}
 use Rattle.protocol.specs.Move.{Step, step, written}
 use Rattle.protocol_checks.specs.CheckCalls.{standIn, moveNumbers}
-use Rattle.protocol_checks.specs.CheckStates.{entry, counting, entriesFrom, height, vacant, dummied, notarizedBy7, state, stateTools}
+use Rattle.protocol_checks.specs.CheckStates.{entry, counting, entriesFrom, height, vacant, dummied, notarizedBy7}
+use Rattle.protocol_checks.specs.CheckStates.{state, stateTools}
 
 -- ---- states and what a move says of them
 -- the move's numbers (document 01's number, the height, and of a pass its certificate and 4 or 0), then the flags, c

@@ -5,7 +5,8 @@ use mathlib.Core.List.{List, [], _∷_, _++_}
 use lib.ListN.{replicate}
 use Rattle.protocol.specs.Bytes.{Bytes, zeros, part, join}
 use Rattle.protocol.specs.Block.{newBlock}
-use Rattle.protocol.specs.Frame.{proposal, blockVote, dummyVote, finalize, blockCertificate, dummyCertificate, finalizeCertificate}
+use Rattle.protocol.specs.Frame.{proposal, blockVote, dummyVote, finalize, blockCertificate, dummyCertificate}
+use Rattle.protocol.specs.Frame.{finalizeCertificate}
 use Rattle.protocol.specs.Call.{opening, delivery, moving, submitting}
 use Rattle.protocol_checks.specs.CheckCalls.{standIn, perform, after, answers, splice, tools}
 
@@ -53,7 +54,8 @@ wrong-parent = refl
 
 -- move 3: where height 1 is both linked and dummy, the first frame is the block's certificate
 block-preferred : perform
-    (after (zeros 1456) (opening 4 0 1 (1 ∷ []) ∷ delivery (dummyCertificate 1 7) ∷ delivery (blockCertificate 1 11 first) ∷ []))
+    (after (zeros 1456) (opening 4 0 1 (1 ∷ []) ∷ delivery (dummyCertificate 1 7) ∷ delivery
+    (blockCertificate 1 11 first) ∷ []))
     (moving (zeros 448)) .buffer ≡ blockCertificate 1 11 first ++ finalize 0 1
 unfolding tools entry first
 block-preferred = refl
@@ -62,7 +64,8 @@ block-preferred = refl
 voters-only : part
     (after (zeros 1456)
     (opening 4 0 1 (1 ∷ []) ∷ delivery (blockVote 0 1 (standIn first)) ∷ delivery (blockVote 2 1 (zeros 32)) ∷
-    delivery (blockVote 3 1 (standIn first)) ∷ delivery (proposal 1 1 first) ∷ delivery (blockVote 1 1 (standIn first)) ∷ []))
+    delivery (blockVote 3 1 (standIn first)) ∷ delivery (proposal 1 1 first) ∷ delivery
+    (blockVote 1 1 (standIn first)) ∷ []))
     576 10 ≡ 1 ∷ 3 ∷ 11 ∷ 0 ∷ 0 ∷ 0 ∷ 0 ∷ 0 ∷ 15 ∷ 0 ∷ []
 unfolding tools entry first
 voters-only = refl

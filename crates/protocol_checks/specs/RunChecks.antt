@@ -1,4 +1,5 @@
--- The definitions on whole runs: document 01's rehearsal, a height finalized by votes and one by certificates, and its list of errors.
+-- The definitions on whole runs: document 01's rehearsal, a height finalized by votes and one by certificates, and its
+-- list of errors.
 use Prim.Native.Nat.{ℕ, zero, suc}
 use mathlib.Core.Path.{_≡_, refl}
 use mathlib.Core.Bool.{cond}
@@ -7,8 +8,10 @@ use lib.ListN.{replicate}
 use lib.Dec.{eqb}
 use Rattle.protocol.specs.Bytes.{Bytes, zeros}
 use Rattle.protocol.specs.Block.{newBlock}
-use Rattle.protocol.specs.Frame.{kind, signer, frameHeight, proposal, blockVote, dummyVote, finalize, blockCertificate, dummyCertificate, finalizeCertificate}
-use Rattle.protocol.specs.Answer.{Answer, refused, accepted, Delivery, known, fresh, Move, idle, voteDummy, output, pass, propose, voteBlock, Outcome, certificateKind, finalizeKind, moveNumber}
+use Rattle.protocol.specs.Frame.{kind, signer, frameHeight, proposal, blockVote, dummyVote, finalize, blockCertificate}
+use Rattle.protocol.specs.Frame.{dummyCertificate, finalizeCertificate}
+use Rattle.protocol.specs.Answer.{Answer, refused, accepted, Delivery, known, fresh, Move, idle, voteDummy, output}
+use Rattle.protocol.specs.Answer.{pass, propose, voteBlock, Outcome, certificateKind, finalizeKind, moveNumber}
 use Rattle.protocol.specs.Deliver.{deliverCall}
 use Rattle.protocol.specs.Move.{MoveOutcome, moveCall}
 use Rattle.protocol.specs.Call.{Call, opening, delivery, moving, signalling, submitting, sizing, reading}
@@ -102,7 +105,8 @@ first = newBlock 1 0 (zeros 32) (entry 1 ∷ [])
 second : Bytes
 second = newBlock 2 1 (standIn first) (entry 2 ∷ entry 3 ∷ [])
 
--- height 1 by single votes (the proposal, three block votes, three finalizes), height 2 by certificates, the finalize one first
+-- height 1 by single votes (the proposal, three block votes, three finalizes), height 2 by certificates, the finalize
+-- one first
 twoHeights : List Call
 twoHeights =
     opening 4 0 2 (0 ∷ 1 ∷ []) ∷
@@ -192,7 +196,8 @@ all-apply : answers (zeros 1456)
 unfolding tools entry first
 all-apply = refl
 
--- the leader holds a proposal: move 4, then 5; the timer then fires after the vote, and its flag stays after the dummy vote
+-- the leader holds a proposal: move 4, then 5; the timer then fires after the vote, and its flag stays after the dummy
+-- vote
 vote-and-dummy : answers (zeros 1456)
     (opening 4 0 1 (0 ∷ []) ∷
     delivery (proposal 0 1 first) ∷

@@ -12,7 +12,8 @@ use Rattle.protocol.specs.State.{Height}
 use Rattle.protocol.specs.View.{View, quorum, isDummy, linked, extends, isFinalized, largestFinalized, parentOf, logAt}
 use Rattle.protocol.specs.Sound.{view}
 use Rattle.protocol_checks.specs.CheckCalls.{standIn, splice}
-use Rattle.protocol_checks.specs.CheckStates.{entry, counting, passing, height, vacant, dummied, notarizedBy7, state, viewOf, stateTools}
+use Rattle.protocol_checks.specs.CheckStates.{entry, counting, passing, height, vacant, dummied, notarizedBy7}
+use Rattle.protocol_checks.specs.CheckStates.{state, viewOf, stateTools}
 
 -- ---- quorums
 -- a mask of so many replicas, from 0 on; and of the last of n
@@ -137,7 +138,8 @@ unlinked = newBlock 2 1 wrongLast []
 standsAt : List Height → Bytes → List ℕ
 standsAt heights block = passing (λ h. extends standIn (viewOf heights) h block) (counting 1 4)
 
--- on a chain, and not where its first block is held alone; on height 0; on a block that is not linked, above one that is;
+-- on a chain, and not where its first block is held alone; on height 0; on a block that is not linked, above one that
+-- is;
 -- on a linked block above heights that are not
 standing : standsAt (notarizedBy7 first ∷ notarizedBy7 second ∷ []) third ∷
     standsAt (onlyHeld ∷ notarizedBy7 second ∷ []) third ∷

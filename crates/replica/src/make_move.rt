@@ -11,7 +11,8 @@ pub fn make_move(book: &mut [u8], reply: &mut [u8]) -> Moved
     ensures answer { λ r. ⌜ movedAnswer r ≡ moveCall sha256 (now (book .entry)) (now (reply .entry)) .answer ⌝ }
     ensures book { λ _. ⌜ now (book .exit) ≡ moveCall sha256 (now (book .entry)) (now (reply .entry)) .book ⌝ }
     ensures reply { λ _. ⌜ now (reply .exit) ≡ moveCall sha256 (now (book .entry)) (now (reply .entry)) .reply ⌝ }
-    ensures numbers { λ r. ⌜ movedNumbers r ≡ answerNumbers (moveCall sha256 (now (book .entry)) (now (reply .entry)) .answer) ⌝ }
+    ensures numbers { λ r. ⌜ movedNumbers r ≡
+        answerNumbers (moveCall sha256 (now (book .entry)) (now (reply .entry)) .answer) ⌝ }
 {
     moves::make_move::make_move(book, reply)
 }

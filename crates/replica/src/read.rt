@@ -31,7 +31,8 @@ pub fn read_into(book: &[u8], buffer: &mut [u8]) -> usize
     }
 }
 
-// The log in the front part of the lent buffer, or an empty part where the book is not sound or the buffer is too short.
+// The log in the front part of the lent buffer, or an empty part where the book is not sound or the buffer is too
+// short.
 // Of the bytes past the part no contract can speak here, since the part is lent on: `read_into` has them.
 pub fn read<'a>(book: &[u8], buffer: &'a mut [u8]) -> &'a mut [u8]
     ensures { λ r. ⌜ now r ≡ readPart sha (now (book .entry)) (now (buffer .entry)) ⌝ }

@@ -1,6 +1,9 @@
--- An answer as one number for C: its low byte is the refusal's number, 0 where the call is not refused; the values stand in the bytes above.
+-- An answer as one number for C: its low byte is the refusal's number, 0 where the call is not refused; the values
+-- stand in the bytes above.
 use Prim.Native.Nat.{ℕ, _+_, _*_}
-use Rattle.protocol.specs.Answer.{Answer, refused, accepted, Done, Delivery, known, fresh, Move, idle, voteDummy, output, pass, propose, voteBlock, certificateKind, finalizeKind, moveNumber, moveHeight}
+use Rattle.protocol.specs.Answer.{Answer, refused, accepted, Done, Delivery, known, fresh, Move, idle, voteDummy}
+use Rattle.protocol.specs.Answer.{output, pass, propose, voteBlock, certificateKind, finalizeKind, moveNumber}
+use Rattle.protocol.specs.Answer.{moveHeight}
 
 -- Open, Signal, Submit, Fetch: 0 where the call is done
 unfoldable pub packedDone : Answer Done → ℕ

@@ -1,6 +1,8 @@
--- What the functions of host/include/mavunilai.h read out of the number that a call returned, and what they are to give.
+-- What the functions of host/include/mavunilai.h read out of the number that a call returned, and what they are to
+-- give.
 -- UnpackingLaws proves it for each call. The number has 64 bits and no sign, so `answer.packed & 255u` is
--- `bitAnd answer 255` here, `answer.packed >> 8` is `answer / 2 ^ 8`, and the cast of a number below 256 changes nothing.
+-- `bitAnd answer 255` here, `answer.packed >> 8` is `answer / 2 ^ 8`, and the cast of a number below 256 changes
+-- nothing.
 use Prim.Native.Nat.{ℕ, _/_, _^_, _≤_}
 use mathlib.Core.Path.{_≡_}
 use mathlib.Core.Bool.{_||_, cond}

@@ -1,6 +1,9 @@
-// The calls for programs in C: on byte slices, each a pointer and a length, and numbers. host/include/mavunilai.h declares them.
-// An answer is one number. Its lowest byte is the refusal's number, 0 where the call is not refused; specs/Packing says what stands above.
-// Each contract equates the number with the packing of what the protocol's definition of the call answers, and the lent bytes with what it leaves.
+// The calls for programs in C: on byte slices, each a pointer and a length, and numbers. host/include/mavunilai.h
+// declares them.
+// An answer is one number. Its lowest byte is the refusal's number, 0 where the call is not refused; specs/Packing says
+// what stands above.
+// Each contract equates the number with the packing of what the protocol's definition of the call answers, and the lent
+// bytes with what it leaves.
 use answers::answer::Answer;
 use answers::answer::Certificate;
 use answers::answer::Delivered;
@@ -21,7 +24,8 @@ ghost use Rattle.protocol.specs.Read.{readPart, readBuffer, sizeCall};
 ghost use Rattle.protocol.specs.Block.{maximumHeights};
 ghost use Rattle.answers.specs.Answers.{doneAnswer, deliveredAnswer, certificateOf, movedAnswer, sizeAnswer};
 ghost use Rattle.replica_c.specs.Interface.{interfaceNumber};
-ghost use Rattle.replica_c.specs.Packing.{packedDone, packedDelivery, packedMove, packedSize, answeredHeight, answeredSize};
+ghost use Rattle.replica_c.specs.Packing.{packedDone, packedDelivery, packedMove, packedSize, answeredHeight};
+ghost use Rattle.replica_c.specs.Packing.{answeredSize};
 
 // The number for an answer that says no more than done or refused.
 fn done_number(answer: Answer) -> usize
@@ -44,7 +48,8 @@ fn delivered_number(answer: Delivered) -> usize
     }
 }
 
-// Open: makes a new book for replica `own` of `n`; byte h - 1 of `leaders` is the leader of height h. The book's old bytes do not matter.
+// Open: makes a new book for replica `own` of `n`; byte h - 1 of `leaders` is the leader of height h. The book's old
+// bytes do not matter.
 // Returns 0 where it is made. Refusals, the first that applies: 2, 1 (`openCall`).
 #[no_mangle]
 pub extern "C" fn mavunilai_open(
@@ -54,14 +59,16 @@ pub extern "C" fn mavunilai_open(
     heights: usize,
     leaders: &[u8],
 ) -> usize
-    ensures answer { λ r. ⌜ r ≡ packedDone (openCall (now (book .entry)) n own heights (now (leaders .entry)) .answer) ⌝ }
+    ensures answer { λ r. ⌜ r ≡
+        packedDone (openCall (now (book .entry)) n own heights (now (leaders .entry)) .answer) ⌝ }
     ensures book { λ _. ⌜ now (book .exit) ≡ openCall (now (book .entry)) n own heights (now (leaders .entry)) .book ⌝ }
 {
     done_number(replica::open::open(book, n, own, heights, leaders))
 }
 
 // Deliver: keeps what a frame says, whose signatures the caller has checked.
-// Returns 256 where the frame was fresh, so that the book changed, and 0 where it was known. Refusals: 1, 4, 6, 5, 7, 9, 8, 10 (`deliverCall`).
+// Returns 256 where the frame was fresh, so that the book changed, and 0 where it was known. Refusals: 1, 4, 6, 5, 7,
+// 9, 8, 10 (`deliverCall`).
 #[no_mangle]
 pub extern "C" fn mavunilai_deliver(book: &mut [u8], frame: &[u8]) -> usize
     ensures answer { λ r. ⌜ r ≡ packedDelivery (deliverCall sha256 (now (book .entry)) (now (frame .entry)) .answer) ⌝ }
@@ -99,14 +106,17 @@ pub extern "C" fn mavunilai_fetch(
     height: usize,
     reply: &mut [u8],
 ) -> usize
-    ensures answer { λ r. ⌜ r ≡ packedDone (fetchCall sha256 (now (book .entry)) kind height (now (reply .entry)) .answer) ⌝ }
-    ensures reply { λ _. ⌜ now (reply .exit) ≡ fetchCall sha256 (now (book .entry)) kind height (now (reply .entry)) .reply ⌝ }
+    ensures answer { λ r. ⌜ r ≡
+        packedDone (fetchCall sha256 (now (book .entry)) kind height (now (reply .entry)) .answer) ⌝ }
+    ensures reply { λ _. ⌜ now (reply .exit) ≡
+        fetchCall sha256 (now (book .entry)) kind height (now (reply .entry)) .reply ⌝ }
 {
     done_number(replica::fetch::fetch(book, kind, height, reply))
 }
 
 // Read: copies the log to the front of the buffer.
-// Returns how many bytes it wrote, not a packed answer: 0 where the book is not sound, the buffer is too short or the log is empty (`readPart`).
+// Returns how many bytes it wrote, not a packed answer: 0 where the book is not sound, the buffer is too short or the
+// log is empty (`readPart`).
 #[no_mangle]
 pub extern "C" fn mavunilai_read(book: &[u8], buffer: &mut [u8]) -> usize
     ensures length { λ r. ⌜ r ≡ length (readPart sha256 (now (book .entry)) (now (buffer .entry))) ⌝ }
@@ -171,7 +181,8 @@ fn size_number(answer: Size) -> usize
 }
 
 // Move: makes the first move that applies, and writes its frames to the front of the reply.
-// Returns in byte 1 the move's number, in bytes 2 and 3 its height, in bytes 4 and 5 the kinds of a pass's frames; 0 where it is
+// Returns in byte 1 the move's number, in bytes 2 and 3 its height, in bytes 4 and 5 the kinds of a pass's frames; 0
+// where it is
 // idle (`packedMove`).
 // Refusals: 1, 3 (`moveCall`). Test for a refusal first: the bytes above it are 0, and 0 is idle's number too.
 #[no_mangle]

@@ -26,31 +26,36 @@ stored front values at count place fits =
     let head : take at (front ++ zeros (count - at)) ≡ front = take-at front _ at place in
     let tail : drop (at + length values) (front ++ zeros (count - at)) ≡ zeros (count - (at + length values))
     = rw parts
-    (drop-at (front ++ zeros (length values)) _ (at + length values) (simp (length-append, zeros-length) (omega arith))) in
+    (drop-at (front ++ zeros (length values)) _ (at + length values)
+    (simp (length-append, zeros-length) (omega arith))) in
     sets-eq values (front ++ zeros (count - at)) at (simp (length-append, zeros-length) (omega arith)) ∙ rw (head, tail)
 
 -- one byte of a loop that copies
 pub copied : (source : Bytes) (at count : ℕ) → at < length source → at < count
-    → set (take at source ++ zeros (count - at)) at (getD source at 0) ≡ take (at + 1) source ++ zeros (count - (at + 1))
+    → set (take at source ++ zeros (count - at)) at (getD source at 0) ≡ take (at + 1) source ++ zeros
+    (count - (at + 1))
 copied source at count inside fits =
     stored (take at source) (getD source at 0 ∷ []) at count (length-take-le at source (omega arith)) (omega arith)
     ∙ rw (add-one, take-suc source at 0 inside)
 
 -- the byte after the last that was copied
-pub closed : (rest : Bytes) (at : ℕ) → at ≡ length rest → length rest < 64 → set (take at rest ++ zeros (64 - at)) at 0x80 ≡ opened rest
+pub closed : (rest : Bytes) (at : ℕ) → at ≡ length rest → length rest < 64 →
+    set (take at rest ++ zeros (64 - at)) at 0x80 ≡ opened rest
 unfolding opened
 closed rest at done fits =
     let count : 64 - (length rest + 1) ≡ 63 - length rest = omega arith in
     rw (done, take-length) (stored rest (0x80 ∷ []) (length rest) 64 refl (omega arith) ∙ rw (append-snoc, count))
 
 -- the bytes of a word and of a length, as the code computes them
-word-bytes : (word : ℕ) → bigEndian 4 word ≡ word / 0x100_0000 % 256 ∷ word / 0x1_0000 % 256 ∷ word / 0x100 % 256 ∷ word % 256 ∷ []
+word-bytes : (word : ℕ) → bigEndian 4 word ≡ word / 0x100_0000 % 256 ∷ word / 0x1_0000 % 256 ∷ word / 0x100 % 256 ∷
+    word % 256 ∷ []
 unfolding bigEndian
 word-bytes word = rw div-one
 
 abbrev lengthBytes : ℕ → Bytes
 lengthBytes bits =
-    bits / 0x100_0000_0000_0000 % 256 ∷ bits / 0x1_0000_0000_0000 % 256 ∷ bits / 0x100_0000_0000 % 256 ∷ bits / 0x1_0000_0000 % 256
+    bits / 0x100_0000_0000_0000 % 256 ∷ bits / 0x1_0000_0000_0000 % 256 ∷ bits / 0x100_0000_0000 % 256 ∷ bits /
+    0x1_0000_0000 % 256
     ∷ bits / 0x100_0000 % 256 ∷ bits / 0x1_0000 % 256 ∷ bits / 0x100 % 256 ∷ bits % 256 ∷ []
 
 length-bytes : (size : ℕ) → bigEndian 8 (8 * size) ≡ lengthBytes (size % 0x2000_0000_0000_0000 * 8)
@@ -68,20 +73,24 @@ lengthened block size whole =
 
 -- one word of a loop that writes words
 pub worded : (words : List ℕ) (i : ℕ) → i < 8 → length words ≡ 8
-    → set (set (set (set (wordsBytes (take i words) ++ zeros (32 - 4 * i)) (4 * i) (getD words i 0 / 0x100_0000 % 256)) (4 * i + 1) (getD words i 0 / 0x1_0000 % 256))
+    → set (set (set (set (wordsBytes (take i words) ++ zeros (32 - 4 * i)) (4 * i) (getD words i 0 / 0x100_0000 % 256))
+    (4 * i + 1) (getD words i 0 / 0x1_0000 % 256))
     (4 * i + 2) (getD words i 0 / 0x100 % 256)) (4 * i + 3) (getD words i 0 % 256)
     ≡ wordsBytes (take (i + 1) words) ++ zeros (32 - 4 * (i + 1))
 unfolding wordsBytes
 worded words i fits whole =
-    let place : length (wordsBytes (take i words)) ≡ 4 * i = wordsBytes-length (take i words) ∙ rw (length-take-le i words (omega arith)) in
+    let place : length (wordsBytes (take i words)) ≡ 4 * i = wordsBytes-length (take i words)
+    ∙ rw (length-take-le i words (omega arith)) in
     let word = getD words i 0 in
     let after : wordsBytes (take (i + 1) words) ≡ wordsBytes (take i words) ++ bigEndian 4 word
     = rw (add-one, take-suc words i 0 (omega arith), wordsBytes-append, append-nil) in
     let count : 32 - 4 * (i + 1) ≡ 32 - (4 * i + 4) = omega arith in
     rw (after, count, word-bytes, add-one (4 * i), add-two, add-three)
-    (stored (wordsBytes (take i words)) (word / 0x100_0000 % 256 ∷ word / 0x1_0000 % 256 ∷ word / 0x100 % 256 ∷ word % 256 ∷ [])
+    (stored (wordsBytes (take i words)) (word / 0x100_0000 % 256 ∷ word / 0x1_0000 % 256 ∷ word / 0x100 % 256 ∷ word %
+    256 ∷ [])
     (4 * i) 32 place (omega arith))
 
-pub wrote : (words : List ℕ) (i : ℕ) → length words ≡ 8 → i ≡ 8 → wordsBytes (take i words) ++ zeros (32 - 4 * i) ≡ wordsBytes words
+pub wrote : (words : List ℕ) (i : ℕ) → length words ≡ 8 → i ≡ 8 →
+    wordsBytes (take i words) ++ zeros (32 - 4 * i) ≡ wordsBytes words
 unfolding zeros
 wrote words i whole done = rw (done, take-all 8 words (omega arith), append-nil)

@@ -18,7 +18,8 @@ variables Kt Wt a b c d e f g h =
 -- step 3: one round on the eight words s
 unfoldable pub round : ℕ → ℕ → List ℕ → List ℕ
 round Kt Wt s =
-    variables Kt Wt (getD s 0 0) (getD s 1 0) (getD s 2 0) (getD s 3 0) (getD s 4 0) (getD s 5 0) (getD s 6 0) (getD s 7 0)
+    variables Kt Wt (getD s 0 0) (getD s 1 0) (getD s 2 0) (getD s 3 0) (getD s 4 0) (getD s 5 0) (getD s 6 0)
+    (getD s 7 0)
 
 -- steps 2 and 3: the working variables start as the hash value, and these are they after the rounds 0 to n - 1
 unfoldable pub rounds : List ℕ → List ℕ → ℕ → List ℕ
@@ -28,8 +29,10 @@ rounds hash W (suc t) = round (getD K t 0) (getD W t 0) (rounds hash W t)
 -- step 4: the working variables s are added to the hash value, word by word
 unfoldable pub addWords : List ℕ → List ℕ → List ℕ
 addWords s hash =
-    add (getD s 0 0) (getD hash 0 0) ∷ add (getD s 1 0) (getD hash 1 0) ∷ add (getD s 2 0) (getD hash 2 0) ∷ add (getD s 3 0) (getD hash 3 0)
-    ∷ add (getD s 4 0) (getD hash 4 0) ∷ add (getD s 5 0) (getD hash 5 0) ∷ add (getD s 6 0) (getD hash 6 0) ∷ add (getD s 7 0) (getD hash 7 0) ∷ []
+    add (getD s 0 0) (getD hash 0 0) ∷ add (getD s 1 0) (getD hash 1 0) ∷ add (getD s 2 0) (getD hash 2 0) ∷ add
+    (getD s 3 0) (getD hash 3 0)
+    ∷ add (getD s 4 0) (getD hash 4 0) ∷ add (getD s 5 0) (getD hash 5 0) ∷ add (getD s 6 0) (getD hash 6 0) ∷ add
+    (getD s 7 0) (getD hash 7 0) ∷ []
 
 -- steps 1 to 4: the hash value after the block
 unfoldable pub compression : List ℕ → Bytes → List ℕ

@@ -1,4 +1,5 @@
--- SHA-256 as FIPS 180-4 defines it. A reader with the standard in hand ticks off Words, Functions, Constants, Schedule, Compression, Padding and Digest; the files named Laws are proofs over them.
+-- SHA-256 as FIPS 180-4 defines it. A reader with the standard in hand ticks off Words, Functions, Constants, Schedule,
+-- Compression, Padding and Digest; the files named Laws are proofs over them.
 pub mod Bytes
 pub mod Words
 pub mod Functions

@@ -9,7 +9,8 @@ use Rattle.sha256.specs.Functions.{σ0, σ1}
 -- section 5.2.1: the word M t of a block, its bytes with the highest first
 unfoldable pub messageWord : Bytes → ℕ → ℕ
 messageWord block t =
-    getD block (4 * t) 0 * 2 ^ 24 + getD block (4 * t + 1) 0 * 2 ^ 16 + getD block (4 * t + 2) 0 * 2 ^ 8 + getD block (4 * t + 3) 0
+    getD block (4 * t) 0 * 2 ^ 24 + getD block (4 * t + 1) 0 * 2 ^ 16 + getD block (4 * t + 2) 0 * 2 ^ 8 + getD block
+    (4 * t + 3) 0
 
 -- step 1, for t below 16: the first n words are those of the block
 unfoldable pub messageWords : Bytes → ℕ → List ℕ

@@ -1,4 +1,5 @@
--- Rounds in groups, and the schedule's array as it is extended beside them: how the code takes the steps of `rounds` and `schedule`. Assumes nothing.
+-- Rounds in groups, and the schedule's array as it is extended beside them: how the code takes the steps of `rounds`
+-- and `schedule`. Assumes nothing.
 use Prim.Native.Nat.{ℕ, zero, suc, _+_}
 use mathlib.Core.List.{List}
 use lib.ListN.{getD, set}

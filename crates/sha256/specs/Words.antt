@@ -1,4 +1,5 @@
--- FIPS 180-4, sections 2.2.2 and 3.2: words of 32 bits as numbers below 2 ^ 32, and the operations on them. Assumes nothing.
+-- FIPS 180-4, sections 2.2.2 and 3.2: words of 32 bits as numbers below 2 ^ 32, and the operations on them. Assumes
+-- nothing.
 use Prim.Native.Nat.{ℕ, _+_, _-_, _*_, _/_, _%_, _^_}
 use lib.Bits.{bitAnd, bitOr, bitXor}
 

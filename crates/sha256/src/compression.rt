@@ -1,5 +1,7 @@
-// The compression of FIPS 180-4, section 6.2.2, steps 2 to 4: from a hash value and a block of 64 bytes to the next hash value.
-// A word of the schedule is computed beside the round that is sixteen before its own, four rounds to a turn of the loop.
+// The compression of FIPS 180-4, section 6.2.2, steps 2 to 4: from a hash value and a block of 64 bytes to the next
+// hash value.
+// A word of the schedule is computed beside the round that is sixteen before its own, four rounds to a turn of the
+// loop.
 use crate::functions::choose;
 use crate::functions::majority;
 use crate::functions::upper_sigma_0;
@@ -90,7 +92,8 @@ fn round_constants() -> [u32; 64]
     ROUND_CONSTANTS
 }
 
-// One round on the eight words s: a is s[0], and h is s[7]. T1 is summed in the order in which its parts are at hand: those of e come last.
+// One round on the eight words s: a is s[0], and h is s[7]. T1 is summed in the order in which its parts are at hand:
+// those of e come last.
 fn one_round(s: [u32; 8], constant: u32, word: u32) -> [u32; 8]
     ensures { λ r. ⌜ r ≡ round constant word s ⌝ }
 {

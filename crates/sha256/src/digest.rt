@@ -1,4 +1,5 @@
-// The digest of a byte slice, FIPS 180-4, section 6.2.2: the whole blocks where they lie, then the rest with the padding.
+// The digest of a byte slice, FIPS 180-4, section 6.2.2: the whole blocks where they lie, then the rest with the
+// padding.
 use crate::compression::compress;
 use crate::padding::begin;
 use crate::padding::put_length;

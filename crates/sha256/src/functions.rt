@@ -1,4 +1,5 @@
-// The six functions of FIPS 180-4, section 4.1.2, with fewer operations than the standard writes: rotations are nested, since a rotation
+// The six functions of FIPS 180-4, section 4.1.2, with fewer operations than the standard writes: rotations are nested,
+// since a rotation
 // of a XOR is the XOR of the rotations, and Ch and Maj share operands.
 ghost use mathlib.Core.Path.{_≡_};
 ghost use Prim.Native.Nat.{_<_};
@@ -20,7 +21,8 @@ pub fn choose(x: u32, y: u32, z: u32) -> u32
     z ^ (x & (y ^ z))
 }
 
-// Maj: each bit is the one that two of the three have. The next round has x for y, so that it finds this round's `x ^ y` again.
+// Maj: each bit is the one that two of the three have. The next round has x for y, so that it finds this round's `x ^
+// y` again.
 pub fn majority(x: u32, y: u32, z: u32) -> u32
     ensures { λ r. ⌜ r ≡ Maj x y z ⌝ }
 {

@@ -22,7 +22,8 @@ pub fn begin(block: &mut [u8; 64], rest: &[u8])
 }
 
 // Writes the number of bits of `size` bytes to the last 8 bytes of a block, the most significant first.
-// A slice has fewer than 2 ^ 63 bytes; the standard has no digest from 2 ^ 61 bytes on, and there the lowest 64 bits are written.
+// A slice has fewer than 2 ^ 63 bytes; the standard has no digest from 2 ^ 61 bytes on, and there the lowest 64 bits
+// are written.
 pub fn put_length(block: &mut [u8; 64], size: usize)
     requires { ⌜ length (now block) ≡ 64 ⌝ }
     ensures { λ _. ⌜ now (block .exit) ≡ take 56 (now (block .entry)) ++ bigEndian 8 (8 * size) ⌝ }

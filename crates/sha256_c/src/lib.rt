@@ -4,7 +4,8 @@ ghost use lib.Dec.{leb};
 ghost use lib.ListN.{length};
 ghost use Rattle.sha256_c.specs.Written.{written};
 
-// Writes the digest of the message to the first 32 bytes of `out` and answers true; where `out` is shorter, changes nothing and answers false.
+// Writes the digest of the message to the first 32 bytes of `out` and answers true; where `out` is shorter, changes
+// nothing and answers false.
 #[no_mangle]
 pub extern "C" fn sha256_into(message: &[u8], out: &mut [u8]) -> bool
     ensures answer { λ r. ⌜ r ≡ leb 32 (length (now (out .entry))) ⌝ }

@@ -33,7 +33,8 @@ module _ (book : Bytes) where
   unfolding numberRows decode inRange allOf
   numbers-are = simp and-true
 
-  pub head-are : (eqb (length book) (576 + 880 * bookHeights book) && (allOf (numberRows book) && isZero (part book 8 56))) ≡ allOf (headRows book)
+  pub head-are : (eqb (length book) (576 + 880 * bookHeights book) &&
+      (allOf (numberRows book) && isZero (part book 8 56))) ≡ allOf (headRows book)
   unfolding headRows bookSize allOf
   head-are = simp and-true
 
@@ -43,7 +44,8 @@ module _ (book : Bytes) where
 
 -- ---- masks
 pub masks-are : (n : ℕ) (x : Height) →
-    (belowBit n (x .certificateMask) && (belowBit n (x .dummyMask) && (belowBit n (x .finalizeMask) && belowBit n (x .voterMask)))) ≡ masksBelow n x
+    (belowBit n (x .certificateMask) && (belowBit n
+    (x .dummyMask) && (belowBit n (x .finalizeMask) && belowBit n (x .voterMask)))) ≡ masksBelow n x
 unfolding masksBelow allOf
 masks-are n x = simp and-true
 
@@ -57,7 +59,8 @@ unfolding implies
 where-none a b e = rw e
 
 -- ---- one height
-pub unused-are : (book : Bytes) (h from : ℕ) → from ≡ 576 + 16 * (h - 1) → isZero (take (from + 10 + 6 - (from + 10)) (drop (from + 10) book)) ≡ isZero (contentZeros book h)
+pub unused-are : (book : Bytes) (h from : ℕ) → from ≡ 576 + 16 * (h - 1) →
+    isZero (take (from + 10 + 6 - (from + 10)) (drop (from + 10) book)) ≡ isZero (contentZeros book h)
 unfolding contentZeros part
 unused-are book h from place = let six : from + 10 + 6 - (from + 10) ≡ 6 = omega arith in rw (six, place)
 
@@ -69,13 +72,16 @@ module _ (book : Bytes) (h : ℕ) where
       (ltb (x .leader) (decode book .n) &&
       (masksBelow (decode book .n) x &&
       (leb (x .status) 3 &&
-      ((implies (holdsProposal x) (blockWellFormed h (x .proposal)) && implies (isNotarized x) (blockWellFormed h (x .notarized))) &&
-      (implies (isNotarized x) (quorum (view (decode book)) (x .certificateMask)) && isZero (contentZeros book h)))))) ≡ allOf (heightRows book h)
+      ((implies (holdsProposal x) (blockWellFormed h (x .proposal)) && implies (isNotarized x)
+      (blockWellFormed h (x .notarized))) &&
+      (implies (isNotarized x) (quorum (view (decode book)) (x .certificateMask)) && isZero (contentZeros book h)))))) ≡
+      allOf (heightRows book h)
   unfolding heightRows blocksWellFormed allOf
   height-are = simp and-true
 
 -- ---- every height
-pub every-more : (test : ℕ → Bool) (h : ℕ) → everyHeight test h ≡ true → test (h + 1) ≡ true → everyHeight test (h + 1) ≡ true
+pub every-more : (test : ℕ → Bool) (h : ℕ) → everyHeight test h ≡ true → test (h + 1) ≡ true →
+    everyHeight test (h + 1) ≡ true
 unfolding everyHeight
 every-more test h before next = rw add-one (true-and (everyHeight test h) (test (suc h)) before (rw add-one at next))
 
@@ -85,12 +91,14 @@ module _ (digest : Bytes → Bytes) (book : Bytes) where
   unfolding finalRow
   final-none e = rw (eq-eqb (decode book .finalized) 0 e)
 
-  pub final-some : decode book .finalized ≢ 0 → finalRow digest book ≡ isFinalized digest (view (decode book)) (decode book .finalized)
+  pub final-some : decode book .finalized ≢ 0 → finalRow digest book ≡ isFinalized digest (view (decode book))
+      (decode book .finalized)
   unfolding finalRow
   final-some f = rw (ne-eqb (decode book .finalized) 0 f)
 
   pub final-past : decode book .finalized ≢ 0 → bookHeights book < decode book .finalized → finalRow digest book ≡ false
-  final-past f past = final-some f ∙ not-finalized-past digest (decode book) (decode book .finalized) (rw (last-decode book) past)
+  final-past f past = final-some f ∙ not-finalized-past digest (decode book) (decode book .finalized)
+      (rw (last-decode book) past)
 
   -- ---- the three groups
   abbrev every : Bool

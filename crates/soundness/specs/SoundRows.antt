@@ -1,4 +1,5 @@
--- The rows of soundness in the groups in which the code tests them: those of the head, of one height, and of the finalized height.
+-- The rows of soundness in the groups in which the code tests them: those of the head, of one height, and of the
+-- finalized height.
 use Prim.Native.Nat.{ℕ, _+_}
 use mathlib.Core.Bool.{Bool, _||_}
 use mathlib.Core.List.{List, [], _∷_}
@@ -32,7 +33,8 @@ headRows book =
 
 -- the notarized block of height `h`, if there is one, has the certificate of a quorum
 abbrev pub certificateRow : Bytes → ℕ → Bool
-certificateRow book h = implies (isNotarized (heightIn book h)) (quorum (bookView book) (heightIn book h .certificateMask))
+certificateRow book h = implies (isNotarized (heightIn book h))
+    (quorum (bookView book) (heightIn book h .certificateMask))
 
 -- what height `h` must be
 unfoldable pub heightRows : Bytes → ℕ → List Bool

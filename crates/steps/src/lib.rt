@@ -16,7 +16,8 @@ ghost use Rattle.sha256.specs.Digest.{sha256 as sha};
 ghost use Rattle.protocol.specs.Bytes.{overFront, put};
 ghost use Rattle.protocol.specs.State.{decode, encode, flag as isFlagged, bookHeights};
 ghost use Rattle.protocol.specs.Answer.{accepted, onBlock, onDummy};
-ghost use Rattle.protocol.specs.Move.{dummyVoteStep, outputStep, passStep, proposeStep, blockVoteStep, newFinalized, parentBelow, isSome};
+ghost use Rattle.protocol.specs.Move.{dummyVoteStep, outputStep, passStep, proposeStep, blockVoteStep, newFinalized};
+ghost use Rattle.protocol.specs.Move.{parentBelow, isSome};
 ghost use Rattle.protocol.specs.Block.{maximumHeights};
 ghost use Rattle.linking.specs.Memo.{Memo};
 ghost use Rattle.chains.specs.Walkable.{Walkable};
@@ -62,7 +63,8 @@ fn in_time(book: &[u8]) -> bool
     !flag(book, 1)
 }
 
-// Writes a pass's first frame: the certificate of the current height's block where that is linked, else of its dummy block.
+// Writes a pass's first frame: the certificate of the current height's block where that is linked, else of its dummy
+// block.
 // Costs 224 stores.
 fn write_pass_certificate(book: &[u8], reply: &mut [u8], linked: bool) -> Certificate
     requires { ⌜ SoundBook sha (now book) ⌝ }
@@ -100,7 +102,8 @@ fn write_pass_finalize(book: &[u8], reply: &mut [u8], finalizes: bool)
 }
 
 // Move 3: passes to the next height, on the block where the current height is linked, and else on the dummy block. It
-// finalizes on either, by the timer alone. Costs 448 stores to the reply and three to the book; the memory spares a second walk.
+// finalizes on either, by the timer alone. Costs 448 stores to the reply and three to the book; the memory spares a
+// second walk.
 pub fn pass(book: &mut [u8], reply: &mut [u8], known: &mut [u8]) -> Moved
     requires { ⌜ SoundBook sha (now book) ⌝ }
     requires { ⌜ Memo (now book) (now known) ⌝ }
@@ -119,7 +122,8 @@ pub fn pass(book: &mut [u8], reply: &mut [u8], known: &mut [u8]) -> Moved
     Moved::Pass(c, certificate, finalizes)
 }
 
-// Writes a proposal of a block on the block of height `j`: the frame first, and the block, with its entries, in its place.
+// Writes a proposal of a block on the block of height `j`: the frame first, and the block, with its entries, in its
+// place.
 // Costs one digest, if the memory keeps none, and a walk of the chain for each pending entry, 32 at most.
 fn write_proposal(book: &[u8], reply: &mut [u8], j: usize, known: &mut [u8])
     requires { ⌜ SoundBook sha (now book) ⌝ }

@@ -29,6 +29,7 @@ module _ (test : ℕ → Bool) (s mask : ℕ) (so-far : mask ≡ maskOf test s) 
   unfolding maskOf
   mask-without e = rw (add-one s, e, add-zero) so-far
 
-pub tallied : (x : Height) (digest : Bytes) (voters mask s n : ℕ) → voters ≡ x .voterMask → s ≡ n → mask ≡ maskOf (votes x voters digest) s → mask ≡ votersFor x digest n
+pub tallied : (x : Height) (digest : Bytes) (voters mask s n : ℕ) → voters ≡ x .voterMask → s ≡ n →
+    mask ≡ maskOf (votes x voters digest) s → mask ≡ votersFor x digest n
 unfolding votersFor
 tallied x digest voters mask s n p q e = e ∙ ap₂ (λ (m k : ℕ). maskOf (votes x m digest) k) p q

@@ -17,7 +17,8 @@ module _ (h : ℕ) (block : Bytes) where
   unfolding blockWellFormed blockFields blockRest blockParent allOf
   block-is = simp and-assoc
 
-  pub fields-are : (eqb (blockHeight block) h && (eqb (byteAt block 1) 0 && (ltb (parentHeight block) h && (eqb (byteAt block 3) 0 && leb (entryCount block) 8)))) ≡ blockFields h block
+  pub fields-are : (eqb (blockHeight block) h && (eqb (byteAt block 1)
+      0 && (ltb (parentHeight block) h && (eqb (byteAt block 3) 0 && leb (entryCount block) 8)))) ≡ blockFields h block
   unfolding blockFields allOf
   fields-are = simp and-true
 
@@ -25,7 +26,8 @@ module _ (h : ℕ) (block : Bytes) where
   unfolding blockFields
   few-entries e =
       leb-true (entryCount block) 8
-      (row (eqb (blockHeight block) h ∷ eqb (byteAt block 1) 0 ∷ ltb (parentHeight block) h ∷ eqb (byteAt block 3) 0 ∷ leb (entryCount block) 8 ∷ []) 4 e)
+      (row (eqb (blockHeight block) h ∷ eqb (byteAt block 1) 0 ∷ ltb (parentHeight block) h ∷ eqb (byteAt block 3)
+      0 ∷ leb (entryCount block) 8 ∷ []) 4 e)
 
 module _ (block : Bytes) where
   pub parent-none : parentHeight block ≡ 0 → blockParent block ≡ isZero (part block 16 32)
@@ -36,6 +38,7 @@ module _ (block : Bytes) where
   unfolding blockParent implies
   parent-some e = rw (ne-eqb (parentHeight block) 0 e)
 
-  pub rest-are : (isZero (part block 5 11) && (blockParent block && isZero (drop (48 + 16 * entryCount block) block))) ≡ blockRest block
+  pub rest-are : (isZero (part block 5 11) && (blockParent block && isZero (drop (48 + 16 * entryCount block) block))) ≡
+      blockRest block
   unfolding blockRest allOf
   rest-are = simp and-true

@@ -8,7 +8,8 @@ use lib.Dec.{eqb, leb}
 use Rattle.protocol.specs.Bytes.{Bytes, byteAt, part, isZero}
 use Rattle.protocol.specs.Tests.{allOf, implies, inRange}
 use Rattle.protocol.specs.Block.{blockWellFormed}
-use Rattle.protocol.specs.Frame.{kind, signer, frameHeight, signerMask, frameDigest, frameBlock, isStatement, isCertificate, carriesBlock, carriesDigest, frameWellFormed}
+use Rattle.protocol.specs.Frame.{kind, signer, frameHeight, signerMask, frameDigest, frameBlock, isStatement}
+use Rattle.protocol.specs.Frame.{isCertificate, carriesBlock, carriesDigest, frameWellFormed}
 use Rattle.wire.specs.Parts.{frameFields, frameBlockPart, frameRest}
 
 module _ (frame : Bytes) where
@@ -19,15 +20,18 @@ module _ (frame : Bytes) where
   pub fields-are :
       (((leb 1 (kind frame) && leb (kind frame) 4) || (leb 5 (kind frame) && leb (kind frame) 7)) &&
       (((leb 1 (kind frame) && leb (kind frame) 4) || eqb (signer frame) 0) &&
-      (eqb (byteAt frame 3) 0 && ((leb 5 (kind frame) && leb (kind frame) 7) || eqb (signerMask frame) 0)))) ≡ frameFields frame
+      (eqb (byteAt frame 3) 0 && ((leb 5 (kind frame) && leb (kind frame) 7) || eqb (signerMask frame) 0)))) ≡
+      frameFields frame
   unfolding frameFields isStatement isCertificate inRange allOf
   fields-are = simp and-true
 
-  pub rest-are : (isZero (part frame 6 10) && ((eqb (kind frame) 2 || isZero (part frame 16 32)) && frameBlockPart frame)) ≡ frameRest frame
+  pub rest-are : (isZero (part frame 6 10) && ((eqb (kind frame) 2 || isZero (part frame 16 32)) && frameBlockPart
+      frame)) ≡ frameRest frame
   unfolding frameRest carriesDigest frameDigest allOf
   rest-are = simp and-true
 
-  pub block-carried : (eqb (kind frame) 1 || eqb (kind frame) 5) ≡ true → frameBlockPart frame ≡ blockWellFormed (frameHeight frame) (drop 48 frame)
+  pub block-carried : (eqb (kind frame) 1 || eqb (kind frame) 5) ≡ true →
+      frameBlockPart frame ≡ blockWellFormed (frameHeight frame) (drop 48 frame)
   unfolding frameBlockPart carriesBlock frameBlock implies allOf
   block-carried e = rw e (and-true (blockWellFormed (frameHeight frame) (drop 48 frame)))
 

@@ -11,10 +11,12 @@ use Rattle.protocol.specs.Bytes.{Bytes}
 pub stops-first : {whole first : Bool} (others : Bool) → first ≡ false → whole ≡ (first && others) → whole ≡ false
 stops-first others e is = is ∙ rw e
 
-pub stops-second : {whole first second : Bool} (third : Bool) → first ≡ true → second ≡ false → whole ≡ (first && (second && third)) → whole ≡ false
+pub stops-second : {whole first second : Bool} (third : Bool) → first ≡ true → second ≡ false →
+    whole ≡ (first && (second && third)) → whole ≡ false
 stops-second third e f is = is ∙ rw (e, f)
 
-pub goes-through : {whole first second third : Bool} → first ≡ true → second ≡ true → whole ≡ (first && (second && third)) → whole ≡ third
+pub goes-through : {whole first second third : Bool} → first ≡ true → second ≡ true →
+    whole ≡ (first && (second && third)) → whole ≡ third
 goes-through e f is = is ∙ rw (e, f)
 
 -- a part to the end

@@ -1,4 +1,5 @@
--- Scans of byte strings from the front: what one more byte changes, for bytes that are or-ed together and for bytes that are written.
+-- Scans of byte strings from the front: what one more byte changes, for bytes that are or-ed together and for bytes
+-- that are written.
 use Prim.Native.Nat.{ℕ, zero, suc, _+_, _<_}
 use native.Mathlib.Omega.{arith}
 use mathlib.Core.Path.{_≡_, refl, sym, ap}
@@ -23,7 +24,8 @@ or-zero a b e =
 -- no bit of an or is set where none is set in either
 pub or-is-zero : (a b : ℕ) → eqb (bitOr a b) 0 ≡ (eqb a 0 && eqb b 0)
 or-is-zero a b = both-ways (eqb (bitOr a b) 0) (eqb a 0 && eqb b 0)
-    (λ e. let z = or-zero a b (eqb-true (bitOr a b) 0 e) in true-and (eqb a 0) (eqb b 0) (eq-eqb a 0 (z .0)) (eq-eqb b 0 (z .1)))
+    (λ e. let z = or-zero a b (eqb-true (bitOr a b) 0 e) in
+    true-and (eqb a 0) (eqb b 0) (eq-eqb a 0 (z .0)) (eq-eqb b 0 (z .1)))
     (λ e. let t = and-true (eqb a 0) (eqb b 0) e in
     eq-eqb (bitOr a b) 0 (rw (eqb-true a 0 (t .0), eqb-true b 0 (t .1)) (or-zero-l 0)))
 
@@ -41,14 +43,16 @@ xor-is-zero a b = both-ways (eqb (bitXor a b) 0) (eqb a b)
     (λ e. eq-eqb (bitXor a b) 0 (rw (eqb-true a b e) (xor-self b)))
 
 -- ---- one more byte
-pub all-more : (test : ℕ → Bool) (bytes : Bytes) (i : ℕ) → i < length bytes → all test (take (suc i) bytes) ≡ (all test (take i bytes) && test (byteAt bytes i))
+pub all-more : (test : ℕ → Bool) (bytes : Bytes) (i : ℕ) → i < length bytes →
+    all test (take (suc i) bytes) ≡ (all test (take i bytes) && test (byteAt bytes i))
 unfolding all
 all-more test [] i h = absurd (omega arith)
 all-more test (x ∷ xs) zero h = and-right-true (test x)
 all-more test (x ∷ xs) (suc i) h =
     rw (all-more test xs i (omega arith)) (sym (and-assoc (test x) (all test (take i xs)) (test (byteAt xs i))))
 
-pub same-more : (a b : Bytes) (i : ℕ) → i < length a → i < length b → same (take (suc i) a) (take (suc i) b) ≡ (same (take i a) (take i b) && eqb (byteAt a i) (byteAt b i))
+pub same-more : (a b : Bytes) (i : ℕ) → i < length a → i < length b →
+    same (take (suc i) a) (take (suc i) b) ≡ (same (take i a) (take i b) && eqb (byteAt a i) (byteAt b i))
 unfolding same
 same-more [] b i h k = absurd (omega arith)
 same-more (x ∷ xs) [] i h k = absurd (omega arith)
@@ -62,7 +66,8 @@ pub scan-none : eqb 0 0 ≡ isZero []
 unfolding isZero all
 scan-none = refl
 
-pub scan-more : (seen : ℕ) (bytes : Bytes) (i : ℕ) → i < length bytes → eqb seen 0 ≡ isZero (take i bytes) → eqb (bitOr seen (byteAt bytes i)) 0 ≡ isZero (take (suc i) bytes)
+pub scan-more : (seen : ℕ) (bytes : Bytes) (i : ℕ) → i < length bytes → eqb seen 0 ≡ isZero (take i bytes) →
+    eqb (bitOr seen (byteAt bytes i)) 0 ≡ isZero (take (suc i) bytes)
 unfolding isZero
 scan-more seen bytes i h e = rw (or-is-zero, e) (sym (all-more (λ x. eqb x 0) bytes i h))
 
@@ -70,7 +75,8 @@ pub match-none : eqb 0 0 ≡ same [] []
 unfolding same
 match-none = refl
 
-pub match-more : (seen : ℕ) (a b : Bytes) (i : ℕ) → i < length a → i < length b → eqb seen 0 ≡ same (take i a) (take i b)
+pub match-more : (seen : ℕ) (a b : Bytes) (i : ℕ) → i < length a → i < length b →
+    eqb seen 0 ≡ same (take i a) (take i b)
     → eqb (bitOr seen (bitXor (byteAt a i) (byteAt b i))) 0 ≡ same (take (suc i) a) (take (suc i) b)
 match-more seen a b i h k e = rw (or-is-zero, e, xor-is-zero) (sym (same-more a b i h k))
 
@@ -86,7 +92,8 @@ pub different-lengths : (a b : Bytes) → (length a ≡ length b → ⊥) → sa
 different-lengths a b f = not-passed (same a b) (λ e. f (same-length a b e))
 
 -- ---- zeros that are written
-pub clear-more : (target : Bytes) (at count i : ℕ) → at + i < length target → i < count → set (paste target at (zeros count) i) (at + i) 0 ≡ paste target at (zeros count) (suc i)
+pub clear-more : (target : Bytes) (at count i : ℕ) → at + i < length target → i < count →
+    set (paste target at (zeros count) i) (at + i) 0 ≡ paste target at (zeros count) (suc i)
 unfolding zeros
 clear-more target at count i h k =
     let value : _≡_ {A = ℕ} (getD (replicate count 0) i 0) 0 = getD-replicate {A = ℕ} count i 0 0 k in

@@ -12,25 +12,29 @@ use Rattle.wire.specs.Parts.{frameHead}
 
 -- the five pieces of a block with no entries
 pub block-starts : (block digest a b c d e : Bytes) (h parent : ℕ) → length digest ≡ 32
-    → a ≡ put block 0 (le16 h) → b ≡ put a 2 (le16 parent) → c ≡ put b 4 (zeros 12) → d ≡ put c 16 digest → e ≡ put d 48 (zeros 128)
+    → a ≡ put block 0 (le16 h) → b ≡ put a 2 (le16 parent) → c ≡ put b 4 (zeros 12) → d ≡ put c 16 digest →
+    e ≡ put d 48 (zeros 128)
     → e ≡ overFront (newBlock h parent digest []) block
 unfolding newBlock le16 zeros join
 block-starts block digest a b c d e h parent size p q r s t =
     let start = le16 h ++ le16 parent in
     let v : b ≡ overFront start block = goes-on (le16 h) block a (le16 parent) b 2 (starts block (le16 h) a p) refl q in
     let w : c ≡ overFront (start ++ zeros 12) block = goes-on start block b (zeros 12) c 4 v refl r in
-    let x : d ≡ overFront ((start ++ zeros 12) ++ digest) block = goes-on (start ++ zeros 12) block c digest d 16 w refl s in
+    let x : d ≡ overFront ((start ++ zeros 12) ++ digest) block =
+    goes-on (start ++ zeros 12) block c digest d 16 w refl s in
     goes-on ((start ++ zeros 12) ++ digest) block d (zeros 128) e 48 x (simp length-append (omega arith)) t
 
 -- the five pieces of a frame's head
 pub head-starts : (out a b c d e : Bytes) (k s h mask : ℕ)
-    → a ≡ put out 0 (k ∷ []) → b ≡ put a 1 (s ∷ []) → c ≡ put b 2 (le16 h) → d ≡ put c 4 (le16 mask) → e ≡ put d 6 (zeros 10)
+    → a ≡ put out 0 (k ∷ []) → b ≡ put a 1 (s ∷ []) → c ≡ put b 2 (le16 h) → d ≡ put c 4 (le16 mask) →
+    e ≡ put d 6 (zeros 10)
     → e ≡ overFront (frameHead k s h mask) out
 unfolding frameHead le16
 head-starts out a b c d e k s h mask p q r t u =
     let w : b ≡ overFront (k ∷ s ∷ []) out = goes-on (k ∷ []) out a (s ∷ []) b 1 (starts out (k ∷ []) a p) refl q in
     let x : c ≡ overFront (k ∷ s ∷ le16 h) out = goes-on (k ∷ s ∷ []) out b (le16 h) c 2 w refl r in
-    let y : d ≡ overFront ((k ∷ s ∷ le16 h) ++ le16 mask) out = goes-on (k ∷ s ∷ le16 h) out c (le16 mask) d 4 x refl t in
+    let y : d ≡ overFront ((k ∷ s ∷ le16 h) ++ le16 mask) out =
+    goes-on (k ∷ s ∷ le16 h) out c (le16 mask) d 4 x refl t in
     goes-on ((k ∷ s ∷ le16 h) ++ le16 mask) out d (zeros 10) e 6 y refl u
 
 head-size : (k s h mask : ℕ) → length (frameHead k s h mask) ≡ 16
@@ -48,7 +52,8 @@ frame-follows out a b c digest block k s h mask size p q r =
     goes-on (head ++ digest) out b block c 48 t (rw (length-append, head-size, size)) r
 
 -- a head and zeros
-pub plain-follows : (out a b : Bytes) (k s h mask : ℕ) → a ≡ overFront (frameHead k s h mask) out → b ≡ put a 16 (zeros 208)
+pub plain-follows : (out a b : Bytes) (k s h mask : ℕ) → a ≡ overFront (frameHead k s h mask) out →
+    b ≡ put a 16 (zeros 208)
     → b ≡ overFront (frameOf k s h mask (zeros 32) (zeros 176)) out
 unfolding frameOf frameHead le16 zeros
 plain-follows out a b k s h mask p q = goes-on (frameHead k s h mask) out a (zeros 208) b 16 p (head-size k s h mask) q

@@ -6,8 +6,10 @@ use lib.ListN.{drop}
 use lib.Dec.{eqb, leb, ltb}
 use Rattle.protocol.specs.Bytes.{Bytes, byteAt, le16, part, zeros, isZero}
 use Rattle.protocol.specs.Tests.{allOf, implies}
-use Rattle.protocol.specs.Block.{blockEntries, entrySize, blockHeight, parentHeight, entryCount, parentDigest, blockWellFormed}
-use Rattle.protocol.specs.Frame.{kind, signer, frameHeight, signerMask, frameDigest, frameBlock, isStatement, isCertificate, carriesBlock, carriesDigest}
+use Rattle.protocol.specs.Block.{blockEntries, entrySize, blockHeight, parentHeight, entryCount, parentDigest}
+use Rattle.protocol.specs.Block.{blockWellFormed}
+use Rattle.protocol.specs.Frame.{kind, signer, frameHeight, signerMask, frameDigest, frameBlock, isStatement}
+use Rattle.protocol.specs.Frame.{isCertificate, carriesBlock, carriesDigest}
 
 -- the first five bytes of a block of height `h`
 unfoldable pub blockFields : ℕ → Bytes → Bool

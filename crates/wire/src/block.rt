@@ -38,7 +38,8 @@ pub fn entry_count(block: &[u8]) -> usize
     byte(block, 4)
 }
 
-// Whether a block is as it must be at height `h`. Reads no byte more than three times, the fields first, and copies none.
+// Whether a block is as it must be at height `h`. Reads no byte more than three times, the fields first, and copies
+// none.
 pub fn block_well_formed(block: &[u8], h: usize) -> bool
     ensures { λ r. ⌜ r ≡ blockWellFormed h (now (block .entry)) ⌝ }
 {
@@ -79,7 +80,8 @@ fn parent_fits(block: &[u8]) -> bool
     }
 }
 
-// Whether the bytes that the fields leave unused are zero, those past the entries too. Costs a pass over each unused byte.
+// Whether the bytes that the fields leave unused are zero, those past the entries too. Costs a pass over each unused
+// byte.
 fn rest_fits(block: &[u8]) -> bool
     requires { ⌜ length (now block) ≡ 176 ⌝ }
     requires { ⌜ entryCount (now block) ≤ 8 ⌝ }
@@ -111,7 +113,8 @@ pub fn add_entry(block: &mut [u8], count: usize, entry: &[u8])
     requires { ⌜ 176 ≤ length (now block) ⌝ }
     requires { ⌜ count < 8 ⌝ }
     requires { ⌜ length (now entry) ≡ 16 ⌝ }
-    ensures { λ _. ⌜ now (block .exit) ≡ put (put (now (block .entry)) (48 + 16 * count) (now (entry .entry))) 4 ((count + 1) ∷ []) ⌝ }
+    ensures { λ _. ⌜ now (block .exit) ≡
+        put (put (now (block .entry)) (48 + 16 * count) (now (entry .entry))) 4 ((count + 1) ∷ []) ⌝ }
 {
     copy_to(block, 48 + 16 * count, entry);
     put_byte(block, 4, count + 1);

@@ -11,7 +11,8 @@ ghost use mathlib.Core.Path.{_≡_};
 ghost use Prim.Native.Nat.{_<_, _≤_};
 ghost use lib.ListN.{length};
 ghost use Rattle.protocol.specs.Bytes.{zeros, overFront};
-ghost use Rattle.protocol.specs.Frame.{kind, signer, frameHeight, signerMask, frameWellFormed, frameOf, blockVote, dummyVote, finalize, blockCertificate, dummyCertificate};
+ghost use Rattle.protocol.specs.Frame.{kind, signer, frameHeight, signerMask, frameWellFormed, frameOf, blockVote};
+ghost use Rattle.protocol.specs.Frame.{dummyVote, finalize, blockCertificate, dummyCertificate};
 ghost use Rattle.wire.specs.Parts.{frameFields, frameRest, frameBlockPart, frameHead};
 
 // The kind of a frame, its first byte. Costs one read.
@@ -120,7 +121,8 @@ fn write_head(out: &mut [u8], kind: usize, signer: usize, h: usize, mask: usize)
 pub fn write_plain(out: &mut [u8], kind: usize, signer: usize, h: usize, mask: usize)
     requires { ⌜ 224 ≤ length (now out) ⌝ }
     requires { ⌜ (kind < 256) × (signer < 256) × (h < 65536) × (mask < 65536) ⌝ }
-    ensures { λ _. ⌜ now (out .exit) ≡ overFront (frameOf kind signer h mask (zeros 32) (zeros 176)) (now (out .entry)) ⌝ }
+    ensures { λ _. ⌜ now (out .exit) ≡
+        overFront (frameOf kind signer h mask (zeros 32) (zeros 176)) (now (out .entry)) ⌝ }
 {
     write_head(out, kind, signer, h, mask);
     clear(out, 16, 208);
@@ -138,7 +140,8 @@ pub fn write_with_block(
     requires { ⌜ 224 ≤ length (now out) ⌝ }
     requires { ⌜ (kind < 256) × (signer < 256) × (h < 65536) × (mask < 65536) ⌝ }
     requires { ⌜ length (now block) ≡ 176 ⌝ }
-    ensures { λ _. ⌜ now (out .exit) ≡ overFront (frameOf kind signer h mask (zeros 32) (now (block .entry))) (now (out .entry)) ⌝ }
+    ensures { λ _. ⌜ now (out .exit) ≡
+        overFront (frameOf kind signer h mask (zeros 32) (now (block .entry))) (now (out .entry)) ⌝ }
 {
     write_head(out, kind, signer, h, mask);
     clear(out, 16, 32);

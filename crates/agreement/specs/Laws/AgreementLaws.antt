@@ -20,7 +20,9 @@ use Rattle.protocol.specs.Laws.TestsLaws.{and-true, cond-elim, le-or-lt, member
 use Rattle.protocol.specs.View.{chain, isDummy, isFinalized, logAt, quorum, maskWeight, totalWeight}
 use Rattle.agreement.specs.Laws.ChainsLaws.{Prefix, prefix-bytes, settled-chains}
 use Rattle.agreement.specs.Laws.GrantsLaws.{Grants, grants}
-use Rattle.agreement.specs.Lists.{Agreement, Begins, Continues, FewDishonest, Follows, HonestIn, KeepsOneBook, Member, NoCollision, NotForged, Opens, Reads, Statement, Wrote, finalizes, lastLeft, votesBlock, votesDummy}
+use Rattle.agreement.specs.Lists.{Agreement, Begins, Continues, FewDishonest, Follows, HonestIn, KeepsOneBook}
+use Rattle.agreement.specs.Lists.{Member, NoCollision, NotForged, Opens, Reads, Statement, Wrote, finalizes}
+use Rattle.agreement.specs.Lists.{lastLeft, votesBlock, votesDummy}
 use Rattle.agreement.specs.Laws.ReplicaLaws.{good-after}
 use Rattle.agreement.specs.Laws.RunLaws.{BackedBy, Good, GoodBytes, Kept, States, wrote-more}
 
@@ -146,7 +148,8 @@ module _ (digest : Bytes → Bytes) (n dishonest : ℕ) (l : List Member) (third
         not-finalize-and-dummy digest n Honest Honest l unforged b b′ (x .had) (x′ .had) t (keeps t ht) ht ht i inA inB
 
     -- ---- chains of finalized heights
-    chains : (g g′ : ℕ) → (g ≡ 0) ⊎ (isFinalized digest (view b) g ≡ true) → (g′ ≡ 0) ⊎ (isFinalized digest (view b′) g′ ≡ true) →
+    chains : (g g′ : ℕ) → (g ≡ 0) ⊎ (isFinalized digest (view b) g ≡ true) →
+        (g′ ≡ 0) ⊎ (isFinalized digest (view b′) g′ ≡ true) →
         g ≤ g′ → Prefix (chain (view b) g) (chain (view b′) g′)
     unfolding isDummy view
     chains = settled-chains digest (view b) (view b′) equal-blocks final-not-dummy
@@ -188,7 +191,8 @@ module _ (digest : Bytes → Bytes) (n dishonest : ℕ) (l : List Member) (third
           Follows digest n (m .replica) m o → HadSound (decode (m .book))
       go ok none left o =
           let (buffer, e, q) = only-reading digest (m .book) (m .call) r x in
-          let (heights, leaders, e′, q′) = only-opening digest (m .book) (m .call) (record { n = n; own = m .replica }) o in
+          let (heights, leaders, e′, q′) = only-opening digest (m .book) (m .call) (record { n = n; own = m .replica })
+          o in
           let z : _≡_ {A = ℕ} 0 1 = cc in absurd (omega arith)
       go ok (some book) left x =
           had-before (split .0) (m ∷ split .1) (split .2) (m .replica) hm (m .book) (left ∙ ap some (sym (x .0))) ok

@@ -14,8 +14,10 @@ use Rattle.protocol.specs.Frame.{blockVote, dummyCertificate, dummyVote, finali
 use Rattle.protocol.specs.Laws.RowLaws.{eq-same, row}
 use Rattle.protocol.specs.Tests.{allOf}
 use Rattle.agreement.specs.AnyDigest.{AnyDigest, agreed, list, oneDigest, otherDigest, split, timeouts}
-use Rattle.agreement.specs.ListTests.{everyHonest, hearsAt, keepsOneBook, notForged, readsAt, showsOnly, someIn, writesAt}
-use Rattle.agreement.specs.Laws.ListTestsLaws.{every-honest, forged-sound, hears-found, keeps-sound, one-block-sound, reads-found, writes-found}
+use Rattle.agreement.specs.ListTests.{everyHonest, hearsAt, keepsOneBook, notForged, readsAt, showsOnly, someIn}
+use Rattle.agreement.specs.ListTests.{writesAt}
+use Rattle.agreement.specs.Laws.ListTestsLaws.{every-honest, forged-sound, hears-found, keeps-sound}
+use Rattle.agreement.specs.Laws.ListTestsLaws.{one-block-sound, reads-found, writes-found}
 use Rattle.agreement.specs.Lists.{Member, Statement, finalizes, statementOf, votesBlock, votesDummy}
 use Rattle.agreement.specs.Met.{Met}
 use Rattle.agreement.specs.Laws.MetLaws.{OneBegins, applied}

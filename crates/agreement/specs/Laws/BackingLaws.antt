@@ -133,7 +133,8 @@ module _ (digest : Bytes → Bytes) where
     }
       where
         order : leb 2 (x .status + 1) ≡ true → leb 2 (x .status) ≡ true
-        order e = let a = eqb-false (x .status % 2) 1 n in let b = leb-true 2 (x .status + 1) e in le-leb 2 (x .status) (omega arith)
+        order e = let a = eqb-false (x .status % 2) 1 n in let b = leb-true 2 (x .status + 1) e in
+            le-leb 2 (x .status) (omega arith)
 
     pub backed-vote : (s : ℕ) (d : Bytes) →
         ((t : ℕ) → inMask (x .voterMask + 2 ^ s) t ≡ true → W t (votesBlock h (voteOf (withVote x s d) t))) →
@@ -147,7 +148,8 @@ module _ (digest : Bytes → Bytes) where
     pub backed-notarize : (v : View) → Backed W S h (notarize digest v x)
     unfolding notarize votersFor
     backed-notarize v =
-        cond-elim (λ (y : Height). Backed W S h y) (allOf (not (isNotarized x) ∷ holdsProposal x ∷ quorum v voters ∷ []))
+        cond-elim (λ (y : Height). Backed W S h y)
+        (allOf (not (isNotarized x) ∷ holdsProposal x ∷ quorum v voters ∷ []))
         (λ e. backed-notarized voters (x .proposal) (λ t z. agreed t (inMask-maskOf _ (v .n) t z .1))
         (k .held .proposal-seen (row _ 1 e)))
         (λ e. k)

@@ -1,4 +1,5 @@
--- Two views that agree on notarized blocks, and of which none has a dummy block where the other is finalized, have chains
+-- Two views that agree on notarized blocks, and of which none has a dummy block where the other is finalized, have
+-- chains
 -- of which one begins the other.
 use Prim.Native.Nat.{ℕ, zero, suc, _-_, _≤_, _<_}
 use native.Mathlib.Omega.{arith}
@@ -15,7 +16,8 @@ use Rattle.protocol.specs.Laws.RowLaws.{row}
 use Rattle.protocol.specs.Laws.TestsLaws.{and-true, le-or-lt}
 use Rattle.protocol.specs.Laws.PiecesLaws.{join-append}
 use Rattle.protocol.specs.Laws.ViewLaws.{run-sound, chain-none, chain-step, allEntries-append}
-use Rattle.protocol.specs.View.{View, chain, chainWithin, dummyRun, extendsOver, isDummy, isFinalized, linked, linkedWithin, quorum}
+use Rattle.protocol.specs.View.{View, chain, chainWithin, dummyRun, extendsOver, isDummy, isFinalized, linked}
+use Rattle.protocol.specs.View.{linkedWithin, quorum}
 use Rattle.agreement.specs.Lists.{Begins}
 
 unfoldable pub Prefix : {A : Type 0} → List A → List A → Type 0
@@ -47,8 +49,10 @@ module _ (digest : Bytes → Bytes) where
   no-fuel v h e = eqb-true h 0 e
 
   module _ (v v′ : View)
-      (equal : (i : ℕ) → v .hasBlock (suc i) ≡ true → v′ .hasBlock (suc i) ≡ true → v .block (suc i) ≡ v′ .block (suc i)) where
-    same-chain : (f f′ h : ℕ) → linkedWithin digest f v h ≡ true → linkedWithin digest f′ v′ h ≡ true → chainWithin f v h ≡ chainWithin f′ v′ h
+      (equal : (i : ℕ) → v .hasBlock (suc i) ≡ true → v′ .hasBlock (suc i) ≡ true →
+      v .block (suc i) ≡ v′ .block (suc i)) where
+    same-chain : (f f′ h : ℕ) → linkedWithin digest f v h ≡ true → linkedWithin digest f′ v′ h ≡ true →
+        chainWithin f v h ≡ chainWithin f′ v′ h
     same-chain zero f′ h e e′ = rw (no-fuel v h e, chain-none f′ v′, chain-none zero v)
     same-chain (suc f) zero h e e′ = rw (no-fuel v′ h e′, chain-none (suc f) v, chain-none zero v′)
     same-chain (suc f) (suc f′) zero e e′ = chain-none (suc f) v ∙ sym (chain-none (suc f′) v′)
@@ -87,7 +91,8 @@ module _ (digest : Bytes → Bytes) where
 
         behind : (g ≤ back v′ (suc i) → Shorter) → g < suc i → (g ≤ back v′ (suc i)) ⊎ (back v′ (suc i) < g) → Longer
         behind below h (inl z) = longer (below z)
-        behind below h (inr z) = absurd (final (run-sound v′ (back v′ (suc i)) (suc i - 1 - back v′ (suc i)) (l .run) g z (omega arith)))
+        behind below h (inr z) = absurd (final (run-sound v′ (back v′ (suc i)) (suc i - 1 - back v′ (suc i)) (l .run) g
+            z (omega arith)))
 
         go : (g ≤ back v′ (suc i) → Shorter) → (suc i ≤ g) ⊎ (g < suc i) → Longer
         go below (inl h) =

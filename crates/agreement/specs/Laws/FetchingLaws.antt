@@ -16,11 +16,13 @@ use Rattle.protocol.specs.Tests.{firstRefusal}
 use Rattle.protocol.specs.Laws.TestsLaws.{cond-elim}
 use Rattle.agreement.specs.Laws.BackingLaws.{Backed}
 use Rattle.agreement.specs.Lists.{Member, Statement, Wrote, statementOf, writes}
-use Rattle.agreement.specs.Laws.MovingLaws.{blockCertificate-says, dummyCertificate-says, finalizeCertificate-says}
+use Rattle.agreement.specs.Laws.MovingLaws.{blockCertificate-says, dummyCertificate-says}
+use Rattle.agreement.specs.Laws.MovingLaws.{finalizeCertificate-says}
 use Rattle.agreement.specs.Laws.RunLaws.{Good, Seen, States, backed-more, unchanged, wrote-last}
 use Rattle.agreement.specs.Laws.StatementsLaws.{stated-nothing}
 
-module _ (digest : Bytes → Bytes) (n : ℕ) (books names : ℕ → Type 0) (P : List Member) (m : Member) (s : ℕ) (book : Bytes) (k h : ℕ)
+module _ (digest : Bytes → Bytes) (n : ℕ) (books names : ℕ → Type 0) (P : List Member) (m : Member) (s : ℕ)
+    (book : Bytes) (k h : ℕ)
     (reply : Bytes) (g : Good digest n books names P s (decode book)) where
   abbrev b : State
   b = decode book

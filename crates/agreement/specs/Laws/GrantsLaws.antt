@@ -18,7 +18,8 @@ pub record Grants (digest : Bytes → Bytes) (s : State) : Type 0 where
   pub few : s .n ≤ 16
   pub positive : 1 ≤ s .current
   pub pends : s .pendingCount ≤ 32
-  pub certificates : (i : ℕ) → isNotarized (at s (suc i)) ≡ true → quorum (view s) (at s (suc i) .certificateMask) ≡ true
+  pub certificates : (i : ℕ) → isNotarized (at s (suc i)) ≡ true →
+      quorum (view s) (at s (suc i) .certificateMask) ≡ true
   pub finalizes : (s .finalized ≡ 0) ⊎ (isFinalized digest (view s) (s .finalized) ≡ true)
 
 module _ (digest : Bytes → Bytes) (book : Bytes) where

@@ -4,7 +4,8 @@ use native.Mathlib.Omega.{arith}
 use mathlib.Core.Path.{_≡_, refl, sym, ap, subst, _∙_}
 use mathlib.Core.Logic.{_⊎_, inl, inr}
 use mathlib.Core.Bool.{Bool, true, false, _&&_, not, cond, false≢true}
-use mathlib.Core.List.{List, [], _∷_, _++_, append-nil, List·Memᴰ, List·Memᴰ·head, List·Memᴰ·tail, List·Memᴰ·not-nil, List·Memᴰ·cases-cons, List·Memᴰ·append-cases, List·Memᴰ·eq-of-singleton, Memᴰ·append-right}
+use mathlib.Core.List.{List, [], _∷_, _++_, append-nil, List·Memᴰ, List·Memᴰ·head, List·Memᴰ·tail, List·Memᴰ·not-nil}
+use mathlib.Core.List.{List·Memᴰ·cases-cons, List·Memᴰ·append-cases, List·Memᴰ·eq-of-singleton, Memᴰ·append-right}
 use mathlib.Core.Option.{Option, some, none}
 use lib.ListN.{drop}
 use lib.Seq.{append-snoc}
@@ -17,13 +18,19 @@ use Rattle.protocol.specs.Call.{Opened}
 use Rattle.protocol.specs.Laws.RowLaws.{eq-same, implies-true, same-eq}
 use Rattle.protocol.specs.Tests.{implies}
 use Rattle.protocol.specs.Laws.TestsLaws.{and-true, le-or-lt, or-true}
-use Rattle.agreement.specs.ListTests.{deliversBacked, everyHonest, everyIn, follows, hearsAt, isAmong, isBacked, isHonest, keepsOneBook, noCollision, notForged, opensFor, readsAt, readsPart, shows, showsOnly, signed, signedIn, someIn, statementBytes, writesAt}
-use Rattle.agreement.specs.Lists.{Continues, Follows, HonestIn, KeepsOneBook, Member, NoCollision, NotForged, Opens, Reads, Shows, Statement, Wrote, blockIn, delivers, does, finalizes, lastLeft, leftBy, orElse, proposes, statementOf, votesBlock, votesDummy, writes}
+use Rattle.agreement.specs.ListTests.{deliversBacked, everyHonest, everyIn, follows, hearsAt, isAmong, isBacked}
+use Rattle.agreement.specs.ListTests.{isHonest, keepsOneBook, noCollision, notForged, opensFor, readsAt}
+use Rattle.agreement.specs.ListTests.{readsPart, shows, showsOnly, signed, signedIn, someIn, statementBytes}
+use Rattle.agreement.specs.ListTests.{writesAt}
+use Rattle.agreement.specs.Lists.{Continues, Follows, HonestIn, KeepsOneBook, Member, NoCollision, NotForged}
+use Rattle.agreement.specs.Lists.{Opens, Reads, Shows, Statement, Wrote, blockIn, delivers, does, finalizes}
+use Rattle.agreement.specs.Lists.{lastLeft, leftBy, orElse, proposes, statementOf, votesBlock, votesDummy, writes}
 use Rattle.agreement.specs.Met.{Hears, MemberOf}
 use Rattle.agreement.specs.Laws.RunLaws.{or-else-assoc, or-else-none, wrote-more}
 
 -- ---- over lists and replicas
-pub every-in : {A : Type 0} (test : A → Bool) (l : List A) → everyIn test l ≡ true → (x : A) → List·Memᴰ x l → test x ≡ true
+pub every-in : {A : Type 0} (test : A → Bool) (l : List A) → everyIn test l ≡ true → (x : A) → List·Memᴰ x l →
+    test x ≡ true
 unfolding everyIn
 every-in test [] e x i = absurd (List·Memᴰ·not-nil i)
 every-in test (y ∷ ys) e x i = go (List·Memᴰ·cases-cons i) (every-in test ys (q .1) x)
@@ -35,12 +42,14 @@ every-in test (y ∷ ys) e x i = go (List·Memᴰ·cases-cons i) (every-in test 
     go (inl z) below = ap test z ∙ q .0
     go (inr j) below = below j
 
-pub some-in : {A : Type 0} (test : A → Bool) (l : List A) → someIn test l ≡ true → (x : A) × List·Memᴰ x l × (test x ≡ true)
+pub some-in : {A : Type 0} (test : A → Bool) (l : List A) → someIn test l ≡ true →
+    (x : A) × List·Memᴰ x l × (test x ≡ true)
 unfolding someIn
 some-in test [] e = absurd (false≢true e)
 some-in {A} test (y ∷ ys) e = go (or-true (test y) (someIn test ys) e) (some-in test ys)
   where
-    go : (test y ≡ true) ⊎ (someIn test ys ≡ true) → (someIn test ys ≡ true → (x : A) × List·Memᴰ x ys × (test x ≡ true)) →
+    go : (test y ≡ true) ⊎ (someIn test ys ≡ true) →
+        (someIn test ys ≡ true → (x : A) × List·Memᴰ x ys × (test x ≡ true)) →
         (x : A) × List·Memᴰ x (y ∷ ys) × (test x ≡ true)
     go (inl z) below = (y, List·Memᴰ·head refl, z)
     go (inr z) below = let r = below z in (r .0, List·Memᴰ·tail (r .1), r .2)
@@ -49,7 +58,8 @@ pub every-honest : (dishonest : ℕ) (test : ℕ → Bool) (n : ℕ) → everyHo
     HonestIn n dishonest s → test s ≡ true
 unfolding everyHonest HonestIn
 every-honest dishonest test zero e s (low, h) = absurd (omega arith)
-every-honest dishonest test (suc k) e s (low, h) = go (le-or-lt k s) (λ l. every-honest dishonest test k (q .0) s (l, h))
+every-honest dishonest test (suc k) e s (low, h) =
+    go (le-or-lt k s) (λ l. every-honest dishonest test k (q .0) s (l, h))
   where
     q : (everyHonest dishonest test k ≡ true) × (implies (not (inMask dishonest k)) (test k) ≡ true)
     q = and-true (everyHonest dishonest test k) _ e
@@ -65,7 +75,8 @@ is-honest n dishonest s (low, h) = rw (h, le-leb (suc s) n low)
 pub honest-in : (n dishonest s : ℕ) → isHonest n dishonest s ≡ true → HonestIn n dishonest s
 unfolding isHonest HonestIn
 honest-in n dishonest s e =
-    let q = and-true (ltb s n) (not (inMask dishonest s)) e in (leb-true (suc s) n (q .0), not-true (inMask dishonest s) (q .1))
+    let q = and-true (ltb s n) (not (inMask dishonest s)) e in
+    (leb-true (suc s) n (q .0), not-true (inMask dishonest s) (q .1))
 
 -- ---- bytes
 pub holds-member : (x : Bytes) (l : List Bytes) → holds x l ≡ true → List·Memᴰ x l
@@ -94,8 +105,11 @@ statement-back (votesDummy h) = refl
 statement-back (finalizes h) = refl
 
 same-statement : (s t : ℕ) (a b : Statement) → s ∷ statementBytes a ≡ t ∷ statementBytes b → (s ≡ t) × (a ≡ b)
-same-statement s t a b e =
-    (ap (λ (x : Bytes). byteAt x 0) e, sym (statement-back a) ∙ ap (λ (x : Bytes). statementFrom (drop 1 x)) e ∙ statement-back b)
+same-statement s t a b e = (
+  ap (λ (x : Bytes). byteAt x 0) e,
+  sym (statement-back a) ∙ ap (λ (x : Bytes). statementFrom (drop 1 x)) e
+      ∙ statement-back b,
+)
 
 -- ---- splits of a list
 split-head : {A : Type 0} {x m : A} {xs after : List A} → x ∷ xs ≡ m ∷ after → (x ≡ m) × (xs ≡ after)
@@ -119,7 +133,8 @@ module _ (digest : Bytes → Bytes) where
   opens-nothing none e = refl
   opens-nothing (some opened) e = absurd (false≢true (sym e))
 
-  follows-sound : (n s : ℕ) (m : Member) (left : Option Bytes) → follows digest n s m left ≡ true → Follows digest n s m left
+  follows-sound : (n s : ℕ) (m : Member) (left : Option Bytes) → follows digest n s m left ≡ true →
+      Follows digest n s m left
   unfolding follows Follows Opens Continues
   follows-sound n s m none e = opens-for n s (does digest m .opens) e
   follows-sound n s m (some book) e =
@@ -127,7 +142,8 @@ module _ (digest : Bytes → Bytes) where
       (same-eq (m .book) book (q .0), opens-nothing (does digest m .opens) (not-true _ (q .1)))
 
   keeps-from : (n s : ℕ) (left : Option Bytes) (l : List Member) → keepsOneBook digest n s left l ≡ true →
-      (before : List Member) (m : Member) (after : List Member) → l ≡ before ++ (m ∷ after) → m .replica ≡ s → Follows digest n s m
+      (before : List Member) (m : Member) (after : List Member) → l ≡ before ++ (m ∷ after) → m .replica ≡ s →
+      Follows digest n s m
       (orElse (lastLeft digest s before) left)
   unfolding keepsOneBook lastLeft orElse
   keeps-from n s left [] t before m after e own = absurd (split-never m before after e)
@@ -141,7 +157,8 @@ module _ (digest : Bytes → Bytes) where
       let q = and-true (implies (eqb (x .replica) s) (follows digest n s x left)) _ t .1 in
       let r = keeps-from n s (orElse (leftBy digest s x) left) xs q before m after (split-head e .1) own in
       subst (λ (o : Option Bytes). Follows digest n s m o)
-      (ap (λ (z : Member). orElse (lastLeft digest s before) (orElse (leftBy digest s z) left)) x≡y ∙ sym (or-else-assoc (lastLeft digest s before) (leftBy digest s y) left)) r
+      (ap (λ (z : Member). orElse (lastLeft digest s before) (orElse (leftBy digest s z) left)) x≡y
+      ∙ sym (or-else-assoc (lastLeft digest s before) (leftBy digest s y) left)) r
 
   pub keeps-sound : (n s : ℕ) (l : List Member) → keepsOneBook digest n s none l ≡ true → KeepsOneBook digest n l s
   unfolding KeepsOneBook
@@ -161,13 +178,15 @@ module _ (digest : Bytes → Bytes) where
     unfolding signedIn signed
     signed-in s [] t st i = absurd (List·Memᴰ·not-nil i)
     signed-in s (f ∷ frames) t st i =
-        go (statementOf digest f s) refl (List·Memᴰ·append-cases (signed digest s (statementOf digest f s)) i) (signed-in s frames t st)
+        go (statementOf digest f s) refl (List·Memᴰ·append-cases (signed digest s (statementOf digest f s)) i)
+        (signed-in s frames t st)
       where
         Found : List Bytes → Type 0
         Found l = (t ≡ s) × (frame : Bytes) × List·Memᴰ frame l × (statementOf digest frame s ≡ some st)
 
         go : (o : Option Statement) → statementOf digest f s ≡ o →
-            List·Memᴰ (t ∷ statementBytes st) (signed digest s o) ⊎ List·Memᴰ (t ∷ statementBytes st) (signedIn digest s frames) →
+            List·Memᴰ (t ∷ statementBytes st) (signed digest s o) ⊎ List·Memᴰ (t ∷ statementBytes st)
+            (signedIn digest s frames) →
             (List·Memᴰ (t ∷ statementBytes st) (signedIn digest s frames) → Found frames) → Found (f ∷ frames)
         go o e (inr j) below = let r = below j in (r .0, r .1, List·Memᴰ·tail (r .2), r .3)
         go none e (inl j) below = absurd (List·Memᴰ·not-nil j)
@@ -180,10 +199,18 @@ module _ (digest : Bytes → Bytes) where
     unfolding Wrote
     logged-more P log m h s st i = go (List·Memᴰ·append-cases (signedIn digest (m .replica) (writes digest m)) i)
       where
-        go : List·Memᴰ (s ∷ statementBytes st) (signedIn digest (m .replica) (writes digest m)) ⊎ List·Memᴰ (s ∷ statementBytes st) log →
+        go : List·Memᴰ (s ∷ statementBytes st) (signedIn digest (m .replica) (writes digest m)) ⊎ List·Memᴰ
+            (s ∷ statementBytes st) log →
             Wrote digest s st (P ++ (m ∷ []))
-        go (inl j) = let r = signed-in (m .replica) (writes digest m) s st j in
-            (m, r .1, Memᴰ·append-right P (List·Memᴰ·head refl), sym (r .0), r .2, ap (statementOf digest (r .1)) (r .0) ∙ r .3)
+        go (inl j) = let r = signed-in (m .replica) (writes digest m) s st j in (
+          m,
+          r .1,
+          Memᴰ·append-right P (List·Memᴰ·head refl),
+          sym (r .0),
+          r .2,
+          ap (statementOf digest (r .1)) (r .0)
+              ∙ r .3,
+        )
         go (inr j) = wrote-more digest s st P (m ∷ []) (h s st j)
 
     backed-sound : (P : List Member) (log : List Bytes) (frame : Bytes) → Logged P log →
@@ -197,36 +224,44 @@ module _ (digest : Bytes → Bytes) where
         (List·Memᴰ·head refl) in
         h s st (holds-member (s ∷ statementBytes st) log r)
 
-    delivers-backed : (log : List Bytes) (m : Member) → deliversBacked digest n dishonest log m ≡ true → HonestIn n dishonest (m .replica) →
+    delivers-backed : (log : List Bytes) (m : Member) → deliversBacked digest n dishonest log m ≡ true →
+        HonestIn n dishonest (m .replica) →
         (frame : Bytes) → List·Memᴰ frame (delivers digest m) → isBacked digest n dishonest log frame ≡ true
     unfolding deliversBacked
     delivers-backed log m t hm frame d =
-        every-in (isBacked digest n dishonest log) (delivers digest m) (implies-true _ _ t (is-honest n dishonest (m .replica) hm)) frame d
+        every-in (isBacked digest n dishonest log) (delivers digest m)
+        (implies-true _ _ t (is-honest n dishonest (m .replica) hm)) frame d
 
     forged-from : (P : List Member) (log : List Bytes) (l : List Member) → Logged P log →
         notForged digest n dishonest log l ≡ true →
-        (before : List Member) (m : Member) (after : List Member) (frame : Bytes) (s : ℕ) (st : Statement) → l ≡ before ++ (m ∷ after) →
+        (before : List Member) (m : Member) (after : List Member) (frame : Bytes) (s : ℕ) (st : Statement) →
+        l ≡ before ++ (m ∷ after) →
         HonestIn n dishonest (m .replica) → HonestIn n dishonest s → List·Memᴰ frame (delivers digest m)
         → statementOf digest frame s ≡ some st → Wrote digest s st (P ++ before)
     unfolding notForged
     forged-from P log [] h t before m after frame s st e hm hs d r = absurd (split-never m before after e)
     forged-from P log (x ∷ xs) h t [] m after frame s st e hm hs d r =
-        let q = subst (λ (y : Member). deliversBacked digest n dishonest log y ≡ true) (split-head e .0) (and-true _ _ t .0) in
+        let q = subst (λ (y : Member). deliversBacked digest n dishonest log y ≡ true) (split-head e .0)
+        (and-true _ _ t .0) in
         rw append-nil (backed-sound P log frame h (delivers-backed log m q hm frame d) s st hs r)
     forged-from P log (x ∷ xs) h t (y ∷ before) m after frame s st e hm hs d r =
         let rest = signedIn digest (x .replica) (writes digest x) ++ log in
         let q = and-true (deliversBacked digest n dishonest log x) (notForged digest n dishonest rest xs) t .1 in
-        let w = forged-from (P ++ (x ∷ [])) rest xs (logged-more P log x h) q before m after frame s st (split-head e .1) hm hs d r in
-        subst (λ (z : List Member). Wrote digest s st z) (append-snoc P x before ∙ ap (λ (z : Member). P ++ (z ∷ before)) (split-head e .0)) w
+        let w = forged-from (P ++ (x ∷ [])) rest xs (logged-more P log x h) q before m after frame s st
+        (split-head e .1) hm hs d r in
+        subst (λ (z : List Member). Wrote digest s st z)
+        (append-snoc P x before ∙ ap (λ (z : Member). P ++ (z ∷ before)) (split-head e .0)) w
 
-    pub forged-sound : (l : List Member) → notForged digest n dishonest [] l ≡ true → NotForged digest (HonestIn n dishonest) (HonestIn n dishonest) l
+    pub forged-sound : (l : List Member) → notForged digest n dishonest [] l ≡ true →
+        NotForged digest (HonestIn n dishonest) (HonestIn n dishonest) l
     unfolding NotForged
     forged-sound l t before m after frame s st e hm hs d r =
         forged-from [] [] l (λ s st i. absurd (List·Memᴰ·not-nil i)) t before m after frame s st e hm hs d r
 
     -- ---- blocks
     shown-among : (blocks : List Bytes) (l : List Member) → showsOnly digest n dishonest blocks l ≡ true →
-        (m : Member) (block : Bytes) → List·Memᴰ m l → HonestIn n dishonest (m .replica) → Shows digest m block → List·Memᴰ block blocks
+        (m : Member) (block : Bytes) → List·Memᴰ m l → HonestIn n dishonest (m .replica) → Shows digest m block →
+        List·Memᴰ block blocks
     unfolding showsOnly shows Shows isAmong
     shown-among blocks l t m block i hm (frame, j, e) =
         let q = every-in _ l t m i in

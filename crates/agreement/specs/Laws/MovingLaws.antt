@@ -15,9 +15,12 @@ use Rattle.protocol.specs.Answer.{Certificate, certificateKind}
 use Rattle.protocol.specs.Certificates.{certificateFrame}
 use Rattle.protocol.specs.Laws.MoveLaws.{step-cases}
 use Rattle.protocol.specs.Laws.FlagLaws.{flag-set, flag-kept}
-use Rattle.protocol.specs.Frame.{blockCertificate, blockVote, dummyCertificate, dummyVote, finalize, finalizeCertificate, frameBlock, frameDigest, frameHeight, frameOf, kind, proposal, signer, signerMask}
+use Rattle.protocol.specs.Frame.{blockCertificate, blockVote, dummyCertificate, dummyVote, finalize}
+use Rattle.protocol.specs.Frame.{finalizeCertificate, frameBlock, frameDigest, frameHeight, frameOf, kind, proposal}
+use Rattle.protocol.specs.Frame.{signer, signerMask}
 use Rattle.protocol.specs.Mask.{inMask}
-use Rattle.protocol.specs.Move.{Step, blockVoteApplies, blockVoteStep, dummyVoteApplies, dummyVoteStep, idleStep, outputStep, passesBy, passStep, proposeApplies, proposeStep, step}
+use Rattle.protocol.specs.Move.{Step, blockVoteApplies, blockVoteStep, dummyVoteApplies, dummyVoteStep, idleStep}
+use Rattle.protocol.specs.Move.{outputStep, passesBy, passStep, proposeApplies, proposeStep, step}
 use Rattle.protocol.specs.Laws.RowLaws.{row}
 use Rattle.protocol.specs.Sound.{view}
 use Rattle.protocol.specs.State.{State, at, flag, noHeight, withHead}
@@ -26,7 +29,8 @@ use Rattle.protocol.specs.Laws.TestsLaws.{cond-elim}
 use Rattle.protocol.specs.View.{linked}
 use Rattle.agreement.specs.Laws.BackingLaws.{Backed}
 use Rattle.agreement.specs.Lists.{Statement, finalizes, proposes, statementOf, votesBlock, votesDummy, when}
-use Rattle.agreement.specs.Laws.StatementsLaws.{Consistent, stated-block, stated-dummy, stated-finalize, stated-nothing}
+use Rattle.agreement.specs.Laws.StatementsLaws.{Consistent, stated-block, stated-dummy, stated-finalize}
+use Rattle.agreement.specs.Laws.StatementsLaws.{stated-nothing}
 
 when-some : {A : Type 0} (b : Bool) (a x : A) → when b a ≡ some x → (x ≡ a) × (b ≡ true)
 unfolding when
@@ -46,11 +50,17 @@ module _ (digest : Bytes → Bytes) (o c s : ℕ) (st : Statement) where
   blockVote-says : (d : Bytes) → statementOf digest (blockVote o c d) s ≡ some st →
       st ≡ votesBlock c (frameDigest (blockVote o c d))
   unfolding statementOf blockVote frameOf kind signer frameHeight word16 le16
-  blockVote-says d e = when-some (eqb o s) (votesBlock c (frameDigest (blockVote o c d))) st (rw (word16-le16 c) at e) .0
+  blockVote-says d e = when-some (eqb o s) (votesBlock c (frameDigest (blockVote o c d))) st (rw (word16-le16 c) at e)
+      .0
 
-  proposal-says : (p : Bytes) → statementOf digest (proposal o c p) s ≡ some st → (h : ℕ) × (q : Bytes) × (st ≡ proposes h q)
+  proposal-says : (p : Bytes) → statementOf digest (proposal o c p) s ≡ some st →
+      (h : ℕ) × (q : Bytes) × (st ≡ proposes h q)
   unfolding statementOf proposal frameOf kind signer frameHeight word16 le16
-  proposal-says p e = (c, frameBlock (proposal o c p), when-some (eqb o s) (proposes c (frameBlock (proposal o c p))) st (rw (word16-le16 c) at e) .0)
+  proposal-says p e = (
+    c,
+    frameBlock (proposal o c p),
+    when-some (eqb o s) (proposes c (frameBlock (proposal o c p))) st (rw (word16-le16 c) at e) .0,
+  )
 
   pub blockCertificate-says : (m : ℕ) (p : Bytes) → statementOf digest (blockCertificate c m p) s ≡ some st →
       (st ≡ votesBlock c (digest p)) × (inMask m s ≡ true)
@@ -73,7 +83,8 @@ module _ (digest : Bytes → Bytes) (o c s : ℕ) (st : Statement) where
       let q = when-some (inMask (m % 256 + 256 * (m / 256)) s) (finalizes c) st (rw (word16-le16 c) at e) in
       (q .0, rw (word16-le16 m) at (q .1))
 
-module _ (digest : Bytes → Bytes) (U : ℕ → Statement → Type 0) (U′ : Statement → Type 0) (S : Bytes → Type 0) (s : ℕ) (b : State)
+module _ (digest : Bytes → Bytes) (U : ℕ → Statement → Type 0) (U′ : Statement → Type 0) (S : Bytes → Type 0) (s : ℕ)
+    (b : State)
     (backed : (i : ℕ) → Backed digest U S (suc i) (getD (b .heights) i noHeight))
     (k : Consistent (U s) (b .current) (flag 1 b) (flag 4 b))
     (positive : 1 ≤ b .current) where
@@ -91,7 +102,8 @@ module _ (digest : Bytes → Bytes) (U : ℕ → Statement → Type 0) (U′ : S
   backed-here : Backed digest U S c (at b c)
   unfolding at
   backed-here =
-      subst (λ (h : ℕ). Backed digest U S h (getD (b .heights) (c - 1) noHeight)) (let e : suc (c - 1) ≡ c = omega arith in e)
+      subst (λ (h : ℕ). Backed digest U S h (getD (b .heights) (c - 1) noHeight))
+      (let e : suc (c - 1) ≡ c = omega arith in e)
       (backed (c - 1))
 
   adds-none : Adds [] → (t : Statement) → U′ t → U s t ⊎ ((h : ℕ) × (p : Bytes) × (t ≡ proposes h p))
@@ -102,7 +114,8 @@ module _ (digest : Bytes → Bytes) (U : ℕ → Statement → Type 0) (U′ : S
       go (inl v) = inl v
       go (inr v) = absurd (List·Memᴰ·not-nil (v .1))
 
-  adds-one : (X : Statement → Type 0) (g : Bytes) → ((t : Statement) → statementOf digest g s ≡ some t → X t) → Adds (g ∷ []) →
+  adds-one : (X : Statement → Type 0) (g : Bytes) → ((t : Statement) → statementOf digest g s ≡ some t → X t) →
+      Adds (g ∷ []) →
       (t : Statement) → U′ t → U s t ⊎ X t
   adds-one X g says a t w = go (a t w)
     where
@@ -117,7 +130,8 @@ module _ (digest : Bytes → Bytes) (U : ℕ → Statement → Type 0) (U′ : S
   good-dummy : dummyVoteApplies b ≡ true → StepGood (dummyVoteStep b)
   unfolding dummyVoteApplies dummyVoteStep withHead
   good-dummy e a =
-      let new = adds-one (λ (t : Statement). t ≡ votesDummy c) (dummyVote (b .own) c) (dummyVote-says digest (b .own) c s) a in
+      let new = adds-one (λ (t : Statement). t ≡ votesDummy c) (dummyVote (b .own) c)
+      (dummyVote-says digest (b .own) c s) a in
       let kept = flag-kept b c (b .finalized) 1 (not-true (flag 2 b) (row _ 2 e)) in
       stated-dummy k new (row _ 1 e) (λ r. kept 0 (omega arith) ∙ r) (λ r. kept 2 (omega arith) ∙ r)
 
@@ -132,7 +146,8 @@ module _ (digest : Bytes → Bytes) (U : ℕ → Statement → Type 0) (U′ : S
   certificate-old : (t : Statement) → statementOf digest passed s ≡ some t → U s t
   unfolding certificateFrame certificateKind
   certificate-old t =
-      cond-elim (λ (by : Certificate). statementOf digest (certificateFrame b (certificateKind by) c) s ≡ some t → U s t)
+      cond-elim (λ (by : Certificate). statementOf digest (certificateFrame b (certificateKind by) c) s ≡ some t →
+      U s t)
       (linked digest (view b) c)
       (λ l e. let q = blockCertificate-says digest (b .own) c s t (at b c .certificateMask) (at b c .notarized) e in
       rw (q .0) (backed-here .shown .certifiers s (q .1)))
@@ -156,7 +171,8 @@ module _ (digest : Bytes → Bytes) (U : ℕ → Statement → Type 0) (U′ : S
       either t (inr m) r = inr (second t (flag 1 b) refl m r)
 
       sort : (t : Statement) →
-          U s t ⊎ ((f : Bytes) × List·Memᴰ f (passed ∷ cond (not (flag 1 b)) (finalize (b .own) c ∷ []) []) × (statementOf digest f s ≡ some t)) →
+          U s t ⊎ ((f : Bytes) × List·Memᴰ f (passed ∷ cond (not (flag 1 b)) (finalize (b .own) c ∷ []) []) ×
+          (statementOf digest f s ≡ some t)) →
           U s t ⊎ ((t ≡ finalizes c) × (flag 1 b ≡ false))
       sort t (inl u) = inl u
       sort t (inr u) = either t (List·Memᴰ·cases-cons (u .1)) (u .2)
@@ -175,9 +191,12 @@ module _ (digest : Bytes → Bytes) (U : ℕ → Statement → Type 0) (U′ : S
       let d : Bytes = digest (at b c .proposal) in
       let vote : Bytes = blockVote (b .own) c d in
       let unset = not-true (flag 4 b) (row _ 1 e) in
-      let new = adds-one (λ (t : Statement). t ≡ votesBlock c (frameDigest vote)) vote (λ t r. blockVote-says digest (b .own) c s t d r) a in
-      stated-block k (frameDigest vote) new unset (flag-set b c (b .finalized) 2 unset) (λ r. flag-kept b c (b .finalized) 2 unset 0 (omega arith) ∙ r)
+      let new = adds-one (λ (t : Statement). t ≡ votesBlock c (frameDigest vote)) vote
+      (λ t r. blockVote-says digest (b .own) c s t d r) a in
+      stated-block k (frameDigest vote) new unset (flag-set b c (b .finalized) 2 unset)
+      (λ r. flag-kept b c (b .finalized) 2 unset 0 (omega arith) ∙ r)
 
   pub step-good : StepGood (step digest b)
   step-good = step-cases digest b StepGood
-      good-dummy (λ _ _. good-output) (λ _ _ _. good-pass) (λ _ _ _. good-propose) (λ _ _ _ _. good-block) (λ _ _ _ _ _. good-idle)
+      good-dummy (λ _ _. good-output) (λ _ _ _. good-pass) (λ _ _ _. good-propose) (λ _ _ _ _. good-block)
+      (λ _ _ _ _ _. good-idle)

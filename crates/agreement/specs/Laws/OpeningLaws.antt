@@ -26,7 +26,8 @@ use Rattle.protocol.specs.Tests.{firstRefusal}
 use Rattle.agreement.specs.Laws.BackingLaws.{Backed}
 use Rattle.agreement.specs.Laws.GrantsLaws.{grants}
 use Rattle.agreement.specs.Lists.{Member, Statement, Wrote, writes}
-use Rattle.agreement.specs.Laws.RunLaws.{Good, States, backed-more, encoded, nothing-new, quiet, unchanged, unless-refused-good}
+use Rattle.agreement.specs.Laws.RunLaws.{Good, States, backed-more, encoded, nothing-new, quiet, unchanged}
+use Rattle.agreement.specs.Laws.RunLaws.{unless-refused-good}
 
 -- ---- one more pending entry
 module _ (digest : Bytes → Bytes) (n : ℕ) (books names : ℕ → Type 0) (P : List Member) (m : Member) where
@@ -35,7 +36,8 @@ module _ (digest : Bytes → Bytes) (n : ℕ) (books names : ℕ → Type 0) (P 
   unfolding submitCall submitRows stillPending withPending flag pending
   submit-good s book entry g silent =
       unless-refused-good digest n books names P m s (firstRefusal (submitRows digest book entry)) book _
-      (unchanged digest n books names P m s b g (λ q. silent)) (λ r. encoded digest n books names (P ++ (m ∷ [])) s _ (added r))
+      (unchanged digest n books names P m s b g (λ q. silent))
+      (λ r. encoded digest n books names (P ++ (m ∷ [])) s _ (added r))
     where
       b : State
       b = decode book
@@ -46,7 +48,8 @@ module _ (digest : Bytes → Bytes) (n : ℕ) (books names : ℕ → Type 0) (P 
       es : List Bytes
       es = still ++ (entry ∷ [])
 
-      added : firstRefusal (submitRows digest book entry) ≡ none → Good digest n books names (P ++ (m ∷ [])) s (withPending b es)
+      added : firstRefusal (submitRows digest book entry) ≡ none →
+          Good digest n books names (P ++ (m ∷ [])) s (withPending b es)
       added r =
           let r1 = row-passes _ _ r in
           let r2 = row-passes _ _ (r1 .1) in
@@ -59,7 +62,11 @@ module _ (digest : Bytes → Bytes) (n : ℕ) (books names : ℕ → Type 0) (P 
           (one (eqb-true (length entry) 16 (r2 .0)) no-more) in
           let room = leb-true (suc (length still)) 32 (r4 .0) in
           quiet digest n books names P m s b (withPending b es) g (λ q. silent) refl refl (λ q. q) (λ q. q)
-          (record { pool-size = pending-pool-size es full (rw length-append (omega arith)); heights = g .kept .shaped .heights })
+          (record {
+            pool-size = pending-pool-size es full (rw length-append (omega arith));
+            heights =
+                g .kept .shaped .heights;
+          })
           (λ i. backed-more digest n books names P m (g .kept .backed i))
 
 -- ---- a new book
@@ -68,7 +75,8 @@ nobody mask t z e = absurd (true≢false (sym e ∙ ap (λ (x : ℕ). inMask x t
 
 module _ (digest : Bytes → Bytes) {W : ℕ → Statement → Type 0} {S : Bytes → Type 0} where
   -- a height where nothing is kept
-  backed-nothing : (h : ℕ) (x : Height) → x .status ≡ 0 → x .certificateMask ≡ 0 → x .dummyMask ≡ 0 → x .finalizeMask ≡ 0 → x .voterMask ≡ 0 →
+  backed-nothing : (h : ℕ) (x : Height) → x .status ≡ 0 → x .certificateMask ≡ 0 → x .dummyMask ≡ 0 →
+      x .finalizeMask ≡ 0 → x .voterMask ≡ 0 →
       Backed digest W S h x
   unfolding holdsProposal isNotarized
   backed-nothing h x status certificate dummy finalize voters = record {
@@ -129,4 +137,5 @@ module _ (digest : Bytes → Bytes) (n : ℕ) (books names : ℕ → Type 0) (P 
       (decode (openCall book n s heights leaders .book))
   opening-good s book heights leaders hs none-before silent e =
       rw (open-unrefused book n s heights leaders e)
-      (encoded digest n books names (P ++ (m ∷ [])) s (newState n s leaders) (new-book-good s leaders hs none-before silent))
+      (encoded digest n books names (P ++ (m ∷ [])) s (newState n s leaders)
+      (new-book-good s leaders hs none-before silent))

@@ -10,36 +10,43 @@ use lib.Dec.{eqb}
 use borrow.Author.Tests.{eqb-true, eqb-false}
 use Rattle.protocol.specs.Bytes.{Bytes}
 use Rattle.protocol.specs.State.{decode}
-use Rattle.protocol.specs.Call.{Call, opening, delivery, moving, signalling, submitting, sizing, reading, fetching, effect}
+use Rattle.protocol.specs.Call.{Call, opening, delivery, moving, signalling, submitting, sizing, reading, fetching}
+use Rattle.protocol.specs.Call.{effect}
 use Rattle.protocol.specs.Laws.CallLaws.{only-opening, opens-nothing}
-use Rattle.agreement.specs.Lists.{Continues, Follows, KeepsOneBook, Member, NotForged, Opens, Wrote, does, lastLeft, leftBy, orElse}
+use Rattle.agreement.specs.Lists.{Continues, Follows, KeepsOneBook, Member, NotForged, Opens, Wrote, does}
+use Rattle.agreement.specs.Lists.{lastLeft, leftBy, orElse}
 use Rattle.agreement.specs.Laws.FetchingLaws.{fetch-good}
 use Rattle.agreement.specs.Laws.OpeningLaws.{opening-good, submit-good}
-use Rattle.agreement.specs.Laws.RunLaws.{Good, GoodBytes, delivery-good, last-left-snoc, move-good, nothing-new, reopening-good, signal-good, unchanged}
+use Rattle.agreement.specs.Laws.RunLaws.{Good, GoodBytes, delivery-good, last-left-snoc, move-good, nothing-new}
+use Rattle.agreement.specs.Laws.RunLaws.{reopening-good, signal-good, unchanged}
 
 module _ (digest : Bytes → Bytes) (n : ℕ) (books names : ℕ → Type 0) (l : List Member)
     (unforged : NotForged digest books names l) where
-  module _ (P after : List Member) (m : Member) (here : l ≡ P ++ (m ∷ after)) (s : ℕ) (mine : books s) (hs : names s) (own : m .replica ≡ s) where
+  module _ (P after : List Member) (m : Member) (here : l ≡ P ++ (m ∷ after)) (s : ℕ) (mine : books s) (hs : names s)
+      (own : m .replica ≡ s) where
     abbrev P′ : List Member
     P′ = P ++ (m ∷ [])
 
     hm : books (m .replica)
     hm = rw own mine
 
-    call-good : (book : Bytes) → Continues digest book m → (c : Call) → m .call ≡ c → Good digest n books names P s (decode book) →
+    call-good : (book : Bytes) → Continues digest book m → (c : Call) → m .call ≡ c →
+        Good digest n books names P s (decode book) →
         Good digest n books names P′ s (decode (effect digest book c .book))
     unfolding effect Continues NotForged
     call-good book (got, fixed) (opening n′ o heights leaders) e g =
         reopening-good digest n books names P m s book n′ o heights leaders g (rw e)
         (opens-nothing digest book n′ o heights leaders (rw (e, got) at fixed))
     call-good book (got, fixed) (delivery f) e g =
-        delivery-good digest n books names P m s book f g (rw e) hm (rw (e, got)) (λ q t st r ht. unforged P m after f t st here hm ht q r)
+        delivery-good digest n books names P m s book f g (rw e) hm (rw (e, got))
+        (λ q t st r ht. unforged P m after f t st here hm ht q r)
     call-good book (got, fixed) (moving reply) e g = move-good digest n books names P m s book reply hs g (rw (e, got))
     call-good book (got, fixed) (signalling h) e g = signal-good digest n books names P m s book h g (rw e)
     call-good book (got, fixed) (submitting x) e g = submit-good digest n books names P m s book x g (rw e)
     call-good book (got, fixed) sizing e g = unchanged digest n books names P m s (decode book) g (λ z. rw e)
     call-good book (got, fixed) (reading buffer) e g = unchanged digest n books names P m s (decode book) g (λ z. rw e)
-    call-good book (got, fixed) (fetching k h reply) e g = fetch-good digest n books names P m s book k h reply g (rw (e, got))
+    call-good book (got, fixed) (fetching k h reply) e g =
+        fetch-good digest n books names P m s book k h reply g (rw (e, got))
 
     next-good : (o : Option Bytes) → Follows digest n s m o → GoodBytes digest n books names P s o →
         Good digest n books names P′ s (decode (does digest m .book))
@@ -52,7 +59,8 @@ module _ (digest : Bytes → Bytes) (n : ℕ) (books names : ℕ → Type 0) (l 
         subst (λ (z : Bytes). Good digest n books names P′ s (decode (effect digest z (m .call) .book))) (sym (x .0))
         (call-good book x (m .call) refl g)
 
-  module _ (P after : List Member) (m : Member) (here : l ≡ P ++ (m ∷ after)) (s : ℕ) (keeps : KeepsOneBook digest n l s) (mine : books s) (hs : names s) where
+  module _ (P after : List Member) (m : Member) (here : l ≡ P ++ (m ∷ after)) (s : ℕ)
+      (keeps : KeepsOneBook digest n l s) (mine : books s) (hs : names s) where
     other-good : (m .replica ≢ s) → (o : Option Bytes) → GoodBytes digest n books names P s o →
         GoodBytes digest n books names (P ++ (m ∷ [])) s o
     other-good ne none g = λ st w. g st (nothing-new digest n books names P m s (λ e. absurd (ne e)) st w)
@@ -62,7 +70,8 @@ module _ (digest : Bytes → Bytes) (n : ℕ) (books names : ℕ → Type 0) (l 
         GoodBytes digest n books names (P ++ (m ∷ [])) s (lastLeft digest s (P ++ (m ∷ [])))
     unfolding leftBy orElse KeepsOneBook
     one-more g =
-        subst (λ (o : Option Bytes). GoodBytes digest n books names (P ++ (m ∷ [])) s o) (sym (last-left-snoc digest s P m))
+        subst (λ (o : Option Bytes). GoodBytes digest n books names (P ++ (m ∷ [])) s o)
+        (sym (last-left-snoc digest s P m))
         (go (eqb (m .replica) s) refl)
       where
         go : (b : Bool) → eqb (m .replica) s ≡ b →
@@ -74,11 +83,13 @@ module _ (digest : Bytes → Bytes) (n : ℕ) (books names : ℕ → Type 0) (l 
         go false e = other-good (eqb-false (m .replica) s e) (lastLeft digest s P) g
 
   walk : (P Q after : List Member) → l ≡ P ++ (Q ++ after) → (s : ℕ) → KeepsOneBook digest n l s → books s → names s →
-      GoodBytes digest n books names P s (lastLeft digest s P) → GoodBytes digest n books names (P ++ Q) s (lastLeft digest s (P ++ Q))
+      GoodBytes digest n books names P s (lastLeft digest s P) →
+      GoodBytes digest n books names (P ++ Q) s (lastLeft digest s (P ++ Q))
   walk P [] after here s keeps mine hs g = rw append-nil g
   walk P (m ∷ Q) after here s keeps mine hs g =
       rw (← append-snoc P m Q)
-      (walk (P ++ (m ∷ [])) Q after (here ∙ sym (append-snoc P m (Q ++ after))) s keeps mine hs (one-more P (Q ++ after) m here s keeps mine hs g))
+      (walk (P ++ (m ∷ [])) Q after (here ∙ sym (append-snoc P m (Q ++ after))) s keeps mine hs
+      (one-more P (Q ++ after) m here s keeps mine hs g))
 
   -- the book that a replica of its own book and name has after the calls of `P`
   pub good-after : (P after : List Member) → l ≡ P ++ after → (s : ℕ) → KeepsOneBook digest n l s → books s → names s →

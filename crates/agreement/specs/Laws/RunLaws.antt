@@ -4,7 +4,8 @@ use native.Mathlib.Omega.{arith}
 use mathlib.Core.Path.{_≡_, refl, sym, subst, _∙_}
 use mathlib.Core.Logic.{_⊎_, inl, inr}
 use mathlib.Core.Bool.{Bool, true, false, cond, true≢false}
-use mathlib.Core.List.{List, [], _∷_, _++_, List·Memᴰ, List·Memᴰ·head, List·Memᴰ·eq-of-singleton, List·Memᴰ·append-cases, List·Memᴰ·not-nil, Memᴰ·append-left, Memᴰ·append-right}
+use mathlib.Core.List.{List, [], _∷_, _++_, List·Memᴰ, List·Memᴰ·head, List·Memᴰ·eq-of-singleton}
+use mathlib.Core.List.{List·Memᴰ·append-cases, List·Memᴰ·not-nil, Memᴰ·append-left, Memᴰ·append-right}
 use mathlib.Core.Option.{Option, some, none}
 use lib.ListN.{length, getD, set}
 use lib.Seq.{getD-set-same, getD-set-other}
@@ -24,14 +25,16 @@ use Rattle.protocol.specs.Open.{newState, openCall, openRows}
 use Rattle.protocol.specs.Laws.RowLaws.{row-passes}
 use Rattle.protocol.specs.Signal.{signalCall, signalRows}
 use Rattle.protocol.specs.Sound.{sound}
-use Rattle.protocol.specs.State.{Height, State, at, decode, encode, flag, last, noHeight, withHead, withHeight, withTimerFired}
+use Rattle.protocol.specs.State.{Height, State, at, decode, encode, flag, last, noHeight, withHead, withHeight}
+use Rattle.protocol.specs.State.{withTimerFired}
 use Rattle.protocol.specs.Laws.StateLaws.{decode-encode}
 use Rattle.protocol.specs.Tests.{firstRefusal}
 use Rattle.protocol.specs.Laws.TestsLaws.{and-true}
 use Rattle.agreement.specs.Laws.BackingLaws.{Backed, later}
 use Rattle.agreement.specs.Laws.GrantsLaws.{grants}
 use Rattle.agreement.specs.Laws.KeepingLaws.{keep-good}
-use Rattle.agreement.specs.Lists.{Member, Shows, Statement, Wrote, blockIn, delivers, lastLeft, leftBy, orElse, statementOf, writes}
+use Rattle.agreement.specs.Lists.{Member, Shows, Statement, Wrote, blockIn, delivers, lastLeft, leftBy, orElse}
+use Rattle.agreement.specs.Lists.{statementOf, writes}
 use Rattle.agreement.specs.Laws.MovingLaws.{step-good}
 use Rattle.agreement.specs.Laws.StatementsLaws.{Consistent, stated-nothing}
 
@@ -59,12 +62,14 @@ module _ (digest : Bytes → Bytes) where
   wrote-more s st P Q w = (w .0, w .1, Memᴰ·append-left Q (w .2), w .3, w .4, w .5)
 
   pub wrote-last : (s : ℕ) (st : Statement) (P : List Member) (m : Member) → Wrote digest s st (P ++ (m ∷ [])) →
-      Wrote digest s st P ⊎ ((m .replica ≡ s) × (f : Bytes) × List·Memᴰ f (writes digest m) × (statementOf digest f s ≡ some st))
+      Wrote digest s st P ⊎ ((m .replica ≡ s) × (f : Bytes) × List·Memᴰ f
+      (writes digest m) × (statementOf digest f s ≡ some st))
   unfolding Wrote
   wrote-last s st P m w = go (List·Memᴰ·append-cases P (w .2))
     where
       go : List·Memᴰ (w .0) P ⊎ List·Memᴰ (w .0) (m ∷ []) →
-          Wrote digest s st P ⊎ ((m .replica ≡ s) × (f : Bytes) × List·Memᴰ f (writes digest m) × (statementOf digest f s ≡ some st))
+          Wrote digest s st P ⊎ ((m .replica ≡ s) × (f : Bytes) × List·Memᴰ f
+          (writes digest m) × (statementOf digest f s ≡ some st))
       go (inl i) = inl (w .0, w .1, i, w .3, w .4, w .5)
       go (inr i) = let e = List·Memᴰ·eq-of-singleton i in inr (rw e at (w .3), w .1, rw e at (w .4), w .5)
 
@@ -218,7 +223,8 @@ module _ (digest : Bytes → Bytes) where
           Wrote digest s st P
       nothing-new s e st w = go (wrote-last s st P m w)
         where
-          go : Wrote digest s st P ⊎ ((m .replica ≡ s) × (f : Bytes) × List·Memᴰ f (writes digest m) × (statementOf digest f s ≡ some st)) →
+          go : Wrote digest s st P ⊎ ((m .replica ≡ s) × (f : Bytes) × List·Memᴰ f
+              (writes digest m) × (statementOf digest f s ≡ some st)) →
               Wrote digest s st P
           go (inl v) = v
           go (inr v) = absurd (List·Memᴰ·not-nil (rw (e (v .0)) at (v .2)))
@@ -243,7 +249,8 @@ module _ (digest : Bytes → Bytes) where
       pub delivery-good : (s : ℕ) (book f : Bytes) → Good P s (decode book) → writes digest m ≡ [] →
           books (m .replica) →
           delivers digest m ≡ cond (isAccepted (deliverCall digest book f .answer)) (f ∷ []) [] →
-          (List·Memᴰ f (delivers digest m) → (t : ℕ) (st : Statement) → statementOf digest f t ≡ some st → States P t st) →
+          (List·Memᴰ f (delivers digest m) → (t : ℕ) (st : Statement) → statementOf digest f t ≡ some st →
+          States P t st) →
           Good P′ s (decode (deliverCall digest book f .book))
       delivery-good s book f g silent ours e said =
           frame-good P′ m (Memᴰ·append-right P (List·Memᴰ·head refl)) ours s book f
@@ -251,7 +258,8 @@ module _ (digest : Bytes → Bytes) where
           (λ d t st q. states-more t st (said d t st q))
 
       -- ---- a call that changes the book unless it is refused
-      pub unless-refused-good : {A : Type 0} (s : ℕ) (o : Option ℕ) (book : Bytes) (outcome : Outcome A) → Good P′ s (decode book) →
+      pub unless-refused-good : {A : Type 0} (s : ℕ) (o : Option ℕ) (book : Bytes) (outcome : Outcome A) →
+          Good P′ s (decode book) →
           (o ≡ none → Good P′ s (decode (outcome .book))) → Good P′ s (decode (unlessRefused o book outcome .book))
       unfolding unlessRefused
       unless-refused-good s none book outcome g g′ = g′ refl
@@ -262,7 +270,8 @@ module _ (digest : Bytes → Bytes) where
           isAccepted (openCall book n′ own heights leaders .answer) ≡ false → Good P′ s
           (decode (openCall book n′ own heights leaders .book))
       unfolding openCall unlessRefused isAccepted
-      reopening-good s book n′ own heights leaders g silent no-way = go (firstRefusal (openRows book n′ own heights leaders)) no-way
+      reopening-good s book n′ own heights leaders g silent no-way =
+          go (firstRefusal (openRows book n′ own heights leaders)) no-way
         where
           opened : Outcome Done
           opened = record { answer = accepted done; book = encode (newState n′ own leaders) }
@@ -282,14 +291,16 @@ module _ (digest : Bytes → Bytes) where
           b : State
           b = decode book
 
-          fired : firstRefusal (signalRows digest book h) ≡ none → Good P′ s (withHead b (b .flags + 1) (b .current) (b .finalized))
+          fired : firstRefusal (signalRows digest book h) ≡ none →
+              Good P′ s (withHead b (b .flags + 1) (b .current) (b .finalized))
           fired e =
               let r1 = row-passes _ _ e in
               let r2 = row-passes _ _ (r1 .1) in
               let r3 = row-passes _ _ (r2 .1) in
               let off = not-true (flag 1 b) (and-true (eqb h (b .current)) _ (r3 .0) .1) in
               quiet s b (withHead b (b .flags + 1) (b .current) (b .finalized)) g (λ q. silent) refl refl
-              (λ q. flag-set b (b .current) (b .finalized) 0 off) (λ q. flag-kept b (b .current) (b .finalized) 0 off 2 (omega arith) ∙ q)
+              (λ q. flag-set b (b .current) (b .finalized) 0 off)
+              (λ q. flag-kept b (b .current) (b .finalized) 0 off 2 (omega arith) ∙ q)
               (record { pool-size = g .kept .shaped .pool-size; heights = g .kept .shaped .heights })
               (λ i. backed-more (g .kept .backed i))
 
@@ -316,7 +327,8 @@ module _ (digest : Bytes → Bytes) where
           b = decode book
 
           go : (t : Statement) →
-              Wrote digest s t P ⊎ ((m .replica ≡ s) × (f : Bytes) × List·Memᴰ f (writes digest m) × (statementOf digest f s ≡ some t)) →
+              Wrote digest s t P ⊎ ((m .replica ≡ s) × (f : Bytes) × List·Memᴰ f
+              (writes digest m) × (statementOf digest f s ≡ some t)) →
               States P s t ⊎ ((f : Bytes) × List·Memᴰ f (step digest b .frames) × (statementOf digest f s ≡ some t))
           go t (inl v) = inl (λ q. v)
           go t (inr v) = inr (v .1, rw e at (v .2), v .3)

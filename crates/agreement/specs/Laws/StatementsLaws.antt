@@ -93,7 +93,8 @@ module _ {W W′ : Statement → Type 0} {c : ℕ} {fired voted : Bool} (k : Con
     dummy-alone h (inl w) w′ = k .not-both h w w′
     dummy-alone h (inr e) w′ = let z : h ≡ c = cc in let q = k .finalize-old h w′ in omega arith
 
-    pub stated-dummy : {fired′ voted′ : Bool} → fired ≡ true → (fired ≡ true → fired′ ≡ true) → (voted ≡ true → voted′ ≡ true) →
+    pub stated-dummy : {fired′ voted′ : Bool} → fired ≡ true → (fired ≡ true → fired′ ≡ true) →
+        (voted ≡ true → voted′ ≡ true) →
         Consistent W′ c fired′ voted′
     unfolding kindOf
     stated-dummy t f v = record {
@@ -101,18 +102,21 @@ module _ {W W′ : Statement → Type 0} {c : ℕ} {fired voted : Bool} (k : Con
       finalize-old = λ h w. k .finalize-old h (old _ new (finalizes h) refl w);
       not-both = λ h w w′. dummy-alone h (new _ w) (old _ new (finalizes h) refl w′);
       block-old = λ h d w. wider v (k .block-old h d (old _ new (votesBlock h d) refl w));
-      block-one = λ h d d′ w w′. k .block-one h d d′ (old _ new (votesBlock h d) refl w) (old _ new (votesBlock h d′) refl w′);
+      block-one = λ h d d′ w w′. k .block-one h d d′ (old _ new (votesBlock h d) refl w)
+          (old _ new (votesBlock h d′) refl w′);
     }
 
   -- a block vote of the current height is stated, the first one
   module _ (p : Bytes) (new : (st : Statement) → W′ st → W st ⊎ (st ≡ votesBlock c p)) where
-    block-reached : {voted′ : Bool} → voted′ ≡ true → (h : ℕ) (d : Bytes) → W (votesBlock h d) ⊎ (votesBlock h d ≡ votesBlock c p) →
+    block-reached : {voted′ : Bool} → voted′ ≡ true → (h : ℕ) (d : Bytes) →
+        W (votesBlock h d) ⊎ (votesBlock h d ≡ votesBlock c p) →
         Reached c voted′ h
     block-reached t h d (inl w) = wider (λ z. t) (k .block-old h d w)
     block-reached t h d (inr e) = inr (cc, t)
 
     block-alone : voted ≡ false → (h : ℕ) (d d′ : Bytes) →
-        W (votesBlock h d) ⊎ (votesBlock h d ≡ votesBlock c p) → W (votesBlock h d′) ⊎ (votesBlock h d′ ≡ votesBlock c p) → d ≡ d′
+        W (votesBlock h d) ⊎ (votesBlock h d ≡ votesBlock c p) →
+        W (votesBlock h d′) ⊎ (votesBlock h d′ ≡ votesBlock c p) → d ≡ d′
     block-alone u h d d′ (inl w) (inl w′) = k .block-one h d d′ w w′
     block-alone u h d d′ (inl w) (inr e) = let q : h ≡ c = cc in not-reached u (k .block-old c d (rw q at w))
     block-alone u h d d′ (inr e) (inl w′) = let q : h ≡ c = cc in not-reached u (k .block-old c d′ (rw q at w′))
@@ -150,5 +154,6 @@ module _ {W W′ : Statement → Type 0} {c : ℕ} {fired voted : Bool} (k : Con
       finalize-old = λ h w. finalize-past h (new _ w);
       not-both = λ h w w′. finalize-alone h (old-at-pass (votesDummy h) refl w) (new _ w′);
       block-old = λ h d w. inl (past (k .block-old h d (old-at-pass (votesBlock h d) refl w)));
-      block-one = λ h d d′ w w′. k .block-one h d d′ (old-at-pass (votesBlock h d) refl w) (old-at-pass (votesBlock h d′) refl w′);
+      block-one = λ h d d′ w w′. k .block-one h d d′ (old-at-pass (votesBlock h d) refl w)
+          (old-at-pass (votesBlock h d′) refl w′);
     }

@@ -11,8 +11,10 @@ use Rattle.protocol.specs.Bytes.{Bytes, byteAt, join, le16, word16, zeros}
 use Rattle.protocol.specs.Frame.{dummyCertificate, frameBlock, frameHeight, frameOf, kind, proposal, signer}
 use Rattle.protocol.specs.Laws.RowLaws.{row}
 use Rattle.protocol.specs.Tests.{allOf}
-use Rattle.agreement.specs.ListTests.{everyHonest, hearsAt, keepsOneBook, noCollision, notForged, readsAt, showsOnly, someIn, writesAt}
-use Rattle.agreement.specs.Laws.ListTestsLaws.{collision-sound, every-honest, forged-sound, hears-found, keeps-sound, reads-found, writes-found}
+use Rattle.agreement.specs.ListTests.{everyHonest, hearsAt, keepsOneBook, noCollision, notForged, readsAt}
+use Rattle.agreement.specs.ListTests.{showsOnly, someIn, writesAt}
+use Rattle.agreement.specs.Laws.ListTestsLaws.{collision-sound, every-honest, forged-sound, hears-found}
+use Rattle.agreement.specs.Laws.ListTestsLaws.{keeps-sound, reads-found, writes-found}
 use Rattle.agreement.specs.Lists.{Member, proposes, statementOf, when}
 use Rattle.agreement.specs.Met.{Met}
 use Rattle.agreement.specs.Laws.MetLaws.{OneBegins, applied}

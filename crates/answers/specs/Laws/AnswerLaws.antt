@@ -8,12 +8,18 @@ use Rattle.protocol.specs.Fetch.{FetchOutcome}
 use Rattle.answers.specs.declared.answer.Answer.the-variants as Answer
 use Rattle.answers.specs.Answers.{doneAnswer}
 
-pub outcome-done : {o : Outcome Done} {book after : Bytes} → o ≡ record { answer = accepted done; book = book } → after ≡ book →
+pub outcome-done : {o : Outcome Done} {book after : Bytes} → o ≡ record { answer = accepted done; book = book } →
+    after ≡ book →
     (doneAnswer Answer.Done ≡ o .answer) × (after ≡ o .book)
 unfolding doneAnswer
-outcome-done e written = (sym (ap (λ (o : Outcome Done). o .answer) e), written ∙ sym (ap (λ (o : Outcome Done). o .book) e))
+outcome-done e written = (
+  sym (ap (λ (o : Outcome Done). o .answer) e),
+  written
+      ∙ sym (ap (λ (o : Outcome Done). o .book) e),
+)
 
-pub outcome-refused : {o : Outcome Done} {number : ℕ} {book : Bytes} → o ≡ record { answer = refused number; book = book } →
+pub outcome-refused : {o : Outcome Done} {number : ℕ} {book : Bytes} →
+    o ≡ record { answer = refused number; book = book } →
     (doneAnswer (Answer.Refused number) ≡ o .answer) × (book ≡ o .book)
 unfolding doneAnswer
 outcome-refused e = (sym (ap (λ (o : Outcome Done). o .answer) e), sym (ap (λ (o : Outcome Done). o .book) e))
@@ -22,9 +28,14 @@ pub fetch-answered : {o : FetchOutcome} {reply after : Bytes} {frames : List Byt
     o ≡ record { answer = accepted done; reply = reply; frames = frames } → after ≡ reply →
     (doneAnswer Answer.Done ≡ o .answer) × (after ≡ o .reply)
 unfolding doneAnswer
-fetch-answered e written = (sym (ap (λ (o : FetchOutcome). o .answer) e), written ∙ sym (ap (λ (o : FetchOutcome). o .reply) e))
+fetch-answered e written = (
+  sym (ap (λ (o : FetchOutcome). o .answer) e),
+  written
+      ∙ sym (ap (λ (o : FetchOutcome). o .reply) e),
+)
 
-pub fetch-refused : {o : FetchOutcome} {number : ℕ} {reply : Bytes} → o ≡ record { answer = refused number; reply = reply; frames = [] } →
+pub fetch-refused : {o : FetchOutcome} {number : ℕ} {reply : Bytes} →
+    o ≡ record { answer = refused number; reply = reply; frames = [] } →
     (doneAnswer (Answer.Refused number) ≡ o .answer) × (reply ≡ o .reply)
 unfolding doneAnswer
 fetch-refused e = (sym (ap (λ (o : FetchOutcome). o .answer) e), sym (ap (λ (o : FetchOutcome). o .reply) e))

@@ -72,11 +72,18 @@ module _ (book : Bytes) (k h : ℕ) (reply : Bytes) where
         unfolding fetchCall fetchRows firstRefusal unlessFetchRefused
         fetch-short l = rw (e, f, g, l)
 
-        pub fetch-lacking : leb 224 (length reply) ≡ true → hasCertificate (decode book) k h ≡ false → fetchCall sha256 book k h reply ≡ noFrame reply 11
+        pub fetch-lacking : leb 224 (length reply) ≡ true → hasCertificate (decode book) k h ≡ false →
+            fetchCall sha256 book k h reply ≡ noFrame reply 11
         unfolding fetchCall fetchRows firstRefusal unlessFetchRefused
         fetch-lacking l m = rw (e, f, g, l, m)
 
         pub fetch-done : leb 224 (length reply) ≡ true → hasCertificate (decode book) k h ≡ true →
-            fetchCall sha256 book k h reply ≡ (record { answer = accepted done; reply = overFront (certificateFrame (decode book) k h) reply; frames = certificateFrame (decode book) k h ∷ [] })
+            fetchCall sha256 book k h reply ≡ (record {
+              answer = accepted done;
+              reply =
+                  overFront (certificateFrame (decode book) k h) reply;
+              frames =
+                  certificateFrame (decode book) k h ∷ [];
+            })
         unfolding fetchCall fetchRows firstRefusal unlessFetchRefused
         fetch-done l m = rw (e, f, g, l, m)

@@ -12,16 +12,26 @@ proposal-extends-requires : tie.Need-proposal-extends-requires
 proposal-extends-requires c κs =
     let after-if1 = c .before .before .before in
     let after-is-running = after-if1 .before in
-    let start = after-is-running .before .before .before in
-    (start .pre .0, (start .pre .1, running-high (start .args .book .now) (sym (after-is-running .is-running .ensures) ∙ after-if1 .if1 .taken)))
+    let start = after-is-running .before .before .before in (
+      start .pre .0,
+      (
+        start .pre .1,
+        running-high (start .args .book .now)
+            (sym (after-is-running .is-running .ensures) ∙ after-if1 .if1 .taken),
+      ),
+    )
 
 returns : tie.Need-returns
 returns c =
     let after-flag = c .before in
     let after-if1 = after-flag .before in
     let after-is-running = after-if1 .before in
-    let start = after-is-running .before .before .before in
-    (sym (vote-cast sha256 (decode (start .args .book .now)) (sym (after-is-running .is-running .ensures) ∙ after-if1 .if1 .taken) (sym (after-flag .flag .ensures) ∙ c .if2 .taken)), start .pre .1)
+    let start = after-is-running .before .before .before in (
+      sym (vote-cast sha256 (decode (start .args .book .now))
+          (sym (after-is-running .is-running .ensures) ∙ after-if1 .if1 .taken)
+          (sym (after-flag .flag .ensures) ∙ c .if2 .taken)),
+      start .pre .1,
+    )
 
 returns-2 : tie.Need-returns-2
 returns-2 c =
@@ -31,14 +41,21 @@ returns-2 c =
     let after-if1 = after-flag .before in
     let after-is-running = after-if1 .before in
     let start = after-is-running .before .before .before in
-    let held = after-proposal-extends .proposal-extends in
-    (held .ensures .0 ∙ sym (vote-held sha256 (decode (start .args .book .now)) (sym (after-is-running .is-running .ensures) ∙ after-if1 .if1 .taken) (sym (after-flag .flag .ensures) ∙ after-if2 .if2 .left)), held .ensures .1)
+    let held = after-proposal-extends .proposal-extends in (
+      held .ensures .0 ∙ sym (vote-held sha256 (decode (start .args .book .now))
+          (sym (after-is-running .is-running .ensures) ∙ after-if1 .if1 .taken)
+          (sym (after-flag .flag .ensures) ∙ after-if2 .if2 .left)),
+      held .ensures .1,
+    )
 
 returns-3 : tie.Need-returns-3
 returns-3 c =
     let after-is-running = c .before in
-    let start = after-is-running .before .before .before in
-    (sym (vote-stopped sha256 (decode (start .args .book .now)) (sym (after-is-running .is-running .ensures) ∙ c .if1 .left)), start .pre .1)
+    let start = after-is-running .before .before .before in (
+      sym (vote-stopped sha256 (decode (start .args .book .now))
+          (sym (after-is-running .is-running .ensures) ∙ c .if1 .left)),
+      start .pre .1,
+    )
 
 pub block-vote-applies-spec : {M : Type 1} → statement M
 block-vote-applies-spec =

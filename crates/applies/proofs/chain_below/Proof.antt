@@ -13,8 +13,10 @@ returns c =
     let after-current = after-parent-of .before .before in
     let start = after-current .before .before .before in
     let found = after-parent-of .parent-of in
-    let height = after-current .current in
-    (found .ensures .0 ∙ below-is sha256 (decode (start .args .book .now)) (height .result) (height .ensures .0), found .ensures .1)
+    let height = after-current .current in (
+      found .ensures .0 ∙ below-is sha256 (decode (start .args .book .now)) (height .result) (height .ensures .0),
+      found .ensures .1,
+    )
 
 pub chain-below-spec : {M : Type 1} → statement M
 chain-below-spec =

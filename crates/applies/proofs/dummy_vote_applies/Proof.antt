@@ -14,7 +14,9 @@ returns c =
     let after-if1 = after-flag .before in
     let after-is-running = after-if1 .before in
     let start = after-is-running .before .before in
-    sym (dummy-cast (decode (start .args .book .now)) (sym (after-is-running .is-running .ensures) ∙ after-if1 .if1 .taken) (sym (after-flag .flag .ensures) ∙ after-if2 .if2 .taken) (sym (after-flag2 .flag2 .ensures) ∙ c .if3 .taken))
+    sym (dummy-cast (decode (start .args .book .now))
+    (sym (after-is-running .is-running .ensures) ∙ after-if1 .if1 .taken)
+    (sym (after-flag .flag .ensures) ∙ after-if2 .if2 .taken) (sym (after-flag2 .flag2 .ensures) ∙ c .if3 .taken))
 
 returns-2 : tie.Need-returns-2
 returns-2 c =
@@ -24,7 +26,9 @@ returns-2 c =
     let after-if1 = after-flag .before in
     let after-is-running = after-if1 .before in
     let start = after-is-running .before .before in
-    sym (dummy-now (decode (start .args .book .now)) (sym (after-is-running .is-running .ensures) ∙ after-if1 .if1 .taken) (sym (after-flag .flag .ensures) ∙ after-if2 .if2 .taken) (sym (after-flag2 .flag2 .ensures) ∙ c .if3 .left))
+    sym (dummy-now (decode (start .args .book .now))
+    (sym (after-is-running .is-running .ensures) ∙ after-if1 .if1 .taken)
+    (sym (after-flag .flag .ensures) ∙ after-if2 .if2 .taken) (sym (after-flag2 .flag2 .ensures) ∙ c .if3 .left))
 
 returns-3 : tie.Need-returns-3
 returns-3 c =
@@ -32,7 +36,9 @@ returns-3 c =
     let after-if1 = after-flag .before in
     let after-is-running = after-if1 .before in
     let start = after-is-running .before .before in
-    sym (dummy-in-time (decode (start .args .book .now)) (sym (after-is-running .is-running .ensures) ∙ after-if1 .if1 .taken) (sym (after-flag .flag .ensures) ∙ c .if2 .left))
+    sym (dummy-in-time (decode (start .args .book .now))
+    (sym (after-is-running .is-running .ensures) ∙ after-if1 .if1 .taken)
+    (sym (after-flag .flag .ensures) ∙ c .if2 .left))
 
 returns-4 : tie.Need-returns-4
 returns-4 c =

@@ -11,15 +11,19 @@ returns : tie.Need-returns
 unfolding isSome parentOption
 returns c =
     let after-chain-below = c .before .before .before .before in
-    let found = after-chain-below .chain-below in
-    (ap (λ (p : Parent). isSome (parentOption p)) (sym (c .enum-told .given .1)) ∙ ap isSome (found .ensures .0), found .ensures .1)
+    let found = after-chain-below .chain-below in (
+      ap (λ (p : Parent). isSome (parentOption p)) (sym (c .enum-told .given .1)) ∙ ap isSome (found .ensures .0),
+      found .ensures .1,
+    )
 
 returns-2 : tie.Need-returns-2
 unfolding isSome parentOption
 returns-2 c =
     let after-chain-below = c .before .before .before .before in
-    let found = after-chain-below .chain-below in
-    (ap (λ (p : Parent). isSome (parentOption p)) (sym (c .enum-told2 .given .1)) ∙ ap isSome (found .ensures .0), found .ensures .1)
+    let found = after-chain-below .chain-below in (
+      ap (λ (p : Parent). isSome (parentOption p)) (sym (c .enum-told2 .given .1)) ∙ ap isSome (found .ensures .0),
+      found .ensures .1,
+    )
 
 pub has-chain-below-spec : {M : Type 1} → statement M
 has-chain-below-spec =

@@ -13,8 +13,10 @@ returns c =
     let after-heights = after-largest-finalized .before .before in
     let start = after-heights .before .before .before in
     let found = after-largest-finalized .largest-finalized in
-    let top = after-heights .heights in
-    (found .ensures .0 ∙ newest-is sha256 (start .args .book .now) (top .result) (top .ensures .0), (omega (arith, found .ensures .1 .0, top .ensures .1), found .ensures .1 .1))
+    let top = after-heights .heights in (
+      found .ensures .0 ∙ newest-is sha256 (start .args .book .now) (top .result) (top .ensures .0),
+      (omega (arith, found .ensures .1 .0, top .ensures .1), found .ensures .1 .1),
+    )
 
 pub new-finalized-spec : {M : Type 1} → statement M
 new-finalized-spec =

@@ -12,15 +12,19 @@ unfolding someOr parentOption
 returns c =
     let after-j = c .before in
     let after-chain-below = after-j .before .before .before .before in
-    let found = after-chain-below .chain-below in
-    (ap (λ (p : Parent). someOr 0 (parentOption p)) (sym (after-j .j .given .1)) ∙ ap (someOr 0) (found .ensures .0), found .ensures .1)
+    let found = after-chain-below .chain-below in (
+      ap (λ (p : Parent). someOr 0 (parentOption p)) (sym (after-j .j .given .1)) ∙ ap (someOr 0) (found .ensures .0),
+      found .ensures .1,
+    )
 
 returns-2 : tie.Need-returns-2
 unfolding someOr parentOption
 returns-2 c =
     let after-chain-below = c .before .before .before .before in
-    let found = after-chain-below .chain-below in
-    (ap (λ (p : Parent). someOr 0 (parentOption p)) (sym (c .enum-told .given .1)) ∙ ap (someOr 0) (found .ensures .0), found .ensures .1)
+    let found = after-chain-below .chain-below in (
+      ap (λ (p : Parent). someOr 0 (parentOption p)) (sym (c .enum-told .given .1)) ∙ ap (someOr 0) (found .ensures .0),
+      found .ensures .1,
+    )
 
 pub parent-below-spec : {M : Type 1} → statement M
 parent-below-spec =

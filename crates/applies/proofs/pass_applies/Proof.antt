@@ -14,8 +14,14 @@ linked-requires c κs =
     let after-if1 = after-current .before in
     let after-is-running = after-if1 .before in
     let start = after-is-running .before .before .before in
-    let height = after-current .current in
-    (start .pre .0 .ready .readable, (start .pre .1, current-high (start .args .book .now) (start .pre .0) (sym (after-is-running .is-running .ensures) ∙ after-if1 .if1 .taken) (height .result) (height .ensures .0)))
+    let height = after-current .current in (
+      start .pre .0 .ready .readable,
+      (
+        start .pre .1,
+        current-high (start .args .book .now) (start .pre .0)
+            (sym (after-is-running .is-running .ensures) ∙ after-if1 .if1 .taken) (height .result) (height .ensures .0),
+      ),
+    )
 
 is-dummy-requires : tie.Need-is-dummy-requires
 is-dummy-requires c κs =
@@ -23,8 +29,11 @@ is-dummy-requires c κs =
     let after-if1 = after-current .before in
     let after-is-running = after-if1 .before in
     let start = after-is-running .before .before .before in
-    let height = after-current .current in
-    (start .pre .0 .ready .readable, current-within (start .args .book .now) (start .pre .0) (sym (after-is-running .is-running .ensures) ∙ after-if1 .if1 .taken) (height .result) (height .ensures .0))
+    let height = after-current .current in (
+      start .pre .0 .ready .readable,
+      current-within (start .args .book .now) (start .pre .0)
+          (sym (after-is-running .is-running .ensures) ∙ after-if1 .if1 .taken) (height .result) (height .ensures .0),
+    )
 
 returns : tie.Need-returns
 returns c =
@@ -34,8 +43,11 @@ returns c =
     let after-is-running = after-if1 .before in
     let start = after-is-running .before .before .before in
     let height = after-current .current in
-    let link = after-linked .linked in
-    (sym (pass-linked sha256 (decode (start .args .book .now)) (height .result) (height .ensures .0) (sym (after-is-running .is-running .ensures) ∙ after-if1 .if1 .taken) (sym (link .ensures .0) ∙ c .if2 .taken)), link .ensures .1)
+    let link = after-linked .linked in (
+      sym (pass-linked sha256 (decode (start .args .book .now)) (height .result) (height .ensures .0)
+          (sym (after-is-running .is-running .ensures) ∙ after-if1 .if1 .taken) (sym (link .ensures .0) ∙ c .if2 .taken)),
+      link .ensures .1,
+    )
 
 returns-2 : tie.Need-returns-2
 returns-2 c =
@@ -50,8 +62,13 @@ returns-2 c =
     let start = after-is-running .before .before .before in
     let height = after-current .current in
     let link = after-linked .linked in
-    let chain = after-has-chain-below .has-chain-below in
-    (chain .ensures .0 ∙ sym (pass-chain sha256 (decode (start .args .book .now)) (height .result) (height .ensures .0) (sym (after-is-running .is-running .ensures) ∙ after-if1 .if1 .taken) (sym (link .ensures .0) ∙ after-if2 .if2 .left) (sym (after-is-dummy .is-dummy .ensures) ∙ after-if3 .if3 .taken)), chain .ensures .1)
+    let chain = after-has-chain-below .has-chain-below in (
+      chain .ensures .0 ∙ sym (pass-chain sha256 (decode (start .args .book .now)) (height .result) (height .ensures .0)
+          (sym (after-is-running .is-running .ensures) ∙ after-if1 .if1 .taken)
+          (sym (link .ensures .0) ∙ after-if2 .if2 .left)
+          (sym (after-is-dummy .is-dummy .ensures) ∙ after-if3 .if3 .taken)),
+      chain .ensures .1,
+    )
 
 returns-3 : tie.Need-returns-3
 returns-3 c =
@@ -63,14 +80,21 @@ returns-3 c =
     let after-is-running = after-if1 .before in
     let start = after-is-running .before .before .before in
     let height = after-current .current in
-    let link = after-linked .linked in
-    (sym (pass-neither sha256 (decode (start .args .book .now)) (height .result) (height .ensures .0) (sym (after-is-running .is-running .ensures) ∙ after-if1 .if1 .taken) (sym (link .ensures .0) ∙ after-if2 .if2 .left) (sym (after-is-dummy .is-dummy .ensures) ∙ c .if3 .left)), link .ensures .1)
+    let link = after-linked .linked in (
+      sym (pass-neither sha256 (decode (start .args .book .now)) (height .result) (height .ensures .0)
+          (sym (after-is-running .is-running .ensures) ∙ after-if1 .if1 .taken)
+          (sym (link .ensures .0) ∙ after-if2 .if2 .left) (sym (after-is-dummy .is-dummy .ensures) ∙ c .if3 .left)),
+      link .ensures .1,
+    )
 
 returns-4 : tie.Need-returns-4
 returns-4 c =
     let after-is-running = c .before in
-    let start = after-is-running .before .before .before in
-    (sym (pass-stopped sha256 (decode (start .args .book .now)) (sym (after-is-running .is-running .ensures) ∙ c .if1 .left)), start .pre .1)
+    let start = after-is-running .before .before .before in (
+      sym (pass-stopped sha256 (decode (start .args .book .now))
+          (sym (after-is-running .is-running .ensures) ∙ c .if1 .left)),
+      start .pre .1,
+    )
 
 pub pass-applies-spec : {M : Type 1} → statement M
 pass-applies-spec =

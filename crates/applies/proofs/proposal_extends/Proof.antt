@@ -17,8 +17,18 @@ extends-requires c κs =
     let start = after-current .before .before .before in
     let book = start .args .book .now in
     let height = after-current .current in
-    let inside : Within book (height .result) = within-current book (start .pre .0) (start .pre .1 .1) (height .result) (height .ensures .0) in
-    (start .pre .0 .ready .readable, (start .pre .1 .0, (inside, ap length (after-proposal .proposal .ensures) ∙ proposal-size book (start .pre .0 .ready .readable) (height .result) inside)))
+    let inside : Within book (height .result) = within-current book (start .pre .0) (start .pre .1 .1) (height .result)
+    (height .ensures .0) in (
+      start .pre .0 .ready .readable,
+      (
+        start .pre .1 .0,
+        (
+          inside,
+          ap length (after-proposal .proposal .ensures)
+              ∙ proposal-size book (start .pre .0 .ready .readable) (height .result) inside,
+        ),
+      ),
+    )
 
 returns : tie.Need-returns
 returns c =
@@ -29,16 +39,23 @@ returns c =
     let after-current = after-holds-proposal .before in
     let start = after-current .before .before .before in
     let height = after-current .current in
-    let found = after-extends .extends in
-    (found .ensures .0 ∙ held-extends sha256 (decode (start .args .book .now)) (height .result) (height .ensures .0) (after-proposal .proposal .result .now) (sym (after-holds-proposal .holds-proposal .ensures) ∙ after-if1 .if1 .taken) (after-proposal .proposal .ensures), found .ensures .1)
+    let found = after-extends .extends in (
+      found .ensures .0 ∙ held-extends sha256 (decode (start .args .book .now)) (height .result) (height .ensures .0)
+          (after-proposal .proposal .result .now) (sym (after-holds-proposal .holds-proposal .ensures)
+          ∙ after-if1 .if1 .taken) (after-proposal .proposal .ensures),
+      found .ensures .1,
+    )
 
 returns-2 : tie.Need-returns-2
 returns-2 c =
     let after-holds-proposal = c .before in
     let after-current = after-holds-proposal .before in
     let start = after-current .before .before .before in
-    let height = after-current .current in
-    (sym (held-none sha256 (decode (start .args .book .now)) (height .result) (height .ensures .0) (sym (after-holds-proposal .holds-proposal .ensures) ∙ c .if1 .left)), start .pre .1 .0)
+    let height = after-current .current in (
+      sym (held-none sha256 (decode (start .args .book .now)) (height .result) (height .ensures .0)
+          (sym (after-holds-proposal .holds-proposal .ensures) ∙ c .if1 .left)),
+      start .pre .1 .0,
+    )
 
 pub proposal-extends-spec : {M : Type 1} → statement M
 proposal-extends-spec =

@@ -2,7 +2,8 @@
 use mathlib.Core.Path.{sym, _∙_}
 use Rattle.sha256.specs.Digest.{sha256}
 use Rattle.protocol.specs.State.{decode}
-use Rattle.applies.specs.Laws.AppliesLaws.{leads, leads-not, propose-stopped, propose-follows, propose-done, propose-chain}
+use Rattle.applies.specs.Laws.AppliesLaws.{leads, leads-not, propose-stopped, propose-follows, propose-done}
+use Rattle.applies.specs.Laws.AppliesLaws.{propose-chain}
 use Rattle.applies.specs.Laws.RunningLaws.{current-within}
 use borrow.Author.Needs.{needs}
 use Rattle.applies.proofs.propose_applies.Statement.{statement}
@@ -12,8 +13,12 @@ leader-requires : tie.Need-leader-requires
 leader-requires c κs =
     let after-if1 = c .before in
     let after-is-running = after-if1 .before in
-    let start = after-is-running .before .before .before in
-    (start .pre .0 .ready .readable, current-within (start .args .book .now) (start .pre .0) (sym (after-is-running .is-running .ensures) ∙ after-if1 .if1 .taken) (c .current .result) (c .current .ensures .0))
+    let start = after-is-running .before .before .before in (
+      start .pre .0 .ready .readable,
+      current-within (start .args .book .now) (start .pre .0)
+          (sym (after-is-running .is-running .ensures) ∙ after-if1 .if1 .taken) (c .current .result)
+          (c .current .ensures .0),
+    )
 
 returns : tie.Need-returns
 returns c =
@@ -26,8 +31,13 @@ returns c =
     let after-is-running = after-if1 .before in
     let start = after-is-running .before .before .before in
     let s = decode (start .args .book .now) in
-    let leads-it = leads sha256 s (after-current .current .result) (after-current .current .ensures .0) (after-leader .leader .result) (after-own .own .result) (after-leader .leader .ensures .0) (after-own .own .ensures .0) (after-if2 .if2 .taken) in
-    (sym (propose-done sha256 s (sym (after-is-running .is-running .ensures) ∙ after-if1 .if1 .taken) leads-it (sym (after-flag .flag .ensures) ∙ c .if3 .taken)), start .pre .1)
+    let leads-it = leads sha256 s (after-current .current .result) (after-current .current .ensures .0)
+    (after-leader .leader .result) (after-own .own .result) (after-leader .leader .ensures .0)
+    (after-own .own .ensures .0) (after-if2 .if2 .taken) in (
+      sym (propose-done sha256 s (sym (after-is-running .is-running .ensures) ∙ after-if1 .if1 .taken) leads-it
+          (sym (after-flag .flag .ensures) ∙ c .if3 .taken)),
+      start .pre .1,
+    )
 
 returns-2 : tie.Need-returns-2
 returns-2 c =
@@ -43,8 +53,14 @@ returns-2 c =
     let start = after-is-running .before .before .before in
     let s = decode (start .args .book .now) in
     let chain = after-has-chain-below .has-chain-below in
-    let leads-it = leads sha256 s (after-current .current .result) (after-current .current .ensures .0) (after-leader .leader .result) (after-own .own .result) (after-leader .leader .ensures .0) (after-own .own .ensures .0) (after-if2 .if2 .taken) in
-    (chain .ensures .0 ∙ sym (propose-chain sha256 s (sym (after-is-running .is-running .ensures) ∙ after-if1 .if1 .taken) leads-it (sym (after-flag .flag .ensures) ∙ after-if3 .if3 .left)), chain .ensures .1)
+    let leads-it = leads sha256 s (after-current .current .result) (after-current .current .ensures .0)
+    (after-leader .leader .result) (after-own .own .result) (after-leader .leader .ensures .0)
+    (after-own .own .ensures .0) (after-if2 .if2 .taken) in (
+      chain .ensures .0 ∙ sym (propose-chain sha256 s
+          (sym (after-is-running .is-running .ensures) ∙ after-if1 .if1 .taken) leads-it
+          (sym (after-flag .flag .ensures) ∙ after-if3 .if3 .left)),
+      chain .ensures .1,
+    )
 
 returns-3 : tie.Need-returns-3
 returns-3 c =
@@ -55,14 +71,21 @@ returns-3 c =
     let after-is-running = after-if1 .before in
     let start = after-is-running .before .before .before in
     let s = decode (start .args .book .now) in
-    let follows = leads-not sha256 s (after-current .current .result) (after-current .current .ensures .0) (after-leader .leader .result) (after-own .own .result) (after-leader .leader .ensures .0) (after-own .own .ensures .0) (c .if2 .left) in
-    (sym (propose-follows sha256 s (sym (after-is-running .is-running .ensures) ∙ after-if1 .if1 .taken) follows), start .pre .1)
+    let follows = leads-not sha256 s (after-current .current .result) (after-current .current .ensures .0)
+    (after-leader .leader .result) (after-own .own .result) (after-leader .leader .ensures .0)
+    (after-own .own .ensures .0) (c .if2 .left) in (
+      sym (propose-follows sha256 s (sym (after-is-running .is-running .ensures) ∙ after-if1 .if1 .taken) follows),
+      start .pre .1,
+    )
 
 returns-4 : tie.Need-returns-4
 returns-4 c =
     let after-is-running = c .before in
-    let start = after-is-running .before .before .before in
-    (sym (propose-stopped sha256 (decode (start .args .book .now)) (sym (after-is-running .is-running .ensures) ∙ c .if1 .left)), start .pre .1)
+    let start = after-is-running .before .before .before in (
+      sym (propose-stopped sha256 (decode (start .args .book .now))
+          (sym (after-is-running .is-running .ensures) ∙ c .if1 .left)),
+      start .pre .1,
+    )
 
 pub propose-applies-spec : {M : Type 1} → statement M
 propose-applies-spec =

@@ -11,7 +11,8 @@ use Rattle.protocol.specs.State.{State, at, decode, flag, holdsProposal, bookHe
 use Rattle.protocol.specs.Laws.CodecLaws.{last-decode}
 use Rattle.protocol.specs.View.{linked, isDummy, extends, largestFinalized, parentOf}
 use Rattle.protocol.specs.Sound.{view}
-use Rattle.protocol.specs.Move.{isRunning, isSome, dummyVoteApplies, newFinalized, parentBelow, passApplies, proposeApplies, blockVoteApplies}
+use Rattle.protocol.specs.Move.{isRunning, isSome, dummyVoteApplies, newFinalized, parentBelow, passApplies}
+use Rattle.protocol.specs.Move.{proposeApplies, blockVoteApplies}
 use Rattle.applies.specs.Held.{heldExtends}
 
 -- ---- move 1
@@ -34,7 +35,8 @@ module _ (s : State) where
 
 module _ (digest : Bytes → Bytes) where
   -- ---- move 2
-  pub newest-is : (book : Bytes) (top : ℕ) → top ≡ bookHeights book → largestFinalized digest (view (decode book)) top ≡ newFinalized digest (decode book)
+  pub newest-is : (book : Bytes) (top : ℕ) → top ≡ bookHeights book →
+      largestFinalized digest (view (decode book)) top ≡ newFinalized digest (decode book)
   unfolding newFinalized
   newest-is book top e = rw (e, last-decode book)
 
@@ -49,14 +51,16 @@ module _ (digest : Bytes → Bytes) where
         let l : linked digest (view s) (s .current) ≡ true = rw is at f in
         rw (e, l)
 
-    pub pass-chain : isRunning s ≡ true → linked digest (view s) c ≡ false → isDummy (view s) c ≡ true → passApplies digest s ≡ isSome (parentBelow digest s)
+    pub pass-chain : isRunning s ≡ true → linked digest (view s) c ≡ false → isDummy (view s) c ≡ true →
+        passApplies digest s ≡ isSome (parentBelow digest s)
     unfolding passApplies
     pass-chain e f g =
         let l : linked digest (view s) (s .current) ≡ false = rw is at f in
         let d : isDummy (view s) (s .current) ≡ true = rw is at g in
         rw (e, l, d)
 
-    pub pass-neither : isRunning s ≡ true → linked digest (view s) c ≡ false → isDummy (view s) c ≡ false → passApplies digest s ≡ false
+    pub pass-neither : isRunning s ≡ true → linked digest (view s) c ≡ false → isDummy (view s) c ≡ false →
+        passApplies digest s ≡ false
     unfolding passApplies
     pass-neither e f g =
         let l : linked digest (view s) (s .current) ≡ false = rw is at f in
@@ -72,7 +76,8 @@ module _ (digest : Bytes → Bytes) where
       leads-not ne = ne-eqb _ _ (λ e. ne (l ∙ ap (λ (k : ℕ). at s k .leader) is ∙ e ∙ sym o))
 
     -- ---- move 5: the held proposal
-    pub held-extends : (block : Bytes) → holdsProposal (at s c) ≡ true → block ≡ at s c .proposal → extends digest (view s) c block ≡ heldExtends digest s
+    pub held-extends : (block : Bytes) → holdsProposal (at s c) ≡ true → block ≡ at s c .proposal →
+        extends digest (view s) c block ≡ heldExtends digest s
     unfolding heldExtends
     held-extends block h b =
         let held : holdsProposal (at s (s .current)) ≡ true = rw is at h in
@@ -94,15 +99,18 @@ module _ (digest : Bytes → Bytes) where
     unfolding proposeApplies allOf
     propose-stopped e = rw e
 
-    pub propose-follows : isRunning s ≡ true → eqb (at s (s .current) .leader) (s .own) ≡ false → proposeApplies digest s ≡ false
+    pub propose-follows : isRunning s ≡ true → eqb (at s (s .current) .leader) (s .own) ≡ false →
+        proposeApplies digest s ≡ false
     unfolding proposeApplies allOf
     propose-follows e f = rw (e, f)
 
-    pub propose-done : isRunning s ≡ true → eqb (at s (s .current) .leader) (s .own) ≡ true → flag 8 s ≡ true → proposeApplies digest s ≡ false
+    pub propose-done : isRunning s ≡ true → eqb (at s (s .current) .leader) (s .own) ≡ true → flag 8 s ≡ true →
+        proposeApplies digest s ≡ false
     unfolding proposeApplies allOf
     propose-done e f g = rw (e, f, g)
 
-    pub propose-chain : isRunning s ≡ true → eqb (at s (s .current) .leader) (s .own) ≡ true → flag 8 s ≡ false → proposeApplies digest s ≡ isSome (parentBelow digest s)
+    pub propose-chain : isRunning s ≡ true → eqb (at s (s .current) .leader) (s .own) ≡ true → flag 8 s ≡ false →
+        proposeApplies digest s ≡ isSome (parentBelow digest s)
     unfolding proposeApplies allOf
     propose-chain e f g = rw (e, f, g) (and-true (isSome (parentBelow digest s)))
 
@@ -117,4 +125,5 @@ module _ (digest : Bytes → Bytes) where
 
     pub vote-held : isRunning s ≡ true → flag 4 s ≡ false → blockVoteApplies digest s ≡ heldExtends digest s
     unfolding blockVoteApplies allOf heldExtends
-    vote-held e f = rw (e, f) (ap (λ (b : Bool). holdsProposal (at s (s .current)) && b) (and-true (extends digest (view s) (s .current) (at s (s .current) .proposal))))
+    vote-held e f = rw (e, f) (ap (λ (b : Bool). holdsProposal (at s (s .current)) && b)
+        (and-true (extends digest (view s) (s .current) (at s (s .current) .proposal))))

@@ -13,7 +13,8 @@ use Rattle.protocol.specs.Bytes.{Bytes, le16, zeros, join, AreBytes, put, Sized
 use Rattle.protocol.specs.Tests.{firstRefusal}
 use Rattle.protocol.specs.Laws.BytesLaws.{put-all, zeros-add}
 use Rattle.protocol.specs.Answer.{done, accepted, unlessRefused}
-use Rattle.protocol.specs.State.{State, decode, encode, headBytes, contentBytes, bodyBytes, withHead, withTimerFired, flag, pending, withPool}
+use Rattle.protocol.specs.State.{State, decode, encode, headBytes, contentBytes, bodyBytes, withHead, withTimerFired}
+use Rattle.protocol.specs.State.{flag, pending, withPool}
 use Rattle.protocol.specs.Sound.{sound, log}
 use Rattle.protocol.specs.Open.{newHeight, newState, openRows, openInRange, openCall}
 use Rattle.protocol.specs.Move.{step, moved, moveRows, moveCall, unlessMoveRefused}

@@ -14,7 +14,8 @@ use Rattle.protocol.specs.Block.{blockWellFormed}
 use Rattle.protocol.specs.Laws.RowLaws.{all-of}
 use Rattle.protocol.specs.Laws.BuildLaws.{frame-height}
 use Rattle.call_laws.specs.Fields.{fields}
-use Rattle.protocol.specs.Frame.{kind, signer, frameHeight, signerMask, frameDigest, frameBlock, isStatement, isCertificate, carriesBlock, carriesDigest, frameWellFormed, frameOf}
+use Rattle.protocol.specs.Frame.{kind, signer, frameHeight, signerMask, frameDigest, frameBlock, isStatement}
+use Rattle.protocol.specs.Frame.{isCertificate, carriesBlock, carriesDigest, frameWellFormed, frameOf}
 
 module _ (k s h mask : ℕ) (digest block : Bytes) (digest-size : length digest ≡ 32) where
   abbrev frame : Bytes
@@ -36,9 +37,25 @@ module _ (k s h mask : ℕ) (digest block : Bytes) (digest-size : length digest 
   height-back = frame-height k s h mask digest block
 
   -- the six fields are those that the frame was put together of
-  pub fields-back : fields frame ≡ record { kind = k; signer = s; height = h; mask = mask; digest = digest; block = block }
+  pub fields-back : fields frame ≡ record {
+    kind = k;
+    signer = s;
+    height = h;
+    mask = mask;
+    digest = digest;
+    block =
+        block;
+  }
   unfolding fields kind signer frameOf
-  fields-back = λ i. record { kind = k; signer = s; height = height-back i; mask = mask-back i; digest = digest-back i; block = block-back i }
+  fields-back = λ i. record {
+    kind = k;
+    signer = s;
+    height = height-back i;
+    mask = mask-back i;
+    digest =
+        digest-back i;
+    block = block-back i;
+  }
 
   pub frame-size : length block ≡ 176 → length frame ≡ 224
   unfolding frameOf le16 zeros
@@ -72,5 +89,6 @@ module _ (k s h mask : ℕ) (digest block : Bytes) (digest-size : length digest 
       (one (ap (λ (d : Bytes). carriesDigest k || isZero d) digest-back ∙ fits .a-digest)
       (one (ap (λ (b : Bytes). carriesBlock k || isZero b) block-back ∙ fits .a-block)
       (one
-      (ap₂ (λ (i : ℕ) (b : Bytes). implies (carriesBlock k) (blockWellFormed i b)) height-back block-back ∙ fits .good-block)
+      (ap₂ (λ (i : ℕ) (b : Bytes). implies (carriesBlock k) (blockWellFormed i b)) height-back block-back
+      ∙ fits .good-block)
       none)))))))))

@@ -58,7 +58,8 @@ module _ (v v′ : View) (grows : Grows v v′) where
     digest-kept (link {h = zero} has parent on) = refl
     digest-kept (link {h = suc j} has parent on) = ap digest (grows .keeps-block (suc j) (omega arith) has .1)
 
-    parent-kept : {h j : ℕ} → 1 ≤ h → v .hasBlock h ≡ true → Linked digest v j → OnParent digest v h j (v .block h) → OnParent digest v′ h j (v′ .block h)
+    parent-kept : {h j : ℕ} → 1 ≤ h → v .hasBlock h ≡ true → Linked digest v j → OnParent digest v h j (v .block h) →
+        OnParent digest v′ h j (v′ .block h)
     parent-kept {h} {j} positive has parent on =
         let same-block : v′ .block h ≡ v .block h = grows .keeps-block h positive has .1 in
         record {
@@ -79,5 +80,6 @@ module _ (v v′ : View) (grows : Grows v v′) where
         let was = finalized-sound digest v h e in
         finalized-complete digest v′ h (record {
           isLinked = stays-linked (was .isLinked);
-          hasQuorum = quorum-kept (v .finalizeMask h) (v′ .finalizeMask h) (grows .more-finalizes h low) (was .hasQuorum);
+          hasQuorum = quorum-kept (v .finalizeMask h) (v′ .finalizeMask h) (grows .more-finalizes h low)
+              (was .hasQuorum);
         })

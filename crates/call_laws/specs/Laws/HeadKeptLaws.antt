@@ -12,7 +12,8 @@ use Rattle.protocol.specs.Sound.{view}
 
 module _ (digest : Bytes → Bytes) (s : State) (is : SoundState digest s) where
   pub head-sound : (flags current finalized pendingCount : ℕ) (pool : Bytes) →
-      flags < 16 → 1 ≤ current → current ≤ last s + 1 → (finalized ≡ 0) ⊎ (isFinalized digest (view s) finalized ≡ true) → pendingCount ≤ 32 → length pool ≡ 512 →
+      flags < 16 → 1 ≤ current → current ≤ last s + 1 →
+      (finalized ≡ 0) ⊎ (isFinalized digest (view s) finalized ≡ true) → pendingCount ≤ 32 → length pool ≡ 512 →
       SoundState digest (renewed s flags current finalized pendingCount pool (s .heights))
   unfolding view at last
   head-sound flags current finalized pendingCount pool small low high ended few size = record {

@@ -46,7 +46,8 @@ module _ (s : State) (i : ℕ) (high : i < last s) (y : Height) where
   s′ = withHeight s (suc i) y
 
   -- to prove something of each height afterwards, prove it of the new one and of the old ones
-  pub each-height : (P : ℕ → Height → Type 0) → P (suc i) y → ((h : ℕ) → 1 ≤ h → P h (at s h)) → (h : ℕ) → 1 ≤ h → P h (at s′ h)
+  pub each-height : (P : ℕ → Height → Type 0) → P (suc i) y → ((h : ℕ) → 1 ≤ h → P h (at s h)) → (h : ℕ) → 1 ≤ h →
+      P h (at s′ h)
   each-height P new old zero low = absurd (omega arith)
   each-height P new old (suc j) low = go (ℕ-discrete j i)
     where
@@ -78,7 +79,8 @@ module _ (s : State) (i : ℕ) (high : i < last s) (y : Height) where
         (λ l. same-height (view s) (view s′) (suc i) y same (fits .sound))
         (λ h low l. same-height (view s) (view s′) h (at s h) same (is .each h low l))
 
-    final-kept : (g : ℕ) → (g ≡ 0) ⊎ (isFinalized digest (view s) g ≡ true) → (g ≡ 0) ⊎ (isFinalized digest (view s′) g ≡ true)
+    final-kept : (g : ℕ) → (g ≡ 0) ⊎ (isFinalized digest (view s) g ≡ true) →
+        (g ≡ 0) ⊎ (isFinalized digest (view s′) g ≡ true)
     final-kept zero e = inl refl
     final-kept (suc g) (inl e) = inl e
     final-kept (suc g) (inr e) = inr (finalized-grows (view s) (view s′) grows digest (suc g) (omega arith) e)

@@ -41,7 +41,8 @@ module _ (v : View) (h : ℕ) (x : Height) (was : ShapedHeight x) (is : SoundHei
   }
 
   pub masks-replace : (dummies finalizes : ℕ) → dummies < 2 ^ v .n → finalizes < 2 ^ v .n →
-      Within (v .n) (x .dummyMask) dummies → Within (v .n) (x .finalizeMask) finalizes → Replaces v h x (withMasks x dummies finalizes)
+      Within (v .n) (x .dummyMask) dummies → Within (v .n) (x .finalizeMask) finalizes →
+      Replaces v h x (withMasks x dummies finalizes)
   unfolding withMasks isNotarized holdsProposal
   masks-replace dummies finalizes d f more more′ = record {
     shaped = shaped-masks x dummies finalizes was;
@@ -59,7 +60,8 @@ module _ (v : View) (h : ℕ) (x : Height) (was : ShapedHeight x) (is : SoundHei
     grown = record { keeps-block = λ has. (has, refl); more-dummies = more; more-finalizes = more′ };
   }
 
-  pub proposal-replaces : (block : Bytes) → holdsProposal x ≡ false → blockWellFormed h block ≡ true → Replaces v h x (withProposal x block)
+  pub proposal-replaces : (block : Bytes) → holdsProposal x ≡ false → blockWellFormed h block ≡ true →
+      Replaces v h x (withProposal x block)
   unfolding withProposal
   proposal-replaces block free good = record {
     shaped = shaped-proposal x block (formed h block good .size) was;
@@ -90,7 +92,8 @@ module _ (v : View) (h : ℕ) (x : Height) (was : ShapedHeight x) (is : SoundHei
           let two : 2 ≤ x .status = leb-true _ _ has in
           le-leb 2 (x .status + 1) (omega arith)
 
-  pub vote-replaces : (s : ℕ) (digest : Bytes) → s < v .n → v .n ≤ 16 → inMask (x .voterMask) s ≡ false → length digest ≡ 32 → Replaces v h x (withVote x s digest)
+  pub vote-replaces : (s : ℕ) (digest : Bytes) → s < v .n → v .n ≤ 16 → inMask (x .voterMask) s ≡ false →
+      length digest ≡ 32 → Replaces v h x (withVote x s digest)
   unfolding withVote isNotarized holdsProposal
   vote-replaces s digest small few new sized = record {
     shaped = shaped-vote x s digest (omega arith) sized was;
@@ -110,7 +113,8 @@ module _ (v : View) (h : ℕ) (x : Height) (was : ShapedHeight x) (is : SoundHei
 
 module _ (v : View) (h : ℕ) (x y : Height) (fits : Replaces v h x y) where
   -- a block is notarized where none was
-  pub notarized-replaces : (mask : ℕ) (block : Bytes) → isNotarized y ≡ false → mask < 2 ^ v .n → quorum v mask ≡ true → blockWellFormed h block ≡ true → Replaces v h x (withNotarized y mask block)
+  pub notarized-replaces : (mask : ℕ) (block : Bytes) → isNotarized y ≡ false → mask < 2 ^ v .n → quorum v mask ≡ true →
+      blockWellFormed h block ≡ true → Replaces v h x (withNotarized y mask block)
   unfolding withNotarized
   notarized-replaces mask block free small enough good = record {
     shaped = shaped-notarized y mask block (formed h block good .size) (fits .shaped);
@@ -146,7 +150,8 @@ module _ (v : View) (h : ℕ) (x y : Height) (fits : Replaces v h x y) where
     notarize-replaces =
         let voters : ℕ = votersFor y (digest (y .proposal)) (v .n) in
         cond-elim (Replaces v h x) (allOf (not (isNotarized y) ∷ holdsProposal y ∷ quorum v voters ∷ []))
-        (λ e. notarized-replaces voters (y .proposal) (not-true _ (row _ 0 e)) voters-below (row _ 2 e) (fits .sound .proposal-formed (row _ 1 e)))
+        (λ e. notarized-replaces voters (y .proposal) (not-true _ (row _ 0 e)) voters-below (row _ 2 e)
+        (fits .sound .proposal-formed (row _ 1 e)))
         (λ e. fits)
       where
         voters-below : votersFor y (digest (y .proposal)) (v .n) < 2 ^ v .n

@@ -22,7 +22,8 @@ use Rattle.protocol.specs.Laws.SoundLaws.{exact, encode-decode, sound-encode}
 use Rattle.call_laws.specs.Laws.DeliverKeptLaws.{keep-sound}
 use Rattle.call_laws.specs.KeptBytes.{Part, SameOutside, deliveryParts}
 use Rattle.call_laws.specs.Laws.KeptBytesLaws.{keep-only, keep-other}
-use Rattle.call_laws.specs.Laws.KeepsStateLaws.{refused≢accepted, at-placed, placed-same, state, known-keeps, fresh-keeps}
+use Rattle.call_laws.specs.Laws.KeepsStateLaws.{refused≢accepted, at-placed, placed-same, state, known-keeps}
+use Rattle.call_laws.specs.Laws.KeepsStateLaws.{fresh-keeps}
 use Rattle.call_laws.specs.Keeping.{Keeps}
 
 -- two byte strings of the same length that are not the same differ at a byte
@@ -107,10 +108,12 @@ module _ (digest : Bytes → Bytes) (book frame : Bytes) (accepts : Accepts dige
   }
 
 -- a delivery that is not refused keeps what its frame states, and changes nothing else
-pub deliver-keeps : (digest : Bytes → Bytes) (book frame : Bytes) (news : Delivery) → deliverCall digest book frame .answer ≡ accepted news →
+pub deliver-keeps : (digest : Bytes → Bytes) (book frame : Bytes) (news : Delivery) →
+    deliverCall digest book frame .answer ≡ accepted news →
     Keeps digest book frame news (deliverCall digest book frame .book)
 deliver-keeps digest book frame news =
-    deliver-cases digest book frame (λ (o : Outcome Delivery). o .answer ≡ accepted news → Keeps digest book frame news (o .book))
+    deliver-cases digest book frame (λ (o : Outcome Delivery). o .answer ≡ accepted news →
+    Keeps digest book frame news (o .book))
     (λ number _ e. absurd (refused≢accepted number news e))
     (λ accepts e said. named (same-news said) (all-known digest book frame accepts e))
     (λ y accepts e said. named (same-news said) (all-fresh digest book frame accepts y e))
@@ -118,5 +121,6 @@ deliver-keeps digest book frame news =
     same-news : {a b : Delivery} → accepted a ≡ accepted b → a ≡ b
     same-news e = cc
 
-    named : {answer : Delivery} {after : Bytes} → answer ≡ news → Keeps digest book frame answer after → Keeps digest book frame news after
+    named : {answer : Delivery} {after : Bytes} → answer ≡ news → Keeps digest book frame answer after →
+        Keeps digest book frame news after
     named {answer} {after} e is = subst (λ (z : Delivery). Keeps digest book frame z after) e is

@@ -22,7 +22,8 @@ use Rattle.protocol.specs.Mask.{inMask}
 use Rattle.protocol.specs.Laws.MaskLaws.{maskOf-same, mask-same}
 use Rattle.protocol.specs.Frame.{kind, signer, frameHeight}
 use Rattle.protocol.specs.Answer.{Outcome, accepted, Delivery, known, fresh}
-use Rattle.protocol.specs.State.{State, Height, at, last, decode, withHeight, holdsProposal, isNotarized, voteOf, bookHeights}
+use Rattle.protocol.specs.State.{State, Height, at, last, decode, withHeight, holdsProposal, isNotarized, voteOf}
+use Rattle.protocol.specs.State.{bookHeights}
 use Rattle.protocol.specs.Sound.{view}
 use Rattle.protocol.specs.View.{View}
 use Rattle.protocol.specs.Deliver.{votersFor, deliverCall}
@@ -30,10 +31,13 @@ use Rattle.protocol.specs.Laws.CodecLaws.{last-decode}
 use Rattle.protocol.specs.Laws.PlaceLaws.{suc-pred}
 use Rattle.protocol.specs.Laws.DeliverLaws.{Accepts, signer-few, deliver-cases}
 use Rattle.protocol.specs.Laws.SoundLaws.{sound-decode}
-use Rattle.protocol.specs.Laws.FieldLaws.{read-status, read-certificate-mask, read-dummy-mask, read-finalize-mask, read-voter-mask, read-proposal, read-notarized, read-vote}
+use Rattle.protocol.specs.Laws.FieldLaws.{read-status, read-certificate-mask, read-dummy-mask, read-finalize-mask}
+use Rattle.protocol.specs.Laws.FieldLaws.{read-voter-mask, read-proposal, read-notarized, read-vote}
 use Rattle.call_laws.specs.Laws.KeepsStateLaws.{refused≢accepted, state}
 use Rattle.call_laws.specs.Laws.KeepingLaws.{deliver-keeps}
-use Rattle.call_laws.specs.KeptBytes.{Part, inParts, SameOutside, contentAt, bodyAt, proposalParts, voteParts, dummyParts, finalizeParts, notarizedParts, keptParts, newlyNotarized, deliveryParts}
+use Rattle.call_laws.specs.KeptBytes.{Part, inParts, SameOutside, contentAt, bodyAt, proposalParts, voteParts}
+use Rattle.call_laws.specs.KeptBytes.{dummyParts, finalizeParts, notarizedParts, keptParts, newlyNotarized}
+use Rattle.call_laws.specs.KeptBytes.{deliveryParts}
 use Rattle.call_laws.specs.Keeping.{Keeps, NewlyKept, KeepsAt, heldVoters, Voted, Tallied, ByVotes}
 
 -- ---- bytes: those outside the parts are the book's, and those inside are the same in both

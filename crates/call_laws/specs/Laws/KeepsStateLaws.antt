@@ -17,9 +17,12 @@ use Rattle.protocol.specs.Tests.{allOf}
 use Rattle.protocol.specs.Answer.{refused, accepted}
 use Rattle.protocol.specs.Mask.{inMask, union}
 use Rattle.protocol.specs.Frame.{kind, signer, frameHeight, signerMask, frameDigest, frameBlock}
-use Rattle.protocol.specs.State.{State, Height, at, last, withHeight, encode, decode, holdsProposal, isNotarized, voteOf}
+use Rattle.protocol.specs.State.{State, Height, at, last, withHeight, encode, decode, holdsProposal, isNotarized}
+use Rattle.protocol.specs.State.{voteOf}
 use Rattle.protocol.specs.View.{View, quorum}
-use Rattle.protocol.specs.Deliver.{withProposal, withNotarized, withMasks, withVote, votersFor, notarize, keepProposal, keepBlockVote, keepDummyVote, keepFinalize, keepBlockCertificate, keepDummyCertificate, keepFinalizeCertificate, keep}
+use Rattle.protocol.specs.Deliver.{withProposal, withNotarized, withMasks, withVote, votersFor, notarize, keepProposal}
+use Rattle.protocol.specs.Deliver.{keepBlockVote, keepDummyVote, keepFinalize, keepBlockCertificate}
+use Rattle.protocol.specs.Deliver.{keepDummyCertificate, keepFinalizeCertificate, keep}
 use Rattle.protocol.specs.Laws.MaskLaws.{inMask-add-self, inMask-add-other}
 use Rattle.protocol.specs.Laws.UnionLaws.{union-bit}
 use Rattle.protocol.specs.Laws.TestsLaws.{cond-elim, eqb-self}
@@ -31,7 +34,8 @@ use Rattle.protocol.specs.Laws.SoundLaws.{sound-decode}
 use Rattle.protocol.specs.Laws.VoteLaws.{vote-same, vote-other}
 use Rattle.protocol.specs.Laws.DeliverLaws.{Agrees, Accepts, digest-size, signer-few, keep-cases}
 use Rattle.call_laws.specs.Laws.DeliverKeptLaws.{keep-sound, shaped}
-use Rattle.call_laws.specs.Keeping.{says, NewlyKept, KeepsState, KeepsMasks, KeepsVotes, KeepsProposal, KeepsBlock, KeepsAt, Voted, Tallied, ByVotes, heldVoters}
+use Rattle.call_laws.specs.Keeping.{says, NewlyKept, KeepsState, KeepsMasks, KeepsVotes, KeepsProposal}
+use Rattle.call_laws.specs.Keeping.{KeepsBlock, KeepsAt, Voted, Tallied, ByVotes, heldVoters}
 
 pub refused≢accepted : {A : Type 0} (number : ℕ) (answer : A) → refused number ≡ accepted answer → ⊥
 refused≢accepted number answer e = true≢false (let impossible : true ≡ false = cc in impossible)
@@ -69,7 +73,8 @@ new-bit m s t free = go (ℕ-discrete t s)
 -- ---- statuses
 holds-notarized : (x : Height) (mask : ℕ) (block : Bytes) → holdsProposal (withNotarized x mask block) ≡ holdsProposal x
 unfolding holdsProposal withNotarized
-holds-notarized x mask block = let even : (x .status + 2) % 2 ≡ x .status % 2 = omega arith in ap (λ (r : ℕ). eqb r 1) even
+holds-notarized x mask block = let even : (x .status + 2) % 2 ≡ x .status % 2 = omega arith in
+    ap (λ (r : ℕ). eqb r 1) even
 
 pub is-notarized : (x : Height) (mask : ℕ) (block : Bytes) → isNotarized (withNotarized x mask block) ≡ true
 unfolding isNotarized withNotarized
@@ -98,7 +103,8 @@ module _ (n k : ℕ) (frame : Bytes) (x y : Height) where
     finalizes = λ t l. rw (e′, others t) (or-none _);
   }
 
-  same-votes : eqb k 2 ≡ false → y .voterMask ≡ x .voterMask → y .voteDigests ≡ x .voteDigests → KeepsVotes n k frame x y
+  same-votes : eqb k 2 ≡ false → y .voterMask ≡ x .voterMask → y .voteDigests ≡ x .voteDigests →
+      KeepsVotes n k frame x y
   unfolding voteOf
   same-votes other e e′ = record {
     voters = λ t l. rw (e, other) (or-none _);
@@ -106,7 +112,8 @@ module _ (n k : ℕ) (frame : Bytes) (x y : Height) where
     this-vote = λ is. absurd (eqb-false k 2 other is);
   }
 
-  same-proposal : eqb k 1 ≡ false → holdsProposal y ≡ holdsProposal x → y .proposal ≡ x .proposal → KeepsProposal n k frame x y
+  same-proposal : eqb k 1 ≡ false → holdsProposal y ≡ holdsProposal x → y .proposal ≡ x .proposal →
+      KeepsProposal n k frame x y
   same-proposal other e e′ = record {
     holds = rw (other, e) (or-none _);
     first-proposal = λ has. e′;
@@ -114,7 +121,8 @@ module _ (n k : ℕ) (frame : Bytes) (x y : Height) where
   }
 
 module _ (digest : Bytes → Bytes) (v : View) (k : ℕ) (frame : Bytes) (x : Height) where
-  same-block : (y : Height) → eqb k 5 ≡ false → isNotarized y ≡ isNotarized x → y .notarized ≡ x .notarized → y .certificateMask ≡ x .certificateMask →
+  same-block : (y : Height) → eqb k 5 ≡ false → isNotarized y ≡ isNotarized x → y .notarized ≡ x .notarized →
+      y .certificateMask ≡ x .certificateMask →
       (NewlyKept k frame x → Tallied digest v y) → (Tallied digest v x → Tallied digest v y) →
       KeepsBlock digest v k frame x y
   same-block y other e e′ e″ count tally = record {
@@ -128,7 +136,8 @@ module _ (digest : Bytes → Bytes) (v : View) (k : ℕ) (frame : Bytes) (x : He
 
 module _ (digest : Bytes → Bytes) (v : View) (k : ℕ) (frame : Bytes) (x : Height) (new : NewlyKept k frame x) where
   -- after a proposal or a vote was kept in `z`, its votes are counted
-  module _ (z : Height) (other : eqb k 5 ≡ false) (status : isNotarized z ≡ isNotarized x) (block : z .notarized ≡ x .notarized) (mask : z .certificateMask ≡ x .certificateMask) where
+  module _ (z : Height) (other : eqb k 5 ≡ false) (status : isNotarized z ≡ isNotarized x)
+      (block : z .notarized ≡ x .notarized) (mask : z .certificateMask ≡ x .certificateMask) where
     by-votes : holdsProposal z ≡ true → quorum v (heldVoters digest v z) ≡ true →
         ByVotes digest v (withNotarized z (heldVoters digest v z) (z .proposal))
     unfolding ByVotes Voted withNotarized votersFor voteOf
@@ -195,7 +204,14 @@ module _ (digest : Bytes → Bytes) (v : View) (frame : Bytes) (x : Height) wher
       (λ _. notarized-too k z (heldVoters digest v z) (z .proposal) is) (λ _. is)
 
   whole : (k : ℕ) (y : Height) → Before k y → KeepsBlock digest v k frame x y → KeepsAt digest v k frame x y
-  whole k y is block = record { leader = is .leader; masks = is .masks; votes = is .votes; proposal = is .proposal; block = block }
+  whole k y is block = record {
+    leader = is .leader;
+    masks = is .masks;
+    votes = is .votes;
+    proposal =
+        is .proposal;
+    block = block;
+  }
 
   known-block : (k : ℕ) → eqb k 5 ≡ false → (NewlyKept k frame x → ⊥) → KeepsBlock digest v k frame x x
   known-block k other known = same-block digest v k frame x x other refl refl refl (λ new. absurd (known new)) (λ t. t)
@@ -247,16 +263,20 @@ module _ (digest : Bytes → Bytes) (v : View) (frame : Bytes) (x : Height) wher
     unfolding says
     new-vote free = record {
       leader = unfold withVote in refl;
-      masks = same-masks (v .n) 2 frame x (withVote x (signer frame) (frameDigest frame)) (λ t. refl) (λ t. refl) (unfold withVote in refl) (unfold withVote in refl);
+      masks = same-masks (v .n) 2 frame x (withVote x (signer frame) (frameDigest frame)) (λ t. refl) (λ t. refl)
+          (unfold withVote in refl) (unfold withVote in refl);
       votes = record {
         voters = λ t l. unfold withVote in new-bit (x .voterMask) (signer frame) t free;
-        first-vote = λ t has. vote-other x (signer frame) (frameDigest frame) shaped few sized t (λ e. true≢false (sym has ∙ rw e free));
+        first-vote = λ t has. vote-other x (signer frame) (frameDigest frame) shaped few sized t
+            (λ e. true≢false (sym has ∙ rw e free));
         this-vote = λ _. vote-same x (signer frame) (frameDigest frame) shaped few sized;
       };
-      proposal = same-proposal (v .n) 2 frame x (withVote x (signer frame) (frameDigest frame)) refl (unfold withVote holdsProposal in refl) (unfold withVote in refl);
+      proposal = same-proposal (v .n) 2 frame x (withVote x (signer frame) (frameDigest frame)) refl
+          (unfold withVote holdsProposal in refl) (unfold withVote in refl);
     }
 
-    vote-keeps : (inMask (x .voterMask) (signer frame) ≡ true → voteOf x (signer frame) ≡ frameDigest frame) → Kept 2 (keepBlockVote digest v x frame)
+    vote-keeps : (inMask (x .voterMask) (signer frame) ≡ true → voteOf x (signer frame) ≡ frameDigest frame) →
+        Kept 2 (keepBlockVote digest v x frame)
     unfolding keepBlockVote left says
     vote-keeps agrees =
         cond-elim (Kept 2) (inMask (x .voterMask) (signer frame))
@@ -309,7 +329,11 @@ module _ (digest : Bytes → Bytes) (v : View) (frame : Bytes) (x : Height) wher
   unfolding keepDummyVote left says withMasks
   dummy-keeps =
       cond-elim (Kept 3) (inMask (x .dummyMask) (signer frame))
-      (λ has. old-masks 3 refl refl refl (record { dummies = λ t l. known-bit (x .dummyMask) (signer frame) t has; finalizes = λ t l. or-none _ }))
+      (λ has. old-masks 3 refl refl refl (record {
+        dummies =
+            λ t l. known-bit (x .dummyMask) (signer frame) t has;
+        finalizes = λ t l. or-none _;
+      }))
       (λ free. new-masks 3 (x .dummyMask + 2 ^ signer frame) (x .finalizeMask) refl refl refl
       (record { dummies = λ t l. new-bit (x .dummyMask) (signer frame) t free; finalizes = λ t l. or-none _ }))
 
@@ -317,7 +341,11 @@ module _ (digest : Bytes → Bytes) (v : View) (frame : Bytes) (x : Height) wher
   unfolding keepFinalize left says withMasks
   finalize-keeps =
       cond-elim (Kept 4) (inMask (x .finalizeMask) (signer frame))
-      (λ has. old-masks 4 refl refl refl (record { dummies = λ t l. or-none _; finalizes = λ t l. known-bit (x .finalizeMask) (signer frame) t has }))
+      (λ has. old-masks 4 refl refl refl (record {
+        dummies = λ t l. or-none _;
+        finalizes =
+            λ t l. known-bit (x .finalizeMask) (signer frame) t has;
+      }))
       (λ free. new-masks 4 (x .dummyMask) (x .finalizeMask + 2 ^ signer frame) refl refl refl
       (record { dummies = λ t l. or-none _; finalizes = λ t l. new-bit (x .finalizeMask) (signer frame) t free }))
 
@@ -325,17 +353,33 @@ module _ (digest : Bytes → Bytes) (v : View) (frame : Bytes) (x : Height) wher
   unfolding keepDummyCertificate left says withMasks
   dummy-certificate-keeps =
       cond-elim (Kept 6) (eqb (union (v .n) (x .dummyMask) (signerMask frame)) (x .dummyMask))
-      (λ e. old-masks 6 refl refl refl (record { dummies = λ t l. known-bits (x .dummyMask) (signerMask frame) t l (eqb-true _ _ e); finalizes = λ t l. or-none _ }))
+      (λ e. old-masks 6 refl refl refl (record {
+        dummies =
+            λ t l. known-bits (x .dummyMask) (signerMask frame) t l (eqb-true _ _ e);
+        finalizes = λ t l. or-none _;
+      }))
       (λ _. new-masks 6 (union (v .n) (x .dummyMask) (signerMask frame)) (x .finalizeMask) refl refl refl
-      (record { dummies = λ t l. union-bit (v .n) (x .dummyMask) (signerMask frame) t l; finalizes = λ t l. or-none _ }))
+      (record {
+        dummies = λ t l. union-bit (v .n) (x .dummyMask) (signerMask frame) t l;
+        finalizes =
+            λ t l. or-none _;
+      }))
 
   finalize-certificate-keeps : Kept 7 (keepFinalizeCertificate (v .n) x frame)
   unfolding keepFinalizeCertificate left says withMasks
   finalize-certificate-keeps =
       cond-elim (Kept 7) (eqb (union (v .n) (x .finalizeMask) (signerMask frame)) (x .finalizeMask))
-      (λ e. old-masks 7 refl refl refl (record { dummies = λ t l. or-none _; finalizes = λ t l. known-bits (x .finalizeMask) (signerMask frame) t l (eqb-true _ _ e) }))
+      (λ e. old-masks 7 refl refl refl (record {
+        dummies = λ t l. or-none _;
+        finalizes =
+            λ t l. known-bits (x .finalizeMask) (signerMask frame) t l (eqb-true _ _ e);
+      }))
       (λ _. new-masks 7 (x .dummyMask) (union (v .n) (x .finalizeMask) (signerMask frame)) refl refl refl
-      (record { dummies = λ t l. or-none _; finalizes = λ t l. union-bit (v .n) (x .finalizeMask) (signerMask frame) t l }))
+      (record {
+        dummies = λ t l. or-none _;
+        finalizes =
+            λ t l. union-bit (v .n) (x .finalizeMask) (signerMask frame) t l;
+      }))
 
   -- ---- kind 5
   certificate-keeps : (isNotarized x ≡ true → x .notarized ≡ frameBlock frame) → Kept 5 (keepBlockCertificate x frame)
@@ -422,13 +466,16 @@ module _ (digest : Bytes → Bytes) (book frame : Bytes) (accepts : Accepts dige
   known-keeps e =
       let same : after digest s state frame (accepts .read) (accepts .agrees) ≡ s =
       rw e (placed-same s (frameHeight frame) (accepts .read .low)) in
-      subst (λ (z : State). KeepsState digest s z frame) same (keeps digest s state frame (accepts .read) (accepts .agrees))
+      subst (λ (z : State). KeepsState digest s z frame) same
+      (keeps digest s state frame (accepts .read) (accepts .agrees))
 
   pub fresh-keeps : (y : Height) → keep digest s frame ≡ some y →
       KeepsState digest s (decode (encode (withHeight s (frameHeight frame) y))) frame
   unfolding left
   fresh-keeps y e =
-      let same : after digest s state frame (accepts .read) (accepts .agrees) ≡ withHeight s (frameHeight frame) y = rw e refl in
-      let back = decode-encode (withHeight s (frameHeight frame) y) (keep-sound digest s state frame (accepts .read) y e .shaped) in
+      let same : after digest s state frame (accepts .read) (accepts .agrees) ≡ withHeight s (frameHeight frame) y =
+      rw e refl in
+      let back = decode-encode (withHeight s (frameHeight frame) y)
+      (keep-sound digest s state frame (accepts .read) y e .shaped) in
       subst (λ (z : State). KeepsState digest s z frame) (same ∙ sym back)
       (keeps digest s state frame (accepts .read) (accepts .agrees))

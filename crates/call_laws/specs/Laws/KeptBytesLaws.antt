@@ -21,15 +21,19 @@ use Rattle.protocol.specs.Frame.{kind, signer, frameHeight, signerMask, frameDi
 use Rattle.protocol.specs.State.{State, Height, at, last, encode, withHeight, holdsProposal, isNotarized}
 use Rattle.protocol.specs.View.{View, quorum}
 use Rattle.protocol.specs.Sound.{view}
-use Rattle.protocol.specs.Deliver.{withProposal, withNotarized, withMasks, withVote, votersFor, notarize, keepProposal, keepBlockVote, keepDummyVote, keepFinalize, keepBlockCertificate, keepDummyCertificate, keepFinalizeCertificate, keep}
+use Rattle.protocol.specs.Deliver.{withProposal, withNotarized, withMasks, withVote, votersFor, notarize, keepProposal}
+use Rattle.protocol.specs.Deliver.{keepBlockVote, keepDummyVote, keepFinalize, keepBlockCertificate}
+use Rattle.protocol.specs.Deliver.{keepDummyCertificate, keepFinalizeCertificate, keep}
 use Rattle.protocol.specs.Laws.TestsLaws.{cond-elim, le-or-lt}
 use Rattle.protocol.specs.Laws.RowLaws.{row}
 use Rattle.protocol.specs.Laws.PlaceLaws.{length-encode, suc-pred, last-with, shaped-with}
-use Rattle.protocol.specs.Laws.ChangeLaws.{make-proposal, make-notarized, make-dummy-mask, make-finalize-mask, make-vote, shaped-proposal, shaped-vote}
+use Rattle.protocol.specs.Laws.ChangeLaws.{make-proposal, make-notarized, make-dummy-mask, make-finalize-mask}
+use Rattle.protocol.specs.Laws.ChangeLaws.{make-vote, shaped-proposal, shaped-vote}
 use Rattle.protocol.specs.Laws.DeliverLaws.{OnSome, digest-size, block-size, signer-few, keep-cases}
 use Rattle.call_laws.specs.Laws.DeliverKeptLaws.{shaped}
 use Rattle.call_laws.specs.Laws.KeepsStateLaws.{is-notarized, proposal-status}
-use Rattle.call_laws.specs.KeptBytes.{Part, inParts, SameOutside, contentAt, bodyAt, proposalParts, voteParts, dummyParts, finalizeParts, notarizedParts, keptParts, newlyNotarized}
+use Rattle.call_laws.specs.KeptBytes.{Part, inParts, SameOutside, contentAt, bodyAt, proposalParts, voteParts}
+use Rattle.call_laws.specs.KeptBytes.{dummyParts, finalizeParts, notarizedParts, keptParts, newlyNotarized}
 
 -- ---- parts
 -- byte `i` lies before a part or after it

@@ -10,7 +10,9 @@ use Rattle.protocol.specs.Bytes.{Bytes}
 use Rattle.protocol.specs.State.{State, last, flag, withHead, withTimerFired}
 use Rattle.protocol.specs.View.{isFinalized}
 use Rattle.protocol.specs.Sound.{view}
-use Rattle.protocol.specs.Move.{Step, isRunning, newFinalized, step, dummyVoteApplies, dummyVoteStep, outputStep, passApplies, passStep, proposeApplies, proposeStep, blockVoteApplies, blockVoteStep, idleStep}
+use Rattle.protocol.specs.Move.{Step, isRunning, newFinalized, step, dummyVoteApplies, dummyVoteStep, outputStep}
+use Rattle.protocol.specs.Move.{passApplies, passStep, proposeApplies, proposeStep, blockVoteApplies, blockVoteStep}
+use Rattle.protocol.specs.Move.{idleStep}
 use Rattle.protocol.specs.Linked.{Finalized}
 use Rattle.protocol.specs.Laws.LinkedLaws.{finalized-complete}
 use Rattle.protocol.specs.Laws.ParentLaws.{largestFinalized-is}
@@ -21,15 +23,19 @@ use Rattle.protocol.specs.Laws.FlagLaws.{flag-room}
 use Rattle.protocol.specs.Laws.MoveLaws.{step-cases}
 
 module _ (digest : Bytes → Bytes) (s : State) (is : SoundState digest s) where
-  with-head-sound : (f c g : ℕ) → f < 16 → 1 ≤ c → c ≤ last s + 1 → (g ≡ 0) ⊎ (isFinalized digest (view s) g ≡ true) → SoundState digest (withHead s f c g)
+  with-head-sound : (f c g : ℕ) → f < 16 → 1 ≤ c → c ≤ last s + 1 → (g ≡ 0) ⊎ (isFinalized digest (view s) g ≡ true) →
+      SoundState digest (withHead s f c g)
   unfolding withHead
-  with-head-sound f c g small low high ended = head-sound digest s is f c g (s .pendingCount) (s .pool) small low high ended (is .pending-few) (is .shaped .pool-size)
+  with-head-sound f c g small low high ended = head-sound digest s is f c g (s .pendingCount) (s .pool) small low high
+      ended (is .pending-few) (is .shaped .pool-size)
 
   -- one more flag
-  flag-sound : (bit : ℕ) → bit < 4 → not (flag (2 ^ bit) s) ≡ true → SoundState digest (withHead s (s .flags + 2 ^ bit) (s .current) (s .finalized))
+  flag-sound : (bit : ℕ) → bit < 4 → not (flag (2 ^ bit) s) ≡ true →
+      SoundState digest (withHead s (s .flags + 2 ^ bit) (s .current) (s .finalized))
   flag-sound bit inside e =
       with-head-sound (s .flags + 2 ^ bit) (s .current) (s .finalized)
-      (flag-room s (s .current) (s .finalized) bit (not-true _ e) inside (is .flags-small)) (is .current-low) (is .current-high) (is .final)
+      (flag-room s (s .current) (s .finalized) bit (not-true _ e) inside (is .flags-small)) (is .current-low)
+      (is .current-high) (is .final)
 
   abbrev After : Step → Type 0
   After st = SoundState digest (st .after)
@@ -40,7 +46,8 @@ module _ (digest : Bytes → Bytes) (s : State) (is : SoundState digest s) where
 
   output-sound : After (outputStep digest s)
   unfolding outputStep newFinalized
-  output-sound = with-head-sound (s .flags) (s .current) (newFinalized digest s) (is .flags-small) (is .current-low) (is .current-high)
+  output-sound = with-head-sound (s .flags) (s .current) (newFinalized digest s) (is .flags-small) (is .current-low)
+      (is .current-high)
       (tested (largestFinalized-is digest (view s) (last s) .finalized))
     where
       tested : {g : ℕ} → (g ≡ 0) ⊎ Finalized digest (view s) g → (g ≡ 0) ⊎ (isFinalized digest (view s) g ≡ true)
@@ -67,7 +74,8 @@ module _ (digest : Bytes → Bytes) (s : State) (is : SoundState digest s) where
 
   pub step-sound : After (step digest s)
   step-sound = step-cases digest s After
-      dummy-vote (λ _ _. output-sound) (λ _ _. pass-sound) (λ _ _ _. propose-sound) (λ _ _ _ _. block-vote) (λ _ _ _ _ _. idle-sound)
+      dummy-vote (λ _ _. output-sound) (λ _ _. pass-sound) (λ _ _ _. propose-sound) (λ _ _ _ _. block-vote)
+      (λ _ _ _ _ _. idle-sound)
 
   pub timer-sound : not (flag 1 s) ≡ true → SoundState digest (withTimerFired s)
   unfolding withTimerFired

@@ -19,7 +19,8 @@ use Rattle.protocol.specs.Laws.NewBookLaws.{Bare, all-bare, bare-sound}
 use Rattle.protocol.specs.Laws.NewStateLaws.{new-shaped}
 use Rattle.protocol.specs.Block.{maximumHeights}
 
-module _ (digest : Bytes → Bytes) (n own heights : ℕ) (leaders : Bytes) (ranges : openInRange n own heights leaders ≡ true) where
+module _ (digest : Bytes → Bytes) (n own heights : ℕ) (leaders : Bytes)
+    (ranges : openInRange n own heights leaders ≡ true) where
   abbrev s : State
   s = newState n own leaders
 
@@ -40,7 +41,8 @@ module _ (digest : Bytes → Bytes) (n own heights : ℕ) (leaders : Bytes) (ran
 
   each-sound : (h : ℕ) → 1 ≤ h → h ≤ last s → SoundHeight (view s) h (at s h)
   each-sound zero low high = absurd (omega arith)
-  each-sound (suc i) low high = bare-sound (view s) (suc i) (at s (suc i)) (unfold view in rw at-suc (every-at i noHeight all-new (unfold last in high)))
+  each-sound (suc i) low high = bare-sound (view s) (suc i) (at s (suc i))
+      (unfold view in rw at-suc (every-at i noHeight all-new (unfold last in high)))
 
   pub open-sound : SoundState digest s
   unfolding newState

@@ -13,7 +13,8 @@ use Rattle.call_laws.specs.Reply.{Wrote}
 use Rattle.protocol.specs.Laws.BytesLaws.{length-zeros}
 
 -- a piece of pieces that are joined
-piece-at : (k : ℕ) (xs : List Bytes) (rest : Bytes) → Every (Sized k) xs → (i : ℕ) → i < length xs → part (join xs ++ rest) (k * i) k ≡ getD xs i []
+piece-at : (k : ℕ) (xs : List Bytes) (rest : Bytes) → Every (Sized k) xs → (i : ℕ) → i < length xs →
+    part (join xs ++ rest) (k * i) k ≡ getD xs i []
 unfolding part join
 piece-at k [] rest sized i l = absurd (omega arith)
 piece-at k (x ∷ xs) rest (one e es) zero l =
@@ -21,10 +22,16 @@ piece-at k (x ∷ xs) rest (one e es) zero l =
     rw (none-before, append-assoc x (join xs) rest) (take-at x (join xs ++ rest) k e)
 piece-at k (x ∷ xs) rest (one e es) (suc i) l =
     let place : k * suc i ≡ k + k * i = mul-suc k i ∙ add-comm (k * i) k in
-    rw (place, append-assoc x (join xs) rest, ← drop-drop (k * i) k (x ++ (join xs ++ rest)), drop-at x (join xs ++ rest) k e)
+    rw (
+      place,
+      append-assoc x (join xs) rest,
+      ← drop-drop (k * i) k (x ++ (join xs ++ rest)),
+      drop-at x (join xs ++ rest) k e,
+    )
     (piece-at k xs rest es i (omega arith))
 
-module _ (frames : List Bytes) (sized : Every (Sized 224) frames) (blank : ℕ) (before : Bytes) (room : 224 * length frames + blank ≤ length before) where
+module _ (frames : List Bytes) (sized : Every (Sized 224) frames) (blank : ℕ) (before : Bytes)
+    (room : 224 * length frames + blank ≤ length before) where
   abbrev new : Bytes
   new = join frames ++ zeros blank
 
@@ -40,7 +47,8 @@ module _ (frames : List Bytes) (sized : Every (Sized 224) frames) (blank : ℕ) 
   pub front-wrote : Wrote frames blank before (overFront new before)
   unfolding overFront
   front-wrote = record {
-    frame-at = λ i l. rw (append-assoc (join frames) (zeros blank) rest) (piece-at 224 frames (zeros blank ++ rest) sized i l);
+    frame-at = λ i l. rw (append-assoc (join frames) (zeros blank) rest)
+        (piece-at 224 frames (zeros blank ++ rest) sized i l);
     blank-after = blanks;
     rest-kept = drop-at new rest (224 * length frames + blank) new-size ∙ rw new-size refl;
     same-length = simp (length-append, length-drop, joined, length-zeros) (omega arith);
@@ -48,7 +56,10 @@ module _ (frames : List Bytes) (sized : Every (Sized 224) frames) (blank : ℕ) 
     where
       blanks : part (new ++ rest) (224 * length frames) blank ≡ zeros blank
       blanks = unfold part in
-          rw (append-assoc (join frames) (zeros blank) rest, drop-at (join frames) (zeros blank ++ rest) (224 * length frames) joined)
+          rw (
+            append-assoc (join frames) (zeros blank) rest,
+            drop-at (join frames) (zeros blank ++ rest) (224 * length frames) joined,
+          )
           (take-at (zeros blank) rest blank (length-zeros blank))
 
 single : (frame : Bytes) → join (frame ∷ []) ++ zeros 0 ≡ frame
@@ -56,7 +67,8 @@ unfolding join zeros
 single frame = append-nil (frame ++ []) ∙ append-nil frame
 
 -- a reply that one frame is written to
-pub one-wrote : (frame before : Bytes) → length frame ≡ 224 → 224 ≤ length before → Wrote (frame ∷ []) 0 before (overFront frame before)
+pub one-wrote : (frame before : Bytes) → length frame ≡ 224 → 224 ≤ length before →
+    Wrote (frame ∷ []) 0 before (overFront frame before)
 one-wrote frame before size room =
     subst (λ (new : Bytes). Wrote (frame ∷ []) 0 before (overFront new before)) (single frame)
     (front-wrote (frame ∷ []) (one size none) 0 before (omega arith))
@@ -64,4 +76,10 @@ one-wrote frame before size room =
 -- a reply that nothing is written to
 pub nothing-wrote : (before : Bytes) → Wrote [] 0 before before
 unfolding part zeros
-nothing-wrote before = record { frame-at = λ i l. absurd (omega arith); blank-after = refl; rest-kept = refl; same-length = refl }
+nothing-wrote before = record {
+  frame-at = λ i l. absurd (omega arith);
+  blank-after = refl;
+  rest-kept =
+      refl;
+  same-length = refl;
+}

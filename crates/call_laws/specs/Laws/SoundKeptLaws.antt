@@ -58,7 +58,8 @@ module _ (digest : Bytes → Bytes) where
     move-kept reply = go (firstRefusal (moveRows digest book reply))
       where
         go : (r : Option ℕ) → Sound (unlessMoveRefused r book reply (step digest s) .book)
-        go none = unfold unlessMoveRefused moved in sound-encode digest (step digest s .after) (step-sound digest s state)
+        go none = unfold unlessMoveRefused moved in
+            sound-encode digest (step digest s .after) (step-sound digest s state)
         go (some number) = unfold unlessMoveRefused in was
 
     fired : (h : ℕ) → firstRefusal (signalRows digest book h) ≡ none → Sound (encode (withTimerFired s))
@@ -70,7 +71,8 @@ module _ (digest : Bytes → Bytes) where
 
     pub signal-kept : (h : ℕ) → Sound (signalCall digest book h .book)
     unfolding signalCall
-    signal-kept h = unless-refused Sound (signalRows digest book h) book (record { answer = accepted done; book = encode (withTimerFired s) }) was (fired h)
+    signal-kept h = unless-refused Sound (signalRows digest book h) book
+        (record { answer = accepted done; book = encode (withTimerFired s) }) was (fired h)
 
     abbrev submitted : Bytes → Bytes
     submitted entry = encode (withPending s (stillPending s ++ (entry ∷ [])))
@@ -80,29 +82,36 @@ module _ (digest : Bytes → Bytes) where
     appended entry passes =
         let r4 = row-passes _ _ (row-passes _ _ passes .1) in
         let r12 = row-passes _ _ (row-passes _ _ (r4 .1) .1) in
-        sound-encode digest (withPending s (stillPending s ++ (entry ∷ []))) (submit-sound digest s state entry (eqb-true _ _ (r4 .0)) (ltb-true _ _ (r12 .0)))
+        sound-encode digest (withPending s (stillPending s ++ (entry ∷ [])))
+        (submit-sound digest s state entry (eqb-true _ _ (r4 .0)) (ltb-true _ _ (r12 .0)))
 
     pub submit-kept : (entry : Bytes) → Sound (submitCall digest book entry .book)
     unfolding submitCall
-    submit-kept entry = unless-refused Sound (submitRows digest book entry) book (record { answer = accepted done; book = submitted entry }) was (appended entry)
+    submit-kept entry = unless-refused Sound (submitRows digest book entry) book
+        (record { answer = accepted done; book = submitted entry }) was (appended entry)
 
   -- ---- Open, over any bytes
   module _ (book : Bytes) (n own heights : ℕ) (leaders : Bytes) where
     made : firstRefusal (openRows book n own heights leaders) ≡ none → Sound (encode (newState n own leaders))
     unfolding openRows
-    made passes = sound-encode digest (newState n own leaders) (open-sound digest n own heights leaders (row-passes _ _ passes .0))
+    made passes = sound-encode digest (newState n own leaders)
+        (open-sound digest n own heights leaders (row-passes _ _ passes .0))
 
     pub open-kept : Sound book → Sound (openCall book n own heights leaders .book)
     unfolding openCall
-    open-kept was = unless-refused Sound (openRows book n own heights leaders) book (record { answer = accepted done; book = encode (newState n own leaders) }) was made
+    open-kept was = unless-refused Sound (openRows book n own heights leaders) book
+        (record { answer = accepted done; book = encode (newState n own leaders) }) was made
 
-    pub open-made : openCall book n own heights leaders .answer ≡ accepted done → Sound (openCall book n own heights leaders .book)
+    pub open-made : openCall book n own heights leaders .answer ≡ accepted done →
+        Sound (openCall book n own heights leaders .book)
     unfolding openCall
     open-made opened = go (firstRefusal (openRows book n own heights leaders)) made opened
       where
         go : (r : Option ℕ) → (r ≡ none → Sound (encode (newState n own leaders))) →
-            unlessRefused r book (record { answer = accepted done; book = encode (newState n own leaders) }) .answer ≡ accepted done →
-            Sound (unlessRefused r book (record { answer = accepted done; book = encode (newState n own leaders) }) .book)
+            unlessRefused r book (record { answer = accepted done; book = encode (newState n own leaders) })
+            .answer ≡ accepted done →
+            Sound (unlessRefused r book (record { answer = accepted done; book = encode (newState n own leaders) })
+            .book)
         go none f e = unfold unlessRefused in f refl
         go (some number) f e = unfold unlessRefused in
             let never : _≡_ {A = Answer Done} (refused number) (accepted done) = e in

@@ -19,10 +19,12 @@ module _ (digest : Bytes → Bytes) (s : State) (is : SoundState digest s) where
   with-pending-sound : (es : List Bytes) → Every (Sized 16) es → length es ≤ 32 → SoundState digest (withPending s es)
   unfolding withPending
   with-pending-sound es sized few =
-      head-sound digest s is (s .flags) (s .current) (s .finalized) (length es) (join es ++ zeros (512 - 16 * length es))
+      head-sound digest s is (s .flags) (s .current) (s .finalized) (length es)
+      (join es ++ zeros (512 - 16 * length es))
       (is .flags-small) (is .current-low) (is .current-high) (is .final) few (pending-pool-size es sized few)
 
-  pub submit-sound : (entry : Bytes) → length entry ≡ 16 → length (stillPending s) < 32 → SoundState digest (withPending s (stillPending s ++ (entry ∷ [])))
+  pub submit-sound : (entry : Bytes) → length entry ≡ 16 → length (stillPending s) < 32 →
+      SoundState digest (withPending s (stillPending s ++ (entry ∷ [])))
   submit-sound entry sized room =
       with-pending-sound (stillPending s ++ (entry ∷ []))
       (every-append left (one sized none))

@@ -10,7 +10,8 @@ use borrow.Author.Tests.{eqb-true, ltb-true}
 use Rattle.protocol.specs.SoundState.{Shaped, SoundState}
 use Rattle.protocol.specs.Bytes.{Bytes}
 use Rattle.protocol.specs.Tests.{firstRefusal}
-use Rattle.protocol.specs.State.{State, Height, noHeight, at, last, decode, encode, withHead, withHeight, withTimerFired, holdsProposal}
+use Rattle.protocol.specs.State.{State, Height, noHeight, at, last, decode, encode, withHead, withHeight}
+use Rattle.protocol.specs.State.{withTimerFired, holdsProposal}
 use Rattle.protocol.specs.Frame.{frameHeight}
 use Rattle.protocol.specs.View.{View, quorum}
 use Rattle.protocol.specs.Sound.{view, sound}
@@ -68,22 +69,27 @@ module _ (digest : Bytes → Bytes) where
 
   -- ---- the calls
   module _ (book : Bytes) (n own heights : ℕ) (leaders : Bytes) where
-    opened : firstRefusal (openRows book n own heights leaders) ≡ none → AllTallied digest (decode (encode (newState n own leaders)))
+    opened : firstRefusal (openRows book n own heights leaders) ≡ none →
+        AllTallied digest (decode (encode (newState n own leaders)))
     opened passes = rw (decode-encode (newState n own leaders) (new-shaped n own leaders)) (new-tallied n own leaders)
 
-    pub open-keeps : AllTallied digest (decode book) → AllTallied digest (decode (openCall book n own heights leaders .book))
+    pub open-keeps : AllTallied digest (decode book) →
+        AllTallied digest (decode (openCall book n own heights leaders .book))
     unfolding openCall
-    open-keeps all = unless-refused (λ (b : Bytes). AllTallied digest (decode b)) (openRows book n own heights leaders) book
+    open-keeps all = unless-refused (λ (b : Bytes). AllTallied digest (decode b)) (openRows book n own heights leaders)
+        book
         (record { answer = accepted done; book = encode (newState n own leaders) }) all opened
 
-    pub open-tallied : openCall book n own heights leaders .answer ≡ accepted done → AllTallied digest (decode (openCall book n own heights leaders .book))
+    pub open-tallied : openCall book n own heights leaders .answer ≡ accepted done →
+        AllTallied digest (decode (openCall book n own heights leaders .book))
     unfolding openCall
     open-tallied = go (firstRefusal (openRows book n own heights leaders)) refl
       where
         made : Option ℕ → Outcome Done
         made r = unlessRefused r book (record { answer = accepted done; book = encode (newState n own leaders) })
 
-        go : (r : Option ℕ) → firstRefusal (openRows book n own heights leaders) ≡ r → made r .answer ≡ accepted done → AllTallied digest (decode (made r .book))
+        go : (r : Option ℕ) → firstRefusal (openRows book n own heights leaders) ≡ r → made r .answer ≡ accepted done →
+            AllTallied digest (decode (made r .book))
         go none e accepts = unfold unlessRefused in opened e
         go (some number) e accepts = absurd (refused≢accepted number done (unfold unlessRefused in accepts))
 
@@ -95,7 +101,8 @@ module _ (digest : Bytes → Bytes) where
     state = sound-decode digest book was
 
     -- a state that goes back to bytes, with the heights and n of the old one
-    rewritten : (s′ : State) → Shaped s′ → s′ .n ≡ s .n → s′ .heights ≡ s .heights → AllTallied digest (decode (encode s′))
+    rewritten : (s′ : State) → Shaped s′ → s′ .n ≡ s .n → s′ .heights ≡ s .heights →
+        AllTallied digest (decode (encode s′))
     rewritten s′ shaped e e′ = rw (decode-encode s′ shaped) (same-heights s s′ e e′ all)
 
     pub move-keeps : (reply : Bytes) → AllTallied digest (decode (moveCall digest book reply .book))
@@ -110,7 +117,8 @@ module _ (digest : Bytes → Bytes) where
 
         go : (r : Option ℕ) → AllTallied digest (decode (unlessMoveRefused r book reply (step digest s) .book))
         go none = unfold unlessMoveRefused moved in rewritten after (step-sound digest s state .shaped)
-            (ap (λ (z : State). z .n) (head .3) ∙ unfold withHead in refl) (ap (λ (z : State). z .heights) (head .3) ∙ unfold withHead in refl)
+            (ap (λ (z : State). z .n) (head .3) ∙ unfold withHead in refl)
+            (ap (λ (z : State). z .heights) (head .3) ∙ unfold withHead in refl)
         go (some number) = unfold unlessMoveRefused in all
 
     fired-shaped : Shaped (withTimerFired s)
@@ -121,9 +129,11 @@ module _ (digest : Bytes → Bytes) where
     unfolding signalCall
     signal-keeps h = unless-refused (λ (b : Bytes). AllTallied digest (decode b)) (signalRows digest book h) book
         (record { answer = accepted done; book = encode (withTimerFired s) }) all
-        (λ passes. rewritten (withTimerFired s) fired-shaped (unfold withTimerFired withHead in refl) (unfold withTimerFired withHead in refl))
+        (λ passes. rewritten (withTimerFired s) fired-shaped (unfold withTimerFired withHead in refl)
+        (unfold withTimerFired withHead in refl))
 
-    submitted : (entry : Bytes) → firstRefusal (submitRows digest book entry) ≡ none → SoundState digest (withPending s (stillPending s ++ (entry ∷ [])))
+    submitted : (entry : Bytes) → firstRefusal (submitRows digest book entry) ≡ none →
+        SoundState digest (withPending s (stillPending s ++ (entry ∷ [])))
     unfolding submitRows
     submitted entry passes =
         let r4 = row-passes _ _ (row-passes _ _ passes .1) in
@@ -132,25 +142,31 @@ module _ (digest : Bytes → Bytes) where
 
     pub submit-keeps : (entry : Bytes) → AllTallied digest (decode (submitCall digest book entry .book))
     unfolding submitCall
-    submit-keeps entry = unless-refused (λ (b : Bytes). AllTallied digest (decode b)) (submitRows digest book entry) book
+    submit-keeps entry = unless-refused (λ (b : Bytes). AllTallied digest (decode b)) (submitRows digest book entry)
+        book
         (record { answer = accepted done; book = encode (withPending s (stillPending s ++ (entry ∷ []))) }) all
-        (λ passes. rewritten (withPending s (stillPending s ++ (entry ∷ []))) (submitted entry passes .shaped) (unfold withPending in refl) (unfold withPending in refl))
+        (λ passes. rewritten (withPending s (stillPending s ++ (entry ∷ []))) (submitted entry passes .shaped)
+        (unfold withPending in refl) (unfold withPending in refl))
 
     -- one height gives way to another whose votes are tallied
-    placed : (h : ℕ) (y : Height) → 1 ≤ h → h ≤ last s → Tallied digest (view s) y → AllTallied digest (withHeight s h y)
+    placed : (h : ℕ) (y : Height) → 1 ≤ h → h ≤ last s → Tallied digest (view s) y →
+        AllTallied digest (withHeight s h y)
     placed zero y low high new = λ _ _. absurd (omega arith)
     placed (suc i) y low high new = λ h from.
-        same-tally (view s) (view (withHeight s (suc i) y)) (at (withHeight s (suc i) y) h) (views-alike s (withHeight s (suc i) y) (unfold withHeight in refl))
+        same-tally (view s) (view (withHeight s (suc i) y)) (at (withHeight s (suc i) y) h)
+        (views-alike s (withHeight s (suc i) y) (unfold withHeight in refl))
         (each-height s i high y (λ (k : ℕ) (z : Height). Tallied digest (view s) z) new all h from)
 
     delivered : (frame : Bytes) (after : State) → KeepsState digest s after frame →
         1 ≤ frameHeight frame → frameHeight frame ≤ last s → AllTallied digest after
     delivered frame after keeps low high =
         let new = keeps .here .block .tallied (all (frameHeight frame) low) in
-        subst (AllTallied digest) (sym (keeps .elsewhere)) (placed (frameHeight frame) (at after (frameHeight frame)) low high new)
+        subst (AllTallied digest) (sym (keeps .elsewhere))
+        (placed (frameHeight frame) (at after (frameHeight frame)) low high new)
 
     pub deliver-keeps-tallies : (frame : Bytes) → AllTallied digest (decode (deliverCall digest book frame .book))
     deliver-keeps-tallies frame =
         deliver-cases digest book frame (λ (o : Outcome Delivery). AllTallied digest (decode (o .book)))
         (λ _ _. all) (λ _ _. all)
-        (λ y accepts e. delivered frame _ (fresh-keeps digest book frame accepts y e) (accepts .read .low) (accepts .read .high))
+        (λ y accepts e. delivered frame _ (fresh-keeps digest book frame accepts y e) (accepts .read .low)
+        (accepts .read .high))

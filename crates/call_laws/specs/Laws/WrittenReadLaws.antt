@@ -16,7 +16,9 @@ use Rattle.protocol.specs.State.{State, at, last, flag, isNotarized}
 use Rattle.protocol.specs.View.{View, quorum, isDummy, linked, digestAt}
 use Rattle.protocol.specs.Sound.{view}
 use Rattle.protocol.specs.Answer.{pass, onBlock, onDummy, certificateKind}
-use Rattle.protocol.specs.Move.{Step, isRunning, isSome, someOr, parentBelow, offered, proposedBlock, passesBy, step, dummyVoteApplies, dummyVoteStep, outputStep, passApplies, passStep, proposeApplies, proposeStep, blockVoteApplies, blockVoteStep, idleStep, passesAt}
+use Rattle.protocol.specs.Move.{Step, isRunning, isSome, someOr, parentBelow, offered, proposedBlock, passesBy, step}
+use Rattle.protocol.specs.Move.{dummyVoteApplies, dummyVoteStep, outputStep, passApplies, passStep, proposeApplies}
+use Rattle.protocol.specs.Move.{proposeStep, blockVoteApplies, blockVoteStep, idleStep, passesAt}
 use Rattle.protocol.specs.Certificates.{certificateFrame}
 use Rattle.protocol.specs.Linked.{Linked, start, link}
 use Rattle.protocol.specs.Laws.LinkedLaws.{linked-sound}
@@ -29,7 +31,9 @@ use Rattle.protocol.specs.Laws.PendingLaws.{offered-few, offered-sized}
 use Rattle.call_laws.specs.Fields.{blockCertificateFields, dummyCertificateFields, finalizeCertificateFields}
 use Rattle.call_laws.specs.Readable.{Said, SameSetting, DigestSized}
 use Rattle.call_laws.specs.Named.{offeredBlock, moveFields, certificateFields}
-use Rattle.call_laws.specs.Laws.ReadLaws.{Written, said-none, said-more, proposal-read, block-vote-read, dummy-vote-read, finalize-read, block-certificate-read, dummy-certificate-read, finalize-certificate-read}
+use Rattle.call_laws.specs.Laws.ReadLaws.{Written, said-none, said-more, proposal-read, block-vote-read}
+use Rattle.call_laws.specs.Laws.ReadLaws.{dummy-vote-read, finalize-read, block-certificate-read}
+use Rattle.call_laws.specs.Laws.ReadLaws.{dummy-certificate-read, finalize-certificate-read}
 use Rattle.call_laws.specs.Laws.GrowsLaws.{same-quorum, views-alike}
 use Rattle.protocol.specs.Laws.MoveLaws.{step-cases}
 
@@ -63,20 +67,27 @@ module _ (digest : Bytes → Bytes) (s : State) (is : SoundState digest s) (t : 
     short : h < 256
     short = let few = is .last-high in omega arith
 
-    pub block-certificate : isNotarized (at s h) ≡ true → Written t (blockCertificateFields h (at s h .certificateMask) (at s h .notarized)) (blockCertificate h (at s h .certificateMask) (at s h .notarized))
+    pub block-certificate : isNotarized (at s h) ≡ true →
+        Written t (blockCertificateFields h (at s h .certificateMask) (at s h .notarized))
+        (blockCertificate h (at s h .certificateMask) (at s h .notarized))
     block-certificate has =
-        block-certificate-read t h low also-high short (at s h .certificateMask) (mask-small (at s h .certificateMask) (facts .certificate-below))
+        block-certificate-read t h low also-high short (at s h .certificateMask)
+        (mask-small (at s h .certificateMask) (facts .certificate-below))
         (as-many (at s h .certificateMask) (facts .certified has)) (at s h .notarized) (facts .notarized-formed has)
 
-    pub dummy-certificate : isDummy (view s) h ≡ true → Written t (dummyCertificateFields h (at s h .dummyMask)) (dummyCertificate h (at s h .dummyMask))
+    pub dummy-certificate : isDummy (view s) h ≡ true →
+        Written t (dummyCertificateFields h (at s h .dummyMask)) (dummyCertificate h (at s h .dummyMask))
     unfolding isDummy view
     dummy-certificate enough =
-        dummy-certificate-read t h low also-high short (at s h .dummyMask) (mask-small (at s h .dummyMask) (facts .dummy-below))
+        dummy-certificate-read t h low also-high short (at s h .dummyMask)
+        (mask-small (at s h .dummyMask) (facts .dummy-below))
         (as-many (at s h .dummyMask) enough)
 
-    pub finalize-certificate : quorum (view s) (at s h .finalizeMask) ≡ true → Written t (finalizeCertificateFields h (at s h .finalizeMask)) (finalizeCertificate h (at s h .finalizeMask))
+    pub finalize-certificate : quorum (view s) (at s h .finalizeMask) ≡ true →
+        Written t (finalizeCertificateFields h (at s h .finalizeMask)) (finalizeCertificate h (at s h .finalizeMask))
     finalize-certificate enough =
-        finalize-certificate-read t h low also-high short (at s h .finalizeMask) (mask-small (at s h .finalizeMask) (facts .finalize-below))
+        finalize-certificate-read t h low also-high short (at s h .finalizeMask)
+        (mask-small (at s h .finalizeMask) (facts .finalize-below))
         (as-many (at s h .finalizeMask) enough)
 
   -- ---- the moves
@@ -89,17 +100,21 @@ module _ (digest : Bytes → Bytes) (s : State) (is : SoundState digest s) (t : 
 
   dummy-vote : dummyVoteApplies s ≡ true → Good (dummyVoteStep s)
   unfolding dummyVoteApplies dummyVoteStep moveFields
-  dummy-vote e = said-more (dummy-vote-read t c (is .current-low) (also-high c (is .current-low) (runs (row _ 0 e))) (short c (is .current-low) (runs (row _ 0 e))) (s .own) own-small) (said-none t)
+  dummy-vote e = said-more (dummy-vote-read t c (is .current-low) (also-high c (is .current-low) (runs (row _ 0 e)))
+      (short c (is .current-low) (runs (row _ 0 e))) (s .own) own-small) (said-none t)
 
   output-good : Good (outputStep digest s)
   unfolding outputStep moveFields
   output-good = said-none t
 
   -- the certificate of a pass, with whether the current height is linked
-  certificate : (l : Bool) → linked digest (view s) c ≡ l → c ≤ last s → (l || isDummy (view s) c && isSome (parentBelow digest s)) ≡ true →
-      Written t (certificateFields s (certificateKind (cond l onBlock onDummy)) c) (certificateFrame s (certificateKind (cond l onBlock onDummy)) c)
+  certificate : (l : Bool) → linked digest (view s) c ≡ l → c ≤ last s →
+      (l || isDummy (view s) c && isSome (parentBelow digest s)) ≡ true →
+      Written t (certificateFields s (certificateKind (cond l onBlock onDummy)) c)
+      (certificateFrame s (certificateKind (cond l onBlock onDummy)) c)
   unfolding certificateFields certificateFrame certificateKind view
-  certificate true e high reason = block-certificate c (is .current-low) high (has-block (linked-sound digest (view s) c e) (is .current-low))
+  certificate true e high reason = block-certificate c (is .current-low) high
+      (has-block (linked-sound digest (view s) c e) (is .current-low))
   certificate false e high reason = dummy-certificate c (is .current-low) high (and-true _ _ reason .0)
 
   pass-good : passApplies digest s ≡ true → Good (passStep digest s)
@@ -114,18 +129,24 @@ module _ (digest : Bytes → Bytes) (s : State) (is : SoundState digest s) (t : 
           cond inTime (finalize (s .own) c ∷ []) [])
       go true = unfold moveFields in
           said-more (certificate (linked digest (view s) c) refl (runs (both .0)) (both .1))
-          (said-more (finalize-read t c (is .current-low) (also-high c (is .current-low) (runs (both .0))) (short c (is .current-low) (runs (both .0))) (s .own) own-small) (said-none t))
-      go false = unfold moveFields in said-more (certificate (linked digest (view s) c) refl (runs (both .0)) (both .1)) (said-none t)
+          (said-more (finalize-read t c (is .current-low) (also-high c (is .current-low) (runs (both .0)))
+          (short c (is .current-low) (runs (both .0))) (s .own) own-small) (said-none t))
+      go false = unfold moveFields in said-more (certificate (linked digest (view s) c) refl (runs (both .0)) (both .1))
+          (said-none t)
 
   -- ---- statements with a digest
   module _ (sized : DigestSized digest) where
     below-current : (j : ℕ) → parentBelow digest s ≡ some j → j < c
-    below-current j p = let chain = parent-some digest (view s) (c - 1) j p .0 in omega (arith, is .current-low, chain .within)
+    below-current j p = let chain = parent-some digest (view s) (c - 1) j p .0 in
+        omega (arith, is .current-low, chain .within)
 
-    proposed-good : (parent : Option ℕ) → parentBelow digest s ≡ parent → isSome parent ≡ true → blockWellFormed c (proposedBlock digest s (someOr 0 parent)) ≡ true
+    proposed-good : (parent : Option ℕ) → parentBelow digest s ≡ parent → isSome parent ≡ true →
+        blockWellFormed c (proposedBlock digest s (someOr 0 parent)) ≡ true
     unfolding isSome someOr proposedBlock
     proposed-good none p e = absurd (false≢true e)
-    proposed-good (some j) p e = new-block-good c j (digestAt digest (view s) j) (offered s j) (below-current j p) (digest-at-size digest (view s) sized j) (digest-at-start digest (view s) j) (offered-few s j) (offered-sized digest s is j)
+    proposed-good (some j) p e = new-block-good c j (digestAt digest (view s) j) (offered s j) (below-current j p)
+        (digest-at-size digest (view s) sized j) (digest-at-start digest (view s) j) (offered-few s j)
+        (offered-sized digest s is j)
         (let few = is .last-high in let near = is .current-high in omega arith)
 
     propose-good : proposeApplies digest s ≡ true → Good (proposeStep digest s)
@@ -133,15 +154,18 @@ module _ (digest : Bytes → Bytes) (s : State) (is : SoundState digest s) (t : 
     propose-good e =
         let high : c ≤ last s = runs (row _ 0 e) in
         said-more
-        (proposal-read t c (is .current-low) (also-high c (is .current-low) high) (short c (is .current-low) high) (s .own) own-small
-        (proposedBlock digest s (someOr 0 (parentBelow digest s))) (proposed-good (parentBelow digest s) refl (row _ 3 e))
+        (proposal-read t c (is .current-low) (also-high c (is .current-low) high) (short c (is .current-low) high)
+        (s .own) own-small
+        (proposedBlock digest s (someOr 0 (parentBelow digest s)))
+        (proposed-good (parentBelow digest s) refl (row _ 3 e))
         (sym (eqb-true _ _ (row _ 1 e)) ∙ sym (same .same-leaders c (is .current-low) high)))
         (said-none t)
 
     block-vote : blockVoteApplies digest s ≡ true → Good (blockVoteStep digest s)
     unfolding blockVoteApplies blockVoteStep moveFields
     block-vote e =
-        said-more (block-vote-read t c (is .current-low) (also-high c (is .current-low) (runs (row _ 0 e))) (short c (is .current-low) (runs (row _ 0 e))) (s .own) own-small (digest (at s c .proposal)) (sized _))
+        said-more (block-vote-read t c (is .current-low) (also-high c (is .current-low) (runs (row _ 0 e)))
+        (short c (is .current-low) (runs (row _ 0 e))) (s .own) own-small (digest (at s c .proposal)) (sized _))
         (said-none t)
 
     idle-good : Good (idleStep s)
@@ -150,4 +174,5 @@ module _ (digest : Bytes → Bytes) (s : State) (is : SoundState digest s) (t : 
 
     pub step-said : Good (step digest s)
     step-said = step-cases digest s Good
-        dummy-vote (λ _ _. output-good) (λ _ _. pass-good) (λ _ _ _. propose-good) (λ _ _ _ _. block-vote) (λ _ _ _ _ _. idle-good)
+        dummy-vote (λ _ _. output-good) (λ _ _. pass-good) (λ _ _ _. propose-good) (λ _ _ _ _. block-vote)
+        (λ _ _ _ _ _. idle-good)

@@ -25,7 +25,8 @@ pub sound-readable : (digest : Bytes → Bytes) (book : Bytes) → AreBytes book
 sound-readable digest book small e = sound-book digest book small e .ready .readable
 
 -- ---- a frame that is read
-module _ (digest : Bytes → Bytes) (book frame : Bytes) (small : AreBytes book) (is : sound digest book ≡ true) (passes : firstRefusal (readRows (decode book) frame) ≡ none) where
+module _ (digest : Bytes → Bytes) (book frame : Bytes) (small : AreBytes book) (is : sound digest book ≡ true)
+    (passes : firstRefusal (readRows (decode book) frame) ≡ none) where
   tested : ReadFrame (decode book) frame
   tested = read-facts (decode book) frame [] (rw append-nil passes) .0
 

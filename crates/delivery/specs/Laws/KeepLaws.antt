@@ -23,7 +23,8 @@ use Rattle.delivery.specs.Given.{Spot}
 
 -- ---- known and new
 module _ (book : Bytes) (h : ℕ) where
-  pub known-frame : (b : Bool) (y : Height) → b ≡ true → (false ≡ isKept (cond b none (some y))) × (book ≡ keptBook book h (cond b none (some y)))
+  pub known-frame : (b : Bool) (y : Height) → b ≡ true →
+      (false ≡ isKept (cond b none (some y))) × (book ≡ keptBook book h (cond b none (some y)))
   unfolding isKept keptBook
   known-frame b y e = (rw e, rw e)
 
@@ -32,7 +33,8 @@ module _ (book : Bytes) (h : ℕ) where
   unfolding isKept keptBook
   new-frame b y after e f = (rw e, rw e f)
 
-  pub same-kept : (o other : Option Height) (answer : Bool) (after : Bytes) → o ≡ other → (answer ≡ isKept other) × (after ≡ keptBook book h other) →
+  pub same-kept : (o other : Option Height) (answer : Bool) (after : Bytes) → o ≡ other →
+      (answer ≡ isKept other) × (after ≡ keptBook book h other) →
       (answer ≡ isKept o) × (after ≡ keptBook book h o)
   same-kept o other answer after e both = rw e both
 
@@ -49,7 +51,8 @@ module _ {held mask s signer : ℕ} (holds : held ≡ mask) (signs : s ≡ signe
 -- ---- a height that is there
 pub shaped-here : (book : Bytes) (h : ℕ) → Spot book h → ShapedHeight (at (decode book) h)
 shaped-here book zero spot = absurd (omega (arith, spot .within))
-shaped-here book (suc i) spot = shaped-at (decode book) i (ready-state book (spot .ready)) (rw (last-decode book) (spot .within .high))
+shaped-here book (suc i) spot = shaped-at (decode book) i (ready-state book (spot .ready))
+    (rw (last-decode book) (spot .within .high))
 
 -- writing what stands there changes nothing
 pub same-book : (book : Bytes) (h : ℕ) → Spot book h → encode (withHeight (decode book) h (at (decode book) h)) ≡ book
@@ -60,7 +63,8 @@ pub kept-proposal : (x : Height) (block : Bytes) → withProposal x block .propo
 unfolding withProposal
 kept-proposal x block = refl
 
-pub proposal-status : (x : Height) (block : Bytes) → x .status ≤ 3 → holdsProposal x ≡ false → withProposal x block .status ≤ 3
+pub proposal-status : (x : Height) (block : Bytes) → x .status ≤ 3 → holdsProposal x ≡ false →
+    withProposal x block .status ≤ 3
 unfolding withProposal holdsProposal
 proposal-status x block small e =
     let odd : x .status % 2 ≡ 1 → ⊥ = eqb-false (x .status % 2) 1 e in
@@ -71,7 +75,8 @@ unfolding withVote
 vote-status x s digest small = small
 
 -- ---- after a first write
-notarize-goes-by-n : (digest : Bytes → Bytes) (s : State) (h : ℕ) (y x : Height) → notarize digest (view (withHeight s h y)) x ≡ notarize digest (view s) x
+notarize-goes-by-n : (digest : Bytes → Bytes) (s : State) (h : ℕ) (y x : Height) →
+    notarize digest (view (withHeight s h y)) x ≡ notarize digest (view s) x
 unfolding notarize quorum view withHeight
 notarize-goes-by-n digest s h y x = refl
 
@@ -92,7 +97,8 @@ module _ (book : Bytes) (h : ℕ) (spot : Spot book h) (y : Height) (fits : Shap
   in-state = rw (last-decode book) (spot .within .high)
 
   decoded : decode (encode (withHeight (decode book) h y)) ≡ withHeight (decode book) h y
-  decoded = decode-encode (withHeight (decode book) h y) (shaped-written (decode book) h y (spot .within .low) (ready-state book (spot .ready)) fits)
+  decoded = decode-encode (withHeight (decode book) h y)
+      (shaped-written (decode book) h y (spot .within .low) (ready-state book (spot .ready)) fits)
 
   heights-same : byteAt (encode (withHeight (decode book) h y)) 2 ≡ bookHeights book
   heights-same = same-heights book (withHeight (decode book) h y) (last-with-height (decode book) h y)
@@ -108,7 +114,8 @@ module _ (book : Bytes) (h : ℕ) (spot : Spot book h) (y : Height) (fits : Shap
   spot-after after e small = rw e (spot-written small)
 
   pub height-after : (after : Bytes) → after ≡ encode (withHeight (decode book) h y) → at (decode after) h ≡ y
-  height-after after e = ap (λ (s : State). at s h) (ap decode e ∙ decoded) ∙ at-written (decode book) h y (spot .within .low) in-state
+  height-after after e = ap (λ (s : State). at s h) (ap decode e ∙ decoded)
+      ∙ at-written (decode book) h y (spot .within .low) in-state
 
   pub notarized-after : (digest : Bytes → Bytes) (after final : Bytes) → after ≡ encode (withHeight (decode book) h y) →
       final ≡ encode (withHeight (decode after) h (notarize digest (view (decode after)) (at (decode after) h))) →
@@ -116,6 +123,9 @@ module _ (book : Bytes) (h : ℕ) (spot : Spot book h) (y : Height) (fits : Shap
   notarized-after digest after final e f =
       f
       ∙ ap (λ (s : State). encode (withHeight s h (notarize digest (view s) (at s h)))) (ap decode e ∙ decoded)
-      ∙ ap (λ (x : Height). encode (withHeight (withHeight (decode book) h y) h (notarize digest (view (withHeight (decode book) h y)) x))) (at-written (decode book) h y (spot .within .low) in-state)
-      ∙ ap encode (with-twice (decode book) h y (notarize digest (view (withHeight (decode book) h y)) y) (spot .within .low))
+      ∙ ap (λ (x : Height). encode (withHeight (withHeight (decode book) h y) h
+      (notarize digest (view (withHeight (decode book) h y)) x)))
+      (at-written (decode book) h y (spot .within .low) in-state)
+      ∙ ap encode (with-twice (decode book) h y (notarize digest (view (withHeight (decode book) h y)) y)
+      (spot .within .low))
       ∙ ap (λ (x : Height). encode (withHeight (decode book) h x)) (notarize-goes-by-n digest (decode book) h y y)

@@ -35,18 +35,24 @@ module _ (digest : Bytes → Bytes) (s : State) (x : Height) where
   abbrev Waits : Bool
   Waits = not (isNotarized x) && holdsProposal x
 
-  pub notarizes : (voters : ℕ) → voters ≡ votersFor x (digest (x .proposal)) (s .n) → Waits ≡ true → quorum (view s) voters ≡ true →
+  pub notarizes : (voters : ℕ) → voters ≡ votersFor x (digest (x .proposal)) (s .n) → Waits ≡ true →
+      quorum (view s) voters ≡ true →
       notarize digest (view s) x ≡ withNotarized x voters (x .proposal)
   notarizes voters tally waits enough = at-view (view s) (unfold view in tally) enough
     where
-      at-view : (v : View) → voters ≡ votersFor x (digest (x .proposal)) (v .n) → quorum v voters ≡ true → notarize digest v x ≡ withNotarized x voters (x .proposal)
-      at-view v e f = unfold notarize in rw (← e) (three-tests (not (isNotarized x)) (holdsProposal x) (quorum v voters) _ _ waits f)
+      at-view : (v : View) → voters ≡ votersFor x (digest (x .proposal)) (v .n) → quorum v voters ≡ true →
+          notarize digest v x ≡ withNotarized x voters (x .proposal)
+      at-view v e f = unfold notarize in rw (← e)
+          (three-tests (not (isNotarized x)) (holdsProposal x) (quorum v voters) _ _ waits f)
 
-  pub too-few : (voters : ℕ) → voters ≡ votersFor x (digest (x .proposal)) (s .n) → quorum (view s) voters ≡ false → notarize digest (view s) x ≡ x
+  pub too-few : (voters : ℕ) → voters ≡ votersFor x (digest (x .proposal)) (s .n) → quorum (view s) voters ≡ false →
+      notarize digest (view s) x ≡ x
   too-few voters tally few = at-view (view s) (unfold view in tally) few
     where
-      at-view : (v : View) → voters ≡ votersFor x (digest (x .proposal)) (v .n) → quorum v voters ≡ false → notarize digest v x ≡ x
-      at-view v e f = unfold notarize in rw (← e) (not-enough (not (isNotarized x)) (holdsProposal x) (quorum v voters) _ _ f)
+      at-view : (v : View) → voters ≡ votersFor x (digest (x .proposal)) (v .n) → quorum v voters ≡ false →
+          notarize digest v x ≡ x
+      at-view v e f = unfold notarize in rw (← e)
+          (not-enough (not (isNotarized x)) (holdsProposal x) (quorum v voters) _ _ f)
 
   pub awaits-none : Waits ≡ false → notarize digest (view s) x ≡ x
   awaits-none waits = unfold notarize in not-waiting (not (isNotarized x)) (holdsProposal x) _ _ _ waits

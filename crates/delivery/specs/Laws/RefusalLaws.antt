@@ -14,7 +14,8 @@ use Rattle.protocol.specs.Sound.{sound}
 use Rattle.protocol.specs.Answer.{Outcome, Delivery, refused, accepted, known, fresh, unlessRefused}
 use Rattle.protocol.specs.Laws.RowLaws.{pass-row, refuse-row, pass-rows, refuse-rows}
 use Rattle.protocol.specs.Deliver.{readRows, clashRows, deliverRows, keep, kept, deliverCall}
-use Rattle.delivery.specs.Refusal.{refusalOf, threeRows, membersFit, leaderSigned, signersEnough, memberRows, voteAgrees, isKept, keptBook, readOutcome}
+use Rattle.delivery.specs.Refusal.{refusalOf, threeRows, membersFit, leaderSigned, signersEnough, memberRows}
+use Rattle.delivery.specs.Refusal.{voteAgrees, isKept, keptBook, readOutcome}
 
 -- ---- numbers
 pub number-refuses : (number : ℕ) (o : Option ℕ) → refusalOf number ≡ o → (number ≡ 0 → ⊥) → o ≡ some number
@@ -52,7 +53,8 @@ module _ (a b c : ℕ) (p q r : Bool) where
 
 -- ---- the rows of reading
 read-rows : (s : State) (frame : Bytes) →
-    readRows s frame ≡ (4, frameWellFormed frame) ∷ (6, inRange 1 (last s) (frameHeight frame)) ∷ memberRows s (frameHeight frame) frame
+    readRows s frame ≡ (4, frameWellFormed frame) ∷ (6, inRange 1 (last s) (frameHeight frame)) ∷ memberRows s
+    (frameHeight frame) frame
 unfolding readRows memberRows membersFit leaderSigned signersEnough
 read-rows s frame = refl
 
@@ -60,21 +62,27 @@ module _ (s : State) (frame : Bytes) where
   pub read-malformed : frameWellFormed frame ≡ false → firstRefusal (readRows s frame) ≡ some 4
   read-malformed e = ap firstRefusal (read-rows s frame) ∙ refuse-row (4, frameWellFormed frame) _ e
 
-  pub read-outside : frameWellFormed frame ≡ true → inRange 1 (last s) (frameHeight frame) ≡ false → firstRefusal (readRows s frame) ≡ some 6
+  pub read-outside : frameWellFormed frame ≡ true → inRange 1 (last s) (frameHeight frame) ≡ false →
+      firstRefusal (readRows s frame) ≡ some 6
   read-outside e f =
-      ap firstRefusal (read-rows s frame) ∙ pass-row (4, frameWellFormed frame) _ e ∙ refuse-row (6, inRange 1 (last s) (frameHeight frame)) _ f
+      ap firstRefusal (read-rows s frame) ∙ pass-row (4, frameWellFormed frame) _ e
+      ∙ refuse-row (6, inRange 1 (last s) (frameHeight frame)) _ f
 
-  pub read-inside : frameWellFormed frame ≡ true → inRange 1 (last s) (frameHeight frame) ≡ true → (h : ℕ) → h ≡ frameHeight frame →
+  pub read-inside : frameWellFormed frame ≡ true → inRange 1 (last s) (frameHeight frame) ≡ true → (h : ℕ) →
+      h ≡ frameHeight frame →
       firstRefusal (readRows s frame) ≡ firstRefusal (memberRows s h frame)
   read-inside e f h same =
-      ap firstRefusal (read-rows s frame) ∙ pass-row (4, frameWellFormed frame) _ e ∙ pass-row (6, inRange 1 (last s) (frameHeight frame)) _ f
+      ap firstRefusal (read-rows s frame) ∙ pass-row (4, frameWellFormed frame) _ e
+      ∙ pass-row (6, inRange 1 (last s) (frameHeight frame)) _ f
       ∙ ap (λ (k : ℕ). firstRefusal (memberRows s k frame)) (sym same)
 
 -- ---- the rows of contradiction
 pub clash-rows : (s : State) (h : ℕ) (frame : Bytes) → h ≡ frameHeight frame →
     clashRows s frame ≡
-    threeRows 8 8 10 (implies (isProposal (kind frame) && holdsProposal (at s h)) (same (at s h .proposal) (frameBlock frame)))
-    (voteAgrees (at s h) frame) (implies (isBlockCertificate (kind frame) && isNotarized (at s h)) (same (at s h .notarized) (frameBlock frame)))
+    threeRows 8 8 10 (implies (isProposal (kind frame) && holdsProposal (at s h))
+    (same (at s h .proposal) (frameBlock frame)))
+    (voteAgrees (at s h) frame) (implies (isBlockCertificate (kind frame) && isNotarized (at s h))
+    (same (at s h .notarized) (frameBlock frame)))
 unfolding clashRows voteAgrees
 clash-rows s h frame e = rw e
 
@@ -83,32 +91,39 @@ abbrev refusedBy : ℕ → Bytes → Outcome Delivery
 refusedBy number book = record { answer = refused number; book = book }
 
 module _ (digest : Bytes → Bytes) (book frame : Bytes) where
-  pub read-refused : (number : ℕ) → firstRefusal (clashRows (decode book) frame) ≡ some number → readOutcome digest book frame ≡ refusedBy number book
+  pub read-refused : (number : ℕ) → firstRefusal (clashRows (decode book) frame) ≡ some number →
+      readOutcome digest book frame ≡ refusedBy number book
   unfolding readOutcome unlessRefused
   read-refused number e = rw e
 
-  pub read-kept : firstRefusal (clashRows (decode book) frame) ≡ none → readOutcome digest book frame ≡ kept digest book frame (keep digest (decode book) frame)
+  pub read-kept : firstRefusal (clashRows (decode book) frame) ≡ none →
+      readOutcome digest book frame ≡ kept digest book frame (keep digest (decode book) frame)
   unfolding readOutcome unlessRefused
   read-kept e = rw e
 
   pub call-unsound : sound digest book ≡ false → deliverCall digest book frame ≡ refusedBy 1 book
   unfolding deliverCall deliverRows unlessRefused
-  call-unsound e = ap (λ (o : Option ℕ). unlessRefused o book (kept digest book frame (keep digest (decode book) frame))) (refuse-row (1, sound digest book) _ e)
+  call-unsound e = ap (λ (o : Option ℕ). unlessRefused o book
+      (kept digest book frame (keep digest (decode book) frame))) (refuse-row (1, sound digest book) _ e)
 
-  pub call-refused : (number : ℕ) → sound digest book ≡ true → firstRefusal (readRows (decode book) frame) ≡ some number → deliverCall digest book frame ≡ refusedBy number book
+  pub call-refused : (number : ℕ) → sound digest book ≡ true →
+      firstRefusal (readRows (decode book) frame) ≡ some number → deliverCall digest book frame ≡ refusedBy number book
   unfolding deliverCall deliverRows unlessRefused
   call-refused number e f =
       ap (λ (o : Option ℕ). unlessRefused o book (kept digest book frame (keep digest (decode book) frame)))
-      (pass-row (1, sound digest book) _ e ∙ refuse-rows (readRows (decode book) frame) (clashRows (decode book) frame) number f)
+      (pass-row (1, sound digest book) _ e ∙ refuse-rows (readRows (decode book) frame) (clashRows (decode book) frame)
+      number f)
 
-  pub call-read : sound digest book ≡ true → firstRefusal (readRows (decode book) frame) ≡ none → deliverCall digest book frame ≡ readOutcome digest book frame
+  pub call-read : sound digest book ≡ true → firstRefusal (readRows (decode book) frame) ≡ none →
+      deliverCall digest book frame ≡ readOutcome digest book frame
   unfolding deliverCall deliverRows readOutcome
   call-read e f =
       ap (λ (o : Option ℕ). unlessRefused o book (kept digest book frame (keep digest (decode book) frame)))
       (pass-row (1, sound digest book) _ e ∙ pass-rows (readRows (decode book) frame) (clashRows (decode book) frame) f)
 
   -- ---- what is kept
-  pub kept-fresh : (h : ℕ) → h ≡ frameHeight frame → (o : Option Height) (after : Bytes) → true ≡ isKept o → after ≡ keptBook book h o →
+  pub kept-fresh : (h : ℕ) → h ≡ frameHeight frame → (o : Option Height) (after : Bytes) → true ≡ isKept o →
+      after ≡ keptBook book h o →
       (accepted fresh ≡ kept digest book frame o .answer) × (after ≡ kept digest book frame o .book)
   unfolding isKept keptBook kept
   kept-fresh h same none after e f = let z : _≡_ {A = ℕ} 0 1 = cc in absurd (omega arith)

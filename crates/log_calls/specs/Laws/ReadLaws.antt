@@ -40,17 +40,20 @@ module _ (book : Bytes) where
   unfolding sizeAnswer sizeCall
   size-unsound e = rw e
 
-  pub size-sound : (count : ℕ) → sound sha256 book ≡ true → count ≡ length (log (decode book)) → sizeAnswer (Size.Bytes (16 * count)) ≡ sizeCall sha256 book
+  pub size-sound : (count : ℕ) → sound sha256 book ≡ true → count ≡ length (log (decode book)) →
+      sizeAnswer (Size.Bytes (16 * count)) ≡ sizeCall sha256 book
   unfolding sizeAnswer sizeCall logSize
   size-sound count e f = rw (e, f)
 
 -- ---- Read
 module _ (book buffer : Bytes) where
-  part-whole : sound sha256 book ≡ true → leb (16 * length (log (decode book))) (length buffer) ≡ true → readPart sha256 book buffer ≡ join (log (decode book))
+  part-whole : sound sha256 book ≡ true → leb (16 * length (log (decode book))) (length buffer) ≡ true →
+      readPart sha256 book buffer ≡ join (log (decode book))
   unfolding readPart logSize
   part-whole e f = rw (e, f)
 
-  part-short : sound sha256 book ≡ true → leb (16 * length (log (decode book))) (length buffer) ≡ false → readPart sha256 book buffer ≡ []
+  part-short : sound sha256 book ≡ true → leb (16 * length (log (decode book))) (length buffer) ≡ false →
+      readPart sha256 book buffer ≡ []
   unfolding readPart logSize
   part-short e f = rw (e, f)
 
@@ -58,16 +61,20 @@ module _ (book buffer : Bytes) where
   unfolding readPart
   part-unsound e = rw e
 
-  empty-part : readPart sha256 book buffer ≡ [] → (0 ≡ length (readPart sha256 book buffer)) × (buffer ≡ readBuffer sha256 book buffer)
+  empty-part : readPart sha256 book buffer ≡ [] →
+      (0 ≡ length (readPart sha256 book buffer)) × (buffer ≡ readBuffer sha256 book buffer)
   unfolding readBuffer overFront
   empty-part e = (sym (ap length e), sym (ap (λ (p : Bytes). overFront p buffer) e))
 
-  pub read-unsound : sound sha256 book ≡ false → (0 ≡ length (readPart sha256 book buffer)) × (buffer ≡ readBuffer sha256 book buffer)
+  pub read-unsound : sound sha256 book ≡ false → (0 ≡ length (readPart sha256 book buffer)) ×
+      (buffer ≡ readBuffer sha256 book buffer)
   read-unsound e = empty-part (part-unsound e)
 
   module _ (e : sound sha256 book ≡ true) (count : ℕ) (counted : count ≡ length (log (decode book))) where
-    pub read-short : length buffer < 16 * count → (0 ≡ length (readPart sha256 book buffer)) × (buffer ≡ readBuffer sha256 book buffer)
-    read-short h = empty-part (part-short e (lt-leb (16 * length (log (decode book))) (length buffer) (rw counted at h)))
+    pub read-short : length buffer < 16 * count →
+        (0 ≡ length (readPart sha256 book buffer)) × (buffer ≡ readBuffer sha256 book buffer)
+    read-short h = empty-part (part-short e (lt-leb (16 * length (log (decode book))) (length buffer)
+        (rw counted at h)))
 
     pub read-done : (after : Bytes) (g : ℕ) → 16 * count ≤ length buffer → g ≡ decode book .finalized →
         after ≡ overFront (join (logAt (view (decode book)) g)) buffer →
@@ -82,11 +89,13 @@ module _ (book buffer : Bytes) where
         )
 
 -- ---- the part at the buffer's front
-module _ (book buffer after : Bytes) (count : ℕ) (counted : count ≡ length (readPart sha256 book buffer)) (written : after ≡ readBuffer sha256 book buffer) where
+module _ (book buffer after : Bytes) (count : ℕ) (counted : count ≡ length (readPart sha256 book buffer))
+    (written : after ≡ readBuffer sha256 book buffer) where
   pub read-front : take count after ≡ readPart sha256 book buffer
   unfolding readBuffer overFront
   read-front =
-      ap (take count) written ∙ take-at (readPart sha256 book buffer) (drop (length (readPart sha256 book buffer)) buffer) count (sym counted)
+      ap (take count) written ∙ take-at (readPart sha256 book buffer)
+      (drop (length (readPart sha256 book buffer)) buffer) count (sym counted)
 
   pub read-length : count ≡ length (take count after)
   read-length = counted ∙ sym (ap length read-front)

@@ -30,11 +30,13 @@ module _ (book entry : Bytes) where
       submit-known g = rw (e, f, g)
 
       module _ (g : isEntryKnown (decode book) entry ≡ false) where
-        pub submit-full : ltb (length (stillPending (decode book))) maximumPending ≡ false → submitCall sha256 book entry ≡ refusal book 12
+        pub submit-full : ltb (length (stillPending (decode book))) maximumPending ≡ false →
+            submitCall sha256 book entry ≡ refusal book 12
         unfolding submitCall submitRows firstRefusal unlessRefused
         submit-full l = rw (e, f, g, l)
 
         pub submit-done : ltb (length (stillPending (decode book))) maximumPending ≡ true →
-            submitCall sha256 book entry ≡ doing (withPending (decode book) (stillPending (decode book) ++ (entry ∷ [])))
+            submitCall sha256 book entry ≡ doing (withPending (decode book)
+            (stillPending (decode book) ++ (entry ∷ [])))
         unfolding submitCall submitRows firstRefusal unlessRefused
         submit-done l = rw (e, f, g, l)

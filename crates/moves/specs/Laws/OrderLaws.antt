@@ -14,7 +14,10 @@ use Rattle.protocol.specs.Laws.RowLaws.{row}
 use Rattle.protocol.specs.State.{State, decode, encode}
 use Rattle.protocol.specs.Sound.{sound}
 use Rattle.protocol.specs.Answer.{accepted}
-use Rattle.protocol.specs.Move.{Step, firstStep, step, written, unused, moved, unlessMoveRefused, moveRows, moveCall, isRunning, isSome, parentBelow, newFinalized, dummyVoteApplies, dummyVoteStep, outputApplies, outputStep, passApplies, passStep, proposeApplies, proposeStep, blockVoteApplies, blockVoteStep, idleStep}
+use Rattle.protocol.specs.Move.{Step, firstStep, step, written, unused, moved, unlessMoveRefused, moveRows, moveCall}
+use Rattle.protocol.specs.Move.{isRunning, isSome, parentBelow, newFinalized, dummyVoteApplies, dummyVoteStep}
+use Rattle.protocol.specs.Move.{outputApplies, outputStep, passApplies, passStep, proposeApplies, proposeStep}
+use Rattle.protocol.specs.Move.{blockVoteApplies, blockVoteStep, idleStep}
 use Rattle.answers.specs.declared.answer.Moved.{Moved}
 use Rattle.answers.specs.declared.answer.Moved.the-variants as Moved
 use Rattle.answers.specs.Answers.{movedAnswer}
@@ -31,11 +34,13 @@ module _ (s : State) where
   unfolding laterStep firstStep
   later-propose e f = rw (e, f)
 
-  pub later-vote : passApplies sha256 s ≡ false → proposeApplies sha256 s ≡ false → blockVoteApplies sha256 s ≡ true → laterStep s ≡ blockVoteStep sha256 s
+  pub later-vote : passApplies sha256 s ≡ false → proposeApplies sha256 s ≡ false → blockVoteApplies sha256 s ≡ true →
+      laterStep s ≡ blockVoteStep sha256 s
   unfolding laterStep firstStep
   later-vote e f g = rw (e, f, g)
 
-  pub later-idle : passApplies sha256 s ≡ false → proposeApplies sha256 s ≡ false → blockVoteApplies sha256 s ≡ false → laterStep s ≡ idleStep s
+  pub later-idle : passApplies sha256 s ≡ false → proposeApplies sha256 s ≡ false → blockVoteApplies sha256 s ≡ false →
+      laterStep s ≡ idleStep s
   unfolding laterStep firstStep
   later-idle e f g = rw (e, f, g)
 
@@ -78,15 +83,19 @@ module _ (s : State) where
     outputs-not h = le-ltb (s .finalized) (newFinalized sha256 s) (omega arith)
 
 -- ---- what it leaves
-pub took-as : {st other : Step} {reply : Bytes} {r : Moved} {bookAfter replyAfter : Bytes} → other ≡ st → Took st reply r bookAfter replyAfter → Took other reply r bookAfter replyAfter
-took-as {reply = reply} {r = r} {bookAfter = bookAfter} {replyAfter = replyAfter} e t = subst (λ (st : Step). Took st reply r bookAfter replyAfter) (sym e) t
+pub took-as : {st other : Step} {reply : Bytes} {r : Moved} {bookAfter replyAfter : Bytes} → other ≡ st →
+    Took st reply r bookAfter replyAfter → Took other reply r bookAfter replyAfter
+took-as {reply = reply} {r = r} {bookAfter = bookAfter} {replyAfter = replyAfter} e t =
+    subst (λ (st : Step). Took st reply r bookAfter replyAfter) (sym e) t
 
-pub took-output : (s : State) (reply bookAfter : Bytes) (r : Moved) → movedAnswer r ≡ accepted (outputStep sha256 s .move) → bookAfter ≡ encode (outputStep sha256 s .after) →
+pub took-output : (s : State) (reply bookAfter : Bytes) (r : Moved) →
+    movedAnswer r ≡ accepted (outputStep sha256 s .move) → bookAfter ≡ encode (outputStep sha256 s .after) →
     Took (outputStep sha256 s) reply r bookAfter reply
 unfolding outputStep written unused join zeros overFront
 took-output s reply bookAfter r a b = record { answer = a; book = b; reply-is = refl }
 
-pub took-idle : (book reply : Bytes) → encode (decode book) ≡ book → Took (idleStep (decode book)) reply Moved.Idle book reply
+pub took-idle : (book reply : Bytes) → encode (decode book) ≡ book →
+    Took (idleStep (decode book)) reply Moved.Idle book reply
 unfolding idleStep written unused join zeros overFront movedAnswer
 took-idle book reply whole = record { answer = refl; book = sym whole; reply-is = refl }
 
@@ -103,7 +112,8 @@ module _ (book reply : Bytes) where
   unfolding moveCall moveRows firstRefusal unlessMoveRefused moved
   called e f r bookAfter replyAfter t = rw (e, f) (t .answer, (t .book, t .reply-is))
 
-  pub called-short : sound sha256 book ≡ true → leb 448 (length reply) ≡ false → Called book reply (Moved.Refused 3) book reply
+  pub called-short : sound sha256 book ≡ true → leb 448 (length reply) ≡ false →
+      Called book reply (Moved.Refused 3) book reply
   unfolding moveCall moveRows firstRefusal unlessMoveRefused movedAnswer
   called-short e f = rw (e, f) (refl, (refl, refl))
 

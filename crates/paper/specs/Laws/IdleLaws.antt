@@ -19,7 +19,10 @@ use Rattle.protocol.specs.Laws.RowLaws.{row}
 use Rattle.protocol.specs.State.{State, decode, last, at, flag, withHead, holdsProposal}
 use Rattle.protocol.specs.Sound.{view, sound}
 use Rattle.protocol.specs.Answer.{accepted, Move, idle, moveNumber}
-use Rattle.protocol.specs.Move.{MoveOutcome, moveRows, moveCall, unlessMoveRefused, moved, written, unused, Step, step, afterMoves, firstStep, isRunning, idleStep, dummyVoteApplies, dummyVoteStep, outputApplies, outputStep, passApplies, passStep, proposeApplies, proposeStep, blockVoteApplies, blockVoteStep, newFinalized, parentBelow, passesAt, isSome}
+use Rattle.protocol.specs.Move.{MoveOutcome, moveRows, moveCall, unlessMoveRefused, moved, written, unused, Step, step}
+use Rattle.protocol.specs.Move.{afterMoves, firstStep, isRunning, idleStep, dummyVoteApplies, dummyVoteStep}
+use Rattle.protocol.specs.Move.{outputApplies, outputStep, passApplies, passStep, proposeApplies, proposeStep}
+use Rattle.protocol.specs.Move.{blockVoteApplies, blockVoteStep, newFinalized, parentBelow, passesAt, isSome}
 use Rattle.protocol.specs.View.{extends}
 use Rattle.paper.specs.Idle.{NoMove, IdleMeansNoMove, IdlesJustThen, IdleWithin, MovesEnd}
 
@@ -112,12 +115,14 @@ unfolding weight bit
 less-output true p q r left = omega arith
 less-output false p q r left = omega arith
 
-less-pass : (p q r q′ r′ : Bool) (last c : ℕ) → c + 1 ≤ last → weight true false false p q r (last - (c + 1)) < weight true false false true q′ r′ (last - c)
+less-pass : (p q r q′ r′ : Bool) (last c : ℕ) → c + 1 ≤ last →
+    weight true false false p q r (last - (c + 1)) < weight true false false true q′ r′ (last - c)
 unfolding weight atHeight bit
 less-pass true q r q′ r′ last c le = omega arith
 less-pass false q r q′ r′ last c le = let a = bit-small q in let b = bit-small r in omega arith
 
-less-propose : (r : Bool) (left : ℕ) → weight true false false false false r left < weight true false false false true r left
+less-propose : (r : Bool) (left : ℕ) → weight true false false false false r left < weight true false false false true r
+    left
 unfolding weight atHeight bit
 less-propose r left = omega arith
 
@@ -128,18 +133,22 @@ less-vote left = omega arith
 module _ (digest : Bytes → Bytes) where
   measure : State → ℕ
   measure s =
-      weight (isRunning s) (dummyVoteApplies s) (outputApplies digest s) (passApplies digest s) (proposeApplies digest s) (blockVoteApplies digest s) (last s - s .current)
+      weight (isRunning s) (dummyVoteApplies s) (outputApplies digest s) (passApplies digest s)
+      (proposeApplies digest s) (blockVoteApplies digest s) (last s - s .current)
 
   measure-most : (s : State) → s .current ≤ last s → measure s ≤ last s + 4 - s .current
   unfolding measure weight atHeight bit
-  measure-most s le = go (isRunning s) (dummyVoteApplies s) (outputApplies digest s) (passApplies digest s) (proposeApplies digest s) (blockVoteApplies digest s)
+  measure-most s le = go (isRunning s) (dummyVoteApplies s) (outputApplies digest s) (passApplies digest s)
+      (proposeApplies digest s) (blockVoteApplies digest s)
     where
       go : (n d o p q r : Bool) → weight n d o p q r (last s - s .current) ≤ last s + 4 - s .current
       go true d o true q r = let a = bit-small d in let b = bit-small o in omega arith
-      go true d o false q r = let a = bit-small d in let b = bit-small o in let e = bit-small q in let f = bit-small r in omega arith
+      go true d o false q r = let a = bit-small d in let b = bit-small o in let e = bit-small q in
+          let f = bit-small r in omega arith
       go false d o p q r = let b = bit-small o in omega arith
 
-  measure-is : (s : State) {n d o p q r : Bool} → isRunning s ≡ n → dummyVoteApplies s ≡ d → outputApplies digest s ≡ o → passApplies digest s ≡ p →
+  measure-is : (s : State) {n d o p q r : Bool} → isRunning s ≡ n → dummyVoteApplies s ≡ d →
+      outputApplies digest s ≡ o → passApplies digest s ≡ p →
       proposeApplies digest s ≡ q → blockVoteApplies digest s ≡ r → measure s ≡ weight n d o p q r (last s - s .current)
   unfolding measure
   measure-is s e1 e2 e3 e4 e5 e6 = cc
@@ -169,7 +178,8 @@ module _ (digest : Bytes → Bytes) where
 
     propose-after : flag 8 flagged ≡ true → proposeApplies digest flagged ≡ false
     unfolding proposeApplies allOf
-    propose-after e = rw e (and-and-false (isRunning flagged) (eqb (at flagged (flagged .current) .leader) (flagged .own)))
+    propose-after e = rw e (and-and-false (isRunning flagged)
+        (eqb (at flagged (flagged .current) .leader) (flagged .own)))
 
     vote-same : flag 4 flagged ≡ flag 4 s → blockVoteApplies digest flagged ≡ blockVoteApplies digest s
     unfolding blockVoteApplies isRunning last withHead at view
@@ -205,18 +215,23 @@ module _ (digest : Bytes → Bytes) where
       let f = s .flags + 2 in
       rw (
         measure-is s (row rows 0 all) e refl refl refl refl,
-        measure-is (flagged s f) (running-same s f ∙ row rows 0 all) (dummy-after s f (flag-set s (s .current) (s .finalized) 1 clear)) (output-same s f) (pass-same s f) (propose-same s f (kept 3 (omega arith))) (vote-same s f (kept 2 (omega arith))),
+        measure-is (flagged s f) (running-same s f ∙ row rows 0 all)
+            (dummy-after s f (flag-set s (s .current) (s .finalized) 1 clear)) (output-same s f) (pass-same s f)
+            (propose-same s f (kept 3 (omega arith))) (vote-same s f (kept 2 (omega arith))),
         left-same s f,
       )
-      (less-dummy (outputApplies digest s) (passApplies digest s) (proposeApplies digest s) (blockVoteApplies digest s) (last s - s .current))
+      (less-dummy (outputApplies digest s) (passApplies digest s) (proposeApplies digest s) (blockVoteApplies digest s)
+      (last s - s .current))
 
-  lower-output : (s : State) → dummyVoteApplies s ≡ false → outputApplies digest s ≡ true → measure (outputStep digest s .after) < measure s
+  lower-output : (s : State) → dummyVoteApplies s ≡ false → outputApplies digest s ≡ true →
+      measure (outputStep digest s .after) < measure s
   unfolding outputStep withHead last
   lower-output s e1 e2 =
       rw (
         measure-is s refl e1 e2 refl refl refl,
         measure-is after running (dummy ∙ e1) none-left pass′ propose′ vote′,
-      ) (less-output (isRunning s) (passApplies digest s) (proposeApplies digest s) (blockVoteApplies digest s) (last s - s .current))
+      ) (less-output (isRunning s) (passApplies digest s) (proposeApplies digest s) (blockVoteApplies digest s)
+      (last s - s .current))
     where
       after : State
       after = withHead s (s .flags) (s .current) (newFinalized digest s)
@@ -228,7 +243,8 @@ module _ (digest : Bytes → Bytes) where
       dummy = unfold dummyVoteApplies isRunning last withHead flag in refl
 
       none-left : outputApplies digest after ≡ false
-      none-left = unfold outputApplies newFinalized last withHead view at in lt-leb (suc (newFinalized digest s)) (newFinalized digest s) (omega arith)
+      none-left = unfold outputApplies newFinalized last withHead view at in
+          lt-leb (suc (newFinalized digest s)) (newFinalized digest s) (omega arith)
 
       pass′ : passApplies digest after ≡ passApplies digest s
       pass′ = unfold passApplies isRunning last withHead view at in refl
@@ -239,7 +255,8 @@ module _ (digest : Bytes → Bytes) where
       vote′ : blockVoteApplies digest after ≡ blockVoteApplies digest s
       vote′ = unfold blockVoteApplies isRunning last withHead flag view at in refl
 
-  lower-pass : (s : State) → dummyVoteApplies s ≡ false → outputApplies digest s ≡ false → passApplies digest s ≡ true → measure (passStep digest s .after) < measure s
+  lower-pass : (s : State) → dummyVoteApplies s ≡ false → outputApplies digest s ≡ false → passApplies digest s ≡ true →
+      measure (passStep digest s .after) < measure s
   unfolding passStep isRunning withHead last
   lower-pass s e1 e2 e3 =
       let parts : (isRunning s && passesAt digest (view s) (s .current)) ≡ true = unfold passApplies in e3 in
@@ -258,40 +275,53 @@ module _ (digest : Bytes → Bytes) where
       left : last after - after .current ≡ last s - (s .current + 1)
       left = unfold last withHead in refl
 
-      go : (n p : Bool) → isRunning after ≡ n → passApplies digest after ≡ p → measure after < weight true false false true (proposeApplies digest s) (blockVoteApplies digest s) (last s - s .current)
+      go : (n p : Bool) → isRunning after ≡ n → passApplies digest after ≡ p →
+          measure after < weight true false false true (proposeApplies digest s) (blockVoteApplies digest s)
+          (last s - s .current)
       go false p e e′ = rw (measure-is after e dummy out e′ refl refl) (unfold weight atHeight bit in omega arith)
       go true p e e′ =
           rw (measure-is after e dummy out e′ refl refl, left)
-          (less-pass p (proposeApplies digest after) (blockVoteApplies digest after) (proposeApplies digest s) (blockVoteApplies digest s) (last s) (s .current) (leb-true _ _ e))
+          (less-pass p (proposeApplies digest after) (blockVoteApplies digest after) (proposeApplies digest s)
+          (blockVoteApplies digest s) (last s) (s .current) (leb-true _ _ e))
 
-  lower-propose : (s : State) → dummyVoteApplies s ≡ false → outputApplies digest s ≡ false → passApplies digest s ≡ false → proposeApplies digest s ≡ true →
+  lower-propose : (s : State) → dummyVoteApplies s ≡ false → outputApplies digest s ≡ false →
+      passApplies digest s ≡ false → proposeApplies digest s ≡ true →
       measure (proposeStep digest s .after) < measure s
   unfolding proposeStep
   lower-propose s e1 e2 e3 e4 =
-      let rows : List Bool = isRunning s ∷ eqb (at s (s .current) .leader) (s .own) ∷ not (flag 8 s) ∷ isSome (parentBelow digest s) ∷ [] in
+      let rows : List Bool = isRunning s ∷ eqb (at s (s .current) .leader) (s .own) ∷ not (flag 8 s) ∷ isSome
+      (parentBelow digest s) ∷ [] in
       let all : allOf rows ≡ true = unfold proposeApplies in e4 in
       let clear = not-true (flag 8 s) (row rows 2 all) in
       let kept = flag-kept s (s .current) (s .finalized) 3 clear in
       let f = s .flags + 8 in
       rw (
         measure-is s (row rows 0 all) e1 e2 e3 e4 refl,
-        measure-is (flagged s f) (running-same s f ∙ row rows 0 all) (dummy-same s f (kept 0 (omega arith)) (kept 1 (omega arith)) ∙ e1) (output-same s f ∙ e2) (pass-same s f ∙ e3) (propose-after s f (flag-set s (s .current) (s .finalized) 3 clear)) (vote-same s f (kept 2 (omega arith))),
+        measure-is (flagged s f) (running-same s f ∙ row rows 0 all)
+            (dummy-same s f (kept 0 (omega arith)) (kept 1 (omega arith)) ∙ e1) (output-same s f ∙ e2)
+            (pass-same s f ∙ e3) (propose-after s f (flag-set s (s .current) (s .finalized) 3 clear))
+            (vote-same s f (kept 2 (omega arith))),
         left-same s f,
       )
       (less-propose (blockVoteApplies digest s) (last s - s .current))
 
-  lower-vote : (s : State) → dummyVoteApplies s ≡ false → outputApplies digest s ≡ false → passApplies digest s ≡ false → proposeApplies digest s ≡ false →
+  lower-vote : (s : State) → dummyVoteApplies s ≡ false → outputApplies digest s ≡ false →
+      passApplies digest s ≡ false → proposeApplies digest s ≡ false →
       blockVoteApplies digest s ≡ true → measure (blockVoteStep digest s .after) < measure s
   unfolding blockVoteStep
   lower-vote s e1 e2 e3 e4 e5 =
-      let rows : List Bool = isRunning s ∷ not (flag 4 s) ∷ holdsProposal (at s (s .current)) ∷ extends digest (view s) (s .current) (at s (s .current) .proposal) ∷ [] in
+      let rows : List Bool = isRunning s ∷ not (flag 4 s) ∷ holdsProposal (at s (s .current)) ∷ extends digest (view s)
+      (s .current) (at s (s .current) .proposal) ∷ [] in
       let all : allOf rows ≡ true = unfold blockVoteApplies in e5 in
       let clear = not-true (flag 4 s) (row rows 1 all) in
       let kept = flag-kept s (s .current) (s .finalized) 2 clear in
       let f = s .flags + 4 in
       rw (
         measure-is s (row rows 0 all) e1 e2 e3 e4 e5,
-        measure-is (flagged s f) (running-same s f ∙ row rows 0 all) (dummy-same s f (kept 0 (omega arith)) (kept 1 (omega arith)) ∙ e1) (output-same s f ∙ e2) (pass-same s f ∙ e3) (propose-same s f (kept 3 (omega arith)) ∙ e4) (vote-after s f (flag-set s (s .current) (s .finalized) 2 clear)),
+        measure-is (flagged s f) (running-same s f ∙ row rows 0 all)
+            (dummy-same s f (kept 0 (omega arith)) (kept 1 (omega arith)) ∙ e1) (output-same s f ∙ e2)
+            (pass-same s f ∙ e3) (propose-same s f (kept 3 (omega arith)) ∙ e4)
+            (vote-after s f (flag-set s (s .current) (s .finalized) 2 clear)),
         left-same s f,
       )
       (less-vote (last s - s .current))
@@ -309,12 +339,15 @@ module _ (digest : Bytes → Bytes) where
   unfolding IdleWithin afterMoves
   ends zero s le = go (lowers s)
     where
-      go : NoMove digest s ⊎ (measure (step digest s .after) < measure s) → (k : ℕ) × (k ≤ 0) × (step digest (afterMoves digest k s) .move ≡ idle)
+      go : NoMove digest s ⊎ (measure (step digest s .after) < measure s) →
+          (k : ℕ) × (k ≤ 0) × (step digest (afterMoves digest k s) .move ≡ idle)
       go (inl q) = (0, omega arith, no-move-idle digest s q)
       go (inr q) = absurd (omega arith)
   ends (suc most) s le = go (lowers s) (λ q. ends most (step digest s .after) q)
     where
-      go : NoMove digest s ⊎ (measure (step digest s .after) < measure s) → (measure (step digest s .after) ≤ most → IdleWithin digest most (step digest s .after)) → IdleWithin digest (suc most) s
+      go : NoMove digest s ⊎ (measure (step digest s .after) < measure s) →
+          (measure (step digest s .after) ≤ most → IdleWithin digest most (step digest s .after)) →
+          IdleWithin digest (suc most) s
       go (inl q) later = (0, omega arith, no-move-idle digest s q)
       go (inr q) later = let (k, le′, e) = later (omega arith) in (suc k, omega arith, e)
 

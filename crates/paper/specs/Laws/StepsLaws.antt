@@ -1,4 +1,5 @@
--- Proofs of `Steps`: each move is taken just where its test passes and no earlier one does, and its test is the paper's condition.
+-- Proofs of `Steps`: each move is taken just where its test passes and no earlier one does, and its test is the paper's
+-- condition.
 use Prim.Native.Nat.{ℕ, suc, _+_, _-_, _≤_, _<_}
 use native.Mathlib.Omega.{arith}
 use mathlib.Core.Path.{_≡_, refl, sym, ap, subst, _∙_}
@@ -26,13 +27,21 @@ use Rattle.protocol.specs.Laws.LinkedLaws.{finalized-sound, finalized-complete}
 use Rattle.protocol.specs.Laws.ParentLaws.{parent-some, largestFinalized-is}
 use Rattle.protocol.specs.Sound.{view}
 use Rattle.protocol.specs.Answer.{Move, idle, voteDummy, output, pass, propose, voteBlock, onBlock, onDummy}
-use Rattle.protocol.specs.Move.{Step, step, firstStep, offered, proposedBlock, someOr, isRunning, isSome, idleStep, dummyVoteApplies, dummyVoteStep, outputApplies, outputStep, passApplies, passStep, proposeApplies, proposeStep, blockVoteApplies, blockVoteStep, newFinalized, parentBelow, passesAt, chosen}
-use Rattle.paper.specs.Paper.{lastBlock, linearize, Sequence, addDummy, addBlock, height, NotarizedBlockchain, SeenOfHeight, SeenWithBlock, Finalization}
-use Rattle.paper.specs.Blockchains.{ChainEndingAt, ParentOf, InThePapersTerms, LinkedIsSeen, ParentIsSeen, ParentIsLargest, FinalizedIsSeen, ExtendsIsFollowing}
+use Rattle.protocol.specs.Move.{Step, step, firstStep, offered, proposedBlock, someOr, isRunning, isSome, idleStep}
+use Rattle.protocol.specs.Move.{dummyVoteApplies, dummyVoteStep, outputApplies, outputStep, passApplies, passStep}
+use Rattle.protocol.specs.Move.{proposeApplies, proposeStep, blockVoteApplies, blockVoteStep, newFinalized, parentBelow}
+use Rattle.protocol.specs.Move.{passesAt, chosen}
+use Rattle.paper.specs.Paper.{lastBlock, linearize, Sequence, addDummy, addBlock, height, NotarizedBlockchain}
+use Rattle.paper.specs.Paper.{SeenOfHeight, SeenWithBlock, Finalization}
+use Rattle.paper.specs.Blockchains.{ChainEndingAt, ParentOf, InThePapersTerms, LinkedIsSeen, ParentIsSeen}
+use Rattle.paper.specs.Blockchains.{ParentIsLargest, FinalizedIsSeen, ExtendsIsFollowing}
 use Rattle.paper.specs.Laws.BlockchainsLaws.{in-the-papers-terms}
 use Rattle.paper.specs.Idle.{NoMove}
 use Rattle.paper.specs.Laws.IdleLaws.{idle-no-move, no-move-idle, step-idle}
-use Rattle.paper.specs.Steps.{FiveSteps, Running, Makes, Offers, MayPropose, LeaderProposal, MayVoteDummy, DummyBlocks, Sent, MayPass, NextIteration, MayVoteBlock, NotarizingProposals, MayOutput, FinalizedOutputs, NoStep, Idling, OneOfSix, itIdles, itVotesDummy, itOutputs, itPasses, itProposes, itVotesBlock}
+use Rattle.paper.specs.Steps.{FiveSteps, Running, Makes, Offers, MayPropose, LeaderProposal, MayVoteDummy}
+use Rattle.paper.specs.Steps.{DummyBlocks, Sent, MayPass, NextIteration, MayVoteBlock, NotarizingProposals}
+use Rattle.paper.specs.Steps.{MayOutput, FinalizedOutputs, NoStep, Idling, OneOfSix, itIdles, itVotesDummy}
+use Rattle.paper.specs.Steps.{itOutputs, itPasses, itProposes, itVotesBlock}
 
 module _ (digest : Bytes → Bytes) (s : State) where
   -- what an answer says of the row that was taken
@@ -48,7 +57,8 @@ module _ (digest : Bytes → Bytes) (s : State) where
   unfolding Taken dummyVoteStep outputStep passStep proposeStep blockVoteStep idleStep
   taken move e = subst Taken e
       (step-cases digest s (λ (st : Step). step digest s ≡ st → Taken (st .move))
-      (λ a q. (a, q)) (λ _ b q. (b, q)) (λ _ _ c q. (c, q)) (λ _ _ _ d q. (d, q)) (λ _ _ _ _ e q. (e, q)) (λ _ _ _ _ _ q. tt) refl)
+      (λ a q. (a, q)) (λ _ b q. (b, q)) (λ _ _ c q. (c, q)) (λ _ _ _ d q. (d, q)) (λ _ _ _ _ e q. (e, q))
+      (λ _ _ _ _ _ q. tt) refl)
 
   -- the answer that each row gives
   dummy-move : step digest s ≡ dummyVoteStep s → step digest s .move ≡ voteDummy (s .current)
@@ -59,7 +69,9 @@ module _ (digest : Bytes → Bytes) (s : State) where
   unfolding outputStep
   output-move e = ap (λ (st : Step). st .move) e
 
-  pass-move : step digest s ≡ passStep digest s → step digest s .move ≡ pass (s .current) (cond (linked digest (view s) (s .current)) onBlock onDummy) (not (flag 1 s))
+  pass-move : step digest s ≡ passStep digest s →
+      step digest s .move ≡ pass (s .current) (cond (linked digest (view s) (s .current)) onBlock onDummy)
+      (not (flag 1 s))
   unfolding passStep
   pass-move e = ap (λ (st : Step). st .move) e
 
@@ -79,7 +91,8 @@ module _ (digest : Bytes → Bytes) (s : State) where
       (λ _ _ q. subst (λ (g : ℕ). OneOfSix digest s (output g)) (ap (λ (st : Step). st .after .finalized) q) itOutputs)
       (λ _ _ _ _. itPasses _ _) (λ _ _ _ _ _. itProposes) (λ _ _ _ _ _ _. itVotesBlock) (λ _ _ _ _ _ _. itIdles) refl
 
-  makes : {st : Step} {move : Move} → step digest s .move ≡ move → step digest s ≡ st → Makes digest s move (st .frames) (st .after)
+  makes : {st : Step} {move : Move} → step digest s .move ≡ move → step digest s ≡ st →
+      Makes digest s move (st .frames) (st .after)
   makes e q = record { answers = e; writes = ap (λ (x : Step). x .frames) q; leaves = ap (λ (x : Step). x .after) q }
 
   running : isRunning s ≡ true → Running digest s
@@ -105,22 +118,33 @@ module _ (digest : Bytes → Bytes) (s : State) where
 
   pub dummy-blocks : DummyBlocks digest s
   unfolding DummyBlocks dummyVoteStep
-  dummy-blocks = (((λ e. dummy-when (took e .0)), λ q. dummy-move (step-dummy (dummy-applies q))), λ e. makes e (took e .1))
+  dummy-blocks = (
+    ((λ e. dummy-when (took e .0)), λ q. dummy-move (step-dummy (dummy-applies q))),
+    λ e. makes e (took e .1),
+  )
     where
-      took : step digest s .move ≡ voteDummy (s .current) → (dummyVoteApplies s ≡ true) × (step digest s ≡ dummyVoteStep s)
+      took : step digest s .move ≡ voteDummy (s .current) →
+          (dummyVoteApplies s ≡ true) × (step digest s ≡ dummyVoteStep s)
       took e = unfold Taken in taken (voteDummy (s .current)) e
 
   -- a blockchain that ends in a block is one
   with-block : {h : ℕ} → SeenWithBlock digest (view s) h → SeenOfHeight digest (view s) h
   unfolding height
-  with-block q = record { sequence = addBlock (q .parent) (q .block); notarized = q .notarized; its-height = q .its-height }
+  with-block q = record {
+    sequence = addBlock (q .parent) (q .block);
+    notarized = q .notarized;
+    its-height =
+        q .its-height;
+  }
 
   -- one more dummy
-  with-dummy : (h : ℕ) → isDummy (view s) (suc h) ≡ true → SeenOfHeight digest (view s) h → SeenOfHeight digest (view s) (suc h)
+  with-dummy : (h : ℕ) → isDummy (view s) (suc h) ≡ true → SeenOfHeight digest (view s) h →
+      SeenOfHeight digest (view s) (suc h)
   unfolding height isDummy
   with-dummy h e q = record {
     sequence = addDummy (q .sequence);
-    notarized = NotarizedBlockchain.dummyNext (q .notarized) (subst (λ (k : ℕ). quorum (view s) (view s .dummyMask (suc k)) ≡ true) (sym (q .its-height)) e);
+    notarized = NotarizedBlockchain.dummyNext (q .notarized)
+        (subst (λ (k : ℕ). quorum (view s) (view s .dummyMask (suc k)) ≡ true) (sym (q .its-height)) e);
     its-height = ap suc (q .its-height);
   }
 
@@ -136,7 +160,8 @@ module _ (digest : Bytes → Bytes) (s : State) where
     parent-seen : (h : ℕ) → (isSome (parentOf digest (view s) h) ≡ true) ↔ SeenOfHeight digest (view s) h
     parent-seen h = unfold ParentIsSeen in terms .parent-is h
 
-    finalized-seen : (h : ℕ) → 1 ≤ h → (isFinalized digest (view s) h ≡ true) ↔ (SeenWithBlock digest (view s) h × Finalization (view s) h)
+    finalized-seen : (h : ℕ) → 1 ≤ h → (isFinalized digest (view s) h ≡ true) ↔
+        (SeenWithBlock digest (view s) h × Finalization (view s) h)
     finalized-seen h low = unfold FinalizedIsSeen in terms .finalized-is h low
 
     -- ---- step 5
@@ -144,20 +169,26 @@ module _ (digest : Bytes → Bytes) (s : State) where
     unfolding newFinalized
     largest = largestFinalized-is digest (view s) (last s)
 
-    output-seen : outputApplies digest s ≡ true → (s .finalized < newFinalized digest s) × SeenWithBlock digest (view s) (newFinalized digest s) × Finalization (view s) (newFinalized digest s)
+    output-seen : outputApplies digest s ≡ true →
+        (s .finalized < newFinalized digest s) × SeenWithBlock digest (view s) (newFinalized digest s) × Finalization
+        (view s) (newFinalized digest s)
     unfolding outputApplies
     output-seen e = go (largest .finalized)
       where
         above : s .finalized < newFinalized digest s
         above = ltb-true _ _ e
 
-        go : (newFinalized digest s ≡ 0) ⊎ Finalized digest (view s) (newFinalized digest s) → (s .finalized < newFinalized digest s) × SeenWithBlock digest (view s) (newFinalized digest s) × Finalization (view s) (newFinalized digest s)
+        go : (newFinalized digest s ≡ 0) ⊎ Finalized digest (view s) (newFinalized digest s) →
+            (s .finalized < newFinalized digest s) × SeenWithBlock digest (view s)
+            (newFinalized digest s) × Finalization (view s) (newFinalized digest s)
         go (inl z) = absurd (let a = above in omega arith)
         go (inr f) =
-            let q = finalized-seen (newFinalized digest s) (let a = above in omega arith) .0 (finalized-complete digest (view s) (newFinalized digest s) f) in
+            let q = finalized-seen (newFinalized digest s) (let a = above in omega arith) .0
+            (finalized-complete digest (view s) (newFinalized digest s) f) in
             (above, q .0, q .1)
 
-    not-above : (h : ℕ) → 1 ≤ h → h ≤ last s → SeenWithBlock digest (view s) h → Finalization (view s) h → h ≤ newFinalized digest s
+    not-above : (h : ℕ) → 1 ≤ h → h ≤ last s → SeenWithBlock digest (view s) h → Finalization (view s) h →
+        h ≤ newFinalized digest s
     not-above h low high seen final =
         largest .most h low high (finalized-sound digest (view s) h (finalized-seen h low .1 (seen, final)))
 
@@ -167,7 +198,8 @@ module _ (digest : Bytes → Bytes) (s : State) where
         let q = not-above h (omega arith) high seen final in
         lt-ltb (s .finalized) (newFinalized digest s) (omega arith)
 
-    took-output : (g : ℕ) → step digest s .move ≡ output g → (outputApplies digest s ≡ true) × (newFinalized digest s ≡ g) × (step digest s ≡ outputStep digest s)
+    took-output : (g : ℕ) → step digest s .move ≡ output g →
+        (outputApplies digest s ≡ true) × (newFinalized digest s ≡ g) × (step digest s ≡ outputStep digest s)
     unfolding Taken
     took-output g e =
         let (b, q) = taken (output g) e in
@@ -180,10 +212,20 @@ module _ (digest : Bytes → Bytes) (s : State) where
 
     pub finalized-outputs : FinalizedOutputs digest s
     unfolding FinalizedOutputs outputStep
-    finalized-outputs no-vote = ((forth, λ q. (newFinalized digest s, output-move (step-output no-vote (output-applies q)))), kept)
+    finalized-outputs no-vote = (
+      (
+        forth,
+        λ q. (
+          newFinalized digest s,
+          output-move (step-output no-vote (output-applies q)),
+        ),
+      ),
+      kept,
+    )
       where
         forth : (g : ℕ) × (step digest s .move ≡ output g) → MayOutput digest s
-        forth (g, e) = let q = output-seen (took-output g e .0) in (newFinalized digest s, q .0, largest .within, q .1, q .2)
+        forth (g, e) = let q = output-seen (took-output g e .0) in
+            (newFinalized digest s, q .0, largest .within, q .1, q .2)
 
         kept : (g : ℕ) → step digest s .move ≡ output g →
             SeenWithBlock digest (view s) g × Finalization (view s) g ×
@@ -201,41 +243,53 @@ module _ (digest : Bytes → Bytes) (s : State) where
     pass-seen : passApplies digest s ≡ true → MayPass digest s
     unfolding passApplies
     pass-seen e =
-        let q = and-true (isRunning s) (passesAt digest (view s) (s .current)) e in
-        (running (q .0), go (or-true (linked digest (view s) (s .current)) (isDummy (view s) (s .current) && isSome (parentBelow digest s)) (q .1)))
+        let q = and-true (isRunning s) (passesAt digest (view s) (s .current)) e in (
+          running (q .0),
+          go (or-true (linked digest (view s) (s .current))
+              (isDummy (view s) (s .current) && isSome (parentBelow digest s)) (q .1)),
+        )
       where
-        go : (linked digest (view s) (s .current) ≡ true) ⊎ ((isDummy (view s) (s .current) && isSome (parentBelow digest s)) ≡ true) → SeenOfHeight digest (view s) (s .current)
+        go : (linked digest (view s) (s .current) ≡ true) ⊎
+            ((isDummy (view s) (s .current) && isSome (parentBelow digest s)) ≡ true) →
+            SeenOfHeight digest (view s) (s .current)
         go (inl l) = with-block (linked-seen (s .current) (sound .current-low) .0 l)
         go (inr d) =
             let both = and-true (isDummy (view s) (s .current)) (isSome (parentBelow digest s)) d in
             let below = parent-seen (s .current - 1) .0 (both .1) in
-            subst (λ (c : ℕ). SeenOfHeight digest (view s) c) before (with-dummy (s .current - 1) (subst (λ (c : ℕ). isDummy (view s) c ≡ true) (sym before) (both .0)) below)
+            subst (λ (c : ℕ). SeenOfHeight digest (view s) c) before
+            (with-dummy (s .current - 1) (subst (λ (c : ℕ). isDummy (view s) c ≡ true) (sym before) (both .0))
+            below)
 
     pass-applies : Running digest s → SeenOfHeight digest (view s) (s .current) → passApplies digest s ≡ true
     unfolding passApplies height isDummy
     pass-applies r q = true-and _ _ (is-running r) (go (q .notarized) (q .its-height))
       where
-        on-dummy : {c : Sequence} → NotarizedBlockchain digest (view s) c → isDummy (view s) (suc (height c)) ≡ true → suc (height c) ≡ s .current →
+        on-dummy : {c : Sequence} → NotarizedBlockchain digest (view s) c → isDummy (view s) (suc (height c)) ≡ true →
+            suc (height c) ≡ s .current →
             passesAt digest (view s) (s .current) ≡ true
         on-dummy {c} n d e =
             let some-below : isSome (parentBelow digest s) ≡ true =
             parent-seen (s .current - 1) .1 (record { sequence = c; notarized = n; its-height = omega arith }) in
-            or-right (linked digest (view s) (s .current)) (true-and _ _ (subst (λ (h : ℕ). isDummy (view s) h ≡ true) e d) some-below)
+            or-right (linked digest (view s) (s .current))
+            (true-and _ _ (subst (λ (h : ℕ). isDummy (view s) h ≡ true) e d) some-below)
 
         go : {c : Sequence} → NotarizedBlockchain digest (view s) c → height c ≡ s .current →
             passesAt digest (view s) (s .current) ≡ true
         go NotarizedBlockchain.start e = absurd (let low = sound .current-low in omega arith)
         go (NotarizedBlockchain.dummyNext n d) e = on-dummy n d e
         go (NotarizedBlockchain.blockNext {c = c} {b = b} n f k) e =
-            let l = linked-seen (s .current) (sound .current-low) .1 (record { parent = c; block = b; notarized = NotarizedBlockchain.blockNext n f k; its-height = e }) in
+            let l = linked-seen (s .current) (sound .current-low) .1
+            (record { parent = c; block = b; notarized = NotarizedBlockchain.blockNext n f k; its-height = e }) in
             rw l
 
-    step-pass : dummyVoteApplies s ≡ false → outputApplies digest s ≡ false → passApplies digest s ≡ true → step digest s ≡ passStep digest s
+    step-pass : dummyVoteApplies s ≡ false → outputApplies digest s ≡ false → passApplies digest s ≡ true →
+        step digest s ≡ passStep digest s
     unfolding step firstStep
     step-pass e e′ e″ = rw (e, e′, e″)
 
     -- a pass, by whether the height is linked
-    pass-made : step digest s ≡ passStep digest s → (l : Bool) → linked digest (view s) (s .current) ≡ l → Makes digest s
+    pass-made : step digest s ≡ passStep digest s → (l : Bool) → linked digest (view s) (s .current) ≡ l →
+        Makes digest s
         (pass (s .current) (cond l onBlock onDummy) (not (flag 1 s)))
         (Sent digest s (cond l onBlock onDummy) ∷ cond (not (flag 1 s)) (finalize (s .own) (s .current) ∷ []) [])
         (withHead s 0 (s .current + 1) (s .finalized))
@@ -261,7 +315,10 @@ module _ (digest : Bytes → Bytes) (s : State) where
     pub next-iteration : NextIteration digest s
     unfolding NextIteration
     next-iteration no-vote no-output = (
-      ((λ q. pass-seen (unfold Taken in taken (pass (s .current) (q .0) (q .1)) (q .2) .0)), λ q. (_, _, pass-move (passing (q .0) (q .1)))),
+      (
+        (λ q. pass-seen (unfold Taken in taken (pass (s .current) (q .0) (q .1)) (q .2) .0)),
+        λ q. (_, _, pass-move (passing (q .0) (q .1))),
+      ),
       (λ r seen. pass-made (passing r (with-block seen)) true (linked-seen (s .current) (sound .current-low) .1 seen)),
       λ r seen never. pass-made (passing r seen) false (not-linked never),
     )
@@ -271,12 +328,15 @@ module _ (digest : Bytes → Bytes) (s : State) where
 
     -- ---- step 3
     extends-seen : holdsProposal (at s (s .current)) ≡ true → Running digest s →
-        (extends digest (view s) (s .current) (at s (s .current) .proposal) ≡ true) ↔ ParentOf digest (view s) (s .current - 1) (at s (s .current) .proposal)
+        (extends digest (view s) (s .current) (at s (s .current) .proposal) ≡ true) ↔ ParentOf digest (view s)
+        (s .current - 1) (at s (s .current) .proposal)
     unfolding ExtendsIsFollowing blockWellFormed
     extends-seen held r =
         let formed = sound .each (s .current) (sound .current-low) r .proposal-formed held in
-        let its : blockHeight (at s (s .current) .proposal) ≡ suc (s .current - 1) = eqb-true _ _ (row _ 1 formed) ∙ sym before in
-        subst (λ (c : ℕ). (extends digest (view s) c (at s (s .current) .proposal) ≡ true) ↔ ParentOf digest (view s) (s .current - 1) (at s (s .current) .proposal)) before
+        let its : blockHeight (at s (s .current) .proposal) ≡ suc (s .current - 1) = eqb-true _ _ (row _ 1 formed)
+        ∙ sym before in
+        subst (λ (c : ℕ). (extends digest (view s) c (at s (s .current) .proposal) ≡ true) ↔ ParentOf digest (view s)
+        (s .current - 1) (at s (s .current) .proposal)) before
         (terms .extends-is (s .current - 1) (at s (s .current) .proposal) its)
 
     block-when : blockVoteApplies digest s ≡ true → MayVoteBlock digest s
@@ -288,32 +348,44 @@ module _ (digest : Bytes → Bytes) (s : State) where
     block-applies : MayVoteBlock digest s → blockVoteApplies digest s ≡ true
     unfolding blockVoteApplies
     block-applies (r, f, held, q) =
-        all-of (Every.one (is-running r) (Every.one (rw f) (Every.one held (Every.one (extends-seen held r .1 q) Every.none))))
+        all-of (Every.one (is-running r) (Every.one (rw f)
+        (Every.one held (Every.one (extends-seen held r .1 q) Every.none))))
 
-    step-block : dummyVoteApplies s ≡ false → outputApplies digest s ≡ false → passApplies digest s ≡ false → proposeApplies digest s ≡ false → blockVoteApplies digest s ≡ true →
+    step-block : dummyVoteApplies s ≡ false → outputApplies digest s ≡ false → passApplies digest s ≡ false →
+        proposeApplies digest s ≡ false → blockVoteApplies digest s ≡ true →
         step digest s ≡ blockVoteStep digest s
     unfolding step firstStep
     step-block e1 e2 e3 e4 e5 = rw (e1, e2, e3, e4, e5)
 
     pub notarizing-proposals : NotarizingProposals digest s
     unfolding NotarizingProposals blockVoteStep
-    notarizing-proposals e1 e2 e3 e4 =
-        (((λ e. block-when (took e .0)), λ q. block-move (step-block e1 e2 e3 e4 (block-applies q))), λ e. makes e (took e .1))
+    notarizing-proposals e1 e2 e3 e4 = (
+      ((λ e. block-when (took e .0)), λ q. block-move (step-block e1 e2 e3 e4 (block-applies q))),
+      λ e. makes e (took e .1),
+    )
       where
-        took : step digest s .move ≡ voteBlock (s .current) → (blockVoteApplies digest s ≡ true) × (step digest s ≡ blockVoteStep digest s)
+        took : step digest s .move ≡ voteBlock (s .current) →
+            (blockVoteApplies digest s ≡ true) × (step digest s ≡ blockVoteStep digest s)
         took e = unfold Taken in taken (voteBlock (s .current)) e
 
     -- ---- step 1
     propose-when : proposeApplies digest s ≡ true → MayPropose digest s
     unfolding proposeApplies
-    propose-when e = (running (row _ 0 e), eqb-true _ _ (row _ 1 e), not-true (flag 8 s) (row _ 2 e), parent-seen (s .current - 1) .0 (row _ 3 e))
+    propose-when e = (
+      running (row _ 0 e),
+      eqb-true _ _ (row _ 1 e),
+      not-true (flag 8 s) (row _ 2 e),
+      parent-seen (s .current - 1) .0 (row _ 3 e),
+    )
 
     propose-applies : MayPropose digest s → proposeApplies digest s ≡ true
     unfolding proposeApplies
     propose-applies (r, l, f, q) =
-        all-of (Every.one (is-running r) (Every.one (eq-eqb _ _ l) (Every.one (rw f) (Every.one (parent-seen (s .current - 1) .1 q) Every.none))))
+        all-of (Every.one (is-running r) (Every.one (eq-eqb _ _ l)
+        (Every.one (rw f) (Every.one (parent-seen (s .current - 1) .1 q) Every.none))))
 
-    step-propose : dummyVoteApplies s ≡ false → outputApplies digest s ≡ false → passApplies digest s ≡ false → proposeApplies digest s ≡ true → step digest s ≡ proposeStep digest s
+    step-propose : dummyVoteApplies s ≡ false → outputApplies digest s ≡ false → passApplies digest s ≡ false →
+        proposeApplies digest s ≡ true → step digest s ≡ proposeStep digest s
     unfolding step firstStep
     step-propose e1 e2 e3 e4 = rw (e1, e2, e3, e4)
 
@@ -355,17 +427,22 @@ module _ (digest : Bytes → Bytes) (s : State) where
         parent = chain .sequence;
         notarized = chain .notarized;
         its-height = ap suc (chain .its-height) ∙ before;
-        longest = λ c n h. subst (λ (k : ℕ). lastBlock c ≤ k) (sym (chain .its-last)) (both .1 c n (h ∙ chain .its-height));
+        longest = λ c n h. subst (λ (k : ℕ). lastBlock c ≤ k) (sym (chain .its-last))
+            (both .1 c n (h ∙ chain .its-height));
         follows = record {
           its-height = new-block-height c j d es ∙ sym before ∙ ap suc (sym (chain .its-height));
           its-parent = new-block-parent c j d es ∙ sym (chain .its-last);
-          its-digest = digest-back c j d es below (digest-at-size digest (view s) digest-size j) (digest-at-start digest (view s) j) few sized ∙ sym (chain .its-digest);
+          its-digest = digest-back c j d es below (digest-at-size digest (view s) digest-size j)
+              (digest-at-start digest (view s) j) few sized ∙ sym (chain .its-digest);
         };
-        its-entries = entries-back c j d es below (digest-at-size digest (view s) digest-size j) (digest-at-start digest (view s) j) few sized ∙ offered-is;
-        formed = new-block-good c j d es below (digest-at-size digest (view s) digest-size j) (digest-at-start digest (view s) j) few sized short;
+        its-entries = entries-back c j d es below (digest-at-size digest (view s) digest-size j)
+            (digest-at-start digest (view s) j) few sized ∙ offered-is;
+        formed = new-block-good c j d es below (digest-at-size digest (view s) digest-size j)
+            (digest-at-start digest (view s) j) few sized short;
       }
         where
-          both : ChainEndingAt digest (view s) (s .current - 1) j × ((c : Sequence) → NotarizedBlockchain digest (view s) c → height c ≡ s .current - 1 → lastBlock c ≤ j)
+          both : ChainEndingAt digest (view s) (s .current - 1)
+              j × ((c : Sequence) → NotarizedBlockchain digest (view s) c → height c ≡ s .current - 1 → lastBlock c ≤ j)
           both = terms .parent-largest (s .current - 1) j e
 
           chain : ChainEndingAt digest (view s) (s .current - 1) j
@@ -387,7 +464,8 @@ module _ (digest : Bytes → Bytes) (s : State) where
           sized = offered-sized digest s sound j
 
           below : j < c
-          below = let low = sound .current-low in let within = parent-some digest (view s) (s .current - 1) j e .0 .within in omega arith
+          below = let low = sound .current-low in
+              let within = parent-some digest (view s) (s .current - 1) j e .0 .within in omega arith
 
           short : c < 256
           short = let most = sound .last-high in let near = sound .current-high in omega arith
@@ -395,11 +473,13 @@ module _ (digest : Bytes → Bytes) (s : State) where
           offered-is : offered s j ≡ chosen (without (linearize (chain .sequence)) (pending s))
           offered-is = unfold offered in ap (λ (l : List Bytes). chosen (without l (pending s))) (sym (chain .its-log))
 
-      proposed : proposeApplies digest s ≡ true → Offers digest s (proposedBlock digest s (someOr 0 (parentBelow digest s)))
+      proposed : proposeApplies digest s ≡ true →
+          Offers digest s (proposedBlock digest s (someOr 0 (parentBelow digest s)))
       unfolding proposeApplies someOr
       proposed e = go (parentBelow digest s) refl (row _ 3 e)
         where
-          go : (o : Option ℕ) → parentBelow digest s ≡ o → isSome o ≡ true → Offers digest s (proposedBlock digest s (someOr 0 o))
+          go : (o : Option ℕ) → parentBelow digest s ≡ o → isSome o ≡ true →
+              Offers digest s (proposedBlock digest s (someOr 0 o))
           go none q z = absurd (false≢true (unfold isSome in z))
           go (some j) q z = offers j q
 
@@ -410,11 +490,13 @@ module _ (digest : Bytes → Bytes) (s : State) where
         λ e. (proposedBlock digest s (someOr 0 (parentBelow digest s)), proposed (took e .0), makes e (took e .1)),
       )
         where
-          took : step digest s .move ≡ propose (s .current) → (proposeApplies digest s ≡ true) × (step digest s ≡ proposeStep digest s)
+          took : step digest s .move ≡ propose (s .current) →
+              (proposeApplies digest s ≡ true) × (step digest s ≡ proposeStep digest s)
           took e = unfold Taken in taken (propose (s .current)) e
 
 -- the five steps, for every sound state and every digest of 32 bytes
-pub five-steps : (digest : Bytes → Bytes) → ((block : Bytes) → length (digest block) ≡ 32) → (s : State) → SoundState digest s → FiveSteps digest s
+pub five-steps : (digest : Bytes → Bytes) → ((block : Bytes) → length (digest block) ≡ 32) → (s : State) →
+    SoundState digest s → FiveSteps digest s
 five-steps digest size s sound =
     let terms = in-the-papers-terms digest s sound in
     record {

@@ -1,4 +1,5 @@
--- A block that is put together of a parent and entries: it is well formed, and its fields are those that it was made of.
+-- A block that is put together of a parent and entries: it is well formed, and its fields are those that it was made
+-- of.
 use Prim.Native.Nat.{ℕ, _+_, _-_, _*_, _/_, _≤_, _<_}
 use native.Mathlib.Omega.{arith}
 use mathlib.Core.Path.{_≡_, refl, sym, ap, _∙_}
@@ -10,20 +11,24 @@ use lib.Dec.{eqb}
 use borrow.Author.Tests.{eq-eqb, lt-ltb, le-leb, eqb-true}
 use Rattle.protocol.specs.Every.{Every, none, one}
 use Rattle.protocol.specs.Bytes.{Bytes, word16, le16, part, zeros, isZero, all, join, pieces, Sized}
-use Rattle.protocol.specs.Block.{blockHeight, parentHeight, entryCount, parentDigest, entries, blockWellFormed, newBlock}
+use Rattle.protocol.specs.Block.{blockHeight, parentHeight, entryCount, parentDigest, entries, blockWellFormed}
+use Rattle.protocol.specs.Block.{newBlock}
 use Rattle.protocol.specs.Laws.PiecesLaws.{pieces-join, length-join}
 use Rattle.protocol.specs.Laws.RowLaws.{all-of, true-implies, zeros-is-zero}
 use Rattle.protocol.specs.Laws.BytesLaws.{length-zeros, word16-le16}
 
-pub new-block-size : (h parent : ℕ) (digest : Bytes) (es : List Bytes) → length digest ≡ 32 → Every (Sized 16) es → length es ≤ 8 → length (newBlock h parent digest es) ≡ 176
+pub new-block-size : (h parent : ℕ) (digest : Bytes) (es : List Bytes) → length digest ≡ 32 → Every (Sized 16) es →
+    length es ≤ 8 → length (newBlock h parent digest es) ≡ 176
 unfolding newBlock le16
-new-block-size h parent digest es size sized few = simp (length-append, length-zeros, length-join 16 es sized, size) (omega arith)
+new-block-size h parent digest es size sized few =
+    simp (length-append, length-zeros, length-join 16 es sized, size) (omega arith)
 
 pub new-block-height : (h parent : ℕ) (digest : Bytes) (es : List Bytes) → blockHeight (newBlock h parent digest es) ≡ h
 unfolding blockHeight newBlock word16 le16
 new-block-height h parent digest es = word16-le16 h
 
-pub new-block-parent : (h parent : ℕ) (digest : Bytes) (es : List Bytes) → parentHeight (newBlock h parent digest es) ≡ parent
+pub new-block-parent : (h parent : ℕ) (digest : Bytes) (es : List Bytes) →
+    parentHeight (newBlock h parent digest es) ≡ parent
 unfolding parentHeight newBlock word16 le16
 new-block-parent h parent digest es = word16-le16 parent
 
@@ -49,7 +54,8 @@ module _ (h parent : ℕ) (digest : Bytes) (es : List Bytes)
   entries-from = drop-at digest (join es ++ tail) 32 digest-size
 
   rest : drop (48 + 16 * length es) block ≡ tail
-  rest = sym (drop-drop (16 * length es) 48 block) ∙ rw entries-from (drop-at (join es) tail (16 * length es) (length-join 16 es sized))
+  rest = sym (drop-drop (16 * length es) 48 block)
+      ∙ rw entries-from (drop-at (join es) tail (16 * length es) (length-join 16 es sized))
 
   pub entries-back : entries block ≡ es
   unfolding entries entryCount newBlock le16
@@ -69,5 +75,6 @@ module _ (h parent : ℕ) (digest : Bytes) (es : List Bytes)
       (one (eq-eqb (parent / 256) 0 (omega arith))
       (one (le-leb (length es) 8 few)
       (one eleven-zeros
-      (one (true-implies (eqb (parentHeight block) 0) _ (λ e. ap isZero digest-back ∙ from-start (sym back ∙ eqb-true (parentHeight block) 0 e)))
+      (one (true-implies (eqb (parentHeight block) 0) _
+      (λ e. ap isZero digest-back ∙ from-start (sym back ∙ eqb-true (parentHeight block) 0 e)))
       (one (ap isZero rest ∙ zeros-is-zero (128 - 16 * length es)) none)))))))))

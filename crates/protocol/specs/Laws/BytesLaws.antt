@@ -8,8 +8,11 @@ use mathlib.Core.Logic.{_⊎_, inl, inr}
 use mathlib.Core.Bool.{true}
 use mathlib.Core.List.{[], _∷_, _++_, append-assoc, append-nil}
 use lib.Dec.{lit<}
-use lib.ListN.{length, take, drop, set, length-append, length-take, length-drop, length-replicate, drop-of-length-le, replicate-append-replicate, List·getD-append}
-use lib.Seq.{paste, take-length, take-take, take-append-le, take-append-add, take-append-seam, drop-at, drop-cons, drop-drop, drop-append-add, drop-append-le, getD-drop, getD-take, getD-append-add, set-append-left, set-split, sets-eq, length-take-le}
+use lib.ListN.{length, take, drop, set, length-append, length-take, length-drop, length-replicate, drop-of-length-le}
+use lib.ListN.{replicate-append-replicate, List·getD-append}
+use lib.Seq.{paste, take-length, take-take, take-append-le, take-append-add, take-append-seam, drop-at, drop-cons}
+use lib.Seq.{drop-drop, drop-append-add, drop-append-le, getD-drop, getD-take, getD-append-add, set-append-left}
+use lib.Seq.{set-split, sets-eq, length-take-le}
 use Rattle.protocol.specs.Bytes.{Bytes, byteAt, word16, le16, part, zeros, isZero, AreBytes, put}
 use Rattle.protocol.specs.Laws.RowLaws.{is-zero-zeros}
 
@@ -74,7 +77,8 @@ pub part-part : (bytes : Bytes) (i k j m : ℕ) → j + m ≤ k → part (part b
 unfolding part
 part-part bytes i k j m h = take-drop m k j (drop i bytes) (omega arith) ∙ rw drop-drop
 
-pub zero-part : (bytes : Bytes) (i k : ℕ) → i + k ≤ length bytes → isZero (part bytes i k) ≡ true → part bytes i k ≡ zeros k
+pub zero-part : (bytes : Bytes) (i k : ℕ) → i + k ≤ length bytes → isZero (part bytes i k) ≡ true →
+    part bytes i k ≡ zeros k
 zero-part bytes i k h e = is-zero-zeros (part bytes i k) e ∙ ap zeros (length-part bytes i k h)
 
 -- ---- bytes spelled out
@@ -86,9 +90,11 @@ pub spell : (k i : ℕ) (bytes : Bytes) → i + k ≤ length bytes → drop i by
 spell zero i bytes h = rw add-zero
 spell (suc k) i bytes h =
     let e : i + suc k ≡ suc i + k = omega arith in
-    rw (drop-cons bytes i 0 (omega arith), e) (ap (λ (l : Bytes). byteAt bytes i ∷ l) (spell k (suc i) bytes (omega arith)))
+    rw (drop-cons bytes i 0 (omega arith), e) (ap (λ (l : Bytes). byteAt bytes i ∷ l)
+    (spell k (suc i) bytes (omega arith)))
 
-pub length-put : (bytes : Bytes) (i : ℕ) (new : Bytes) → i + length new ≤ length bytes → length (put bytes i new) ≡ length bytes
+pub length-put : (bytes : Bytes) (i : ℕ) (new : Bytes) → i + length new ≤ length bytes →
+    length (put bytes i new) ≡ length bytes
 unfolding put
 length-put bytes i new h = simp (length-append, length-take, length-drop) (omega arith)
 
@@ -97,7 +103,8 @@ unfolding put
 put-front old rest new e = rw (zero-add, drop-at old rest (length new) e)
 
 -- bytes after a front part
-pub put-at : (front rest new : Bytes) (k : ℕ) → length front ≡ k → put (front ++ rest) k new ≡ front ++ (new ++ drop (length new) rest)
+pub put-at : (front rest new : Bytes) (k : ℕ) → length front ≡ k →
+    put (front ++ rest) k new ≡ front ++ (new ++ drop (length new) rest)
 unfolding put
 put-at front rest new k size = rw (← size, take-append-seam, drop-append-add)
 
@@ -111,20 +118,24 @@ unfolding put
 put-all old new e = rw (zero-add, drop-of-length-le old {i = length new} (omega arith)) (append-nil new)
 
 -- bytes past a front part
-pub put-after : (front rest : Bytes) (k : ℕ) → length front ≡ k → (j : ℕ) (new : Bytes) → put (front ++ rest) (k + j) new ≡ front ++ put rest j new
+pub put-after : (front rest : Bytes) (k : ℕ) → length front ≡ k → (j : ℕ) (new : Bytes) →
+    put (front ++ rest) (k + j) new ≡ front ++ put rest j new
 unfolding put
 put-after front rest k size j new =
-    rw (← size, take-append-add, add-assoc (length front) j (length new), drop-append-add) (append-assoc front (take j rest) (new ++ drop (j + length new) rest))
+    rw (← size, take-append-add, add-assoc (length front) j (length new), drop-append-add)
+    (append-assoc front (take j rest) (new ++ drop (j + length new) rest))
 
 -- one byte, and the two bytes of a number
 pub put-byte : (bytes : Bytes) (i v : ℕ) → i < length bytes → put bytes i (v ∷ []) ≡ set bytes i v
 unfolding put
 put-byte bytes i v h = rw (add-one i) (sym (set-split bytes i v h))
 
-pub put-word : (bytes : Bytes) (i v : ℕ) → i + 1 < length bytes → put bytes i (le16 v) ≡ set (set bytes i (v % 256)) (i + 1) (v / 256)
+pub put-word : (bytes : Bytes) (i v : ℕ) → i + 1 < length bytes →
+    put bytes i (le16 v) ≡ set (set bytes i (v % 256)) (i + 1) (v / 256)
 unfolding put le16
 put-word bytes i v h =
-    rw (add-one i) (sym (sets-eq (v % 256 ∷ v / 256 ∷ []) bytes i (omega arith) ∙ append-assoc (take i bytes) (v % 256 ∷ v / 256 ∷ []) (drop (i + 2) bytes)))
+    rw (add-one i) (sym (sets-eq (v % 256 ∷ v / 256 ∷ []) bytes i (omega arith)
+    ∙ append-assoc (take i bytes) (v % 256 ∷ v / 256 ∷ []) (drop (i + 2) bytes)))
 
 set-append-add : (xs ys : Bytes) (i v : ℕ) → set (xs ++ ys) (length xs + i) v ≡ xs ++ set ys i v
 set-append-add [] ys i v = rw zero-add
@@ -139,10 +150,12 @@ module _ (front middle back : Bytes) (k : ℕ) (size : length front ≡ k) where
       let h₂ : m ≤ length (drop j middle) = rw length-drop (omega arith) in
       rw (← size, drop-append-add, drop-append-le j middle back h₁, take-append-le m (drop j middle) back h₂)
 
-  pub middle-set : (j v : ℕ) → j < length middle → set (front ++ (middle ++ back)) (k + j) v ≡ front ++ (set middle j v ++ back)
+  pub middle-set : (j v : ℕ) → j < length middle →
+      set (front ++ (middle ++ back)) (k + j) v ≡ front ++ (set middle j v ++ back)
   middle-set j v h = rw (← size, set-append-add, set-append-left)
 
-  pub middle-put : (j : ℕ) (new : Bytes) → j + length new ≤ length middle → put (front ++ (middle ++ back)) (k + j) new ≡ front ++ (put middle j new ++ back)
+  pub middle-put : (j : ℕ) (new : Bytes) → j + length new ≤ length middle →
+      put (front ++ (middle ++ back)) (k + j) new ≡ front ++ (put middle j new ++ back)
   unfolding put
   middle-put j new h =
       let h₁ : j ≤ length middle = omega arith in

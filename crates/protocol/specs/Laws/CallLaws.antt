@@ -16,7 +16,9 @@ use Rattle.protocol.specs.Submit.{submitCall, submitRows}
 use Rattle.protocol.specs.Read.{readPart}
 use Rattle.protocol.specs.Certificates.{certificateFrame}
 use Rattle.protocol.specs.Fetch.{fetchCall, fetchRows, unlessFetchRefused}
-use Rattle.protocol.specs.Call.{Call, Effect, Opened, opening, delivery, moving, signalling, submitting, sizing, reading, fetching, effect, leaves, ofDelivery, ofFetch, ofMove, ofOpening, ofOutcome}
+use Rattle.protocol.specs.Call.{Call, Effect, Opened, opening, delivery, moving, signalling, submitting, sizing}
+use Rattle.protocol.specs.Call.{reading, fetching, effect, leaves, ofDelivery, ofFetch, ofMove, ofOpening}
+use Rattle.protocol.specs.Call.{ofOutcome}
 
 module _ (digest : Bytes → Bytes) (book : Bytes) where
   -- an effect that is nothing, if the call was refused

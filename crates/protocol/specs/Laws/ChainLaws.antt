@@ -27,24 +27,33 @@ module _ (digest : Bytes → Bytes) (v : View) where
   same-chain (suc f) (suc g) (suc i) e p q =
       let (has, parent, on) = linked-parent digest v i e in
       let lower = on .below in
-      rw (chain-step f v i, chain-step g v i, same-chain f g (parentHeight (v .block (suc i))) parent (omega arith) (omega arith))
+      rw (
+        chain-step f v i,
+        chain-step g v i,
+        same-chain f g (parentHeight (v .block (suc i))) parent (omega arith)
+            (omega arith),
+      )
 
   pub chain-within : (f h : ℕ) → linked digest v h ≡ true → h ≤ f → chainWithin f v h ≡ chain v h
   unfolding chain
   chain-within f h e p = same-chain f h h e p (omega arith)
 
-  pub chain-suc : (i : ℕ) → linked digest v (suc i) ≡ true → chain v (suc i) ≡ chain v (parentHeight (v .block (suc i))) ++ (v .block (suc i) ∷ [])
+  pub chain-suc : (i : ℕ) → linked digest v (suc i) ≡ true →
+      chain v (suc i) ≡ chain v (parentHeight (v .block (suc i))) ++ (v .block (suc i) ∷ [])
   chain-suc i e =
       let (has, parent, on) = linked-parent digest v i e in
       let lower = on .below in
-      unfold chain in chain-step i v i ∙ ap (λ (c : List Bytes). c ++ (v .block (suc i) ∷ [])) (chain-within i (parentHeight (v .block (suc i))) parent (omega arith))
+      unfold chain in chain-step i v i ∙ ap (λ (c : List Bytes). c ++ (v .block (suc i) ∷ []))
+      (chain-within i (parentHeight (v .block (suc i))) parent (omega arith))
 
-  pub log-suc : (i : ℕ) → linked digest v (suc i) ≡ true → logAt v (suc i) ≡ logAt v (parentHeight (v .block (suc i))) ++ entries (v .block (suc i))
+  pub log-suc : (i : ℕ) → linked digest v (suc i) ≡ true →
+      logAt v (suc i) ≡ logAt v (parentHeight (v .block (suc i))) ++ entries (v .block (suc i))
   unfolding logAt
   log-suc i e =
       let p = chain v (parentHeight (v .block (suc i))) in
       let b = v .block (suc i) in
-      ap allEntries (chain-suc i e) ∙ allEntries-append p (b ∷ []) ∙ ap (λ (x : List Bytes). allEntries p ++ x) (allEntries-one b)
+      ap allEntries (chain-suc i e) ∙ allEntries-append p (b ∷ [])
+      ∙ ap (λ (x : List Bytes). allEntries p ++ x) (allEntries-one b)
 
 -- ---- sizes
 -- a well-formed block has room for the entries that it counts
@@ -65,10 +74,12 @@ entries-count h block e =
     let n = length-pieces 16 (entryCount block) (drop 48 block) in
     omega arith
 
-module _ (digest : Bytes → Bytes) (v : View) (formed : (h : ℕ) → 1 ≤ h → v .hasBlock h ≡ true → blockWellFormed h (v .block h) ≡ true) where
+module _ (digest : Bytes → Bytes) (v : View) (formed : (h : ℕ) → 1 ≤ h → v .hasBlock h ≡ true →
+    blockWellFormed h (v .block h) ≡ true) where
   -- a property of logs that each block's entries keep
   log-induction : (P : ℕ → List Bytes → Type 0) → P 0 [] →
-      ((i j : ℕ) (log : List Bytes) → j ≤ i → P j log → blockWellFormed (suc i) (v .block (suc i)) ≡ true → P (suc i) (log ++ entries (v .block (suc i)))) →
+      ((i j : ℕ) (log : List Bytes) → j ≤ i → P j log → blockWellFormed (suc i) (v .block (suc i)) ≡ true →
+      P (suc i) (log ++ entries (v .block (suc i)))) →
       (f h : ℕ) → h ≤ f → linked digest v h ≡ true → P h (logAt v h)
   log-induction P base step zero zero l e = rw log-zero base
   log-induction P base step zero (suc i) l e = absurd (omega arith)
@@ -78,7 +89,8 @@ module _ (digest : Bytes → Bytes) (v : View) (formed : (h : ℕ) → 1 ≤ h �
       let lower = on .below in
       let below = log-induction P base step f (parentHeight (v .block (suc i))) (omega arith) parent in
       rw (log-suc digest v i e)
-      (step i (parentHeight (v .block (suc i))) (logAt v (parentHeight (v .block (suc i)))) (omega arith) below (formed (suc i) (omega arith) has))
+      (step i (parentHeight (v .block (suc i))) (logAt v (parentHeight (v .block (suc i)))) (omega arith) below
+      (formed (suc i) (omega arith) has))
 
   pub log-sized : (h : ℕ) → linked digest v h ≡ true → Every (Sized 16) (logAt v h)
   log-sized h e =
@@ -92,4 +104,5 @@ module _ (digest : Bytes → Bytes) (v : View) (formed : (h : ℕ) → 1 ≤ h �
   pub log-bound : (h : ℕ) → linked digest v h ≡ true → length (logAt v h) ≤ 8 * h
   log-bound h e =
       log-induction (λ i log. length log ≤ 8 * i) (omega arith)
-      (λ i j log l p w. simp length-append (omega (arith, entries-count (suc i) (v .block (suc i)) w))) h h (omega arith) e
+      (λ i j log l p w. simp length-append (omega (arith, entries-count (suc i) (v .block (suc i)) w))) h h
+      (omega arith) e

@@ -15,13 +15,17 @@ use Rattle.protocol.specs.ReadFrame.{ReadFrame}
 use Rattle.protocol.specs.Bytes.{Bytes}
 use Rattle.protocol.specs.Tests.{inRange, implies, Row, firstRefusal}
 use Rattle.protocol.specs.Block.{blockWellFormed}
-use Rattle.protocol.specs.Frame.{kind, signer, frameHeight, signerMask, frameDigest, frameBlock, frameWellFormed, isStatement, isCertificate, carriesBlock}
+use Rattle.protocol.specs.Frame.{kind, signer, frameHeight, signerMask, frameDigest, frameBlock, frameWellFormed}
+use Rattle.protocol.specs.Frame.{isStatement, isCertificate, carriesBlock}
 use Rattle.protocol.specs.Mask.{inMask, belowBit}
-use Rattle.protocol.specs.State.{State, Height, at, last, decode, encode, withHeight, holdsProposal, isNotarized, voteOf}
+use Rattle.protocol.specs.State.{State, Height, at, last, decode, encode, withHeight, holdsProposal, isNotarized}
+use Rattle.protocol.specs.State.{voteOf}
 use Rattle.protocol.specs.View.{quorum}
 use Rattle.protocol.specs.Sound.{view, sound}
 use Rattle.protocol.specs.Answer.{Outcome, Delivery, refused, accepted, known, fresh, unlessRefused}
-use Rattle.protocol.specs.Deliver.{readRows, clashRows, deliverRows, keepProposal, keepBlockVote, keepDummyVote, keepFinalize, keepBlockCertificate, keepDummyCertificate, keepFinalizeCertificate, keep, kept, deliverCall}
+use Rattle.protocol.specs.Deliver.{readRows, clashRows, deliverRows, keepProposal, keepBlockVote, keepDummyVote}
+use Rattle.protocol.specs.Deliver.{keepFinalize, keepBlockCertificate, keepDummyCertificate}
+use Rattle.protocol.specs.Deliver.{keepFinalizeCertificate, keep, kept, deliverCall}
 use Rattle.protocol.specs.Laws.BytesLaws.{length-part}
 use Rattle.protocol.specs.Laws.MaskLaws.{below-lt}
 use Rattle.protocol.specs.Laws.TestsLaws.{or-true}

@@ -1,4 +1,5 @@
--- No rule goes by the edition of a state: what a state shows, what is kept and what is done is the same in another edition.
+-- No rule goes by the edition of a state: what a state shows, what is kept and what is done is the same in another
+-- edition.
 use Prim.Native.Nat.{ℕ}
 use mathlib.Core.Path.{_≡_, refl}
 use mathlib.Core.Bool.{Bool, true, false}
@@ -7,7 +8,9 @@ use Rattle.protocol.specs.Bytes.{Bytes}
 use Rattle.protocol.specs.State.{State, Height, withHeight, withEdition, at}
 use Rattle.protocol.specs.Sound.{view, log}
 use Rattle.protocol.specs.Deliver.{keep, readRows, clashRows}
-use Rattle.protocol.specs.Move.{Step, step, firstStep, idleStep, dummyVoteApplies, dummyVoteStep, outputApplies, outputStep, passApplies, passStep, proposeApplies, proposeStep, blockVoteApplies, blockVoteStep}
+use Rattle.protocol.specs.Move.{Step, step, firstStep, idleStep, dummyVoteApplies, dummyVoteStep, outputApplies}
+use Rattle.protocol.specs.Move.{outputStep, passApplies, passStep, proposeApplies, proposeStep, blockVoteApplies}
+use Rattle.protocol.specs.Move.{blockVoteStep}
 use Rattle.protocol.specs.Submit.{withPending, stillPending}
 use Rattle.protocol.specs.Computing.{everything}
 

@@ -13,12 +13,14 @@ use Rattle.protocol.specs.Block.{entryCount, entries}
 use Rattle.protocol.specs.State.{State, pending}
 use Rattle.protocol.specs.View.{View, logAt}
 use Rattle.protocol.specs.Laws.EveryLaws.{every-take}
-use Rattle.protocol.specs.Laws.PiecesLaws.{length-pieces, get-pieces, pieces-next, pieces-done, pieces-sized, join-pieces}
+use Rattle.protocol.specs.Laws.PiecesLaws.{length-pieces, get-pieces, pieces-next, pieces-done, pieces-sized}
+use Rattle.protocol.specs.Laws.PiecesLaws.{join-pieces}
 use Rattle.protocol.specs.Laws.ViewLaws.{log-zero}
 use Rattle.protocol.specs.Laws.PoolLaws.{without-append, entry-stays, entry-leaves, every-without}
 
 -- ---- the entries of a block
-pub entries-next : (block : Bytes) (k : ℕ) → k < entryCount block → drop k (entries block) ≡ part block (48 + 16 * k) 16 ∷ drop (suc k) (entries block)
+pub entries-next : (block : Bytes) (k : ℕ) → k < entryCount block →
+    drop k (entries block) ≡ part block (48 + 16 * k) 16 ∷ drop (suc k) (entries block)
 unfolding entries
 entries-next block k h =
     pieces-next 16 (entryCount block) (drop 48 block) k h ∙ unfold part in rw drop-drop
@@ -77,7 +79,8 @@ module _ (s : State) where
   unfolding pending
   pending-at k h = get-pieces 16 (s .pendingCount) (s .pool) k h
 
-  pub pending-next : (k : ℕ) → k < s .pendingCount → drop k (pending s) ≡ part (s .pool) (16 * k) 16 ∷ drop (suc k) (pending s)
+  pub pending-next : (k : ℕ) → k < s .pendingCount →
+      drop k (pending s) ≡ part (s .pool) (16 * k) 16 ∷ drop (suc k) (pending s)
   unfolding pending
   pending-next k h = pieces-next 16 (s .pendingCount) (s .pool) k h
 
@@ -89,12 +92,15 @@ module _ (s : State) where
   pending-all k h = take-all k (pending s) (rw pending-length h)
 
   -- those of the first `k` places that a list lacks
-  pub lacked-sized : (log : List Bytes) (k : ℕ) → length (s .pool) ≡ 512 → s .pendingCount ≤ 32 → Every (Sized 16) (without log (take k (pending s)))
+  pub lacked-sized : (log : List Bytes) (k : ℕ) → length (s .pool) ≡ 512 → s .pendingCount ≤ 32 →
+      Every (Sized 16) (without log (take k (pending s)))
   unfolding pending
-  lacked-sized log k size few = every-without log (every-take k (pieces-sized 16 (s .pendingCount) (s .pool) (omega arith)))
+  lacked-sized log k size few = every-without log
+      (every-take k (pieces-sized 16 (s .pendingCount) (s .pool) (omega arith)))
 
   -- place `k` is looked at: its entry leaves if the list holds it, and stays if not
-  module _ (log : List Bytes) (k : ℕ) (inside : k < s .pendingCount) {held : Bool} {entry : Bytes} (read : entry ≡ part (s .pool) (16 * k) 16) (test : held ≡ holds entry log) where
+  module _ (log : List Bytes) (k : ℕ) (inside : k < s .pendingCount) {held : Bool} {entry : Bytes}
+      (read : entry ≡ part (s .pool) (16 * k) 16) (test : held ≡ holds entry log) where
     within : k < length (pending s)
     within = rw pending-length inside
 
@@ -104,19 +110,22 @@ module _ (s : State) where
     pub place-leaves : held ≡ true → without log (take (k + 1) (pending s)) ≡ without log (take k (pending s))
     place-leaves e = entry-leaves log (pending s) k within (tested ∙ e)
 
-    pub place-stays : held ≡ false → without log (take (k + 1) (pending s)) ≡ without log (take k (pending s)) ++ (entry ∷ [])
+    pub place-stays : held ≡ false → without log (take (k + 1) (pending s)) ≡ without log
+        (take k (pending s)) ++ (entry ∷ [])
     place-stays e =
         entry-stays log (pending s) k within (tested ∙ e) ∙
         ap (λ (x : Bytes). without log (take k (pending s)) ++ (x ∷ [])) (pending-at k inside ∙ sym read)
 
 -- ---- those that a block takes are at hand once eight are, or all places are looked at
-pub eight-taken : (log es : List Bytes) (k : ℕ) → length (without log (take k es)) ≡ 8 → take 8 (without log es) ≡ without log (take k es)
+pub eight-taken : (log es : List Bytes) (k : ℕ) → length (without log (take k es)) ≡ 8 →
+    take 8 (without log es) ≡ without log (take k es)
 eight-taken log es k size =
     let cut : without log es ≡ without log (take k es) ++ without log (drop k es) =
     ap (without log) (sym (take-append-drop k es)) ∙ without-append log (take k es) (drop k es) in
     ap (take 8) cut ∙ take-at (without log (take k es)) (without log (drop k es)) 8 size
 
-pub few-taken : (log es : List Bytes) (k : ℕ) → length (without log (take k es)) ≤ 8 → take k es ≡ es → take 8 (without log es) ≡ without log (take k es)
+pub few-taken : (log es : List Bytes) (k : ℕ) → length (without log (take k es)) ≤ 8 → take k es ≡ es →
+    take 8 (without log es) ≡ without log (take k es)
 few-taken log es k few all =
     ap (λ (l : List Bytes). take 8 (without log l)) (sym all) ∙ take-all 8 (without log (take k es)) few
 

@@ -5,7 +5,8 @@ use native.Mathlib.Omega.{arith}
 use mathlib.Core.List.{List, [], _∷_, _++_, map}
 use lib.ListN.{length, getD, set, take}
 
-pub every-map : {A B : Type 0} {P : A → Type 0} {Q : B → Type 0} (f : A → B) → ((x : A) → P x → Q (f x)) → {l : List A} → Every P l → Every Q (map f l)
+pub every-map : {A B : Type 0} {P : A → Type 0} {Q : B → Type 0} (f : A → B) → ((x : A) → P x → Q (f x)) →
+    {l : List A} → Every P l → Every Q (map f l)
 every-map f h none = none
 every-map f h (one {x = x} p ps) = one (h x p) (every-map f h ps)
 
@@ -28,6 +29,7 @@ every-at i d none h = absurd (omega arith)
 every-at zero d (one p ps) h = p
 every-at (suc i) d (one p ps) h = every-at i d ps (omega arith)
 
-pub every-from : {A : Type 0} (P : A → Type 0) (d : A) (l : List A) → ((i : ℕ) → i < length l → P (getD l i d)) → Every P l
+pub every-from : {A : Type 0} (P : A → Type 0) (d : A) (l : List A) → ((i : ℕ) → i < length l → P (getD l i d)) →
+    Every P l
 every-from P d [] each = none
 every-from P d (x ∷ xs) each = one (each 0 (omega arith)) (every-from P d xs (λ i h. each (suc i) (omega arith)))

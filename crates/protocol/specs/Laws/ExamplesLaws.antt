@@ -17,32 +17,44 @@ use Rattle.protocol.specs.Laws.TestsLaws.{and-true}
 use Rattle.protocol.specs.Laws.RowLaws.{in-range, row-passes}
 use Rattle.protocol.specs.Block.{maximumHeights, parentHeight, entryCount, newBlock, allEntries}
 use Rattle.protocol.specs.Mask.{inMask, maskOf, ones, union, belowBit, weigh, total}
-use Rattle.protocol.specs.State.{State, at, last, encode, decode, headBytes, bookSize, flag, pending, withHead, maximumReplicas}
-use Rattle.protocol.specs.View.{View, quorum, isDummy, dummyRun, digestAt, parentOf, chain, chainWithin, logAt, extends, extendsOver}
+use Rattle.protocol.specs.State.{State, at, last, encode, decode, headBytes, bookSize, flag, pending, withHead}
+use Rattle.protocol.specs.State.{maximumReplicas}
+use Rattle.protocol.specs.View.{View, quorum, isDummy, dummyRun, digestAt, parentOf, chain, chainWithin, logAt}
+use Rattle.protocol.specs.View.{extends, extendsOver}
 use Rattle.protocol.specs.Sound.{view}
 use Rattle.protocol.specs.Answer.{Outcome, Delivery, fresh, idle, voteDummy, accepted, Done, done, unlessRefused}
 use Rattle.protocol.specs.Open.{newState, newHeight, openInRange, openRows, openCall}
 use Rattle.protocol.specs.Deliver.{withMasks, deliverCall, deliverAll}
 use Rattle.protocol.specs.Signal.{signalCall}
 use Rattle.protocol.specs.Frame.{kind, frameBlock, frameOf, proposal, dummyVote, finalize}
-use Rattle.protocol.specs.Move.{step, moveCall, moved, MoveOutcome, idleStep, dummyVoteStep, passStep, proposeStep, written, unused, proposedBlock, offered, someOr, dummyVoteApplies}
+use Rattle.protocol.specs.Move.{step, moveCall, moved, MoveOutcome, idleStep, dummyVoteStep, passStep}
+use Rattle.protocol.specs.Move.{proposeStep, written, unused, proposedBlock, offered, someOr, dummyVoteApplies}
 use Rattle.protocol.specs.Computing.{everything}
-use Rattle.protocol.specs.Examples.{Letter, claim, Start, opened, firstLeader, quorumFrom, signalled, afterSignal, afterDummyVotes, afterFinalizes, frameIn, passesDummy, proposesFirst, notFinalized}
+use Rattle.protocol.specs.Examples.{Letter, claim, Start, opened, firstLeader, quorumFrom, signalled, afterSignal}
+use Rattle.protocol.specs.Examples.{afterDummyVotes, afterFinalizes, frameIn, passesDummy, proposesFirst}
+use Rattle.protocol.specs.Examples.{notFinalized}
 use Rattle.protocol.specs.Laws.PlaceLaws.{count-encode}
 use Rattle.protocol.specs.Laws.QuorumLaws.{quorum-even}
 use Rattle.protocol.specs.Laws.FieldLaws.{read-finalized, read-finalize-mask}
 use Rattle.protocol.specs.Laws.NewBookLaws.{Ranges, early, firstHeight}
-use Rattle.protocol.specs.Laws.NewBookCallsLaws.{early-move, early-not-notarized, voting, step-idle, step-vote, step-pass, step-propose, early-signal, early-vote, early-certificate, finalized-stays}
+use Rattle.protocol.specs.Laws.NewBookCallsLaws.{early-move, early-not-notarized, voting, step-idle, step-vote}
+use Rattle.protocol.specs.Laws.NewBookCallsLaws.{step-pass, step-propose, early-signal, early-vote}
+use Rattle.protocol.specs.Laws.NewBookCallsLaws.{early-certificate, finalized-stays}
 use Rattle.protocol.specs.Laws.MoveLaws.{head-only}
 
 -- ---- a to d
-quorum-from : (n enough : ℕ) → ((x : ℕ) → enough ≤ x → 2 * n ≤ 3 * x) → ((x : ℕ) → x < enough → 3 * x < 2 * n) → quorumFrom n enough
+quorum-from : (n enough : ℕ) → ((x : ℕ) → enough ≤ x → 2 * n ≤ 3 * x) → ((x : ℕ) → x < enough → 3 * x < 2 * n) →
+    quorumFrom n enough
 unfolding quorumFrom quorum
 quorum-from n enough up down v mask q =
-    rw (quorum-even v n mask q) (λ p. le-leb (2 * n) (3 * ones mask n) (up (ones mask n) p), λ p. lt-leb (2 * n) (3 * ones mask n) (down (ones mask n) p))
+    rw (quorum-even v n mask q) (
+      λ p. le-leb (2 * n) (3 * ones mask n) (up (ones mask n) p),
+      λ p. lt-leb (2 * n) (3 * ones mask n) (down (ones mask n) p),
+    )
 
 -- ---- l
-away : (digest : Bytes → Bytes) (v : View) (block : Bytes) → parentHeight block ≡ 1 → isDummy v 2 ≡ false → extends digest v 3 block ≡ false
+away : (digest : Bytes → Bytes) (v : View) (block : Bytes) → parentHeight block ≡ 1 → isDummy v 2 ≡ false →
+    extends digest v 3 block ≡ false
 unfolding extends extendsOver allOf dummyRun
 away digest v block p q = rw (p, q) (simp and-false)
 
@@ -58,7 +70,8 @@ new-early : (n own leader : ℕ) (leaders : Bytes) → newState n own (leader �
 unfolding newState firstHeight withMasks newHeight
 new-early n own leader leaders = refl
 
-open-answer : (o : Option ℕ) (book : Bytes) (w : Outcome Done) → unlessRefused o book w .answer ≡ accepted done → o ≡ none
+open-answer : (o : Option ℕ) (book : Bytes) (w : Outcome Done) → unlessRefused o book w .answer ≡ accepted done →
+    o ≡ none
 unfolding unlessRefused
 open-answer none book w q = refl
 open-answer (some number) book w q = let y : _≡_ {A = ℕ} 0 1 = cc in absurd (omega arith)
@@ -69,7 +82,8 @@ open-rows x =
     open-answer (firstRefusal (openRows (x .old) (x .n) (x .own) (x .heights) (x .leaders))) (x .old)
     (record { answer = accepted done; book = encode (newState (x .n) (x .own) (x .leaders)) }) (x .opens)
 
-ranges-of : (n own heights : ℕ) (leaders : Bytes) → (1 ≤ n) × (n ≤ maximumReplicas) → (1 ≤ heights) × (heights ≤ maximumHeights) → own < n →
+ranges-of : (n own heights : ℕ) (leaders : Bytes) → (1 ≤ n) × (n ≤ maximumReplicas) →
+    (1 ≤ heights) × (heights ≤ maximumHeights) → own < n →
     length leaders ≡ heights → all (λ x. ltb x n) leaders ≡ true →
     (leader : ℕ) × (rest : Bytes) × (leaders ≡ leader ∷ rest) × Ranges n own leader rest
 unfolding all
@@ -98,7 +112,8 @@ open-ranges n own heights leaders q =
     let q3 = and-true (inRange 1 maximumHeights heights) _ (q2 .1) in
     let q4 = and-true (eqb (length leaders) heights) _ (q3 .1) in
     let q5 = and-true (all (λ x. ltb x n) leaders) true (q4 .1) in
-    ranges-of n own heights leaders (in-range 1 maximumReplicas n (q1 .0)) (in-range 1 maximumHeights heights (q3 .0)) (ltb-true own n (q2 .0))
+    ranges-of n own heights leaders (in-range 1 maximumReplicas n (q1 .0)) (in-range 1 maximumHeights heights (q3 .0))
+    (ltb-true own n (q2 .0))
     (eqb-true (length leaders) heights (q4 .0)) (q5 .0)
 
 opened-new : (x : Start) → opened x ≡ encode (newState (x .n) (x .own) (x .leaders))
@@ -117,7 +132,8 @@ opening x =
       leaders = r .1;
       roll = r .2;
       ranges = r .3;
-      book = opened-new x ∙ (ap (λ (m : Bytes). encode (newState (x .n) (x .own) m)) (r .2) ∙ ap encode (new-early (x .n) (x .own) (r .0) (r .1)));
+      book = opened-new x ∙ (ap (λ (m : Bytes). encode (newState (x .n) (x .own) m)) (r .2)
+          ∙ ap encode (new-early (x .n) (x .own) (r .0) (r .1)));
     }
 
 -- ---- f to k
@@ -138,29 +154,36 @@ module _ (digest : Bytes → Bytes) (n own leader : ℕ) (leaders : Bytes) (rang
 
   -- a book with no masks yet idles unless the replica leads
   idles : (flags : ℕ) → flags < 16 → dummyVoteApplies (early n own flags 0 0 leader leaders) ≡ false → leader ≢ own →
-      (reply : Bytes) → 448 ≤ length reply → moveCall digest (encode (early n own flags 0 0 leader leaders)) reply .answer ≡ accepted idle
+      (reply : Bytes) → 448 ≤ length reply → moveCall digest (encode (early n own flags 0 0 leader leaders)) reply
+      .answer ≡ accepted idle
   unfolding moved idleStep
   idles flags small quiet other reply room =
       rw (
         early-move n own flags 0 0 leader leaders ranges small zero-below zero-below digest reply room,
-        step-idle n own flags 0 0 leader leaders ranges small zero-below zero-below digest quiet (not-dummy flags) other,
+        step-idle n own flags 0 0 leader leaders ranges small zero-below zero-below digest quiet (not-dummy flags)
+            other,
       )
 
-  quiet : (flags : ℕ) → flags < 16 → (flag 1 (early n own flags 0 0 leader leaders) && (not (flag 2 (early n own flags 0 0 leader leaders)) && true)) ≡ false →
+  quiet : (flags : ℕ) → flags < 16 → (flag 1 (early n own flags 0 0 leader leaders) &&
+      (not (flag 2 (early n own flags 0 0 leader leaders)) && true)) ≡ false →
       dummyVoteApplies (early n own flags 0 0 leader leaders) ≡ false
   quiet flags small e = voting n own flags 0 0 leader leaders ranges small zero-below zero-below digest false e
 
-  new-idle : leader ≢ own → (reply : Bytes) → 448 ≤ length reply → moveCall digest (encode (early n own 0 0 0 leader leaders)) reply .answer ≡ accepted idle
+  new-idle : leader ≢ own → (reply : Bytes) → 448 ≤ length reply →
+      moveCall digest (encode (early n own 0 0 0 leader leaders)) reply .answer ≡ accepted idle
   unfolding flag
   new-idle = idles 0 (omega arith) (quiet 0 (omega arith) refl)
 
-  new-signal : signalCall digest (encode (early n own 0 0 0 leader leaders)) 1 .book ≡ encode (early n own 1 0 0 leader leaders)
+  new-signal : signalCall digest (encode (early n own 0 0 0 leader leaders)) 1 .book ≡ encode
+      (early n own 1 0 0 leader leaders)
   unfolding flag
-  new-signal = ap (λ (o : Outcome Done). o .book) (early-signal n own 0 0 0 leader leaders ranges (omega arith) zero-below zero-below digest refl)
+  new-signal = ap (λ (o : Outcome Done). o .book)
+      (early-signal n own 0 0 0 leader leaders ranges (omega arith) zero-below zero-below digest refl)
 
   -- the move after the signal
   new-vote : (reply : Bytes) → 448 ≤ length reply →
-      moveCall digest (encode (early n own 1 0 0 leader leaders)) reply ≡ moved reply (dummyVoteStep (early n own 1 0 0 leader leaders))
+      moveCall digest (encode (early n own 1 0 0 leader leaders)) reply ≡ moved reply
+      (dummyVoteStep (early n own 1 0 0 leader leaders))
   unfolding flag
   new-vote reply room =
       rw (
@@ -170,21 +193,25 @@ module _ (digest : Bytes → Bytes) (n own leader : ℕ) (leaders : Bytes) (rang
       )
 
   -- frames at the front of a reply
-  vote-first : (reply : Bytes) → frameIn (moved reply (dummyVoteStep (early n own 1 0 0 leader leaders)) .reply) 0 ≡ dummyVote own 1
+  vote-first : (reply : Bytes) → frameIn (moved reply (dummyVoteStep (early n own 1 0 0 leader leaders)) .reply)
+      0 ≡ dummyVote own 1
   unfolding frameIn moved dummyVoteStep overFront written unused join part dummyVote frameOf zeros le16
   vote-first reply = refl
 
-  voted-book : (reply : Bytes) → moved reply (dummyVoteStep (early n own 1 0 0 leader leaders)) .book ≡ encode (early n own 3 0 0 leader leaders)
+  voted-book : (reply : Bytes) → moved reply (dummyVoteStep (early n own 1 0 0 leader leaders)) .book ≡ encode
+      (early n own 3 0 0 leader leaders)
   unfolding moved dummyVoteStep withHead
   voted-book reply = refl
 
-  voted-idle : leader ≢ own → (reply : Bytes) → 448 ≤ length reply → moveCall digest (encode (early n own 3 0 0 leader leaders)) reply .answer ≡ accepted idle
+  voted-idle : leader ≢ own → (reply : Bytes) → 448 ≤ length reply →
+      moveCall digest (encode (early n own 3 0 0 leader leaders)) reply .answer ≡ accepted idle
   unfolding flag
   voted-idle = idles 3 (omega arith) (quiet 3 (omega arith) refl)
 
   -- a replica that leads height 1 proposes
   new-propose : leader ≡ own → (reply : Bytes) → 448 ≤ length reply →
-      moveCall digest (encode (early n own 0 0 0 leader leaders)) reply ≡ moved reply (proposeStep digest (early n own 0 0 0 leader leaders))
+      moveCall digest (encode (early n own 0 0 0 leader leaders)) reply ≡ moved reply
+      (proposeStep digest (early n own 0 0 0 leader leaders))
   unfolding flag
   new-propose lead reply room =
       rw (
@@ -193,9 +220,11 @@ module _ (digest : Bytes → Bytes) (n own leader : ℕ) (leaders : Bytes) (rang
             (quiet 0 (omega arith) refl) (not-dummy 0) lead refl,
       )
 
-  proposal-first : (reply : Bytes) → frameIn (moved reply (proposeStep digest (early n own 0 0 0 leader leaders)) .reply) 0 ≡
+  proposal-first : (reply : Bytes) → frameIn (moved reply (proposeStep digest (early n own 0 0 0 leader leaders))
+      .reply) 0 ≡
       proposal own 1 (newBlock 1 0 (zeros 32) [])
-  unfolding frameIn moved proposeStep overFront written unused join part proposal frameOf zeros le16 proposedBlock newBlock offered without logAt chain chainWithin allEntries pending pieces parentOf someOr digestAt
+  unfolding frameIn moved proposeStep overFront written unused join part proposal frameOf zeros le16 proposedBlock
+      newBlock offered without logAt chain chainWithin allEntries pending pieces parentOf someOr digestAt
   proposal-first reply = refl
 
 -- one frame more is delivered
@@ -211,7 +240,8 @@ module _ (digest : Bytes → Bytes) (own leader : ℕ) (leaders : Bytes) (ranges
   B flags dummy final = encode (early 4 own flags dummy final leader leaders)
 
   one-vote : (flags dummy s : ℕ) (frames : List Bytes) → flags < 16 → dummy < 16 → s < 4 → inMask dummy s ≡ false →
-      deliverAll digest (B flags dummy 0) (dummyVote s 1 ∷ frames) ≡ deliverAll digest (B flags (dummy + 2 ^ s) 0) frames
+      deliverAll digest (B flags dummy 0) (dummyVote s 1 ∷ frames) ≡ deliverAll digest (B flags (dummy + 2 ^ s) 0)
+      frames
   one-vote flags dummy s frames p q r out =
       deliver-one digest (B flags dummy 0) (B flags (dummy + 2 ^ s) 0) (dummyVote s 1) frames
       (early-vote 4 own flags dummy 0 leader leaders ranges p q (omega arith) digest s r out)
@@ -229,15 +259,18 @@ module _ (digest : Bytes → Bytes) (own leader : ℕ) (leaders : Bytes) (ranges
   dummy-now flags = refl
 
   -- the move after the three votes
-  passes : (flags : ℕ) → flags < 16 → (flag 1 (early 4 own flags 7 0 leader leaders) && (not (flag 2 (early 4 own flags 7 0 leader leaders)) && true)) ≡ false →
-      (reply : Bytes) → 448 ≤ length reply → afterDummyVotes digest (B flags 0 0) reply ≡ moved reply (passStep digest (early 4 own flags 7 0 leader leaders))
+  passes : (flags : ℕ) → flags < 16 → (flag 1 (early 4 own flags 7 0 leader leaders) &&
+      (not (flag 2 (early 4 own flags 7 0 leader leaders)) && true)) ≡ false →
+      (reply : Bytes) → 448 ≤ length reply → afterDummyVotes digest (B flags 0 0) reply ≡ moved reply
+      (passStep digest (early 4 own flags 7 0 leader leaders))
   unfolding afterDummyVotes
   passes flags p silent reply room =
       rw (
         three-votes flags p,
         early-move 4 own flags 7 0 leader leaders ranges p (omega arith) (omega arith) digest reply room,
         step-pass 4 own flags 7 0 leader leaders ranges p (omega arith) (omega arith) digest
-            (voting 4 own flags 7 0 leader leaders ranges p (omega arith) (omega arith) digest false silent) (dummy-now flags),
+            (voting 4 own flags 7 0 leader leaders ranges p (omega arith) (omega arith) digest false silent)
+            (dummy-now flags),
       )
 
   abbrev P : ℕ → Bytes → MoveOutcome
@@ -252,11 +285,13 @@ module _ (digest : Bytes → Bytes) (own leader : ℕ) (leaders : Bytes) (ranges
   pass-late reply = (refl, refl, refl)
 
   -- the move after the finalize certificate
-  finalizes : (reply : Bytes) → 448 ≤ length reply → afterFinalizes digest (B 0 0 0) reply ≡ moved reply (step digest (early 4 own 0 0 7 leader leaders))
+  finalizes : (reply : Bytes) → 448 ≤ length reply →
+      afterFinalizes digest (B 0 0 0) reply ≡ moved reply (step digest (early 4 own 0 0 7 leader leaders))
   unfolding afterFinalizes word16 le16 belowBit quorum union maskOf inMask weigh total view
   finalizes reply room =
       rw (
-        early-certificate 4 own 0 0 0 leader leaders ranges (omega arith) (omega arith) (omega arith) digest 7 refl refl refl,
+        early-certificate 4 own 0 0 0 leader leaders ranges (omega arith) (omega arith) (omega arith) digest 7 refl refl
+            refl,
         early-move 4 own 0 0 7 leader leaders ranges (omega arith) (omega arith) (omega arith) digest reply room,
       )
 
@@ -282,12 +317,14 @@ module _ (digest : Bytes → Bytes) (own leader : ℕ) (leaders : Bytes) (ranges
   not-finalized reply room =
       let s : State = early 4 own 0 0 7 leader leaders in
       let stays = head-only digest s in
-      let bare = early-not-notarized 4 own 0 0 7 leader leaders ranges (omega arith) (omega arith) (omega arith) digest in
+      let bare = early-not-notarized 4 own 0 0 7 leader leaders ranges (omega arith) (omega arith) (omega arith)
+      digest in
       let zero-byte = finalized-byte (step digest s .after) ∙ finalized-stays digest s bare in
       rw (finalizes reply room) (
         ap (λ (t : State). word16 (encode t) 582) (stays .3) ∙ mask-kept (stays .0) (stays .1) (stays .2),
         zero-byte,
-        ap (λ (t : State). at (decode (encode t)) 1 .finalizeMask) (stays .3) ∙ mask-decoded (stays .0) (stays .1) (stays .2),
+        ap (λ (t : State). at (decode (encode t)) 1 .finalizeMask) (stays .3)
+            ∙ mask-decoded (stays .0) (stays .1) (stays .2),
         sym (read-finalized (encode (step digest s .after))) ∙ zero-byte,
       )
 
@@ -313,19 +350,23 @@ module _ (digest : Bytes → Bytes) (x : Start) where
       ap (λ (book : Bytes). signalCall digest book 1 .book) (O .book) ∙
       new-signal digest (x .n) (x .own) (O .leader) (O .leaders) (O .ranges)
 
-  after-signal : afterSignal digest x ≡ moved (x .reply) (dummyVoteStep (early (x .n) (x .own) 1 0 0 (O .leader) (O .leaders)))
+  after-signal : afterSignal digest x ≡ moved (x .reply)
+      (dummyVoteStep (early (x .n) (x .own) 1 0 0 (O .leader) (O .leaders)))
   unfolding afterSignal
-  after-signal = rw signalled-book (new-vote digest (x .n) (x .own) (O .leader) (O .leaders) (O .ranges) (x .reply) (x .room))
+  after-signal = rw signalled-book (new-vote digest (x .n) (x .own) (O .leader) (O .leaders) (O .ranges) (x .reply)
+      (x .room))
 
   after-signal-book : afterSignal digest x .book ≡ encode (early (x .n) (x .own) 3 0 0 (O .leader) (O .leaders))
-  after-signal-book = rw after-signal (voted-book digest (x .n) (x .own) (O .leader) (O .leaders) (O .ranges) (x .reply))
+  after-signal-book = rw after-signal (voted-book digest (x .n) (x .own) (O .leader) (O .leaders) (O .ranges)
+      (x .reply))
 
   led-by-another : firstLeader x ≢ x .own → O .leader ≢ x .own
   led-by-another other q = other (first-leader x O ∙ q)
 
   example-f : firstLeader x ≢ x .own → moveCall digest (opened x) (x .reply) .answer ≡ accepted idle
   example-f other =
-      rw (O .book) (new-idle digest (x .n) (x .own) (O .leader) (O .leaders) (O .ranges) (led-by-another other) (x .reply) (x .room))
+      rw (O .book) (new-idle digest (x .n) (x .own) (O .leader) (O .leaders) (O .ranges) (led-by-another other)
+      (x .reply) (x .room))
 
   example-g : firstLeader x ≢ x .own →
       (afterSignal digest x .answer ≡ accepted (voteDummy 1)) ×
@@ -335,36 +376,51 @@ module _ (digest : Bytes → Bytes) (x : Start) where
   example-g other = (
     rw after-signal,
     rw after-signal (vote-first digest (x .n) (x .own) (O .leader) (O .leaders) (O .ranges) (x .reply)),
-    rw after-signal-book (voted-idle digest (x .n) (x .own) (O .leader) (O .leaders) (O .ranges) (led-by-another other) (x .reply) (x .room)),
+    rw after-signal-book (voted-idle digest (x .n) (x .own) (O .leader) (O .leaders) (O .ranges) (led-by-another other)
+        (x .reply) (x .room)),
   )
 
   example-h : x .n ≡ 4 → passesDummy (afterDummyVotes digest (opened x) (x .reply)) true (finalize (x .own) 1)
   unfolding flag
   example-h four =
-      rw (four-book x O four, passes digest (x .own) (O .leader) (O .leaders) (four-ranges x O four) 0 (omega arith) refl (x .reply) (x .room))
+      rw (
+        four-book x O four,
+        passes digest (x .own) (O .leader) (O .leaders) (four-ranges x O four) 0 (omega arith)
+            refl (x .reply) (x .room),
+      )
       (pass-in-time digest (x .own) (O .leader) (O .leaders) (four-ranges x O four) (x .reply))
 
   example-i : x .n ≡ 4 → passesDummy (afterDummyVotes digest (afterSignal digest x .book) (x .reply)) false (zeros 224)
   unfolding flag
   example-i four =
       let book = after-signal-book ∙ ap (λ (n : ℕ). encode (early n (x .own) 3 0 0 (O .leader) (O .leaders))) four in
-      rw (book, passes digest (x .own) (O .leader) (O .leaders) (four-ranges x O four) 3 (omega arith) refl (x .reply) (x .room))
+      rw (
+        book,
+        passes digest (x .own) (O .leader) (O .leaders) (four-ranges x O four) 3 (omega arith) refl (x .reply)
+            (x .room),
+      )
       (pass-late digest (x .own) (O .leader) (O .leaders) (four-ranges x O four) (x .reply))
 
   example-j : firstLeader x ≡ x .own → proposesFirst (moveCall digest (opened x) (x .reply))
   unfolding moved proposeStep kind parentHeight entryCount frameBlock proposal frameOf newBlock word16 le16 zeros
   example-j lead =
-      rw (O .book, new-propose digest (x .n) (x .own) (O .leader) (O .leaders) (O .ranges) (sym (first-leader x O) ∙ lead) (x .reply) (x .room))
+      rw (
+        O .book,
+        new-propose digest (x .n) (x .own) (O .leader) (O .leaders) (O .ranges)
+            (sym (first-leader x O) ∙ lead) (x .reply) (x .room),
+      )
       (refl, first kind, first (λ m. parentHeight (frameBlock m)), first (λ m. entryCount (frameBlock m)))
     where
       first : (field : Bytes → ℕ) →
-          field (frameIn (moved (x .reply) (proposeStep digest (early (x .n) (x .own) 0 0 0 (O .leader) (O .leaders))) .reply) 0) ≡
+          field (frameIn (moved (x .reply) (proposeStep digest (early (x .n) (x .own) 0 0 0 (O .leader) (O .leaders)))
+          .reply) 0) ≡
           field (proposal (x .own) 1 (newBlock 1 0 (zeros 32) []))
       first field = ap field (proposal-first digest (x .n) (x .own) (O .leader) (O .leaders) (O .ranges) (x .reply))
 
   example-k : x .n ≡ 4 → notFinalized (afterFinalizes digest (opened x) (x .reply) .book)
   example-k four =
-      rw (four-book x O four) (not-finalized digest (x .own) (O .leader) (O .leaders) (four-ranges x O four) (x .reply) (x .room))
+      rw (four-book x O four) (not-finalized digest (x .own) (O .leader) (O .leaders) (four-ranges x O four) (x .reply)
+      (x .room))
 
 -- every example of the table holds
 pub examples : (x : Letter) → claim x

@@ -49,7 +49,8 @@ module _ (book : Bytes) (i : ℕ) (inside : i < bookHeights book) where
   content-word-of j h = sym (word-part book (576 + 16 * i) 16 j h)
 
   body-part-of : (j k : ℕ) → j + k ≤ 864 →
-      part book (576 + 16 * bookHeights book + 864 * i + j) k ≡ part (part book (576 + 16 * bookHeights book + 864 * i) 864) j k
+      part book (576 + 16 * bookHeights book + 864 * i + j) k ≡ part
+      (part book (576 + 16 * bookHeights book + 864 * i) 864) j k
   body-part-of j k h = sym (part-part book (576 + 16 * bookHeights book + 864 * i) 864 j k h)
 
   pub read-leader : byteAt book (576 + 16 * i) ≡ at (decode book) (suc i) .leader
@@ -84,12 +85,15 @@ module _ (book : Bytes) (i : ℕ) (inside : i < bookHeights book) where
   unfolding decodeHeight
   read-notarized = rw (at-decode book i inside) (body-part-of 176 176 (omega arith))
 
-  pub read-vote-digests : part book (576 + 16 * bookHeights book + 864 * i + 352) 512 ≡ at (decode book) (suc i) .voteDigests
+  pub read-vote-digests : part book (576 + 16 * bookHeights book + 864 * i + 352) 512 ≡ at (decode book) (suc i)
+      .voteDigests
   unfolding decodeHeight
   read-vote-digests = rw (at-decode book i inside) (body-part-of 352 512 (omega arith))
 
   -- the digest that replica `r` voted for
-  pub read-vote : (r : ℕ) → r < 16 → part book (576 + 16 * bookHeights book + 864 * i + 352 + 32 * r) 32 ≡ voteOf (at (decode book) (suc i)) r
+  pub read-vote : (r : ℕ) → r < 16 → part book (576 + 16 * bookHeights book + 864 * i + 352 + 32 * r) 32 ≡ voteOf
+      (at (decode book) (suc i)) r
   unfolding voteOf
   read-vote r h =
-      sym (part-part book (576 + 16 * bookHeights book + 864 * i + 352) 512 (32 * r) 32 (omega arith)) ∙ rw read-vote-digests
+      sym (part-part book (576 + 16 * bookHeights book + 864 * i + 352) 512 (32 * r) 32 (omega arith))
+      ∙ rw read-vote-digests

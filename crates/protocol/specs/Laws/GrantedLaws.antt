@@ -8,7 +8,8 @@ use Rattle.protocol.specs.Mask.{maskLimit}
 use Rattle.protocol.specs.State.{State, Height, at, last}
 use Rattle.protocol.specs.Sound.{view}
 
-pub height-range : (digest : Bytes → Bytes) (s : State) → SoundState digest s → (h : ℕ) → 1 ≤ h → h ≤ last s → HeightRange (s .n) (at s h)
+pub height-range : (digest : Bytes → Bytes) (s : State) → SoundState digest s → (h : ℕ) → 1 ≤ h → h ≤ last s →
+    HeightRange (s .n) (at s h)
 unfolding view
 height-range digest s facts h low high =
     let x : SoundHeight (view s) h (at s h) = facts .each h low high in

@@ -9,7 +9,8 @@ use borrow.Author.Tests.{ltb-true, lt-ltb}
 use Rattle.protocol.specs.Bytes.{Bytes, same}
 use Rattle.protocol.specs.Tests.{allOf}
 use Rattle.protocol.specs.Block.{parentHeight, parentDigest}
-use Rattle.protocol.specs.View.{View, quorum, dummyRun, digestAt, extendsOver, linkedWithin, linked, extends, isFinalized}
+use Rattle.protocol.specs.View.{View, quorum, dummyRun, digestAt, extendsOver, linkedWithin, linked, extends}
+use Rattle.protocol.specs.View.{isFinalized}
 use Rattle.protocol.specs.Linked.{OnParent, Linked, start, link, Extends, Finalized}
 use Rattle.protocol.specs.Laws.TestsLaws.{and-true}
 use Rattle.protocol.specs.Laws.ViewLaws.{run-sound, run-complete}
@@ -24,9 +25,11 @@ module _ (digest : Bytes → Bytes) where
   extendsOver-below p q v h block agree = go (ltb (parentHeight block) h) refl
     where
       rest : Bool
-      rest = allOf (same (parentDigest block) (digestAt digest v (parentHeight block)) ∷ dummyRun v (parentHeight block) (h - 1 - parentHeight block) ∷ [])
+      rest = allOf (same (parentDigest block) (digestAt digest v (parentHeight block)) ∷ dummyRun v (parentHeight block)
+          (h - 1 - parentHeight block) ∷ [])
 
-      go : (b : Bool) → ltb (parentHeight block) h ≡ b → (b && (p (parentHeight block) && rest)) ≡ (b && (q (parentHeight block) && rest))
+      go : (b : Bool) → ltb (parentHeight block) h ≡ b →
+          (b && (p (parentHeight block) && rest)) ≡ (b && (q (parentHeight block) && rest))
       go true e = rw (agree (parentHeight block) (ltb-true _ _ e))
       go false e = refl
 
@@ -50,7 +53,8 @@ module _ (digest : Bytes → Bytes) where
   unfolding linked linkedWithin
   linked-zero v = refl
 
-  pub linked-suc : (v : View) (i : ℕ) → linked digest v (suc i) ≡ (v .hasBlock (suc i) && extends digest v (suc i) (v .block (suc i)))
+  pub linked-suc : (v : View) (i : ℕ) → linked digest v
+      (suc i) ≡ (v .hasBlock (suc i) && extends digest v (suc i) (v .block (suc i)))
   unfolding linked linkedWithin extends
   linked-suc v i =
       rw eqb·suc-zero
@@ -70,15 +74,18 @@ module _ (digest : Bytes → Bytes) where
           height = refl;
           below = lower;
           names = same-eq _ _ (row _ 2 e);
-          dummies = λ k low high. run-sound v (parentHeight block) (h - 1 - parentHeight block) (row _ 3 e) k low (omega arith);
+          dummies = λ k low high. run-sound v (parentHeight block) (h - 1 - parentHeight block) (row _ 3 e) k low
+              (omega arith);
         },
       )
 
-  extends-from : (v : View) (h j : ℕ) (block : Bytes) → linked digest v j ≡ true → OnParent digest v h j block → extends digest v h block ≡ true
+  extends-from : (v : View) (h j : ℕ) (block : Bytes) → linked digest v j ≡ true → OnParent digest v h j block →
+      extends digest v h block ≡ true
   unfolding extends extendsOver allOf
   extends-from v h j block e on =
       let lower : ltb j h ≡ true = lt-ltb j h (on .below) in
-      let run : dummyRun v j (h - 1 - j) ≡ true = run-complete v j (h - 1 - j) (λ k low high. on .dummies k low (omega arith)) in
+      let run : dummyRun v j (h - 1 - j) ≡ true =
+      run-complete v j (h - 1 - j) (λ k low high. on .dummies k low (omega arith)) in
       rw (on .height, on .names, lower, e, same-self (digestAt digest v j), run)
 
   -- the block of a linked height, its linked parent, and what lies between
@@ -86,7 +93,8 @@ module _ (digest : Bytes → Bytes) where
       let j : ℕ = parentHeight (v .block (suc i)) in
       (v .hasBlock (suc i) ≡ true) × (linked digest v j ≡ true) × OnParent digest v (suc i) j (v .block (suc i))
   linked-parent v i e =
-      let both = and-true (v .hasBlock (suc i)) (extends digest v (suc i) (v .block (suc i))) (sym (linked-suc v i) ∙ e) in
+      let both = and-true (v .hasBlock (suc i)) (extends digest v (suc i) (v .block (suc i)))
+      (sym (linked-suc v i) ∙ e) in
       let rows = extends-rows v (suc i) (v .block (suc i)) (both .1) in
       (both .0, rows .0, rows .1)
 
@@ -102,7 +110,8 @@ module _ (digest : Bytes → Bytes) where
   pub linked-sound : (v : View) (h : ℕ) → linked digest v h ≡ true → Linked digest v h
   linked-sound v h e = linked-under h v h (omega arith) e
 
-  link-test : (v : View) (h j : ℕ) → v .hasBlock h ≡ true → linked digest v j ≡ true → OnParent digest v h j (v .block h) → linked digest v h ≡ true
+  link-test : (v : View) (h j : ℕ) → v .hasBlock h ≡ true → linked digest v j ≡ true →
+      OnParent digest v h j (v .block h) → linked digest v h ≡ true
   link-test v zero j has e on = linked-zero v
   link-test v (suc i) j has e on = rw (linked-suc v i, has, extends-from v (suc i) j (v .block (suc i)) e on)
 
@@ -113,7 +122,12 @@ module _ (digest : Bytes → Bytes) where
   pub extends-sound : (v : View) (h : ℕ) (block : Bytes) → extends digest v h block ≡ true → Extends digest v h block
   extends-sound v h block e =
       let rows = extends-rows v h block e in
-      record { parent = parentHeight block; parentLinked = linked-sound v (parentHeight block) (rows .0); onParent = rows .1 }
+      record {
+        parent = parentHeight block;
+        parentLinked = linked-sound v (parentHeight block) (rows .0);
+        onParent =
+            rows .1;
+      }
 
   pub extends-complete : (v : View) (h : ℕ) (block : Bytes) → Extends digest v h block → extends digest v h block ≡ true
   extends-complete v h block e = extends-from v h (e .parent) block (linked-complete v (e .parentLinked)) (e .onParent)

@@ -27,7 +27,8 @@ module _ (digest : Bytes → Bytes) (s : State) (facts : SoundState digest s) wh
   pub finalized-linked : linked digest (view s) (s .finalized) ≡ true
   finalized-linked = go (facts .final)
     where
-      go : (s .finalized ≡ 0) ⊎ (isFinalized digest (view s) (s .finalized) ≡ true) → linked digest (view s) (s .finalized) ≡ true
+      go : (s .finalized ≡ 0) ⊎ (isFinalized digest (view s) (s .finalized) ≡ true) →
+          linked digest (view s) (s .finalized) ≡ true
       go (inl z) = ap (linked digest (view s)) z ∙ linked-zero digest (view s)
       go (inr z) = unfold isFinalized in and-true _ (quorum (view s) (view s .finalizeMask (s .finalized))) z .0
 

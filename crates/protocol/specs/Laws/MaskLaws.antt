@@ -3,7 +3,8 @@ use Prim.Native.Nat.{ℕ, zero, suc, _+_, _*_, _/_, _%_, _^_, _≤_, _<_}
 use native.Mathlib.Omega.{arith}
 use native.Mathlib.Decide.{ℕ-discrete}
 use native.Mathlib.Numerals.{one-add}
-use native.Mathlib.Nat.{div-one, div-div-eq-div-mul, mul-comm, pow-suc, zero-div, mod-lt, add-mul-div-right, add-div-right, div-eq-of-lt, mod-eq-of-lt, mod-one, le-trans, add-zero}
+use native.Mathlib.Nat.{div-one, div-div-eq-div-mul, mul-comm, pow-suc, zero-div, mod-lt, add-mul-div-right}
+use native.Mathlib.Nat.{add-div-right, div-eq-of-lt, mod-eq-of-lt, mod-one, le-trans, add-zero}
 use mathlib.Core.Path.{_≡_, refl, sym, ap, ap₂, _∙_}
 use mathlib.Core.Logic.{_⊎_, inl, inr, _≢_}
 use mathlib.Core.Bool.{Bool, true, false, cond, true≢false}
@@ -69,7 +70,8 @@ bit-other zero (suc t) m e n =
     rw (bit-suc (m + 1) t, bit-suc m t, halves)
 bit-other (suc s) zero m e n = bit-zero (m + 2 ^ suc s) ∙ parity-add m s ∙ sym (bit-zero m)
 bit-other (suc s) (suc t) m e n =
-    rw (bit-suc (m + 2 ^ suc s) t, half-add m s, bit-suc m t) (bit-other s t (m / 2) (rw bit-suc at e) (λ p. n (ap suc p)))
+    rw (bit-suc (m + 2 ^ suc s) t, half-add m s, bit-suc m t)
+    (bit-other s t (m / 2) (rw bit-suc at e) (λ p. n (ap suc p)))
 
 pub inMask-add-self : (m s : ℕ) → inMask m s ≡ false → inMask (m + 2 ^ s) s ≡ true
 inMask-add-self m s e = true-bit (m + 2 ^ s) s (bit-self s m (bit-false m s e))
@@ -118,7 +120,8 @@ maskOf-bit p (suc n) t l = pick (p n) refl (ℕ-discrete t n) (λ z. maskOf-bit 
     absent : inMask (maskOf p n) n ≡ false
     absent = inMask-high n (maskOf p n) n (maskOf-below p n) (omega arith)
 
-    pick : (b : Bool) → p n ≡ b → Dec (t ≡ n) → (t < n → inMask (maskOf p n) t ≡ p t) → inMask (maskOf p n + cond b (2 ^ n) 0) t ≡ p t
+    pick : (b : Bool) → p n ≡ b → Dec (t ≡ n) → (t < n → inMask (maskOf p n) t ≡ p t) →
+        inMask (maskOf p n + cond b (2 ^ n) 0) t ≡ p t
     pick false e (yes q) below = rw (add-zero, q) (absent ∙ sym e)
     pick false e (no q) below = rw add-zero (below (omega arith))
     pick true e (yes q) below = rw q (inMask-add-self (maskOf p n) n absent ∙ sym e)
@@ -149,7 +152,8 @@ unfolding maskOf inMask
 maskOf-bits m zero = sym (mod-one m)
 maskOf-bits m (suc n) =
     let above : m / 2 ^ n % 2 < 2 = mod-lt _ (omega arith) in
-    let next : m % 2 ^ suc n ≡ (m / 2 ^ n % 2) * 2 ^ n + m % 2 ^ n = sym (ap (λ (k : ℕ). m % 2 ^ k) (one-add n)) ∙ mod-pow-add m 1 n in
+    let next : m % 2 ^ suc n ≡ (m / 2 ^ n % 2) * 2 ^ n + m % 2 ^ n = sym (ap (λ (k : ℕ). m % 2 ^ k) (one-add n))
+    ∙ mod-pow-add m 1 n in
     let value = bit-value (m / 2 ^ n % 2) (2 ^ n) above in
     let lower = maskOf-bits m n in
     omega arith
@@ -157,4 +161,5 @@ maskOf-bits m (suc n) =
 -- masks below `2 ^ n` with the same bits are equal
 pub mask-same : (n a b : ℕ) → a < 2 ^ n → b < 2 ^ n → ((t : ℕ) → t < n → inMask a t ≡ inMask b t) → a ≡ b
 mask-same n a b h k e =
-    sym (maskOf-bits a n ∙ mod-eq-of-lt h) ∙ maskOf-same (λ s. inMask a s) (λ s. inMask b s) n e ∙ maskOf-bits b n ∙ mod-eq-of-lt k
+    sym (maskOf-bits a n ∙ mod-eq-of-lt h) ∙ maskOf-same (λ s. inMask a s) (λ s. inMask b s) n e ∙ maskOf-bits b n
+    ∙ mod-eq-of-lt k

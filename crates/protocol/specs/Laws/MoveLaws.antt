@@ -1,18 +1,22 @@
--- Move takes one of six steps: what holds of each of them where it applies and no earlier one does holds of the step taken.
+-- Move takes one of six steps: what holds of each of them where it applies and no earlier one does holds of the step
+-- taken.
 -- It changes nothing past the head.
 use Prim.Native.Nat.{ℕ, zero, suc}
 use mathlib.Core.Path.{_≡_, refl, sym, subst, _∙_}
 use mathlib.Core.Bool.{true, false}
 use Rattle.protocol.specs.Bytes.{Bytes}
 use Rattle.protocol.specs.State.{State, withHead}
-use Rattle.protocol.specs.Move.{Step, firstStep, step, afterMoves, dummyVoteApplies, dummyVoteStep, outputApplies, outputStep, passApplies, passStep, proposeApplies, proposeStep, blockVoteApplies, blockVoteStep, idleStep}
+use Rattle.protocol.specs.Move.{Step, firstStep, step, afterMoves, dummyVoteApplies, dummyVoteStep, outputApplies}
+use Rattle.protocol.specs.Move.{outputStep, passApplies, passStep, proposeApplies, proposeStep, blockVoteApplies}
+use Rattle.protocol.specs.Move.{blockVoteStep, idleStep}
 use Rattle.protocol.specs.Laws.TestsLaws.{cond-elim}
 
 module _ (digest : Bytes → Bytes) (s : State) (P : Step → Type 0) where
   pub step-cases :
       (dummyVoteApplies s ≡ true → P (dummyVoteStep s)) →
       (dummyVoteApplies s ≡ false → outputApplies digest s ≡ true → P (outputStep digest s)) →
-      (dummyVoteApplies s ≡ false → outputApplies digest s ≡ false → passApplies digest s ≡ true → P (passStep digest s)) →
+      (dummyVoteApplies s ≡ false → outputApplies digest s ≡ false → passApplies digest s ≡ true →
+      P (passStep digest s)) →
       (dummyVoteApplies s ≡ false → outputApplies digest s ≡ false → passApplies digest s ≡ false →
       proposeApplies digest s ≡ true → P (proposeStep digest s)) →
       (dummyVoteApplies s ≡ false → outputApplies digest s ≡ false → passApplies digest s ≡ false →
@@ -35,7 +39,8 @@ module _ (digest : Bytes → Bytes) (s : State) where
   pub head-only : HeadOnly (step digest s)
   unfolding dummyVoteStep outputStep passStep proposeStep blockVoteStep idleStep
   head-only = step-cases digest s HeadOnly
-      (λ _. (_, _, _, refl)) (λ _ _. (_, _, _, refl)) (λ _ _ _. (_, _, _, refl)) (λ _ _ _ _. (_, _, _, refl)) (λ _ _ _ _ _. (_, _, _, refl))
+      (λ _. (_, _, _, refl)) (λ _ _. (_, _, _, refl)) (λ _ _ _. (_, _, _, refl)) (λ _ _ _ _. (_, _, _, refl))
+      (λ _ _ _ _ _. (_, _, _, refl))
       (λ _ _ _ _ _. (s .flags, s .current, s .finalized, unfold withHead in refl))
 
 -- a move leaves all but flags, current and finalized height

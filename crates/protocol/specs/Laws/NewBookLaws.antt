@@ -14,7 +14,8 @@ use Rattle.protocol.specs.Every.{Every, none, one}
 use Rattle.protocol.specs.Bytes.{Bytes, zeros, all}
 use Rattle.protocol.specs.Laws.TestsLaws.{and-true}
 use Rattle.protocol.specs.Block.{maximumHeights}
-use Rattle.protocol.specs.State.{State, Height, at, last, encode, decode, noHeight, holdsProposal, isNotarized, maximumReplicas}
+use Rattle.protocol.specs.State.{State, Height, at, last, encode, decode, noHeight, holdsProposal, isNotarized}
+use Rattle.protocol.specs.State.{maximumReplicas}
 use Rattle.protocol.specs.Laws.StateLaws.{decode-encode}
 use Rattle.protocol.specs.View.{View}
 use Rattle.protocol.specs.Sound.{view, sound}
@@ -121,11 +122,16 @@ module _ (n own flags dummy final leader : ℕ) (leaders : Bytes) (ranges : Rang
   unfolding at
   early-bare h =
       every-getD (h - 1) noHeight (none-bare n (ranges .some-replica))
-      (one (first-bare n leader dummy final (ranges .leader-below) dummy-below final-below) (all-bare n leaders (ranges .leaders-below)))
+      (one (first-bare n leader dummy final (ranges .leader-below) dummy-below final-below)
+      (all-bare n leaders (ranges .leaders-below)))
 
   early-shaped : Shaped E
   unfolding zeros newState
-  early-shaped = record { pool-size = refl; heights = one (first-shaped leader dummy final) (new-shaped n own leaders .heights) }
+  early-shaped = record {
+    pool-size = refl;
+    heights =
+        one (first-shaped leader dummy final) (new-shaped n own leaders .heights);
+  }
 
   pub early-back : decode (encode E) ≡ E
   early-back = decode-encode E early-shaped

@@ -8,7 +8,8 @@ use lib.ListN.{length, getD, set, length-map}
 use Rattle.protocol.specs.SoundState.{ShapedHeight, Shaped}
 use Rattle.protocol.specs.Every.{Every, none, one}
 use Rattle.protocol.specs.Bytes.{Bytes, le16, zeros, join}
-use Rattle.protocol.specs.State.{State, Height, at, last, noHeight, withHeight, encode, headBytes, contentBytes, bodyBytes}
+use Rattle.protocol.specs.State.{State, Height, at, last, noHeight, withHeight, encode, headBytes, contentBytes}
+use Rattle.protocol.specs.State.{bodyBytes}
 use Rattle.protocol.specs.Open.{newHeight, newState}
 use Rattle.protocol.specs.Laws.CodecLaws.{at-suc}
 use Rattle.protocol.specs.Laws.PlaceLaws.{with-at}
@@ -18,7 +19,12 @@ use Rattle.protocol.specs.Laws.BytesLaws.{length-zeros, zeros-add}
 -- ---- the shape of a new state
 pub new-height-shaped : (leader : ℕ) → ShapedHeight (newHeight leader)
 unfolding newHeight
-new-height-shaped leader = record { proposal-size = length-zeros 176; notarized-size = length-zeros 176; votes-size = length-zeros 512 }
+new-height-shaped leader = record {
+  proposal-size = length-zeros 176;
+  notarized-size = length-zeros 176;
+  votes-size =
+      length-zeros 512;
+}
 
 new-heights-shaped : (leaders : Bytes) → Every ShapedHeight (map newHeight leaders)
 new-heights-shaped [] = none
@@ -41,7 +47,8 @@ zero-body : bodyBytes (newHeight 0) ≡ zeros 864
 unfolding bodyBytes newHeight
 zero-body = rw (zeros-add 176 512, zeros-add 176 688)
 
-zero-join : (f : Height → Bytes) (k : ℕ) → f (newHeight 0) ≡ zeros k → (count : ℕ) → join (map f (map newHeight (zeros count))) ≡ zeros (k * count)
+zero-join : (f : Height → Bytes) (k : ℕ) → f (newHeight 0) ≡ zeros k → (count : ℕ) →
+    join (map f (map newHeight (zeros count))) ≡ zeros (k * count)
 unfolding join zeros
 zero-join f k e zero = rw (mul-zero k)
 zero-join f k e (suc count) =
@@ -53,13 +60,20 @@ unfolding zeros
 eight-zeros k = sym (zeros-add 8 k)
 
 -- the rest of the book past its first eight bytes
-rest-zeros : (heights : ℕ) → zeros 56 ++ (zeros 512 ++ (zeros (16 * heights) ++ zeros (864 * heights))) ≡ zeros (568 + 880 * heights)
+rest-zeros : (heights : ℕ) → zeros 56 ++ (zeros 512 ++ (zeros (16 * heights) ++ zeros (864 * heights))) ≡ zeros
+    (568 + 880 * heights)
 rest-zeros heights =
     let size : 56 + (512 + (16 * heights + 864 * heights)) ≡ 568 + 880 * heights = omega arith in
-    rw (zeros-add (16 * heights) (864 * heights), zeros-add 512 (16 * heights + 864 * heights), zeros-add 56 (512 + (16 * heights + 864 * heights)), size)
+    rw (
+      zeros-add (16 * heights) (864 * heights),
+      zeros-add 512 (16 * heights + 864 * heights),
+      zeros-add 56 (512 + (16 * heights + 864 * heights)),
+      size,
+    )
 
 pub new-from-zeros : (n own heights : ℕ) →
-    set (set (set (set (set (zeros (576 + 880 * heights)) 0 n) 1 own) 2 heights) 4 1) 7 1 ≡ encode (newState n own (zeros heights))
+    set (set (set (set (set (zeros (576 + 880 * heights)) 0 n) 1 own) 2 heights) 4 1) 7 1 ≡ encode
+    (newState n own (zeros heights))
 unfolding encode headBytes newState
 new-from-zeros n own heights =
     let size : 576 + 880 * heights ≡ 8 + (568 + 880 * heights) = omega arith in
@@ -79,7 +93,8 @@ map-set f [] i v = refl
 map-set f (x ∷ xs) zero v = refl
 map-set f (x ∷ xs) (suc i) v = ap (λ (l : List _). f x ∷ l) (map-set f xs i v)
 
-new-at : (n own : ℕ) (leaders : Bytes) (i v : ℕ) → i < length leaders → withLeader (at (newState n own leaders) (suc i)) v ≡ newHeight v
+new-at : (n own : ℕ) (leaders : Bytes) (i v : ℕ) → i < length leaders →
+    withLeader (at (newState n own leaders) (suc i)) v ≡ newHeight v
 unfolding newState
 new-at n own leaders i v h = rw (at-suc (newState n own leaders) i) (led leaders i h)
   where
@@ -88,7 +103,8 @@ new-at n own leaders i v h = rw (at-suc (newState n own leaders) i) (led leaders
     led (x ∷ xs) zero k = unfold withLeader newHeight in refl
     led (x ∷ xs) (suc j) k = led xs j (omega arith)
 
-new-with : (n own : ℕ) (leaders : Bytes) (i v : ℕ) → withHeight (newState n own leaders) (suc i) (newHeight v) ≡ newState n own (set leaders i v)
+new-with : (n own : ℕ) (leaders : Bytes) (i v : ℕ) →
+    withHeight (newState n own leaders) (suc i) (newHeight v) ≡ newState n own (set leaders i v)
 unfolding withHeight newState
 new-with n own leaders i v = let place : suc i - 1 ≡ i = omega arith in rw (place, map-set newHeight leaders i v)
 

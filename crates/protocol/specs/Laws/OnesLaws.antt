@@ -9,7 +9,8 @@ use borrow.Author.Tests.{leb-true, le-leb}
 use Rattle.protocol.specs.Mask.{inMask, weigh, total, Within}
 use Rattle.protocol.specs.View.{View, quorum}
 
-pub weigh-mono : (p q : ℕ → Bool) (ws : List ℕ) → ((t : ℕ) → t < length ws → p t ≡ true → q t ≡ true) → weigh p ws ≤ weigh q ws
+pub weigh-mono : (p q : ℕ → Bool) (ws : List ℕ) → ((t : ℕ) → t < length ws → p t ≡ true → q t ≡ true) →
+    weigh p ws ≤ weigh q ws
 unfolding weigh
 weigh-mono p q [] h = omega arith
 weigh-mono p q (w ∷ ws) h =

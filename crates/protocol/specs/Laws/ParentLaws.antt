@@ -46,10 +46,16 @@ module _ (digest : Bytes → Bytes) (v : View) where
         pick (inl l) = l
         pick (inr l) =
             let top : k ≡ suc h = let within = c .within in omega arith in
-            absurd (true≢false (sym (linked-complete digest v (subst (λ (x : ℕ). Linked digest v x) top (c .isLinked))) ∙ bare))
+            absurd (true≢false (sym (linked-complete digest v (subst (λ (x : ℕ). Linked digest v x) top (c .isLinked)))
+            ∙ bare))
 
     drop-dummy : {k : ℕ} → ChainOf digest v (suc h) k → ChainOf digest v h k
-    drop-dummy c = record { within = shorter c; isLinked = c .isLinked; dummies = λ i low high. c .dummies i low (omega arith) }
+    drop-dummy c = record {
+      within = shorter c;
+      isLinked = c .isLinked;
+      dummies =
+          λ i low high. c .dummies i low (omega arith);
+    }
 
     on-dummy : isDummy v (suc h) ≡ true → (o : Option ℕ) → Best h o → Best (suc h) o
     on-dummy d none no-chain = λ j c. no-chain j (drop-dummy c)
@@ -64,10 +70,12 @@ module _ (digest : Bytes → Bytes) (v : View) where
   best (suc h) =
       cond-elim (Best (suc h)) (linked digest v (suc h))
       (λ l. at-block (suc h) (linked-sound digest v (suc h) l))
-      (λ bare. cond-elim (Best (suc h)) (isDummy v (suc h)) (λ d. on-dummy h bare d (parentOf digest v h) (best h)) (λ d. neither h bare d))
+      (λ bare. cond-elim (Best (suc h)) (isDummy v (suc h)) (λ d. on-dummy h bare d (parentOf digest v h) (best h))
+      (λ d. neither h bare d))
 
   -- the parent is a chain's last height, and the largest
-  pub parent-some : (h j : ℕ) → parentOf digest v h ≡ some j → ChainOf digest v h j × ((k : ℕ) → ChainOf digest v h k → k ≤ j)
+  pub parent-some : (h j : ℕ) → parentOf digest v h ≡ some j →
+      ChainOf digest v h j × ((k : ℕ) → ChainOf digest v h k → k ≤ j)
   parent-some h j e = subst (Best h) e (best h)
 
   pub parent-none : (h : ℕ) → parentOf digest v h ≡ none → (j : ℕ) → ChainOf digest v h j → ⊥
@@ -85,11 +93,13 @@ module _ (digest : Bytes → Bytes) (v : View) where
   unfolding isSome
   parent-isSome h k c = rw (parent-exists h k c .1)
 
-  pub isSome-parent : (h : ℕ) → isSome (parentOf digest v h) ≡ true → (j : ℕ) × (parentOf digest v h ≡ some j) × ChainOf digest v h j
+  pub isSome-parent : (h : ℕ) → isSome (parentOf digest v h) ≡ true →
+      (j : ℕ) × (parentOf digest v h ≡ some j) × ChainOf digest v h j
   unfolding isSome
   isSome-parent h e = go (parentOf digest v h) refl e
     where
-      go : (o : Option ℕ) → parentOf digest v h ≡ o → isSome o ≡ true → (j : ℕ) × (parentOf digest v h ≡ some j) × ChainOf digest v h j
+      go : (o : Option ℕ) → parentOf digest v h ≡ o → isSome o ≡ true →
+          (j : ℕ) × (parentOf digest v h ≡ some j) × ChainOf digest v h j
       go none p q = absurd (false≢true q)
       go (some j) p q = (j, p, parent-some h j p .0)
 
@@ -112,5 +122,10 @@ module _ (digest : Bytes → Bytes) (v : View) where
   largestFinalized-is zero = record { within = omega arith; finalized = inl refl; most = λ k low high f. high }
   largestFinalized-is (suc h) =
       cond-elim (Largest digest v (suc h)) (isFinalized digest v (suc h))
-      (λ f. record { within = omega arith; finalized = inr (finalized-sound digest v (suc h) f); most = λ k low high e. high })
+      (λ f. record {
+        within = omega arith;
+        finalized = inr (finalized-sound digest v (suc h) f);
+        most =
+            λ k low high e. high;
+      })
       (λ e. less h e (largestFinalized-is h))

@@ -1,4 +1,5 @@
--- Pending entries of a sound state, those that a list lacks, and those that a block takes: 16 bytes each, eight at most.
+-- Pending entries of a sound state, those that a list lacks, and those that a block takes: 16 bytes each, eight at
+-- most.
 use Prim.Native.Nat.{ℕ, _≤_}
 use native.Mathlib.Omega.{arith}
 use lib.ListN.{length, length-take}
@@ -18,7 +19,8 @@ pending-sized digest s sound =
     let size = sound .shaped .pool-size in
     pieces-sized 16 (s .pendingCount) (s .pool) (omega arith)
 
-pub offered-sized : (digest : Bytes → Bytes) (s : State) → SoundState digest s → (j : ℕ) → Every (Sized 16) (offered s j)
+pub offered-sized : (digest : Bytes → Bytes) (s : State) → SoundState digest s → (j : ℕ) →
+    Every (Sized 16) (offered s j)
 unfolding offered
 offered-sized digest s sound j = every-take 8 (every-without _ (pending-sized digest s sound))
 

@@ -25,7 +25,8 @@ length-join k [] e = omega arith
 length-join k (x ∷ xs) (one h hs) = let r = length-join k xs hs in rw (length-append, h, r, mul-suc, add-comm)
 
 -- another element in the place of one
-pub cut-set : {A : Type 0} (f : A → Bytes) (xs : List A) (i : ℕ) (y : A) → i < length xs → join (map f (set xs i y)) ≡ join (map f (take i xs)) ++ (f y ++ join (map f (drop (suc i) xs)))
+pub cut-set : {A : Type 0} (f : A → Bytes) (xs : List A) (i : ℕ) (y : A) → i < length xs →
+    join (map f (set xs i y)) ≡ join (map f (take i xs)) ++ (f y ++ join (map f (drop (suc i) xs)))
 unfolding join
 cut-set f [] i y h = absurd (not-suc-le-zero h)
 cut-set f (x ∷ xs) zero y h = refl
@@ -37,7 +38,8 @@ unfolding pieces
 length-pieces size zero bytes = refl
 length-pieces size (suc count) bytes = ap suc (length-pieces size count (drop size bytes))
 
-pub pieces-sized : (size count : ℕ) (bytes : Bytes) → size * count ≤ length bytes → Every (Sized size) (pieces size count bytes)
+pub pieces-sized : (size count : ℕ) (bytes : Bytes) → size * count ≤ length bytes →
+    Every (Sized size) (pieces size count bytes)
 unfolding pieces
 pieces-sized size zero bytes h = none
 pieces-sized size (suc count) bytes h =
@@ -45,7 +47,8 @@ pieces-sized size (suc count) bytes h =
     let first : length (take size bytes) ≡ size = simp length-take (omega arith) in
     one first (pieces-sized size count (drop size bytes) (simp length-drop (omega arith)))
 
-pub get-pieces : (size count : ℕ) (bytes : Bytes) (i : ℕ) → i < count → getD (pieces size count bytes) i [] ≡ part bytes (size * i) size
+pub get-pieces : (size count : ℕ) (bytes : Bytes) (i : ℕ) → i < count →
+    getD (pieces size count bytes) i [] ≡ part bytes (size * i) size
 unfolding pieces part
 get-pieces size zero bytes i h = absurd (not-suc-le-zero h)
 get-pieces size (suc count) bytes zero h = rw mul-zero
@@ -54,7 +57,8 @@ get-pieces size (suc count) bytes (suc i) h =
     get-pieces size count (drop size bytes) i (le-of-suc-le-suc h) ∙ rw (drop-drop, e)
 
 -- from piece `k` on
-pub pieces-next : (size count : ℕ) (bytes : Bytes) (k : ℕ) → k < count → drop k (pieces size count bytes) ≡ part bytes (size * k) size ∷ drop (suc k) (pieces size count bytes)
+pub pieces-next : (size count : ℕ) (bytes : Bytes) (k : ℕ) → k < count →
+    drop k (pieces size count bytes) ≡ part bytes (size * k) size ∷ drop (suc k) (pieces size count bytes)
 pieces-next size count bytes k h =
     drop-cons (pieces size count bytes) k [] (rw length-pieces h) ∙ rw (get-pieces size count bytes k h)
 
@@ -63,7 +67,8 @@ pieces-done size count bytes k h = drop-of-length-le (pieces size count bytes) {
 
 -- ---- cut and joined
 -- pieces of a joined list
-pub pieces-join : (k : ℕ) (xs : List Bytes) (rest : Bytes) → Every (Sized k) xs → pieces k (length xs) (join xs ++ rest) ≡ xs
+pub pieces-join : (k : ℕ) (xs : List Bytes) (rest : Bytes) → Every (Sized k) xs →
+    pieces k (length xs) (join xs ++ rest) ≡ xs
 unfolding pieces join
 pieces-join k [] rest e = refl
 pieces-join k (x ∷ xs) rest (one h hs) =

@@ -8,7 +8,8 @@ use lib.Seq.{set-getD, set-set, getD-set-same, getD-set-other, length-take-le}
 use Rattle.protocol.specs.SoundState.{ShapedHeight, Shaped}
 use Rattle.protocol.specs.Every.{Every}
 use Rattle.protocol.specs.Bytes.{Bytes, byteAt, le16, part, zeros, join, put}
-use Rattle.protocol.specs.State.{State, Height, noHeight, at, last, withHeight, encode, headBytes, contentBytes, bodyBytes, bookHeights, renewed}
+use Rattle.protocol.specs.State.{State, Height, noHeight, at, last, withHeight, encode, headBytes, contentBytes}
+use Rattle.protocol.specs.State.{bodyBytes, bookHeights, renewed}
 use Rattle.protocol.specs.Laws.EveryLaws.{every-set, every-at, every-take}
 use Rattle.protocol.specs.Laws.BytesLaws.{middle-part, middle-set, middle-put}
 use Rattle.protocol.specs.Laws.StateLaws.{head-size, content-size, body-size, contents-sized, bodies-sized}
@@ -59,7 +60,8 @@ module _ (s : State) (i : ℕ) where
 
   pub at-with-other : (j : ℕ) (x : Height) → (j ≡ i → ⊥) → at (withHeight s (suc i) x) (suc j) ≡ at s (suc j)
   unfolding withHeight
-  at-with-other j x h = at-suc (withHeight s (suc i) x) j ∙ rw suc-minus (getD-set-other (s .heights) i j x noHeight h) ∙ sym (at-suc s j)
+  at-with-other j x h = at-suc (withHeight s (suc i) x) j ∙ rw suc-minus (getD-set-other (s .heights) i j x noHeight h)
+      ∙ sym (at-suc s j)
 
   pub shaped-at : Shaped s → i < last s → ShapedHeight (at s (suc i))
   unfolding last
@@ -67,7 +69,11 @@ module _ (s : State) (i : ℕ) where
 
   pub shaped-with : (x : Height) → Shaped s → ShapedHeight x → Shaped (withHeight s (suc i) x)
   unfolding withHeight
-  shaped-with x shaped fits = record { pool-size = shaped .pool-size; heights = every-set (suc i - 1) x fits (shaped .heights) }
+  shaped-with x shaped fits = record {
+    pool-size = shaped .pool-size;
+    heights =
+        every-set (suc i - 1) x fits (shaped .heights);
+  }
 
 -- ---- the bytes around height `suc i`
 unfoldable front : State → ℕ → Bytes
@@ -104,19 +110,28 @@ module _ (s : State) (shaped : Shaped s) (i : ℕ) (inside : i < last s) where
   unfolding headBytes withHeight
   head-with x = rw length-set
 
-  cut : (x : Height) → encode (withHeight s (suc i) x) ≡ front s i ++ (contentBytes x ++ (between s i ++ (bodyBytes x ++ back s i)))
+  cut : (x : Height) → encode (withHeight s (suc i) x) ≡ front s
+      i ++ (contentBytes x ++ (between s i ++ (bodyBytes x ++ back s i)))
   unfolding encode withHeight front between back last
   cut x =
-      rw (head-with x, suc-minus s i, cut-set contentBytes (s .heights) i x inside, cut-set bodyBytes (s .heights) i x inside)
+      rw (
+        head-with x,
+        suc-minus s i,
+        cut-set contentBytes (s .heights) i x inside,
+        cut-set bodyBytes (s .heights) i x inside,
+      )
       (simp append-assoc)
 
-  body-cut : (x : Height) → encode (withHeight s (suc i) x) ≡ (front s i ++ (contentBytes x ++ between s i)) ++ (bodyBytes x ++ back s i)
+  body-cut : (x : Height) → encode (withHeight s (suc i) x) ≡ (front s i ++ (contentBytes x ++ between s i)) ++
+      (bodyBytes x ++ back s i)
   body-cut x = cut x ∙ simp append-assoc
 
   -- ---- reads
-  pub content-part : (x : Height) (j k : ℕ) → j + k ≤ 16 → part (encode (withHeight s (suc i) x)) (576 + 16 * i + j) k ≡ part (contentBytes x) j k
+  pub content-part : (x : Height) (j k : ℕ) → j + k ≤ 16 →
+      part (encode (withHeight s (suc i) x)) (576 + 16 * i + j) k ≡ part (contentBytes x) j k
   content-part x j k h =
-      rw (cut x) (middle-part (front s i) (contentBytes x) (between s i ++ (bodyBytes x ++ back s i)) (576 + 16 * i) front-size j k (rw content-size h))
+      rw (cut x) (middle-part (front s i) (contentBytes x) (between s i ++ (bodyBytes x ++ back s i)) (576 + 16 * i)
+      front-size j k (rw content-size h))
 
   -- ---- writes: the height `x` becomes `y`
   pub content-put : (x y : Height) (j : ℕ) (new : Bytes) → j + length new ≤ 16 →
@@ -124,21 +139,24 @@ module _ (s : State) (shaped : Shaped s) (i : ℕ) (inside : i < last s) where
       put (encode (withHeight s (suc i) x)) (576 + 16 * i + j) new ≡ encode (withHeight s (suc i) y)
   content-put x y j new h contents bodies =
       rw (cut x, cut y, contents, bodies)
-      (middle-put (front s i) (contentBytes x) (between s i ++ (bodyBytes x ++ back s i)) (576 + 16 * i) front-size j new (rw content-size h))
+      (middle-put (front s i) (contentBytes x) (between s i ++ (bodyBytes x ++ back s i)) (576 + 16 * i) front-size j
+      new (rw content-size h))
 
   pub content-set : (x y : Height) (j v : ℕ) → j < 16 →
       contentBytes y ≡ set (contentBytes x) j v → bodyBytes y ≡ bodyBytes x →
       set (encode (withHeight s (suc i) x)) (576 + 16 * i + j) v ≡ encode (withHeight s (suc i) y)
   content-set x y j v h contents bodies =
       rw (cut x, cut y, contents, bodies)
-      (middle-set (front s i) (contentBytes x) (between s i ++ (bodyBytes x ++ back s i)) (576 + 16 * i) front-size j v (rw content-size h))
+      (middle-set (front s i) (contentBytes x) (between s i ++ (bodyBytes x ++ back s i)) (576 + 16 * i) front-size j v
+      (rw content-size h))
 
   pub body-put : (x y : Height) → ShapedHeight x → (j : ℕ) (new : Bytes) → j + length new ≤ 864 →
       contentBytes y ≡ contentBytes x → bodyBytes y ≡ put (bodyBytes x) j new →
       put (encode (withHeight s (suc i) x)) (576 + 16 * last s + 864 * i + j) new ≡ encode (withHeight s (suc i) y)
   body-put x y fits j new h contents bodies =
       rw (body-cut x, body-cut y, contents, bodies)
-      (middle-put (front s i ++ (contentBytes x ++ between s i)) (bodyBytes x) (back s i) (576 + 16 * last s + 864 * i) (body-front-size x) j new (rw (body-size x fits) h))
+      (middle-put (front s i ++ (contentBytes x ++ between s i)) (bodyBytes x) (back s i) (576 + 16 * last s + 864 * i)
+      (body-front-size x) j new (rw (body-size x fits) h))
 
 -- ---- the bytes of a state of the right shape are those of a clean book
 content-zeros : (x : Height) → part (contentBytes x) 10 6 ≡ zeros 6

@@ -1,4 +1,5 @@
--- The pool while its entries are closed up in place: those that stay move to the front one by one, and then a new one follows them.
+-- The pool while its entries are closed up in place: those that stay move to the front one by one, and then a new one
+-- follows them.
 use Prim.Native.Nat.{ℕ, suc, _+_, _-_, _*_, _≤_, _<_}
 use native.Mathlib.Omega.{arith}
 use native.Mathlib.Numerals.{add-one}
@@ -21,7 +22,8 @@ use Rattle.protocol.specs.Laws.WriteLaws.{write-pool, write-pending-coun
 use Rattle.protocol.specs.Laws.ChangeLaws.{with-pending, shaped-pool}
 
 -- bytes put at the end of a front part
-put-at-front : (front rest new : Bytes) (k : ℕ) → length front ≡ k → put (front ++ rest) k new ≡ (front ++ new) ++ drop (length new) rest
+put-at-front : (front rest new : Bytes) (k : ℕ) → length front ≡ k →
+    put (front ++ rest) k new ≡ (front ++ new) ++ drop (length new) rest
 put-at-front front rest new k e = put-at front rest new k e ∙ sym (append-assoc front new (drop (length new) rest))
 
 -- ---- a new entry after the first `count` places, and zeros after it
@@ -30,18 +32,22 @@ unfolding put
 put-cut bytes k new = sym (append-assoc (take k bytes) new (drop (k + length new) bytes))
 
 finished : (pool : Bytes) (count : ℕ) (entry : Bytes) → length pool ≡ 512 → count < 32 → length entry ≡ 16 →
-    put (put pool (16 * count) entry) (16 * (count + 1)) (zeros (512 - 16 * (count + 1))) ≡ (take (16 * count) pool ++ entry) ++ zeros (512 - 16 * (count + 1))
+    put (put pool (16 * count) entry) (16 * (count + 1))
+    (zeros (512 - 16 * (count + 1))) ≡ (take (16 * count) pool ++ entry) ++ zeros (512 - 16 * (count + 1))
 finished pool count entry size few e =
     let k : ℕ = 16 * (count + 1) in
     let front : length (take (16 * count) pool ++ entry) ≡ k = simp (length-append, length-take) (omega arith) in
     let rest : Bytes = drop (16 * count + length entry) pool in
-    let past : length rest ≤ length (zeros (512 - k)) = rw (length-zeros, length-drop (16 * count + length entry) pool) (omega arith) in
+    let past : length rest ≤ length (zeros (512 - k)) =
+    rw (length-zeros, length-drop (16 * count + length entry) pool) (omega arith) in
     ap (λ (b : Bytes). put b k (zeros (512 - k))) (put-cut pool (16 * count) entry) ∙
     put-at-front (take (16 * count) pool ++ entry) rest (zeros (512 - k)) k front ∙
-    rw (drop-of-length-le rest {i = length (zeros (512 - k))} past) (append-nil ((take (16 * count) pool ++ entry) ++ zeros (512 - k)))
+    rw (drop-of-length-le rest {i = length (zeros (512 - k))} past)
+    (append-nil ((take (16 * count) pool ++ entry) ++ zeros (512 - k)))
 
 -- the pool of a state with these pending entries has its size
-pub pending-pool-size : (es : List Bytes) → Every (Sized 16) es → length es ≤ 32 → length (join es ++ zeros (512 - 16 * length es)) ≡ 512
+pub pending-pool-size : (es : List Bytes) → Every (Sized 16) es → length es ≤ 32 →
+    length (join es ++ zeros (512 - 16 * length es)) ≡ 512
 pending-pool-size es sized few = simp (length-append, length-join 16 es sized, length-zeros) (omega arith)
 
 with-entry : (s : State) (count : ℕ) (entry : Bytes) →
@@ -53,7 +59,8 @@ with-entry s count entry =
     rw (size, join-more (pieces 16 count (s .pool)) entry, join-pieces 16 count (s .pool))
 
 pub write-finish : (s : State) → length (s .pool) ≡ 512 → (count : ℕ) (entry : Bytes) → count < 32 → length entry ≡ 16 →
-    set (put (put (encode s) (64 + 16 * count) entry) (64 + 16 * (count + 1)) (zeros (512 - 16 * (count + 1)))) 6 (count + 1) ≡
+    set (put (put (encode s) (64 + 16 * count) entry) (64 + 16 * (count + 1)) (zeros (512 - 16 * (count + 1)))) 6
+    (count + 1) ≡
     encode (withPending s (pieces 16 count (s .pool) ++ (entry ∷ [])))
 unfolding withPool
 write-finish s size count entry few e =
@@ -64,10 +71,13 @@ write-finish s size count entry few e =
     let fits : 16 * (count + 1) + length new ≤ 512 = rw length-zeros (omega arith) in
     rw (write-pool s size (16 * count) entry (omega arith), write-pool first pool-size (16 * (count + 1)) new fits)
     (write-pending-count (withPool first (s .pendingCount) (put pool (16 * (count + 1)) new)) (count + 1) ∙
-    ap (λ (p : Bytes). encode (withPool s (count + 1) p)) (finished (s .pool) count entry size few e) ∙ ap encode (sym (with-entry s count entry)))
+    ap (λ (p : Bytes). encode (withPool s (count + 1) p)) (finished (s .pool) count entry size few e)
+    ∙ ap encode (sym (with-entry s count entry)))
 
-pub book-finish : (book : Bytes) → encode (decode book) ≡ book → Exact book → (count : ℕ) (entry : Bytes) → count < 32 → length entry ≡ 16 →
-    set (put (put book (64 + 16 * count) entry) (64 + 16 * (count + 1)) (zeros (512 - 16 * (count + 1)))) 6 (count + 1) ≡
+pub book-finish : (book : Bytes) → encode (decode book) ≡ book → Exact book → (count : ℕ) (entry : Bytes) → count < 32 →
+    length entry ≡ 16 →
+    set (put (put book (64 + 16 * count) entry) (64 + 16 * (count + 1)) (zeros (512 - 16 * (count + 1)))) 6
+    (count + 1) ≡
     encode (withPending (decode book) (pieces 16 count (decode book .pool) ++ (entry ∷ [])))
 book-finish book whole exact count entry few e =
     rw whole at (write-finish (decode book) (decode-shaped book exact .pool-size) count entry few e)
@@ -96,7 +106,8 @@ module _ (s : State) (es : List Bytes) where
 
 -- one more entry in front, and 16 bytes fewer of the rest
 front-more : (pool : Bytes) (es : List Bytes) (entry : Bytes) → length entry ≡ 16 →
-    (join es ++ entry) ++ drop (length entry) (drop (16 * length es) pool) ≡ join (es ++ (entry ∷ [])) ++ drop (16 * length (es ++ (entry ∷ []))) pool
+    (join es ++ entry) ++ drop (length entry) (drop (16 * length es) pool) ≡ join (es ++ (entry ∷ [])) ++ drop
+    (16 * length (es ++ (entry ∷ []))) pool
 front-more pool es entry e =
     let more : 16 * length es + 16 ≡ 16 * (length es + 1) = omega arith in
     rw (e, drop-drop 16 (16 * length es) pool, more, length-append es (entry ∷ []), join-more es entry)
@@ -116,7 +127,8 @@ module _ (s : State) (size : length (s .pool) ≡ 512) (es : List Bytes) (sized 
 
   pub moved-shaped : length es ≤ 32 → Shaped s → Shaped (moved s es)
   unfolding moved
-  moved-shaped few shaped = shaped-pool s (s .pendingCount) (join es ++ drop (16 * length es) (s .pool)) (unfold withPool in moved-pool-size few) shaped
+  moved-shaped few shaped = shaped-pool s (s .pendingCount) (join es ++ drop (16 * length es) (s .pool))
+      (unfold withPool in moved-pool-size few) shaped
 
   -- a place that is not before those that stay holds what it held
   pub moved-entry : (k : ℕ) → length es ≤ k → part (moved s es .pool) (16 * k) 16 ≡ part (s .pool) (16 * k) 16
@@ -129,7 +141,8 @@ module _ (s : State) (size : length (s .pool) ≡ 512) (es : List Bytes) (sized 
 
   -- one more that stays
   pub moved-more : (k : ℕ) → length es ≤ k → k < 32 →
-      withPool (moved s es) (moved s es .pendingCount) (put (moved s es .pool) (16 * length es) (part (moved s es .pool) (16 * k) 16)) ≡
+      withPool (moved s es) (moved s es .pendingCount)
+      (put (moved s es .pool) (16 * length es) (part (moved s es .pool) (16 * k) 16)) ≡
       moved s (es ++ (part (s .pool) (16 * k) 16 ∷ []))
   unfolding moved withPool
   moved-more k low high =
@@ -140,16 +153,20 @@ module _ (s : State) (size : length (s .pool) ≡ 512) (es : List Bytes) (sized 
       front-more (s .pool) es entry (length-part (s .pool) (16 * k) 16 (omega arith)))
 
 -- ---- which entries stay, one by one
-cond-append : (b : Bool) (e : Bytes) (xs others : List Bytes) → cond b (xs ++ others) (e ∷ (xs ++ others)) ≡ cond b xs (e ∷ xs) ++ others
+cond-append : (b : Bool) (e : Bytes) (xs others : List Bytes) →
+    cond b (xs ++ others) (e ∷ (xs ++ others)) ≡ cond b xs (e ∷ xs) ++ others
 cond-append true e xs others = refl
 cond-append false e xs others = refl
 
-pub without-append : (taken es others : List Bytes) → without taken (es ++ others) ≡ without taken es ++ without taken others
+pub without-append : (taken es others : List Bytes) →
+    without taken (es ++ others) ≡ without taken es ++ without taken others
 unfolding without
 without-append taken [] others = refl
-without-append taken (e ∷ es) others = rw (without-append taken es others) (cond-append (holds e taken) e (without taken es) (without taken others))
+without-append taken (e ∷ es) others = rw (without-append taken es others)
+    (cond-append (holds e taken) e (without taken es) (without taken others))
 
-without-one : (taken : List Bytes) (entry : Bytes) → without taken (entry ∷ []) ≡ cond (holds entry taken) [] (entry ∷ [])
+without-one : (taken : List Bytes) (entry : Bytes) →
+    without taken (entry ∷ []) ≡ cond (holds entry taken) [] (entry ∷ [])
 unfolding without
 without-one taken entry = refl
 
@@ -160,17 +177,32 @@ without-short taken (e ∷ es) =
     let rest = without-short taken es in
     cond-elim (λ (l : List Bytes). length l ≤ suc (length es)) (holds e taken) (λ p. omega arith) (λ p. omega arith)
 
-pub every-without : {P : Bytes → Type 0} (taken : List Bytes) {es : List Bytes} → Every P es → Every P (without taken es)
+pub every-without : {P : Bytes → Type 0} (taken : List Bytes) {es : List Bytes} → Every P es →
+    Every P (without taken es)
 unfolding without
 every-without taken none = none
 every-without {P} taken (one {x = e} {xs = es} p ps) =
-    cond-elim (λ (l : List Bytes). Every P l) (holds e taken) (λ q. every-without taken ps) (λ q. one p (every-without taken ps))
+    cond-elim (λ (l : List Bytes). Every P l) (holds e taken) (λ q. every-without taken ps)
+    (λ q. one p (every-without taken ps))
 
 module _ (taken es : List Bytes) (k : ℕ) (inside : k < length es) where
-  pub entry-stays : holds (getD es k []) taken ≡ false → without taken (take (k + 1) es) ≡ without taken (take k es) ++ (getD es k [] ∷ [])
-  entry-stays e = rw (add-one k, take-suc es k [] inside, without-append taken (take k es) (getD es k [] ∷ []), without-one taken (getD es k []), e)
+  pub entry-stays : holds (getD es k []) taken ≡ false →
+      without taken (take (k + 1) es) ≡ without taken (take k es) ++ (getD es k [] ∷ [])
+  entry-stays e = rw (
+    add-one k,
+    take-suc es k [] inside,
+    without-append taken (take k es) (getD es k [] ∷ []),
+    without-one taken (getD es k []),
+    e,
+  )
 
   pub entry-leaves : holds (getD es k []) taken ≡ true → without taken (take (k + 1) es) ≡ without taken (take k es)
   entry-leaves e =
-      rw (add-one k, take-suc es k [] inside, without-append taken (take k es) (getD es k [] ∷ []), without-one taken (getD es k []), e)
+      rw (
+        add-one k,
+        take-suc es k [] inside,
+        without-append taken (take k es) (getD es k [] ∷ []),
+        without-one taken (getD es k []),
+        e,
+      )
       (append-nil (without taken (take k es)))

@@ -27,7 +27,8 @@ shared p q (w ∷ ws) =
     omega arith
 
 -- two quorums share a third of the weight
-pub quorums-share : (p q : ℕ → Bool) (ws : List ℕ) → 2 * total ws ≤ 3 * weigh p ws → 2 * total ws ≤ 3 * weigh q ws → total ws ≤ 3 * weigh (λ t. p t && q t) ws
+pub quorums-share : (p q : ℕ → Bool) (ws : List ℕ) → 2 * total ws ≤ 3 * weigh p ws → 2 * total ws ≤ 3 * weigh q ws →
+    total ws ≤ 3 * weigh (λ t. p t && q t) ws
 quorums-share p q ws a b = let h = shared p q ws in omega arith
 
 -- what weighs more has a replica that what weighs less has not
@@ -42,8 +43,10 @@ outside p d (w ∷ ws) h = go (p 0) (d 0) refl refl h (λ k. up (outside (λ t. 
     up : Outside (λ t. p (suc t)) (λ t. d (suc t)) (length ws) → Outside p d (suc (length ws))
     up (t, l, a, b) = (suc t, omega arith, a, b)
 
-    go : (x y : Bool) → p 0 ≡ x → d 0 ≡ y → cond y w 0 + weigh (λ t. d (suc t)) ws < cond x w 0 + weigh (λ t. p (suc t)) ws →
-        (weigh (λ t. d (suc t)) ws < weigh (λ t. p (suc t)) ws → Outside p d (suc (length ws))) → Outside p d (suc (length ws))
+    go : (x y : Bool) → p 0 ≡ x → d 0 ≡ y → cond y w 0 + weigh (λ t. d (suc t)) ws < cond x w 0 + weigh (λ t. p (suc t))
+        ws →
+        (weigh (λ t. d (suc t)) ws < weigh (λ t. p (suc t)) ws → Outside p d (suc (length ws))) →
+        Outside p d (suc (length ws))
     go true false a b l below = (0, omega arith, a, b)
     go true true a b l below = below (omega arith)
     go false true a b l below = below (omega arith)
@@ -72,7 +75,8 @@ ones-weigh m zero = weigh-none
     weigh-none : 0 ≡ weigh (λ t. eqb (m / 2 ^ t % 2) 1) []
     weigh-none = unfold weigh in refl
 ones-weigh m (suc n) =
-    ap₂ _+_ (ones-weigh m n) (bit-weight (m / 2 ^ n % 2) (mod-lt _ (omega arith))) ∙ sym (weigh-last (λ t. eqb (m / 2 ^ t % 2) 1) n)
+    ap₂ _+_ (ones-weigh m n) (bit-weight (m / 2 ^ n % 2) (mod-lt _ (omega arith)))
+    ∙ sym (weigh-last (λ t. eqb (m / 2 ^ t % 2) 1) n)
 
 -- where all weigh 1 it is the number that counts
 pub quorum-even : (v : View) (n mask : ℕ) → v .weights ≡ replicate n 1 → quorum v mask ≡ leb (2 * n) (3 * ones mask n)
@@ -80,7 +84,8 @@ unfolding quorum
 quorum-even v n mask e = rw (e, total-equal n, sym (ones-weigh mask n))
 
 -- two quorums of views of the same weights share a replica outside any set that weighs less than a third
-pub quorums-meet : (v v′ : View) (a b d : ℕ) → v′ .weights ≡ v .weights → quorum v a ≡ true → quorum v′ b ≡ true → 3 * maskWeight v d < totalWeight v →
+pub quorums-meet : (v v′ : View) (a b d : ℕ) → v′ .weights ≡ v .weights → quorum v a ≡ true → quorum v′ b ≡ true →
+    3 * maskWeight v d < totalWeight v →
     (t : ℕ) × (t < length (v .weights)) × (inMask a t ≡ true) × (inMask b t ≡ true) × (inMask d t ≡ false)
 unfolding quorum Outside
 quorums-meet v v′ a b d e p q h = found (outside (λ t. inMask a t && inMask b t) (λ t. inMask d t) (v .weights) lighter)
@@ -88,9 +93,11 @@ quorums-meet v v′ a b d e p q h = found (outside (λ t. inMask a t && inMask b
     lighter : weigh (λ t. inMask d t) (v .weights) < weigh (λ t. inMask a t && inMask b t) (v .weights)
     lighter =
         let many = leb-true (2 * total (v .weights)) (3 * weigh (λ t. inMask a t) (v .weights)) p in
-        let more = leb-true (2 * total (v .weights)) (3 * weigh (λ t. inMask b t) (v .weights)) (subst (λ (ws : List ℕ). leb (2 * total ws) (3 * weigh (λ t. inMask b t) ws) ≡ true) e q) in
+        let more = leb-true (2 * total (v .weights)) (3 * weigh (λ t. inMask b t) (v .weights))
+        (subst (λ (ws : List ℕ). leb (2 * total ws) (3 * weigh (λ t. inMask b t) ws) ≡ true) e q) in
         let third = quorums-share (λ t. inMask a t) (λ t. inMask b t) (v .weights) many more in
         omega arith
 
-    found : Outside (λ t. inMask a t && inMask b t) (λ t. inMask d t) (length (v .weights)) → (t : ℕ) × (t < length (v .weights)) × (inMask a t ≡ true) × (inMask b t ≡ true) × (inMask d t ≡ false)
+    found : Outside (λ t. inMask a t && inMask b t) (λ t. inMask d t) (length (v .weights)) →
+        (t : ℕ) × (t < length (v .weights)) × (inMask a t ≡ true) × (inMask b t ≡ true) × (inMask d t ≡ false)
     found (t, l, ab, nd) = let k = and-true (inMask a t) (inMask b t) ab in (t, l, k .0, k .1, nd)

@@ -46,20 +46,24 @@ row-fails rows i f = not-passed (allOf rows) (λ e. true≢false (sym (row rows 
 pub every-height-at : (test : ℕ → Bool) (last h : ℕ) → everyHeight test last ≡ true → 1 ≤ h → h ≤ last → test h ≡ true
 unfolding everyHeight
 every-height-at test zero h e low high = absurd (omega arith)
-every-height-at test (suc last) h e low high = pick (le-or-lt h last) (and-true (everyHeight test last) (test (suc last)) e)
+every-height-at test (suc last) h e low high = pick (le-or-lt h last)
+    (and-true (everyHeight test last) (test (suc last)) e)
     (λ l t. every-height-at test last h t low l)
   where
-    pick : (h ≤ last) ⊎ (last < h) → (everyHeight test last ≡ true) × (test (suc last) ≡ true) → (h ≤ last → everyHeight test last ≡ true → test h ≡ true) → test h ≡ true
+    pick : (h ≤ last) ⊎ (last < h) → (everyHeight test last ≡ true) × (test (suc last) ≡ true) →
+        (h ≤ last → everyHeight test last ≡ true → test h ≡ true) → test h ≡ true
     pick (inl l) t below = below l (t .0)
     pick (inr l) t below = let same-height : h ≡ suc last = omega arith in rw same-height (t .1)
 
-pub every-height : (test : ℕ → Bool) (last : ℕ) → ((h : ℕ) → 1 ≤ h → h ≤ last → test h ≡ true) → everyHeight test last ≡ true
+pub every-height : (test : ℕ → Bool) (last : ℕ) → ((h : ℕ) → 1 ≤ h → h ≤ last → test h ≡ true) →
+    everyHeight test last ≡ true
 unfolding everyHeight
 every-height test zero each = refl
 every-height test (suc last) each = true-and (everyHeight test last) (test (suc last))
     (every-height test last (λ h low high. each h low (omega arith))) (each (suc last) (omega arith) (omega arith))
 
-pub every-height-fails : (test : ℕ → Bool) (last h : ℕ) → 1 ≤ h → h ≤ last → test h ≡ false → everyHeight test last ≡ false
+pub every-height-fails : (test : ℕ → Bool) (last h : ℕ) → 1 ≤ h → h ≤ last → test h ≡ false →
+    everyHeight test last ≡ false
 every-height-fails test last h low high f =
     not-passed (everyHeight test last) (λ e. true≢false (sym (every-height-at test last h e low high) ∙ f))
 
@@ -84,11 +88,13 @@ range-in low high x p q = true-and (leb low x) (leb x high) (le-leb low x p) (le
 
 -- ---- refusals
 -- a list of rows refuses nothing if and only if its first row passes and the rest refuses nothing
-pub row-passes : (r : Row) (rows : List Row) → firstRefusal (r ∷ rows) ≡ none → (r .1 ≡ true) × (firstRefusal rows ≡ none)
+pub row-passes : (r : Row) (rows : List Row) → firstRefusal (r ∷ rows) ≡ none →
+    (r .1 ≡ true) × (firstRefusal rows ≡ none)
 unfolding firstRefusal
 row-passes r rows e = go (r .1) refl e
   where
-    go : (t : Bool) → r .1 ≡ t → cond t (firstRefusal rows) (some (r .0)) ≡ none → (r .1 ≡ true) × (firstRefusal rows ≡ none)
+    go : (t : Bool) → r .1 ≡ t → cond t (firstRefusal rows) (some (r .0)) ≡ none →
+        (r .1 ≡ true) × (firstRefusal rows ≡ none)
     go true p q = (p, q)
     go false p q = let z : _≡_ {A = ℕ} 0 1 = cc in absurd (omega arith)
 
@@ -113,12 +119,14 @@ pass-rows (r ∷ rows) more e =
     let t = row-passes r rows e in
     pass-row r (rows ++ more) (t .0) ∙ pass-rows rows more (t .1)
 
-pub refuse-rows : (rows more : List Row) (number : ℕ) → firstRefusal rows ≡ some number → firstRefusal (rows ++ more) ≡ some number
+pub refuse-rows : (rows more : List Row) (number : ℕ) → firstRefusal rows ≡ some number →
+    firstRefusal (rows ++ more) ≡ some number
 unfolding firstRefusal
 refuse-rows [] more number e = let z : _≡_ {A = ℕ} 0 1 = cc in absurd (omega arith)
 refuse-rows (r ∷ rows) more number e = go (r .1) e (λ f. refuse-rows rows more number f)
   where
-    go : (t : Bool) → cond t (firstRefusal rows) (some (r .0)) ≡ some number → (firstRefusal rows ≡ some number → firstRefusal (rows ++ more) ≡ some number) →
+    go : (t : Bool) → cond t (firstRefusal rows) (some (r .0)) ≡ some number →
+        (firstRefusal rows ≡ some number → firstRefusal (rows ++ more) ≡ some number) →
         cond t (firstRefusal (rows ++ more)) (some (r .0)) ≡ some number
     go true e below = below e
     go false e below = e
@@ -154,16 +162,19 @@ pub eq-same : (a b : Bytes) → a ≡ b → same a b ≡ true
 eq-same a b e = rw e (same-self b)
 
 -- ---- every byte
-pub all-at : (test : ℕ → Bool) (bytes : Bytes) (i : ℕ) → all test bytes ≡ true → i < length bytes → test (getD bytes i 0) ≡ true
+pub all-at : (test : ℕ → Bool) (bytes : Bytes) (i : ℕ) → all test bytes ≡ true → i < length bytes →
+    test (getD bytes i 0) ≡ true
 unfolding all
 all-at test [] i e l = absurd (omega arith)
 all-at test (x ∷ xs) zero e l = and-true (test x) (all test xs) e .0
 all-at test (x ∷ xs) (suc i) e l = all-at test xs i (and-true (test x) (all test xs) e .1) (omega arith)
 
-pub at-all : (test : ℕ → Bool) (bytes : Bytes) → ((i : ℕ) → i < length bytes → test (getD bytes i 0) ≡ true) → all test bytes ≡ true
+pub at-all : (test : ℕ → Bool) (bytes : Bytes) → ((i : ℕ) → i < length bytes → test (getD bytes i 0) ≡ true) →
+    all test bytes ≡ true
 unfolding all
 at-all test [] each = refl
-at-all test (x ∷ xs) each = true-and (test x) (all test xs) (each 0 (omega arith)) (at-all test xs (λ i l. each (suc i) (omega arith)))
+at-all test (x ∷ xs) each = true-and (test x) (all test xs) (each 0 (omega arith))
+    (at-all test xs (λ i l. each (suc i) (omega arith)))
 
 -- ---- zero bytes and unequal bytes, by a place
 pub is-zero-byte : (bytes : Bytes) (i : ℕ) → isZero bytes ≡ true → getD bytes i 0 ≡ 0

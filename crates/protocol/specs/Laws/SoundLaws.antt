@@ -1,4 +1,5 @@
--- What soundness says of a state, apart from bytes: a sound book says a sound state, and a sound state's bytes are a sound book.
+-- What soundness says of a state, apart from bytes: a sound book says a sound state, and a sound state's bytes are a
+-- sound book.
 use Prim.Native.Nat.{ℕ, zero, suc, _+_, _-_, _*_, _^_, _≤_, _<_}
 use native.Mathlib.Omega.{arith}
 use mathlib.Core.Path.{_≡_, sym, subst}
@@ -13,11 +14,13 @@ use Rattle.protocol.specs.Bytes.{Bytes, byteAt, part, isZero, AreBytes}
 use Rattle.protocol.specs.Tests.{implies}
 use Rattle.protocol.specs.Block.{maximumHeights, blockWellFormed}
 use Rattle.protocol.specs.Mask.{belowBit}
-use Rattle.protocol.specs.State.{State, Height, at, last, decode, encode, bookSize, holdsProposal, isNotarized, bookHeights, maximumReplicas, maximumPending}
+use Rattle.protocol.specs.State.{State, Height, at, last, decode, encode, bookSize, holdsProposal, isNotarized}
+use Rattle.protocol.specs.State.{bookHeights, maximumReplicas, maximumPending}
 use Rattle.protocol.specs.View.{View, quorum, extendsOver, linkedWithin, linked, isFinalized}
 use Rattle.protocol.specs.Sound.{view, masksBelow, blocksWellFormed, contentZeros, sound}
 use Rattle.protocol.specs.Laws.TestsLaws.{and-true, or-true, or-right}
-use Rattle.protocol.specs.Laws.RowLaws.{not-passed, row, all-of, true-and, every-height-at, every-height, implies-true, true-implies, in-range, range-in, zeros-is-zero}
+use Rattle.protocol.specs.Laws.RowLaws.{not-passed, row, all-of, true-and, every-height-at, every-height}
+use Rattle.protocol.specs.Laws.RowLaws.{implies-true, true-implies, in-range, range-in, zeros-is-zero}
 use Rattle.protocol.specs.Laws.StateLaws.{decode-encode}
 use Rattle.protocol.specs.Laws.BytesLaws.{zero-part}
 use Rattle.protocol.specs.Laws.CodecLaws.{Exact, Clean, last-decode, decode-shaped, clean-back, notarized-in}
@@ -30,7 +33,8 @@ module _ (digest : Bytes → Bytes) (s : State) where
   linked-in zero e = omega arith
   linked-in (suc i) e = go (or-true (eqb (suc i) 0) _ e)
     where
-      go : (eqb (suc i) 0 ≡ true) ⊎ ((isNotarized (at s (suc i)) && extendsOver digest (λ j. linkedWithin digest i (view s) j) (view s) (suc i) (at s (suc i) .notarized)) ≡ true) → suc i ≤ last s
+      go : (eqb (suc i) 0 ≡ true) ⊎ ((isNotarized (at s (suc i)) && extendsOver digest
+          (λ j. linkedWithin digest i (view s) j) (view s) (suc i) (at s (suc i) .notarized)) ≡ true) → suc i ≤ last s
       go (inl z) = let impossible : suc i ≡ 0 = eqb-true (suc i) 0 z in absurd (omega arith)
       go (inr z) = notarized-in s i (and-true _ _ z .0)
 
@@ -45,13 +49,15 @@ module _ (digest : Bytes → Bytes) (s : State) where
   unfolding isFinalized
   finalized-in facts = go (facts .final)
     where
-      go : (s .finalized ≡ 0) ⊎ ((linked digest (view s) (s .finalized) && quorum (view s) (view s .finalizeMask (s .finalized))) ≡ true) → s .finalized ≤ last s
+      go : (s .finalized ≡ 0) ⊎ ((linked digest (view s) (s .finalized) && quorum (view s)
+          (view s .finalizeMask (s .finalized))) ≡ true) → s .finalized ≤ last s
       go (inl z) = omega arith
       go (inr z) = linked-in (s .finalized) (and-true _ _ z .0)
 
 -- ---- rows about one height, as facts
 module _ (v : View) (h : ℕ) (x : Height) where
-  height-facts : ltb (x .leader) (v .n) ≡ true → masksBelow (v .n) x ≡ true → leb (x .status) 3 ≡ true → blocksWellFormed h x ≡ true →
+  height-facts : ltb (x .leader) (v .n) ≡ true → masksBelow (v .n) x ≡ true → leb (x .status) 3 ≡ true →
+      blocksWellFormed h x ≡ true →
       implies (isNotarized x) (quorum v (x .certificateMask)) ≡ true → SoundHeight v h x
   unfolding masksBelow blocksWellFormed belowBit
   height-facts leader masks status blocks certificate = record {
@@ -66,7 +72,8 @@ module _ (v : View) (h : ℕ) (x : Height) where
     certified = implies-true _ _ certificate;
   }
     where
-      formed : (implies (holdsProposal x) (blockWellFormed h (x .proposal)) ≡ true) × (implies (isNotarized x) (blockWellFormed h (x .notarized)) ≡ true)
+      formed : (implies (holdsProposal x) (blockWellFormed h (x .proposal)) ≡ true) ×
+          (implies (isNotarized x) (blockWellFormed h (x .notarized)) ≡ true)
       formed = and-true _ _ blocks
 
   module _ (facts : SoundHeight v h x) where
@@ -166,7 +173,8 @@ module _ (digest : Bytes → Bytes) where
       content-zeros = λ i h.
           let size : length book ≡ 576 + 880 * H = exact in
           let place : suc i - 1 ≡ i = omega arith in
-          zero-part book (576 + 16 * i + 10) 6 (omega arith) (rw place at (content-zero-row (suc i) (omega arith) (omega arith)));
+          zero-part book (576 + 16 * i + 10) 6 (omega arith)
+          (rw place at (content-zero-row (suc i) (omega arith) (omega arith)));
     }
 
     -- a mask's low byte above 255 would go over into its high byte
@@ -218,4 +226,5 @@ module _ (digest : Bytes → Bytes) where
 
   pub sound-encode : (s : State) → SoundState digest s → sound digest (encode s) ≡ true
   sound-encode s facts =
-      sound-of (encode s) (clean-encode s (facts .shaped)) (subst (λ (t : State). SoundState digest t) (sym (decode-encode s (facts .shaped))) facts)
+      sound-of (encode s) (clean-encode s (facts .shaped))
+      (subst (λ (t : State). SoundState digest t) (sym (decode-encode s (facts .shaped))) facts)

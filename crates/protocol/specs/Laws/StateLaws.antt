@@ -11,7 +11,8 @@ use Rattle.protocol.specs.Bytes.{Bytes, word16, le16, part, zeros, join,
 use Rattle.protocol.specs.Laws.BytesLaws.{length-zeros, word16-le16}
 use Rattle.protocol.specs.Laws.EveryLaws.{every-map}
 use Rattle.protocol.specs.Laws.PiecesLaws.{length-join, pieces-join}
-use Rattle.protocol.specs.State.{State, Height, encode, decode, headBytes, contentBytes, bodyBytes, decodeHeight, decodeHeights, renewed}
+use Rattle.protocol.specs.State.{State, Height, encode, decode, headBytes, contentBytes, bodyBytes, decodeHeight}
+use Rattle.protocol.specs.State.{decodeHeights, renewed}
 
 pub head-size : (s : State) → length (headBytes s) ≡ 64
 unfolding headBytes
@@ -35,12 +36,14 @@ decode-height x h = λ i. record {
     proposal-back = take-at (x .proposal) (x .notarized ++ x .voteDigests) 176 (h .proposal-size)
 
     notarized-back : take 176 (drop 176 (x .proposal ++ (x .notarized ++ x .voteDigests))) ≡ x .notarized
-    notarized-back = rw (drop-at (x .proposal) (x .notarized ++ x .voteDigests) 176 (h .proposal-size)) (take-at (x .notarized) (x .voteDigests) 176 (h .notarized-size))
+    notarized-back = rw (drop-at (x .proposal) (x .notarized ++ x .voteDigests) 176 (h .proposal-size))
+        (take-at (x .notarized) (x .voteDigests) 176 (h .notarized-size))
 
     votes-back : take 512 (drop 352 (x .proposal ++ (x .notarized ++ x .voteDigests))) ≡ x .voteDigests
     votes-back =
         let two : drop 352 (x .proposal ++ (x .notarized ++ x .voteDigests)) ≡ x .voteDigests =
-        rw (← append-assoc (x .proposal) (x .notarized) (x .voteDigests)) (drop-at (x .proposal ++ x .notarized) (x .voteDigests) 352 (simp length-append (omega (arith, h)))) in
+        rw (← append-assoc (x .proposal) (x .notarized) (x .voteDigests))
+        (drop-at (x .proposal ++ x .notarized) (x .voteDigests) 352 (simp length-append (omega (arith, h)))) in
         rw two (take-all 512 (x .voteDigests) (omega (arith, h)))
 
 pub content-size : (x : Height) → Sized 16 (contentBytes x)
@@ -72,17 +75,20 @@ module _ (s : State) (shaped : Shaped s) where
 
   pool-back : part (encode s) 64 512 ≡ s .pool
   unfolding part encode
-  pool-back = rw (drop-at (headBytes s) (s .pool ++ (C ++ D)) 64 (head-size s)) (take-at (s .pool) (C ++ D) 512 (shaped .pool-size))
+  pool-back = rw (drop-at (headBytes s) (s .pool ++ (C ++ D)) 64 (head-size s))
+      (take-at (s .pool) (C ++ D) 512 (shaped .pool-size))
 
   contents-from : drop 576 (encode s) ≡ C ++ D
   unfolding encode
   contents-from =
       sym (drop-drop 512 64 (encode s)) ∙
-      rw (drop-at (headBytes s) (s .pool ++ (C ++ D)) 64 (head-size s)) (drop-at (s .pool) (C ++ D) 512 (shaped .pool-size))
+      rw (drop-at (headBytes s) (s .pool ++ (C ++ D)) 64 (head-size s))
+      (drop-at (s .pool) (C ++ D) 512 (shaped .pool-size))
 
   bodies-from : drop (576 + 16 * length (s .heights)) (encode s) ≡ D
   bodies-from =
-      sym (drop-drop (16 * length (s .heights)) 576 (encode s)) ∙ rw contents-from (drop-at C D (16 * length (s .heights))
+      sym (drop-drop (16 * length (s .heights)) 576 (encode s))
+      ∙ rw contents-from (drop-at C D (16 * length (s .heights))
       (length-join 16 (map contentBytes (s .heights)) (contents-sized (s .heights)) ∙ rw length-map))
 
   contents-back : pieces 16 (length (s .heights)) (C ++ D) ≡ map contentBytes (s .heights)
@@ -93,10 +99,12 @@ module _ (s : State) (shaped : Shaped s) where
   bodies-back : pieces 864 (length (s .heights)) D ≡ map bodyBytes (s .heights)
   bodies-back =
       subst (λ (k : ℕ). pieces 864 k D ≡ map bodyBytes (s .heights)) (length-map (s .heights) bodyBytes)
-      (subst (λ (d : Bytes). pieces 864 (length (map bodyBytes (s .heights))) d ≡ map bodyBytes (s .heights)) (append-nil D)
+      (subst (λ (d : Bytes). pieces 864 (length (map bodyBytes (s .heights))) d ≡ map bodyBytes (s .heights))
+      (append-nil D)
       (pieces-join 864 (map bodyBytes (s .heights)) [] (bodies-sized (shaped .heights))))
 
-  heights-back : decodeHeights (pieces 16 (length (s .heights)) (drop 576 (encode s))) (pieces 864 (length (s .heights)) (drop (576 + 16 * length (s .heights)) (encode s))) ≡ s .heights
+  heights-back : decodeHeights (pieces 16 (length (s .heights)) (drop 576 (encode s)))
+      (pieces 864 (length (s .heights)) (drop (576 + 16 * length (s .heights)) (encode s))) ≡ s .heights
   heights-back = rw (contents-from, bodies-from, contents-back, bodies-back) (heights-zip (shaped .heights))
 
   pub decode-encode : decode (encode s) ≡ s

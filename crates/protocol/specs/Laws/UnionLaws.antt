@@ -25,7 +25,8 @@ union-lt n a b = maskOf-below (λ s. inMask a s || inMask b s) n
 pub same-union : (n a b : ℕ) → a < 2 ^ n → Within n b a → union n a b ≡ a
 unfolding union
 same-union n a b h e =
-    maskOf-same (λ s. inMask a s || inMask b s) (λ s. inMask a s) n (λ t l. absorb (inMask a t) (inMask b t) (e t l)) ∙ maskOf-bits a n ∙ mod-eq-of-lt h
+    maskOf-same (λ s. inMask a s || inMask b s) (λ s. inMask a s) n (λ t l. absorb (inMask a t) (inMask b t) (e t l))
+    ∙ maskOf-bits a n ∙ mod-eq-of-lt h
   where
     absorb : (x y : Bool) → (y ≡ true → x ≡ true) → (x || y) ≡ x
     absorb true y f = refl
@@ -51,7 +52,8 @@ max-one (suc (suc x)) y p q = absurd (omega arith)
 
 pub inMask-or : (a b t : ℕ) → inMask (bitOr a b) t ≡ (inMask a t || inMask b t)
 unfolding inMask
-inMask-or a b t = rw (or-shr a b t, or-parity (a / 2 ^ t) (b / 2 ^ t)) (max-one (a / 2 ^ t % 2) (b / 2 ^ t % 2) (mod-lt _ (omega arith)) (mod-lt _ (omega arith)))
+inMask-or a b t = rw (or-shr a b t, or-parity (a / 2 ^ t) (b / 2 ^ t))
+    (max-one (a / 2 ^ t % 2) (b / 2 ^ t % 2) (mod-lt _ (omega arith)) (mod-lt _ (omega arith)))
 
 -- what `|` gives in code
 pub union-or : (n a b : ℕ) → a < 2 ^ n → b < 2 ^ n → union n a b ≡ bitOr a b

@@ -15,22 +15,28 @@ use Rattle.protocol.specs.Laws.RowLaws.{zeros-is-zero}
 use Rattle.protocol.specs.Laws.BytesLaws.{length-zeros}
 
 -- ---- runs of dummies
-pub run-sound : (v : View) (j count : ℕ) → dummyRun v j count ≡ true → (k : ℕ) → j < k → k ≤ j + count → isDummy v k ≡ true
+pub run-sound : (v : View) (j count : ℕ) → dummyRun v j count ≡ true → (k : ℕ) → j < k → k ≤ j + count →
+    isDummy v k ≡ true
 unfolding dummyRun
 run-sound v j zero e k low high = absurd (omega arith)
 run-sound v j (suc count) e k low high =
     let both = and-true (dummyRun v j count) (isDummy v (j + suc count)) e in
     pick (both .1) (λ z. run-sound v j count (both .0) k low z) (le-or-lt k (j + count))
   where
-    pick : isDummy v (j + suc count) ≡ true → (k ≤ j + count → isDummy v k ≡ true) → (k ≤ j + count) ⊎ (j + count < k) → isDummy v k ≡ true
+    pick : isDummy v (j + suc count) ≡ true → (k ≤ j + count → isDummy v k ≡ true) → (k ≤ j + count) ⊎ (j + count < k) →
+        isDummy v k ≡ true
     pick top below (inl z) = below z
     pick top below (inr z) = let n : k ≡ j + suc count = omega arith in rw n top
 
-pub run-complete : (v : View) (j count : ℕ) → ((k : ℕ) → j < k → k ≤ j + count → isDummy v k ≡ true) → dummyRun v j count ≡ true
+pub run-complete : (v : View) (j count : ℕ) → ((k : ℕ) → j < k → k ≤ j + count → isDummy v k ≡ true) →
+    dummyRun v j count ≡ true
 unfolding dummyRun
 run-complete v j zero every = refl
 run-complete v j (suc count) every =
-    rw (run-complete v j count (λ k low high. every k low (omega arith)), every (j + suc count) (omega arith) (omega arith))
+    rw (
+      run-complete v j count (λ k low high. every k low (omega arith)),
+      every (j + suc count) (omega arith) (omega arith),
+    )
 
 -- ---- the digest that names a parent
 module _ (digest : Bytes → Bytes) (v : View) where
@@ -59,7 +65,8 @@ unfolding chainWithin
 chain-none zero v = refl
 chain-none (suc f) v = refl
 
-pub chain-step : (f : ℕ) (v : View) (i : ℕ) → chainWithin (suc f) v (suc i) ≡ chainWithin f v (parentHeight (v .block (suc i))) ++ (v .block (suc i) ∷ [])
+pub chain-step : (f : ℕ) (v : View) (i : ℕ) → chainWithin (suc f) v (suc i) ≡ chainWithin f v
+    (parentHeight (v .block (suc i))) ++ (v .block (suc i) ∷ [])
 unfolding chainWithin
 chain-step f v i = rw eqb·suc-zero
 

@@ -49,7 +49,8 @@ module _ (v d : Bytes) (a : ℕ) (fits : a + 32 ≤ length v) (size : length d �
           (ap (λ (z : ℕ). drop z (u ++ drop (a + 32) v)) e ∙ drop-append-add u (drop (a + 32) v) (i - (a + 32)))
 
       near : drop (i - (a + 32)) (drop (a + 32) v) ≡ drop i v
-      near = drop-drop (i - (a + 32)) (a + 32) v ∙ ap (λ (z : ℕ). drop z v) (let e : a + 32 + (i - (a + 32)) ≡ i = omega arith in e)
+      near = drop-drop (i - (a + 32)) (a + 32) v ∙ ap (λ (z : ℕ). drop z v)
+          (let e : a + 32 + (i - (a + 32)) ≡ i = omega arith in e)
 
 module _ (x : Height) (s : ℕ) (d : Bytes) (sized : ShapedHeight x) (few : s < 16) (size : length d ≡ 32) where
   fits : 32 * s + 32 ≤ length (x .voteDigests)

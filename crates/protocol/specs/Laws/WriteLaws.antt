@@ -7,7 +7,8 @@ use mathlib.Core.List.{_++_, map}
 use lib.ListN.{length, set}
 use Rattle.protocol.specs.SoundState.{ShapedHeight, Shaped}
 use Rattle.protocol.specs.Bytes.{Bytes, le16, join, put}
-use Rattle.protocol.specs.State.{State, Height, at, last, withHeight, withPool, encode, headBytes, contentBytes, bodyBytes}
+use Rattle.protocol.specs.State.{State, Height, at, last, withHeight, withPool, encode, headBytes, contentBytes}
+use Rattle.protocol.specs.State.{bodyBytes}
 use Rattle.protocol.specs.Laws.BytesLaws.{put-front, put-after, middle-put}
 use Rattle.protocol.specs.Laws.StateLaws.{head-size}
 use Rattle.protocol.specs.Laws.PlaceLaws.{content-set, content-put, body-put}
@@ -21,7 +22,8 @@ pub write-pool : (s : State) → length (s .pool) ≡ 512 → (j : ℕ) (new : B
     put (encode s) (64 + j) new ≡ encode (withPool s (s .pendingCount) (put (s .pool) j new))
 unfolding encode headBytes withPool
 write-pool s size j new h =
-    middle-put (headBytes s) (s .pool) (join (map contentBytes (s .heights)) ++ join (map bodyBytes (s .heights))) 64 (head-size s) j new (rw size h)
+    middle-put (headBytes s) (s .pool) (join (map contentBytes (s .heights)) ++ join (map bodyBytes (s .heights))) 64
+    (head-size s) j new (rw size h)
 
 -- ---- one field of a height
 unfoldable pub withLeader : Height → ℕ → Height
@@ -154,29 +156,36 @@ module _ (s : State) (shaped : Shaped s) (i : ℕ) (inside : i < last s) (x : He
   write-status v = content-set s shaped i inside x (withStatus x v) 1 v (omega arith) refl refl
 
   pub write-certificate-mask : (mask : ℕ) →
-      put (encode (withHeight s (suc i) x)) (576 + 16 * i + 2) (le16 mask) ≡ encode (withHeight s (suc i) (withCertificateMask x mask))
+      put (encode (withHeight s (suc i) x)) (576 + 16 * i + 2) (le16 mask) ≡ encode
+      (withHeight s (suc i) (withCertificateMask x mask))
   unfolding withCertificateMask contentBytes bodyBytes le16 put
-  write-certificate-mask mask = content-put s shaped i inside x (withCertificateMask x mask) 2 (le16 mask) (omega arith) refl refl
+  write-certificate-mask mask = content-put s shaped i inside x (withCertificateMask x mask) 2 (le16 mask) (omega arith)
+      refl refl
 
   pub write-dummy-mask : (mask : ℕ) →
-      put (encode (withHeight s (suc i) x)) (576 + 16 * i + 4) (le16 mask) ≡ encode (withHeight s (suc i) (withDummyMask x mask))
+      put (encode (withHeight s (suc i) x)) (576 + 16 * i + 4) (le16 mask) ≡ encode
+      (withHeight s (suc i) (withDummyMask x mask))
   unfolding withDummyMask contentBytes bodyBytes le16 put
   write-dummy-mask mask = content-put s shaped i inside x (withDummyMask x mask) 4 (le16 mask) (omega arith) refl refl
 
   pub write-finalize-mask : (mask : ℕ) →
-      put (encode (withHeight s (suc i) x)) (576 + 16 * i + 6) (le16 mask) ≡ encode (withHeight s (suc i) (withFinalizeMask x mask))
+      put (encode (withHeight s (suc i) x)) (576 + 16 * i + 6) (le16 mask) ≡ encode
+      (withHeight s (suc i) (withFinalizeMask x mask))
   unfolding withFinalizeMask contentBytes bodyBytes le16 put
-  write-finalize-mask mask = content-put s shaped i inside x (withFinalizeMask x mask) 6 (le16 mask) (omega arith) refl refl
+  write-finalize-mask mask = content-put s shaped i inside x (withFinalizeMask x mask) 6 (le16 mask) (omega arith) refl
+      refl
 
   pub write-voter-mask : (mask : ℕ) →
-      put (encode (withHeight s (suc i) x)) (576 + 16 * i + 8) (le16 mask) ≡ encode (withHeight s (suc i) (withVoterMask x mask))
+      put (encode (withHeight s (suc i) x)) (576 + 16 * i + 8) (le16 mask) ≡ encode
+      (withHeight s (suc i) (withVoterMask x mask))
   unfolding withVoterMask contentBytes bodyBytes le16 put
   write-voter-mask mask = content-put s shaped i inside x (withVoterMask x mask) 8 (le16 mask) (omega arith) refl refl
 
   -- ---- its body, which has its size
   module _ (fits : ShapedHeight x) where
     pub write-proposal : (block : Bytes) → length block ≡ 176 →
-        put (encode (withHeight s (suc i) x)) (576 + 16 * last s + 864 * i) block ≡ encode (withHeight s (suc i) (withProposalBytes x block))
+        put (encode (withHeight s (suc i) x)) (576 + 16 * last s + 864 * i) block ≡ encode
+        (withHeight s (suc i) (withProposalBytes x block))
     unfolding withProposalBytes contentBytes bodyBytes
     write-proposal block size =
         rw add-zero at
@@ -184,7 +193,8 @@ module _ (s : State) (shaped : Shaped s) (i : ℕ) (inside : i < last s) (x : He
         (sym (put-front (x .proposal) (x .notarized ++ x .voteDigests) block (fits .proposal-size ∙ sym size))))
 
     pub write-notarized : (block : Bytes) → length block ≡ 176 →
-        put (encode (withHeight s (suc i) x)) (576 + 16 * last s + 864 * i + 176) block ≡ encode (withHeight s (suc i) (withNotarizedBytes x block))
+        put (encode (withHeight s (suc i) x)) (576 + 16 * last s + 864 * i + 176) block ≡ encode
+        (withHeight s (suc i) (withNotarizedBytes x block))
     unfolding withNotarizedBytes contentBytes bodyBytes
     write-notarized block size =
         body-put s shaped i inside x (withNotarizedBytes x block) fits 176 block (omega arith) refl
@@ -193,10 +203,12 @@ module _ (s : State) (shaped : Shaped s) (i : ℕ) (inside : i < last s) (x : He
 
     -- a part of the vote digests, as the 32 bytes of one
     pub write-vote-digests : (j : ℕ) (new : Bytes) → j + length new ≤ 512 →
-        put (encode (withHeight s (suc i) x)) (576 + 16 * last s + 864 * i + (352 + j)) new ≡ encode (withHeight s (suc i) (withVoteDigests x (put (x .voteDigests) j new)))
+        put (encode (withHeight s (suc i) x)) (576 + 16 * last s + 864 * i + (352 + j)) new ≡ encode
+        (withHeight s (suc i) (withVoteDigests x (put (x .voteDigests) j new)))
     unfolding withVoteDigests contentBytes bodyBytes
     write-vote-digests j new h =
         let e : 352 + j ≡ 176 + (176 + j) = omega arith in
-        body-put s shaped i inside x (withVoteDigests x (put (x .voteDigests) j new)) fits (352 + j) new (omega arith) refl
+        body-put s shaped i inside x (withVoteDigests x (put (x .voteDigests) j new)) fits (352 + j) new (omega arith)
+        refl
         (sym (rw e (put-after (x .proposal) (x .notarized ++ x .voteDigests) 176 (fits .proposal-size) (176 + j) new ∙
         rw (put-after (x .notarized) (x .voteDigests) 176 (fits .notarized-size) j new))))

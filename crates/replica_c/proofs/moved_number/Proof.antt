@@ -16,7 +16,8 @@ use Rattle.replica_c.proofs.finalized_number.Reads as finalized-number-
 use Rattle.replica_c.proofs.move_number.Reads as move-number-reads
 
 -- the height that the required bound speaks of is the one that the case names
-low : {answer given : Moved} → answer ≡ given → answeredHeight (movedAnswer answer) ≤ maximumHeights → answeredHeight (movedAnswer given) ≤ maximumHeights
+low : {answer given : Moved} → answer ≡ given → answeredHeight (movedAnswer answer) ≤ maximumHeights →
+    answeredHeight (movedAnswer given) ≤ maximumHeights
 low e = subst (λ (a : Moved). answeredHeight (movedAnswer a) ≤ maximumHeights) e
 
 move-number-requires : tie.Need-move-number-requires
@@ -60,11 +61,13 @@ returns c = ap (λ (a : Moved). packedMove (movedAnswer a)) (sym (c .enum-told .
 
 returns-2 : tie.Need-returns-2
 unfolding packedMove passKinds moveNumber moveHeight movedAnswer
-returns-2 c = c .move-number .ensures ∙ ap (λ (a : Moved). packedMove (movedAnswer a)) (sym (c .before .before .answer .given .1))
+returns-2 c = c .move-number .ensures ∙ ap (λ (a : Moved). packedMove (movedAnswer a))
+    (sym (c .before .before .answer .given .1))
 
 returns-3 : tie.Need-returns-3
 unfolding packedMove passKinds moveNumber moveHeight movedAnswer
-returns-3 c = c .move-number2 .ensures ∙ ap (λ (a : Moved). packedMove (movedAnswer a)) (sym (c .before .before .answer2 .given .1))
+returns-3 c = c .move-number2 .ensures ∙ ap (λ (a : Moved). packedMove (movedAnswer a))
+    (sym (c .before .before .answer2 .given .1))
 
 returns-4 : tie.Need-returns-4
 unfolding packedMove passKinds moveNumber moveHeight movedAnswer
@@ -74,16 +77,20 @@ returns-4 c =
     let after-answer3 = after-certificate-number .before .before in
     let h = after-answer3 .answer3 .given .0 .0 in
     c .move-number3 .ensures
-    ∙ ap₂ (λ (a b : ℕ). 256 * 3 + 65536 * h + 4294967296 * (a + 256 * b)) (after-certificate-number .certificate-number .ensures .0) (after-finalized-number .finalized-number .ensures .0)
+    ∙ ap₂ (λ (a b : ℕ). 256 * 3 + 65536 * h + 4294967296 * (a + 256 * b))
+    (after-certificate-number .certificate-number .ensures .0)
+    (after-finalized-number .finalized-number .ensures .0)
     ∙ ap (λ (a : Moved). packedMove (movedAnswer a)) (sym (after-answer3 .answer3 .given .1))
 
 returns-5 : tie.Need-returns-5
 unfolding packedMove passKinds moveNumber moveHeight movedAnswer
-returns-5 c = c .move-number4 .ensures ∙ ap (λ (a : Moved). packedMove (movedAnswer a)) (sym (c .before .before .answer4 .given .1))
+returns-5 c = c .move-number4 .ensures ∙ ap (λ (a : Moved). packedMove (movedAnswer a))
+    (sym (c .before .before .answer4 .given .1))
 
 returns-6 : tie.Need-returns-6
 unfolding packedMove passKinds moveNumber moveHeight movedAnswer
-returns-6 c = c .move-number5 .ensures ∙ ap (λ (a : Moved). packedMove (movedAnswer a)) (sym (c .before .before .answer5 .given .1))
+returns-6 c = c .move-number5 .ensures ∙ ap (λ (a : Moved). packedMove (movedAnswer a))
+    (sym (c .before .before .answer5 .given .1))
 
 returns-7 : tie.Need-returns-7
 unfolding packedMove passKinds moveNumber moveHeight movedAnswer

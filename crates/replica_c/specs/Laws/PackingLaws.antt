@@ -1,4 +1,5 @@
--- What the calls answer is small: a move's height is at most 63 and a size at most 8,064, so that each has room in its place of the packing.
+-- What the calls answer is small: a move's height is at most 63 and a size at most 8,064, so that each has room in its
+-- place of the packing.
 use Prim.Native.Nat.{ℕ, _≤_}
 use native.Mathlib.Omega.{arith}
 use mathlib.Core.Path.{_≡_, refl}
@@ -10,7 +11,9 @@ use Rattle.protocol.specs.Tests.{firstRefusal}
 use Rattle.protocol.specs.State.{State, last, decode}
 use Rattle.protocol.specs.Sound.{view, sound}
 use Rattle.protocol.specs.Answer.{Answer, moveHeight}
-use Rattle.protocol.specs.Move.{Step, firstStep, step, isRunning, newFinalized, dummyVoteApplies, dummyVoteStep, outputApplies, outputStep, passApplies, passStep, proposeApplies, proposeStep, blockVoteApplies, blockVoteStep, idleStep, moved, unlessMoveRefused, moveRows, moveCall}
+use Rattle.protocol.specs.Move.{Step, firstStep, step, isRunning, newFinalized, dummyVoteApplies, dummyVoteStep}
+use Rattle.protocol.specs.Move.{outputApplies, outputStep, passApplies, passStep, proposeApplies, proposeStep}
+use Rattle.protocol.specs.Move.{blockVoteApplies, blockVoteStep, idleStep, moved, unlessMoveRefused, moveRows, moveCall}
 use Rattle.protocol.specs.Read.{logSize, sizeCall}
 use Rattle.protocol.specs.Laws.TestsLaws.{and-true, cond-elim}
 use Rattle.protocol.specs.Laws.RowLaws.{row, row-passes}
@@ -35,7 +38,8 @@ module _ (digest : Bytes → Bytes) where
     output-within = largestFinalized-is digest (view s) (last s) .within
 
     step-within : Within (step digest s)
-    unfolding step firstStep moveHeight dummyVoteApplies dummyVoteStep outputStep passApplies passStep proposeApplies proposeStep blockVoteApplies blockVoteStep idleStep
+    unfolding step firstStep moveHeight dummyVoteApplies dummyVoteStep outputStep passApplies passStep proposeApplies
+        proposeStep blockVoteApplies blockVoteStep idleStep
     step-within =
         cond-elim Within (dummyVoteApplies s) (λ e. running (row _ 0 e)) λ _.
         cond-elim Within (outputApplies digest s) (λ _. output-within) λ _.
@@ -50,7 +54,8 @@ module _ (digest : Bytes → Bytes) where
       is-sound : firstRefusal (moveRows digest book reply) ≡ none → sound digest book ≡ true
       is-sound passes = unfold moveRows in row-passes _ _ passes .0
 
-      go : (r : Option ℕ) → (r ≡ none → sound digest book ≡ true) → answeredHeight (unlessMoveRefused r book reply (step digest (decode book)) .answer) ≤ maximumHeights
+      go : (r : Option ℕ) → (r ≡ none → sound digest book ≡ true) →
+          answeredHeight (unlessMoveRefused r book reply (step digest (decode book)) .answer) ≤ maximumHeights
       go none e = unfold unlessMoveRefused moved answeredHeight in
           omega (arith, step-within (decode book), sound-decode digest book (e refl) .last-high)
       go (some number) e = unfold unlessMoveRefused answeredHeight in omega arith

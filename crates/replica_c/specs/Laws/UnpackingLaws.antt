@@ -276,7 +276,8 @@ module _ (digest : Bytes → Bytes) where
       where
         go : (inTime : Bool) →
             cond (eqb (finalizeKind inTime) 0) 1 2
-            ≡ length (certificateFrame s (certificateKind (passesBy digest s)) (s .current) ∷ cond inTime (finalize (s .own) (s .current) ∷ []) [])
+            ≡ length (certificateFrame s (certificateKind (passesBy digest s)) (s .current) ∷ cond inTime
+            (finalize (s .own) (s .current) ∷ []) [])
         go true = unfold finalizeKind in refl
         go false = unfold finalizeKind in refl
 

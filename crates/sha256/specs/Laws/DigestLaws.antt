@@ -59,7 +59,8 @@ hashAll-rest hash message more start e =
 pub sha256-parts : (message : Bytes)
     → wordsBytes
     (hashAll (hashAll initialHash message)
-    (take (length message - (length message - length message % 64)) (drop (length message - length message % 64) message)
+    (take (length message - (length message - length message % 64))
+    (drop (length message - length message % 64) message)
     ++ padding (length message)))
     ≡ sha256 message
 unfolding sha256 padded
@@ -71,7 +72,8 @@ sha256-parts message =
 
 -- the next block, where `at` is the place that the blocks before it reach
 pub hashBlocks-next : (hash : List ℕ) (bytes : Bytes) (at : ℕ) → at % 64 ≡ 0
-    → compression (hashBlocks hash bytes (at / 64)) (take (at + 64 - at) (drop at bytes)) ≡ hashBlocks hash bytes ((at + 64) / 64)
+    → compression (hashBlocks hash bytes (at / 64)) (take (at + 64 - at) (drop at bytes)) ≡ hashBlocks hash bytes
+    ((at + 64) / 64)
 unfolding hashBlocks block
 hashBlocks-next hash bytes at whole =
     let count : (at + 64) / 64 ≡ suc (at / 64) = omega arith in
@@ -80,12 +82,14 @@ hashBlocks-next hash bytes at whole =
     rw (count, size, place)
 
 -- a whole block and what follows it
-pub hashAll-block : (hash : List ℕ) (first more : Bytes) → length first ≡ 64 → hashAll hash (first ++ more) ≡ hashAll (hashAll hash first) more
+pub hashAll-block : (hash : List ℕ) (first more : Bytes) → length first ≡ 64 →
+    hashAll hash (first ++ more) ≡ hashAll (hashAll hash first) more
 hashAll-block hash first more whole =
     sym (hashAll-rest hash first more 64 (rw whole)) ∙ rw (drop-of-length-le first {i = 64} (omega arith))
 
 -- a digest has 32 bytes, whatever the message
-pub hashBlocks-length : (hash : List ℕ) (bytes : Bytes) (count : ℕ) → length hash ≡ 8 → length (hashBlocks hash bytes count) ≡ 8
+pub hashBlocks-length : (hash : List ℕ) (bytes : Bytes) (count : ℕ) → length hash ≡ 8 →
+    length (hashBlocks hash bytes count) ≡ 8
 unfolding hashBlocks
 hashBlocks-length hash bytes zero whole = whole
 hashBlocks-length hash bytes (suc count) whole =
@@ -99,7 +103,8 @@ sha256-length message =
     rw (wordsBytes-length, words)
 
 -- and each of them is a byte; past the end `getD` gives 0
-append-byte : (first more : Bytes) → ((i : ℕ) → getD first i 0 < 256) → ((i : ℕ) → getD more i 0 < 256) → (i : ℕ) → getD (first ++ more) i 0 < 256
+append-byte : (first more : Bytes) → ((i : ℕ) → getD first i 0 < 256) → ((i : ℕ) → getD more i 0 < 256) → (i : ℕ) →
+    getD (first ++ more) i 0 < 256
 append-byte [] more p q i = q i
 append-byte (x ∷ first) more p q zero = p zero
 append-byte (x ∷ first) more p q (suc i) = append-byte first more (λ j. p (suc j)) q i

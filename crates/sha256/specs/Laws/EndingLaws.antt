@@ -30,7 +30,8 @@ module _ (rest : Bytes) (size : ℕ) (same : length rest ≡ size % 64) where
       let split : rest ++ (0x80 ∷ zeros (63 - length rest)) ≡ (rest ++ (0x80 ∷ zeros (55 - length rest))) ++ zeros 8
       = rw (more, append-assoc) in
       let front : take 56 (rest ++ (0x80 ∷ zeros (63 - length rest))) ≡ rest ++ (0x80 ∷ zeros (55 - length rest))
-      = rw split (take-at (rest ++ (0x80 ∷ zeros (55 - length rest))) (zeros 8) 56 (simp (length-append, zeros-length) (omega arith))) in
+      = rw split (take-at (rest ++ (0x80 ∷ zeros (55 - length rest))) (zeros 8) 56
+      (simp (length-append, zeros-length) (omega arith))) in
       rw (front, count, append-assoc)
 
   -- they need one block more

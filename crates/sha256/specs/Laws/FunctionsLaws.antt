@@ -1,4 +1,5 @@
--- The six functions by fewer operations, as the code computes them: laws of bits checked at each digit, and rotations nested in one another. Assumes nothing.
+-- The six functions by fewer operations, as the code computes them: laws of bits checked at each digit, and rotations
+-- nested in one another. Assumes nothing.
 use mathlib.Core.Path.{_≡_, refl, sym, ap, ap₂, _∙_}
 use Prim.Native.Nat.{ℕ, zero, suc, _+_, _-_, _/_, _%_, _^_, _≤_, _<_}
 use native.Mathlib.Nat.{mod-eq-of-lt}
@@ -6,7 +7,8 @@ use native.Mathlib.Omega.{arith}
 use lib.Arith.{half-le}
 use lib.Bits.{bitAnd, and-mask, and-comm}
 use Rattle.sha256.specs.Words.{_&_, _⊕_, complement, shr, rotr}
-use Rattle.sha256.specs.Laws.WordsLaws.{and-half, and-odd, xor-half, xor-odd, xor-word, rotr-word, rotr-xor, rotr-rotr}
+use Rattle.sha256.specs.Laws.WordsLaws.{and-half, and-odd, xor-half, xor-odd, xor-word, rotr-word, rotr-xor}
+use Rattle.sha256.specs.Laws.WordsLaws.{rotr-rotr}
 use Rattle.sha256.specs.Functions.{Ch, Maj, Σ0, Σ1, σ0, σ1}
 
 -- ---- two expressions in three numbers are equal where they are at the digits 0 and 1
@@ -64,11 +66,13 @@ halves a b p q = omega arith
 
 module _ (f g : Form) (d : Digits (λ a b c. value f a b c ≡ value g a b c)) where
   below : (n a b c : ℕ) → a ≤ n → b ≤ n → c ≤ n → value f a b c ≡ value g a b c
-  below zero a b c ha hb hc = at-digits (λ a b c. value f a b c ≡ value g a b c) d a b c (omega arith) (omega arith) (omega arith)
+  below zero a b c ha hb hc = at-digits (λ a b c. value f a b c ≡ value g a b c) d a b c (omega arith) (omega arith)
+      (omega arith)
   below (suc n) a b c ha hb hc =
       halves (value f a b c) (value g a b c)
       (half f a b c ∙ below n (a / 2) (b / 2) (c / 2) (half-le ha) (half-le hb) (half-le hc) ∙ sym (half g a b c))
-      (odd f a b c ∙ at-digits (λ a b c. value f a b c ≡ value g a b c) d (a % 2) (b % 2) (c % 2) (omega arith) (omega arith) (omega arith) ∙ sym (odd g a b c))
+      (odd f a b c ∙ at-digits (λ a b c. value f a b c ≡ value g a b c) d (a % 2) (b % 2) (c % 2) (omega arith)
+      (omega arith) (omega arith) ∙ sym (odd g a b c))
 
   same : (a b c : ℕ) → value f a b c ≡ value g a b c
   same a b c = below (a + b + c) a b c (omega arith) (omega arith) (omega arith)
@@ -92,7 +96,8 @@ distributed = same (both (differ x y) z) (differ (both x z) (both y z)) (refl, r
 chosen : (a b c : ℕ) → c ⊕ (a & (b ⊕ c)) ≡ (a & b) ⊕ ((a & c) ⊕ c)
 unfolding _⊕_ _&_
 chosen =
-    same (differ z (both x (differ y z))) (differ (both x y) (differ (both x z) z)) (refl, refl, refl, refl, refl, refl, refl, refl)
+    same (differ z (both x (differ y z))) (differ (both x y) (differ (both x z) z))
+    (refl, refl, refl, refl, refl, refl, refl, refl)
 
 -- a word is kept by AND with 32 ones
 kept : (m c : ℕ) → m ≡ 2 ^ 32 - 1 → c < 2 ^ 32 → m & c ≡ c
@@ -114,7 +119,8 @@ module _ (w : ℕ) (h : w < 2 ^ 32) where
       rotr-xor c w (rotr b w) (omega arith) h (rotr-word b w (omega arith) h)
       ∙ ap (λ (v : ℕ). rotr c w ⊕ v) (rotr-rotr b c w le h)
 
-  three-turns : (c b a : ℕ) → a + (b + c) ≤ 32 → rotr c (w ⊕ rotr b (w ⊕ rotr a w)) ≡ rotr c w ⊕ rotr (b + c) w ⊕ rotr (a + (b + c)) w
+  three-turns : (c b a : ℕ) → a + (b + c) ≤ 32 → rotr c (w ⊕ rotr b (w ⊕ rotr a w)) ≡ rotr c w ⊕ rotr (b + c) w ⊕ rotr
+      (a + (b + c)) w
   three-turns c b a le =
       let inner = w ⊕ rotr a w in
       let small : inner < 2 ^ 32 = xor-word w (rotr a w) h (rotr-word a w (omega arith) h) in

@@ -30,7 +30,12 @@ pub bigEndian-low : (count other number : ℕ) → bigEndian count (number % (25
 unfolding bigEndian
 bigEndian-low zero other number = refl
 bigEndian-low (suc count) other number =
-    rw (pow-suc 256 count, mul-assoc (256 ^ count) 256 other, byte-low number (256 ^ count) other (one-le-pow count 256 (omega arith)), bigEndian-low count (256 * other) number)
+    rw (
+      pow-suc 256 count,
+      mul-assoc (256 ^ count) 256 other,
+      byte-low number (256 ^ count) other (one-le-pow count 256 (omega arith)),
+      bigEndian-low count (256 * other) number,
+    )
 
 pub zeros-length : (count : ℕ) → length (zeros count) ≡ count
 unfolding zeros
@@ -59,12 +64,14 @@ padded-whole message =
     simp (length-append, padding-length) (omega (arith, zeroCount-fills (length message)))
 
 -- the example of section 5.1.1: `abc`, the byte 0x80, 52 zeros, and 24 bits in 8 bytes
-pub padded-abc : padded (0x61 ∷ 0x62 ∷ 0x63 ∷ []) ≡ 0x61 ∷ 0x62 ∷ 0x63 ∷ 0x80 ∷ (zeros 52 ++ (0 ∷ 0 ∷ 0 ∷ 0 ∷ 0 ∷ 0 ∷ 0 ∷ 24 ∷ []))
+pub padded-abc : padded (0x61 ∷ 0x62 ∷ 0x63 ∷ []) ≡ 0x61 ∷ 0x62 ∷ 0x63 ∷ 0x80 ∷
+    (zeros 52 ++ (0 ∷ 0 ∷ 0 ∷ 0 ∷ 0 ∷ 0 ∷ 0 ∷ 24 ∷ []))
 unfolding padded padding zeroCount bigEndian
 padded-abc = refl
 
 -- a whole block of the front is a block of the whole
-pub block-front : (bytes more : Bytes) (index : ℕ) → 64 * index + 64 ≤ length bytes → block (bytes ++ more) index ≡ block bytes index
+pub block-front : (bytes more : Bytes) (index : ℕ) → 64 * index + 64 ≤ length bytes →
+    block (bytes ++ more) index ≡ block bytes index
 unfolding block
 block-front bytes more index fits =
     rw (

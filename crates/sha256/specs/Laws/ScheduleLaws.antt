@@ -9,7 +9,8 @@ use Rattle.sha256.specs.Bytes.{Bytes}
 use Rattle.sha256.specs.Schedule.{messageWord, messageWords}
 
 -- one more word of the block
-pub words-more : (block : Bytes) (W : List ℕ) (t v : ℕ) → t < length W → take t W ≡ messageWords block t → v ≡ messageWord block t
+pub words-more : (block : Bytes) (W : List ℕ) (t v : ℕ) → t < length W → take t W ≡ messageWords block t →
+    v ≡ messageWord block t
     → take (t + 1) (set W t v) ≡ messageWords block (t + 1)
 unfolding messageWords
 words-more block W t v h e p = rw add-one (take-suc-set W t v h ∙ ap₂ (λ (l : List ℕ) (x : ℕ). l ++ (x ∷ [])) e p)

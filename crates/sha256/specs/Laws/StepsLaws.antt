@@ -1,4 +1,5 @@
--- Rounds in groups add up to the standard's rounds, and the array that is extended beside them to its schedule. Assumes nothing.
+-- Rounds in groups add up to the standard's rounds, and the array that is extended beside them to its schedule. Assumes
+-- nothing.
 use mathlib.Core.Logic.{_≢_}
 use mathlib.Core.Path.{_≡_, refl, sym, ap, ap₂, _∙_}
 use mathlib.Core.List.{List, [], _∷_, _++_}
@@ -26,14 +27,18 @@ unfolding extendedFrom
 kept W t zero j h = refl
 kept W t (suc n) j h =
     let other : j ≢ 16 + (t + n) = omega arith in
-    getD-set-other (extendedFrom W t n) (16 + (t + n)) j (nextWord (extendedFrom W t n) (16 + (t + n))) 0 other ∙ kept W t n j h
+    getD-set-other (extendedFrom W t n) (16 + (t + n)) j (nextWord (extendedFrom W t n) (16 + (t + n))) 0 other
+    ∙ kept W t n j h
 
-pub rounds-more : (k W before s r r′ : List ℕ) (t n u : ℕ) → u ≡ t + n → n < 16 → before ≡ extendedFrom W t n → r ≡ roundsFrom k W s t n
+pub rounds-more : (k W before s r r′ : List ℕ) (t n u : ℕ) → u ≡ t + n → n < 16 → before ≡ extendedFrom W t n →
+    r ≡ roundsFrom k W s t n
     → r′ ≡ round (getD k u 0) (getD before u 0) r → r′ ≡ roundsFrom k W s t (suc n)
 unfolding roundsFrom
 rounds-more k W before s r r′ t n u e h p q x =
-    let there : getD before u 0 ≡ getD W (t + n) 0 = ap₂ (λ (l : List ℕ) (v : ℕ). getD l v 0) p e ∙ kept W t n (t + n) (omega arith) in
-    x ∙ ap₂ (λ (v : ℕ) (l : List ℕ). round (getD k v 0) (getD before u 0) l) e q ∙ ap (λ (v : ℕ). round (getD k (t + n) 0) v (roundsFrom k W s t n)) there
+    let there : getD before u 0 ≡ getD W (t + n) 0 = ap₂ (λ (l : List ℕ) (v : ℕ). getD l v 0) p e
+    ∙ kept W t n (t + n) (omega arith) in
+    x ∙ ap₂ (λ (v : ℕ) (l : List ℕ). round (getD k v 0) (getD before u 0) l) e q
+    ∙ ap (λ (v : ℕ). round (getD k (t + n) 0) v (roundsFrom k W s t n)) there
 
 -- ---- groups add up
 
@@ -43,9 +48,12 @@ extended-add W t m zero = ap (extendedFrom W t) (sym (add-zero m))
 extended-add W t m (suc n) =
     sym
     (ap (extendedFrom W t) (add-suc m n)
-    ∙ sym (extended-more W (extendedFrom (extendedFrom W t m) (t + m) n) (extendedFrom (extendedFrom W t m) (t + m) (suc n)) t (m + n) (t + m + n) (add-assoc t m n) (extended-add W t m n) refl))
+    ∙ sym (extended-more W (extendedFrom (extendedFrom W t m) (t + m) n)
+    (extendedFrom (extendedFrom W t m) (t + m) (suc n)) t (m + n) (t + m + n) (add-assoc t m n)
+    (extended-add W t m n) refl))
 
-pub rounds-add : (k W s : List ℕ) (t m n : ℕ) → roundsFrom k W (roundsFrom k W s t m) (t + m) n ≡ roundsFrom k W s t (m + n)
+pub rounds-add : (k W s : List ℕ) (t m n : ℕ) → roundsFrom k W (roundsFrom k W s t m) (t + m) n ≡ roundsFrom k W s t
+    (m + n)
 unfolding roundsFrom
 rounds-add k W s t m zero = ap (roundsFrom k W s t) (sym (add-zero m))
 rounds-add k W s t m (suc n) =
@@ -53,17 +61,20 @@ rounds-add k W s t m (suc n) =
     ∙ ap (roundsFrom k W s t) (sym (add-suc m n))
 
 -- rounds read no words but their own
-pub rounds-agree : (k W W′ s : List ℕ) (t n : ℕ) → ((j : ℕ) → j < t + n → getD W j 0 ≡ getD W′ j 0) → roundsFrom k W s t n ≡ roundsFrom k W′ s t n
+pub rounds-agree : (k W W′ s : List ℕ) (t n : ℕ) → ((j : ℕ) → j < t + n → getD W j 0 ≡ getD W′ j 0) →
+    roundsFrom k W s t n ≡ roundsFrom k W′ s t n
 unfolding roundsFrom
 rounds-agree k W W′ s t zero h = refl
 rounds-agree k W W′ s t (suc n) h =
-    ap₂ (λ (v : ℕ) (l : List ℕ). round (getD k (t + n) 0) v l) (h (t + n) (omega arith)) (rounds-agree k W W′ s t n (λ j lt. h j (omega arith)))
+    ap₂ (λ (v : ℕ) (l : List ℕ). round (getD k (t + n) 0) v l) (h (t + n) (omega arith))
+    (rounds-agree k W W′ s t n (λ j lt. h j (omega arith)))
 
 -- a word that is there is the one that is there in the end
 settled : (W : List ℕ) (m n j : ℕ) → j < 16 + m → getD (extendedFrom W 0 m) j 0 ≡ getD (extendedFrom W 0 (m + n)) j 0
 settled W m n j h =
     sym
-    (ap (λ (l : List ℕ). getD l j 0) (sym (extended-add W 0 m n) ∙ ap (λ (u : ℕ). extendedFrom (extendedFrom W 0 m) u n) (zero-add m))
+    (ap (λ (l : List ℕ). getD l j 0) (sym (extended-add W 0 m n)
+    ∙ ap (λ (u : ℕ). extendedFrom (extendedFrom W 0 m) u n) (zero-add m))
     ∙ kept (extendedFrom W 0 m) m n j h)
 
 -- ---- four steps to a turn, and the turns of a loop
@@ -82,8 +93,10 @@ module _ (k W s : List ℕ) (t : ℕ) where
   unfolding roundsFrom
   start-state = refl
 
-  pub four-rounds : (s₁ s₂ s₃ s₄ : List ℕ) → s₁ ≡ round (getD k t 0) (getD W t 0) s → s₂ ≡ round (getD k (t + 1) 0) (getD W (t + 1) 0) s₁
-      → s₃ ≡ round (getD k (t + 2) 0) (getD W (t + 2) 0) s₂ → s₄ ≡ round (getD k (t + 3) 0) (getD W (t + 3) 0) s₃ → s₄ ≡ roundsFrom k W s t 4
+  pub four-rounds : (s₁ s₂ s₃ s₄ : List ℕ) → s₁ ≡ round (getD k t 0) (getD W t 0) s →
+      s₂ ≡ round (getD k (t + 1) 0) (getD W (t + 1) 0) s₁
+      → s₃ ≡ round (getD k (t + 2) 0) (getD W (t + 2) 0) s₂ → s₄ ≡ round (getD k (t + 3) 0) (getD W (t + 3) 0) s₃ →
+      s₄ ≡ roundsFrom k W s t 4
   unfolding roundsFrom
   four-rounds s₁ s₂ s₃ s₄ p q r x = rw add-zero (cc)
 
@@ -107,14 +120,17 @@ module _ (k W s : List ℕ) (t : ℕ) where
       }
 
 -- a turn of the loop over the first 48 rounds: i turns are done, with the array W at first
-pub turn-words : (W before after : List ℕ) (i : ℕ) → before ≡ extendedFrom W 0 (4 * i) → after ≡ extendedFrom before (4 * i) 4
+pub turn-words : (W before after : List ℕ) (i : ℕ) → before ≡ extendedFrom W 0 (4 * i) →
+    after ≡ extendedFrom before (4 * i) 4
     → after ≡ extendedFrom W 0 (4 * (i + 1))
 turn-words W before after i p q =
     let e : 4 * i + 4 ≡ 4 * (i + 1) = omega arith in
-    q ∙ ap₂ (λ (l : List ℕ) (u : ℕ). extendedFrom l u 4) p (sym (zero-add (4 * i))) ∙ extended-add W 0 (4 * i) 4 ∙ ap (extendedFrom W 0) e
+    q ∙ ap₂ (λ (l : List ℕ) (u : ℕ). extendedFrom l u 4) p (sym (zero-add (4 * i))) ∙ extended-add W 0 (4 * i) 4
+    ∙ ap (extendedFrom W 0) e
 
 -- the rounds of a turn, with words that agree with all of W below the turn's end; the loop started at round t
-pub turn-rounds : (k W words s r r′ : List ℕ) (t i u : ℕ) → u ≡ t + 4 * i → ((j : ℕ) → j < u + 4 → getD words j 0 ≡ getD W j 0)
+pub turn-rounds : (k W words s r r′ : List ℕ) (t i u : ℕ) → u ≡ t + 4 * i →
+    ((j : ℕ) → j < u + 4 → getD words j 0 ≡ getD W j 0)
     → r ≡ roundsFrom k W s t (4 * i) → r′ ≡ roundsFrom k words r u 4 → r′ ≡ roundsFrom k W s t (4 * (i + 1))
 turn-rounds k W words s r r′ t i u e h p q =
     let four : 4 * i + 4 ≡ 4 * (i + 1) = omega arith in
@@ -127,7 +143,8 @@ pub turn-agrees : (W before : List ℕ) (i : ℕ) → i < 12 → before ≡ exte
     → getD before j 0 ≡ getD (extendedFrom W 0 48) j 0
 turn-agrees W before i h p j lt =
     let e : 4 * i + (48 - 4 * i) ≡ 48 = omega arith in
-    ap (λ (l : List ℕ). getD l j 0) p ∙ settled W (4 * i) (48 - 4 * i) j (omega arith) ∙ ap (λ (n : ℕ). getD (extendedFrom W 0 n) j 0) e
+    ap (λ (l : List ℕ). getD l j 0) p ∙ settled W (4 * i) (48 - 4 * i) j (omega arith)
+    ∙ ap (λ (n : ℕ). getD (extendedFrom W 0 n) j 0) e
 
 -- ---- the whole
 
@@ -135,10 +152,12 @@ extended-length : (W : List ℕ) (t n : ℕ) → length (extendedFrom W t n) ≡
 unfolding extendedFrom
 extended-length W t zero = refl
 extended-length W t (suc n) =
-    length-set (extendedFrom W t n) (16 + (t + n)) (nextWord (extendedFrom W t n) (16 + (t + n))) ∙ extended-length W t n
+    length-set (extendedFrom W t n) (16 + (t + n)) (nextWord (extendedFrom W t n) (16 + (t + n)))
+    ∙ extended-length W t n
 
 -- the next word reads no words but those before it
-next-agree : (W W′ : List ℕ) (t : ℕ) → 16 ≤ t → ((j : ℕ) → j < t → getD W j 0 ≡ getD W′ j 0) → nextWord W t ≡ nextWord W′ t
+next-agree : (W W′ : List ℕ) (t : ℕ) → 16 ≤ t → ((j : ℕ) → j < t → getD W j 0 ≡ getD W′ j 0) →
+    nextWord W t ≡ nextWord W′ t
 unfolding nextWord
 next-agree W W′ t h agree =
     let e₂ = agree (t - 2) (omega arith) in
@@ -165,7 +184,8 @@ module _ (block : Bytes) (W : List ℕ) (long : length W ≡ 64) (first : take 1
 
   pub scheduled : extendedFrom W 0 48 ≡ schedule block
   unfolding schedule
-  scheduled = sym (take-all 64 (extendedFrom W 0 48) (omega (arith, extended-length W 0 48))) ∙ scheduled-to 48 (omega arith)
+  scheduled = sym (take-all 64 (extendedFrom W 0 48) (omega (arith, extended-length W 0 48)))
+      ∙ scheduled-to 48 (omega arith)
 
 from-zero : (W s : List ℕ) (n : ℕ) → roundsFrom K W s 0 n ≡ rounds s W n
 unfolding roundsFrom rounds
@@ -174,15 +194,19 @@ from-zero W s (suc n) =
     ap₂ (λ (t : ℕ) (l : List ℕ). round (getD K t 0) (getD W t 0) l) (zero-add n) (from-zero W s n)
 
 -- the first 48 rounds and the last 16 are the standard's 64
-pub all-rounds : (k W s r r′ : List ℕ) → k ≡ K → r ≡ roundsFrom k W s 0 48 → r′ ≡ roundsFrom k W r 48 16 → r′ ≡ rounds s W 64
+pub all-rounds : (k W s r r′ : List ℕ) → k ≡ K → r ≡ roundsFrom k W s 0 48 → r′ ≡ roundsFrom k W r 48 16 →
+    r′ ≡ rounds s W 64
 all-rounds k W s r r′ e p q =
     q ∙ ap₂ (λ (c l : List ℕ). roundsFrom c W l 48 16) e (p ∙ ap (λ (c : List ℕ). roundsFrom c W s 0 48) e)
     ∙ rounds-add K W s 0 48 16 ∙ from-zero W s 64
 
 -- the parts of the compression, joined
-pub compressed : (block : Bytes) (W₀ W k hash middle s r : List ℕ) → length W₀ ≡ 64 → take 16 W₀ ≡ messageWords block 16 → k ≡ K
-    → middle ≡ roundsFrom k W hash 0 48 → W ≡ extendedFrom W₀ 0 48 → s ≡ roundsFrom k W middle 48 16 → r ≡ addWords s hash → r ≡ compression hash block
+pub compressed : (block : Bytes) (W₀ W k hash middle s r : List ℕ) → length W₀ ≡ 64 →
+    take 16 W₀ ≡ messageWords block 16 → k ≡ K
+    → middle ≡ roundsFrom k W hash 0 48 → W ≡ extendedFrom W₀ 0 48 → s ≡ roundsFrom k W middle 48 16 →
+    r ≡ addWords s hash → r ≡ compression hash block
 unfolding compression
 compressed block W₀ W k hash middle s r long first constants p words q x =
     x ∙ ap (λ (l : List ℕ). addWords l hash)
-    (all-rounds k W hash middle s constants p q ∙ ap (λ (l : List ℕ). rounds hash l 64) (words ∙ scheduled block W₀ long first))
+    (all-rounds k W hash middle s constants p q ∙ ap (λ (l : List ℕ). rounds hash l 64)
+    (words ∙ scheduled block W₀ long first))

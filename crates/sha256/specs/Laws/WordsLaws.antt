@@ -1,4 +1,5 @@
--- Laws of the operations on words: AND and XOR go digit by digit, and a rotation is a sum of two parts that moves along XOR and adds up. Assumes nothing.
+-- Laws of the operations on words: AND and XOR go digit by digit, and a rotation is a sum of two parts that moves along
+-- XOR and adds up. Assumes nothing.
 use mathlib.Core.Path.{_≡_, sym, ap, ap₂, _∙_, subst}
 use Prim.Native.Nat.{ℕ, _+_, _-_, _*_, _/_, _%_, _^_, _≤_, _<_}
 use native.Mathlib.Nat.{add-comm, add-mul, mul-assoc, add-mul-div-right, mul-mod-left, mod-lt, add-zero}
@@ -58,7 +59,8 @@ module _ (n j m x : ℕ) (h : x < 2 ^ (n + (j + m))) where
   turned-low =
       ap (λ (e : ℕ). ((x % 2 ^ n) * 2 ^ e + x / 2 ^ n) % 2 ^ j) (add-comm j m)
       ∙ sym (mod-mod-pow ((x % 2 ^ n) * 2 ^ (m + j) + x / 2 ^ n) m j)
-      ∙ ap (λ (y : ℕ). y % 2 ^ j) (low (x % 2 ^ n) (m + j) (subst (λ (e : ℕ). x / 2 ^ n < 2 ^ e) (add-comm j m) (upper-lt n (j + m) x h)))
+      ∙ ap (λ (y : ℕ). y % 2 ^ j) (low (x % 2 ^ n) (m + j)
+      (subst (λ (e : ℕ). x / 2 ^ n < 2 ^ e) (add-comm j m) (upper-lt n (j + m) x h)))
 
   turned-high : turn n (j + m) x / 2 ^ j ≡ x / 2 ^ n / 2 ^ j + (x % 2 ^ n) * 2 ^ m
   unfolding turn
@@ -80,7 +82,8 @@ module _ (n j m x : ℕ) (h : x < 2 ^ (n + (j + m))) where
   turn-turn : turn j (n + m) (turn n (j + m) x) ≡ turn (n + j) m x
   turn-turn = parts (turn n (j + m) x) turned-low turned-high
     where
-      parts : (y : ℕ) → y % 2 ^ j ≡ x / 2 ^ n % 2 ^ j → y / 2 ^ j ≡ x / 2 ^ n / 2 ^ j + (x % 2 ^ n) * 2 ^ m → turn j (n + m) y ≡ turn (n + j) m x
+      parts : (y : ℕ) → y % 2 ^ j ≡ x / 2 ^ n % 2 ^ j → y / 2 ^ j ≡ x / 2 ^ n / 2 ^ j + (x % 2 ^ n) * 2 ^ m →
+          turn j (n + m) y ≡ turn (n + j) m x
       parts y lo hi =
           unfold turn in
           ap₂ (λ (u v : ℕ). u * 2 ^ (n + m) + v) lo (hi ∙ ap (λ (y : ℕ). y + (x % 2 ^ n) * 2 ^ m) (shr-shr x n j))

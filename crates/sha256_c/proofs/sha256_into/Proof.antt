@@ -1,4 +1,5 @@
--- `sha256_into` meets its contract. The loop's invariant: the bytes passed are the digest's, and the others are as they were.
+-- `sha256_into` meets its contract. The loop's invariant: the bytes passed are the digest's, and the others are as they
+-- were.
 -- Assumes nothing.
 use Prim.Native.Nat.{ℕ, _+_, _-_, _≤_, _<_}
 use mathlib.Core.Path.{_≡_, refl, sym, _∙_}

@@ -14,7 +14,8 @@ returns c =
     let mask = c .before in
     let test = mask .before .before in
     let start = test .before .before in
-    c .quorum .ensures ∙ ap (λ (m : ℕ). quorum (view (decode (start .args .book .now))) m) (mask .certificate-mask .ensures .0)
+    c .quorum .ensures ∙ ap (λ (m : ℕ). quorum (view (decode (start .args .book .now))) m)
+    (mask .certificate-mask .ensures .0)
     ∙ sym (where-held _ _ (sym (test .is-notarized .ensures) ∙ mask .before .if1 .taken))
 
 returns-2 : tie.Need-returns-2

@@ -1,4 +1,5 @@
--- `finalized_sound` meets its contract: height 0 passes, a height past the last is not finalized, and any other is asked for.
+-- `finalized_sound` meets its contract: height 0 passes, a height past the last is not finalized, and any other is
+-- asked for.
 use Prim.Native.Nat.{ℕ}
 use native.Mathlib.Omega.{arith}
 use mathlib.Core.Path.{sym, ap, _∙_}
@@ -19,8 +20,10 @@ is-finalized-requires c κs =
 returns : tie.Need-returns
 returns c =
     let after-finalized = c .before in
-    let start = after-finalized .before .before .before in
-    (sym (final-none sha256 (start .args .book .now) (sym (after-finalized .finalized .ensures .0) ∙ c .if1 .taken)), start .pre .1)
+    let start = after-finalized .before .before .before in (
+      sym (final-none sha256 (start .args .book .now) (sym (after-finalized .finalized .ensures .0) ∙ c .if1 .taken)),
+      start .pre .1,
+    )
 
 returns-2 : tie.Need-returns-2
 returns-2 c =

@@ -10,7 +10,8 @@ returns : tie.Need-returns
 returns c =
     let numbers = c .before .before in
     let start = numbers .before .before .before .before in
-    rw (c .is-zero .ensures, numbers .numbers-sound .ensures, numbers .before .byte .ensures .0) (unfold part in head-are (start .args .book .now))
+    rw (c .is-zero .ensures, numbers .numbers-sound .ensures, numbers .before .byte .ensures .0)
+    (unfold part in head-are (start .args .book .now))
 
 returns-2 : tie.Need-returns-2
 returns-2 c = sym (head-short (c .before .before .args .book .now) (c .if1 .left))

@@ -36,8 +36,11 @@ loop-again c =
     let after-height-sound = c .before in
     let after-loop = after-height-sound .before .before in
     let start = after-loop .before .before .before in
-    let at = after-loop .loop in
-    (omega arith, every-more (λ k. allOf (heightRows (start .args .book .now) k)) (at .h) (at .inv .1) (sym (after-height-sound .height-sound .ensures) ∙ c .if1 .taken))
+    let at = after-loop .loop in (
+      omega arith,
+      every-more (λ k. allOf (heightRows (start .args .book .now) k)) (at .h) (at .inv .1)
+          (sym (after-height-sound .height-sound .ensures) ∙ c .if1 .taken),
+    )
 
 returns : tie.Need-returns Inv-loop μ-loop
 returns c =
@@ -45,7 +48,8 @@ returns c =
     let after-loop = after-height-sound .before .before in
     let start = after-loop .before .before .before in
     let at = after-loop .loop in
-    sym (every-height-fails (λ k. allOf (heightRows (start .args .book .now) k)) (bookHeights (start .args .book .now)) (at .h + 1) (omega arith) (omega arith)
+    sym (every-height-fails (λ k. allOf (heightRows (start .args .book .now) k)) (bookHeights (start .args .book .now))
+    (at .h + 1) (omega arith) (omega arith)
     (sym (after-height-sound .height-sound .ensures) ∙ c .if1 .left))
 
 returns-2 : tie.Need-returns-2 Inv-loop μ-loop
@@ -53,7 +57,8 @@ returns-2 c =
     let after-loop = c .before in
     let start = after-loop .before .before .before in
     let end : after-loop .loop .h ≡ bookHeights (start .args .book .now) = omega arith in
-    sym (ap (λ (h : ℕ). everyHeight (λ k. allOf (heightRows (start .args .book .now) k)) h) (sym end) ∙ after-loop .loop .inv .1)
+    sym (ap (λ (h : ℕ). everyHeight (λ k. allOf (heightRows (start .args .book .now) k)) h) (sym end)
+    ∙ after-loop .loop .inv .1)
 
 pub heights-sound-spec : {M : Type 1} → statement M
 heights-sound-spec =

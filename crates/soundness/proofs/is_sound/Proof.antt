@@ -16,7 +16,8 @@ returns c =
     let after-rows-sound = after-if1 .before in
     let after-shared-slice-known = after-rows-sound .before in
     let start = after-shared-slice-known .before in (
-      c .finalized-alone .ensures ∙ sound-final sha256 (start .args .book .now) (sym (after-rows-sound .rows-sound .ensures .0) ∙ after-if1 .if1 .taken),
+      c .finalized-alone .ensures ∙ sound-final sha256 (start .args .book .now)
+          (sym (after-rows-sound .rows-sound .ensures .0) ∙ after-if1 .if1 .taken),
       λ i. omega (arith, after-shared-slice-known .shared-slice-known .given i),
     )
 

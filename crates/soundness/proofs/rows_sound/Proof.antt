@@ -28,8 +28,10 @@ returns c =
 returns-2 : tie.Need-returns-2
 returns-2 c =
     let after-head-sound = c .before in
-    let start = after-head-sound .before .before in
-    (rows-not-head sha256 (start .args .book .now) (sym (after-head-sound .head-sound .ensures) ∙ c .if1 .left), λ passed. absurd (false≢true passed))
+    let start = after-head-sound .before .before in (
+      rows-not-head sha256 (start .args .book .now) (sym (after-head-sound .head-sound .ensures) ∙ c .if1 .left),
+      λ passed. absurd (false≢true passed),
+    )
 
 pub rows-sound-spec : {M : Type 1} → statement M
 rows-sound-spec = tie.close (tie.spec (λ c κs. search needs) heights-sound-requires returns returns-2)

@@ -1,4 +1,5 @@
--- `sound` meets its contract: its two tests are the groups of rows, and the memory of zeros that it is lent is the first one.
+-- `sound` meets its contract: its two tests are the groups of rows, and the memory of zeros that it is lent is the
+-- first one.
 use mathlib.Core.Path.{sym, ap, _∙_}
 use mathlib.Core.Bool.{false≢true}
 use lib.ListN.{length}
@@ -25,14 +26,19 @@ returns c =
     let test = after-finalized-sound .before .before in
     let final = after-finalized-sound .finalized-sound in
     let start = test .before .before .before .before in
-    let size = final .kept .1 .0 ∙ ap length (start .pre) ∙ length-zeros memorySize in
-    (final .ensures .0 ∙ sound-final sha256 (start .args .book .now) (sym (test .before .rows-sound .ensures .0) ∙ test .if1 .taken), ((λ passed. final .ensures .1), size))
+    let size = final .kept .1 .0 ∙ ap length (start .pre) ∙ length-zeros memorySize in (
+      final .ensures .0 ∙ sound-final sha256 (start .args .book .now)
+          (sym (test .before .rows-sound .ensures .0) ∙ test .if1 .taken),
+      ((λ passed. final .ensures .1), size),
+    )
 
 returns-2 : tie.Need-returns-2
 returns-2 c =
     let after-rows-sound = c .before in
-    let z = after-rows-sound .before .before .before in
-    (not-sound-rows sha256 (z .args .book .now) (sym (after-rows-sound .rows-sound .ensures .0) ∙ c .if1 .left), ((λ passed. absurd (false≢true passed)), ap length (z .pre) ∙ length-zeros memorySize))
+    let z = after-rows-sound .before .before .before in (
+      not-sound-rows sha256 (z .args .book .now) (sym (after-rows-sound .rows-sound .ensures .0) ∙ c .if1 .left),
+      ((λ passed. absurd (false≢true passed)), ap length (z .pre) ∙ length-zeros memorySize),
+    )
 
 pub sound-spec : {M : Type 1} → statement M
 sound-spec =

@@ -11,7 +11,8 @@ use Rattle.protocol.specs.Tests.{allOf, everyHeight}
 use Rattle.protocol.specs.State.{bookSize, bookHeights}
 use Rattle.protocol.specs.Sound.{sound}
 use Rattle.protocol.specs.Laws.TestsLaws.{and-true, both-ways}
-use Rattle.protocol.specs.Laws.RowLaws.{row, all-of, true-and, every-height-at, every-height, in-range, is-zero-byte, zeros-is-zero}
+use Rattle.protocol.specs.Laws.RowLaws.{row, all-of, true-and, every-height-at, every-height, in-range, is-zero-byte}
+use Rattle.protocol.specs.Laws.RowLaws.{zeros-is-zero}
 use Rattle.protocol.specs.Laws.BytesLaws.{length-zeros}
 use Rattle.fields.specs.Laws.BookLaws.{readable as make-readable}
 use Rattle.fields.specs.Book.{Readable}
@@ -28,7 +29,8 @@ module _ (digest : Bytes → Bytes) (book : Bytes) where
     unfolding sound headRows numberRows
     head-passes =
         let numbers = all-of
-        (one (row _ 1 e) (one (row _ 2 e) (one (row _ 3 e) (one (row _ 4 e) (one (row _ 5 e) (one (row _ 6 e) (one (row _ 7 e) none))))))) in
+        (one (row _ 1 e) (one (row _ 2 e) (one (row _ 3 e)
+        (one (row _ 4 e) (one (row _ 5 e) (one (row _ 6 e) (one (row _ 7 e) none))))))) in
         all-of (one (row _ 0 e) (one numbers (one (row _ 13 e) none)))
 
     height-passes : (h : ℕ) → 1 ≤ h → h ≤ bookHeights book → allOf (heightRows book h) ≡ true

@@ -22,9 +22,12 @@ returns c =
     let signer = after-own .own in
     let block = after-proposal .proposal in
     let digest = after-sha256 .sha256 in
-    took-block-vote (decode (start .args .book .now)) (start .args .reply .now) (after-set-head .set-head .last .0) (after-write-block-vote .write-block-vote .last .0)
-    (height .result) (signer .result) (seen .result) (settled .result) (height .ensures .0) (signer .ensures .0) (seen .ensures .0) (settled .ensures .0)
-    (digest .result) (block .result .now) (digest .ensures) (block .ensures) (after-set-head .set-head .ensures) (after-write-block-vote .write-block-vote .ensures)
+    took-block-vote (decode (start .args .book .now)) (start .args .reply .now) (after-set-head .set-head .last .0)
+    (after-write-block-vote .write-block-vote .last .0)
+    (height .result) (signer .result) (seen .result) (settled .result) (height .ensures .0) (signer .ensures .0)
+    (seen .ensures .0) (settled .ensures .0)
+    (digest .result) (block .result .now) (digest .ensures) (block .ensures) (after-set-head .set-head .ensures)
+    (after-write-block-vote .write-block-vote .ensures)
 
 pub cast-block-vote-spec : {M : Type 1} → statement M
 cast-block-vote-spec =

@@ -18,8 +18,10 @@ returns c =
     let seen = after-flags .flags in
     let settled = after-finalized .finalized in
     let signer = after-own .own in
-    took-dummy-vote (decode (start .args .book .now)) (start .args .reply .now) (after-set-head .set-head .last .0) (after-write-dummy-vote .write-dummy-vote .last .0)
-    (height .result) (signer .result) (seen .result) (settled .result) (height .ensures .0) (signer .ensures .0) (seen .ensures .0) (settled .ensures .0)
+    took-dummy-vote (decode (start .args .book .now)) (start .args .reply .now) (after-set-head .set-head .last .0)
+    (after-write-dummy-vote .write-dummy-vote .last .0)
+    (height .result) (signer .result) (seen .result) (settled .result) (height .ensures .0) (signer .ensures .0)
+    (seen .ensures .0) (settled .ensures .0)
     (after-set-head .set-head .ensures) (after-write-dummy-vote .write-dummy-vote .ensures)
 
 pub cast-dummy-vote-spec : {M : Type 1} → statement M

@@ -11,8 +11,13 @@ use Rattle.steps.proofs.pass.Tie as tie
 linked-requires : tie.Need-linked-requires
 linked-requires c κs =
     let height = c .before .before .before .before in
-    let start = height .before .before .before .before .before in
-    (start .pre .0 .ready .readable, (start .pre .1 .0, omega (arith, height .current .ensures .0, start .pre .1 .1 .0)))
+    let start = height .before .before .before .before .before in (
+      start .pre .0 .ready .readable,
+      (
+        start .pre .1 .0,
+        omega (arith, height .current .ensures .0, start .pre .1 .1 .0),
+      ),
+    )
 
 returns : tie.Need-returns
 returns c =
@@ -25,11 +30,15 @@ returns c =
     let height = settled .before .before in
     let start = height .before .before .before .before .before in
     let book = start .args .book .now in
-    took-pass book (start .pre .0 .ready .readable) (within-current book (start .pre .0) (start .pre .1 .1 .0) (decode book .current) refl)
-    (start .args .reply .now) (head .set-head .last .0) (certificate .write-pass-certificate .last .1 .0) (finalize .write-pass-finalize .last .1 .0)
-    (height .current .result) (settled .finalized .result) (link .linked .result) (certificate .write-pass-certificate .result) (timer .in-time .result)
+    took-pass book (start .pre .0 .ready .readable)
+    (within-current book (start .pre .0) (start .pre .1 .1 .0) (decode book .current) refl)
+    (start .args .reply .now) (head .set-head .last .0) (certificate .write-pass-certificate .last .1 .0)
+    (finalize .write-pass-finalize .last .1 .0)
+    (height .current .result) (settled .finalized .result) (link .linked .result)
+    (certificate .write-pass-certificate .result) (timer .in-time .result)
     (height .current .ensures .0) (settled .finalized .ensures .0) (link .linked .ensures .0) (timer .in-time .ensures)
-    (certificate .write-pass-certificate .ensures .0) (certificate .write-pass-certificate .ensures .1) (finalize .write-pass-finalize .ensures) (head .set-head .ensures)
+    (certificate .write-pass-certificate .ensures .0) (certificate .write-pass-certificate .ensures .1)
+    (finalize .write-pass-finalize .ensures) (head .set-head .ensures)
 
 pub pass-spec : {M : Type 1} → statement M
 pass-spec =

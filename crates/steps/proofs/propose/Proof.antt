@@ -10,9 +10,19 @@ use Rattle.steps.proofs.propose.Tie as tie
 write-proposal-requires : tie.Need-write-proposal-requires
 write-proposal-requires c κs =
     let after-parent-below = c .before .before .before .before .before in
-    let start = after-parent-below .before .before .before .before .before .before .before .before .before .before .before .before in
-    let found = after-parent-below .parent-below in
-    (start .pre .0, (found .ensures .1, (walkable (start .args .book .now) (start .pre .0) (start .pre .1 .1 .0) (start .pre .1 .1 .1 .0) (found .result) (found .ensures .0), start .pre .1 .1 .1 .1)))
+    let start = after-parent-below .before .before .before .before .before .before .before .before .before .before
+    .before .before in
+    let found = after-parent-below .parent-below in (
+      start .pre .0,
+      (
+        found .ensures .1,
+        (
+          walkable (start .args .book .now) (start .pre .0) (start .pre .1 .1 .0)
+              (start .pre .1 .1 .1 .0) (found .result) (found .ensures .0),
+          start .pre .1 .1 .1 .1,
+        ),
+      ),
+    )
 
 returns : tie.Need-returns
 returns c =
@@ -30,7 +40,8 @@ returns c =
     let found = after-parent-below .parent-below in
     let proposed = after-write-proposal .write-proposal in
     took-propose s (start .args .reply .now) (after-set-head .set-head .last .0) (proposed .last .1 .0)
-    (height .result) (s .own) (seen .result) (settled .result) (height .ensures .0) refl (seen .ensures .0) (settled .ensures .0)
+    (height .result) (s .own) (seen .result) (settled .result) (height .ensures .0) refl (seen .ensures .0)
+    (settled .ensures .0)
     (found .result) (found .ensures .0) (after-set-head .set-head .ensures) (proposed .ensures)
 
 pub propose-spec : {M : Type 1} → statement M

@@ -13,9 +13,13 @@ returns c =
     let start = after-current .before .before .before in
     let s = decode (start .args .book .now) in
     let height = after-current .current in
-    let seen = after-flags .flags in
-    (settled-answer s (start .args .g) (start .pre .1 .0), settled-book s (start .args .g) (start .pre .1 .0) (after-set-head .set-head .last .0) (height .result) (seen .result) (height .ensures .0) (seen .ensures .0) (after-set-head .set-head .ensures))
+    let seen = after-flags .flags in (
+      settled-answer s (start .args .g) (start .pre .1 .0),
+      settled-book s (start .args .g) (start .pre .1 .0) (after-set-head .set-head .last .0) (height .result)
+          (seen .result) (height .ensures .0) (seen .ensures .0) (after-set-head .set-head .ensures),
+    )
 
 pub settle-spec : {M : Type 1} → statement M
 settle-spec =
-    tie.close (tie.spec (λ c κs. search needs) (λ c κs. search needs) (λ c κs. search needs) (λ c. search needs) returns)
+    tie.close (tie.spec (λ c κs. search needs) (λ c κs. search needs) (λ c κs. search needs) (λ c. search needs)
+    returns)

@@ -18,8 +18,14 @@ write-block-certificate-requires c κs =
     let book = start .args .book .now in
     let height = after-current .current in
     let inside = within-current book (start .pre .0) (start .pre .1 .0) (height .result) (height .ensures .0) in
-    let room = start .pre .1 .1 in
-    (omega (arith, room), ((omega (arith, height .ensures .1), after-certificate-mask .certificate-mask .ensures .1), ap length (c .notarized .ensures) ∙ notarized-size book (start .pre .0 .ready .readable) (height .result) inside))
+    let room = start .pre .1 .1 in (
+      omega (arith, room),
+      (
+        (omega (arith, height .ensures .1), after-certificate-mask .certificate-mask .ensures .1),
+        ap length (c .notarized .ensures) ∙ notarized-size book (start .pre .0 .ready .readable) (height .result)
+            inside,
+      ),
+    )
 
 returns : tie.Need-returns
 unfolding certificateOf
@@ -31,8 +37,10 @@ returns c =
     let height = choice .before in
     let start = height .before .before .before in (
       rw (choice .if1 .taken),
-      wrote-block (decode (start .args .book .now)) (start .args .reply .now) (wrote .write-block-certificate .last .0) (start .args .linked) (height .current .result)
-          (mask .certificate-mask .result) (height .current .ensures .0) (block .notarized .result .now) (choice .if1 .taken) (mask .certificate-mask .ensures .0)
+      wrote-block (decode (start .args .book .now)) (start .args .reply .now) (wrote .write-block-certificate .last .0)
+          (start .args .linked) (height .current .result)
+          (mask .certificate-mask .result) (height .current .ensures .0) (block .notarized .result .now)
+          (choice .if1 .taken) (mask .certificate-mask .ensures .0)
           (block .notarized .ensures) (wrote .write-block-certificate .ensures),
     )
 
@@ -45,8 +53,10 @@ returns-2 c =
     let height = choice .before in
     let start = height .before .before .before in (
       rw (choice .if1 .left),
-      wrote-dummy (decode (start .args .book .now)) (start .args .reply .now) (wrote .write-dummy-certificate .last .0) (start .args .linked) (height .current .result)
-          (mask .dummy-mask .result) (height .current .ensures .0) (choice .if1 .left) (mask .dummy-mask .ensures .0) (wrote .write-dummy-certificate .ensures),
+      wrote-dummy (decode (start .args .book .now)) (start .args .reply .now) (wrote .write-dummy-certificate .last .0)
+          (start .args .linked) (height .current .result)
+          (mask .dummy-mask .result) (height .current .ensures .0) (choice .if1 .left) (mask .dummy-mask .ensures .0)
+          (wrote .write-dummy-certificate .ensures),
     )
 
 pub write-pass-certificate-spec : {M : Type 1} → statement M

@@ -22,7 +22,8 @@ returns c =
     let reply = start .args .reply .now in
     let room = start .pre .1 in
     rw (choice .if1 .taken, wrote .write-finalize .ensures, signer .own .ensures .0, height .current .ensures .0)
-    (front-in-part reply (finalize (s .own) (s .current)) 224 (length reply - 224) (omega (arith, room)) (omega (arith, room, finalize-size (s .own) (s .current))))
+    (front-in-part reply (finalize (s .own) (s .current)) 224 (length reply - 224) (omega (arith, room))
+    (omega (arith, room, finalize-size (s .own) (s .current))))
 
 returns-2 : tie.Need-returns-2
 returns-2 c =

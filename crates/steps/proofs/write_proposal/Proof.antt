@@ -19,11 +19,17 @@ parent-digest-requires c κs =
 offer-requires : tie.Need-offer-requires
 offer-requires c κs =
     let after-write-plain = c .before .before .before .before in
-    let start = after-write-plain .before .before .before .before .before .before .before .before .before .before .before in
+    let start = after-write-plain .before .before .before .before .before .before .before .before .before .before
+    .before in
     let plain = after-write-plain .write-plain in
     let room = start .pre .1 .1 .1 in
-    let kept = plain .kept .0 in
-    (start .pre .1 .1 .0, (start .pre .0 .state .pending-few, (search needs, search needs, simp (length-take, length-drop) (omega arith))))
+    let kept = plain .kept .0 in (
+      start .pre .1 .1 .0,
+      (
+        start .pre .0 .state .pending-few,
+        (search needs, search needs, simp (length-take, length-drop) (omega arith)),
+      ),
+    )
 
 returns : tie.Need-returns
 returns c =
@@ -42,10 +48,12 @@ returns c =
     let room = start .pre .1 .1 .1 in
     let kept = plain .kept .0 in
     let size : length (digest .result) ≡ 32 = search needs in
-    wrote-proposal book (start .pre .0) (start .args .reply .now) (plain .last .0) _ (digest .result) (height .result) (signer .result) j
+    wrote-proposal book (start .pre .0) (start .args .reply .now) (plain .last .0) _ (digest .result) (height .result)
+    (signer .result) j
     (height .ensures .0) (signer .ensures .0) size (digest .ensures .0) (plain .ensures)
     (rw (after-offer .offer .ensures)
-    (front-in-part (plain .last .0) (newBlock (height .result) j (digest .result) (offered (decode book) j)) 48 176 (omega arith)
+    (front-in-part (plain .last .0) (newBlock (height .result) j (digest .result) (offered (decode book) j)) 48 176
+    (omega arith)
     (omega (arith, proposed-size book (start .pre .0) (digest .result) (height .result) j size))))
 
 pub write-proposal-spec : {M : Type 1} → statement M

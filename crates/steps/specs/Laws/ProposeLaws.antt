@@ -32,7 +32,8 @@ module _ (book : Bytes) (m : SoundBook sha256 book) where
   s = decode book
 
   -- the chain below the current height
-  pub walkable : s .current ≤ bookHeights book → isSome (parentBelow sha256 s) ≡ true → (j : ℕ) → j ≡ someOr 0 (parentBelow sha256 s) → Walkable book j
+  pub walkable : s .current ≤ bookHeights book → isSome (parentBelow sha256 s) ≡ true → (j : ℕ) →
+      j ≡ someOr 0 (parentBelow sha256 s) → Walkable book j
   unfolding someOr
   walkable high e j is =
       let found = isSome-parent sha256 (view s) (s .current - 1) e in
@@ -54,10 +55,12 @@ module _ (book : Bytes) (m : SoundBook sha256 book) where
 
   -- a new block has the size of a block
   pub proposed-size : (digest : Bytes) (c j : ℕ) → length digest ≡ 32 → length (newBlock c j digest (offered s j)) ≡ 176
-  proposed-size digest c j digest-size = new-block-size c j digest (offered s j) digest-size (entries-sized j) (offered-few s j)
+  proposed-size digest c j digest-size = new-block-size c j digest (offered s j) digest-size (entries-sized j)
+      (offered-few s j)
 
   -- the block in the place of a frame's zero bytes
-  pub wrote-proposal : (reply middle replyAfter digest : Bytes) (c signer j : ℕ) → c ≡ s .current → signer ≡ s .own → length digest ≡ 32 → digest ≡ digestAt sha256 (view s) j →
+  pub wrote-proposal : (reply middle replyAfter digest : Bytes) (c signer j : ℕ) → c ≡ s .current → signer ≡ s .own →
+      length digest ≡ 32 → digest ≡ digestAt sha256 (view s) j →
       middle ≡ overFront (frameOf 1 signer c 0 (zeros 32) (zeros 176)) reply →
       replyAfter ≡ put middle 48 (newBlock c j digest (offered s j)) →
       replyAfter ≡ overFront (proposal (s .own) (s .current) (proposedBlock sha256 s j)) reply
@@ -65,7 +68,10 @@ module _ (book : Bytes) (m : SoundBook sha256 book) where
   wrote-proposal reply middle replyAfter digest c signer j c-is signer-is digest-size digest-is first second =
       let block : Bytes = newBlock c j digest (offered s j) in
       let size : length block ≡ 176 = proposed-size digest c j digest-size in
-      let placed : put (overFront (frameOf 1 signer c 0 (zeros 32) (zeros 176)) reply) 48 block ≡ overFront (frameOf 1 signer c 0 (zeros 32) block) reply =
-      front-frame-block 1 signer c 0 (zeros 32) (zeros 176) block (length-zeros 32) (length-zeros 176 ∙ sym size) reply in
-      let named : overFront (frameOf 1 signer c 0 (zeros 32) block) reply ≡ overFront (proposal (s .own) (s .current) (proposedBlock sha256 s j)) reply = rw (digest-is, signer-is, c-is) in
+      let placed : put (overFront (frameOf 1 signer c 0 (zeros 32) (zeros 176)) reply) 48 block ≡ overFront
+      (frameOf 1 signer c 0 (zeros 32) block) reply =
+      front-frame-block 1 signer c 0 (zeros 32) (zeros 176) block (length-zeros 32) (length-zeros 176 ∙ sym size)
+      reply in
+      let named : overFront (frameOf 1 signer c 0 (zeros 32) block) reply ≡ overFront
+      (proposal (s .own) (s .current) (proposedBlock sha256 s j)) reply = rw (digest-is, signer-is, c-is) in
       second ∙ rw first (placed ∙ named)

@@ -7,7 +7,9 @@ use Rattle.calls.proofs.list.play.Statement.{statement}
 use Rattle.calls.proofs.list.play.Tie as tie
 
 abbrev Inv-loop : tie.InvT-loop
-Inv-loop list books₀ replies₀ table₀ at₀ number₀ books replies table at number = (at ≤ length list + 1) × ((number ≤ at + 1) × ((length books ≡ length books₀) × ((length replies ≡ length replies₀) × (length table ≡ length table₀))))
+Inv-loop list books₀ replies₀ table₀ at₀ number₀ books replies table at number =
+    (at ≤ length list + 1) × ((number ≤ at + 1) ×
+    ((length books ≡ length books₀) × ((length replies ≡ length replies₀) × (length table ≡ length table₀))))
 
 abbrev μ-loop : tie.MeasureT-loop
 μ-loop list books₀ replies₀ table₀ at₀ number₀ books replies table at number = (length list + 1) - at

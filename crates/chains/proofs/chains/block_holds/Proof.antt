@@ -46,7 +46,8 @@ returns c =
     let at = after-same-bytes .before .before .before in
     let args = at .before .before .before .before .args in
     let inside : at .loop .k < entryCount (args .block .now) = omega arith in
-    sym (at .loop .inv .1 ∙ entry-found (args .entry .now) (args .block .now) (at .loop .k) inside (after-same-bytes .same-bytes .ensures) (c .if1 .taken))
+    sym (at .loop .inv .1 ∙ entry-found (args .entry .now) (args .block .now) (at .loop .k) inside
+    (after-same-bytes .same-bytes .ensures) (c .if1 .taken))
 
 add-k : tie.Need-add-k Inv-loop μ-loop
 add-k c = omega arith
@@ -59,8 +60,11 @@ loop-again c =
     let after-same-bytes = c .before in
     let at = after-same-bytes .before .before .before in
     let args = at .before .before .before .before .args in
-    let inside : at .loop .k < entryCount (args .block .now) = omega arith in
-    (omega arith, at .loop .inv .1 ∙ entry-differs (args .entry .now) (args .block .now) (at .loop .k) inside (after-same-bytes .same-bytes .ensures) (c .if1 .left))
+    let inside : at .loop .k < entryCount (args .block .now) = omega arith in (
+      omega arith,
+      at .loop .inv .1 ∙ entry-differs (args .entry .now) (args .block .now) (at .loop .k) inside
+          (after-same-bytes .same-bytes .ensures) (c .if1 .left),
+    )
 
 returns-2 : tie.Need-returns-2 Inv-loop μ-loop
 returns-2 c =

@@ -14,7 +14,8 @@ use Rattle.chains.proofs.chains.chain_entries.Statement.{statement}
 use Rattle.chains.proofs.chains.chain_entries.Tie as tie
 
 abbrev Inv-loop : tie.InvT-loop
-Inv-loop kind book h sum₀ at₀ sum at = WalkableAs kind book at × (sum + length (logAt (viewOf kind book) at) ≡ length (logAt (viewOf kind book) h))
+Inv-loop kind book h sum₀ at₀ sum at = WalkableAs kind book
+    at × (sum + length (logAt (viewOf kind book) at) ≡ length (logAt (viewOf kind book) h))
 
 abbrev μ-loop : tie.MeasureT-loop
 μ-loop kind book h sum₀ at₀ sum at = at
@@ -47,19 +48,22 @@ parent-height-requires c κs =
     let after-block = c .before in
     let after-loop-test = after-block .before in
     let after-loop = after-loop-test .before in
-    let step = walk-step (after-loop .loop .inv .0) (after-loop-test .loop-test .taken) (after-block .block .ensures .0) in
+    let step = walk-step (after-loop .loop .inv .0) (after-loop-test .loop-test .taken)
+    (after-block .block .ensures .0) in
     step .size
 
 loop-less : tie.Need-loop-less Inv-loop μ-loop
 loop-less c =
     let turn = c .before .before in
-    let step = walk-step (turn .before .before .loop .inv .0) (turn .before .loop-test .taken) (turn .block .ensures .0) in
+    let step = walk-step (turn .before .before .loop .inv .0) (turn .before .loop-test .taken)
+    (turn .block .ensures .0) in
     omega arith
 
 loop-again : tie.Need-loop-again Inv-loop μ-loop
 loop-again c =
     let turn = c .before .before in
-    let step = walk-step (turn .before .before .loop .inv .0) (turn .before .loop-test .taken) (turn .block .ensures .0) in
+    let step = walk-step (turn .before .before .loop .inv .0) (turn .before .loop-test .taken)
+    (turn .block .ensures .0) in
     let count = walk-count step (c .parent-height .ensures .0) (c .before .entry-count .ensures .0) in
     (walk-parent step (c .parent-height .ensures .0), omega arith)
 

@@ -1,4 +1,5 @@
--- `chain_holds` meets its contract: the blocks passed do not have the entry, so that the whole log has it if the rest has it.
+-- `chain_holds` meets its contract: the blocks passed do not have the entry, so that the whole log has it if the rest
+-- has it.
 use native.Mathlib.Omega.{arith}
 use mathlib.Core.Path.{_≡_, refl, sym, ap, _∙_}
 use Rattle.protocol.specs.Bytes.{holds}
@@ -13,7 +14,8 @@ use Rattle.chains.proofs.chains.chain_holds.Statement.{statement}
 use Rattle.chains.proofs.chains.chain_holds.Tie as tie
 
 abbrev Inv-loop : tie.InvT-loop
-Inv-loop kind book h entry at₀ at = WalkableAs kind book at × (holds entry (logAt (viewOf kind book) h) ≡ holds entry (logAt (viewOf kind book) at))
+Inv-loop kind book h entry at₀ at = WalkableAs kind book
+    at × (holds entry (logAt (viewOf kind book) h) ≡ holds entry (logAt (viewOf kind book) at))
 
 abbrev μ-loop : tie.MeasureT-loop
 μ-loop kind book h entry at₀ at = at
@@ -43,13 +45,15 @@ returns c =
 parent-height-requires : tie.Need-parent-height-requires Inv-loop μ-loop
 parent-height-requires c κs =
     let turn = c .before .before in
-    let step = walk-step (turn .before .before .loop .inv .0) (turn .before .loop-test .taken) (turn .block .ensures .0) in
+    let step = walk-step (turn .before .before .loop .inv .0) (turn .before .loop-test .taken)
+    (turn .block .ensures .0) in
     step .size
 
 loop-less : tie.Need-loop-less Inv-loop μ-loop
 loop-less c =
     let turn = c .before .before .before in
-    let step = walk-step (turn .before .before .loop .inv .0) (turn .before .loop-test .taken) (turn .block .ensures .0) in
+    let step = walk-step (turn .before .before .loop .inv .0) (turn .before .loop-test .taken)
+    (turn .block .ensures .0) in
     omega arith
 
 loop-again : tie.Need-loop-again Inv-loop μ-loop
@@ -59,8 +63,12 @@ loop-again c =
     let turn = after-block-holds .before in
     let loop = turn .before .before .loop in
     let entry = turn .before .before .before .before .before .args .entry .now in
-    let step = walk-step (loop .inv .0) (turn .before .loop-test .taken) (turn .block .ensures .0) in
-    (walk-parent step (c .parent-height .ensures .0), loop .inv .1 ∙ walk-on entry step (c .parent-height .ensures .0) (sym (after-block-holds .block-holds .ensures) ∙ after-if1 .if1 .left))
+    let step = walk-step (loop .inv .0) (turn .before .loop-test .taken) (turn .block .ensures .0) in (
+      walk-parent step (c .parent-height .ensures .0),
+      loop .inv .1
+          ∙ walk-on entry step (c .parent-height .ensures .0)
+          (sym (after-block-holds .block-holds .ensures) ∙ after-if1 .if1 .left),
+    )
 
 returns-2 : tie.Need-returns-2 Inv-loop μ-loop
 returns-2 c =
@@ -69,9 +77,11 @@ returns-2 c =
     let kind = start .args .kind in
     let book = start .args .book .now in
     let entry = start .args .entry .now in
-    sym (after-loop .loop .inv .1 ∙ ap (holds entry) (log-start (viewOf kind book) (after-loop .loop .at) (c .loop-test .left)) ∙ holds-none entry)
+    sym (after-loop .loop .inv .1 ∙ ap (holds entry)
+    (log-start (viewOf kind book) (after-loop .loop .at) (c .loop-test .left)) ∙ holds-none entry)
 
 pub chain-holds-spec : {M : Type 1} → statement M
 chain-holds-spec =
     tie.close
-    (tie.spec Inv-loop μ-loop loop-holds block-requires block-holds-requires returns parent-height-requires loop-less loop-again returns-2)
+    (tie.spec Inv-loop μ-loop loop-holds block-requires block-holds-requires returns parent-height-requires loop-less
+    loop-again returns-2)

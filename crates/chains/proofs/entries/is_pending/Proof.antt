@@ -11,7 +11,8 @@ use Rattle.chains.proofs.entries.is_pending.Statement.{statement}
 use Rattle.chains.proofs.entries.is_pending.Tie as tie
 
 abbrev Inv-loop : tie.InvT-loop
-Inv-loop book entry count k₀ k = (k ≤ count) × (holds entry (pending (decode book)) ≡ holds entry (drop k (pending (decode book))))
+Inv-loop book entry count k₀ k = (k ≤ count) × (holds entry (pending (decode book)) ≡ holds entry
+    (drop k (pending (decode book))))
 
 abbrev μ-loop : tie.MeasureT-loop
 μ-loop book entry count k₀ k = count - k
@@ -36,7 +37,8 @@ returns c =
     let loop = after-loop .loop in
     let args = start .args in
     let inside : loop .k < decode (args .book .now) .pendingCount = omega arith in
-    sym (loop .inv .1 ∙ pending-found (decode (args .book .now)) (args .entry .now) (loop .k) inside (after-pending-entry .pending-entry .ensures) (after-same-bytes .same-bytes .ensures) (c .if1 .taken))
+    sym (loop .inv .1 ∙ pending-found (decode (args .book .now)) (args .entry .now) (loop .k) inside
+    (after-pending-entry .pending-entry .ensures) (after-same-bytes .same-bytes .ensures) (c .if1 .taken))
 
 add-k : tie.Need-add-k Inv-loop μ-loop
 add-k c = omega arith
@@ -52,8 +54,11 @@ loop-again c =
     let start = after-loop .before .before .before .before in
     let loop = after-loop .loop in
     let args = start .args in
-    let inside : loop .k < decode (args .book .now) .pendingCount = omega arith in
-    (omega arith, loop .inv .1 ∙ pending-differs (decode (args .book .now)) (args .entry .now) (loop .k) inside (after-pending-entry .pending-entry .ensures) (after-same-bytes .same-bytes .ensures) (c .if1 .left))
+    let inside : loop .k < decode (args .book .now) .pendingCount = omega arith in (
+      omega arith,
+      loop .inv .1 ∙ pending-differs (decode (args .book .now)) (args .entry .now) (loop .k) inside
+          (after-pending-entry .pending-entry .ensures) (after-same-bytes .same-bytes .ensures) (c .if1 .left),
+    )
 
 returns-2 : tie.Need-returns-2 Inv-loop μ-loop
 returns-2 c =

@@ -1,4 +1,5 @@
--- `keep_unlogged` meets its contract: after `k` places, those of their entries that the log lacks are in front of the pool.
+-- `keep_unlogged` meets its contract: after `k` places, those of their entries that the log lacks are in front of the
+-- pool.
 use Prim.Native.Nat.{_*_, _≤_, _<_, _-_}
 use native.Mathlib.Omega.{arith}
 use mathlib.Core.Path.{_≡_, refl, sym, ap, _∙_}
@@ -13,12 +14,15 @@ use Rattle.protocol.specs.Laws.PoolLaws.{moved, moved-none}
 use Rattle.protocol.specs.Laws.EntriesLaws.{place-leaves, place-stays}
 use Rattle.fields.specs.Book.{Ready}
 use Rattle.chains.proofs.Pending.{walk-at, one-more}
-use Rattle.chains.proofs.Closing.{staying, staying-few, staying-all, closed-ready, closed-walk, closed-log, closed-place, closed-length, closed-more, closed-end}
+use Rattle.chains.proofs.Closing.{staying, staying-few, staying-all, closed-ready, closed-walk, closed-log}
+use Rattle.chains.proofs.Closing.{closed-place, closed-length, closed-more, closed-end}
 use Rattle.chains.proofs.entries.keep_unlogged.Statement.{statement}
 use Rattle.chains.proofs.entries.keep_unlogged.Tie as tie
 
 abbrev Inv-loop : tie.InvT-loop
-Inv-loop book₀ entry finalized count kept₀ k₀ book kept k = (k ≤ count) × (kept ≡ length (staying (decode book₀) k)) × (book ≡ encode (moved (decode book₀) (staying (decode book₀) k)))
+Inv-loop book₀ entry finalized count kept₀ k₀ book kept k =
+    (k ≤ count) × (kept ≡ length (staying (decode book₀) k)) ×
+    (book ≡ encode (moved (decode book₀) (staying (decode book₀) k)))
 
 abbrev μ-loop : tie.MeasureT-loop
 μ-loop book₀ entry finalized count kept₀ k₀ book kept k = count - k
@@ -44,13 +48,17 @@ module _ (at : tie.At-loop Inv-loop μ-loop) where
   ready-now = closed-ready book (start .pre .0) few (at .loop .k) within (at .loop .book) (at .loop .inv .2)
 
   -- the entry at place `k` is that of the book as it was, and so is the log that it is looked for in
-  entry-now : {entry : Bytes} → entry ≡ part (decode (at .loop .book) .pool) (16 * at .loop .k) 16 → entry ≡ part (s .pool) (16 * at .loop .k) 16
+  entry-now : {entry : Bytes} → entry ≡ part (decode (at .loop .book) .pool) (16 * at .loop .k) 16 →
+      entry ≡ part (s .pool) (16 * at .loop .k) 16
   entry-now e = e ∙ closed-place book (start .pre .0) few (at .loop .k) within (at .loop .book) (at .loop .inv .2)
 
-  found-now : (entry : Bytes) {found : Bool} → found ≡ holds entry (logAt (view (decode (at .loop .book))) (at .before .before .before .finalized .result)) → found ≡ holds entry (log s)
+  found-now : (entry : Bytes) {found : Bool} → found ≡ holds entry
+      (logAt (view (decode (at .loop .book))) (at .before .before .before .finalized .result)) →
+      found ≡ holds entry (log s)
   found-now entry e =
       let finalized = at .before .before .before .finalized in
-      e ∙ ap (holds entry) (closed-log book (start .pre .0) few (at .loop .k) within (at .loop .book) (at .loop .inv .2) (finalized .result) (finalized .ensures .0))
+      e ∙ ap (holds entry) (closed-log book (start .pre .0) few (at .loop .k) within (at .loop .book) (at .loop .inv .2)
+      (finalized .result) (finalized .ensures .0))
 
 finalized-requires : tie.Need-finalized-requires Inv-loop μ-loop
 finalized-requires c κs =
@@ -69,12 +77,17 @@ loop-holds c =
     (omega arith, refl, sym (ap encode (moved-none (decode (start .args .book .now))) ∙ start .pre .0 .whole))
 
 pending-entry-requires : tie.Need-pending-entry-requires Inv-loop μ-loop
-pending-entry-requires c κs = (ready-now (c .before .before) .readable, let most = few (c .before .before) in omega arith)
+pending-entry-requires c κs = (
+  ready-now (c .before .before) .readable,
+  let most = few (c .before .before) in
+      omega arith,
+)
 
 chain-holds-requires : tie.Need-chain-holds-requires Inv-loop μ-loop
 chain-holds-requires c κs =
     let at = c .before .before .before in
-    closed-walk (book at) (start at .pre .0) (few at) (at .loop .k) (within at) (at .loop .book) (at .loop .inv .2) (walk-at (start at .pre .1 .0) (at .before .before .before .finalized .ensures .0))
+    closed-walk (book at) (start at .pre .0) (few at) (at .loop .k) (within at) (at .loop .book) (at .loop .inv .2)
+    (walk-at (start at .pre .1 .0) (at .before .before .before .finalized .ensures .0))
 
 add-k : tie.Need-add-k Inv-loop μ-loop
 add-k c = omega arith
@@ -88,8 +101,15 @@ loop-again c =
     let after-pending-entry = after-chain-holds .before in
     let at = after-pending-entry .before .before .before in
     let inside : at .loop .k < s at .pendingCount = omega arith in
-    let leaves = place-leaves (s at) (log (s at)) (at .loop .k) inside (entry-now at (after-pending-entry .pending-entry .ensures)) (found-now at (after-pending-entry .pending-entry .result .now) (after-chain-holds .chain-holds .ensures)) (c .if1 .taken) in
-    (omega arith, at .loop .inv .1 ∙ ap length (sym leaves), at .loop .inv .2 ∙ ap (λ (l : List Bytes). encode (moved (s at) l)) (sym leaves))
+    let leaves = place-leaves (s at) (log (s at)) (at .loop .k) inside
+    (entry-now at (after-pending-entry .pending-entry .ensures))
+    (found-now at (after-pending-entry .pending-entry .result .now) (after-chain-holds .chain-holds .ensures))
+    (c .if1 .taken) in (
+      omega arith,
+      at .loop .inv .1 ∙ ap length (sym leaves),
+      at .loop .inv .2
+          ∙ ap (λ (l : List Bytes). encode (moved (s at) l)) (sym leaves),
+    )
 
 move-entry-requires : tie.Need-move-entry-requires Inv-loop μ-loop
 move-entry-requires c κs =
@@ -120,11 +140,14 @@ loop-again-2 c =
     let inside : at .loop .k < s at .pendingCount = omega arith in
     let entry = asked .pending-entry .result .now in
     let read = entry-now at (asked .pending-entry .ensures) in
-    let stays = place-stays (s at) (log (s at)) (at .loop .k) inside read (found-now at entry (tested .before .chain-holds .ensures)) (tested .if1 .left) in (
+    let stays = place-stays (s at) (log (s at)) (at .loop .k) inside read
+    (found-now at entry (tested .before .chain-holds .ensures)) (tested .if1 .left) in (
       omega arith,
       one-more (staying (s at) (at .loop .k)) entry (at .loop .inv .1) stays,
-      closed-more (book at) (start at .pre .0) most (at .loop .k) (within at) (at .loop .book) (at .loop .inv .2) (at .loop .kept) (at .loop .inv .1) (omega arith)
-          (after-move-entry .move-entry .ensures) (stays ∙ ap (λ (e : Bytes). staying (s at) (at .loop .k) ++ (e ∷ [])) read),
+      closed-more (book at) (start at .pre .0) most (at .loop .k) (within at) (at .loop .book) (at .loop .inv .2)
+          (at .loop .kept) (at .loop .inv .1) (omega arith)
+          (after-move-entry .move-entry .ensures)
+          (stays ∙ ap (λ (e : Bytes). staying (s at) (at .loop .k) ++ (e ∷ [])) read),
     )
 
 finish-pool-requires : tie.Need-finish-pool-requires Inv-loop μ-loop
@@ -138,7 +161,8 @@ finish-pool-requires c κs =
 same-length : tie.Need-same-length Inv-loop μ-loop
 same-length c =
     let at = c .before .before .before .before .before in
-    let size = closed-length (book at) (start at .pre .0) (few at) (at .loop .k) (within at) (at .loop .book) (at .loop .inv .2) in
+    let size = closed-length (book at) (start at .pre .0) (few at) (at .loop .k) (within at) (at .loop .book)
+    (at .loop .inv .2) in
     omega arith
 
 returns : tie.Need-returns Inv-loop μ-loop
@@ -146,7 +170,8 @@ returns c =
     let after-finish-pool = c .before .before in
     let at = after-finish-pool .before .before .before in
     let over : s at .pendingCount ≤ at .loop .k = omega arith in
-    closed-end (book at) (start at .pre .0) (few at) (at .loop .k) (within at) (at .loop .book) (at .loop .inv .2) (at .loop .kept) (start at .args .entry .now) (at .loop .inv .1)
+    closed-end (book at) (start at .pre .0) (few at) (at .loop .k) (within at) (at .loop .book) (at .loop .inv .2)
+    (at .loop .kept) (start at .args .entry .now) (at .loop .inv .1)
     (staying-all (s at) (at .loop .k) over) (after-finish-pool .finish-pool .ensures)
 
 pub keep-unlogged-spec : {M : Type 1} → statement M

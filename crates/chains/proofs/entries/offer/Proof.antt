@@ -12,15 +12,19 @@ use Rattle.protocol.specs.State.{State, decode, pending}
 use Rattle.protocol.specs.Sound.{view}
 use Rattle.protocol.specs.View.{logAt}
 use Rattle.protocol.specs.Move.{offered}
-use Rattle.protocol.specs.Laws.EntriesLaws.{place-leaves, place-stays, lacked-sized, pending-all, eight-taken, few-taken}
-use Rattle.chains.proofs.Pending.{pool-length, place-length, one-more, begun-again, filled-length, filled-more, filled-over}
+use Rattle.protocol.specs.Laws.EntriesLaws.{place-leaves, place-stays, lacked-sized, pending-all, eight-taken}
+use Rattle.protocol.specs.Laws.EntriesLaws.{few-taken}
+use Rattle.chains.proofs.Pending.{pool-length, place-length, one-more, begun-again, filled-length, filled-more}
+use Rattle.chains.proofs.Pending.{filled-over}
 use Rattle.chains.proofs.entries.offer.Statement.{statement}
 use Rattle.chains.proofs.entries.offer.Tie as tie
 
 abbrev Inv-loop : tie.InvT-loop
 Inv-loop book c j digest block₀ count taken₀ k₀ block taken k =
-    (k ≤ count) × (taken ≡ length (without (logAt (view (decode book)) j) (take k (pending (decode book))))) × (taken ≤ 8) ×
-    (block ≡ overFront (newBlock c j digest (without (logAt (view (decode book)) j) (take k (pending (decode book))))) block₀)
+    (k ≤ count) × (taken ≡ length (without (logAt (view (decode book)) j) (take k (pending (decode book))))) ×
+    (taken ≤ 8) ×
+    (block ≡ overFront (newBlock c j digest (without (logAt (view (decode book)) j) (take k (pending (decode book)))))
+    block₀)
 
 abbrev μ-loop : tie.MeasureT-loop
 μ-loop book c j digest block₀ count taken₀ k₀ block taken k = count - k
@@ -51,15 +55,23 @@ module _ (at : tie.At-loop Inv-loop μ-loop) where
 
   same-size : length (at .loop .block) ≡ length (start .args .block .now)
   same-size =
-      let first = filled-length (start .args .c) (start .args .j) (start .args .digest .now) (start .pre .1 .1 .1) (start .args .block .now) [] none (omega arith) (start .pre .1 .1 .2) (at .before .before .before .before .start-block .ensures) in
+      let first = filled-length (start .args .c) (start .args .j) (start .args .digest .now) (start .pre .1 .1 .1)
+      (start .args .block .now) [] none (omega arith) (start .pre .1 .1 .2)
+      (at .before .before .before .before .start-block .ensures) in
       let room : 176 ≤ length begun = omega arith in
-      filled-length (start .args .c) (start .args .j) (start .args .digest .now) (start .pre .1 .1 .1) begun es sized few room (at .loop .inv .3) ∙ first
+      filled-length (start .args .c) (start .args .j) (start .args .digest .now) (start .pre .1 .1 .1) begun es sized
+      few room (at .loop .inv .3) ∙ first
 
-  all-over : {offer : List Bytes} → offer ≡ es → at .loop .block ≡ overFront (newBlock (start .args .c) (start .args .j) (start .args .digest .now) offer) (start .args .block .now)
-  all-over e = filled-over (start .args .c) (start .args .j) (start .args .digest .now) (start .pre .1 .1 .1) (start .args .block .now) es sized few (at .before .before .before .before .start-block .ensures) (at .loop .inv .3) e
+  all-over : {offer : List Bytes} → offer ≡ es → at .loop .block ≡ overFront
+      (newBlock (start .args .c) (start .args .j) (start .args .digest .now) offer) (start .args .block .now)
+  all-over e = filled-over (start .args .c) (start .args .j) (start .args .digest .now) (start .pre .1 .1 .1)
+      (start .args .block .now) es sized few (at .before .before .before .before .start-block .ensures)
+      (at .loop .inv .3) e
 
-  entry-size : {entry : Bytes} → at .loop .k < s .pendingCount → entry ≡ part (s .pool) (16 * at .loop .k) 16 → length entry ≡ 16
-  entry-size l e = place-length (s .pool) (at .loop .k) (pool-length (start .pre .0)) (let most = start .pre .1 .0 in omega arith) e
+  entry-size : {entry : Bytes} → at .loop .k < s .pendingCount → entry ≡ part (s .pool) (16 * at .loop .k) 16 →
+      length entry ≡ 16
+  entry-size l e = place-length (s .pool) (at .loop .k) (pool-length (start .pre .0))
+      (let most = start .pre .1 .0 in omega arith) e
 
 start-block-requires : tie.Need-start-block-requires Inv-loop μ-loop
 start-block-requires c κs =
@@ -80,8 +92,13 @@ loop-holds c =
     let after-start-block = c .before .before .before in
     let start = after-start-block .before .before .before .before .before in
     let began = after-start-block .start-block in
-    let args = start .args in
-    (omega arith, refl, omega arith, begun-again (newBlock (args .c) (args .j) (args .digest .now) []) (args .block .now) (began .ensures))
+    let args = start .args in (
+      omega arith,
+      refl,
+      omega arith,
+      begun-again (newBlock (args .c) (args .j) (args .digest .now) [])
+          (args .block .now) (began .ensures),
+    )
 
 pending-entry-requires : tie.Need-pending-entry-requires Inv-loop μ-loop
 pending-entry-requires c κs =
@@ -116,11 +133,13 @@ loop-again c =
     let at = after-pending-entry .before .before in
     let args = start at .args in
     let inside : at .loop .k < s at .pendingCount = omega arith in
-    let leaves = place-leaves (s at) (log at) (at .loop .k) inside (after-pending-entry .pending-entry .ensures) (after-chain-holds .chain-holds .ensures) (c .if2 .taken) in (
+    let leaves = place-leaves (s at) (log at) (at .loop .k) inside (after-pending-entry .pending-entry .ensures)
+    (after-chain-holds .chain-holds .ensures) (c .if2 .taken) in (
       omega arith,
       at .loop .inv .1 ∙ ap length (sym leaves),
       at .loop .inv .2,
-      at .loop .inv .3 ∙ ap (λ (l : List Bytes). overFront (newBlock (args .c) (args .j) (args .digest .now) l) (begun at)) (sym leaves),
+      at .loop .inv .3 ∙ ap (λ (l : List Bytes). overFront (newBlock (args .c) (args .j) (args .digest .now) l)
+          (begun at)) (sym leaves),
     )
 
 add-entry-requires : tie.Need-add-entry-requires Inv-loop μ-loop
@@ -150,13 +169,16 @@ loop-again-2 c =
     let args = start at .args in
     let inside : at .loop .k < s at .pendingCount = omega arith in
     let entry = asked .pending-entry .result .now in
-    let stays = place-stays (s at) (log at) (at .loop .k) inside (asked .pending-entry .ensures) (tested .before .chain-holds .ensures) (tested .if2 .left) in
+    let stays = place-stays (s at) (log at) (at .loop .k) inside (asked .pending-entry .ensures)
+    (tested .before .chain-holds .ensures) (tested .if2 .left) in
     let more : at .loop .taken < 8 = omega (arith, tested .before .before .if1 .left) in (
       omega arith,
       one-more (es at) entry (at .loop .inv .1) stays,
       omega arith,
-      filled-more (args .c) (args .j) (args .digest .now) (start at .pre .1 .1 .1) (begun at) (es at) entry (sized at) (at .loop .inv .1) more
-          (entry-size at inside (asked .pending-entry .ensures)) stays (at .loop .inv .3) (after-add-entry .add-entry .ensures),
+      filled-more (args .c) (args .j) (args .digest .now) (start at .pre .1 .1 .1) (begun at) (es at) entry (sized at)
+          (at .loop .inv .1) more
+          (entry-size at inside (asked .pending-entry .ensures)) stays (at .loop .inv .3)
+          (after-add-entry .add-entry .ensures),
     )
 
 same-length-2 : tie.Need-same-length-2 Inv-loop μ-loop

@@ -13,7 +13,8 @@ use Rattle.chains.proofs.entries.unlogged_count.Statement.{statement}
 use Rattle.chains.proofs.entries.unlogged_count.Tie as tie
 
 abbrev Inv-loop : tie.InvT-loop
-Inv-loop book finalized count kept₀ k₀ kept k = (k ≤ count) × (kept ≡ length (without (logAt (view (decode book)) finalized) (take k (pending (decode book))))) × (kept ≤ k)
+Inv-loop book finalized count kept₀ k₀ kept k = (k ≤ count) ×
+    (kept ≡ length (without (logAt (view (decode book)) finalized) (take k (pending (decode book))))) × (kept ≤ k)
 
 abbrev μ-loop : tie.MeasureT-loop
 μ-loop book finalized count kept₀ k₀ kept k = count - k
@@ -54,7 +55,8 @@ loop-again c =
     let s = decode (at .before .before .before .before .args .book .now) in
     let log = logAt (view s) (at .before .before .finalized .result) in
     let inside : loop .k < s .pendingCount = omega arith in
-    let leaves = place-leaves s log (loop .k) inside (after-pending-entry .pending-entry .ensures) (after-chain-holds .chain-holds .ensures) (c .if1 .taken) in
+    let leaves = place-leaves s log (loop .k) inside (after-pending-entry .pending-entry .ensures)
+    (after-chain-holds .chain-holds .ensures) (c .if1 .taken) in
     (omega arith, loop .inv .1 ∙ ap length (sym leaves), omega arith)
 
 add-kept : tie.Need-add-kept Inv-loop μ-loop
@@ -75,15 +77,23 @@ loop-again-2 c =
     let s = decode (at .before .before .before .before .args .book .now) in
     let log = logAt (view s) (at .before .before .finalized .result) in
     let inside : loop .k < s .pendingCount = omega arith in
-    let stays = place-stays s log (loop .k) inside (after-pending-entry .pending-entry .ensures) (after-chain-holds .chain-holds .ensures) (c .if1 .left) in
-    (omega arith, one-more (without log (take (loop .k) (pending s))) (after-pending-entry .pending-entry .result .now) (loop .inv .1) stays, omega arith)
+    let stays = place-stays s log (loop .k) inside (after-pending-entry .pending-entry .ensures)
+    (after-chain-holds .chain-holds .ensures) (c .if1 .left) in (
+      omega arith,
+      one-more (without log (take (loop .k) (pending s))) (after-pending-entry .pending-entry .result .now)
+          (loop .inv .1) stays,
+      omega arith,
+    )
 
 returns : tie.Need-returns Inv-loop μ-loop
 returns c =
     let at = c .before in
     let s = decode (at .before .before .before .before .args .book .now) in
-    let over : s .pendingCount ≤ at .loop .k = omega arith in
-    (at .loop .inv .1 ∙ ap length (all-stay s (at .before .before .finalized .result) (at .loop .k) (at .before .before .finalized .ensures .0) over), omega arith)
+    let over : s .pendingCount ≤ at .loop .k = omega arith in (
+      at .loop .inv .1 ∙ ap length (all-stay s (at .before .before .finalized .result) (at .loop .k)
+          (at .before .before .finalized .ensures .0) over),
+      omega arith,
+    )
 
 pub unlogged-count-spec : {M : Type 1} → statement M
 unlogged-count-spec =

@@ -18,13 +18,26 @@ in-mask-requires : tie.Need-in-mask-requires
 in-mask-requires c κs =
     let after-frame-kind = c .before .before .before in
     let start = after-frame-kind .before .before .before in
-    omega (arith, start .pre .read .signer-small (omega (arith, after-frame-kind .frame-kind .ensures .0)), few-replicas _ (start .pre .spot .ready .readable))
+    omega (
+      arith,
+      start .pre .read .signer-small (omega (arith, after-frame-kind .frame-kind .ensures .0)),
+      few-replicas _ (start .pre .spot .ready .readable),
+    )
 
 vote-digest-requires : tie.Need-vote-digest-requires
 vote-digest-requires c κs =
     let after-frame-kind = c .before .before .before .before in
-    let start = after-frame-kind .before .before .before in
-    (start .pre .spot .ready .readable, (start .pre .spot .within, omega (arith, start .pre .read .signer-small (omega (arith, after-frame-kind .frame-kind .ensures .0)), few-replicas _ (start .pre .spot .ready .readable))))
+    let start = after-frame-kind .before .before .before in (
+      start .pre .spot .ready .readable,
+      (
+        start .pre .spot .within,
+        omega (
+          arith,
+          start .pre .read .signer-small (omega (arith, after-frame-kind .frame-kind .ensures .0)),
+          few-replicas _ (start .pre .spot .ready .readable),
+        ),
+      ),
+    )
 
 returns : tie.Need-returns
 unfolding voteAgrees
@@ -39,7 +52,8 @@ returns c =
     let signed = bit .before .before .frame-signer .ensures .0 in
     let kept = after-vote-digest .vote-digest .ensures ∙ ap (λ (k : ℕ). voteOf x k) signed in
     rw (sym (branch .before .frame-kind .ensures .0) ∙ branch .if1 .taken, same-bit held signed (bit .in-mask .ensures))
-    (c .agrees .ensures ∙ ap₂ (λ (a b : Bytes). implies (bit .in-mask .result) (same a b)) kept (after-frame-digest .frame-digest .ensures .0))
+    (c .agrees .ensures ∙ ap₂ (λ (a b : Bytes). implies (bit .in-mask .result) (same a b)) kept
+    (after-frame-digest .frame-digest .ensures .0))
 
 returns-2 : tie.Need-returns-2
 unfolding voteAgrees implies

@@ -23,4 +23,5 @@ returns-2 c =
     rw (call-unsound sha256 book frame (sym (after-is-sound .is-sound .ensures .0) ∙ c .if1 .left)) (refl, refl)
 
 pub deliver-spec : {M : Type 1} → statement M
-deliver-spec = tie.close (tie.spec (λ c κs. search needs) deliver-sound-requires (λ c. search needs) returns (λ c. search needs) returns-2)
+deliver-spec = tie.close (tie.spec (λ c κs. search needs) deliver-sound-requires (λ c. search needs) returns
+    (λ c. search needs) returns-2)

@@ -2,7 +2,8 @@
 use mathlib.Core.Path.{refl, sym, _∙_}
 use Rattle.sha256.specs.Digest.{sha256}
 use Rattle.answers.specs.Answers.{deliveredAnswer}
-use Rattle.delivery.specs.Laws.RefusalLaws.{number-refuses, zero-passes, read-refused, read-kept, kept-fresh, kept-known}
+use Rattle.delivery.specs.Laws.RefusalLaws.{number-refuses, zero-passes, read-refused, read-kept, kept-fresh}
+use Rattle.delivery.specs.Laws.RefusalLaws.{kept-known}
 use borrow.Author.Needs.{needs}
 use Rattle.delivery.proofs.deliver.deliver_read.Statement.{statement}
 use Rattle.delivery.proofs.deliver.deliver_read.Tie as tie
@@ -16,7 +17,8 @@ returns c =
     let book = start .args .book .now in
     let frame = start .args .frame .now in
     rw (read-kept sha256 book frame (zero-passes _ _ (branch .before .clash-refusal .ensures) (branch .if1 .taken)))
-    (kept-fresh sha256 book frame (start .args .h) (start .pre .height) _ _ (sym (c .if2 .taken) ∙ after-keep .keep .ensures .0) (after-keep .keep .ensures .1))
+    (kept-fresh sha256 book frame (start .args .h) (start .pre .height) _ _
+    (sym (c .if2 .taken) ∙ after-keep .keep .ensures .0) (after-keep .keep .ensures .1))
 
 returns-2 : tie.Need-returns-2
 unfolding deliveredAnswer
@@ -27,7 +29,8 @@ returns-2 c =
     let book = start .args .book .now in
     let frame = start .args .frame .now in
     rw (read-kept sha256 book frame (zero-passes _ _ (branch .before .clash-refusal .ensures) (branch .if1 .taken)))
-    (kept-known sha256 book frame (start .args .h) _ _ (sym (c .if2 .left) ∙ after-keep .keep .ensures .0) (after-keep .keep .ensures .1))
+    (kept-known sha256 book frame (start .args .h) _ _ (sym (c .if2 .left) ∙ after-keep .keep .ensures .0)
+    (after-keep .keep .ensures .1))
 
 returns-3 : tie.Need-returns-3
 unfolding deliveredAnswer
@@ -36,7 +39,9 @@ returns-3 c =
     let start = after-clash-refusal .before .before .before .before in
     let book = start .args .book .now in
     let frame = start .args .frame .now in
-    rw (read-refused sha256 book frame _ (number-refuses _ _ (after-clash-refusal .clash-refusal .ensures) (c .if1 .left))) (refl, refl)
+    rw (read-refused sha256 book frame _ (number-refuses _ _ (after-clash-refusal .clash-refusal .ensures)
+    (c .if1 .left))) (refl, refl)
 
 pub deliver-read-spec : {M : Type 1} → statement M
-deliver-read-spec = tie.close (tie.spec (λ c κs. search needs) (λ c κs. search needs) (λ c. search needs) returns (λ c. search needs) returns-2 (λ c. search needs) returns-3)
+deliver-read-spec = tie.close (tie.spec (λ c κs. search needs) (λ c κs. search needs) (λ c. search needs) returns
+    (λ c. search needs) returns-2 (λ c. search needs) returns-3)

@@ -13,7 +13,8 @@ read-refusal-requires : tie.Need-read-refusal-requires
 read-refusal-requires c κs =
     let after-slice-known = c .before .before in
     let start = after-slice-known .before in
-    sound-readable sha256 (start .args .book .now) (λ i. omega (arith, after-slice-known .slice-known .given i)) (start .pre)
+    sound-readable sha256 (start .args .book .now) (λ i. omega (arith, after-slice-known .slice-known .given i))
+    (start .pre)
 
 frame-height-requires : tie.Need-frame-height-requires
 frame-height-requires c κs =
@@ -35,7 +36,8 @@ deliver-read-requires c κs =
     let book = start .args .book .now in
     let frame = start .args .frame .now in
     let passes = zero-passes _ _ (after-read-refusal .read-refusal .ensures) (after-if1 .if1 .taken) in
-    frame-read sha256 book frame (λ i. omega (arith, after-slice-known .slice-known .given i)) (start .pre) passes _ (c .frame-height .ensures .0)
+    frame-read sha256 book frame (λ i. omega (arith, after-slice-known .slice-known .given i)) (start .pre) passes _
+    (c .frame-height .ensures .0)
 
 returns : tie.Need-returns
 returns c =
@@ -44,7 +46,8 @@ returns c =
     let start = branch .before .before .before .before .before in
     let book = start .args .book .now in
     let frame = start .args .frame .now in
-    rw (call-read sha256 book frame (start .pre) (zero-passes _ _ (branch .before .read-refusal .ensures) (branch .if1 .taken))) (after-deliver-read .deliver-read .ensures)
+    rw (call-read sha256 book frame (start .pre) (zero-passes _ _ (branch .before .read-refusal .ensures)
+    (branch .if1 .taken))) (after-deliver-read .deliver-read .ensures)
 
 returns-2 : tie.Need-returns-2
 unfolding deliveredAnswer
@@ -53,7 +56,8 @@ returns-2 c =
     let start = after-read-refusal .before .before .before .before in
     let book = start .args .book .now in
     let frame = start .args .frame .now in
-    rw (call-refused sha256 book frame _ (start .pre) (number-refuses _ _ (after-read-refusal .read-refusal .ensures) (c .if1 .left))) (refl, refl)
+    rw (call-refused sha256 book frame _ (start .pre)
+    (number-refuses _ _ (after-read-refusal .read-refusal .ensures) (c .if1 .left))) (refl, refl)
 
 pub deliver-sound-spec : {M : Type 1} → statement M
 deliver-sound-spec =

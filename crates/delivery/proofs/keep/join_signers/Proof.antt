@@ -15,8 +15,16 @@ keep-mask-requires : tie.Need-keep-mask-requires
 keep-mask-requires c κs =
     let after-mask-at = c .before .before in
     let start = after-mask-at .before .before .before in
-    let spot = start .pre .0 in
-    (spot .ready, (spot .within, (start .pre .1 .0, or-lt 16 _ _ (after-mask-at .mask-at .ensures .1) (start .pre .1 .1))))
+    let spot = start .pre .0 in (
+      spot .ready,
+      (
+        spot .within,
+        (
+          start .pre .1 .0,
+          or-lt 16 _ _ (after-mask-at .mask-at .ensures .1) (start .pre .1 .1),
+        ),
+      ),
+    )
 
 returns : tie.Need-returns
 unfolding joinSigners
@@ -38,7 +46,9 @@ returns-2 c =
     let held = branch .before .mask-at .ensures .0 in
     let joined = ap (λ (mask : ℕ). bitOr mask (start .args .signers)) held in
     let more = ne-eqb _ _ (λ e. branch .if1 .left (joined ∙ e ∙ sym held)) in
-    new-frame book h _ _ _ more (after-keep-mask .keep-mask .ensures ∙ ap (λ (mask : ℕ). encode (withHeight (decode book) h (withMaskAt (at (decode book) h) (start .args .k) mask))) joined)
+    new-frame book h _ _ _ more (after-keep-mask .keep-mask .ensures
+    ∙ ap (λ (mask : ℕ). encode (withHeight (decode book) h (withMaskAt (at (decode book) h) (start .args .k) mask)))
+    joined)
 
 pub join-signers-spec : {M : Type 1} → statement M
 join-signers-spec =

@@ -21,14 +21,18 @@ returns c =
     let start = branch .before .before .before .before in
     let book = start .args .book .now in
     let h = start .args .h in
-    let decides = kind-one sha256 book h (start .args .frame .now) (start .pre) (sym (branch .before .frame-kind .ensures .0) ∙ branch .if1 .taken) in
+    let decides = kind-one sha256 book h (start .args .frame .now) (start .pre)
+    (sym (branch .before .frame-kind .ensures .0) ∙ branch .if1 .taken) in
     same-kept book h _ _ _ _ decides (after-keep-proposal .keep-proposal .ensures)
 
 keep-block-vote-requires : tie.Need-keep-block-vote-requires
 keep-block-vote-requires c κs =
     let after-frame-kind = c .before .before .before in
-    let start = after-frame-kind .before .before .before in
-    (start .pre, start .pre .read .signer-small (omega (arith, after-frame-kind .frame-kind .ensures .0, start .pre .read .kind-low)))
+    let start = after-frame-kind .before .before .before in (
+      start .pre,
+      start .pre .read .signer-small (omega
+          (arith, after-frame-kind .frame-kind .ensures .0, start .pre .read .kind-low)),
+    )
 
 returns-2 : tie.Need-returns-2
 returns-2 c =
@@ -37,7 +41,8 @@ returns-2 c =
     let start = branch .before .before .before .before .before in
     let book = start .args .book .now in
     let h = start .args .h in
-    let decides = kind-two sha256 book h (start .args .frame .now) (start .pre) (sym (branch .before .before .frame-kind .ensures .0) ∙ branch .if2 .taken) in
+    let decides = kind-two sha256 book h (start .args .frame .now) (start .pre)
+    (sym (branch .before .before .frame-kind .ensures .0) ∙ branch .if2 .taken) in
     same-kept book h _ _ _ _ decides (after-keep-block-vote .keep-block-vote .ensures)
 
 returns-3 : tie.Need-returns-3
@@ -47,13 +52,20 @@ returns-3 c =
     let start = branch .before .before .before .before .before .before in
     let book = start .args .book .now in
     let h = start .args .h in
-    let decides = kind-five sha256 book h (start .args .frame .now) (start .pre) (sym (branch .before .before .before .frame-kind .ensures .0) ∙ branch .if3 .taken) in
+    let decides = kind-five sha256 book h (start .args .frame .now) (start .pre)
+    (sym (branch .before .before .before .frame-kind .ensures .0) ∙ branch .if3 .taken) in
     same-kept book h _ _ _ _ decides (after-keep-block-certificate .keep-block-certificate .ensures)
 
 frame-signers-requires : tie.Need-frame-signers-requires
 frame-signers-requires c κs =
-    let start = c .before .before .before .before .before .before in
-    (start .pre .read .size, λ l. omega (arith, start .pre .read .signer-small l, few-replicas _ (start .pre .spot .ready .readable)))
+    let start = c .before .before .before .before .before .before in (
+      start .pre .read .size,
+      λ l. omega (
+        arith,
+        start .pre .read .signer-small l,
+        few-replicas _ (start .pre .spot .ready .readable),
+      ),
+    )
 
 returns-4 : tie.Need-returns-4
 returns-4 c =
@@ -63,8 +75,11 @@ returns-4 c =
     let start = asked .before .before .before in
     let book = start .args .book .now in
     let h = start .args .h in
-    let dummy = sym (ap (λ (kind : ℕ). eqb kind 3 || eqb kind 6) (asked .frame-kind .ensures .0)) ∙ branch .if4 .taken in
-    let decides = dummy-joins sha256 book h (start .args .frame .now) (start .pre) dummy ∙ ap (λ (signers : ℕ). joinSigners 1 (at (decode book) h) signers) (sym (branch .before .frame-signers .ensures .0)) in
+    let dummy = sym (ap (λ (kind : ℕ). eqb kind 3 || eqb kind 6) (asked .frame-kind .ensures .0))
+    ∙ branch .if4 .taken in
+    let decides = dummy-joins sha256 book h (start .args .frame .now) (start .pre) dummy
+    ∙ ap (λ (signers : ℕ). joinSigners 1 (at (decode book) h) signers)
+    (sym (branch .before .frame-signers .ensures .0)) in
     same-kept book h _ _ _ _ decides (after-join-signers .join-signers .ensures)
 
 returns-5 : tie.Need-returns-5
@@ -79,8 +94,10 @@ returns-5 c =
     let kind = asked .frame-kind .ensures .0 in
     let finalize = sym (ap (λ (kind : ℕ). eqb kind 3 || eqb kind 6) kind) ∙ branch .if4 .left in
     let decides = finalize-joins sha256 book h (start .args .frame .now) (start .pre)
-    (λ e. others .before .before .if1 .left (kind ∙ e)) (λ e. others .before .if2 .left (kind ∙ e)) (λ e. others .if3 .left (kind ∙ e)) finalize
-    ∙ ap (λ (signers : ℕ). joinSigners 2 (at (decode book) h) signers) (sym (branch .before .frame-signers .ensures .0)) in
+    (λ e. others .before .before .if1 .left (kind ∙ e)) (λ e. others .before .if2 .left (kind ∙ e))
+    (λ e. others .if3 .left (kind ∙ e)) finalize
+    ∙ ap (λ (signers : ℕ). joinSigners 2 (at (decode book) h) signers)
+    (sym (branch .before .frame-signers .ensures .0)) in
     same-kept book h _ _ _ _ decides (after-join-signers2 .join-signers2 .ensures)
 
 pub keep-spec : {M : Type 1} → statement M

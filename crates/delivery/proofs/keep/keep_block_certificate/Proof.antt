@@ -13,8 +13,16 @@ keep-notarized-requires : tie.Need-keep-notarized-requires
 keep-notarized-requires c κs =
     let after-frame-mask = c .before in
     let start = after-frame-mask .before .before .before .before .before .before .before in
-    let given = start .pre in
-    (given .spot .ready, (given .spot .within, (given .spot .status-small, (c .frame-block .ensures .1, after-frame-mask .frame-mask .ensures .1))))
+    let given = start .pre in (
+      given .spot .ready,
+      (
+        given .spot .within,
+        (
+          given .spot .status-small,
+          (c .frame-block .ensures .1, after-frame-mask .frame-mask .ensures .1),
+        ),
+      ),
+    )
 
 returns : tie.Need-returns
 unfolding keepBlockCertificate
@@ -39,7 +47,9 @@ returns-2 c =
     let free = sym (branch .before .is-notarized .ensures) ∙ branch .if1 .left in
     let signed = after-frame-mask .frame-mask .ensures .0 in
     let carried = after-frame-block .frame-block .ensures .0 in
-    new-frame book h _ _ _ free (after-keep-notarized .keep-notarized .ensures ∙ ap₂ (λ (mask : ℕ) (block : Bytes). encode (withHeight (decode book) h (withNotarized x mask block))) signed carried)
+    new-frame book h _ _ _ free (after-keep-notarized .keep-notarized .ensures
+    ∙ ap₂ (λ (mask : ℕ) (block : Bytes). encode (withHeight (decode book) h (withNotarized x mask block))) signed
+    carried)
 
 pub keep-block-certificate-spec : {M : Type 1} → statement M
 keep-block-certificate-spec =

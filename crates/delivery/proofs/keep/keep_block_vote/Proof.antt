@@ -9,7 +9,8 @@ use Rattle.protocol.specs.State.{decode, encode, at, withHeight}
 use Rattle.protocol.specs.Sound.{view}
 use Rattle.protocol.specs.Laws.ChangeLaws.{shaped-vote}
 use Rattle.protocol.specs.Deliver.{withVote, notarize, keepBlockVote}
-use Rattle.delivery.specs.Laws.KeepLaws.{known-frame, new-frame, room, same-bit, shaped-here, vote-status, spot-after, notarized-after}
+use Rattle.delivery.specs.Laws.KeepLaws.{known-frame, new-frame, room, same-bit, shaped-here, vote-status}
+use Rattle.delivery.specs.Laws.KeepLaws.{spot-after, notarized-after}
 use borrow.Author.Needs.{needs}
 use Rattle.delivery.proofs.keep.keep_block_vote.Statement.{statement}
 use Rattle.delivery.proofs.keep.keep_block_vote.Tie as tie
@@ -37,9 +38,20 @@ keep-vote-requires c κs =
     let held = after-voter-mask .voter-mask .ensures .0 in
     let signed = after-frame-signer .frame-signer .ensures .0 in
     let here = after-frame-signer .frame-signer .result in
-    let missing = sym (ap (λ (m : ℕ). inMask m here) held) ∙ sym (after-in-mask .in-mask .ensures) ∙ after-if1 .if1 .left in
-    let fits = room (decode book .n) (x .voterMask) here (omega (arith, signed, start .pre .1)) (given .range .voter-below) (given .range .mask-bound) missing in
-    (given .spot .ready, (given .spot .within, (omega (arith, signed, start .pre .1, few-replicas _ (given .spot .ready .readable)), (fits, c .frame-digest .ensures .1))))
+    let missing = sym (ap (λ (m : ℕ). inMask m here) held) ∙ sym (after-in-mask .in-mask .ensures)
+    ∙ after-if1 .if1 .left in
+    let fits = room (decode book .n) (x .voterMask) here (omega (arith, signed, start .pre .1))
+    (given .range .voter-below) (given .range .mask-bound) missing in (
+      given .spot .ready,
+      (
+        given .spot .within,
+        (
+          omega
+              (arith, signed, start .pre .1, few-replicas _ (given .spot .ready .readable)),
+          (fits, c .frame-digest .ensures .1),
+        ),
+      ),
+    )
 
 notarize-requires : tie.Need-notarize-requires
 notarize-requires c κs =
@@ -53,8 +65,15 @@ notarize-requires c κs =
     let x = at (decode book) h in
     let signed = after-frame-signer .frame-signer .ensures .0 in
     let here = after-frame-signer .frame-signer .result in
-    let fits = shaped-vote x here _ (omega (arith, signed, start .pre .1, few-replicas _ (given .spot .ready .readable))) (after-frame-digest .frame-digest .ensures .1) (shaped-here book h (given .spot)) in
-    spot-after book h (given .spot) _ fits _ (after-keep-vote .keep-vote .ensures) (vote-status x _ _ (given .spot .status-small))
+    let fits = shaped-vote x here _ (omega (
+      arith,
+      signed,
+      start .pre .1,
+      few-replicas _ (given .spot .ready .readable),
+    )) (after-frame-digest .frame-digest .ensures .1)
+    (shaped-here book h (given .spot)) in
+    spot-after book h (given .spot) _ fits _ (after-keep-vote .keep-vote .ensures)
+    (vote-status x _ _ (given .spot .status-small))
 
 returns : tie.Need-returns
 unfolding keepBlockVote
@@ -87,10 +106,17 @@ returns-2 c =
     let missing = same-bit held signed (branch .before .in-mask .ensures) ∙ branch .if1 .left in
     let named = after-frame-digest .frame-digest .ensures in
     let here = branch .before .before .before .before .frame-signer .result in
-    let fits = shaped-vote x here _ (omega (arith, signed, start .pre .1, few-replicas _ (given .spot .ready .readable))) (named .1) (shaped-here book h (given .spot)) in
-    let counted = notarized-after book h (given .spot) _ fits sha256 _ _ (after-keep-vote .keep-vote .ensures) (after-notarize .notarize .ensures) in
+    let fits = shaped-vote x here _ (omega (
+      arith,
+      signed,
+      start .pre .1,
+      few-replicas _ (given .spot .ready .readable),
+    )) (named .1) (shaped-here book h (given .spot)) in
+    let counted = notarized-after book h (given .spot) _ fits sha256 _ _ (after-keep-vote .keep-vote .ensures)
+    (after-notarize .notarize .ensures) in
     new-frame book h _ _ _ missing
-    (counted ∙ ap₂ (λ (k : ℕ) (digest : Bytes). encode (withHeight (decode book) h (notarize sha256 (view (decode book)) (withVote x k digest)))) signed (named .0))
+    (counted ∙ ap₂ (λ (k : ℕ) (digest : Bytes). encode
+    (withHeight (decode book) h (notarize sha256 (view (decode book)) (withVote x k digest)))) signed (named .0))
 
 pub keep-block-vote-spec : {M : Type 1} → statement M
 keep-block-vote-spec =

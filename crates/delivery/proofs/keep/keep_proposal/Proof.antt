@@ -6,7 +6,8 @@ use Rattle.protocol.specs.State.{Height, decode, encode, at, withHeight}
 use Rattle.protocol.specs.Sound.{view}
 use Rattle.protocol.specs.Laws.ChangeLaws.{shaped-proposal}
 use Rattle.protocol.specs.Deliver.{withProposal, notarize, keepProposal}
-use Rattle.delivery.specs.Laws.KeepLaws.{known-frame, new-frame, shaped-here, kept-proposal, proposal-status, spot-after, height-after, notarized-after}
+use Rattle.delivery.specs.Laws.KeepLaws.{known-frame, new-frame, shaped-here, kept-proposal, proposal-status}
+use Rattle.delivery.specs.Laws.KeepLaws.{spot-after, height-after, notarized-after}
 use borrow.Author.Needs.{needs}
 use Rattle.delivery.proofs.keep.keep_proposal.Statement.{statement}
 use Rattle.delivery.proofs.keep.keep_proposal.Tie as tie
@@ -26,7 +27,8 @@ notarize-with-requires c κs =
     let carried = after-frame-block .frame-block .ensures in
     let fits = shaped-proposal x _ (carried .1) (shaped-here book h spot) in
     let kept = after-keep-proposal .keep-proposal .ensures in
-    let held = ap (λ (y : Height). y .proposal) (height-after book h spot _ fits _ kept) ∙ kept-proposal x _ ∙ carried .0 in (
+    let held = ap (λ (y : Height). y .proposal) (height-after book h spot _ fits _ kept) ∙ kept-proposal x _
+    ∙ carried .0 in (
       spot-after book h spot _ fits _ kept (proposal-status x _ (spot .status-small) free),
       after-frame-block-digest .frame-block-digest .ensures ∙ sym (ap sha256 held),
     )
@@ -55,8 +57,10 @@ returns-2 c =
     let free = sym (branch .before .holds-proposal .ensures) ∙ branch .if1 .left in
     let carried = after-frame-block .frame-block .ensures in
     let fits = shaped-proposal x _ (carried .1) (shaped-here book h (given .spot)) in
-    let counted = notarized-after book h (given .spot) _ fits sha256 _ _ (after-keep-proposal .keep-proposal .ensures) (after-notarize-with .notarize-with .ensures) in
-    new-frame book h _ _ _ free (counted ∙ ap (λ (block : Bytes). encode (withHeight (decode book) h (notarize sha256 (view (decode book)) (withProposal x block)))) (carried .0))
+    let counted = notarized-after book h (given .spot) _ fits sha256 _ _ (after-keep-proposal .keep-proposal .ensures)
+    (after-notarize-with .notarize-with .ensures) in
+    new-frame book h _ _ _ free (counted ∙ ap (λ (block : Bytes).
+    encode (withHeight (decode book) h (notarize sha256 (view (decode book)) (withProposal x block)))) (carried .0))
 
 pub keep-proposal-spec : {M : Type 1} → statement M
 keep-proposal-spec =

@@ -1,4 +1,5 @@
--- `notarize` meets its contract: a proposal that awaits votes is notarized by its digest, and else the height stays as it is.
+-- `notarize` meets its contract: a proposal that awaits votes is notarized by its digest, and else the height stays as
+-- it is.
 use mathlib.Core.Path.{sym, ap, _∙_}
 use Rattle.sha256.specs.Digest.{sha256}
 use Rattle.protocol.specs.State.{Height, decode, encode, at, withHeight}
@@ -25,7 +26,8 @@ returns-2 c =
     let start = after-awaits-votes .before .before .before in
     let book = start .args .book .now in
     let h = start .args .h in
-    let stays = awaits-none sha256 (decode book) (at (decode book) h) (sym (after-awaits-votes .awaits-votes .ensures) ∙ c .if1 .left) in
+    let stays = awaits-none sha256 (decode book) (at (decode book) h)
+    (sym (after-awaits-votes .awaits-votes .ensures) ∙ c .if1 .left) in
     sym (ap (λ (y : Height). encode (withHeight (decode book) h y)) stays ∙ same-book book h (start .pre))
 
 pub notarize-spec : {M : Type 1} → statement M

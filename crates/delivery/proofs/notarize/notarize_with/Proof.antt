@@ -1,4 +1,5 @@
--- `notarize_with` meets its contract: the block is written where the three tests pass, and else the height stays as it is.
+-- `notarize_with` meets its contract: the block is written where the three tests pass, and else the height stays as it
+-- is.
 use mathlib.Core.Path.{sym, ap, _∙_}
 use Rattle.sha256.specs.Digest.{sha256}
 use Rattle.protocol.specs.Bytes.{Bytes}
@@ -21,9 +22,11 @@ returns c =
     let x = at (decode book) h in
     let awaits = sym (outer .before .awaits-votes .ensures) ∙ outer .if1 .taken in
     let enough = sym (inner .before .quorum .ensures) ∙ inner .if2 .taken in
-    let tally = inner .before .before .before .voters-for .ensures .0 ∙ ap (λ (digest : Bytes). votersFor x digest (decode book .n)) (start .pre .1) in
+    let tally = inner .before .before .before .voters-for .ensures .0
+    ∙ ap (λ (digest : Bytes). votersFor x digest (decode book .n)) (start .pre .1) in
     let becomes = notarizes sha256 (decode book) x _ tally awaits enough in
-    after-notarize-held .notarize-held .ensures ∙ sym (ap (λ (y : Height). encode (withHeight (decode book) h y)) becomes)
+    after-notarize-held .notarize-held .ensures ∙ sym
+    (ap (λ (y : Height). encode (withHeight (decode book) h y)) becomes)
 
 returns-2 : tie.Need-returns-2
 returns-2 c =
@@ -34,7 +37,8 @@ returns-2 c =
     let h = start .args .h in
     let x = at (decode book) h in
     let few = sym (after-quorum .quorum .ensures) ∙ c .if2 .left in
-    let tally = after-voters-for .voters-for .ensures .0 ∙ ap (λ (digest : Bytes). votersFor x digest (decode book .n)) (start .pre .1) in
+    let tally = after-voters-for .voters-for .ensures .0
+    ∙ ap (λ (digest : Bytes). votersFor x digest (decode book .n)) (start .pre .1) in
     let stays = too-few sha256 (decode book) x _ tally few in
     sym (ap (λ (y : Height). encode (withHeight (decode book) h y)) stays ∙ same-book book h (start .pre .0))
 
@@ -44,7 +48,8 @@ returns-3 c =
     let start = after-awaits-votes .before .before .before .before in
     let book = start .args .book .now in
     let h = start .args .h in
-    let stays = awaits-none sha256 (decode book) (at (decode book) h) (sym (after-awaits-votes .awaits-votes .ensures) ∙ c .if1 .left) in
+    let stays = awaits-none sha256 (decode book) (at (decode book) h)
+    (sym (after-awaits-votes .awaits-votes .ensures) ∙ c .if1 .left) in
     sym (ap (λ (y : Height). encode (withHeight (decode book) h y)) stays ∙ same-book book h (start .pre .0))
 
 pub notarize-with-spec : {M : Type 1} → statement M

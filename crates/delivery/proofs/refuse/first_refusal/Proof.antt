@@ -14,10 +14,12 @@ returns-2 c =
     let after-if2 = c .before in
     let after-if1 = after-if2 .before in
     let start = after-if1 .before in
-    refusal-some _ (start .pre .2) ∙ sym (third-fails _ _ _ _ _ _ (after-if1 .if1 .taken) (after-if2 .if2 .taken) (c .if3 .left))
+    refusal-some _ (start .pre .2) ∙ sym (third-fails _ _ _ _ _ _ (after-if1 .if1 .taken) (after-if2 .if2 .taken)
+    (c .if3 .left))
 
 returns-3 : tie.Need-returns-3
-returns-3 c = refusal-some _ (c .before .before .pre .1) ∙ sym (second-fails _ _ _ _ _ _ (c .before .if1 .taken) (c .if2 .left))
+returns-3 c = refusal-some _ (c .before .before .pre .1)
+    ∙ sym (second-fails _ _ _ _ _ _ (c .before .if1 .taken) (c .if2 .left))
 
 returns-4 : tie.Need-returns-4
 returns-4 c = refusal-some _ (c .before .pre .0) ∙ sym (first-fails _ _ _ _ _ _ (c .if1 .left))

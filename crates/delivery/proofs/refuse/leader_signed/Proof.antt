@@ -14,7 +14,11 @@ returns c =
     let after-frame-signer = c .before in
     let after-if1 = after-frame-signer .before in
     let after-frame-kind = after-if1 .before in
-    rw (sym (after-frame-kind .frame-kind .ensures .0) ∙ after-if1 .if1 .taken, after-frame-signer .frame-signer .ensures .0, c .leader .ensures .0)
+    rw (
+      sym (after-frame-kind .frame-kind .ensures .0) ∙ after-if1 .if1 .taken,
+      after-frame-signer .frame-signer .ensures .0,
+      c .leader .ensures .0,
+    )
 
 returns-2 : tie.Need-returns-2
 unfolding leaderSigned implies
@@ -24,4 +28,5 @@ returns-2 c =
     rw (ne-eqb (kind (start .args .frame .now)) 1 (λ e. c .if1 .left (after-frame-kind .frame-kind .ensures .0 ∙ e)))
 
 pub leader-signed-spec : {M : Type 1} → statement M
-leader-signed-spec = tie.close (tie.spec (λ c κs. search needs) (λ c κs. search needs) (λ c κs. search needs) returns returns-2)
+leader-signed-spec = tie.close (tie.spec (λ c κs. search needs) (λ c κs. search needs) (λ c κs. search needs) returns
+    returns-2)

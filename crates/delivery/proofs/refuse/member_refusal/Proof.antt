@@ -10,8 +10,13 @@ returns c =
     let after-signers-enough = c .before in
     let after-leader-signed = after-signers-enough .before in
     let after-members-fit = after-leader-signed .before in
-    rw (← after-signers-enough .signers-enough .ensures, ← after-leader-signed .leader-signed .ensures, ← after-members-fit .members-fit .ensures)
+    rw (
+      ← after-signers-enough .signers-enough .ensures,
+      ← after-leader-signed .leader-signed .ensures,
+      ← after-members-fit .members-fit .ensures,
+    )
     (c .first-refusal .ensures)
 
 pub member-refusal-spec : {M : Type 1} → statement M
-member-refusal-spec = tie.close (tie.spec (λ c κs. search needs) (λ c κs. search needs) (λ c κs. search needs) (λ c κs. search needs) returns)
+member-refusal-spec = tie.close (tie.spec (λ c κs. search needs) (λ c κs. search needs) (λ c κs. search needs)
+    (λ c κs. search needs) returns)

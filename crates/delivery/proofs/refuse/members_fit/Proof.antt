@@ -13,7 +13,11 @@ returns c =
     let after-if1 = c .before in
     let after-is-statement = after-if1 .before in
     let after-replicas = after-is-statement .before in
-    rw (sym (after-is-statement .is-statement .ensures) ∙ after-if1 .if1 .taken, c .frame-signer .ensures .0, after-replicas .replicas .ensures .0)
+    rw (
+      sym (after-is-statement .is-statement .ensures) ∙ after-if1 .if1 .taken,
+      c .frame-signer .ensures .0,
+      after-replicas .replicas .ensures .0,
+    )
 
 returns-2 : tie.Need-returns-2
 unfolding membersFit
@@ -23,7 +27,8 @@ returns-2 c =
     let after-is-statement = after-if1 .before in
     let after-replicas = after-is-statement .before in
     rw (sym (after-is-statement .is-statement .ensures) ∙ after-if1 .if1 .left)
-    (c .below .ensures ∙ ap₂ (λ (n mask : ℕ). belowBit n mask) (after-replicas .replicas .ensures .0) (after-frame-mask .frame-mask .ensures .0))
+    (c .below .ensures ∙ ap₂ (λ (n mask : ℕ). belowBit n mask) (after-replicas .replicas .ensures .0)
+    (after-frame-mask .frame-mask .ensures .0))
 
 pub members-fit-spec : {M : Type 1} → statement M
 members-fit-spec =

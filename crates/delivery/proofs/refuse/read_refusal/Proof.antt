@@ -1,4 +1,5 @@
--- `read_refusal` meets its contract: a frame must be well formed, its height one of the book's, and then its signers are asked.
+-- `read_refusal` meets its contract: a frame must be well formed, its height one of the book's, and then its signers
+-- are asked.
 use native.Mathlib.Omega.{arith}
 use mathlib.Core.Path.{sym, _∙_}
 use Rattle.protocol.specs.State.{decode, last}
@@ -22,8 +23,13 @@ member-refusal-requires c κs =
     let after-heights = c .before in
     let branch = after-heights .before .before .before in
     let start = branch .before .before .before .before in
-    let formed = sym (branch .before .frame-well-formed .ensures) ∙ branch .if1 .taken in
-    (start .pre, (record { low = omega arith; high = omega (arith, after-heights .heights .ensures .0) }, formed-size (start .args .frame .now) formed))
+    let formed = sym (branch .before .frame-well-formed .ensures) ∙ branch .if1 .taken in (
+      start .pre,
+      (
+        record { low = omega arith; high = omega (arith, after-heights .heights .ensures .0) },
+        formed-size (start .args .frame .now) formed,
+      ),
+    )
 
 returns : tie.Need-returns
 returns c =
@@ -38,7 +44,8 @@ returns c =
     let height = inner .before .frame-height .ensures .0 in
     let count = start .pre .sized .count in
     let bound = after-heights .heights .ensures .0 in
-    let inside = range-in 1 (last (decode book)) (frameHeight frame) (omega (arith, height, inner .if2 .taken)) (omega (arith, height, count, bound, after-if3 .if3 .taken)) in
+    let inside = range-in 1 (last (decode book)) (frameHeight frame) (omega (arith, height, inner .if2 .taken))
+    (omega (arith, height, count, bound, after-if3 .if3 .taken)) in
     c .member-refusal .ensures ∙ sym (read-inside (decode book) frame formed inside _ height)
 
 returns-2 : tie.Need-returns-2
@@ -54,7 +61,14 @@ returns-2 c =
     let height = after-frame-height .frame-height .ensures .0 in
     let count = start .pre .sized .count in
     let bound = after-heights .heights .ensures .0 in
-    let outside = not-passed _ (λ e. omega (arith, in-range 1 (last (decode book)) (frameHeight frame) e, height, count, bound, c .if3 .left)) in
+    let outside = not-passed _ (λ e. omega (
+      arith,
+      in-range 1 (last (decode book)) (frameHeight frame) e,
+      height,
+      count,
+      bound,
+      c .if3 .left,
+    )) in
     sym (read-outside (decode book) frame formed outside)
 
 returns-3 : tie.Need-returns-3
@@ -68,7 +82,12 @@ returns-3 c =
     let frame = start .args .frame .now in
     let formed = sym (after-frame-well-formed .frame-well-formed .ensures) ∙ after-if1 .if1 .taken in
     let height = after-frame-height .frame-height .ensures .0 in
-    let outside = not-passed _ (λ e. omega (arith, in-range 1 (last (decode book)) (frameHeight frame) e, height, c .if2 .left)) in
+    let outside = not-passed _ (λ e. omega (
+      arith,
+      in-range 1 (last (decode book)) (frameHeight frame) e,
+      height,
+      c .if2 .left,
+    )) in
     sym (read-outside (decode book) frame formed outside)
 
 returns-4 : tie.Need-returns-4

@@ -21,7 +21,9 @@ returns-2 c =
     let after-is-statement = after-if1 .before in
     let start = after-is-statement .before .before .before in
     rw (sym (after-is-statement .is-statement .ensures) ∙ after-if1 .if1 .left)
-    (c .quorum .ensures ∙ ap (λ (mask : ℕ). quorum (view (decode (start .args .book .now))) mask) (after-frame-mask .frame-mask .ensures .0))
+    (c .quorum .ensures ∙ ap (λ (mask : ℕ). quorum (view (decode (start .args .book .now))) mask)
+    (after-frame-mask .frame-mask .ensures .0))
 
 pub signers-enough-spec : {M : Type 1} → statement M
-signers-enough-spec = tie.close (tie.spec (λ c κs. search needs) (λ c κs. search needs) (λ c κs. search needs) returns returns-2)
+signers-enough-spec = tie.close (tie.spec (λ c κs. search needs) (λ c κs. search needs) (λ c κs. search needs) returns
+    returns-2)

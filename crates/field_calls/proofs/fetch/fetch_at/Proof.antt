@@ -18,8 +18,16 @@ has-certificate-requires c κs =
 write-certificate-requires : tie.Need-write-certificate-requires
 write-certificate-requires c κs =
     let after-if1 = c .before .before .before in
-    let z = after-if1 .before .before .before in
-    (z .pre .0 .ready .readable, (z .pre .1 .0, (certificate-range (z .args .kind) (z .pre .1 .1), after-if1 .if1 .taken)))
+    let z = after-if1 .before .before .before in (
+      z .pre .0 .ready .readable,
+      (
+        z .pre .1 .0,
+        (
+          certificate-range (z .args .kind) (z .pre .1 .1),
+          after-if1 .if1 .taken,
+        ),
+      ),
+    )
 
 returns : tie.Need-returns
 returns c =
@@ -31,7 +39,8 @@ returns c =
     let inside = in-heights (z .args .book .now) (z .args .height) (z .pre .1 .0) in
     let long = le-leb 224 (length (z .args .reply .now)) (after-if1 .if1 .taken) in
     let has = sym (after-has-certificate .has-certificate .ensures) ∙ after-if2 .if2 .taken in
-    fetch-answered (fetch-done (z .args .book .now) (z .args .kind) (z .args .height) (z .args .reply .now) (z .pre .0 .is-sound) (z .pre .1 .1) inside long has)
+    fetch-answered (fetch-done (z .args .book .now) (z .args .kind) (z .args .height) (z .args .reply .now)
+    (z .pre .0 .is-sound) (z .pre .1 .1) inside long has)
     (after-write-certificate .write-certificate .ensures)
 
 returns-2 : tie.Need-returns-2
@@ -42,14 +51,16 @@ returns-2 c =
     let inside = in-heights (z .args .book .now) (z .args .height) (z .pre .1 .0) in
     let long = le-leb 224 (length (z .args .reply .now)) (after-if1 .if1 .taken) in
     let lacks = sym (after-has-certificate .has-certificate .ensures) ∙ c .if2 .left in
-    fetch-refused (fetch-lacking (z .args .book .now) (z .args .kind) (z .args .height) (z .args .reply .now) (z .pre .0 .is-sound) (z .pre .1 .1) inside long lacks)
+    fetch-refused (fetch-lacking (z .args .book .now) (z .args .kind) (z .args .height) (z .args .reply .now)
+    (z .pre .0 .is-sound) (z .pre .1 .1) inside long lacks)
 
 returns-3 : tie.Need-returns-3
 returns-3 c =
     let z = c .before .before .before in
     let inside = in-heights (z .args .book .now) (z .args .height) (z .pre .1 .0) in
     let short = lt-leb 224 (length (z .args .reply .now)) (c .if1 .left) in
-    fetch-refused (fetch-short (z .args .book .now) (z .args .kind) (z .args .height) (z .args .reply .now) (z .pre .0 .is-sound) (z .pre .1 .1) inside short)
+    fetch-refused (fetch-short (z .args .book .now) (z .args .kind) (z .args .height) (z .args .reply .now)
+    (z .pre .0 .is-sound) (z .pre .1 .1) inside short)
 
 pub fetch-at-spec : {M : Type 1} → statement M
 fetch-at-spec =

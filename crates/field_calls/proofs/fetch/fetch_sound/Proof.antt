@@ -13,8 +13,14 @@ fetch-at-requires c κs =
     let after-in-book = after-if2 .before in
     let after-if1 = after-in-book .before in
     let after-is-certificate = after-if1 .before in
-    let z = after-is-certificate .before .before .before in
-    (z .pre, (within (z .args .book .now) (z .args .height) (sym (after-in-book .in-book .ensures) ∙ after-if2 .if2 .taken), sym (after-is-certificate .is-certificate .ensures) ∙ after-if1 .if1 .taken))
+    let z = after-is-certificate .before .before .before in (
+      z .pre,
+      (
+        within (z .args .book .now) (z .args .height)
+            (sym (after-in-book .in-book .ensures) ∙ after-if2 .if2 .taken),
+        sym (after-is-certificate .is-certificate .ensures) ∙ after-if1 .if1 .taken,
+      ),
+    )
 
 returns-2 : tie.Need-returns-2
 returns-2 c =
@@ -23,13 +29,15 @@ returns-2 c =
     let after-is-certificate = after-if1 .before in
     let z = after-is-certificate .before .before .before in
     let kind = sym (after-is-certificate .is-certificate .ensures) ∙ after-if1 .if1 .taken in
-    fetch-refused (fetch-outside (z .args .book .now) (z .args .kind) (z .args .height) (z .args .reply .now) (z .pre .is-sound) kind (sym (after-in-book .in-book .ensures) ∙ c .if2 .left))
+    fetch-refused (fetch-outside (z .args .book .now) (z .args .kind) (z .args .height) (z .args .reply .now)
+    (z .pre .is-sound) kind (sym (after-in-book .in-book .ensures) ∙ c .if2 .left))
 
 returns-3 : tie.Need-returns-3
 returns-3 c =
     let after-is-certificate = c .before in
     let z = after-is-certificate .before .before .before in
-    fetch-refused (fetch-unknown (z .args .book .now) (z .args .kind) (z .args .height) (z .args .reply .now) (z .pre .is-sound) (sym (after-is-certificate .is-certificate .ensures) ∙ c .if1 .left))
+    fetch-refused (fetch-unknown (z .args .book .now) (z .args .kind) (z .args .height) (z .args .reply .now)
+    (z .pre .is-sound) (sym (after-is-certificate .is-certificate .ensures) ∙ c .if1 .left))
 
 pub fetch-sound-spec : {M : Type 1} → statement M
 fetch-sound-spec =

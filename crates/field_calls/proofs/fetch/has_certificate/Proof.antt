@@ -14,7 +14,8 @@ returns : tie.Need-returns
 returns c =
     let after-if1 = c .before in
     let z = after-if1 .before .before in
-    c .is-notarized .ensures ∙ sym (has-block (decode (z .args .book .now)) (z .args .kind) (z .args .height) (after-if1 .if1 .taken))
+    c .is-notarized .ensures ∙ sym (has-block (decode (z .args .book .now)) (z .args .kind) (z .args .height)
+    (after-if1 .if1 .taken))
 
 returns-2 : tie.Need-returns-2
 returns-2 c =
@@ -28,4 +29,5 @@ returns-2 c =
 pub has-certificate-spec : {M : Type 1} → statement M
 has-certificate-spec =
     tie.close
-    (tie.spec (λ c κs. search needs) (λ c. search needs) (λ c κs. search needs) (λ c κs. search needs) returns returns-2)
+    (tie.spec (λ c κs. search needs) (λ c. search needs) (λ c κs. search needs) (λ c κs. search needs) returns
+    returns-2)

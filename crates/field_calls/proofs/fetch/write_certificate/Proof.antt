@@ -20,7 +20,8 @@ write-block-certificate-requires c κs =
       z .pre .1 .1 .1,
       (
         (small, after-mask-at .mask-at .ensures .1),
-        ap length (after-notarized .notarized .ensures) ∙ notarized-size (z .args .book .now) (z .args .height) (z .pre .0 .sized .size) (z .pre .1 .0),
+        ap length (after-notarized .notarized .ensures)
+            ∙ notarized-size (z .args .book .now) (z .args .height) (z .pre .0 .sized .size) (z .pre .1 .0),
       ),
     )
 
@@ -32,7 +33,8 @@ returns c =
     let z = branch .before .before .before .before in
     after-write-block-certificate .write-block-certificate .ensures
     ∙ ap (λ (frame : Bytes). overFront frame (z .args .reply .now))
-    (frame-block (decode (z .args .book .now)) (z .args .kind) (z .args .height) _ (branch .before .mask-at .ensures .0) _ (branch .if1 .taken) (after-notarized .notarized .ensures))
+    (frame-block (decode (z .args .book .now)) (z .args .kind) (z .args .height) _ (branch .before .mask-at .ensures .0)
+    _ (branch .if1 .taken) (after-notarized .notarized .ensures))
 
 returns-2 : tie.Need-returns-2
 returns-2 c =
@@ -41,7 +43,8 @@ returns-2 c =
     let z = branch .before .before .before .before in
     after-write-plain .write-plain .ensures
     ∙ ap (λ (frame : Bytes). overFront frame (z .args .reply .now))
-    (frame-signers (decode (z .args .book .now)) (z .args .kind) (z .args .height) _ (branch .before .mask-at .ensures .0) (omega (arith, branch .if1 .left)) (z .pre .1 .1 .0 .1))
+    (frame-signers (decode (z .args .book .now)) (z .args .kind) (z .args .height) _
+    (branch .before .mask-at .ensures .0) (omega (arith, branch .if1 .left)) (z .pre .1 .1 .0 .1))
 
 pub write-certificate-spec : {M : Type 1} → statement M
 write-certificate-spec =

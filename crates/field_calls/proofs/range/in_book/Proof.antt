@@ -5,7 +5,8 @@ use Rattle.field_calls.proofs.range.in_book.Statement.{statement}
 use Rattle.field_calls.proofs.range.in_book.Tie as tie
 
 returns : tie.Need-returns
-returns c = let z = c .before .before in in-book (z .args .book .now) (z .args .h) (c .heights .result) (c .heights .ensures .0)
+returns c = let z = c .before .before in in-book (z .args .book .now) (z .args .h) (c .heights .result)
+    (c .heights .ensures .0)
 
 pub in-book-spec : {M : Type 1} → statement M
 in-book-spec = tie.close (tie.spec (λ c κs. search needs) returns)

@@ -11,7 +11,8 @@ returns c =
     let after-current = after-finalized .before .before in
     let after-flags = after-current .before .before in
     let z = after-flags .before .before .before in
-    fired (z .args .book .now) _ _ _ _ (set .set-head .ensures) (after-flags .flags .ensures .0) (after-current .current .ensures .0) (after-finalized .finalized .ensures .0)
+    fired (z .args .book .now) _ _ _ _ (set .set-head .ensures) (after-flags .flags .ensures .0)
+    (after-current .current .ensures .0) (after-finalized .finalized .ensures .0)
 
 pub fire-spec : {M : Type 1} → statement M
 fire-spec =

@@ -17,7 +17,13 @@ returns c =
     let timer = after-if1 .before in
     let height = timer .before .before in
     let start = height .before .before .before in
-    rw (start .pre .is-sound, ← height .in-book .ensures, ← timer .timer-runs .ensures, after-if1 .if1 .taken, after-if2 .if2 .taken) (refl, after-fire .fire .ensures)
+    rw (
+      start .pre .is-sound,
+      ← height .in-book .ensures,
+      ← timer .timer-runs .ensures,
+      after-if1 .if1 .taken,
+      after-if2 .if2 .taken,
+    ) (refl, after-fire .fire .ensures)
 
 returns-2 : tie.Need-returns-2
 unfolding signalCall signalRows firstRefusal unlessRefused doneAnswer
@@ -25,7 +31,13 @@ returns-2 c =
     let timer = c .before .before in
     let height = timer .before .before in
     let start = height .before .before .before in
-    rw (start .pre .is-sound, ← height .in-book .ensures, ← timer .timer-runs .ensures, c .before .if1 .taken, c .if2 .left) (refl, refl)
+    rw (
+      start .pre .is-sound,
+      ← height .in-book .ensures,
+      ← timer .timer-runs .ensures,
+      c .before .if1 .taken,
+      c .if2 .left,
+    ) (refl, refl)
 
 returns-3 : tie.Need-returns-3
 unfolding signalCall signalRows firstRefusal unlessRefused doneAnswer

@@ -22,7 +22,8 @@ returns : tie.Need-returns
 returns c =
     let after-clear = c .before .before in
     let start = after-clear .before .before .before in
-    head-made (start .args .n) (start .args .own) (start .args .heights) (start .args .book .now) _ (start .pre .0) (after-clear .clear .ensures)
+    head-made (start .args .n) (start .args .own) (start .args .heights) (start .args .book .now) _ (start .pre .0)
+    (after-clear .clear .ensures)
 
 pub led-by-zero-spec : {M : Type 1} → statement M
 led-by-zero-spec =

@@ -11,7 +11,8 @@ use Rattle.fields.proofs.fresh.new_book.Statement.{statement}
 use Rattle.fields.proofs.fresh.new_book.Tie as tie
 
 abbrev Inv-loop : tie.InvT-loop
-Inv-loop book₀ n own leaders i₀ book i = (i ≤ length leaders) × (book ≡ encode (newState n own (led leaders i))) × (length book ≡ 576 + 880 * length leaders)
+Inv-loop book₀ n own leaders i₀ book i = (i ≤ length leaders) × (book ≡ encode (newState n own (led leaders i))) ×
+    (length book ≡ 576 + 880 * length leaders)
 
 abbrev μ-loop : tie.MeasureT-loop
 μ-loop book₀ n own leaders i₀ book i = length leaders - i
@@ -21,8 +22,11 @@ loop-holds c =
     let after-led-by-zero = c .before .before in
     let start = after-led-by-zero .before .before .before .before in
     let leaders = start .args .leaders .now in
-    let made = after-led-by-zero .led-by-zero in
-    (omega arith, made .ensures ∙ ap (λ l. encode (newState (start .args .n) (start .args .own) l)) (led-none leaders), omega (arith, made .kept .0))
+    let made = after-led-by-zero .led-by-zero in (
+      omega arith,
+      made .ensures ∙ ap (λ l. encode (newState (start .args .n) (start .args .own) l)) (led-none leaders),
+      omega (arith, made .kept .0),
+    )
 
 shared-slice-read-book : tie.Need-shared-slice-read-book Inv-loop μ-loop
 shared-slice-read-book c = omega arith
@@ -62,7 +66,8 @@ returns c =
     let start = after-loop .before .before .before .before .before .before .before in
     let args = start .args in
     let at = after-loop .loop in
-    at .inv .1 ∙ ap (λ l. encode (newState (args .n) (args .own) l)) (led-all (args .leaders .now) (at .i) (omega arith))
+    at .inv .1 ∙ ap (λ l. encode (newState (args .n) (args .own) l))
+    (led-all (args .leaders .now) (at .i) (omega arith))
 
 pub new-book-spec : {M : Type 1} → statement M
 new-book-spec =

@@ -8,7 +8,9 @@ returns : tie.Need-returns
 returns c =
     let after-body-at = c .before in
     let start = after-body-at .before .before in
-    block-at (start .args .book .now) (start .args .h) (start .pre .1 .0) _ (after-body-at .body-at .ensures) (start .args .k) (start .pre .1 .1)
+    block-at (start .args .book .now) (start .args .h) (start .pre .1 .0) _ (after-body-at .body-at .ensures)
+    (start .args .k) (start .pre .1 .1)
 
 pub block-at-spec : {M : Type 1} → statement M
-block-at-spec = tie.close (tie.spec (λ c κs. search needs) (λ c. search needs) (λ c. search needs) (λ c. search needs) (λ c. search needs) (λ c. search needs) (λ c. search needs) returns)
+block-at-spec = tie.close (tie.spec (λ c κs. search needs) (λ c. search needs) (λ c. search needs) (λ c. search needs)
+    (λ c. search needs) (λ c. search needs) (λ c. search needs) returns)

@@ -8,7 +8,8 @@ returns : tie.Need-returns
 returns c =
     let after-body-at = c .before in
     let start = after-body-at .before .before in
-    vote-at (start .args .book .now) (start .args .h) (start .pre .1 .0) _ (after-body-at .body-at .ensures) (start .args .s) (start .pre .1 .1)
+    vote-at (start .args .book .now) (start .args .h) (start .pre .1 .0) _ (after-body-at .body-at .ensures)
+    (start .args .s) (start .pre .1 .1)
 
 pub vote-digest-spec : {M : Type 1} → statement M
 vote-digest-spec =

@@ -1,4 +1,5 @@
--- `copy_inside` meets its contract: after `i` turns the first `i` bytes are copied, and the others are still where they were.
+-- `copy_inside` meets its contract: after `i` turns the first `i` bytes are copied, and the others are still where they
+-- were.
 use Prim.Native.Nat.{ℕ, _+_, _≤_, _<_, _-_}
 use native.Mathlib.Omega.{arith}
 use mathlib.Core.Path.{_≡_, refl, ap, _∙_}
@@ -20,8 +21,12 @@ abbrev μ-loop : tie.MeasureT-loop
 
 loop-holds : tie.Need-loop-holds Inv-loop μ-loop
 loop-holds c =
-    let args = c .args in
-    (omega arith, paste-zero (args .bytes .now) (args .to) (part (args .bytes .now) (args .from) (args .count)), refl, λ j low high. refl)
+    let args = c .args in (
+      omega arith,
+      paste-zero (args .bytes .now) (args .to) (part (args .bytes .now) (args .from) (args .count)),
+      refl,
+      λ j low high. refl,
+    )
 
 add-bytes : tie.Need-add-bytes Inv-loop μ-loop
 add-bytes c = omega arith
@@ -48,9 +53,11 @@ loop-again c =
     let args = start .args in
     let at = after-loop .loop in (
       omega arith,
-      copy-more (args .bytes .now) (at .bytes) (args .from) (args .to) (args .count) (at .i) (at .inv .1) (at .inv .3 (at .i) (omega arith) (omega arith)) (omega arith) (start .pre .0) (start .pre .1 .0),
+      copy-more (args .bytes .now) (at .bytes) (args .from) (args .to) (args .count) (at .i) (at .inv .1)
+          (at .inv .3 (at .i) (omega arith) (omega arith)) (omega arith) (start .pre .0) (start .pre .1 .0),
       rw length-set (at .inv .2),
-      rest-kept (args .bytes .now) (at .bytes) (args .from) (args .to) (args .count) (at .i) (start .pre .1 .1) (at .inv .3) _,
+      rest-kept (args .bytes .now) (at .bytes) (args .from) (args .to) (args .count) (at .i) (start .pre .1 .1)
+          (at .inv .3) _,
     )
 
 same-length : tie.Need-same-length Inv-loop μ-loop
@@ -62,9 +69,11 @@ returns c =
     let args = start .args in
     let at = c .before .loop in
     let copied = part (args .bytes .now) (args .from) (args .count) in
-    let size : length copied ≡ args .count = length-part (args .bytes .now) (args .from) (args .count) (start .pre .0) in
+    let size : length copied ≡ args .count = length-part (args .bytes .now) (args .from) (args .count)
+    (start .pre .0) in
     let end : at .i ≡ length copied = omega arith in
-    at .inv .1 ∙ ap (λ k. paste (args .bytes .now) (args .to) copied k) end ∙ put-paste (args .bytes .now) copied (args .to)
+    at .inv .1 ∙ ap (λ k. paste (args .bytes .now) (args .to) copied k) end
+    ∙ put-paste (args .bytes .now) copied (args .to)
 
 pub copy-inside-spec : {M : Type 1} → statement M
 copy-inside-spec =

@@ -12,7 +12,9 @@ returns c =
     let start = after-content-at .before .before in
     let k-range = start .pre .1 .1 .0 in
     after-put-word .put-word .ensures ∙
-    kept-mask (start .args .book .now) (start .pre .0) (start .args .h) (start .pre .1 .0) _ (after-content-at .content-at .ensures) (start .args .k) (k-range .0) (k-range .1) (start .args .mask)
+    kept-mask (start .args .book .now) (start .pre .0) (start .args .h) (start .pre .1 .0) _
+    (after-content-at .content-at .ensures) (start .args .k) (k-range .0) (k-range .1) (start .args .mask)
 
 pub keep-mask-spec : {M : Type 1} → statement M
-keep-mask-spec = tie.close (tie.spec (λ c κs. search needs) (λ c. search needs) (λ c. search needs) (λ c. search needs) (λ c κs. search needs) (λ c. search needs) returns)
+keep-mask-spec = tie.close (tie.spec (λ c κs. search needs) (λ c. search needs) (λ c. search needs) (λ c. search needs)
+    (λ c κs. search needs) (λ c. search needs) returns)

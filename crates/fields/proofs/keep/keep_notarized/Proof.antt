@@ -1,4 +1,5 @@
--- `keep_notarized` meets its contract: the block is copied to the notarized block's place, and status and mask are written.
+-- `keep_notarized` meets its contract: the block is copied to the notarized block's place, and status and mask are
+-- written.
 use Rattle.fields.proofs.Writes.{kept-notarized}
 use borrow.Author.Needs.{needs}
 use Rattle.fields.proofs.keep.keep_notarized.Statement.{statement}
@@ -12,8 +13,10 @@ returns c =
     let placed = read .before .before in
     let begun = placed .before .before in
     let start = begun .before .before .before in
-    kept-notarized (start .args .book .now) (start .pre .0) (start .args .h) (start .pre .1 .0) _ (begun .content-at .ensures) _ (placed .body-at .ensures) _
-    (read .status .ensures .0) (start .args .mask) (start .args .block .now) (start .pre .1 .1 .1 .0) _ (copied .copy-to .ensures) _ (after-mark-notarized .mark-notarized .ensures)
+    kept-notarized (start .args .book .now) (start .pre .0) (start .args .h) (start .pre .1 .0) _
+    (begun .content-at .ensures) _ (placed .body-at .ensures) _
+    (read .status .ensures .0) (start .args .mask) (start .args .block .now) (start .pre .1 .1 .1 .0) _
+    (copied .copy-to .ensures) _ (after-mark-notarized .mark-notarized .ensures)
 
 pub keep-notarized-spec : {M : Type 1} → statement M
 keep-notarized-spec =

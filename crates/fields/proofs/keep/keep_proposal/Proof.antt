@@ -8,7 +8,10 @@ use Rattle.fields.proofs.keep.keep_proposal.Statement.{statement}
 use Rattle.fields.proofs.keep.keep_proposal.Tie as tie
 
 copy-to-requires : tie.Need-copy-to-requires
-copy-to-requires c κs = simp length-set (omega (arith, c .before .before .before .before .before .before .before .before))
+copy-to-requires c κs = simp length-set (omega (
+  arith,
+  c .before .before .before .before .before .before .before .before,
+))
 
 same-length : tie.Need-same-length
 same-length c = c .before .before .copy-to .kept .0 ∙ simp length-set
@@ -21,7 +24,8 @@ returns c =
     let begun = placed .before .before in
     let start = begun .before .before .before in
     after-copy-to .copy-to .ensures ∙
-    kept-proposal (start .args .book .now) (start .pre .0) (start .args .h) (start .pre .1 .0) _ (begun .content-at .ensures) _ (placed .body-at .ensures) _
+    kept-proposal (start .args .book .now) (start .pre .0) (start .args .h) (start .pre .1 .0) _
+    (begun .content-at .ensures) _ (placed .body-at .ensures) _
     (read .status .ensures .0) (start .args .block .now) (start .pre .1 .1 .1)
 
 pub keep-proposal-spec : {M : Type 1} → statement M

@@ -16,8 +16,10 @@ returns c =
     let start = begun .before .before .before in
     let small = start .pre .1 .1 .0 in
     after-copy-to .copy-to .ensures ∙
-    kept-vote (start .args .book .now) (start .pre .0) (start .args .h) (start .pre .1 .0) _ (begun .content-at .ensures) _ (placed .body-at .ensures)
-    (start .args .s) (start .args .digest .now) small (start .pre .1 .1 .1 .1) _ (omega (arith, read .voter-mask .ensures .0, marked .before .bit .ensures .0)) _
+    kept-vote (start .args .book .now) (start .pre .0) (start .args .h) (start .pre .1 .0) _
+    (begun .content-at .ensures) _ (placed .body-at .ensures)
+    (start .args .s) (start .args .digest .now) small (start .pre .1 .1 .1 .1) _
+    (omega (arith, read .voter-mask .ensures .0, marked .before .bit .ensures .0)) _
     (marked .put-word .ensures)
 
 pub keep-vote-spec : {M : Type 1} → statement M

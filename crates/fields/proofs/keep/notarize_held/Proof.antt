@@ -1,4 +1,5 @@
--- `notarize_held` meets its contract: the proposal's place is copied to the notarized block's, and status and mask are written.
+-- `notarize_held` meets its contract: the proposal's place is copied to the notarized block's, and status and mask are
+-- written.
 use native.Mathlib.Omega.{arith}
 use mathlib.Core.Logic.{inr}
 use Rattle.fields.proofs.Writes.{kept-held}
@@ -17,8 +18,10 @@ returns c =
     let placed = read .before .before in
     let begun = placed .before .before in
     let start = begun .before .before in
-    kept-held (start .args .book .now) (start .pre .0) (start .args .h) (start .pre .1 .0) _ (begun .content-at .ensures) _ (placed .body-at .ensures) _
-    (read .status .ensures .0) (start .args .mask) _ (copied .copy-inside .ensures) _ (after-mark-notarized .mark-notarized .ensures)
+    kept-held (start .args .book .now) (start .pre .0) (start .args .h) (start .pre .1 .0) _
+    (begun .content-at .ensures) _ (placed .body-at .ensures) _
+    (read .status .ensures .0) (start .args .mask) _ (copied .copy-inside .ensures) _
+    (after-mark-notarized .mark-notarized .ensures)
 
 pub notarize-held-spec : {M : Type 1} → statement M
 notarize-held-spec =

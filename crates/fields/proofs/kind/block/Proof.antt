@@ -17,7 +17,8 @@ returns : tie.Need-returns
 unfolding view
 returns c =
     let start = c .before .before in
-    let shown = ap (λ (v : View). v .block (start .args .h)) (replica-view (start .args .kind) (start .args .book .now)) in
+    let shown = ap (λ (v : View). v .block (start .args .h))
+    (replica-view (start .args .kind) (start .args .book .now)) in
     let readable = replica-readable (start .args .kind) (start .args .book .now) (start .pre .0) in
     let whole = notarized-size (start .args .book .now) (start .args .h) (readable .sized .size) (start .pre .1) in
     (c .notarized .ensures ∙ shown, ap length (c .notarized .ensures) ∙ whole)

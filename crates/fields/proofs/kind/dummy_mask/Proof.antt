@@ -15,7 +15,8 @@ returns : tie.Need-returns
 unfolding view
 returns c =
     let start = c .before .before in
-    let shown = ap (λ (v : View). v .dummyMask (start .args .h)) (replica-view (start .args .kind) (start .args .book .now)) in
+    let shown = ap (λ (v : View). v .dummyMask (start .args .h))
+    (replica-view (start .args .kind) (start .args .book .now)) in
     (c .dummy-mask .ensures .0 ∙ shown, c .dummy-mask .ensures .1)
 
 pub dummy-mask-spec : {M : Type 1} → statement M

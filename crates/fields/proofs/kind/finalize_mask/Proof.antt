@@ -15,7 +15,8 @@ returns : tie.Need-returns
 unfolding view
 returns c =
     let start = c .before .before in
-    let shown = ap (λ (v : View). v .finalizeMask (start .args .h)) (replica-view (start .args .kind) (start .args .book .now)) in
+    let shown = ap (λ (v : View). v .finalizeMask (start .args .h))
+    (replica-view (start .args .kind) (start .args .book .now)) in
     (c .finalize-mask .ensures .0 ∙ shown, c .finalize-mask .ensures .1)
 
 pub finalize-mask-spec : {M : Type 1} → statement M

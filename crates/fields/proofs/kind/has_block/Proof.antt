@@ -15,7 +15,8 @@ returns : tie.Need-returns
 unfolding view
 returns c =
     let start = c .before .before in
-    let shown = ap (λ (v : View). v .hasBlock (start .args .h)) (replica-view (start .args .kind) (start .args .book .now)) in
+    let shown = ap (λ (v : View). v .hasBlock (start .args .h))
+    (replica-view (start .args .kind) (start .args .book .now)) in
     c .is-notarized .ensures ∙ shown
 
 pub has-block-spec : {M : Type 1} → statement M

@@ -1,4 +1,5 @@
--- `finish_pool` meets its contract: the entry is copied to its place, the places after it are cleared, and the count is set.
+-- `finish_pool` meets its contract: the entry is copied to its place, the places after it are cleared, and the count is
+-- set.
 use mathlib.Core.Path.{_∙_}
 use lib.ListN.{length-set}
 use Rattle.fields.proofs.Writes.{finished-pool}
@@ -17,7 +18,8 @@ returns c =
     let after-clear = c .before .before in
     let after-copy-to = after-clear .before .before .before .before in
     let start = after-copy-to .before .before .before .before in
-    finished-pool (start .args .book .now) (start .pre .0) (start .args .count) (start .args .entry .now) (start .pre .1 .0) (start .pre .1 .1) _ _
+    finished-pool (start .args .book .now) (start .pre .0) (start .args .count) (start .args .entry .now)
+    (start .pre .1 .0) (start .pre .1 .1) _ _
     (after-copy-to .copy-to .ensures) (after-clear .clear .ensures)
 
 pub finish-pool-spec : {M : Type 1} → statement M

@@ -15,7 +15,8 @@ returns c =
     let after-copy-inside = c .before .before in
     let start = after-copy-inside .before .before .before in
     after-copy-inside .copy-inside .ensures ∙
-    moved-place (start .args .book .now) (start .pre .0) (start .args .from) (start .args .to) (start .pre .1 .0) (start .pre .1 .1)
+    moved-place (start .args .book .now) (start .pre .0) (start .args .from) (start .args .to) (start .pre .1 .0)
+    (start .pre .1 .1)
 
 pub move-entry-spec : {M : Type 1} → statement M
 move-entry-spec =

@@ -1,4 +1,5 @@
--- `count` meets its contract: after `s` turns the sum is that of the bits below `s`, and the rest has those from `s` on.
+-- `count` meets its contract: after `s` turns the sum is that of the bits below `s`, and the rest has those from `s`
+-- on.
 use Prim.Native.Nat.{_/_, _^_, _≤_, _-_}
 use native.Mathlib.Omega.{arith}
 use mathlib.Core.Path.{_≡_, refl, ap, _∙_}
@@ -29,8 +30,12 @@ loop-less c = omega arith
 loop-again : tie.Need-loop-again Inv-loop μ-loop
 loop-again c =
     let mask = c .before .before .args .mask in
-    let at = c .before .loop in
-    (omega arith, rw (at .inv .1) (rest-more mask (at .s)), rw (at .inv .1, at .inv .2, ones-more mask (at .s)), omega arith)
+    let at = c .before .loop in (
+      omega arith,
+      rw (at .inv .1) (rest-more mask (at .s)),
+      rw (at .inv .1, at .inv .2, ones-more mask (at .s)),
+      omega arith,
+    )
 
 returns : tie.Need-returns Inv-loop μ-loop
 returns c =

@@ -13,7 +13,9 @@ returns c =
     let after-replicas = c .before in
     let start = after-replicas .before .before in
     let s = decode (start .args .book .now) in
-    rw (c .count .ensures .0, after-replicas .replicas .ensures .0) (sym (quorum-even (view s) (s .n) (start .args .mask) refl))
+    rw (c .count .ensures .0, after-replicas .replicas .ensures .0)
+    (sym (quorum-even (view s) (s .n) (start .args .mask) refl))
 
 pub quorum-spec : {M : Type 1} → statement M
-quorum-spec = tie.close (tie.spec (λ c κs. search needs) (λ c. search needs) (λ c κs. search needs) (λ c. search needs) returns)
+quorum-spec = tie.close (tie.spec (λ c κs. search needs) (λ c. search needs) (λ c κs. search needs) (λ c. search needs)
+    returns)

@@ -9,7 +9,8 @@ use Rattle.sha256.specs.Digest.{sha256}
 use Rattle.protocol.specs.Bytes.{Bytes}
 use Rattle.protocol.specs.View.{extends as extends-test}
 use Rattle.fields.specs.Book.{viewOf}
-use Rattle.linking.proofs.Walk.{extends-by-digest, extends-not-run, extends-not-linked, extends-not-below, linked-start, linked-by-block, not-linked-without}
+use Rattle.linking.proofs.Walk.{extends-by-digest, extends-not-run, extends-not-linked, extends-not-below}
+use Rattle.linking.proofs.Walk.{linked-start, linked-by-block, not-linked-without}
 use Rattle.linking.proofs.Stores.{remember-linked, remember-unlinked}
 use borrow.Fn.Kinds.{In}
 use borrow.Fn.PlainCycle.{Measures, is, falls, and}
@@ -122,7 +123,8 @@ extends-names-parent-requires : (t : ℕ) → extends-lts.Need-names-parent-requ
   names-parent-reads.Learnt,
 ) (extends-at t) extends.Post
 extends-names-parent-requires t c κs =
-    let z = c .before .before .before .before .before .before .before .before .before .before .before .before .before .before .before .before in
+    let z = c .before .before .before .before .before .before .before .before .before .before .before .before .before
+    .before .before .before in
     (z .pre .1 .0, (c .before .before .before .before .dummies-after .ensures .1, (z .pre .1 .1 .1 .1, omega arith)))
 
 extends-same-length : (t : ℕ) → extends-lts.Need-same-length (
@@ -148,13 +150,21 @@ extends-returns : (t : ℕ) → extends-lts.Need-returns (
   names-parent-reads.Learnt,
 ) (extends-at t) extends.Post
 extends-returns t c =
-    let tested = c .before .before .before .before .before .before .before .before .before .before .before .before .before .before in
+    let tested = c .before .before .before .before .before .before .before .before .before .before .before .before
+    .before .before in
     let read = tested .before in
     let z = read .before .before .before .before in
     let v = viewOf (z .args .kind) (z .args .book .now) in
     let j = read .parent-height .result in
-    let named = c .before .before .names-parent in
-    (named .ensures .0 ∙ sym (extends-by-digest v (z .args .h) j (z .args .block .now) (sym (read .parent-height .ensures .0)) (lt-ltb j (z .args .h) (tested .if1 .taken)) (sym (c .before .before .before .before .before .before .before .before .before .before .before .before .linked .ensures .0) ∙ c .before .before .before .before .before .before .before .before .before .if2 .taken) (sym (c .before .before .before .before .before .before .before .dummies-after .ensures .0) ∙ c .before .before .before .before .if3 .taken)), named .ensures .1)
+    let named = c .before .before .names-parent in (
+      named .ensures .0 ∙ sym (extends-by-digest v (z .args .h) j (z .args .block .now)
+          (sym (read .parent-height .ensures .0)) (lt-ltb j (z .args .h) (tested .if1 .taken))
+          (sym (c .before .before .before .before .before .before .before .before .before .before .before .before .linked
+          .ensures .0) ∙ c .before .before .before .before .before .before .before .before .before .if2 .taken)
+          (sym (c .before .before .before .before .before .before .before .dummies-after .ensures .0)
+          ∙ c .before .before .before .before .if3 .taken)),
+      named .ensures .1,
+    )
 
 extends-same-length-2 : (t : ℕ) → extends-lts.Need-same-length-2 (
   parent-height-reads.Asked,
@@ -183,8 +193,11 @@ extends-returns-2 t c =
     let z = read .before .before .before .before in
     let v = viewOf (z .args .kind) (z .args .book .now) in
     let j = read .parent-height .result in
-    let run = c .before .before .before .dummies-after in
-    (sym (extends-not-run v (z .args .h) j (z .args .block .now) (sym (read .parent-height .ensures .0)) (sym (run .ensures .0) ∙ c .if3 .left)), run .ensures .1)
+    let run = c .before .before .before .dummies-after in (
+      sym (extends-not-run v (z .args .h) j (z .args .block .now) (sym (read .parent-height .ensures .0))
+          (sym (run .ensures .0) ∙ c .if3 .left)),
+      run .ensures .1,
+    )
 
 extends-same-length-3 : (t : ℕ) → extends-lts.Need-same-length-3 (
   parent-height-reads.Asked,
@@ -212,8 +225,11 @@ extends-returns-3 t c =
     let read = c .before .before .before .before .before .before in
     let z = read .before .before .before .before in
     let v = viewOf (z .args .kind) (z .args .book .now) in
-    let j = read .parent-height .result in
-    (sym (extends-not-linked v (z .args .h) j (z .args .block .now) (sym (read .parent-height .ensures .0)) (sym (c .before .before .before .linked .ensures .0) ∙ c .if2 .left)), c .before .before .before .linked .ensures .1)
+    let j = read .parent-height .result in (
+      sym (extends-not-linked v (z .args .h) j (z .args .block .now) (sym (read .parent-height .ensures .0))
+          (sym (c .before .before .before .linked .ensures .0) ∙ c .if2 .left)),
+      c .before .before .before .linked .ensures .1,
+    )
 
 extends-returns-4 : (t : ℕ) → extends-lts.Need-returns-4 (
   parent-height-reads.Asked,
@@ -229,8 +245,11 @@ extends-returns-4 t c =
     let read = c .before in
     let z = read .before .before .before .before in
     let v = viewOf (z .args .kind) (z .args .book .now) in
-    let j = read .parent-height .result in
-    (sym (extends-not-below v (z .args .h) j (z .args .block .now) (sym (read .parent-height .ensures .0)) (le-ltb j (z .args .h) (omega arith))), z .pre .1 .1 .0)
+    let j = read .parent-height .result in (
+      sym (extends-not-below v (z .args .h) j (z .args .block .now) (sym (read .parent-height .ensures .0))
+          (le-ltb j (z .args .h) (omega arith))),
+      z .pre .1 .1 .0,
+    )
 
 linked-returns :
     (t : ℕ) →
@@ -307,8 +326,11 @@ linked-returns-4 :
     linked-lts.Need-returns-4 (links-back-below t, links-back.Post) (linked-at t) linked.Post
 linked-returns-4 t c =
     let z = c .before .before .before .before .before .before .before .before .before .before .before in
-    let back = c .before .before .before .links-back in
-    (back .ensures .0, remember-linked (viewOf (z .args .kind) (z .args .book .now)) (back .last .1 .1 .1 .0) (back .ensures .1) (z .args .h) (omega arith) (sym (back .ensures .0) ∙ c .if4 .taken))
+    let back = c .before .before .before .links-back in (
+      back .ensures .0,
+      remember-linked (viewOf (z .args .kind) (z .args .book .now)) (back .last .1 .1 .1 .0)
+          (back .ensures .1) (z .args .h) (omega arith) (sym (back .ensures .0) ∙ c .if4 .taken),
+    )
 
 linked-same-length-2 : (t : ℕ) → linked-lts.Need-same-length-2 (
   links-back-below t,
@@ -321,8 +343,11 @@ linked-returns-5 :
     linked-lts.Need-returns-5 (links-back-below t, links-back.Post) (linked-at t) linked.Post
 linked-returns-5 t c =
     let z = c .before .before .before .before .before .before .before .before .before .before .before in
-    let back = c .before .before .before .links-back in
-    (back .ensures .0, remember-unlinked (viewOf (z .args .kind) (z .args .book .now)) (back .last .1 .1 .1 .0) (back .ensures .1) (z .args .h) (omega arith) (sym (back .ensures .0) ∙ c .if4 .left))
+    let back = c .before .before .before .links-back in (
+      back .ensures .0,
+      remember-unlinked (viewOf (z .args .kind) (z .args .book .now)) (back .last .1 .1 .1 .0)
+          (back .ensures .1) (z .args .h) (omega arith) (sym (back .ensures .0) ∙ c .if4 .left),
+    )
 
 links-back-has-block-requires : (t : ℕ) → links-back-lts.Need-has-block-requires (
   has-block-reads.Asked,
@@ -380,7 +405,9 @@ links-back-returns t c =
     let h = z .args .h in (
       c .before .before .extends .ensures .0
           ∙ ap (λ (b : Bytes). extends-test sha256 v h b) (c .before .before .before .before .block .ensures .0)
-          ∙ sym (linked-by-block v h (z .pre .1 .1 .1 .low) (sym (c .before .before .before .before .before .before .has-block .ensures) ∙ c .before .before .before .before .before .if1 .taken)),
+          ∙ sym (linked-by-block v h (z .pre .1 .1 .1 .low)
+          (sym (c .before .before .before .before .before .before .has-block .ensures)
+          ∙ c .before .before .before .before .before .if1 .taken)),
       c .before .before .extends .ensures .1,
     )
 
@@ -393,8 +420,11 @@ links-back-returns-2 : (t : ℕ) → links-back-lts.Need-returns-2 (
   extends.Post,
 ) (links-back-at t) links-back.Post
 links-back-returns-2 t c =
-    let z = c .before .before .before .before in
-    (sym (not-linked-without (viewOf (z .args .kind) (z .args .book .now)) (z .args .h) (z .pre .1 .1 .1 .low) (sym (c .before .has-block .ensures) ∙ c .if1 .left)), z .pre .1 .1 .0)
+    let z = c .before .before .before .before in (
+      sym (not-linked-without (viewOf (z .args .kind) (z .args .book .now)) (z .args .h) (z .pre .1 .1 .1 .low)
+          (sym (c .before .has-block .ensures) ∙ c .if1 .left)),
+      z .pre .1 .1 .0,
+    )
 
 pub +extends+linked+links-back-spec : {M : Type 1} → statement M
 +extends+linked+links-back-spec = close μ-extends μ-linked μ-links-back (λ t. extends-lts.spec (

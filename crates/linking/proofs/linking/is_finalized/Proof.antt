@@ -1,4 +1,5 @@
--- `is_finalized` meets its contract: where the finalize mask is a quorum, a height is finalized if it is linked, and else it is not.
+-- `is_finalized` meets its contract: where the finalize mask is a quorum, a height is finalized if it is linked, and
+-- else it is not.
 use Prim.Native.Nat.{ℕ}
 use mathlib.Core.Path.{sym, ap, _∙_}
 use Rattle.fields.specs.Book.{viewOf}
@@ -18,7 +19,8 @@ returns c =
     let mask = after-finalize-mask .finalize-mask in
     let v = viewOf (z .args .kind) (z .args .book .now) in (
       after-linked .linked .ensures .0
-          ∙ finalized-by-link v (z .args .h) (ap (λ (m : ℕ). quorum v m) (sym (mask .ensures .0)) ∙ sym (after-quorum .quorum .ensures) ∙ after-if1 .if1 .taken),
+          ∙ finalized-by-link v (z .args .h) (ap (λ (m : ℕ). quorum v m) (sym (mask .ensures .0))
+          ∙ sym (after-quorum .quorum .ensures) ∙ after-if1 .if1 .taken),
       after-linked .linked .ensures .1,
     )
 
@@ -28,10 +30,14 @@ returns-2 c =
     let after-finalize-mask = after-quorum .before in
     let z = after-finalize-mask .before .before .before in
     let mask = after-finalize-mask .finalize-mask in
-    let v = viewOf (z .args .kind) (z .args .book .now) in
-    (sym (not-finalized-without v (z .args .h) (ap (λ (m : ℕ). quorum v m) (sym (mask .ensures .0)) ∙ sym (after-quorum .quorum .ensures) ∙ c .if1 .left)), z .pre .1 .0)
+    let v = viewOf (z .args .kind) (z .args .book .now) in (
+      sym (not-finalized-without v (z .args .h) (ap (λ (m : ℕ). quorum v m) (sym (mask .ensures .0))
+          ∙ sym (after-quorum .quorum .ensures) ∙ c .if1 .left)),
+      z .pre .1 .0,
+    )
 
 pub is-finalized-spec : {M : Type 1} → statement M
 is-finalized-spec =
     tie.close
-    (tie.spec (λ c κs. search needs) (λ c κs. search needs) (λ c κs. search needs) (λ c. search needs) returns returns-2)
+    (tie.spec (λ c κs. search needs) (λ c κs. search needs) (λ c κs. search needs) (λ c. search needs) returns
+    returns-2)

@@ -1,4 +1,5 @@
--- `largest_finalized` meets its contract: what is largest up to the height reached is largest up to the top, and each height passed is not finalized.
+-- `largest_finalized` meets its contract: what is largest up to the height reached is largest up to the top, and each
+-- height passed is not finalized.
 use Prim.Native.Nat.{_≤_}
 use native.Mathlib.Omega.{arith}
 use borrow.Author.Needs.{needs}
@@ -14,7 +15,8 @@ use Rattle.linking.proofs.linking.largest_finalized.Tie as tie
 
 abbrev Inv-loop : tie.InvT-loop
 Inv-loop kind book top known₀ h₀ known h =
-    (h ≤ top) × (largestFinalized sha256 (viewOf kind book) h ≡ largestFinalized sha256 (viewOf kind book) top) × MemoAs kind book known × (length known ≡ length known₀)
+    (h ≤ top) × (largestFinalized sha256 (viewOf kind book) h ≡ largestFinalized sha256 (viewOf kind book) top) × MemoAs
+    kind book known × (length known ≡ length known₀)
 
 abbrev μ-loop : tie.MeasureT-loop
 μ-loop kind book top known₀ h₀ known h = h
@@ -42,8 +44,10 @@ returns c =
     let start = after-loop .before .before .before in
     let v = viewOf (start .args .kind) (start .args .book .now) in
     let loop = after-loop .loop in
-    let found = after-is-finalized .is-finalized in
-    (largest-here v (loop .h) (omega arith) (sym (found .ensures .0) ∙ c .if1 .taken) ∙ loop .inv .1, (loop .inv .0, found .ensures .1))
+    let found = after-is-finalized .is-finalized in (
+      largest-here v (loop .h) (omega arith) (sym (found .ensures .0) ∙ c .if1 .taken) ∙ loop .inv .1,
+      (loop .inv .0, found .ensures .1),
+    )
 
 loop-again : tie.Need-loop-again Inv-loop μ-loop
 loop-again c =
@@ -52,8 +56,12 @@ loop-again c =
     let start = after-loop .before .before .before in
     let v = viewOf (start .args .kind) (start .args .book .now) in
     let loop = after-loop .loop in
-    let found = after-is-finalized .is-finalized in
-    (omega arith, largest-below v (loop .h) (omega arith) (sym (found .ensures .0) ∙ c .if1 .left) ∙ loop .inv .1, found .ensures .1, found .kept .1 .1 .1 .0 ∙ loop .inv .3)
+    let found = after-is-finalized .is-finalized in (
+      omega arith,
+      largest-below v (loop .h) (omega arith) (sym (found .ensures .0) ∙ c .if1 .left) ∙ loop .inv .1,
+      found .ensures .1,
+      found .kept .1 .1 .1 .0 ∙ loop .inv .3,
+    )
 
 same-length-2 : tie.Need-same-length-2 Inv-loop μ-loop
 same-length-2 c = c .before .loop .inv .3

@@ -17,8 +17,11 @@ returns c =
     let after-parent-digest = c .before .before .before .before .before in
     let z = after-parent-digest .before .before .before .before .before in
     let named = after-parent-digest .parent-digest in
-    let block = z .args .block .now in
-    (c .same-bytes .ensures ∙ names-digest block (named .result) ∙ ap (λ (d : Bytes). same (parentDigest block) d) (named .ensures .0), named .ensures .1)
+    let block = z .args .block .now in (
+      c .same-bytes .ensures ∙ names-digest block (named .result)
+          ∙ ap (λ (d : Bytes). same (parentDigest block) d) (named .ensures .0),
+      named .ensures .1,
+    )
 
 pub names-parent-spec : {M : Type 1} → statement M
 names-parent-spec =

@@ -32,8 +32,12 @@ returns-2 c =
     let after-if1 = after-keep-digest .before .before in
     let z = after-if1 .before .before .before in
     let j = z .args .j in
-    let kept = after-keep-digest .keep-digest in
-    (after-copy-to .copy-to .ensures ∙ digest-copied (viewOf (z .args .kind) (z .args .book .now)) (kept .last .1 .1 .1 .0) (zeros 32) j (36 * j + 4 + 32 - (36 * j + 4)) (after-if1 .if1 .left) (omega arith) (length-zeros 32) (omega arith) (kept .ensures .0), kept .ensures .1)
+    let kept = after-keep-digest .keep-digest in (
+      after-copy-to .copy-to .ensures ∙ digest-copied (viewOf (z .args .kind) (z .args .book .now))
+          (kept .last .1 .1 .1 .0) (zeros 32) j (36 * j + 4 + 32 - (36 * j + 4)) (after-if1 .if1 .left) (omega arith)
+          (length-zeros 32) (omega arith) (kept .ensures .0),
+      kept .ensures .1,
+    )
 
 pub parent-digest-spec : {M : Type 1} → statement M
 parent-digest-spec =

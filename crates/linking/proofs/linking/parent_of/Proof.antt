@@ -1,4 +1,5 @@
--- `parent_of` meets its contract: the best chain up to the height reached is the best up to the top, since each height passed is a dummy and not linked.
+-- `parent_of` meets its contract: the best chain up to the height reached is the best up to the top, since each height
+-- passed is a dummy and not linked.
 use Prim.Native.Nat.{_≤_}
 use native.Mathlib.Omega.{arith}
 use borrow.Author.Needs.{needs}
@@ -15,7 +16,8 @@ use Rattle.linking.proofs.linking.parent_of.Tie as tie
 
 abbrev Inv-loop : tie.InvT-loop
 Inv-loop kind book top known₀ h₀ known h =
-    (h ≤ top) × (parentOf sha256 (viewOf kind book) h ≡ parentOf sha256 (viewOf kind book) top) × MemoAs kind book known × (length known ≡ length known₀)
+    (h ≤ top) × (parentOf sha256 (viewOf kind book) h ≡ parentOf sha256 (viewOf kind book) top) × MemoAs kind book
+    known × (length known ≡ length known₀)
 
 abbrev μ-loop : tie.MeasureT-loop
 μ-loop kind book top known₀ h₀ known h = h
@@ -61,8 +63,13 @@ loop-again c =
     let start = after-loop .before .before .before in
     let v = viewOf (start .args .kind) (start .args .book .now) in
     let loop = after-loop .loop in
-    let found = after-linked .linked in
-    (omega arith, parent-below v (loop .h) (omega arith) (sym (found .ensures .0) ∙ after-if1 .if1 .left) (sym (after-is-dummy .is-dummy .ensures) ∙ c .if2 .taken) ∙ loop .inv .1, found .ensures .1, found .kept .1 .1 .1 .0 ∙ loop .inv .3)
+    let found = after-linked .linked in (
+      omega arith,
+      parent-below v (loop .h) (omega arith) (sym (found .ensures .0) ∙ after-if1 .if1 .left)
+          (sym (after-is-dummy .is-dummy .ensures) ∙ c .if2 .taken) ∙ loop .inv .1,
+      found .ensures .1,
+      found .kept .1 .1 .1 .0 ∙ loop .inv .3,
+    )
 
 same-length-2 : tie.Need-same-length-2 Inv-loop μ-loop
 same-length-2 c =
@@ -80,8 +87,11 @@ returns-2 c =
     let start = after-loop .before .before .before in
     let v = viewOf (start .args .kind) (start .args .book .now) in
     let loop = after-loop .loop in
-    let found = after-linked .linked in
-    (parent-stops v (loop .h) (omega arith) (sym (found .ensures .0) ∙ after-if1 .if1 .left) (sym (after-is-dummy .is-dummy .ensures) ∙ c .if2 .left) ∙ loop .inv .1, found .ensures .1)
+    let found = after-linked .linked in (
+      parent-stops v (loop .h) (omega arith) (sym (found .ensures .0) ∙ after-if1 .if1 .left)
+          (sym (after-is-dummy .is-dummy .ensures) ∙ c .if2 .left) ∙ loop .inv .1,
+      found .ensures .1,
+    )
 
 same-length-3 : tie.Need-same-length-3 Inv-loop μ-loop
 same-length-3 c = c .before .loop .inv .3

@@ -1,4 +1,5 @@
--- `run_start` meets its contract: a height that is no dummy starts a run itself, and any other goes on with the run below. The measure is the height.
+-- `run_start` meets its contract: a height that is no dummy starts a run itself, and any other goes on with the run
+-- below. The measure is the height.
 use native.Mathlib.Omega.{arith}
 use borrow.Author.Needs.{needs}
 use mathlib.Core.Path.{_≡_, sym, _∙_}
@@ -38,8 +39,10 @@ run-start-returns : (t : ℕ) → run-start-lts.Need-returns (
   put-word-reads.Learnt,
 ) (run-start-at t) run-start.Post
 run-start-returns t c =
-    let z = c .before .before .before in
-    (start-zero (viewOf (z .args .kind) (z .args .book .now)) (z .args .h) (c .if1 .taken), (omega arith, z .pre .1 .1 .0))
+    let z = c .before .before .before in (
+      start-zero (viewOf (z .args .kind) (z .args .book .now)) (z .args .h) (c .if1 .taken),
+      (omega arith, z .pre .1 .1 .0),
+    )
 
 run-start-mul-word : (t : ℕ) → run-start-lts.Need-mul-word (
   word-reads.Asked,
@@ -51,7 +54,8 @@ run-start-mul-word : (t : ℕ) → run-start-lts.Need-mul-word (
   put-word-reads.Asked,
   put-word-reads.Learnt,
 ) (run-start-at t) run-start.Post
-run-start-mul-word t c = let z = c .before .before .before .before in omega (arith, z .pre .1 .1 .1, z .pre .1 .0 .heights)
+run-start-mul-word t c = let z = c .before .before .before .before in
+    omega (arith, z .pre .1 .1 .1, z .pre .1 .0 .heights)
 
 run-start-add-word : (t : ℕ) → run-start-lts.Need-add-word (
   word-reads.Asked,
@@ -63,7 +67,8 @@ run-start-add-word : (t : ℕ) → run-start-lts.Need-add-word (
   put-word-reads.Asked,
   put-word-reads.Learnt,
 ) (run-start-at t) run-start.Post
-run-start-add-word t c = let z = c .before .before .before .before in omega (arith, z .pre .1 .1 .1, z .pre .1 .0 .heights)
+run-start-add-word t c = let z = c .before .before .before .before in
+    omega (arith, z .pre .1 .1 .1, z .pre .1 .0 .heights)
 
 run-start-word-requires : (t : ℕ) → run-start-lts.Need-word-requires (
   word-reads.Asked,
@@ -75,7 +80,8 @@ run-start-word-requires : (t : ℕ) → run-start-lts.Need-word-requires (
   put-word-reads.Asked,
   put-word-reads.Learnt,
 ) (run-start-at t) run-start.Post
-run-start-word-requires t c κs = let z = c .before .before .before .before in omega (arith, z .pre .1 .1 .1, z .pre .1 .0 .heights, z .pre .1 .1 .0 .room)
+run-start-word-requires t c κs = let z = c .before .before .before .before in
+    omega (arith, z .pre .1 .1 .1, z .pre .1 .0 .heights, z .pre .1 .1 .0 .room)
 
 run-start-sub-result : (t : ℕ) → run-start-lts.Need-sub-result (
   word-reads.Asked,
@@ -114,7 +120,8 @@ run-start-returns-2 : (t : ℕ) → run-start-lts.Need-returns-2 (
 run-start-returns-2 t c =
     let z = c .before .before .before .before .before .before in
     let v = viewOf (z .args .kind) (z .args .book .now) in
-    let read : c .before .word .result ≡ word16 (z .args .known .now) (36 * z .args .h + 2) = c .before .word .ensures .0 in
+    let read : c .before .word .result ≡ word16 (z .args .known .now) (36 * z .args .h + 2) =
+    c .before .word .ensures .0 in
     let run = z .pre .1 .1 .0 .each (z .args .h) (z .pre .1 .1 .1) .run (omega (arith, read, c .if2 .taken)) in
     let low = start-within v (z .args .h) in
     (omega (arith, read, run), (omega (arith, read, run, low), z .pre .1 .1 .0))
@@ -169,7 +176,8 @@ run-start-mul-put-word : (t : ℕ) → run-start-lts.Need-mul-put-word (
   put-word-reads.Asked,
   put-word-reads.Learnt,
 ) (run-start-at t) run-start.Post
-run-start-mul-put-word t c = let z = c .before .before .before .before .before .before .before .before .before .before .before .before .before in omega (arith, z .pre .1 .1 .1, z .pre .1 .0 .heights)
+run-start-mul-put-word t c = let z = c .before .before .before .before .before .before .before .before .before .before
+    .before .before .before in omega (arith, z .pre .1 .1 .1, z .pre .1 .0 .heights)
 
 run-start-add-put-word : (t : ℕ) → run-start-lts.Need-add-put-word (
   word-reads.Asked,
@@ -181,7 +189,8 @@ run-start-add-put-word : (t : ℕ) → run-start-lts.Need-add-put-word (
   put-word-reads.Asked,
   put-word-reads.Learnt,
 ) (run-start-at t) run-start.Post
-run-start-add-put-word t c = let z = c .before .before .before .before .before .before .before .before .before .before .before .before .before in omega (arith, z .pre .1 .1 .1, z .pre .1 .0 .heights)
+run-start-add-put-word t c = let z = c .before .before .before .before .before .before .before .before .before .before
+    .before .before .before in omega (arith, z .pre .1 .1 .1, z .pre .1 .0 .heights)
 
 run-start-add-put-word-2 : (t : ℕ) → run-start-lts.Need-add-put-word-2 (
   word-reads.Asked,
@@ -193,7 +202,13 @@ run-start-add-put-word-2 : (t : ℕ) → run-start-lts.Need-add-put-word-2 (
   put-word-reads.Asked,
   put-word-reads.Learnt,
 ) (run-start-at t) run-start.Post
-run-start-add-put-word-2 t c = let z = c .before .before .before .before .before .before .before .before .before .before .before .before .before in omega (arith, c .before .before .before .run-start .ensures .1 .0, z .pre .1 .1 .1, z .pre .1 .0 .heights)
+run-start-add-put-word-2 t c = let z = c .before .before .before .before .before .before .before .before .before .before
+    .before .before .before in omega (
+      arith,
+      c .before .before .before .run-start .ensures .1 .0,
+      z .pre .1 .1 .1,
+      z .pre .1 .0 .heights,
+    )
 
 run-start-put-word-requires : (t : ℕ) → run-start-lts.Need-put-word-requires (
   word-reads.Asked,
@@ -207,8 +222,10 @@ run-start-put-word-requires : (t : ℕ) → run-start-lts.Need-put-word-requires
 ) (run-start-at t) run-start.Post
 run-start-put-word-requires t c κs =
     let below = c .before .before .before .run-start in
-    let z = c .before .before .before .before .before .before .before .before .before .before .before .before .before in
-    (omega (arith, below .ensures .1 .1 .room, z .pre .1 .1 .1, z .pre .1 .0 .heights), omega (arith, below .ensures .1 .0, z .pre .1 .1 .1, z .pre .1 .0 .heights))
+    let z = c .before .before .before .before .before .before .before .before .before .before .before .before .before in (
+      omega (arith, below .ensures .1 .1 .room, z .pre .1 .1 .1, z .pre .1 .0 .heights),
+      omega (arith, below .ensures .1 .0, z .pre .1 .1 .1, z .pre .1 .0 .heights),
+    )
 
 run-start-mul-put-word-2 : (t : ℕ) → run-start-lts.Need-mul-put-word-2 (
   word-reads.Asked,
@@ -220,7 +237,8 @@ run-start-mul-put-word-2 : (t : ℕ) → run-start-lts.Need-mul-put-word-2 (
   put-word-reads.Asked,
   put-word-reads.Learnt,
 ) (run-start-at t) run-start.Post
-run-start-mul-put-word-2 t c = let z = c .before .before .before .before .before .before .before .before .before in omega (arith, z .pre .1 .1 .1, z .pre .1 .0 .heights)
+run-start-mul-put-word-2 t c = let z = c .before .before .before .before .before .before .before .before .before in
+    omega (arith, z .pre .1 .1 .1, z .pre .1 .0 .heights)
 
 run-start-add-put-word-3 : (t : ℕ) → run-start-lts.Need-add-put-word-3 (
   word-reads.Asked,
@@ -232,7 +250,8 @@ run-start-add-put-word-3 : (t : ℕ) → run-start-lts.Need-add-put-word-3 (
   put-word-reads.Asked,
   put-word-reads.Learnt,
 ) (run-start-at t) run-start.Post
-run-start-add-put-word-3 t c = let z = c .before .before .before .before .before .before .before .before .before in omega (arith, z .pre .1 .1 .1, z .pre .1 .0 .heights)
+run-start-add-put-word-3 t c = let z = c .before .before .before .before .before .before .before .before .before in
+    omega (arith, z .pre .1 .1 .1, z .pre .1 .0 .heights)
 
 run-start-add-put-word-4 : (t : ℕ) → run-start-lts.Need-add-put-word-4 (
   word-reads.Asked,
@@ -244,7 +263,8 @@ run-start-add-put-word-4 : (t : ℕ) → run-start-lts.Need-add-put-word-4 (
   put-word-reads.Asked,
   put-word-reads.Learnt,
 ) (run-start-at t) run-start.Post
-run-start-add-put-word-4 t c = let z = c .before .before .before .before .before .before .before .before .before in omega (arith, z .pre .1 .1 .1, z .pre .1 .0 .heights)
+run-start-add-put-word-4 t c = let z = c .before .before .before .before .before .before .before .before .before in
+    omega (arith, z .pre .1 .1 .1, z .pre .1 .0 .heights)
 
 run-start-put-word-requires-2 : (t : ℕ) → run-start-lts.Need-put-word-requires-2 (
   word-reads.Asked,
@@ -257,8 +277,10 @@ run-start-put-word-requires-2 : (t : ℕ) → run-start-lts.Need-put-word-requir
   put-word-reads.Learnt,
 ) (run-start-at t) run-start.Post
 run-start-put-word-requires-2 t c κs =
-    let z = c .before .before .before .before .before .before .before .before .before in
-    (omega (arith, z .pre .1 .1 .0 .room, z .pre .1 .1 .1, z .pre .1 .0 .heights), omega (arith, z .pre .1 .1 .1, z .pre .1 .0 .heights))
+    let z = c .before .before .before .before .before .before .before .before .before in (
+      omega (arith, z .pre .1 .1 .0 .room, z .pre .1 .1 .1, z .pre .1 .0 .heights),
+      omega (arith, z .pre .1 .1 .1, z .pre .1 .0 .heights),
+    )
 
 run-start-same-length-2 : (t : ℕ) → run-start-lts.Need-same-length-2 (
   word-reads.Asked,
@@ -286,10 +308,18 @@ run-start-returns-3 t c =
     let wrote = c .before .before .put-word in
     let below = c .before .before .before .before .before .before .run-start in
     let test = c .before .before .before .before .before .before .before .before in
-    let z = c .before .before .before .before .before .before .before .before .before .before .before .before .before .before .before .before in
+    let z = c .before .before .before .before .before .before .before .before .before .before .before .before .before
+    .before .before .before in
     let v = viewOf (z .args .kind) (z .args .book .now) in
-    let answer = below .ensures .0 ∙ start-back v (z .args .h) (omega arith) (sym (test .before .is-dummy .ensures) ∙ test .if3 .taken) in
-    (answer, (omega arith, remember-run v (below .last .1 .1 .1 .0) (below .ensures .1 .1) (z .args .h) (z .pre .1 .1 .1) (below .result) answer (wrote .last .0) (wrote .ensures)))
+    let answer = below .ensures .0 ∙ start-back v (z .args .h) (omega arith)
+    (sym (test .before .is-dummy .ensures) ∙ test .if3 .taken) in (
+      answer,
+      (
+        omega arith,
+        remember-run v (below .last .1 .1 .1 .0) (below .ensures .1 .1) (z .args .h)
+            (z .pre .1 .1 .1) (below .result) answer (wrote .last .0) (wrote .ensures),
+      ),
+    )
 
 run-start-same-length-3 : (t : ℕ) → run-start-lts.Need-same-length-3 (
   word-reads.Asked,
@@ -318,8 +348,14 @@ run-start-returns-4 t c =
     let test = c .before .before .before .before in
     let z = c .before .before .before .before .before .before .before .before .before .before .before .before in
     let v = viewOf (z .args .kind) (z .args .book .now) in
-    let answer = start-here v (z .args .h) (omega arith) (sym (test .before .is-dummy .ensures) ∙ test .if3 .left) in
-    (answer, (omega arith, remember-run v (z .args .known .now) (z .pre .1 .1 .0) (z .args .h) (z .pre .1 .1 .1) (z .args .h) answer (wrote .last .0) (wrote .ensures)))
+    let answer = start-here v (z .args .h) (omega arith) (sym (test .before .is-dummy .ensures) ∙ test .if3 .left) in (
+      answer,
+      (
+        omega arith,
+        remember-run v (z .args .known .now) (z .pre .1 .1 .0) (z .args .h) (z .pre .1 .1 .1)
+            (z .args .h) answer (wrote .last .0) (wrote .ensures),
+      ),
+    )
 
 pub +run-start-spec : {M : Type 1} → statement M
 +run-start-spec = close μ-run-start λ t. run-start-lts.spec (

@@ -1,4 +1,5 @@
--- `dummies_after` meets its contract: no height after `j` passes, and else the run that ends at `top` has to start at `j` or below.
+-- `dummies_after` meets its contract: no height after `j` passes, and else the run that ends at `top` has to start at
+-- `j` or below.
 use Prim.Native.Nat.{ℕ}
 use mathlib.Core.Path.{ap, _∙_}
 use lib.Dec.{leb}
@@ -22,8 +23,11 @@ returns-2 : tie.Need-returns-2
 returns-2 c =
     let after-run-start = c .before .before in
     let z = after-run-start .before .before .before .before .before in
-    let start = after-run-start .run-start in
-    (ap (λ (s : ℕ). leb s (z .args .j)) (start .ensures .0) ∙ run-is (viewOf (z .args .kind) (z .args .book .now)) (z .args .j) (z .args .top) (z .pre .1 .1 .0), start .ensures .1 .1)
+    let start = after-run-start .run-start in (
+      ap (λ (s : ℕ). leb s (z .args .j)) (start .ensures .0)
+          ∙ run-is (viewOf (z .args .kind) (z .args .book .now)) (z .args .j) (z .args .top) (z .pre .1 .1 .0),
+      start .ensures .1 .1,
+    )
 
 pub dummies-after-spec : {M : Type 1} → statement M
 dummies-after-spec = tie.close (tie.spec returns run-start-requires (λ c. search needs) returns-2)

@@ -1,4 +1,5 @@
--- `keep_digest` meets its contract: a digest that is kept is the right one, and else it is stored before it is said to be kept.
+-- `keep_digest` meets its contract: a digest that is kept is the right one, and else it is stored before it is said to
+-- be kept.
 use native.Mathlib.Omega.{arith}
 use mathlib.Core.Path.{_≡_, ap, _∙_}
 use lib.ListN.{length}
@@ -24,7 +25,8 @@ returns-2 c =
     let copied = after-copy-to .copy-to in
     let hashed = after-sha256 .sha256 in
     let whole : length (hashed .result) ≡ 32 = omega arith in
-    stored (viewOf (z .args .kind) (z .args .book .now)) (z .args .known .now) (z .pre .1 .0) (z .args .j) (omega arith) (hashed .result) whole (after-if1 .if1 .left)
+    stored (viewOf (z .args .kind) (z .args .book .now)) (z .args .known .now) (z .pre .1 .0) (z .args .j) (omega arith)
+    (hashed .result) whole (after-if1 .if1 .left)
     (hashed .ensures ∙ ap sha256 (after-block .block .ensures .0)) (copied .last .0) (copied .ensures)
 
 pub keep-digest-spec : {M : Type 1} → statement M

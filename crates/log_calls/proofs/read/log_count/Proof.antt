@@ -15,8 +15,11 @@ chain-entries-requires c κs =
 returns : tie.Need-returns
 returns c =
     let after-finalized = c .before in
-    let z = after-finalized .before .before in
-    (c .chain-entries .ensures .0 ∙ ap length (log-at (decode (z .args .book .now)) _ (after-finalized .finalized .ensures .0)), c .chain-entries .ensures .1)
+    let z = after-finalized .before .before in (
+      c .chain-entries .ensures .0 ∙ ap length (log-at (decode (z .args .book .now)) _
+          (after-finalized .finalized .ensures .0)),
+      c .chain-entries .ensures .1,
+    )
 
 pub log-count-spec : {M : Type 1} → statement M
 log-count-spec = tie.close (tie.spec (λ c κs. search needs) chain-entries-requires returns)

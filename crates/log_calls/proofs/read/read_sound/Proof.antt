@@ -15,7 +15,10 @@ copy-chain-requires c κs =
     let z = after-finalized .before .before .before in
     let ends = after-finalized .finalized .ensures .0 in (
       walkable (z .args .book .now) _ (z .pre) ends,
-      (after-log-count .log-count .ensures .0 ∙ sym (ap length (log-at (decode (z .args .book .now)) _ ends)), after-if1 .if1 .taken),
+      (
+        after-log-count .log-count .ensures .0 ∙ sym (ap length (log-at (decode (z .args .book .now)) _ ends)),
+        after-if1 .if1 .taken,
+      ),
     )
 
 returns : tie.Need-returns
@@ -25,14 +28,16 @@ returns c =
     let after-log-count = after-if1 .before in
     let after-finalized = after-log-count .before in
     let z = after-finalized .before .before .before in
-    read-done (z .args .book .now) (z .args .buffer .now) (z .pre .is-sound) _ (after-log-count .log-count .ensures .0) _ _ (after-if1 .if1 .taken) (after-finalized .finalized .ensures .0)
+    read-done (z .args .book .now) (z .args .buffer .now) (z .pre .is-sound) _ (after-log-count .log-count .ensures .0)
+    _ _ (after-if1 .if1 .taken) (after-finalized .finalized .ensures .0)
     (after-copy-chain .copy-chain .ensures)
 
 returns-2 : tie.Need-returns-2
 returns-2 c =
     let after-log-count = c .before in
     let z = after-log-count .before .before .before .before in
-    read-short (z .args .book .now) (z .args .buffer .now) (z .pre .is-sound) _ (after-log-count .log-count .ensures .0) (c .if1 .left)
+    read-short (z .args .book .now) (z .args .buffer .now) (z .pre .is-sound) _ (after-log-count .log-count .ensures .0)
+    (c .if1 .left)
 
 pub read-sound-spec : {M : Type 1} → statement M
 read-sound-spec =

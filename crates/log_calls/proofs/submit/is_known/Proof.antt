@@ -27,8 +27,10 @@ returns-2 c =
     let z = after-is-pending .before .before .before in
     let s = decode (z .args .book .now) in
     let entry = z .args .entry .now in
-    second-holds (holds entry (pending s)) (holds entry (log s)) (c .chain-holds .result) (sym (after-is-pending .is-pending .ensures) ∙ after-if1 .if1 .left)
-    (c .chain-holds .ensures ∙ ap (λ (l : List Bytes). holds entry l) (log-at s _ (after-finalized .finalized .ensures .0)))
+    second-holds (holds entry (pending s)) (holds entry (log s)) (c .chain-holds .result)
+    (sym (after-is-pending .is-pending .ensures) ∙ after-if1 .if1 .left)
+    (c .chain-holds .ensures ∙ ap (λ (l : List Bytes). holds entry l)
+    (log-at s _ (after-finalized .finalized .ensures .0)))
 
 pub is-known-spec : {M : Type 1} → statement M
 is-known-spec =

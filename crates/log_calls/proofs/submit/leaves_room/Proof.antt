@@ -14,7 +14,8 @@ unlogged-count-requires c κs =
     (walkable (z .args .book .now) (decode (z .args .book .now) .finalized) (z .pre) refl, z .pre .state .pending-few)
 
 returns : tie.Need-returns
-returns c = let z = c .before .before .before in few-stay (decode (z .args .book .now)) (c .before .pending-count .result) (c .before .pending-count .ensures .0) (c .if1 .taken)
+returns c = let z = c .before .before .before in few-stay (decode (z .args .book .now))
+    (c .before .pending-count .result) (c .before .pending-count .ensures .0) (c .if1 .taken)
 
 returns-2 : tie.Need-returns-2
 returns-2 c = ap (λ k. ltb k 32) (c .unlogged-count .ensures .0)

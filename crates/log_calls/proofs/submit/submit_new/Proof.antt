@@ -21,8 +21,14 @@ keep-unlogged-requires c κs =
     let after-leaves-room = after-if1 .before in
     let z = after-leaves-room .before .before .before .before in
     let s = decode (z .args .book .now) in
-    let few : length (stillPending s) < 32 = ltb-true (length (stillPending s)) 32 (sym (after-leaves-room .leaves-room .ensures) ∙ after-if1 .if1 .taken) in
-    (z .pre .0 .ready, (walkable (z .args .book .now) (s .finalized) (z .pre .0) refl, ((z .pre .0 .state .pending-few, few), z .pre .1 .0)))
+    let few : length (stillPending s) < 32 = ltb-true (length (stillPending s)) 32
+    (sym (after-leaves-room .leaves-room .ensures) ∙ after-if1 .if1 .taken) in (
+      z .pre .0 .ready,
+      (
+        walkable (z .args .book .now) (s .finalized) (z .pre .0) refl,
+        ((z .pre .0 .state .pending-few, few), z .pre .1 .0),
+      ),
+    )
 
 returns : tie.Need-returns
 returns c =
@@ -41,7 +47,8 @@ returns-2 c =
     let z = after-leaves-room .before .before .before .before in
     let room = sym (after-leaves-room .leaves-room .ensures) ∙ c .if1 .left in
     let fits = eq-eqb (length (z .args .entry .now)) 16 (z .pre .1 .0) in
-    outcome-refused (submit-full (z .args .book .now) (z .args .entry .now) (z .pre .0 .is-sound) fits (z .pre .1 .1) room)
+    outcome-refused (submit-full (z .args .book .now) (z .args .entry .now) (z .pre .0 .is-sound) fits (z .pre .1 .1)
+    room)
 
 pub submit-new-spec : {M : Type 1} → statement M
 submit-new-spec =

@@ -22,12 +22,14 @@ returns c =
     let after-if1 = after-is-known .before .before in
     let z = after-if1 .before .before .before in
     let fits = eq-eqb (length (z .args .entry .now)) 16 (after-if1 .if1 .taken) in
-    outcome-refused (submit-known (z .args .book .now) (z .args .entry .now) (z .pre .is-sound) fits (sym (after-is-known .is-known .ensures) ∙ c .if2 .taken))
+    outcome-refused (submit-known (z .args .book .now) (z .args .entry .now) (z .pre .is-sound) fits
+    (sym (after-is-known .is-known .ensures) ∙ c .if2 .taken))
 
 returns-3 : tie.Need-returns-3
 returns-3 c =
     let z = c .before .before .before in
-    outcome-refused (submit-unfit (z .args .book .now) (z .args .entry .now) (z .pre .is-sound) (ne-eqb (length (z .args .entry .now)) 16 (c .if1 .left)))
+    outcome-refused (submit-unfit (z .args .book .now) (z .args .entry .now) (z .pre .is-sound)
+    (ne-eqb (length (z .args .entry .now)) 16 (c .if1 .left)))
 
 pub submit-sound-spec : {M : Type 1} → statement M
 submit-sound-spec =

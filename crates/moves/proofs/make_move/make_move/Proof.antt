@@ -24,8 +24,11 @@ step-requires c κs =
     let start = after-slice-known .before in
     let book = start .args .book .now in
     let whether = after-sound .sound in
-    let yes = after-if1 .if1 .taken in
-    (sound-book sha256 book (λ i. omega (arith, after-slice-known .slice-known .given i)) (sym (whether .ensures .0) ∙ yes), (whether .ensures .1 .0 yes, after-if2 .if2 .taken))
+    let yes = after-if1 .if1 .taken in (
+      sound-book sha256 book (λ i. omega (arith, after-slice-known .slice-known .given i))
+          (sym (whether .ensures .0) ∙ yes),
+      (whether .ensures .1 .0 yes, after-if2 .if2 .taken),
+    )
 
 returns : tie.Need-returns
 returns c =
@@ -35,7 +38,8 @@ returns c =
     let after-sound = after-if1 .before .before in
     let start = after-sound .before .before .before .before .before in
     let reply = start .args .reply .now in
-    called (start .args .book .now) reply (sym (after-sound .sound .ensures .0) ∙ after-if1 .if1 .taken) (le-leb 448 (length reply) (after-if2 .if2 .taken))
+    called (start .args .book .now) reply (sym (after-sound .sound .ensures .0) ∙ after-if1 .if1 .taken)
+    (le-leb 448 (length reply) (after-if2 .if2 .taken))
     (after-step .step .result) (after-step .step .last .0) (after-step .step .last .1 .0) (after-step .step .ensures)
 
 returns-2 : tie.Need-returns-2
@@ -44,13 +48,15 @@ returns-2 c =
     let after-sound = after-if1 .before .before in
     let start = after-sound .before .before .before .before .before in
     let reply = start .args .reply .now in
-    called-short (start .args .book .now) reply (sym (after-sound .sound .ensures .0) ∙ after-if1 .if1 .taken) (lt-leb 448 (length reply) (c .if2 .left))
+    called-short (start .args .book .now) reply (sym (after-sound .sound .ensures .0) ∙ after-if1 .if1 .taken)
+    (lt-leb 448 (length reply) (c .if2 .left))
 
 returns-3 : tie.Need-returns-3
 returns-3 c =
     let after-sound = c .before .before in
     let start = after-sound .before .before .before .before .before in
-    called-unsound (start .args .book .now) (start .args .reply .now) (sym (after-sound .sound .ensures .0) ∙ c .if1 .left)
+    called-unsound (start .args .book .now) (start .args .reply .now)
+    (sym (after-sound .sound .ensures .0) ∙ c .if1 .left)
 
 pub make-move-spec : {M : Type 1} → statement M
 make-move-spec =

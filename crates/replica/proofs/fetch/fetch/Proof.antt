@@ -11,7 +11,8 @@ use Rattle.replica.proofs.fetch.fetch.Statement.{statement}
 use Rattle.replica.proofs.fetch.fetch.Tie as tie
 
 fetch-sound-requires : tie.Need-fetch-sound-requires
-fetch-sound-requires c κs = sound-book sha256 _ (c .before .before .is-sound .ensures .1) (sym (c .before .before .is-sound .ensures .0) ∙ c .before .if1 .taken)
+fetch-sound-requires c κs = sound-book sha256 _ (c .before .before .is-sound .ensures .1)
+    (sym (c .before .before .is-sound .ensures .0) ∙ c .before .if1 .taken)
 
 returns-2 : tie.Need-returns-2
 returns-2 c =

@@ -10,7 +10,8 @@ use Rattle.replica.proofs.read.read_into.Statement.{statement}
 use Rattle.replica.proofs.read.read_into.Tie as tie
 
 read-sound-requires : tie.Need-read-sound-requires
-read-sound-requires c κs = sound-book sha256 _ (c .before .before .is-sound .ensures .1) (sym (c .before .before .is-sound .ensures .0) ∙ c .before .if1 .taken)
+read-sound-requires c κs = sound-book sha256 _ (c .before .before .is-sound .ensures .1)
+    (sym (c .before .before .is-sound .ensures .0) ∙ c .before .if1 .taken)
 
 returns-2 : tie.Need-returns-2
 returns-2 c =

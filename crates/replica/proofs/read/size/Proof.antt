@@ -10,7 +10,8 @@ use Rattle.replica.proofs.read.size.Statement.{statement}
 use Rattle.replica.proofs.read.size.Tie as tie
 
 log-count-requires : tie.Need-log-count-requires
-log-count-requires c κs = sound-book sha256 _ (c .before .is-sound .ensures .1) (sym (c .before .is-sound .ensures .0) ∙ c .if1 .taken)
+log-count-requires c κs = sound-book sha256 _ (c .before .is-sound .ensures .1)
+    (sym (c .before .is-sound .ensures .0) ∙ c .if1 .taken)
 
 returns : tie.Need-returns
 returns c =

@@ -11,7 +11,8 @@ use Rattle.replica.proofs.submit.submit.Statement.{statement}
 use Rattle.replica.proofs.submit.submit.Tie as tie
 
 submit-sound-requires : tie.Need-submit-sound-requires
-submit-sound-requires c κs = sound-book sha256 _ (c .before .before .is-sound .ensures .1) (sym (c .before .before .is-sound .ensures .0) ∙ c .before .if1 .taken)
+submit-sound-requires c κs = sound-book sha256 _ (c .before .before .is-sound .ensures .1)
+    (sym (c .before .before .is-sound .ensures .0) ∙ c .before .if1 .taken)
 
 returns-2 : tie.Need-returns-2
 returns-2 c =

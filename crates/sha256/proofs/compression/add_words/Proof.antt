@@ -16,7 +16,11 @@ returns c =
     let after-wrapping-add-u323 = after-wrapping-add-u324 .before in
     let after-wrapping-add-u322 = after-wrapping-add-u323 .before in
     let after-wrapping-add-u32 = after-wrapping-add-u322 .before in
-    eight-words (after-wrapping-add-u32 .wrapping-add-u32 .ensures) (after-wrapping-add-u322 .wrapping-add-u322 .ensures) (after-wrapping-add-u323 .wrapping-add-u323 .ensures) (after-wrapping-add-u324 .wrapping-add-u324 .ensures) (after-wrapping-add-u325 .wrapping-add-u325 .ensures) (after-wrapping-add-u326 .wrapping-add-u326 .ensures) (after-wrapping-add-u327 .wrapping-add-u327 .ensures) (c .wrapping-add-u328 .ensures)
+    eight-words (after-wrapping-add-u32 .wrapping-add-u32 .ensures)
+    (after-wrapping-add-u322 .wrapping-add-u322 .ensures) (after-wrapping-add-u323 .wrapping-add-u323 .ensures)
+    (after-wrapping-add-u324 .wrapping-add-u324 .ensures) (after-wrapping-add-u325 .wrapping-add-u325 .ensures)
+    (after-wrapping-add-u326 .wrapping-add-u326 .ensures) (after-wrapping-add-u327 .wrapping-add-u327 .ensures)
+    (c .wrapping-add-u328 .ensures)
 
 pub add-words-spec : {M : Type 1} → statement M
 add-words-spec =

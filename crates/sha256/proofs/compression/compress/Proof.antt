@@ -1,4 +1,5 @@
--- `compress` meets its contract: the words of the block, the rounds with the schedule beside them, the last rounds, and the sum. Assumes nothing.
+-- `compress` meets its contract: the words of the block, the rounds with the schedule beside them, the last rounds, and
+-- the sum. Assumes nothing.
 use denote.Ref.{now}
 use Rattle.sha256.specs.Laws.StepsLaws.{compressed}
 use borrow.Author.Needs.{needs}
@@ -16,7 +17,9 @@ returns c =
     let constants = after-round-constants .round-constants in
     let first = after-first-rounds .first-rounds in
     let last = after-last-rounds .last-rounds in
-    compressed (now (start .args .block)) (words .result) (first .last .1 .1 .0) (constants .result) (start .args .hash) (first .result) (last .result) (c .add-words .result) (search needs) (words .ensures) (constants .ensures) (first .ensures .0) (first .ensures .1) (last .ensures) (c .add-words .ensures)
+    compressed (now (start .args .block)) (words .result) (first .last .1 .1 .0) (constants .result) (start .args .hash)
+    (first .result) (last .result) (c .add-words .result) (search needs) (words .ensures) (constants .ensures)
+    (first .ensures .0) (first .ensures .1) (last .ensures) (c .add-words .ensures)
 
 pub compress-spec : {M : Type 1} → statement M
 compress-spec =

@@ -16,7 +16,10 @@ returns c =
     let three = after-step3 .step3 in
     let four = c .step4 in
     let all =
-    four-steps (now (start .args .k)) (now (start .args .w)) (start .args .s) (start .args .t) (one .last .1 .1 .0) (two .last .1 .1 .0) (three .last .1 .1 .0) (four .last .1 .1 .0) (one .result) (two .result) (three .result) (four .result) (one .ensures .0) (one .ensures .1) (two .ensures .0) (two .ensures .1) (three .ensures .0) (three .ensures .1) (four .ensures .0) (four .ensures .1) in
+    four-steps (now (start .args .k)) (now (start .args .w)) (start .args .s) (start .args .t) (one .last .1 .1 .0)
+    (two .last .1 .1 .0) (three .last .1 .1 .0) (four .last .1 .1 .0) (one .result) (two .result) (three .result)
+    (four .result) (one .ensures .0) (one .ensures .1) (two .ensures .0) (two .ensures .1) (three .ensures .0)
+    (three .ensures .1) (four .ensures .0) (four .ensures .1) in
     (all .state, all .words)
 
 pub four-steps-spec : {M : Type 1} → statement M

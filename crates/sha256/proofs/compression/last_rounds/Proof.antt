@@ -23,15 +23,19 @@ loop-again c =
     let after-loop = c .before .before in
     let start = after-loop .before in
     let head = after-loop .loop in
-    let words = now (start .args .w) in
-    (omega arith, turn-rounds (now (start .args .k)) words words (start .args .start) (head .s) (c .four-rounds .result) 48 (head .i) (48 + 4 * head .i) refl (λ j lt. refl) (head .inv .1) (c .four-rounds .ensures))
+    let words = now (start .args .w) in (
+      omega arith,
+      turn-rounds (now (start .args .k)) words words (start .args .start) (head .s) (c .four-rounds .result)
+          48 (head .i) (48 + 4 * head .i) refl (λ j lt. refl) (head .inv .1) (c .four-rounds .ensures),
+    )
 
 returns : tie.Need-returns Inv-loop μ-loop
 returns c =
     let head = c .before .loop in
     let start = c .before .before in
     let all : 4 * head .i ≡ 16 = omega arith in
-    subst (λ (n : ℕ). head .s ≡ roundsFrom (now (start .args .k)) (now (start .args .w)) (start .args .start) 48 n) all (head .inv .1)
+    subst (λ (n : ℕ). head .s ≡ roundsFrom (now (start .args .k)) (now (start .args .w)) (start .args .start) 48 n) all
+    (head .inv .1)
 
 pub last-rounds-spec : {M : Type 1} → statement M
 last-rounds-spec =

@@ -1,4 +1,5 @@
--- `one_round` meets its contract: each sum wraps as the standard's does, and each word stands where the round puts it. Assumes nothing.
+-- `one_round` meets its contract: each sum wraps as the standard's does, and each word stands where the round puts it.
+-- Assumes nothing.
 use Rattle.sha256.specs.Compression.{round}
 use Rattle.sha256.specs.Laws.CompressionLaws.{variables-by}
 use borrow.Author.Needs.{needs}

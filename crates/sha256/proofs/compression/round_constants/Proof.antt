@@ -1,4 +1,5 @@
--- `round_constants` meets its contract: the table is the standard's, entry by entry, which the check computes. Assumes nothing.
+-- `round_constants` meets its contract: the table is the standard's, entry by entry, which the check computes. Assumes
+-- nothing.
 use mathlib.Core.Path.{refl}
 use Rattle.sha256.specs.Constants.{K}
 use Rattle.sha256.proofs.compression.round_constants.Statement.{statement}

@@ -27,8 +27,12 @@ compress-requires c κs = simp (length-take, length-drop) (omega arith)
 
 loop-again : tie.Need-loop-again Inv-loop μ-loop
 loop-again c =
-    let after-loop = c .before .before .before in
-    (search needs, omega arith, c .compress .ensures ∙ rw (after-loop .loop .inv .2) (hashBlocks-next _ _ (after-loop .loop .at) (after-loop .loop .inv .1)))
+    let after-loop = c .before .before .before in (
+      search needs,
+      omega arith,
+      c .compress .ensures
+          ∙ rw (after-loop .loop .inv .2) (hashBlocks-next _ _ (after-loop .loop .at) (after-loop .loop .inv .1)),
+    )
 
 returns : tie.Need-returns Inv-loop μ-loop
 unfolding hashAll

@@ -23,7 +23,11 @@ returns c =
     let start = after-begin .before .before .before in
     let asked = start .args in
     c .hash-blocks .ensures
-    ∙ rw (ends-here (asked .rest .now) (asked .size) (start .pre) (after-if1 .if1 .taken), after-put-length .put-length .ensures .0, after-begin .begin .ensures .0)
+    ∙ rw (
+      ends-here (asked .rest .now) (asked .size) (start .pre) (after-if1 .if1 .taken),
+      after-put-length .put-length .ensures .0,
+      after-begin .begin .ensures .0,
+    )
 
 returns-2 : tie.Need-returns-2
 unfolding zeros

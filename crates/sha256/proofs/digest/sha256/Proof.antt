@@ -13,7 +13,11 @@ returns c =
     let after-initial-hash = after-hash-blocks .before in
     let start = after-initial-hash .before .before in
     c .to-bytes .ensures
-    ∙ rw (after-hash-rest .hash-rest .ensures, after-hash-blocks .hash-blocks .ensures, after-initial-hash .initial-hash .ensures)
+    ∙ rw (
+      after-hash-rest .hash-rest .ensures,
+      after-hash-blocks .hash-blocks .ensures,
+      after-initial-hash .initial-hash .ensures,
+    )
     (sha256-parts (start .args .message .now))
 
 pub sha256-spec : {M : Type 1} → statement M

@@ -24,8 +24,12 @@ loop-again c =
     let after-loop = c .before .before in
     let start = after-loop .before .before in
     let head = after-loop .loop in
-    let room : head .t < length (head .w) = omega arith in
-    (omega arith, length-set (head .w) (head .t) (c .message-word .result) ∙ head .inv .1, words-more (start .args .block .now) (head .w) (head .t) (c .message-word .result) room (head .inv .2) (c .message-word .ensures))
+    let room : head .t < length (head .w) = omega arith in (
+      omega arith,
+      length-set (head .w) (head .t) (c .message-word .result) ∙ head .inv .1,
+      words-more (start .args .block .now) (head .w) (head .t) (c .message-word .result) room (head .inv .2)
+          (c .message-word .ensures),
+    )
 
 returns : tie.Need-returns Inv-loop μ-loop
 returns c =

@@ -1,4 +1,5 @@
--- `next_word` meets its contract: each sum wraps as the standard's does, and the four words stand where it says. Assumes nothing.
+-- `next_word` meets its contract: each sum wraps as the standard's does, and the four words stand where it says.
+-- Assumes nothing.
 use Rattle.sha256.specs.Schedule.{nextWord}
 use Rattle.sha256.specs.Words.{add}
 use borrow.Author.Needs.{needs}

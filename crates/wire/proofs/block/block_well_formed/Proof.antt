@@ -12,8 +12,11 @@ rest-fits-requires : tie.Need-rest-fits-requires
 rest-fits-requires c κs =
     let after-fields-fit = c .before in
     let after-if1 = after-fields-fit .before in
-    let start = after-if1 .before .before in
-    (after-if1 .if1 .taken, few-entries (start .args .h) (start .args .block .now) (sym (after-fields-fit .fields-fit .ensures) ∙ c .if2 .taken))
+    let start = after-if1 .before .before in (
+      after-if1 .if1 .taken,
+      few-entries (start .args .h) (start .args .block .now)
+          (sym (after-fields-fit .fields-fit .ensures) ∙ c .if2 .taken),
+    )
 
 returns : tie.Need-returns
 returns c =
@@ -31,7 +34,8 @@ returns-2 c =
     let after-if1 = after-fields-fit .before in
     let start = after-if1 .before .before in
     let block = start .args .block .now in
-    sym (stops-second _ (eq-eqb (length block) 176 (after-if1 .if1 .taken)) (sym (after-fields-fit .fields-fit .ensures) ∙ c .if2 .left) (block-is (start .args .h) block))
+    sym (stops-second _ (eq-eqb (length block) 176 (after-if1 .if1 .taken))
+    (sym (after-fields-fit .fields-fit .ensures) ∙ c .if2 .left) (block-is (start .args .h) block))
 
 returns-3 : tie.Need-returns-3
 returns-3 c =

@@ -12,7 +12,8 @@ returns c =
     let after-if1 = c .before .before in
     let after-parent-height = after-if1 .before in
     let start = after-parent-height .before .before in
-    c .is-zero .ensures ∙ sym (parent-none (start .args .block .now) (sym (after-parent-height .parent-height .ensures .0) ∙ after-if1 .if1 .taken))
+    c .is-zero .ensures ∙ sym (parent-none (start .args .block .now)
+    (sym (after-parent-height .parent-height .ensures .0) ∙ after-if1 .if1 .taken))
 
 returns-2 : tie.Need-returns-2
 returns-2 c =

@@ -12,7 +12,8 @@ use Rattle.wire.proofs.bytes.clear.Statement.{statement}
 use Rattle.wire.proofs.bytes.clear.Tie as tie
 
 abbrev Inv-loop : tie.InvT-loop
-Inv-loop target₀ at count i₀ target i = (i ≤ count) × (target ≡ paste target₀ at (zeros count) i) × (length target ≡ length target₀)
+Inv-loop target₀ at count i₀ target i = (i ≤ count) × (target ≡ paste target₀ at (zeros count) i) ×
+    (length target ≡ length target₀)
 
 abbrev μ-loop : tie.MeasureT-loop
 μ-loop target₀ at count i₀ target i = count - i
@@ -37,7 +38,8 @@ loop-again c =
     let at = c .before .loop in
     let args = c .before .before .args in (
       omega arith,
-      rw (at .inv .1, add-one) (clear-more (args .target .now) (args .at) (args .count) (at .i) (omega arith) (omega arith)),
+      rw (at .inv .1, add-one) (clear-more (args .target .now) (args .at) (args .count) (at .i) (omega arith)
+          (omega arith)),
       rw length-set (at .inv .2),
     )
 

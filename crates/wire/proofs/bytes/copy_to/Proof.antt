@@ -10,7 +10,8 @@ use Rattle.wire.proofs.bytes.copy_to.Statement.{statement}
 use Rattle.wire.proofs.bytes.copy_to.Tie as tie
 
 abbrev Inv-loop : tie.InvT-loop
-Inv-loop target₀ at source i₀ target i = (i ≤ length source) × (target ≡ paste target₀ at source i) × (length target ≡ length target₀)
+Inv-loop target₀ at source i₀ target i = (i ≤ length source) × (target ≡ paste target₀ at source i) ×
+    (length target ≡ length target₀)
 
 abbrev μ-loop : tie.MeasureT-loop
 μ-loop target₀ at source i₀ target i = length source - i
@@ -40,7 +41,8 @@ loop-again c =
     let at = after-loop .loop in
     let args = start .args in (
       omega arith,
-      rw (at .inv .1, add-one) (paste-suc (args .target .now) (args .at) (args .source .now) (at .i) 0 (omega arith) (omega arith)),
+      rw (at .inv .1, add-one) (paste-suc (args .target .now) (args .at) (args .source .now) (at .i) 0 (omega arith)
+          (omega arith)),
       rw length-set (at .inv .2),
     )
 

@@ -1,4 +1,5 @@
--- `same_values` meets its contract: the differing bits that it has or-ed together are zero if and only if the fronts that it passed are equal.
+-- `same_values` meets its contract: the differing bits that it has or-ed together are zero if and only if the fronts
+-- that it passed are equal.
 use Prim.Native.Nat.{_≤_, _-_}
 use native.Mathlib.Omega.{arith}
 use native.Mathlib.Numerals.{add-one}
@@ -37,14 +38,18 @@ loop-again c =
     let after-loop = c .before .before .before in
     let start = after-loop .before in
     let at = after-loop .loop in
-    let args = start .args in
-    (omega arith, rw add-one (match-more (at .seen) (args .a .now) (args .b .now) (at .i) (omega arith) (omega arith) (at .inv .1)))
+    let args = start .args in (
+      omega arith,
+      rw add-one (match-more (at .seen) (args .a .now) (args .b .now) (at .i) (omega arith) (omega arith)
+          (at .inv .1)),
+    )
 
 returns : tie.Need-returns Inv-loop μ-loop
 returns c =
     let at = c .before .loop in
     let args = c .before .before .args in
-    at .inv .1 ∙ ap₂ same (take-all (at .i) (args .a .now) (omega arith)) (take-all (at .i) (args .b .now) (omega arith))
+    at .inv .1 ∙ ap₂ same (take-all (at .i) (args .a .now) (omega arith))
+    (take-all (at .i) (args .b .now) (omega arith))
 
 pub same-values-spec : {M : Type 1} → statement M
 same-values-spec =

@@ -14,7 +14,8 @@ returns c =
     let frame = start .args .frame .now in
     let whole = block-part frame (start .pre) in
     let carried = rw (after-frame-kind .frame-kind .ensures .0) at (after-if1 .if1 .taken) in
-    c .block-well-formed .ensures ∙ rw (after-frame-height .frame-height .ensures .0, whole) (sym (block-carried frame carried))
+    c .block-well-formed .ensures ∙ rw (after-frame-height .frame-height .ensures .0, whole)
+    (sym (block-carried frame carried))
 
 returns-2 : tie.Need-returns-2
 returns-2 c =

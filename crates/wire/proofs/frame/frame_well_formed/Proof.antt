@@ -24,7 +24,8 @@ returns-2 c =
     let after-if1 = after-fields-fit .before in
     let start = after-if1 .before .before in
     let frame = start .args .frame .now in
-    sym (stops-second _ (eq-eqb (length frame) 224 (after-if1 .if1 .taken)) (sym (after-fields-fit .fields-fit .ensures) ∙ c .if2 .left) (frame-is frame))
+    sym (stops-second _ (eq-eqb (length frame) 224 (after-if1 .if1 .taken))
+    (sym (after-fields-fit .fields-fit .ensures) ∙ c .if2 .left) (frame-is frame))
 
 returns-3 : tie.Need-returns-3
 returns-3 c =

@@ -14,9 +14,12 @@ returns c =
     let first = second .before .before .before .before in
     let start = first .before .before .before .before in
     let args = start .args in
-    frame-follows (args .out .now) (first .write-head .last .0) (second .copy-to .last .0) (third .clear .last .0) (args .digest .now) (zeros 176)
-    2 (args .signer) (args .h) 0 (start .pre .1 .1) (first .write-head .ensures) (second .copy-to .ensures) (third .clear .ensures)
+    frame-follows (args .out .now) (first .write-head .last .0) (second .copy-to .last .0) (third .clear .last .0)
+    (args .digest .now) (zeros 176)
+    2 (args .signer) (args .h) 0 (start .pre .1 .1) (first .write-head .ensures) (second .copy-to .ensures)
+    (third .clear .ensures)
 
 pub write-block-vote-spec : {M : Type 1} → statement M
 write-block-vote-spec =
-    tie.close (tie.spec (λ c κs. search needs) (λ c κs. search needs) (λ c κs. search needs) (λ c. search needs) returns)
+    tie.close (tie.spec (λ c κs. search needs) (λ c κs. search needs) (λ c κs. search needs) (λ c. search needs)
+    returns)

@@ -12,9 +12,11 @@ returns c =
     let second = third .before .before .before .before in
     let first = second .before .before .before .before in
     let args = first .before .before .before .args in
-    head-starts (args .out .now) (first .put-byte .last .0) (second .put-byte2 .last .0) (third .put-word .last .0) (fourth .put-word2 .last .0)
+    head-starts (args .out .now) (first .put-byte .last .0) (second .put-byte2 .last .0) (third .put-word .last .0)
+    (fourth .put-word2 .last .0)
     (fifth .clear .last .0) (args .kind) (args .signer) (args .h) (args .mask)
-    (first .put-byte .ensures) (second .put-byte2 .ensures) (third .put-word .ensures) (fourth .put-word2 .ensures) (fifth .clear .ensures)
+    (first .put-byte .ensures) (second .put-byte2 .ensures) (third .put-word .ensures) (fourth .put-word2 .ensures)
+    (fifth .clear .ensures)
 
 pub write-head-spec : {M : Type 1} → statement M
 write-head-spec =

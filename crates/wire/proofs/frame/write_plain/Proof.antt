@@ -9,7 +9,8 @@ returns c =
     let second = c .before .before in
     let first = second .before .before .before .before in
     let args = first .before .before .before .args in
-    plain-follows (args .out .now) (first .write-head .last .0) (second .clear .last .0) (args .kind) (args .signer) (args .h) (args .mask)
+    plain-follows (args .out .now) (first .write-head .last .0) (second .clear .last .0) (args .kind) (args .signer)
+    (args .h) (args .mask)
     (first .write-head .ensures) (second .clear .ensures)
 
 pub write-plain-spec : {M : Type 1} → statement M

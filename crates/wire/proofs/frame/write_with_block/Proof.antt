@@ -12,9 +12,12 @@ returns c =
     let second = third .before .before .before .before in
     let first = second .before .before .before .before in
     let args = first .before .before .before .before .args in
-    frame-follows (args .out .now) (first .write-head .last .0) (second .clear .last .0) (third .copy-to .last .0) (zeros 32) (args .block .now)
-    (args .kind) (args .signer) (args .h) (args .mask) (length-zeros 32) (first .write-head .ensures) (second .clear .ensures) (third .copy-to .ensures)
+    frame-follows (args .out .now) (first .write-head .last .0) (second .clear .last .0) (third .copy-to .last .0)
+    (zeros 32) (args .block .now)
+    (args .kind) (args .signer) (args .h) (args .mask) (length-zeros 32) (first .write-head .ensures)
+    (second .clear .ensures) (third .copy-to .ensures)
 
 pub write-with-block-spec : {M : Type 1} → statement M
 write-with-block-spec =
-    tie.close (tie.spec (λ c κs. search needs) (λ c κs. search needs) (λ c κs. search needs) (λ c. search needs) returns)
+    tie.close (tie.spec (λ c κs. search needs) (λ c κs. search needs) (λ c κs. search needs) (λ c. search needs)
+    returns)
