@@ -21,3 +21,6 @@ pub mod ReadLaws
 pub mod ReplyLaws
 pub mod WrittenReadLaws
 pub mod CallWrittenLaws
+pub mod SoundKept
+pub mod Tallying
+pub mod WrongDeliveries

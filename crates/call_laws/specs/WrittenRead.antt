@@ -1,24 +1,15 @@
 -- What is written is read: each frame that Move or Fetch writes is the one that the answer names, and is read over
--- every
--- book of the same n, H and leaders with the same kind, height, signers, digest and block.
--- The other book need not be sound. A book that is not sound, or a reply too short, is refused, and no frame is
--- written.
+-- every book of the same n, H and leaders with the same kind, height, signers, digest and block. The other book need
+-- not be sound. A book that is not sound, or a reply too short, is refused, and no frame is written.
 use Prim.Native.Nat.{ℕ}
 use mathlib.Core.Path.{_≡_}
-use mathlib.Core.Option.{some}
-use Rattle.protocol.specs.Bytes.{Bytes, zeros}
-use Rattle.protocol.specs.Tests.{firstRefusal}
-use Rattle.protocol.specs.Frame.{frameSize}
-use Rattle.protocol.specs.State.{State, decode}
-use Rattle.protocol.specs.Deliver.{readRows}
+use Rattle.protocol.specs.Bytes.{Bytes}
+use Rattle.protocol.specs.State.{decode}
 use Rattle.protocol.specs.Move.{moveCall}
 use Rattle.protocol.specs.Fetch.{fetchCall}
-use Rattle.call_laws.specs.Readable.{SameSetting, DigestSized, Said}
+use Rattle.call_laws.specs.Readable.{Said}
 use Rattle.call_laws.specs.Named.{moveAnswerFrames, moveAnswerFields, fetchAnswerFrames, fetchAnswerFields}
 use Rattle.call_laws.specs.Reply.{Wrote, blankAfter}
-use Rattle.call_laws.specs.Laws.ReadLaws.{zero-frame}
-use Rattle.call_laws.specs.Laws.CallWrittenLaws.{move-named, move-said, move-wrote, fetch-named, fetch-said}
-use Rattle.call_laws.specs.Laws.CallWrittenLaws.{fetch-wrote}
 
 -- ---- Move
 -- what holds of the frames that a move on `book` writes to `reply`, for each other book
@@ -33,14 +24,6 @@ pub record MoveWritten (digest : Bytes → Bytes) (book reply other : Bytes) : T
   pub wrote : Wrote (moveCall digest book reply .frames) (blankAfter (moveCall digest book reply .answer)) reply
       (moveCall digest book reply .reply)
 
-pub move-written-read : (digest : Bytes → Bytes) → DigestSized digest →
-    (book reply other : Bytes) → SameSetting (decode book) (decode other) → MoveWritten digest book reply other
-move-written-read digest sized book reply other same = record {
-  named = move-named digest book reply;
-  said = move-said digest book reply sized (decode other) same;
-  wrote = move-wrote digest book reply sized;
-}
-
 -- ---- Fetch
 pub record FetchWritten (digest : Bytes → Bytes) (book : Bytes) (k h : ℕ) (reply other : Bytes) : Type 0 where
   pub named : fetchCall digest book k h reply .frames ≡ fetchAnswerFrames (decode book) k h
@@ -48,16 +31,3 @@ pub record FetchWritten (digest : Bytes → Bytes) (book : Bytes) (k h : ℕ) (r
   pub said : Said (decode other) (fetchAnswerFields (decode book) k h (fetchCall digest book k h reply .answer))
       (fetchCall digest book k h reply .frames)
   pub wrote : Wrote (fetchCall digest book k h reply .frames) 0 reply (fetchCall digest book k h reply .reply)
-
--- nothing is asked of the digest function
-pub fetch-written-read : (digest : Bytes → Bytes) (book : Bytes) (k h : ℕ) (reply other : Bytes) →
-    SameSetting (decode book) (decode other) → FetchWritten digest book k h reply other
-fetch-written-read digest book k h reply other same = record {
-  named = fetch-named digest book k h reply;
-  said = fetch-said digest book k h reply (decode other) same;
-  wrote = fetch-wrote digest book k h reply;
-}
-
--- ---- 224 zero bytes are no frame: refusal 4, over every state
-pub zeros-not-read : (s : State) → firstRefusal (readRows s (zeros frameSize)) ≡ some 4
-zeros-not-read s = zero-frame s

@@ -1,6 +1,5 @@
 // A list, line by line. A buffer that it names has one of sixteen places: its name stands there in the table, its size
-// sixteen
-// further on, and its bytes, 65536 at most, in two memories, one for the books and one for what else is lent.
+// sixteen further on, and its bytes, 65536 at most, in two memories, one for the books and one for what else is lent.
 use crate::literal::literal;
 use crate::made::made;
 use crate::operands;

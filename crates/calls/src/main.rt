@@ -1,7 +1,6 @@
 // Makes the calls of an exchange list (docs/EXCHANGE.md), which it reads from standard input, and prints the list with
-// what each call
-// answered and the digests of the buffers that were lent to it. A line that is no line of a list is named, and the next
-// one follows.
+// what each call answered and the digests of the buffers that were lent to it. A line that is no line of a list is
+// named, and the next one follows.
 mod list;
 mod literal;
 mod made;

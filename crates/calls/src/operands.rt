@@ -80,8 +80,7 @@ fn operand(kind: usize, word: &[u8], table: &[usize], out: &mut [u8]) -> Value {
 }
 
 // What the words behind the name stand for, each at its digit in `values`. Answers the number of the first word that
-// does not fit,
-// counted from 1, or 0.
+// does not fit, counted from 1, or 0.
 pub fn read(
     call: Call,
     line: &[u8],

@@ -1,6 +1,5 @@
 // The entries of a chain of any kind of book: counting them, looking for one, and copying them out. Each walks back
-// through
-// parent heights once and computes no digest.
+// through parent heights once and computes no digest.
 use fields::kind::Kind;
 ghost use mathlib.Core.Path.{_≡_};
 ghost use Prim.Native.Nat.{_*_, _≤_};
@@ -63,8 +62,7 @@ pub fn chain_holds(kind: Kind, book: &[u8], h: usize, entry: &[u8]) -> bool
 }
 
 // Copies the `count` entries of the chain that ends in height `h` to the front of the buffer, oldest first. Walks back
-// from
-// the newest block, 63 blocks at most, and copies the entries of each at once to their place.
+// from the newest block, 63 blocks at most, and copies the entries of each at once to their place.
 pub fn copy_chain(kind: Kind, book: &[u8], h: usize, count: usize, buffer: &mut [u8])
     requires { ⌜ WalkableAs kind (now book) h ⌝ }
     requires { ⌜ count ≡ length (logAt (viewOf kind (now book)) h) ⌝ }

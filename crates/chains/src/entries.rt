@@ -41,8 +41,7 @@ pub fn copy_chain(book: &[u8], h: usize, count: usize, buffer: &mut [u8])
 }
 
 // Makes the block of height `c` on the block of height `j`, with the first eight pending entries that the chain ending
-// in
-// height `j` lacks, at the front of `block`. Walks that chain once for each pending entry, 32 times at most.
+// in height `j` lacks, at the front of `block`. Walks that chain once for each pending entry, 32 times at most.
 pub fn offer(book: &[u8], c: usize, j: usize, digest: &[u8], block: &mut [u8])
     requires { ⌜ Walkable (now book) j ⌝ }
     requires { ⌜ decode (now book) .pendingCount ≤ maximumPending ⌝ }
@@ -108,8 +107,7 @@ pub fn is_pending(book: &[u8], entry: &[u8]) -> bool
 }
 
 // Makes the pending entries that the log does not hold, and `entry` after them, all that is pending. Closes the pool up
-// in
-// place and walks the log once for each pending entry, 32 times at most.
+// in place and walks the log once for each pending entry, 32 times at most.
 pub fn keep_unlogged(book: &mut [u8], entry: &[u8])
     requires { ⌜ Ready (now book) ⌝ }
     requires { ⌜ Walkable (now book) (decode (now book) .finalized) ⌝ }

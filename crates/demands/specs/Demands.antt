@@ -2,16 +2,13 @@
 --
 -- Demand 1 is the contracts: each function answers, and leaves in every byte lent to it, what its definition says.
 --
---   call            definition, in protocol                    function, in replica
---   Open            Open.openCall                              open::open
---   Deliver         Deliver.deliverCall sha256                 deliver::deliver
---   Move            Move.moveCall sha256                       make_move::make_move
---   Signal          Signal.signalCall sha256                   signal::signal
---   Submit          Submit.submitCall sha256                   submit::submit
---   Register size   Read.sizeCall sha256                       read::size
---   Read            Read.readPart sha256, the part returned    read::read
---                   Read.readBuffer sha256, every byte         read::read_into
---   Fetch           Fetch.fetchCall sha256                     fetch::fetch
+-- call            definition, in protocol                    function, in replica Open            Open.openCall
+--                      open::open Deliver         Deliver.deliverCall sha256                 deliver::deliver Move
+--       Move.moveCall sha256                       make_move::make_move Signal          Signal.signalCall sha256
+--            signal::signal Submit          Submit.submitCall sha256                   submit::submit Register size
+-- Read.sizeCall sha256                       read::size Read            Read.readPart sha256, the part returned
+-- read::read Read.readBuffer sha256, every byte         read::read_into Fetch           Fetch.fetchCall sha256
+--            fetch::fetch
 --
 -- What these definitions say follows, demand by demand. A premise `AreBytes book` says that each number of the book is
 -- below 256, as in a byte slice.
@@ -50,10 +47,11 @@ use Rattle.call_laws.specs.Laws.BookBytesLaws.{open-bytes, signal-bytes, submit
 use Rattle.call_laws.specs.Keeping.{Keeps, AllTallied}
 use Rattle.call_laws.specs.Laws.KeepingLaws.{deliver-keeps}
 use Rattle.call_laws.specs.Laws.KeepsExactLaws.{keeps-exact}
-use Rattle.call_laws.specs.SoundKept.{sound-kept, sound-opened}
-use Rattle.call_laws.specs.Tallying.{tallied-kept-all, tallied-opened}
+use Rattle.call_laws.specs.Laws.SoundKept.{sound-kept, sound-opened}
+use Rattle.call_laws.specs.Laws.Tallying.{tallied-kept-all, tallied-opened}
 use Rattle.call_laws.specs.Readable.{SameSetting}
-use Rattle.call_laws.specs.WrittenRead.{MoveWritten, move-written-read, FetchWritten, fetch-written-read}
+use Rattle.call_laws.specs.WrittenRead.{MoveWritten, FetchWritten}
+use Rattle.call_laws.specs.Laws.CallWrittenLaws.{move-written-read, fetch-written-read}
 use Rattle.paper.specs.Steps.{FiveSteps}
 use Rattle.paper.specs.Laws.StepsLaws.{five-steps}
 use Rattle.paper.specs.Idle.{IdlesJustThen, MovesEnd}

@@ -1,6 +1,5 @@
 // The kinds of books, and what the view of a book shows, read where it lies. What walks over heights asks these readers
-// alone, so
-// that a kind with other places is one more arm here.
+// alone, so that a kind with other places is one more arm here.
 ghost use mathlib.Core.Path.{_≡_};
 ghost use Prim.Native.Nat.{_<_};
 ghost use lib.ListN.{length};

@@ -1,7 +1,6 @@
 // Linked heights: a recursive walk over parent heights. A lent memory keeps what is known, so that in one call each
-// height is
-// looked at once, each run of dummy blocks is counted once, and each block is digested once, however many others name
-// it.
+// height is looked at once, each run of dummy blocks is counted once, and each block is digested once, however many
+// others name it.
 use crate::links::Parent;
 use fields::kind::Kind;
 ghost use mathlib.Core.Path.{_≡_};

@@ -1,8 +1,6 @@
 // What a call remembers of a book while it walks it, so that it looks at each height, counts each mask and computes
-// each digest once.
-// A memory has 36 bytes a height: whether it is linked, whether its digest is kept, where its run of dummies starts
-// (two bytes), and
-// the digest.
+// each digest once. A memory has 36 bytes a height: whether it is linked, whether its digest is kept, where its run of
+// dummies starts (two bytes), and the digest.
 use fields::kind::Kind;
 ghost use mathlib.Core.Path.{_≡_};
 ghost use Prim.Native.Nat.{_+_, _*_, _-_, _≤_};

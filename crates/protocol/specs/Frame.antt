@@ -70,8 +70,7 @@ unfoldable pub carriesDigest : ℕ → Bool
 carriesDigest k = isBlockVote k
 
 -- all that refusal 4 asks of a frame: its length, its kind, unused fields zero, its block; the high byte of the height
--- is
--- called zero, so heights are below 256
+-- is called zero, so heights are below 256
 unfoldable pub frameWellFormed : Bytes → Bool
 frameWellFormed frame = allOf
     (eqb (length frame) frameSize ∷

@@ -22,8 +22,7 @@ pub record Shaped (b : State) : Type 0 where
   pub pool-size : length (b .pool) ≡ 512
   pub heights : Every ShapedHeight (b .heights)
 
--- facts about a state
--- what stands at height `h`
+-- facts about a state what stands at height `h`
 pub record SoundHeight (v : View) (h : ℕ) (x : Height) : Type 0 where
   pub leader-below : x .leader < v .n
   pub status-small : x .status ≤ 3

@@ -1,11 +1,9 @@
 -- The definitions against an independent replica in Rust: its answers, books and buffers, call by call.
 --
 -- The rows are from the first and the third scenario that `cargo run --example vectors -- stand-in` prints
--- (host/reference,
--- written from document 01 alone; its stand-in digest is `standIn`). A row has the call, the numbers of its answer, the
--- parts of the
--- book that it changed, and the lent buffer afterwards; a check gives the number of the first row that differs, and 0
--- if none does.
+-- (host/reference, written from document 01 alone; its stand-in digest is `standIn`). A row has the call, the numbers
+-- of its answer, the parts of the book that it changed, and the lent buffer afterwards; a check gives the number of the
+-- first row that differs, and 0 if none does.
 use Prim.Native.Nat.{ℕ, zero, suc, _+_}
 use mathlib.Core.Path.{_≡_, refl}
 use mathlib.Core.List.{[], _∷_, _++_}

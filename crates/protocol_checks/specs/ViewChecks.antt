@@ -139,8 +139,7 @@ standsAt : List Height → Bytes → List ℕ
 standsAt heights block = passing (λ h. extends standIn (viewOf heights) h block) (counting 1 4)
 
 -- on a chain, and not where its first block is held alone; on height 0; on a block that is not linked, above one that
--- is;
--- on a linked block above heights that are not
+-- is; on a linked block above heights that are not
 standing : standsAt (notarizedBy7 first ∷ notarizedBy7 second ∷ []) third ∷
     standsAt (onlyHeld ∷ notarizedBy7 second ∷ []) third ∷
     standsAt (vacant 0 ∷ []) first ∷

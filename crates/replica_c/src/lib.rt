@@ -180,11 +180,10 @@ fn size_number(answer: Size) -> usize
     }
 }
 
-// Move: makes the first move that applies, and writes its frames to the front of the reply.
-// Returns in byte 1 the move's number, in bytes 2 and 3 its height, in bytes 4 and 5 the kinds of a pass's frames; 0
-// where it is
-// idle (`packedMove`).
-// Refusals: 1, 3 (`moveCall`). Test for a refusal first: the bytes above it are 0, and 0 is idle's number too.
+// Move: makes the first move that applies, and writes its frames to the front of the reply. Returns in byte 1 the
+// move's number, in bytes 2 and 3 its height, in bytes 4 and 5 the kinds of a pass's frames; 0 where it is idle
+// (`packedMove`). Refusals: 1, 3 (`moveCall`). Test for a refusal first: the bytes above it are 0, and 0 is idle's
+// number too.
 #[no_mangle]
 pub extern "C" fn mavunilai_move(book: &mut [u8], reply: &mut [u8]) -> usize
     ensures answer { λ r. ⌜ r ≡ packedMove (moveCall sha256 (now (book .entry)) (now (reply .entry)) .answer) ⌝ }

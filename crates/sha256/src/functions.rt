@@ -1,6 +1,5 @@
 // The six functions of FIPS 180-4, section 4.1.2, with fewer operations than the standard writes: rotations are nested,
-// since a rotation
-// of a XOR is the XOR of the rotations, and Ch and Maj share operands.
+// since a rotation of a XOR is the XOR of the rotations, and Ch and Maj share operands.
 ghost use mathlib.Core.Path.{_≡_};
 ghost use Prim.Native.Nat.{_<_};
 ghost use Rattle.sha256.specs.Words.{rotr};

@@ -185,8 +185,7 @@ fn rows_sound(book: &[u8]) -> bool
 }
 
 // Whether a book is sound, for a call that asks for no linked height afterwards. Reads it once, and computes one digest
-// for each
-// block of the finalized chain. The book's bytes are below 256, as those of any slice.
+// for each block of the finalized chain. The book's bytes are below 256, as those of any slice.
 pub fn is_sound(book: &[u8]) -> bool
     ensures answer { λ r. ⌜ r ≡ isSound sha (now (book .entry)) ⌝ }
     ensures bytes { λ _. ⌜ AreBytes (now (book .entry)) ⌝ }

@@ -1,6 +1,5 @@
 -- Two views that agree on notarized blocks, and of which none has a dummy block where the other is finalized, have
--- chains
--- of which one begins the other.
+-- chains of which one begins the other.
 use Prim.Native.Nat.{ℕ, zero, suc, _-_, _≤_, _<_}
 use native.Mathlib.Omega.{arith}
 use mathlib.Core.Path.{_≡_, refl, sym, ap, ap₂, _∙_}

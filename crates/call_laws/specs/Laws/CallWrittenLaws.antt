@@ -34,6 +34,7 @@ use Rattle.protocol.specs.Laws.MoveLaws.{step-cases}
 use Rattle.protocol.specs.Laws.FetchLaws.{Fetches, fetch-tested}
 use Rattle.call_laws.specs.Laws.WrittenReadLaws.{step-said, block-certificate, dummy-certificate}
 use Rattle.call_laws.specs.Laws.WrittenReadLaws.{finalize-certificate}
+use Rattle.call_laws.specs.WrittenRead.{MoveWritten, FetchWritten}
 
 pub same-setting : (s : State) → SameSetting s s
 same-setting s = record { same-n = refl; same-last = refl; same-leaders = λ h low high. refl }
@@ -191,3 +192,21 @@ module _ (digest : Bytes → Bytes) (book : Bytes) (k h : ℕ) (reply : Bytes) w
           one-wrote (certificateFrame (decode book) k h) reply
           (certificate-said (decode book) (same-setting (decode book)) (facts refl) .size) (facts refl .room)
       go (some number) facts = unfold unlessFetchRefused in nothing-wrote reply
+
+-- ---- what is written is read
+pub move-written-read : (digest : Bytes → Bytes) → DigestSized digest →
+    (book reply other : Bytes) → SameSetting (decode book) (decode other) → MoveWritten digest book reply other
+move-written-read digest sized book reply other same = record {
+  named = move-named digest book reply;
+  said = move-said digest book reply sized (decode other) same;
+  wrote = move-wrote digest book reply sized;
+}
+
+-- nothing is asked of the digest function
+pub fetch-written-read : (digest : Bytes → Bytes) (book : Bytes) (k h : ℕ) (reply other : Bytes) →
+    SameSetting (decode book) (decode other) → FetchWritten digest book k h reply other
+fetch-written-read digest book k h reply other same = record {
+  named = fetch-named digest book k h reply;
+  said = fetch-said digest book k h reply (decode other) same;
+  wrote = fetch-wrote digest book k h reply;
+}

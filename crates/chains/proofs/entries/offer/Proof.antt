@@ -144,12 +144,10 @@ loop-again c =
 
 add-entry-requires : tie.Need-add-entry-requires Inv-loop μ-loop
 add-entry-requires c κs =
-    let after-if1 = c .before .before .before in
-    let after-pending-entry = after-if1 .before in
-    let at = after-pending-entry .before .before in
+    let at = c .before .before .before .before .before .before in
     let size = same-size at in
-    let more : at .loop .taken < 8 = omega (arith, after-if1 .if1 .left) in
-    (omega arith, (more, entry-size at (omega arith) (after-pending-entry .pending-entry .ensures)))
+    let more : at .loop .taken < 8 = omega (arith, c .before .before .before .if1 .left) in
+    (omega arith, (more, entry-size at (omega arith) (c .before .before .before .before .pending-entry .ensures)))
 
 add-taken : tie.Need-add-taken Inv-loop μ-loop
 add-taken c = omega arith

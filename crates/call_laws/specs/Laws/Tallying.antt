@@ -1,6 +1,5 @@
 -- No quorum of votes is overlooked: on every book that calls make from an opened one, a height that holds a proposal
--- with a quorum
--- of kept votes for it has a notarized block.
+-- with a quorum of kept votes for it has a notarized block.
 use Prim.Native.Nat.{ℕ}
 use mathlib.Core.Path.{_≡_}
 use mathlib.Core.Bool.{true}
@@ -13,7 +12,7 @@ use Rattle.protocol.specs.Open.{openCall}
 use Rattle.protocol.specs.Call.{Call, opening, delivery, moving, signalling, submitting, sizing, reading, fetching}
 use Rattle.protocol.specs.Call.{effect, bookAfter, bookAfterAll}
 use Rattle.call_laws.specs.Keeping.{AllTallied}
-use Rattle.call_laws.specs.SoundKept.{sound-kept}
+use Rattle.call_laws.specs.Laws.SoundKept.{sound-kept}
 use Rattle.call_laws.specs.Laws.TallyingLaws.{open-tallied, open-keeps, deliver-keeps-tallies, move-keeps}
 use Rattle.call_laws.specs.Laws.TallyingLaws.{signal-keeps, submit-keeps}
 
