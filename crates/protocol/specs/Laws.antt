@@ -40,3 +40,4 @@ pub mod ExamplesLaws
 pub mod BuildLaws
 pub mod EditionLaws
 pub mod CallLaws
+pub mod SoundRowNames

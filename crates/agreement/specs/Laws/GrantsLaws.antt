@@ -13,6 +13,7 @@ use Rattle.protocol.specs.Sound.{sound, view}
 use Rattle.protocol.specs.State.{State, at, decode, isNotarized, bookHeights}
 use Rattle.protocol.specs.Laws.TestsLaws.{or-true}
 use Rattle.protocol.specs.View.{isFinalized, quorum}
+use Rattle.protocol.specs.Laws.SoundRowNames.{replicasRow, currentRow, pendingRow, certifiedRow, finalizedRow}
 
 pub record Grants (digest : Bytes → Bytes) (s : State) : Type 0 where
   pub few : s .n ≤ 16
@@ -29,17 +30,17 @@ module _ (digest : Bytes → Bytes) (book : Bytes) where
   pub grants : sound digest book ≡ true → Grants digest b
   unfolding sound
   grants e = record {
-    few = in-range 1 16 (b .n) (row _ 1 e) .1;
-    positive = in-range 1 (bookHeights book + 1) (b .current) (row _ 5 e) .0;
-    pends = leb-true (b .pendingCount) 32 (row _ 7 e);
+    few = in-range 1 16 (b .n) (row _ replicasRow e) .1;
+    positive = in-range 1 (bookHeights book + 1) (b .current) (row _ currentRow e) .0;
+    pends = leb-true (b .pendingCount) 32 (row _ pendingRow e);
     certificates = certified;
-    finalizes = settled (or-true (eqb (b .finalized) 0) _ (row _ 15 e));
+    finalizes = settled (or-true (eqb (b .finalized) 0) _ (row _ finalizedRow e));
   }
     where
       certified : (i : ℕ) → isNotarized (at b (suc i)) ≡ true → quorum (view b) (at b (suc i) .certificateMask) ≡ true
       certified i q =
           let inside : i < bookHeights book = rw (last-decode book) at (notarized-in b i q) in
-          implies-true _ _ (every-height-at _ (bookHeights book) (suc i) (row _ 12 e) (omega arith) inside) q
+          implies-true _ _ (every-height-at _ (bookHeights book) (suc i) (row _ certifiedRow e) (omega arith) inside) q
 
       settled : (eqb (b .finalized) 0 ≡ true) ⊎ (isFinalized digest (view b) (b .finalized) ≡ true) →
           (b .finalized ≡ 0) ⊎ (isFinalized digest (view b) (b .finalized) ≡ true)

@@ -45,7 +45,8 @@ returns c =
     let height = after-current .current in
     let link = after-linked .linked in (
       sym (pass-linked sha256 (decode (start .args .book .now)) (height .result) (height .ensures .0)
-          (sym (after-is-running .is-running .ensures) ∙ after-if1 .if1 .taken) (sym (link .ensures .0) ∙ c .if2 .taken)),
+          (sym (after-is-running .is-running .ensures) ∙ after-if1 .if1 .taken)
+          (sym (link .ensures .0) ∙ c .if2 .taken)),
       link .ensures .1,
     )
 

@@ -91,7 +91,8 @@ module _ (digest : Bytes → Bytes) (s : State) (is : SoundState digest s) (fram
 
     dummy-certificate-kept : OnSome Fits (keepDummyCertificate (s .n) x frame)
     unfolding keepDummyCertificate view
-    dummy-certificate-kept = cond-elim (OnSome Fits) (eqb (union (v .n) (x .dummyMask) (signerMask frame)) (x .dummyMask))
+    dummy-certificate-kept = cond-elim (OnSome Fits)
+        (eqb (union (v .n) (x .dummyMask) (signerMask frame)) (x .dummyMask))
         (λ _. tt) (λ _.
         masks-replace v h x shaped here (union (v .n) (x .dummyMask) (signerMask frame)) (x .finalizeMask)
         (union-lt (v .n) (x .dummyMask) (signerMask frame)) (here .finalize-below)
@@ -111,7 +112,8 @@ module _ (digest : Bytes → Bytes) (s : State) (is : SoundState digest s) (fram
         proposal-kept vote-kept dummy-kept finalize-kept block-certificate-kept
         (λ _. dummy-certificate-kept) (λ _. finalize-certificate-kept)
 
-    placed : (k : ℕ) → 1 ≤ k → k ≤ last s → (y : Height) → Replaces v k (at s k) y → SoundState digest (withHeight s k y)
+    placed : (k : ℕ) → 1 ≤ k → k ≤ last s → (y : Height) → Replaces v k (at s k) y →
+        SoundState digest (withHeight s k y)
     placed zero low high y fits = absurd (omega arith)
     placed (suc i) low high y fits = with-height-sound s i high y digest is fits
 

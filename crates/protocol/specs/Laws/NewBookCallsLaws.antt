@@ -66,7 +66,8 @@ module _ (n own flags dummy final leader : ℕ) (leaders : Bytes) (ranges : Rang
     early-not-notarized h = rw (early-bare n own flags dummy final leader leaders ranges flags-below dummy-below
         final-below h .nothing)
 
-    pub early-move : (reply : Bytes) → 448 ≤ length reply → moveCall digest (encode E) reply ≡ moved reply (step digest E)
+    pub early-move : (reply : Bytes) → 448 ≤ length reply →
+        moveCall digest (encode E) reply ≡ moved reply (step digest E)
     unfolding moveCall moveRows firstRefusal unlessMoveRefused
     early-move reply room =
         rw (
@@ -134,13 +135,15 @@ module _ (n own flags dummy final leader : ℕ) (leaders : Bytes) (ranges : Rang
 
     vote-rows : (s : ℕ) → s < n → firstRefusal (readRows E (dummyVote s 1) ++ clashRows E (dummyVote s 1)) ≡ none
     unfolding readRows clashRows firstRefusal frameWellFormed allOf dummyVote frameOf kind signer frameHeight signerMask
-        frameDigest frameBlock isStatement isCertificate carriesBlock carriesDigest implies le16 zeros word16 part isZero
+        frameDigest frameBlock isStatement isCertificate carriesBlock carriesDigest implies le16 zeros word16
+        part isZero
         all inRange last
     vote-rows s h = rw (le-leb 1 (suc (length (map newHeight leaders))) (omega arith), lt-ltb s n h)
 
     keep-vote : (s : ℕ) → inMask dummy s ≡ false → keep digest E (dummyVote s 1) ≡ some
         (firstHeight leader (dummy + 2 ^ s) final)
-    unfolding keep keepDummyVote at firstHeight newHeight withMasks dummyVote frameOf kind signer frameHeight word16 le16
+    unfolding keep keepDummyVote at firstHeight newHeight withMasks dummyVote frameOf kind signer frameHeight word16
+        le16
     keep-vote s e = rw e
 
     kept-first : (frame : Bytes) (m q : ℕ) → frameHeight frame ≡ 1 →
@@ -171,12 +174,17 @@ module _ (n own flags dummy final leader : ℕ) (leaders : Bytes) (ranges : Rang
     unfolding readRows clashRows firstRefusal frameWellFormed allOf finalizeCertificate frameOf kind signer frameHeight
         signerMask frameDigest frameBlock isStatement isCertificate carriesBlock carriesDigest implies le16 zeros word16
         part isZero all inRange last
-    certificate-rows mask below enough = rw (le-leb 1 (suc (length (map newHeight leaders))) (omega arith), below, enough)
+    certificate-rows mask below enough = rw (
+      le-leb 1 (suc (length (map newHeight leaders))) (omega arith),
+      below,
+      enough,
+    )
 
     keep-certificate : (mask : ℕ) → eqb (union n final (word16 (le16 mask) 0)) final ≡ false →
         keep digest E (finalizeCertificate 1 mask) ≡ some
         (firstHeight leader dummy (union n final (word16 (le16 mask) 0)))
-    unfolding keep keepFinalizeCertificate at firstHeight newHeight withMasks finalizeCertificate frameOf kind signerMask
+    unfolding keep keepFinalizeCertificate at firstHeight newHeight withMasks finalizeCertificate frameOf kind
+        signerMask
         frameHeight word16 le16
     keep-certificate mask e = rw e
 

@@ -25,6 +25,9 @@ use Rattle.protocol.specs.Laws.StateLaws.{decode-encode}
 use Rattle.protocol.specs.Laws.BytesLaws.{zero-part}
 use Rattle.protocol.specs.Laws.CodecLaws.{Exact, Clean, last-decode, decode-shaped, clean-back, notarized-in}
 use Rattle.protocol.specs.Laws.PlaceLaws.{clean-encode}
+use Rattle.protocol.specs.Laws.SoundRowNames.{lengthRow, replicasRow, ownRow, heightsRow, editionRow, currentRow}
+use Rattle.protocol.specs.Laws.SoundRowNames.{flagsRow, pendingRow, leadersRow, masksRow, statusRow, blocksRow}
+use Rattle.protocol.specs.Laws.SoundRowNames.{certifiedRow, headZerosRow, contentZerosRow, finalizedRow}
 
 -- ---- heights past the last are not linked
 module _ (digest : Bytes → Bytes) (s : State) where
@@ -101,44 +104,44 @@ module _ (digest : Bytes → Bytes) where
 
     pub exact : Exact book
     unfolding sound bookSize
-    exact = eqb-true _ _ (row _ 0 e)
+    exact = eqb-true _ _ (row _ lengthRow e)
 
     heights-range : (1 ≤ H) × (H ≤ maximumHeights)
     unfolding sound
-    heights-range = in-range _ _ _ (row _ 3 e)
+    heights-range = in-range _ _ _ (row _ heightsRow e)
 
     edition-row : S .edition ≡ 1
     unfolding sound
-    edition-row = eqb-true _ _ (row _ 4 e)
+    edition-row = eqb-true _ _ (row _ editionRow e)
 
     current-range : (1 ≤ S .current) × (S .current ≤ H + 1)
     unfolding sound
-    current-range = in-range _ _ _ (row _ 5 e)
+    current-range = in-range _ _ _ (row _ currentRow e)
 
     n-range : (1 ≤ S .n) × (S .n ≤ maximumReplicas)
     unfolding sound
-    n-range = in-range _ _ _ (row _ 1 e)
+    n-range = in-range _ _ _ (row _ replicasRow e)
 
     height-row : (h : ℕ) → 1 ≤ h → h ≤ H → SoundHeight (view S) h (at S h)
     unfolding sound view
     height-row h low high = height-facts (view S) h (at S h)
-        (every-height-at _ H h (row _ 8 e) low high)
-        (every-height-at _ H h (row _ 9 e) low high)
-        (every-height-at _ H h (row _ 10 e) low high)
-        (every-height-at _ H h (row _ 11 e) low high)
-        (every-height-at _ H h (row _ 12 e) low high)
+        (every-height-at _ H h (row _ leadersRow e) low high)
+        (every-height-at _ H h (row _ masksRow e) low high)
+        (every-height-at _ H h (row _ statusRow e) low high)
+        (every-height-at _ H h (row _ blocksRow e) low high)
+        (every-height-at _ H h (row _ certifiedRow e) low high)
 
     head-zero-row : isZero (part book 8 56) ≡ true
     unfolding sound
-    head-zero-row = row _ 13 e
+    head-zero-row = row _ headZerosRow e
 
     content-zero-row : (h : ℕ) → 1 ≤ h → h ≤ H → isZero (contentZeros book h) ≡ true
     unfolding sound
-    content-zero-row h low high = every-height-at _ H h (row _ 14 e) low high
+    content-zero-row h low high = every-height-at _ H h (row _ contentZerosRow e) low high
 
     final-row : (S .finalized ≡ 0) ⊎ (isFinalized digest (view S) (S .finalized) ≡ true)
     unfolding sound
-    final-row = zero-or (or-true _ _ (row _ 15 e))
+    final-row = zero-or (or-true _ _ (row _ finalizedRow e))
       where
         zero-or : {A : Type 0} → (eqb (S .finalized) 0 ≡ true) ⊎ A → (S .finalized ≡ 0) ⊎ A
         zero-or (inl z) = inl (eqb-true _ _ z)
@@ -153,13 +156,13 @@ module _ (digest : Bytes → Bytes) where
           first-edition = edition-row;
           n-low = n-range .0;
           n-high = n-range .1;
-          own-below = ltb-true _ _ (row _ 2 e);
+          own-below = ltb-true _ _ (row _ ownRow e);
           last-low = rw count (heights-range .0);
           last-high = rw count (heights-range .1);
           current-low = current-range .0;
           current-high = rw count (current-range .1);
-          flags-small = ltb-true _ _ (row _ 6 e);
-          pending-few = leb-true _ _ (row _ 7 e);
+          flags-small = ltb-true _ _ (row _ flagsRow e);
+          pending-few = leb-true _ _ (row _ pendingRow e);
           each = λ h low high. height-row h low (rw count at high);
           final = final-row;
         }

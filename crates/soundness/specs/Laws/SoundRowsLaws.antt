@@ -18,6 +18,9 @@ use Rattle.fields.specs.Laws.BookLaws.{readable as make-readable}
 use Rattle.fields.specs.Book.{Readable}
 use Rattle.linking.specs.Memo.{Memo, memorySize}
 use Rattle.soundness.specs.SoundRows.{numberRows, headRows, heightRows, finalRow}
+use Rattle.protocol.specs.Laws.SoundRowNames.{lengthRow, replicasRow, ownRow, heightsRow, editionRow, currentRow}
+use Rattle.protocol.specs.Laws.SoundRowNames.{flagsRow, pendingRow, leadersRow, masksRow, statusRow, blocksRow}
+use Rattle.protocol.specs.Laws.SoundRowNames.{certifiedRow, headZerosRow, contentZerosRow, finalizedRow}
 
 module _ (digest : Bytes → Bytes) (book : Bytes) where
   -- the rows of every height
@@ -29,20 +32,24 @@ module _ (digest : Bytes → Bytes) (book : Bytes) where
     unfolding sound headRows numberRows
     head-passes =
         let numbers = all-of
-        (one (row _ 1 e) (one (row _ 2 e) (one (row _ 3 e)
-        (one (row _ 4 e) (one (row _ 5 e) (one (row _ 6 e) (one (row _ 7 e) none))))))) in
-        all-of (one (row _ 0 e) (one numbers (one (row _ 13 e) none)))
+        (one (row _ replicasRow e) (one (row _ ownRow e) (one (row _ heightsRow e)
+        (one (row _ editionRow e) (one (row _ currentRow e)
+        (one (row _ flagsRow e) (one (row _ pendingRow e) none))))))) in
+        all-of (one (row _ lengthRow e) (one numbers (one (row _ headZerosRow e) none)))
 
     height-passes : (h : ℕ) → 1 ≤ h → h ≤ bookHeights book → allOf (heightRows book h) ≡ true
     unfolding sound heightRows
     height-passes h low high = all-of
-        (one (every-height-at _ _ h (row _ 8 e) low high) (one (every-height-at _ _ h (row _ 9 e) low high)
-        (one (every-height-at _ _ h (row _ 10 e) low high) (one (every-height-at _ _ h (row _ 11 e) low high)
-        (one (every-height-at _ _ h (row _ 12 e) low high) (one (every-height-at _ _ h (row _ 14 e) low high) none))))))
+        (one (every-height-at _ _ h (row _ leadersRow e) low high)
+        (one (every-height-at _ _ h (row _ masksRow e) low high)
+        (one (every-height-at _ _ h (row _ statusRow e) low high)
+        (one (every-height-at _ _ h (row _ blocksRow e) low high)
+        (one (every-height-at _ _ h (row _ certifiedRow e) low high)
+        (one (every-height-at _ _ h (row _ contentZerosRow e) low high) none))))))
 
     final-passes : finalRow digest book ≡ true
     unfolding sound finalRow
-    final-passes = row _ 15 e
+    final-passes = row _ finalizedRow e
 
   module _ (head : allOf (headRows book) ≡ true) (heights : every ≡ true) (final : finalRow digest book ≡ true) where
     number : (i : ℕ) → getD (numberRows book) i true ≡ true

@@ -1,4 +1,5 @@
--- `voters_for` meets its contract: after `s` turns the mask is that of the replicas below `s`, and the bit is that of
+-- `voters_for` meets its contract: after `s` turns the mask is that of the replicas below `s`, and the bit is
+-- that of
 -- `s`.
 use Prim.Native.Nat.{_^_, _≤_, _<_, _-_}
 use native.Mathlib.Omega.{arith}
@@ -85,7 +86,8 @@ returns c =
     let args = at .before .before .before .before .before .args in
     let small = power-small (at .loop .s) (omega arith) in (
       tallied (heightAt (decode (args .book .now)) (args .h)) (args .digest .now) (at .before .voter-mask .result)
-          (at .loop .mask) (at .loop .s) (decode (args .book .now) .n) (at .before .voter-mask .ensures .0) (omega arith)
+          (at .loop .mask) (at .loop .s) (decode (args .book .now) .n) (at .before .voter-mask .ensures .0)
+          (omega arith)
           (at .loop .inv .2),
       omega arith,
     )

@@ -1,4 +1,5 @@
--- `extends`, `linked` and `links_back` call each other and meet their contracts: the height falls on the way round.
+-- `extends`, `linked` and `links_back` call each other and meet their contracts: the height falls on the way
+-- round.
 use Prim.Native.Nat.{ℕ, _+_, _*_, _<_}
 use borrow.Author.Needs.{needs}
 use native.Mathlib.Omega.{arith}
@@ -159,7 +160,8 @@ extends-returns t c =
     let named = c .before .before .names-parent in (
       named .ensures .0 ∙ sym (extends-by-digest v (z .args .h) j (z .args .block .now)
           (sym (read .parent-height .ensures .0)) (lt-ltb j (z .args .h) (tested .if1 .taken))
-          (sym (c .before .before .before .before .before .before .before .before .before .before .before .before .linked
+          (sym (c .before .before .before .before .before .before .before .before .before .before .before
+          .before .linked
           .ensures .0) ∙ c .before .before .before .before .before .before .before .before .before .if2 .taken)
           (sym (c .before .before .before .before .before .before .before .dummies-after .ensures .0)
           ∙ c .before .before .before .before .if3 .taken)),

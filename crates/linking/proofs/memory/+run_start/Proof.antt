@@ -1,4 +1,5 @@
--- `run_start` meets its contract: a height that is no dummy starts a run itself, and any other goes on with the run
+-- `run_start` meets its contract: a height that is no dummy starts a run itself, and any other goes on with the
+-- run
 -- below. The measure is the height.
 use native.Mathlib.Omega.{arith}
 use borrow.Author.Needs.{needs}
@@ -222,7 +223,8 @@ run-start-put-word-requires : (t : ℕ) → run-start-lts.Need-put-word-requires
 ) (run-start-at t) run-start.Post
 run-start-put-word-requires t c κs =
     let below = c .before .before .before .run-start in
-    let z = c .before .before .before .before .before .before .before .before .before .before .before .before .before in (
+    let z = c .before .before .before .before .before .before .before .before .before .before .before .before
+    .before in (
       omega (arith, below .ensures .1 .1 .room, z .pre .1 .1 .1, z .pre .1 .0 .heights),
       omega (arith, below .ensures .1 .0, z .pre .1 .1 .1, z .pre .1 .0 .heights),
     )
