@@ -35,7 +35,7 @@ anything = replicate 3 (replicate 2336 9)
 
 -- ---- what the lists have in common
 unfoldable pub entry : Bytes
-entry = replicate 16 7
+entry = replicate 16 3
 
 -- replica 3 leads height 1, replica 0 height 2
 abbrev pub leaders : Bytes

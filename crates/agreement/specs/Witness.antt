@@ -23,10 +23,10 @@ sample block = byteAt block 0 ∷ part block 48 31
 -- ---- the list
 -- the two blocks that replica 3 proposes at height 1
 unfoldable pub oneBlock : Bytes
-oneBlock = newBlock 1 0 (zeros 32) (replicate 16 10 ∷ [])
+oneBlock = newBlock 1 0 (zeros 32) (replicate 16 1 ∷ [])
 
 unfoldable pub otherBlock : Bytes
-otherBlock = newBlock 1 0 (zeros 32) (replicate 16 11 ∷ [])
+otherBlock = newBlock 1 0 (zeros 32) (replicate 16 2 ∷ [])
 
 -- height 1: replica 3 proposes two blocks and votes for both
 unfoldable pub split : List Turn

@@ -78,9 +78,9 @@ signalled-on-a-log = refl
 -- 13 for an entry that is pending, first or last, or in the log, first or last; 4 for other lengths, before 13; stale
 -- places are not pending
 submissions : map (λ e. answer (settled 2 (entriesFrom 5 4)) (submitting e))
-    (entry 5 ∷ entry 6 ∷ entry 7 ∷ entry 1 ∷ entry 2 ∷ entry 3 ∷ zeros 16 ∷ [] ∷ replicate 15 5 ∷ replicate 17 5 ∷
-    replicate 32 5 ∷
-    (replicate 15 5 ++ (6 ∷ [])) ∷ (6 ∷ replicate 15 5) ∷ []) ≡
+    (entry 5 ∷ entry 6 ∷ entry 7 ∷ entry 1 ∷ entry 2 ∷ entry 3 ∷ zeros 16 ∷ [] ∷ take 15 (entry 5) ∷
+    (entry 5 ++ (5 ∷ [])) ∷ (entry 5 ++ entry 5) ∷
+    (take 15 (entry 5) ++ (6 ∷ [])) ∷ (2 ∷ replicate 15 5) ∷ []) ≡
     (13 ∷ []) ∷ (13 ∷ []) ∷ (0 ∷ []) ∷ (13 ∷ []) ∷ (13 ∷ []) ∷ (0 ∷ []) ∷ (0 ∷ []) ∷ (4 ∷ []) ∷ (4 ∷ []) ∷ (4 ∷
     []) ∷ (4 ∷ []) ∷
     (0 ∷ []) ∷ (0 ∷ []) ∷ []
@@ -89,15 +89,15 @@ submissions = refl
 
 -- 12: there is room for a 32nd entry and not for a 33rd, and 13 comes before it; those in the log are dropped before
 -- they are counted
-room : answer (waiting 30) (submitting (entry 99)) ∷ answer (waiting 31) (submitting (entry 99)) ∷
-    answer (waiting 32) (submitting (entry 99)) ∷
+room : answer (waiting 30) (submitting (entry 100)) ∷ answer (waiting 31) (submitting (entry 100)) ∷
+    answer (waiting 32) (submitting (entry 100)) ∷
     answer (waiting 32) (submitting (entry 32)) ∷
-    answer (settled 32 (entriesFrom 1 32)) (submitting (entry 99)) ∷
-    answer (settled 32 (entriesFrom 2 32)) (submitting (entry 99)) ∷
-    answer (settled 32 (entriesFrom 3 32)) (submitting (entry 99)) ∷
+    answer (settled 32 (entriesFrom 1 32)) (submitting (entry 98)) ∷
+    answer (settled 32 (entriesFrom 2 32)) (submitting (entry 98)) ∷
+    answer (settled 32 (entriesFrom 3 32)) (submitting (entry 98)) ∷
     -- 32 pending entries that are alike
-    answer (settled 32 (replicate 512 7)) (submitting (entry 99)) ∷
-    answer (settled 32 (replicate 512 1)) (submitting (entry 99)) ∷ [] ≡
+    answer (settled 32 (replicate 512 3)) (submitting (entry 98)) ∷
+    answer (settled 32 (replicate 512 1)) (submitting (entry 98)) ∷ [] ≡
     (0 ∷ []) ∷ (0 ∷ []) ∷ (12 ∷ []) ∷
     (13 ∷ []) ∷
     (0 ∷ []) ∷ (0 ∷ []) ∷
@@ -118,7 +118,7 @@ unfolding calls
 submitted = refl
 
 -- the 32nd entry at the last place
-last-place : disagreement 1 (waiting 31) (expect (submitting (entry 99)) (0 ∷ []) ((6, 32 ∷ []) ∷ (560, entry 99) ∷
+last-place : disagreement 1 (waiting 31) (expect (submitting (entry 100)) (0 ∷ []) ((6, 32 ∷ []) ∷ (560, entry 100) ∷
     []) [] ∷ []) ≡ 0
 unfolding calls
 last-place = refl
@@ -133,7 +133,7 @@ readings : disagreement 1 (settled 0 [])
 unfolding calls
 readings = refl
 
-unreadable : disagreement 1 (splice 7 (2 ∷ []) (settled 0 []))
+unreadable : disagreement 1 (splice 7 (255 ∷ []) (settled 0 []))
     (expect sizing (1 ∷ []) [] [] ∷ expect (reading (replicate 64 9)) [] [] (replicate 64 9) ∷ []) ≡ 0
 unfolding calls
 unreadable = refl
@@ -203,11 +203,11 @@ replies = refl
 
 -- ---- every call refuses a book that is not sound, before all else, and leaves it and what it was lent
 unsound : allOf
-    (refuses 1 (splice 7 (2 ∷ []) (quiet 0 1)) (delivery []) ∷
-    refuses 1 (splice 7 (2 ∷ []) (quiet 0 1)) (moving []) ∷
-    refuses 1 (splice 7 (2 ∷ []) (quiet 0 1)) (signalling 0) ∷
-    refuses 1 (splice 7 (2 ∷ []) (quiet 0 1)) (submitting []) ∷
-    refuses 1 (splice 7 (2 ∷ []) (quiet 0 1)) sizing ∷
-    refuses 1 (splice 7 (2 ∷ []) (quiet 0 1)) (fetching 0 0 []) ∷ []) ≡ true
+    (refuses 1 (splice 7 (255 ∷ []) (quiet 0 1)) (delivery []) ∷
+    refuses 1 (splice 7 (255 ∷ []) (quiet 0 1)) (moving []) ∷
+    refuses 1 (splice 7 (255 ∷ []) (quiet 0 1)) (signalling 0) ∷
+    refuses 1 (splice 7 (255 ∷ []) (quiet 0 1)) (submitting []) ∷
+    refuses 1 (splice 7 (255 ∷ []) (quiet 0 1)) sizing ∷
+    refuses 1 (splice 7 (255 ∷ []) (quiet 0 1)) (fetching 0 0 []) ∷ []) ≡ true
 unfolding calls
 unsound = refl

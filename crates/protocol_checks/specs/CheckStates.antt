@@ -1,5 +1,5 @@
 -- States, heights and changed bytes as data: what the checks of single rules compute on.
-use Prim.Native.Nat.{ℕ, zero, suc}
+use Prim.Native.Nat.{ℕ, zero, suc, _%_}
 use mathlib.Core.Bool.{Bool, cond}
 use mathlib.Core.List.{List, [], _∷_, _++_}
 use lib.ListN.{length, replicate}
@@ -10,16 +10,16 @@ use Rattle.protocol.specs.Sound.{view}
 use Rattle.protocol_checks.specs.CheckCalls.{splice, tools}
 
 -- ---- bytes
--- an entry of one repeated byte
+-- the entry of a number: 15 such bytes behind one of 0 to 3, which goes round
 unfoldable pub entry : ℕ → Bytes
-entry x = replicate 16 x
+entry x = x % 4 ∷ replicate 15 x
 
 -- so many numbers from a first one on
 unfoldable pub counting : ℕ → ℕ → List ℕ
 counting from zero = []
 counting from (suc count) = from ∷ counting (suc from) count
 
--- the entries of a first repeated byte and of the next ones, one after the other
+-- the entries of a first number and of the next ones, one after the other
 unfoldable pub entriesFrom : ℕ → ℕ → Bytes
 entriesFrom from zero = []
 entriesFrom from (suc count) = entry from ++ entriesFrom (suc from) count

@@ -1,5 +1,5 @@
 -- The definitions on document 01's own numbers: its refusals, damaged books, the rehearsal, and heights that finalize.
-use Prim.Native.Nat.{ℕ, zero, suc}
+use Prim.Native.Nat.{ℕ}
 use mathlib.Core.Path.{_≡_, refl}
 use mathlib.Core.Bool.{Bool, true, _&&_, not}
 use mathlib.Core.List.{List, [], _∷_, _++_}
@@ -11,13 +11,10 @@ use Rattle.protocol.specs.Frame.{frameOf, proposal, blockVote, dummyVote, final
 use Rattle.protocol.specs.Frame.{finalizeCertificate}
 use Rattle.protocol.specs.Sound.{sound}
 use Rattle.protocol.specs.Call.{opening, delivery, moving, signalling, submitting, sizing, fetching}
-use Rattle.protocol_checks.specs.CheckCalls.{standIn, after, answers, refuses, splice, tools}
+use Rattle.protocol_checks.specs.CheckCalls.{standIn, after, answers, refuses, splice}
+use Rattle.protocol_checks.specs.CheckStates.{entry, entriesFrom, stateTools}
 
 -- ---- books, blocks and calls of the checks
--- an entry of one repeated byte
-entry : ℕ → Bytes
-entry x = replicate 16 x
-
 -- replica 2 of 4, one height, leader 0
 single : Bytes
 single = after (zeros 1456) (opening 4 2 1 (0 ∷ []) ∷ [])
@@ -37,6 +34,13 @@ one = newBlock 1 0 (zeros 32) (entry 1 ∷ [])
 other : Bytes
 other = newBlock 1 0 (zeros 32) (entry 2 ∷ [])
 
+-- two blocks of height 2, which is not the current one of a new book
+ahead : Bytes
+ahead = newBlock 2 0 (zeros 32) (entry 1 ∷ [])
+
+aheadOther : Bytes
+aheadOther = newBlock 2 0 (zeros 32) (entry 2 ∷ [])
+
 -- a book that holds and has notarized `one`, and has it finalized
 settled : Bytes
 settled =
@@ -44,21 +48,16 @@ settled =
     (delivery (proposal 0 1 one) ∷ delivery (blockCertificate 1 7 one) ∷ delivery (finalizeCertificate 1 7) ∷
     moving (zeros 448) ∷ [])
 
--- the entries from 1 on, one after the other
-entriesTo : ℕ → Bytes
-entriesTo zero = []
-entriesTo (suc count) = entriesTo count ++ entry (suc count)
-
 -- a book with 32 pending entries
 full : Bytes
-full = splice 64 (entriesTo 32) (splice 6 (32 ∷ []) single)
+full = splice 64 (entriesFrom 1 32) (splice 6 (32 ∷ []) single)
 
 -- a book of one height with one byte cut off
 short : Bytes
 short = take 1455 single
 
 unfoldable books : Unit {0}
-unfolding tools entry single sixteen triple one other settled entriesTo full short
+unfolding stateTools single sixteen triple one other ahead aheadOther settled full short
 books = tt
 
 -- ---- document 01's table of refusals, row by row, by the example that stands there
@@ -84,9 +83,9 @@ refusals : allOf
     refuses 6 single (delivery (dummyVote 0 2)) ∷
     -- 7: leader 0, signer 1
     refuses 7 single (delivery (proposal 1 1 one)) ∷
-    -- 8: a second digest; a second proposal
+    -- 8: a second digest; a second proposal, at another height than the current one
     refuses 8 (after single (delivery (blockVote 1 1 (standIn one)) ∷ [])) (delivery (blockVote 1 1 (standIn other))) ∷
-    refuses 8 (after single (delivery (proposal 0 1 one) ∷ [])) (delivery (proposal 0 1 other)) ∷
+    refuses 8 (after triple (delivery (proposal 1 2 ahead) ∷ [])) (delivery (proposal 1 2 aheadOther)) ∷
     -- 9: 4 replicas, mask 3
     refuses 9 single (delivery (dummyCertificate 1 3)) ∷
     refuses 9 single (delivery (blockCertificate 1 3 one)) ∷
@@ -110,23 +109,29 @@ refusals : allOf
 unfolding books
 refusals = refl
 
+-- a second proposal at the current height is refused by 8 too
+second-proposal-at-current : refuses 8 (after single (delivery (proposal 0 1 one) ∷ []))
+    (delivery (proposal 0 1 other)) ≡ true
+unfolding books
+second-proposal-at-current = refl
+
 -- ---- document 01's frames: each field that a kind does not use is zero, and a block is as it must be
 -- a frame is refused by 4 with any of these places set to 1
 spoiled : Bytes → List ℕ → Bool
 spoiled frame [] = true
 spoiled frame (place ∷ places) = refuses 4 single (delivery (splice place (1 ∷ []) frame)) && spoiled frame places
 
--- the places of bytes 3 and 6 to 15 (of all kinds), of the mask, of the digest and of the block: first and last of each
+-- the places of bytes 6 to 15 (of all kinds), of the mask, of the digest and of the block: first and last of each
 malformed : allOf
-    (spoiled (blockVote 1 1 (standIn one)) (3 ∷ 6 ∷ 15 ∷ 4 ∷ 5 ∷ 48 ∷ 223 ∷ []) ∷
-    spoiled (dummyVote 1 1) (3 ∷ 6 ∷ 15 ∷ 4 ∷ 5 ∷ 16 ∷ 47 ∷ 48 ∷ 223 ∷ []) ∷
-    spoiled (finalize 1 1) (3 ∷ 6 ∷ 15 ∷ 4 ∷ 5 ∷ 16 ∷ 47 ∷ 48 ∷ 223 ∷ []) ∷
-    spoiled (dummyCertificate 1 7) (1 ∷ 3 ∷ 6 ∷ 15 ∷ 16 ∷ 47 ∷ 48 ∷ 223 ∷ []) ∷
-    spoiled (finalizeCertificate 1 7) (1 ∷ 3 ∷ 6 ∷ 15 ∷ 16 ∷ 47 ∷ 48 ∷ 223 ∷ []) ∷
+    (spoiled (blockVote 1 1 (standIn one)) (6 ∷ 15 ∷ 4 ∷ 5 ∷ 48 ∷ 223 ∷ []) ∷
+    spoiled (dummyVote 1 1) (6 ∷ 15 ∷ 4 ∷ 5 ∷ 16 ∷ 47 ∷ 48 ∷ 223 ∷ []) ∷
+    spoiled (finalize 1 1) (6 ∷ 15 ∷ 4 ∷ 5 ∷ 16 ∷ 47 ∷ 48 ∷ 223 ∷ []) ∷
+    spoiled (dummyCertificate 1 7) (1 ∷ 6 ∷ 15 ∷ 16 ∷ 47 ∷ 48 ∷ 223 ∷ []) ∷
+    spoiled (finalizeCertificate 1 7) (1 ∷ 6 ∷ 15 ∷ 16 ∷ 47 ∷ 48 ∷ 223 ∷ []) ∷
     -- of a block also its own zero bytes, a parent that is not below it, a parent digest without a parent, bytes past
     -- the entry
-    spoiled (proposal 0 1 one) (3 ∷ 6 ∷ 15 ∷ 4 ∷ 5 ∷ 16 ∷ 47 ∷ 49 ∷ 50 ∷ 51 ∷ 53 ∷ 63 ∷ 64 ∷ 95 ∷ 112 ∷ 223 ∷ []) ∷
-    spoiled (blockCertificate 1 7 one) (1 ∷ 3 ∷ 6 ∷ 15 ∷ 16 ∷ 47 ∷ 49 ∷ 50 ∷ 51 ∷ 53 ∷ 63 ∷ 64 ∷ 95 ∷ 112 ∷ 223 ∷ []) ∷
+    spoiled (proposal 0 1 one) (6 ∷ 15 ∷ 4 ∷ 5 ∷ 16 ∷ 47 ∷ 50 ∷ 53 ∷ 63 ∷ 64 ∷ 95 ∷ 112 ∷ 223 ∷ []) ∷
+    spoiled (blockCertificate 1 7 one) (1 ∷ 6 ∷ 15 ∷ 16 ∷ 47 ∷ 50 ∷ 53 ∷ 63 ∷ 64 ∷ 95 ∷ 112 ∷ 223 ∷ []) ∷
     -- another height than the frame's, nine entries, a frame of 223 and of 225 bytes
     refuses 4 single (delivery (splice 48 (2 ∷ []) (proposal 0 1 one))) ∷
     refuses 4 single (delivery (splice 52 (9 ∷ []) (proposal 0 1 one))) ∷
@@ -134,6 +139,20 @@ malformed : allOf
     refuses 4 single (delivery (dummyVote 1 1 ++ (0 ∷ []))) ∷ []) ≡ true
 unfolding books spoiled
 malformed = refl
+
+-- the bytes after heights are zero: byte 3 of each kind of frame, bytes 1 and 3 of a block, in frames and in a book
+bytes-after-heights : allOf
+    (spoiled (blockVote 1 1 (standIn one)) (3 ∷ []) ∷
+    spoiled (dummyVote 1 1) (3 ∷ []) ∷
+    spoiled (finalize 1 1) (3 ∷ []) ∷
+    spoiled (dummyCertificate 1 7) (3 ∷ []) ∷
+    spoiled (finalizeCertificate 1 7) (3 ∷ []) ∷
+    spoiled (proposal 0 1 one) (3 ∷ 49 ∷ 51 ∷ []) ∷
+    spoiled (blockCertificate 1 7 one) (3 ∷ 49 ∷ 51 ∷ []) ∷
+    not (sound standIn (splice 593 (1 ∷ []) settled)) ∷
+    not (sound standIn (splice 769 (1 ∷ []) settled)) ∷ []) ≡ true
+unfolding books spoiled
+bytes-after-heights = refl
 
 -- the frames as they were are all fresh
 formed : answers single
@@ -196,11 +215,11 @@ orders = refl
 damages : allOf
     (not (sound standIn (take 1455 settled)) ∷
     not (sound standIn (settled ++ (0 ∷ []))) ∷
-    -- 17 replicas; own number 4 of 4; no height; edition 2
+    -- 17 replicas; own number 4 of 4; no height; edition 255
     not (sound standIn (splice 0 (17 ∷ []) single)) ∷
     not (sound standIn (splice 1 (4 ∷ []) single)) ∷
     not (sound standIn (splice 2 (0 ∷ []) (take 576 single))) ∷
-    not (sound standIn (splice 7 (2 ∷ []) settled)) ∷
+    not (sound standIn (splice 7 (255 ∷ []) settled)) ∷
     -- current height 0 and H + 2; flags 16; 33 pending
     not (sound standIn (splice 4 (0 ∷ []) settled)) ∷
     not (sound standIn (splice 4 (3 ∷ []) settled)) ∷
@@ -215,13 +234,13 @@ damages : allOf
     -- state 4
     not (sound standIn (splice 577 (4 ∷ []) settled)) ∷
     -- a held proposal and a notarized block with a byte that must be zero; with another height
-    not (sound standIn (splice 593 (1 ∷ []) settled)) ∷
-    not (sound standIn (splice 769 (1 ∷ []) settled)) ∷
+    not (sound standIn (splice 598 (1 ∷ []) settled)) ∷
+    not (sound standIn (splice 774 (1 ∷ []) settled)) ∷
     not (sound standIn (splice 592 (2 ∷ []) settled)) ∷
     -- a notarized block's certificate mask that is no quorum
     not (sound standIn (splice 578 (3 ∷ []) settled)) ∷
-    -- the head's first and last zero byte; the first and last of a height's six
-    not (sound standIn (splice 8 (1 ∷ []) settled)) ∷
+    -- two of the head's zero bytes, its last among them; the first and last of a height's six
+    not (sound standIn (splice 46 (1 ∷ []) settled)) ∷
     not (sound standIn (splice 63 (1 ∷ []) settled)) ∷
     not (sound standIn (splice 586 (1 ∷ []) settled)) ∷
     not (sound standIn (splice 591 (1 ∷ []) settled)) ∷
@@ -231,6 +250,12 @@ damages : allOf
     not (sound standIn (splice 5 (2 ∷ []) settled)) ∷ []) ≡ true
 unfolding books
 damages = refl
+
+-- edition 2, and the head's first zero byte
+later-editions : allOf
+    (not (sound standIn (splice 7 (2 ∷ []) settled)) ∷ not (sound standIn (splice 8 (1 ∷ []) settled)) ∷ []) ≡ true
+unfolding books
+later-editions = refl
 
 -- ---- what document 01 leaves free is sound
 free : allOf

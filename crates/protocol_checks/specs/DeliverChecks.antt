@@ -28,13 +28,13 @@ refusals s frames = map (λ frame. number (firstRefusal (readRows s frame ++ cla
 of : ℕ → ℕ → State
 of n lastReplica = state n 0 0 1 0 0 [] (vacant 0 ∷ vacant 1 ∷ vacant lastReplica ∷ [])
 
--- four replicas with this at height 1
+-- four replicas with this at height 1, and height 2 the current one
 with : Height → State
-with x = state 4 0 0 1 0 0 [] (x ∷ [])
+with x = state 4 0 0 2 0 0 [] (x ∷ [])
 
--- sixteen replicas with this at height 1
+-- sixteen replicas with this at height 1, and height 2 the current one
 ofSixteen : Height → State
-ofSixteen x = state 16 0 0 1 0 0 [] (x ∷ [])
+ofSixteen x = state 16 0 0 2 0 0 [] (x ∷ [])
 
 first : Bytes
 first = newBlock 1 0 (zeros 32) (entry 1 ∷ [])
@@ -154,6 +154,13 @@ clashes : map (λ s. refusals s
     0 ∷ 0 ∷ 0 ∷ 0 ∷ []) ∷ replicate 19 0 ∷ []
 unfolding deliveries digests busy stale
 clashes = refl
+
+-- the proposals and votes that are unlike at the current height: of the leader, of another replica
+second-proposal-at-current : refusals (state 4 0 0 1 0 0 [] (height 0 1 0 0 0 8 first [] (zeros 512) ∷ []))
+    (proposal 0 1 first ∷ proposal 0 1 other ∷ proposal 1 1 other ∷ blockVote 3 1 (zeros 32) ∷
+    blockVote 3 1 (replicate 32 1) ∷ []) ≡ 0 ∷ 8 ∷ 7 ∷ 0 ∷ 8 ∷ []
+unfolding deliveries
+second-proposal-at-current = refl
 
 -- blocks of eight entries that differ in their last byte
 crowded : Bytes

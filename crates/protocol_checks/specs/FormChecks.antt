@@ -5,7 +5,7 @@ use mathlib.Core.Path.{_≡_, refl}
 use mathlib.Core.List.{List, [], _∷_, _++_}
 use mathlib.Core.Bool.{Bool, true, not}
 use lib.ListN.{replicate, take}
-use Rattle.protocol.specs.Bytes.{Bytes, zeros}
+use Rattle.protocol.specs.Bytes.{Bytes, zeros, join}
 use Rattle.protocol.specs.Tests.{allOf}
 use Rattle.protocol.specs.Block.{blockHeight, parentHeight, parentDigest, entryCount, entries, allEntries}
 use Rattle.protocol.specs.Block.{blockWellFormed, newBlock}
@@ -26,7 +26,7 @@ lowest = 3 ∷ zeros 175
 
 -- height 3 on height 1, eight entries
 crowded : Bytes
-crowded = 3 ∷ 0 ∷ 1 ∷ 0 ∷ 8 ∷ (zeros 11 ++ (countUp 1 32 ++ replicate 128 7))
+crowded = 3 ∷ 0 ∷ 1 ∷ 0 ∷ 8 ∷ (zeros 11 ++ (countUp 1 32 ++ join (replicate 8 (entry 7))))
 
 unfoldable blocks : Unit {0}
 unfolding stateTools block lowest crowded
@@ -104,8 +104,12 @@ dummyCertified = 6 ∷ 0 ∷ 3 ∷ 0 ∷ 7 ∷ 1 ∷ zeros 218
 finalizeCertified : Bytes
 finalizeCertified = 7 ∷ 0 ∷ 3 ∷ 0 ∷ 7 ∷ 1 ∷ zeros 218
 
+-- the places of a frame but for the byte after its height
+places : List ℕ
+places = 0 ∷ 1 ∷ 2 ∷ counting 4 220
+
 unfoldable frames : Unit {0}
-unfolding blocks proposed voted dummyVoted finalized certified dummyCertified finalizeCertified
+unfolding blocks places proposed voted dummyVoted finalized certified dummyCertified finalizeCertified
 frames = tt
 
 -- kind 1: the signer; of the block its fourth entry, parent digest and entries
@@ -114,17 +118,17 @@ unfolding frames
 proposal-places = refl
 
 -- kind 2: the signer, the height, the digest
-vote-places : freePlaces frameWellFormed voted (counting 0 224) ≡ 1 ∷ 2 ∷ counting 16 32
+vote-places : freePlaces frameWellFormed voted places ≡ 1 ∷ 2 ∷ counting 16 32
 unfolding frames
 vote-places = refl
 
 -- kind 3: the signer, the height, and the kind, since kind 4 uses the same
-dummy-vote-places : freePlaces frameWellFormed dummyVoted (counting 0 224) ≡ 0 ∷ 1 ∷ 2 ∷ []
+dummy-vote-places : freePlaces frameWellFormed dummyVoted places ≡ 0 ∷ 1 ∷ 2 ∷ []
 unfolding frames
 dummy-vote-places = refl
 
 -- kind 4: the signer and the height; kind 5 has no signer
-finalize-places : freePlaces frameWellFormed finalized (counting 0 224) ≡ 1 ∷ 2 ∷ []
+finalize-places : freePlaces frameWellFormed finalized places ≡ 1 ∷ 2 ∷ []
 unfolding frames
 finalize-places = refl
 
@@ -134,14 +138,21 @@ unfolding frames
 certificate-places = refl
 
 -- kind 6: the height, the mask, and the kind, since kind 7 uses the same
-dummy-certificate-places : freePlaces frameWellFormed dummyCertified (counting 0 224) ≡ 0 ∷ 2 ∷ 4 ∷ 5 ∷ []
+dummy-certificate-places : freePlaces frameWellFormed dummyCertified places ≡ 0 ∷ 2 ∷ 4 ∷ 5 ∷ []
 unfolding frames
 dummy-certificate-places = refl
 
 -- kind 7: the height and the mask; there is no kind 8
-finalize-certificate-places : freePlaces frameWellFormed finalizeCertified (counting 0 224) ≡ 2 ∷ 4 ∷ 5 ∷ []
+finalize-certificate-places : freePlaces frameWellFormed finalizeCertified places ≡ 2 ∷ 4 ∷ 5 ∷ []
 unfolding frames
 finalize-certificate-places = refl
+
+-- the byte after the height is free in no kind without a block; in those with one it is among the places above
+bytes-after-heights : freePlaces frameWellFormed voted (3 ∷ []) ++ (freePlaces frameWellFormed dummyVoted (3 ∷ []) ++
+    (freePlaces frameWellFormed finalized (3 ∷ []) ++ (freePlaces frameWellFormed dummyCertified (3 ∷ []) ++
+    freePlaces frameWellFormed finalizeCertified (3 ∷ [])))) ≡ []
+unfolding frames
+bytes-after-heights = refl
 
 -- of a frame that is zero but for its kind, kinds 2, 3, 4, 6 and 7 are well formed; 1 and 5 lack a block, 0 and 8 up
 -- are none
@@ -183,7 +194,7 @@ frames-made : proposal 1 3 block ∷ blockVote 1 3 (countUp 1 32) ∷ dummyVote 
 unfolding frames
 frames-made = refl
 
--- heights have two bytes, the low one first; that the high one must be zero is in the places above
+-- heights have two bytes, the low one first; that the high one must be zero is in bytes-after-heights
 height-bytes : (blockHeight (1 ∷ 2 ∷ 3 ∷ 4 ∷ []) ∷ parentHeight (1 ∷ 2 ∷ 3 ∷ 4 ∷ []) ∷
     frameHeight (1 ∷ 2 ∷ 3 ∷ 4 ∷ []) ∷ []) ∷ take 4 (newBlock 513 1027 (zeros 32) []) ∷ take 4 (dummyVote 1 1027) ∷ [] ≡
     (513 ∷ 1027 ∷ 1027 ∷ []) ∷ (1 ∷ 2 ∷ 3 ∷ 4 ∷ []) ∷ (3 ∷ 1 ∷ 3 ∷ 4 ∷ []) ∷ []

@@ -291,43 +291,50 @@ unfolding moves ended writes
 frames = refl
 
 -- ---- what a proposal carries
--- replica 2 leads the last of these heights and is there, with so many pending entries: of bytes 1, 2, 3 and so on
-offering : ℕ → ℕ → List Height → State
-offering current count heights = state 4 2 0 current 0 count (entriesFrom 1 32) heights
+-- replica 2 leads the last of these heights and is there, with so many pending entries of these bytes
+offering : Bytes → ℕ → ℕ → List Height → State
+offering pool current count heights = state 4 2 0 current 0 count pool heights
+
+-- the pending entries: 4, 5 and so on; those before them 1 and 2
+apart : Bytes
+apart = entriesFrom 4 32
+
+chained : Bytes
+chained = entry 1 ++ (entry 2 ++ entriesFrom 4 30)
 
 offers : writes
     -- none; one; eight; nine; 32 pending, with nothing in the chain
-    (offering 1 0 (vacant 2 ∷ []) ∷
-    offering 1 1 (vacant 2 ∷ []) ∷
-    offering 1 8 (vacant 2 ∷ []) ∷
-    offering 1 9 (vacant 2 ∷ []) ∷
-    offering 1 32 (vacant 2 ∷ []) ∷
+    (offering apart 1 0 (vacant 2 ∷ []) ∷
+    offering apart 1 1 (vacant 2 ∷ []) ∷
+    offering apart 1 8 (vacant 2 ∷ []) ∷
+    offering apart 1 9 (vacant 2 ∷ []) ∷
+    offering apart 1 32 (vacant 2 ∷ []) ∷
     -- entries 1 and 2 in the chain: first those are left out, then eight are taken
-    offering 3 9 (notarizedBy7 first ∷ notarizedBy7 second ∷ vacant 2 ∷ []) ∷
-    offering 3 10 (notarizedBy7 first ∷ notarizedBy7 second ∷ vacant 2 ∷ []) ∷
-    offering 3 11 (notarizedBy7 first ∷ notarizedBy7 second ∷ vacant 2 ∷ []) ∷
+    offering chained 3 9 (notarizedBy7 first ∷ notarizedBy7 second ∷ vacant 2 ∷ []) ∷
+    offering chained 3 10 (notarizedBy7 first ∷ notarizedBy7 second ∷ vacant 2 ∷ []) ∷
+    offering chained 3 11 (notarizedBy7 first ∷ notarizedBy7 second ∷ vacant 2 ∷ []) ∷
     -- the parent is the largest linked height; on the dummies above height 1, entry 1 alone is in the chain
-    offering 3 3 (notarizedBy7 first ∷ dummied 7 ∷ vacant 2 ∷ []) ∷
+    offering chained 3 2 (notarizedBy7 first ∷ dummied 7 ∷ vacant 2 ∷ []) ∷
     -- a block that is not linked is no part of the chain
-    offering 3 3 (dummied 7 ∷ height 0 2 7 7 0 0 [] second [] ∷ vacant 2 ∷ []) ∷ []) ≡
+    offering chained 3 2 (dummied 7 ∷ height 0 2 7 7 0 0 [] second [] ∷ vacant 2 ∷ []) ∷ []) ≡
     proposal 2 1 (newBlock 1 0 (zeros 32) []) ∷
-    proposal 2 1 (newBlock 1 0 (zeros 32) (entry 1 ∷ [])) ∷
-    proposal 2 1 (newBlock 1 0 (zeros 32) (map entry (counting 1 8))) ∷
-    proposal 2 1 (newBlock 1 0 (zeros 32) (map entry (counting 1 8))) ∷
-    proposal 2 1 (newBlock 1 0 (zeros 32) (map entry (counting 1 8))) ∷
-    proposal 2 3 (newBlock 3 2 (standIn second) (map entry (counting 3 7))) ∷
-    proposal 2 3 (newBlock 3 2 (standIn second) (map entry (counting 3 8))) ∷
-    proposal 2 3 (newBlock 3 2 (standIn second) (map entry (counting 3 8))) ∷
-    proposal 2 3 (newBlock 3 1 (standIn first) (map entry (counting 2 2))) ∷
-    proposal 2 3 (newBlock 3 0 (zeros 32) (map entry (counting 1 3))) ∷ []
-unfolding moves writes offering
+    proposal 2 1 (newBlock 1 0 (zeros 32) (entry 4 ∷ [])) ∷
+    proposal 2 1 (newBlock 1 0 (zeros 32) (map entry (counting 4 8))) ∷
+    proposal 2 1 (newBlock 1 0 (zeros 32) (map entry (counting 4 8))) ∷
+    proposal 2 1 (newBlock 1 0 (zeros 32) (map entry (counting 4 8))) ∷
+    proposal 2 3 (newBlock 3 2 (standIn second) (map entry (counting 4 7))) ∷
+    proposal 2 3 (newBlock 3 2 (standIn second) (map entry (counting 4 8))) ∷
+    proposal 2 3 (newBlock 3 2 (standIn second) (map entry (counting 4 8))) ∷
+    proposal 2 3 (newBlock 3 1 (standIn first) (entry 2 ∷ [])) ∷
+    proposal 2 3 (newBlock 3 0 (zeros 32) (entry 1 ∷ entry 2 ∷ [])) ∷ []
+unfolding moves writes offering apart chained
 offers = refl
 
 -- pending entries that are alike are all offered; those in the chain are left out wherever they stand
 repeats : writes
     (state 4 2 0 1 0 3 (entry 9 ++ (entry 9 ++ entry 9)) (vacant 2 ∷ []) ∷
-    state 4 2 0 2 0 4 (entry 9 ++ (entry 1 ++ (entry 8 ++ entry 1))) (notarizedBy7 first ∷ vacant 2 ∷ []) ∷ []) ≡
+    state 4 2 0 2 0 4 (entry 8 ++ (entry 1 ++ (entry 9 ++ entry 1))) (notarizedBy7 first ∷ vacant 2 ∷ []) ∷ []) ≡
     proposal 2 1 (newBlock 1 0 (zeros 32) (entry 9 ∷ entry 9 ∷ entry 9 ∷ [])) ∷
-    proposal 2 2 (newBlock 2 1 (standIn first) (entry 9 ∷ entry 8 ∷ [])) ∷ []
+    proposal 2 2 (newBlock 2 1 (standIn first) (entry 8 ∷ entry 9 ∷ [])) ∷ []
 unfolding moves writes
 repeats = refl

@@ -1,27 +1,23 @@
 -- The definitions on single rules: what is offered, what links, which certificate a pass names, how masks grow.
-use Prim.Native.Nat.{ℕ}
 use mathlib.Core.Path.{_≡_, refl}
 use mathlib.Core.List.{List, [], _∷_, _++_}
-use lib.ListN.{replicate}
 use Rattle.protocol.specs.Bytes.{Bytes, zeros, part, join}
 use Rattle.protocol.specs.Block.{newBlock}
 use Rattle.protocol.specs.Frame.{proposal, blockVote, dummyVote, finalize, blockCertificate, dummyCertificate}
 use Rattle.protocol.specs.Frame.{finalizeCertificate}
 use Rattle.protocol.specs.Call.{opening, delivery, moving, submitting}
 use Rattle.protocol_checks.specs.CheckCalls.{standIn, perform, after, answers, splice, tools}
-
-entry : ℕ → Bytes
-entry x = replicate 16 x
+use Rattle.protocol_checks.specs.CheckStates.{entry}
 
 first : Bytes
 first = newBlock 1 0 (zeros 32) (entry 1 ∷ [])
 
 eight : List Bytes
-eight = entry 1 ∷ entry 2 ∷ entry 3 ∷ entry 4 ∷ entry 5 ∷ entry 6 ∷ entry 7 ∷ entry 8 ∷ []
+eight = entry 4 ∷ entry 5 ∷ entry 6 ∷ entry 7 ∷ entry 8 ∷ entry 9 ∷ entry 10 ∷ entry 11 ∷ []
 
 -- move 4: of nine pending entries the first eight
 offers-eight : perform
-    (splice 64 (join eight ++ entry 9) (splice 6 (9 ∷ []) (after (zeros 1456) (opening 4 0 1 (0 ∷ []) ∷ []))))
+    (splice 64 (join eight ++ entry 12) (splice 6 (9 ∷ []) (after (zeros 1456) (opening 4 0 1 (0 ∷ []) ∷ []))))
     (moving (zeros 448)) .buffer ≡ proposal 0 1 (newBlock 1 0 (zeros 32) eight) ++ zeros 224
 unfolding tools entry eight
 offers-eight = refl

@@ -4,7 +4,6 @@ use Prim.Native.Nat.{ℕ, zero, suc}
 use mathlib.Core.Path.{_≡_, refl}
 use mathlib.Core.Bool.{cond}
 use mathlib.Core.List.{List, [], _∷_, _++_}
-use lib.ListN.{replicate}
 use lib.Dec.{eqb}
 use Rattle.protocol.specs.Bytes.{Bytes, zeros}
 use Rattle.protocol.specs.Block.{newBlock}
@@ -16,6 +15,7 @@ use Rattle.protocol.specs.Deliver.{deliverCall}
 use Rattle.protocol.specs.Move.{MoveOutcome, moveCall}
 use Rattle.protocol.specs.Call.{Call, opening, delivery, moving, signalling, submitting, sizing, reading}
 use Rattle.protocol_checks.specs.CheckCalls.{standIn, after, answers, tools}
+use Rattle.protocol_checks.specs.CheckStates.{entry}
 
 -- ---- the rehearsal
 -- a line of the rehearsal's output, by its first word
@@ -95,9 +95,6 @@ unfolding tools deliveryLine moveLine proceed untilIdle rehearse rehearsalBook
 rehearsal-short = refl
 
 -- ---- two heights of four replicas, at replica 0, which leads height 1
-entry : ℕ → Bytes
-entry x = replicate 16 x
-
 -- the block that replica 0 proposes with one pending entry, and one of replica 1 on it
 first : Bytes
 first = newBlock 1 0 (zeros 32) (entry 1 ∷ [])

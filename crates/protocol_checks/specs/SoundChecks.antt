@@ -117,12 +117,18 @@ heights = refl
 -- finalized heights above the current one, and none above the last
 head-bounds : soundWith (empty 3) 4 (counting 0 6) ∷ soundWith alone 4 (counting 0 4) ∷
     soundWith alone 3 (counting 0 18) ∷
-    soundWith alone 6 (0 ∷ 1 ∷ 31 ∷ 32 ∷ 33 ∷ []) ∷ soundWith alone 7 (0 ∷ 1 ∷ 2 ∷ []) ∷
+    soundWith alone 6 (0 ∷ 1 ∷ 31 ∷ 32 ∷ 33 ∷ []) ∷ soundWith alone 7 (0 ∷ 1 ∷ 255 ∷ []) ∷
     soundWith ended 5 (counting 0 5) ∷ [] ≡
     (1 ∷ 2 ∷ 3 ∷ 4 ∷ []) ∷ (1 ∷ 2 ∷ []) ∷ counting 0 16 ∷
     (0 ∷ 1 ∷ 31 ∷ 32 ∷ []) ∷ (1 ∷ []) ∷ (0 ∷ 1 ∷ 2 ∷ 3 ∷ []) ∷ []
 unfolding books isSound soundWith
 head-bounds = refl
+
+-- editions 2 and 3, and edition 2 with a byte behind it
+later-editions : soundWith alone 7 (2 ∷ 3 ∷ []) ∷ soundWith (splice 8 (1 ∷ []) alone) 7 (counting 0 4) ∷ [] ≡
+    [] ∷ [] ∷ []
+unfolding books isSound soundWith
+later-editions = refl
 
 -- leaders below 4, and states up to 3 where the bodies are zero (so 0 alone), at each of three heights
 leaders : soundWith (empty 3) 576 (0 ∷ 3 ∷ 4 ∷ []) ∷ soundWith (empty 3) 592 (0 ∷ 3 ∷ 4 ∷ []) ∷

@@ -14,18 +14,19 @@ fn moved(before: [u8; 1456]) -> [u8; 1456] {
     book
 }
 
-// A replica alone, of one height, after its proposal, vote, pass and output: the register has one entry.
+// A replica alone, of one height, after its proposal, vote, pass and output: the register has one entry,
+// the byte 1 and "swap plots 1,14".
 fn settled() -> [u8; 1456] {
     let mut book = [0u8; 1456];
     replica::open::open(&mut book, 1, 0, 1, &[0]);
-    replica::submit::submit(&mut book, b"swap plots 12,14");
+    replica::submit::submit(&mut book, b"\x01swap plots 1,14");
     moved(moved(moved(moved(book))))
 }
 
-// The same book of edition 2, which is not sound.
+// The same book of edition 255, which is not sound.
 fn unsound() -> [u8; 1456] {
     let mut book = settled();
-    book[7] = 2;
+    book[7] = 255;
     book
 }
 

@@ -51,7 +51,7 @@ proposal-says block = refl
 -- the two blocks differ in their first entry
 two-blocks : oneBlock ≢ otherBlock
 unfolding oneBlock otherBlock newBlock le16 zeros join
-two-blocks e = let z : _≡_ {A = ℕ} 10 11 = ap (λ (b : Bytes). byteAt b 48) e in omega arith
+two-blocks e = let z : _≡_ {A = ℕ} 1 2 = ap (λ (b : Bytes). byteAt b 48) e in omega arith
 
 met : Met sample 4 dishonest list entry
 unfolding tests
