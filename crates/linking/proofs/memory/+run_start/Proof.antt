@@ -1,5 +1,4 @@
--- `run_start` meets its contract: a height that is no dummy starts a run itself, and any other goes on with the
--- run
+-- `run_start` meets its contract: a height that is no dummy starts a run itself, and any other goes on with the run
 -- below. The measure is the height.
 use native.Mathlib.Omega.{arith}
 use borrow.Author.Needs.{needs}
@@ -29,338 +28,9 @@ abbrev run-start-below : ℕ → In 2 run-start-kinds.ps
 run-start-below t =
     and 2 run-start-kinds.ps (falls 2 run-start-kinds.ps _<_ μ-run-start t) run-start.Pre
 
-run-start-returns : (t : ℕ) → run-start-lts.Need-returns (
-  word-reads.Asked,
-  word-reads.Learnt,
-  is-dummy-reads.Asked,
-  is-dummy-reads.Learnt,
-  run-start-below t,
-  run-start.Post,
-  put-word-reads.Asked,
-  put-word-reads.Learnt,
-) (run-start-at t) run-start.Post
-run-start-returns t c =
-    let z = c .before .before .before in (
-      start-zero (viewOf (z .args .kind) (z .args .book .now)) (z .args .h) (c .if1 .taken),
-      (omega arith, z .pre .1 .1 .0),
-    )
-
-run-start-mul-word : (t : ℕ) → run-start-lts.Need-mul-word (
-  word-reads.Asked,
-  word-reads.Learnt,
-  is-dummy-reads.Asked,
-  is-dummy-reads.Learnt,
-  run-start-below t,
-  run-start.Post,
-  put-word-reads.Asked,
-  put-word-reads.Learnt,
-) (run-start-at t) run-start.Post
-run-start-mul-word t c = let z = c .before .before .before .before in
-    omega (arith, z .pre .1 .1 .1, z .pre .1 .0 .heights)
-
-run-start-add-word : (t : ℕ) → run-start-lts.Need-add-word (
-  word-reads.Asked,
-  word-reads.Learnt,
-  is-dummy-reads.Asked,
-  is-dummy-reads.Learnt,
-  run-start-below t,
-  run-start.Post,
-  put-word-reads.Asked,
-  put-word-reads.Learnt,
-) (run-start-at t) run-start.Post
-run-start-add-word t c = let z = c .before .before .before .before in
-    omega (arith, z .pre .1 .1 .1, z .pre .1 .0 .heights)
-
-run-start-word-requires : (t : ℕ) → run-start-lts.Need-word-requires (
-  word-reads.Asked,
-  word-reads.Learnt,
-  is-dummy-reads.Asked,
-  is-dummy-reads.Learnt,
-  run-start-below t,
-  run-start.Post,
-  put-word-reads.Asked,
-  put-word-reads.Learnt,
-) (run-start-at t) run-start.Post
-run-start-word-requires t c κs = let z = c .before .before .before .before in
-    omega (arith, z .pre .1 .1 .1, z .pre .1 .0 .heights, z .pre .1 .1 .0 .room)
-
-run-start-sub-result : (t : ℕ) → run-start-lts.Need-sub-result (
-  word-reads.Asked,
-  word-reads.Learnt,
-  is-dummy-reads.Asked,
-  is-dummy-reads.Learnt,
-  run-start-below t,
-  run-start.Post,
-  put-word-reads.Asked,
-  put-word-reads.Learnt,
-) (run-start-at t) run-start.Post
-run-start-sub-result t c = omega arith
-
-run-start-same-length : (t : ℕ) → run-start-lts.Need-same-length (
-  word-reads.Asked,
-  word-reads.Learnt,
-  is-dummy-reads.Asked,
-  is-dummy-reads.Learnt,
-  run-start-below t,
-  run-start.Post,
-  put-word-reads.Asked,
-  put-word-reads.Learnt,
-) (run-start-at t) run-start.Post
-run-start-same-length t c = search needs
-
-run-start-returns-2 : (t : ℕ) → run-start-lts.Need-returns-2 (
-  word-reads.Asked,
-  word-reads.Learnt,
-  is-dummy-reads.Asked,
-  is-dummy-reads.Learnt,
-  run-start-below t,
-  run-start.Post,
-  put-word-reads.Asked,
-  put-word-reads.Learnt,
-) (run-start-at t) run-start.Post
-run-start-returns-2 t c =
-    let z = c .before .before .before .before .before .before in
-    let v = viewOf (z .args .kind) (z .args .book .now) in
-    let read : c .before .word .result ≡ word16 (z .args .known .now) (36 * z .args .h + 2) =
-    c .before .word .ensures .0 in
-    let run = z .pre .1 .1 .0 .each (z .args .h) (z .pre .1 .1 .1) .run (omega (arith, read, c .if2 .taken)) in
-    let low = start-within v (z .args .h) in
-    (omega (arith, read, run), (omega (arith, read, run, low), z .pre .1 .1 .0))
-
-run-start-is-dummy-requires : (t : ℕ) → run-start-lts.Need-is-dummy-requires (
-  word-reads.Asked,
-  word-reads.Learnt,
-  is-dummy-reads.Asked,
-  is-dummy-reads.Learnt,
-  run-start-below t,
-  run-start.Post,
-  put-word-reads.Asked,
-  put-word-reads.Learnt,
-) (run-start-at t) run-start.Post
-run-start-is-dummy-requires t c κs =
-    let z = c .before .before .before .before .before .before in
-    (z .pre .1 .0, record { low = omega arith; high = z .pre .1 .1 .1 })
-
-run-start-sub-run-start : (t : ℕ) → run-start-lts.Need-sub-run-start (
-  word-reads.Asked,
-  word-reads.Learnt,
-  is-dummy-reads.Asked,
-  is-dummy-reads.Learnt,
-  run-start-below t,
-  run-start.Post,
-  put-word-reads.Asked,
-  put-word-reads.Learnt,
-) (run-start-at t) run-start.Post
-run-start-sub-run-start t c = omega arith
-
-run-start-run-start-requires : (t : ℕ) → run-start-lts.Need-run-start-requires (
-  word-reads.Asked,
-  word-reads.Learnt,
-  is-dummy-reads.Asked,
-  is-dummy-reads.Learnt,
-  run-start-below t,
-  run-start.Post,
-  put-word-reads.Asked,
-  put-word-reads.Learnt,
-) (run-start-at t) run-start.Post
-run-start-run-start-requires t c κs =
-    let z = c .before .before .before .before .before .before .before .before .before in
-    (omega arith, (z .pre .1 .0, (z .pre .1 .1 .0, omega arith)))
-
-run-start-mul-put-word : (t : ℕ) → run-start-lts.Need-mul-put-word (
-  word-reads.Asked,
-  word-reads.Learnt,
-  is-dummy-reads.Asked,
-  is-dummy-reads.Learnt,
-  run-start-below t,
-  run-start.Post,
-  put-word-reads.Asked,
-  put-word-reads.Learnt,
-) (run-start-at t) run-start.Post
-run-start-mul-put-word t c = let z = c .before .before .before .before .before .before .before .before .before .before
-    .before .before .before in omega (arith, z .pre .1 .1 .1, z .pre .1 .0 .heights)
-
-run-start-add-put-word : (t : ℕ) → run-start-lts.Need-add-put-word (
-  word-reads.Asked,
-  word-reads.Learnt,
-  is-dummy-reads.Asked,
-  is-dummy-reads.Learnt,
-  run-start-below t,
-  run-start.Post,
-  put-word-reads.Asked,
-  put-word-reads.Learnt,
-) (run-start-at t) run-start.Post
-run-start-add-put-word t c = let z = c .before .before .before .before .before .before .before .before .before .before
-    .before .before .before in omega (arith, z .pre .1 .1 .1, z .pre .1 .0 .heights)
-
-run-start-add-put-word-2 : (t : ℕ) → run-start-lts.Need-add-put-word-2 (
-  word-reads.Asked,
-  word-reads.Learnt,
-  is-dummy-reads.Asked,
-  is-dummy-reads.Learnt,
-  run-start-below t,
-  run-start.Post,
-  put-word-reads.Asked,
-  put-word-reads.Learnt,
-) (run-start-at t) run-start.Post
-run-start-add-put-word-2 t c = let z = c .before .before .before .before .before .before .before .before .before .before
-    .before .before .before in omega (
-      arith,
-      c .before .before .before .run-start .ensures .1 .0,
-      z .pre .1 .1 .1,
-      z .pre .1 .0 .heights,
-    )
-
-run-start-put-word-requires : (t : ℕ) → run-start-lts.Need-put-word-requires (
-  word-reads.Asked,
-  word-reads.Learnt,
-  is-dummy-reads.Asked,
-  is-dummy-reads.Learnt,
-  run-start-below t,
-  run-start.Post,
-  put-word-reads.Asked,
-  put-word-reads.Learnt,
-) (run-start-at t) run-start.Post
-run-start-put-word-requires t c κs =
-    let below = c .before .before .before .run-start in
-    let z = c .before .before .before .before .before .before .before .before .before .before .before .before
-    .before in (
-      omega (arith, below .ensures .1 .1 .room, z .pre .1 .1 .1, z .pre .1 .0 .heights),
-      omega (arith, below .ensures .1 .0, z .pre .1 .1 .1, z .pre .1 .0 .heights),
-    )
-
-run-start-mul-put-word-2 : (t : ℕ) → run-start-lts.Need-mul-put-word-2 (
-  word-reads.Asked,
-  word-reads.Learnt,
-  is-dummy-reads.Asked,
-  is-dummy-reads.Learnt,
-  run-start-below t,
-  run-start.Post,
-  put-word-reads.Asked,
-  put-word-reads.Learnt,
-) (run-start-at t) run-start.Post
-run-start-mul-put-word-2 t c = let z = c .before .before .before .before .before .before .before .before .before in
-    omega (arith, z .pre .1 .1 .1, z .pre .1 .0 .heights)
-
-run-start-add-put-word-3 : (t : ℕ) → run-start-lts.Need-add-put-word-3 (
-  word-reads.Asked,
-  word-reads.Learnt,
-  is-dummy-reads.Asked,
-  is-dummy-reads.Learnt,
-  run-start-below t,
-  run-start.Post,
-  put-word-reads.Asked,
-  put-word-reads.Learnt,
-) (run-start-at t) run-start.Post
-run-start-add-put-word-3 t c = let z = c .before .before .before .before .before .before .before .before .before in
-    omega (arith, z .pre .1 .1 .1, z .pre .1 .0 .heights)
-
-run-start-add-put-word-4 : (t : ℕ) → run-start-lts.Need-add-put-word-4 (
-  word-reads.Asked,
-  word-reads.Learnt,
-  is-dummy-reads.Asked,
-  is-dummy-reads.Learnt,
-  run-start-below t,
-  run-start.Post,
-  put-word-reads.Asked,
-  put-word-reads.Learnt,
-) (run-start-at t) run-start.Post
-run-start-add-put-word-4 t c = let z = c .before .before .before .before .before .before .before .before .before in
-    omega (arith, z .pre .1 .1 .1, z .pre .1 .0 .heights)
-
-run-start-put-word-requires-2 : (t : ℕ) → run-start-lts.Need-put-word-requires-2 (
-  word-reads.Asked,
-  word-reads.Learnt,
-  is-dummy-reads.Asked,
-  is-dummy-reads.Learnt,
-  run-start-below t,
-  run-start.Post,
-  put-word-reads.Asked,
-  put-word-reads.Learnt,
-) (run-start-at t) run-start.Post
-run-start-put-word-requires-2 t c κs =
-    let z = c .before .before .before .before .before .before .before .before .before in (
-      omega (arith, z .pre .1 .1 .0 .room, z .pre .1 .1 .1, z .pre .1 .0 .heights),
-      omega (arith, z .pre .1 .1 .1, z .pre .1 .0 .heights),
-    )
-
-run-start-same-length-2 : (t : ℕ) → run-start-lts.Need-same-length-2 (
-  word-reads.Asked,
-  word-reads.Learnt,
-  is-dummy-reads.Asked,
-  is-dummy-reads.Learnt,
-  run-start-below t,
-  run-start.Post,
-  put-word-reads.Asked,
-  put-word-reads.Learnt,
-) (run-start-at t) run-start.Post
-run-start-same-length-2 t c = search needs
-
-run-start-returns-3 : (t : ℕ) → run-start-lts.Need-returns-3 (
-  word-reads.Asked,
-  word-reads.Learnt,
-  is-dummy-reads.Asked,
-  is-dummy-reads.Learnt,
-  run-start-below t,
-  run-start.Post,
-  put-word-reads.Asked,
-  put-word-reads.Learnt,
-) (run-start-at t) run-start.Post
-run-start-returns-3 t c =
-    let wrote = c .before .before .put-word in
-    let below = c .before .before .before .before .before .before .run-start in
-    let test = c .before .before .before .before .before .before .before .before in
-    let z = c .before .before .before .before .before .before .before .before .before .before .before .before .before
-    .before .before .before in
-    let v = viewOf (z .args .kind) (z .args .book .now) in
-    let answer = below .ensures .0 ∙ start-back v (z .args .h) (omega arith)
-    (sym (test .before .is-dummy .ensures) ∙ test .if3 .taken) in (
-      answer,
-      (
-        omega arith,
-        remember-run v (below .last .1 .1 .1 .0) (below .ensures .1 .1) (z .args .h)
-            (z .pre .1 .1 .1) (below .result) answer (wrote .last .0) (wrote .ensures),
-      ),
-    )
-
-run-start-same-length-3 : (t : ℕ) → run-start-lts.Need-same-length-3 (
-  word-reads.Asked,
-  word-reads.Learnt,
-  is-dummy-reads.Asked,
-  is-dummy-reads.Learnt,
-  run-start-below t,
-  run-start.Post,
-  put-word-reads.Asked,
-  put-word-reads.Learnt,
-) (run-start-at t) run-start.Post
-run-start-same-length-3 t c = search needs
-
-run-start-returns-4 : (t : ℕ) → run-start-lts.Need-returns-4 (
-  word-reads.Asked,
-  word-reads.Learnt,
-  is-dummy-reads.Asked,
-  is-dummy-reads.Learnt,
-  run-start-below t,
-  run-start.Post,
-  put-word-reads.Asked,
-  put-word-reads.Learnt,
-) (run-start-at t) run-start.Post
-run-start-returns-4 t c =
-    let wrote = c .before .before .put-word2 in
-    let test = c .before .before .before .before in
-    let z = c .before .before .before .before .before .before .before .before .before .before .before .before in
-    let v = viewOf (z .args .kind) (z .args .book .now) in
-    let answer = start-here v (z .args .h) (omega arith) (sym (test .before .is-dummy .ensures) ∙ test .if3 .left) in (
-      answer,
-      (
-        omega arith,
-        remember-run v (z .args .known .now) (z .pre .1 .1 .0) (z .args .h) (z .pre .1 .1 .1)
-            (z .args .h) answer (wrote .last .0) (wrote .ensures),
-      ),
-    )
-
-pub +run-start-spec : {M : Type 1} → statement M
-+run-start-spec = close μ-run-start λ t. run-start-lts.spec (
+-- What the callees are asked for and give back, `run_start` itself at a lower height.
+abbrev run-start-claims : ℕ → run-start-lts.Claims
+run-start-claims t = (
   word-reads.Asked,
   word-reads.Learnt,
   is-dummy-reads.Asked,
@@ -370,27 +40,155 @@ pub +run-start-spec : {M : Type 1} → statement M
   put-word-reads.Asked,
   put-word-reads.Learnt,
 )
+
+module _ (t : ℕ) where
+  returns : run-start-lts.Need-returns (run-start-claims t) (run-start-at t) run-start.Post
+  returns c =
+      let z = c .before .before .before in (
+        start-zero (viewOf (z .args .kind) (z .args .book .now)) (z .args .h) (c .if1 .taken),
+        (omega arith, z .pre .1 .1 .0),
+      )
+
+  mul-word : run-start-lts.Need-mul-word (run-start-claims t) (run-start-at t) run-start.Post
+  mul-word c = let z = c .before .before .before .before in
+      omega (arith, z .pre .1 .1 .1, z .pre .1 .0 .heights)
+
+  add-word : run-start-lts.Need-add-word (run-start-claims t) (run-start-at t) run-start.Post
+  add-word c = let z = c .before .before .before .before in
+      omega (arith, z .pre .1 .1 .1, z .pre .1 .0 .heights)
+
+  word-requires : run-start-lts.Need-word-requires (run-start-claims t) (run-start-at t) run-start.Post
+  word-requires c κs = let z = c .before .before .before .before in
+      omega (arith, z .pre .1 .1 .1, z .pre .1 .0 .heights, z .pre .1 .1 .0 .room)
+
+  sub-result : run-start-lts.Need-sub-result (run-start-claims t) (run-start-at t) run-start.Post
+  sub-result c = omega arith
+
+  returns-2 : run-start-lts.Need-returns-2 (run-start-claims t) (run-start-at t) run-start.Post
+  returns-2 c =
+      let z = c .before .before .before .before .before .before in
+      let v = viewOf (z .args .kind) (z .args .book .now) in
+      let read : c .before .word .result ≡ word16 (z .args .known .now) (36 * z .args .h + 2) =
+      c .before .word .ensures .0 in
+      let run = z .pre .1 .1 .0 .each (z .args .h) (z .pre .1 .1 .1) .run (omega (arith, read, c .if2 .taken)) in
+      let low = start-within v (z .args .h) in
+      (omega (arith, read, run), (omega (arith, read, run, low), z .pre .1 .1 .0))
+
+  is-dummy-requires : run-start-lts.Need-is-dummy-requires (run-start-claims t) (run-start-at t) run-start.Post
+  is-dummy-requires c κs =
+      let z = c .before .before .before .before .before .before in
+      (z .pre .1 .0, record { low = omega arith; high = z .pre .1 .1 .1 })
+
+  sub-run-start : run-start-lts.Need-sub-run-start (run-start-claims t) (run-start-at t) run-start.Post
+  sub-run-start c = omega arith
+
+  run-start-requires : run-start-lts.Need-run-start-requires (run-start-claims t) (run-start-at t) run-start.Post
+  run-start-requires c κs =
+      let z = c .before .before .before .before .before .before .before .before .before in
+      (omega arith, (z .pre .1 .0, (z .pre .1 .1 .0, omega arith)))
+
+  mul-put-word : run-start-lts.Need-mul-put-word (run-start-claims t) (run-start-at t) run-start.Post
+  mul-put-word c = let z = c .before .before .before .before .before .before .before .before .before .before
+      .before .before .before in omega (arith, z .pre .1 .1 .1, z .pre .1 .0 .heights)
+
+  add-put-word : run-start-lts.Need-add-put-word (run-start-claims t) (run-start-at t) run-start.Post
+  add-put-word c = let z = c .before .before .before .before .before .before .before .before .before .before
+      .before .before .before in omega (arith, z .pre .1 .1 .1, z .pre .1 .0 .heights)
+
+  add-put-word-2 : run-start-lts.Need-add-put-word-2 (run-start-claims t) (run-start-at t) run-start.Post
+  add-put-word-2 c = let z = c .before .before .before .before .before .before .before .before .before .before
+      .before .before .before in omega (
+        arith,
+        c .before .before .before .run-start .ensures .1 .0,
+        z .pre .1 .1 .1,
+        z .pre .1 .0 .heights,
+      )
+
+  put-word-requires : run-start-lts.Need-put-word-requires (run-start-claims t) (run-start-at t) run-start.Post
+  put-word-requires c κs =
+      let below = c .before .before .before .run-start in
+      let z = c .before .before .before .before .before .before .before .before .before .before .before .before
+      .before in (
+        omega (arith, below .ensures .1 .1 .room, z .pre .1 .1 .1, z .pre .1 .0 .heights),
+        omega (arith, below .ensures .1 .0, z .pre .1 .1 .1, z .pre .1 .0 .heights),
+      )
+
+  mul-put-word-2 : run-start-lts.Need-mul-put-word-2 (run-start-claims t) (run-start-at t) run-start.Post
+  mul-put-word-2 c = let z = c .before .before .before .before .before .before .before .before .before in
+      omega (arith, z .pre .1 .1 .1, z .pre .1 .0 .heights)
+
+  add-put-word-3 : run-start-lts.Need-add-put-word-3 (run-start-claims t) (run-start-at t) run-start.Post
+  add-put-word-3 c = let z = c .before .before .before .before .before .before .before .before .before in
+      omega (arith, z .pre .1 .1 .1, z .pre .1 .0 .heights)
+
+  add-put-word-4 : run-start-lts.Need-add-put-word-4 (run-start-claims t) (run-start-at t) run-start.Post
+  add-put-word-4 c = let z = c .before .before .before .before .before .before .before .before .before in
+      omega (arith, z .pre .1 .1 .1, z .pre .1 .0 .heights)
+
+  put-word-requires-2 : run-start-lts.Need-put-word-requires-2 (run-start-claims t) (run-start-at t) run-start.Post
+  put-word-requires-2 c κs =
+      let z = c .before .before .before .before .before .before .before .before .before in (
+        omega (arith, z .pre .1 .1 .0 .room, z .pre .1 .1 .1, z .pre .1 .0 .heights),
+        omega (arith, z .pre .1 .1 .1, z .pre .1 .0 .heights),
+      )
+
+  returns-3 : run-start-lts.Need-returns-3 (run-start-claims t) (run-start-at t) run-start.Post
+  returns-3 c =
+      let wrote = c .before .before .put-word in
+      let below = c .before .before .before .before .before .before .run-start in
+      let test = c .before .before .before .before .before .before .before .before in
+      let z = c .before .before .before .before .before .before .before .before .before .before .before .before .before
+      .before .before .before in
+      let v = viewOf (z .args .kind) (z .args .book .now) in
+      let answer = below .ensures .0 ∙ start-back v (z .args .h) (omega arith)
+      (sym (test .before .is-dummy .ensures) ∙ test .if3 .taken) in (
+        answer,
+        (
+          omega arith,
+          remember-run v (below .last .1 .1 .1 .0) (below .ensures .1 .1) (z .args .h)
+              (z .pre .1 .1 .1) (below .result) answer (wrote .last .0) (wrote .ensures),
+        ),
+      )
+
+  returns-4 : run-start-lts.Need-returns-4 (run-start-claims t) (run-start-at t) run-start.Post
+  returns-4 c =
+      let wrote = c .before .before .put-word2 in
+      let test = c .before .before .before .before in
+      let z = c .before .before .before .before .before .before .before .before .before .before .before .before in
+      let v = viewOf (z .args .kind) (z .args .book .now) in
+      let answer = start-here v (z .args .h) (omega arith)
+      (sym (test .before .is-dummy .ensures) ∙ test .if3 .left) in (
+        answer,
+        (
+          omega arith,
+          remember-run v (z .args .known .now) (z .pre .1 .1 .0) (z .args .h) (z .pre .1 .1 .1)
+              (z .args .h) answer (wrote .last .0) (wrote .ensures),
+        ),
+      )
+
+pub +run-start-spec : {M : Type 1} → statement M
++run-start-spec = close μ-run-start λ t. run-start-lts.spec (run-start-claims t)
     (run-start-at t)
     run-start.Post
-    (run-start-returns t)
-    (run-start-mul-word t)
-    (run-start-add-word t)
-    (run-start-word-requires t)
-    (run-start-sub-result t)
-    (run-start-same-length t)
-    (run-start-returns-2 t)
-    (run-start-is-dummy-requires t)
-    (run-start-sub-run-start t)
-    (run-start-run-start-requires t)
-    (run-start-mul-put-word t)
-    (run-start-add-put-word t)
-    (run-start-add-put-word-2 t)
-    (run-start-put-word-requires t)
-    (run-start-mul-put-word-2 t)
-    (run-start-add-put-word-3 t)
-    (run-start-add-put-word-4 t)
-    (run-start-put-word-requires-2 t)
-    (run-start-same-length-2 t)
-    (run-start-returns-3 t)
-    (run-start-same-length-3 t)
-    (run-start-returns-4 t)
+    (returns t)
+    (mul-word t)
+    (add-word t)
+    (word-requires t)
+    (sub-result t)
+    (λ c. search needs)
+    (returns-2 t)
+    (is-dummy-requires t)
+    (sub-run-start t)
+    (run-start-requires t)
+    (mul-put-word t)
+    (add-put-word t)
+    (add-put-word-2 t)
+    (put-word-requires t)
+    (mul-put-word-2 t)
+    (add-put-word-3 t)
+    (add-put-word-4 t)
+    (put-word-requires-2 t)
+    (λ c. search needs)
+    (returns-3 t)
+    (λ c. search needs)
+    (returns-4 t)
