@@ -12,7 +12,7 @@ use Rattle.protocol.specs.View.{extends as extends-test}
 use Rattle.fields.specs.Book.{viewOf}
 use Rattle.linking.proofs.Walk.{extends-by-digest, extends-not-run, extends-not-linked, extends-not-below}
 use Rattle.linking.proofs.Walk.{linked-start, linked-by-block, not-linked-without}
-use Rattle.linking.proofs.Stores.{remember-linked, remember-unlinked}
+use Rattle.memory.proofs.Stores.{remember-linked, remember-unlinked}
 use borrow.Fn.Kinds.{In}
 use borrow.Fn.PlainCycle.{Measures, is, falls, and}
 use Rattle.linking.proofs.linking.extends.Reads as extends
@@ -27,7 +27,7 @@ use Rattle.linking.proofs.linking.+extends+linked+links_back.Lts-links_
 use Rattle.wire.proofs.block.parent_height.Reads as parent-height-reads
 use Rattle.fields.proofs.kind.has_block.Reads as has-block-reads
 use Rattle.fields.proofs.kind.block.Reads as block-reads
-use Rattle.linking.proofs.memory.dummies_after.Reads as dummies-after-reads
+use Rattle.memory.proofs.dummies_after.Reads as dummies-after-reads
 use Rattle.linking.proofs.linking.names_parent.Reads as names-parent-reads
 use Rattle.linking.proofs.linking.+extends+linked+links_back.{statement}
 use Rattle.linking.proofs.linking.+extends+linked+links_back.Tie.{close}

@@ -5,18 +5,18 @@ use borrow.Author.Needs.{needs}
 use mathlib.Core.Path.{_≡_, sym, _∙_}
 use Rattle.protocol.specs.Bytes.{word16}
 use Rattle.fields.specs.Book.{viewOf}
-use Rattle.linking.proofs.Stores.{start-zero, start-within, start-back, start-here, remember-run}
+use Rattle.memory.proofs.Stores.{start-zero, start-within, start-back, start-here, remember-run}
 use Prim.Native.Nat.{ℕ, _+_, _*_, _<_}
 use borrow.Fn.Kinds.{In}
 use borrow.Fn.PlainCycle.{Measures, is, falls, and}
-use Rattle.linking.proofs.memory.run_start.Reads as run-start
-use Rattle.linking.proofs.memory.run_start.Kinds as run-start-kinds
-use Rattle.linking.proofs.memory.+run_start.Lts-run_start as run-start-lts
+use Rattle.memory.proofs.run_start.Reads as run-start
+use Rattle.memory.proofs.run_start.Kinds as run-start-kinds
+use Rattle.memory.proofs.+run_start.Lts-run_start as run-start-lts
 use Rattle.fields.proofs.kind.is_dummy.Reads as is-dummy-reads
 use Rattle.wire.proofs.bytes.put_word.Reads as put-word-reads
 use Rattle.wire.proofs.bytes.word.Reads as word-reads
-use Rattle.linking.proofs.memory.+run_start.{statement}
-use Rattle.linking.proofs.memory.+run_start.Tie.{close}
+use Rattle.memory.proofs.+run_start.{statement}
+use Rattle.memory.proofs.+run_start.Tie.{close}
 
 abbrev μ-run-start : Measures 2 run-start-kinds.ps ℕ
 μ-run-start κs a = a .1 .1 .0

@@ -5,10 +5,10 @@ use mathlib.Core.Path.{_≡_, ap, _∙_}
 use lib.ListN.{length}
 use Rattle.sha256.specs.Digest.{sha256}
 use Rattle.fields.specs.Book.{viewOf}
-use Rattle.linking.proofs.Stores.{stored}
+use Rattle.memory.proofs.Stores.{stored}
 use borrow.Author.Needs.{needs}
-use Rattle.linking.proofs.memory.keep_digest.Statement.{statement}
-use Rattle.linking.proofs.memory.keep_digest.Tie as tie
+use Rattle.memory.proofs.keep_digest.Statement.{statement}
+use Rattle.memory.proofs.keep_digest.Tie as tie
 
 returns : tie.Need-returns
 returns c =

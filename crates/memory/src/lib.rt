@@ -9,7 +9,7 @@ ghost use Rattle.protocol.specs.Bytes.{part};
 ghost use Rattle.protocol.specs.State.{bookHeights};
 ghost use Rattle.protocol.specs.View.{dummyRun};
 ghost use Rattle.fields.specs.Book.{Within, Shown, viewOf};
-ghost use Rattle.linking.specs.Memo.{MemoAs, runStart};
+ghost use Rattle.memory.specs.Memo.{MemoAs, runStart};
 
 // The size of a memory of the largest book.
 pub const SIZE: usize = 2304;

@@ -14,7 +14,7 @@ use Rattle.protocol.specs.Laws.BytesLaws.{word16-le16}
 use Rattle.protocol.specs.View.{View, linked, isDummy, dummyRun}
 use Rattle.protocol.specs.Laws.TestsLaws.{le-or-lt}
 use Rattle.sha256.specs.Digest.{sha256}
-use Rattle.linking.specs.Memo.{Known, KnownAt, runStart}
+use Rattle.memory.specs.Memo.{Known, KnownAt, runStart}
 
 -- two parts have the same bytes
 parts-same : (a b : Bytes) (i j k : ℕ) → i + k ≤ length a → j + k ≤ length b →
