@@ -28,24 +28,6 @@ loop-holds c =
       omega (arith, made .kept .0),
     )
 
-shared-slice-read-book : tie.Need-shared-slice-read-book Inv-loop μ-loop
-shared-slice-read-book c = omega arith
-
-mul-book : tie.Need-mul-book Inv-loop μ-loop
-mul-book c = omega arith
-
-add-book : tie.Need-add-book Inv-loop μ-loop
-add-book c = omega arith
-
-slice-write-book : tie.Need-slice-write-book Inv-loop μ-loop
-slice-write-book c = omega arith
-
-add-i : tie.Need-add-i Inv-loop μ-loop
-add-i c = omega arith
-
-loop-less : tie.Need-loop-less Inv-loop μ-loop
-loop-less c = omega arith
-
 loop-again : tie.Need-loop-again Inv-loop μ-loop
 loop-again c =
     let after-loop = c .before .before in
@@ -56,9 +38,6 @@ loop-again c =
       led-more (args .n) (args .own) (args .leaders .now) (at .i) (at .book) (at .inv .1) (omega arith),
       rw length-set (at .inv .2),
     )
-
-same-length : tie.Need-same-length Inv-loop μ-loop
-same-length c = omega arith
 
 returns : tie.Need-returns Inv-loop μ-loop
 returns c =
@@ -77,12 +56,12 @@ new-book-spec =
     μ-loop
     (λ c κs. search needs)
     loop-holds
-    shared-slice-read-book
-    mul-book
-    add-book
-    slice-write-book
-    add-i
-    loop-less
+    (λ c. omega arith)
+    (λ c. omega arith)
+    (λ c. omega arith)
+    (λ c. omega arith)
+    (λ c. omega arith)
+    (λ c. omega arith)
     loop-again
-    same-length
+    (λ c. omega arith)
     returns)
