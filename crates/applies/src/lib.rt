@@ -10,7 +10,7 @@ ghost use Rattle.protocol.specs.Move.{isRunning, isSome, someOr, parentBelow, n
 ghost use Rattle.protocol.specs.Move.{passApplies, proposeApplies, blockVoteApplies};
 ghost use Rattle.protocol.specs.Block.{maximumHeights};
 ghost use Rattle.fields.specs.Book.{Readable, SoundBook};
-ghost use Rattle.linking.specs.Memo.{Memo};
+ghost use Rattle.memory.specs.Memo.{Memo};
 ghost use Rattle.linking.specs.Parent.{parentOption};
 ghost use Rattle.applies.specs.Held.{heldExtends};
 

@@ -125,10 +125,10 @@ pub fn keep_unlogged(book: &mut [u8], entry: &[u8])
         if chain_holds(book, log_height, fields::pool::pending_entry(book, k)) {
             k += 1;
         } else {
-            fields::pool::move_entry(book, k, kept);
+            changes::pool::move_entry(book, k, kept);
             kept += 1;
             k += 1;
         }
     }
-    fields::pool::finish_pool(book, kept, entry);
+    changes::pool::finish_pool(book, kept, entry);
 }

@@ -5,13 +5,13 @@ use crate::parts::frame_block;
 use crate::parts::frame_block_digest;
 use crate::parts::frame_digest;
 use crate::parts::frame_signers;
+use changes::height::keep_mask;
+use changes::height::keep_notarized;
+use changes::height::keep_vote;
 use fields::height::holds_proposal;
 use fields::height::is_notarized;
 use fields::height::mask_at;
 use fields::height::voter_mask;
-use fields::keep::keep_mask;
-use fields::keep::keep_notarized;
-use fields::keep::keep_vote;
 use fields::mask::in_mask;
 use wire::frame::frame_kind;
 use wire::frame::frame_mask;
@@ -39,7 +39,7 @@ fn keep_proposal(book: &mut [u8], h: usize, frame: &[u8]) -> bool
         false
     } else {
         let digest = frame_block_digest(frame);
-        fields::keep::keep_proposal(book, h, frame_block(frame));
+        changes::height::keep_proposal(book, h, frame_block(frame));
         notarize_with(book, h, &digest);
         true
     }

@@ -1,8 +1,8 @@
 // A held proposal with a quorum of kept votes becomes the notarized block of its height.
+use changes::height::notarize_held;
 use fields::height::holds_proposal;
 use fields::height::is_notarized;
 use fields::height::proposal;
-use fields::keep::notarize_held;
 use fields::quorum::quorum;
 use tally::voters_for;
 ghost use mathlib.Core.Path.{_≡_};

@@ -1,6 +1,4 @@
 pub mod Places
 pub mod Counts
-pub mod Copies
 pub mod Writes
-pub mod Leaders
 pub mod Showing

@@ -1,10 +1,7 @@
-// The fields of a replica's book: reading them where they lie, and writing them in place.
+// The fields of a book: reading them where they lie, and writing those of the head.
 pub mod bounds;
-pub mod fresh;
 pub mod head;
 pub mod height;
-mod inside;
-pub mod keep;
 pub mod kind;
 pub mod mask;
 pub mod pool;

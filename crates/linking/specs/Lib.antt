@@ -1,3 +1,2 @@
--- What the contracts of linking and of its memory speak of.
-pub mod Memo
+-- What the contracts of linking speak of.
 pub mod Parent

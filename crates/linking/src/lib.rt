@@ -1,4 +1,3 @@
-// Linked and finalized heights: the walk back over parent heights, and the memory that it is lent.
+// Linked and finalized heights: the walk back over parent heights.
 pub mod linking;
 pub mod links;
-pub mod memory;

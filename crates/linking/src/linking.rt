@@ -13,7 +13,7 @@ ghost use Rattle.protocol.specs.State.{bookHeights};
 ghost use Rattle.protocol.specs.View.{digestAt, linked as isLinked, extends as doesExtend, isFinalized};
 ghost use Rattle.protocol.specs.View.{largestFinalized, parentOf};
 ghost use Rattle.fields.specs.Book.{Within, Shown, viewOf};
-ghost use Rattle.linking.specs.Memo.{MemoAs};
+ghost use Rattle.memory.specs.Memo.{MemoAs};
 ghost use Rattle.linking.specs.Parent.{parentOption};
 
 // The digest that a block on the block of height `j` names: zeros for height 0. The memory keeps it.
@@ -28,7 +28,7 @@ pub fn parent_digest(kind: Kind, book: &[u8], j: usize, known: &mut [u8]) -> [u8
     if j == 0 {
         return digest;
     }
-    crate::memory::keep_digest(kind, book, j, known);
+    memory::keep_digest(kind, book, j, known);
     let start = 36 * j + 4;
     wire::bytes::copy_to(&mut digest, 0, &known[start..start + 32]);
     digest
@@ -102,7 +102,7 @@ pub fn extends(kind: Kind, book: &[u8], h: usize, block: &[u8], known: &mut [u8]
     let j = wire::block::parent_height(block);
     if j < h {
         if linked(kind, book, j, known) {
-            if crate::memory::dummies_after(kind, book, j, h - 1, known) {
+            if memory::dummies_after(kind, book, j, h - 1, known) {
                 return names_parent(kind, book, block, j, known);
             }
         }

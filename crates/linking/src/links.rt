@@ -8,7 +8,7 @@ ghost use Rattle.protocol.specs.State.{bookHeights};
 ghost use Rattle.protocol.specs.View.{digestAt, linked as isLinked, extends as doesExtend, isFinalized};
 ghost use Rattle.protocol.specs.View.{largestFinalized, parentOf};
 ghost use Rattle.fields.specs.Book.{Within, Readable, bookView};
-ghost use Rattle.linking.specs.Memo.{Memo};
+ghost use Rattle.memory.specs.Memo.{Memo};
 ghost use Rattle.linking.specs.Parent.{parentOption};
 
 // The height of a chain's last block, or nothing where there is no chain.

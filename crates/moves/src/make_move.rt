@@ -16,7 +16,7 @@ ghost use lib.ListN.{length};
 ghost use Rattle.sha256.specs.Digest.{sha256 as sha};
 ghost use Rattle.protocol.specs.State.{decode};
 ghost use Rattle.protocol.specs.Move.{step as firstMove, moveCall};
-ghost use Rattle.linking.specs.Memo.{Memo};
+ghost use Rattle.memory.specs.Memo.{Memo};
 ghost use Rattle.answers.specs.Answers.{movedAnswer};
 ghost use Rattle.applies.specs.Took.{Took};
 ghost use Rattle.moves.specs.Later.{laterStep};
@@ -68,7 +68,7 @@ pub fn make_move(book: &mut [u8], reply: &mut [u8]) -> Moved
     ensures book { λ _. ⌜ now (book .exit) ≡ moveCall sha (now (book .entry)) (now (reply .entry)) .book ⌝ }
     ensures reply { λ _. ⌜ now (reply .exit) ≡ moveCall sha (now (book .entry)) (now (reply .entry)) .reply ⌝ }
 {
-    let mut known = [0u8; linking::memory::SIZE];
+    let mut known = [0u8; memory::SIZE];
     if soundness::sound(book, &mut known) {
         if 448 <= reply.len() {
             step(book, reply, &mut known)

@@ -7,7 +7,7 @@ use fields::height::is_notarized;
 use fields::height::notarized;
 use fields::height::proposal;
 use fields::mask::below;
-use linking::memory::SIZE;
+use memory::SIZE;
 use wire::bytes::byte;
 use wire::bytes::is_zero;
 ghost use mathlib.Core.Path.{_≡_};
@@ -22,7 +22,7 @@ ghost use Rattle.protocol.specs.State.{decode, at, bookHeights};
 ghost use Rattle.protocol.specs.View.{quorum};
 ghost use Rattle.protocol.specs.Sound.{masksBelow, contentZeros, sound as isSound};
 ghost use Rattle.fields.specs.Book.{Within, Readable, heightIn};
-ghost use Rattle.linking.specs.Memo.{Memo, memorySize};
+ghost use Rattle.memory.specs.Memo.{Memo, memorySize};
 ghost use Rattle.soundness.specs.SoundRows.{numberRows, headRows, certificateRow, heightRows, bookRows, finalRow};
 
 // Whether the numbers of the head are in their ranges.

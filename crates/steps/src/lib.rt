@@ -19,7 +19,7 @@ ghost use Rattle.protocol.specs.Answer.{accepted, onBlock, onDummy};
 ghost use Rattle.protocol.specs.Move.{dummyVoteStep, outputStep, passStep, proposeStep, blockVoteStep, newFinalized};
 ghost use Rattle.protocol.specs.Move.{parentBelow, isSome};
 ghost use Rattle.protocol.specs.Block.{maximumHeights};
-ghost use Rattle.linking.specs.Memo.{Memo};
+ghost use Rattle.memory.specs.Memo.{Memo};
 ghost use Rattle.chains.specs.Walkable.{Walkable};
 ghost use Rattle.answers.specs.Answers.{movedAnswer, certificateOf};
 ghost use Rattle.applies.specs.Took.{Took};

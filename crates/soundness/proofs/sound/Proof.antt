@@ -5,7 +5,7 @@ use mathlib.Core.Bool.{false≢true}
 use lib.ListN.{length}
 use Rattle.sha256.specs.Digest.{sha256}
 use Rattle.protocol.specs.Laws.BytesLaws.{length-zeros}
-use Rattle.linking.specs.Memo.{memorySize}
+use Rattle.memory.specs.Memo.{memorySize}
 use Rattle.soundness.specs.Laws.SoundRowsLaws.{zero-memo}
 use Rattle.soundness.proofs.SoundTests.{sound-final, not-sound-rows}
 use borrow.Author.Needs.{needs}

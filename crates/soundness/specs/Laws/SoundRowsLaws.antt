@@ -16,7 +16,7 @@ use Rattle.protocol.specs.Laws.RowLaws.{zeros-is-zero}
 use Rattle.protocol.specs.Laws.BytesLaws.{length-zeros}
 use Rattle.fields.specs.Laws.BookLaws.{readable as make-readable}
 use Rattle.fields.specs.Book.{Readable}
-use Rattle.linking.specs.Memo.{Memo, memorySize}
+use Rattle.memory.specs.Memo.{Memo, memorySize}
 use Rattle.soundness.specs.SoundRows.{numberRows, headRows, heightRows, finalRow}
 use Rattle.protocol.specs.Laws.SoundRowNames.{lengthRow, replicasRow, ownRow, heightsRow, editionRow, currentRow}
 use Rattle.protocol.specs.Laws.SoundRowNames.{flagsRow, pendingRow, leadersRow, masksRow, statusRow, blocksRow}

@@ -47,21 +47,6 @@ sub-end c =
     let count = walk-count step refl (c .entry-count .ensures .0) in
     omega arith
 
-mul-copy-to : tie.Need-mul-copy-to Inv-loop μ-loop
-mul-copy-to c = omega arith
-
-mul-copy-to-2 : tie.Need-mul-copy-to-2 Inv-loop μ-loop
-mul-copy-to-2 c = omega arith
-
-add-copy-to : tie.Need-add-copy-to Inv-loop μ-loop
-add-copy-to c = omega arith
-
-sub-copy-to : tie.Need-sub-copy-to Inv-loop μ-loop
-sub-copy-to c = omega arith
-
-part-copy-to-start : tie.Need-part-copy-to-start Inv-loop μ-loop
-part-copy-to-start c = omega arith
-
 part-copy-to-end : tie.Need-part-copy-to-end Inv-loop μ-loop
 part-copy-to-end c =
     let turn = c .before .before in
@@ -136,11 +121,11 @@ copy-chain-spec =
     block-requires
     entry-count-requires
     sub-end
-    mul-copy-to
-    mul-copy-to-2
-    add-copy-to
-    sub-copy-to
-    part-copy-to-start
+    (λ c. omega arith)
+    (λ c. omega arith)
+    (λ c. omega arith)
+    (λ c. omega arith)
+    (λ c. omega arith)
     part-copy-to-end
     copy-to-requires
     parent-height-requires

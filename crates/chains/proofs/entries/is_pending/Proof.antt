@@ -40,12 +40,6 @@ returns c =
     sym (loop .inv .1 ∙ pending-found (decode (args .book .now)) (args .entry .now) (loop .k) inside
     (after-pending-entry .pending-entry .ensures) (after-same-bytes .same-bytes .ensures) (c .if1 .taken))
 
-add-k : tie.Need-add-k Inv-loop μ-loop
-add-k c = omega arith
-
-loop-less : tie.Need-loop-less Inv-loop μ-loop
-loop-less c = omega arith
-
 loop-again : tie.Need-loop-again Inv-loop μ-loop
 loop-again c =
     let after-same-bytes = c .before in
@@ -80,7 +74,7 @@ is-pending-spec =
     pending-entry-requires
     (λ c κs. search needs)
     returns
-    add-k
-    loop-less
+    (λ c. omega arith)
+    (λ c. omega arith)
     loop-again
     returns-2)

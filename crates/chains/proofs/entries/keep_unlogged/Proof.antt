@@ -89,12 +89,6 @@ chain-holds-requires c κs =
     closed-walk (book at) (start at .pre .0) (few at) (at .loop .k) (within at) (at .loop .book) (at .loop .inv .2)
     (walk-at (start at .pre .1 .0) (at .before .before .before .finalized .ensures .0))
 
-add-k : tie.Need-add-k Inv-loop μ-loop
-add-k c = omega arith
-
-loop-less : tie.Need-loop-less Inv-loop μ-loop
-loop-less c = omega arith
-
 loop-again : tie.Need-loop-again Inv-loop μ-loop
 loop-again c =
     let after-chain-holds = c .before in
@@ -123,12 +117,6 @@ add-kept c =
     let at = c .before .before .before .before .before .before .before .before .before in
     let short = staying-few (s at) (at .loop .k) in
     omega arith
-
-add-k-2 : tie.Need-add-k-2 Inv-loop μ-loop
-add-k-2 c = omega arith
-
-loop-less-2 : tie.Need-loop-less-2 Inv-loop μ-loop
-loop-less-2 c = omega arith
 
 loop-again-2 : tie.Need-loop-again-2 Inv-loop μ-loop
 loop-again-2 c =
@@ -185,13 +173,13 @@ keep-unlogged-spec =
     loop-holds
     pending-entry-requires
     chain-holds-requires
-    add-k
-    loop-less
+    (λ c. omega arith)
+    (λ c. omega arith)
     loop-again
     move-entry-requires
     add-kept
-    add-k-2
-    loop-less-2
+    (λ c. omega arith)
+    (λ c. omega arith)
     loop-again-2
     finish-pool-requires
     same-length

@@ -120,12 +120,6 @@ chain-holds-requires c κs =
     let start = c .before .before .before .before .before .before .before .before .before .before .before .before in
     start .pre .0
 
-add-k : tie.Need-add-k Inv-loop μ-loop
-add-k c = omega arith
-
-loop-less : tie.Need-loop-less Inv-loop μ-loop
-loop-less c = omega arith
-
 loop-again : tie.Need-loop-again Inv-loop μ-loop
 loop-again c =
     let after-chain-holds = c .before in
@@ -148,15 +142,6 @@ add-entry-requires c κs =
     let size = same-size at in
     let more : at .loop .taken < 8 = omega (arith, c .before .before .before .if1 .left) in
     (omega arith, (more, entry-size at (omega arith) (c .before .before .before .before .pending-entry .ensures)))
-
-add-taken : tie.Need-add-taken Inv-loop μ-loop
-add-taken c = omega arith
-
-add-k-2 : tie.Need-add-k-2 Inv-loop μ-loop
-add-k-2 c = omega arith
-
-loop-less-2 : tie.Need-loop-less-2 Inv-loop μ-loop
-loop-less-2 c = omega arith
 
 loop-again-2 : tie.Need-loop-again-2 Inv-loop μ-loop
 loop-again-2 c =
@@ -202,13 +187,13 @@ offer-spec =
     same-length
     returns
     chain-holds-requires
-    add-k
-    loop-less
+    (λ c. omega arith)
+    (λ c. omega arith)
     loop-again
     add-entry-requires
-    add-taken
-    add-k-2
-    loop-less-2
+    (λ c. omega arith)
+    (λ c. omega arith)
+    (λ c. omega arith)
     loop-again-2
     same-length-2
     returns-2)

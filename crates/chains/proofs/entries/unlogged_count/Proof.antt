@@ -40,12 +40,6 @@ chain-holds-requires c κs =
     let start = after-finalized .before .before in
     walk-at (start .pre .0) (after-finalized .finalized .ensures .0)
 
-add-k : tie.Need-add-k Inv-loop μ-loop
-add-k c = omega arith
-
-loop-less : tie.Need-loop-less Inv-loop μ-loop
-loop-less c = omega arith
-
 loop-again : tie.Need-loop-again Inv-loop μ-loop
 loop-again c =
     let after-chain-holds = c .before in
@@ -58,15 +52,6 @@ loop-again c =
     let leaves = place-leaves s log (loop .k) inside (after-pending-entry .pending-entry .ensures)
     (after-chain-holds .chain-holds .ensures) (c .if1 .taken) in
     (omega arith, loop .inv .1 ∙ ap length (sym leaves), omega arith)
-
-add-kept : tie.Need-add-kept Inv-loop μ-loop
-add-kept c = omega arith
-
-add-k-2 : tie.Need-add-k-2 Inv-loop μ-loop
-add-k-2 c = omega arith
-
-loop-less-2 : tie.Need-loop-less-2 Inv-loop μ-loop
-loop-less-2 c = omega arith
 
 loop-again-2 : tie.Need-loop-again-2 Inv-loop μ-loop
 loop-again-2 c =
@@ -106,11 +91,11 @@ unlogged-count-spec =
     loop-holds
     pending-entry-requires
     chain-holds-requires
-    add-k
-    loop-less
+    (λ c. omega arith)
+    (λ c. omega arith)
     loop-again
-    add-kept
-    add-k-2
-    loop-less-2
+    (λ c. omega arith)
+    (λ c. omega arith)
+    (λ c. omega arith)
     loop-again-2
     returns)

@@ -12,7 +12,7 @@ use Rattle.protocol.specs.View.{extends as extends-test}
 use Rattle.fields.specs.Book.{viewOf}
 use Rattle.linking.proofs.Walk.{extends-by-digest, extends-not-run, extends-not-linked, extends-not-below}
 use Rattle.linking.proofs.Walk.{linked-start, linked-by-block, not-linked-without}
-use Rattle.linking.proofs.Stores.{remember-linked, remember-unlinked}
+use Rattle.memory.proofs.Stores.{remember-linked, remember-unlinked}
 use borrow.Fn.Kinds.{In}
 use borrow.Fn.PlainCycle.{Measures, is, falls, and}
 use Rattle.linking.proofs.linking.extends.Reads as extends
@@ -27,7 +27,7 @@ use Rattle.linking.proofs.linking.+extends+linked+links_back.Lts-links_
 use Rattle.wire.proofs.block.parent_height.Reads as parent-height-reads
 use Rattle.fields.proofs.kind.has_block.Reads as has-block-reads
 use Rattle.fields.proofs.kind.block.Reads as block-reads
-use Rattle.linking.proofs.memory.dummies_after.Reads as dummies-after-reads
+use Rattle.memory.proofs.dummies_after.Reads as dummies-after-reads
 use Rattle.linking.proofs.linking.names_parent.Reads as names-parent-reads
 use Rattle.linking.proofs.linking.+extends+linked+links_back.{statement}
 use Rattle.linking.proofs.linking.+extends+linked+links_back.Tie.{close}
@@ -61,375 +61,9 @@ abbrev links-back-below : ℕ → In 2 links-back-kinds.ps
 links-back-below t =
     and 2 links-back-kinds.ps (falls 2 links-back-kinds.ps _<_ μ-links-back t) links-back.Pre
 
-extends-parent-height-requires : (t : ℕ) → extends-lts.Need-parent-height-requires (
-  parent-height-reads.Asked,
-  parent-height-reads.Learnt,
-  linked-below t,
-  linked.Post,
-  dummies-after-reads.Asked,
-  dummies-after-reads.Learnt,
-  names-parent-reads.Asked,
-  names-parent-reads.Learnt,
-) (extends-at t) extends.Post
-extends-parent-height-requires t c κs = search needs
-
-extends-linked-requires : (t : ℕ) → extends-lts.Need-linked-requires (
-  parent-height-reads.Asked,
-  parent-height-reads.Learnt,
-  linked-below t,
-  linked.Post,
-  dummies-after-reads.Asked,
-  dummies-after-reads.Learnt,
-  names-parent-reads.Asked,
-  names-parent-reads.Learnt,
-) (extends-at t) extends.Post
-extends-linked-requires t c κs =
-    let z = c .before .before .before .before .before .before in
-    (omega arith, (z .pre .1 .0, (z .pre .1 .1 .0, omega arith)))
-
-extends-sub-dummies-after : (t : ℕ) → extends-lts.Need-sub-dummies-after (
-  parent-height-reads.Asked,
-  parent-height-reads.Learnt,
-  linked-below t,
-  linked.Post,
-  dummies-after-reads.Asked,
-  dummies-after-reads.Learnt,
-  names-parent-reads.Asked,
-  names-parent-reads.Learnt,
-) (extends-at t) extends.Post
-extends-sub-dummies-after t c = search needs
-
-extends-dummies-after-requires : (t : ℕ) → extends-lts.Need-dummies-after-requires (
-  parent-height-reads.Asked,
-  parent-height-reads.Learnt,
-  linked-below t,
-  linked.Post,
-  dummies-after-reads.Asked,
-  dummies-after-reads.Learnt,
-  names-parent-reads.Asked,
-  names-parent-reads.Learnt,
-) (extends-at t) extends.Post
-extends-dummies-after-requires t c κs =
-    let z = c .before .before .before .before .before .before .before .before .before .before .before in
-    (z .pre .1 .0, (c .before .before .before .before .linked .ensures .1, (omega arith, omega arith)))
-
-extends-names-parent-requires : (t : ℕ) → extends-lts.Need-names-parent-requires (
-  parent-height-reads.Asked,
-  parent-height-reads.Learnt,
-  linked-below t,
-  linked.Post,
-  dummies-after-reads.Asked,
-  dummies-after-reads.Learnt,
-  names-parent-reads.Asked,
-  names-parent-reads.Learnt,
-) (extends-at t) extends.Post
-extends-names-parent-requires t c κs =
-    let z = c .before .before .before .before .before .before .before .before .before .before .before .before .before
-    .before .before .before in
-    (z .pre .1 .0, (c .before .before .before .before .dummies-after .ensures .1, (z .pre .1 .1 .1 .1, omega arith)))
-
-extends-same-length : (t : ℕ) → extends-lts.Need-same-length (
-  parent-height-reads.Asked,
-  parent-height-reads.Learnt,
-  linked-below t,
-  linked.Post,
-  dummies-after-reads.Asked,
-  dummies-after-reads.Learnt,
-  names-parent-reads.Asked,
-  names-parent-reads.Learnt,
-) (extends-at t) extends.Post
-extends-same-length t c = search needs
-
-extends-returns : (t : ℕ) → extends-lts.Need-returns (
-  parent-height-reads.Asked,
-  parent-height-reads.Learnt,
-  linked-below t,
-  linked.Post,
-  dummies-after-reads.Asked,
-  dummies-after-reads.Learnt,
-  names-parent-reads.Asked,
-  names-parent-reads.Learnt,
-) (extends-at t) extends.Post
-extends-returns t c =
-    let tested = c .before .before .before .before .before .before .before .before .before .before .before .before
-    .before .before in
-    let read = tested .before in
-    let z = read .before .before .before .before in
-    let v = viewOf (z .args .kind) (z .args .book .now) in
-    let j = read .parent-height .result in
-    let named = c .before .before .names-parent in (
-      named .ensures .0 ∙ sym (extends-by-digest v (z .args .h) j (z .args .block .now)
-          (sym (read .parent-height .ensures .0)) (lt-ltb j (z .args .h) (tested .if1 .taken))
-          (sym (c .before .before .before .before .before .before .before .before .before .before .before
-          .before .linked
-          .ensures .0) ∙ c .before .before .before .before .before .before .before .before .before .if2 .taken)
-          (sym (c .before .before .before .before .before .before .before .dummies-after .ensures .0)
-          ∙ c .before .before .before .before .if3 .taken)),
-      named .ensures .1,
-    )
-
-extends-same-length-2 : (t : ℕ) → extends-lts.Need-same-length-2 (
-  parent-height-reads.Asked,
-  parent-height-reads.Learnt,
-  linked-below t,
-  linked.Post,
-  dummies-after-reads.Asked,
-  dummies-after-reads.Learnt,
-  names-parent-reads.Asked,
-  names-parent-reads.Learnt,
-) (extends-at t) extends.Post
-extends-same-length-2 t c = search needs
-
-extends-returns-2 : (t : ℕ) → extends-lts.Need-returns-2 (
-  parent-height-reads.Asked,
-  parent-height-reads.Learnt,
-  linked-below t,
-  linked.Post,
-  dummies-after-reads.Asked,
-  dummies-after-reads.Learnt,
-  names-parent-reads.Asked,
-  names-parent-reads.Learnt,
-) (extends-at t) extends.Post
-extends-returns-2 t c =
-    let read = c .before .before .before .before .before .before .before .before .before .before .before in
-    let z = read .before .before .before .before in
-    let v = viewOf (z .args .kind) (z .args .book .now) in
-    let j = read .parent-height .result in
-    let run = c .before .before .before .dummies-after in (
-      sym (extends-not-run v (z .args .h) j (z .args .block .now) (sym (read .parent-height .ensures .0))
-          (sym (run .ensures .0) ∙ c .if3 .left)),
-      run .ensures .1,
-    )
-
-extends-same-length-3 : (t : ℕ) → extends-lts.Need-same-length-3 (
-  parent-height-reads.Asked,
-  parent-height-reads.Learnt,
-  linked-below t,
-  linked.Post,
-  dummies-after-reads.Asked,
-  dummies-after-reads.Learnt,
-  names-parent-reads.Asked,
-  names-parent-reads.Learnt,
-) (extends-at t) extends.Post
-extends-same-length-3 t c = search needs
-
-extends-returns-3 : (t : ℕ) → extends-lts.Need-returns-3 (
-  parent-height-reads.Asked,
-  parent-height-reads.Learnt,
-  linked-below t,
-  linked.Post,
-  dummies-after-reads.Asked,
-  dummies-after-reads.Learnt,
-  names-parent-reads.Asked,
-  names-parent-reads.Learnt,
-) (extends-at t) extends.Post
-extends-returns-3 t c =
-    let read = c .before .before .before .before .before .before in
-    let z = read .before .before .before .before in
-    let v = viewOf (z .args .kind) (z .args .book .now) in
-    let j = read .parent-height .result in (
-      sym (extends-not-linked v (z .args .h) j (z .args .block .now) (sym (read .parent-height .ensures .0))
-          (sym (c .before .before .before .linked .ensures .0) ∙ c .if2 .left)),
-      c .before .before .before .linked .ensures .1,
-    )
-
-extends-returns-4 : (t : ℕ) → extends-lts.Need-returns-4 (
-  parent-height-reads.Asked,
-  parent-height-reads.Learnt,
-  linked-below t,
-  linked.Post,
-  dummies-after-reads.Asked,
-  dummies-after-reads.Learnt,
-  names-parent-reads.Asked,
-  names-parent-reads.Learnt,
-) (extends-at t) extends.Post
-extends-returns-4 t c =
-    let read = c .before in
-    let z = read .before .before .before .before in
-    let v = viewOf (z .args .kind) (z .args .book .now) in
-    let j = read .parent-height .result in (
-      sym (extends-not-below v (z .args .h) j (z .args .block .now) (sym (read .parent-height .ensures .0))
-          (le-ltb j (z .args .h) (omega arith))),
-      z .pre .1 .1 .0,
-    )
-
-linked-returns :
-    (t : ℕ) →
-    linked-lts.Need-returns (links-back-below t, links-back.Post) (linked-at t) linked.Post
-linked-returns t c =
-    let z = c .before .before .before in
-    (sym (linked-start (viewOf (z .args .kind) (z .args .book .now)) (z .args .h) (c .if1 .taken)), z .pre .1 .1 .0)
-
-linked-mul-seen : (t : ℕ) → linked-lts.Need-mul-seen (
-  links-back-below t,
-  links-back.Post,
-) (linked-at t) linked.Post
-linked-mul-seen t c = search needs
-
-linked-slice-read-seen : (t : ℕ) → linked-lts.Need-slice-read-seen (
-  links-back-below t,
-  links-back.Post,
-) (linked-at t) linked.Post
-linked-slice-read-seen t c = search needs
-
-linked-returns-2 :
-    (t : ℕ) →
-    linked-lts.Need-returns-2 (links-back-below t, links-back.Post) (linked-at t) linked.Post
-linked-returns-2 t c =
-    let z = c .before .before .before .before .before in
-    (sym (z .pre .1 .1 .0 .each (z .args .h) (omega arith) .is-linked (c .if2 .taken)), z .pre .1 .1 .0)
-
-linked-returns-3 :
-    (t : ℕ) →
-    linked-lts.Need-returns-3 (links-back-below t, links-back.Post) (linked-at t) linked.Post
-linked-returns-3 t c =
-    let z = c .before .before .before .before .before .before in
-    (sym (z .pre .1 .1 .0 .each (z .args .h) (omega arith) .not-linked (c .if3 .taken)), z .pre .1 .1 .0)
-
-linked-links-back-requires : (t : ℕ) → linked-lts.Need-links-back-requires (
-  links-back-below t,
-  links-back.Post,
-) (linked-at t) linked.Post
-linked-links-back-requires t c κs =
-    let z = c .before .before .before .before .before .before .before in
-    (omega arith, (z .pre .1 .0, (z .pre .1 .1 .0, record { low = omega arith; high = z .pre .1 .1 .1 })))
-
-linked-mul-known : (t : ℕ) → linked-lts.Need-mul-known (
-  links-back-below t,
-  links-back.Post,
-) (linked-at t) linked.Post
-linked-mul-known t c = search needs
-
-linked-slice-write-known : (t : ℕ) → linked-lts.Need-slice-write-known (
-  links-back-below t,
-  links-back.Post,
-) (linked-at t) linked.Post
-linked-slice-write-known t c = search needs
-
-linked-mul-known-2 : (t : ℕ) → linked-lts.Need-mul-known-2 (
-  links-back-below t,
-  links-back.Post,
-) (linked-at t) linked.Post
-linked-mul-known-2 t c = search needs
-
-linked-slice-write-known-2 : (t : ℕ) → linked-lts.Need-slice-write-known-2 (
-  links-back-below t,
-  links-back.Post,
-) (linked-at t) linked.Post
-linked-slice-write-known-2 t c = search needs
-
-linked-same-length :
-    (t : ℕ) →
-    linked-lts.Need-same-length (links-back-below t, links-back.Post) (linked-at t) linked.Post
-linked-same-length t c = search needs
-
-linked-returns-4 :
-    (t : ℕ) →
-    linked-lts.Need-returns-4 (links-back-below t, links-back.Post) (linked-at t) linked.Post
-linked-returns-4 t c =
-    let z = c .before .before .before .before .before .before .before .before .before .before .before in
-    let back = c .before .before .before .links-back in (
-      back .ensures .0,
-      remember-linked (viewOf (z .args .kind) (z .args .book .now)) (back .last .1 .1 .1 .0)
-          (back .ensures .1) (z .args .h) (omega arith) (sym (back .ensures .0) ∙ c .if4 .taken),
-    )
-
-linked-same-length-2 : (t : ℕ) → linked-lts.Need-same-length-2 (
-  links-back-below t,
-  links-back.Post,
-) (linked-at t) linked.Post
-linked-same-length-2 t c = search needs
-
-linked-returns-5 :
-    (t : ℕ) →
-    linked-lts.Need-returns-5 (links-back-below t, links-back.Post) (linked-at t) linked.Post
-linked-returns-5 t c =
-    let z = c .before .before .before .before .before .before .before .before .before .before .before in
-    let back = c .before .before .before .links-back in (
-      back .ensures .0,
-      remember-unlinked (viewOf (z .args .kind) (z .args .book .now)) (back .last .1 .1 .1 .0)
-          (back .ensures .1) (z .args .h) (omega arith) (sym (back .ensures .0) ∙ c .if4 .left),
-    )
-
-links-back-has-block-requires : (t : ℕ) → links-back-lts.Need-has-block-requires (
-  has-block-reads.Asked,
-  has-block-reads.Learnt,
-  block-reads.Asked,
-  block-reads.Learnt,
-  extends-below t,
-  extends.Post,
-) (links-back-at t) links-back.Post
-links-back-has-block-requires t c κs = search needs
-
-links-back-block-requires : (t : ℕ) → links-back-lts.Need-block-requires (
-  has-block-reads.Asked,
-  has-block-reads.Learnt,
-  block-reads.Asked,
-  block-reads.Learnt,
-  extends-below t,
-  extends.Post,
-) (links-back-at t) links-back.Post
-links-back-block-requires t c κs = search needs
-
-links-back-extends-requires : (t : ℕ) → links-back-lts.Need-extends-requires (
-  has-block-reads.Asked,
-  has-block-reads.Learnt,
-  block-reads.Asked,
-  block-reads.Learnt,
-  extends-below t,
-  extends.Post,
-) (links-back-at t) links-back.Post
-links-back-extends-requires t c κs =
-    let z = c .before .before .before .before .before .before in
-    (omega arith, (z .pre .1 .0, (z .pre .1 .1 .0, (z .pre .1 .1 .1, c .before .block .ensures .1))))
-
-links-back-same-length : (t : ℕ) → links-back-lts.Need-same-length (
-  has-block-reads.Asked,
-  has-block-reads.Learnt,
-  block-reads.Asked,
-  block-reads.Learnt,
-  extends-below t,
-  extends.Post,
-) (links-back-at t) links-back.Post
-links-back-same-length t c = search needs
-
-links-back-returns : (t : ℕ) → links-back-lts.Need-returns (
-  has-block-reads.Asked,
-  has-block-reads.Learnt,
-  block-reads.Asked,
-  block-reads.Learnt,
-  extends-below t,
-  extends.Post,
-) (links-back-at t) links-back.Post
-links-back-returns t c =
-    let z = c .before .before .before .before .before .before .before .before .before in
-    let v = viewOf (z .args .kind) (z .args .book .now) in
-    let h = z .args .h in (
-      c .before .before .extends .ensures .0
-          ∙ ap (λ (b : Bytes). extends-test sha256 v h b) (c .before .before .before .before .block .ensures .0)
-          ∙ sym (linked-by-block v h (z .pre .1 .1 .1 .low)
-          (sym (c .before .before .before .before .before .before .has-block .ensures)
-          ∙ c .before .before .before .before .before .if1 .taken)),
-      c .before .before .extends .ensures .1,
-    )
-
-links-back-returns-2 : (t : ℕ) → links-back-lts.Need-returns-2 (
-  has-block-reads.Asked,
-  has-block-reads.Learnt,
-  block-reads.Asked,
-  block-reads.Learnt,
-  extends-below t,
-  extends.Post,
-) (links-back-at t) links-back.Post
-links-back-returns-2 t c =
-    let z = c .before .before .before .before in (
-      sym (not-linked-without (viewOf (z .args .kind) (z .args .book .now)) (z .args .h) (z .pre .1 .1 .1 .low)
-          (sym (c .before .has-block .ensures) ∙ c .if1 .left)),
-      z .pre .1 .1 .0,
-    )
-
-pub +extends+linked+links-back-spec : {M : Type 1} → statement M
-+extends+linked+links-back-spec = close μ-extends μ-linked μ-links-back (λ t. extends-lts.spec (
+-- What the callees of each are asked for and give back, those of the cycle at a smaller measure.
+abbrev extends-claims : ℕ → extends-lts.Claims
+extends-claims t = (
   parent-height-reads.Asked,
   parent-height-reads.Learnt,
   linked-below t,
@@ -439,51 +73,196 @@ pub +extends+linked+links-back-spec : {M : Type 1} → statement M
   names-parent-reads.Asked,
   names-parent-reads.Learnt,
 )
+
+abbrev linked-claims : ℕ → linked-lts.Claims
+linked-claims t = (links-back-below t, links-back.Post)
+
+abbrev links-back-claims : ℕ → links-back-lts.Claims
+links-back-claims t = (
+  has-block-reads.Asked,
+  has-block-reads.Learnt,
+  block-reads.Asked,
+  block-reads.Learnt,
+  extends-below t,
+  extends.Post,
+)
+
+module _ (t : ℕ) where
+  extends-linked-requires : extends-lts.Need-linked-requires (extends-claims t) (extends-at t) extends.Post
+  extends-linked-requires c κs =
+      let z = c .before .before .before .before .before .before in
+      (omega arith, (z .pre .1 .0, (z .pre .1 .1 .0, omega arith)))
+
+  extends-dummies-after-requires :
+      extends-lts.Need-dummies-after-requires (extends-claims t) (extends-at t) extends.Post
+  extends-dummies-after-requires c κs =
+      let z = c .before .before .before .before .before .before .before .before .before .before .before in
+      (z .pre .1 .0, (c .before .before .before .before .linked .ensures .1, (omega arith, omega arith)))
+
+  extends-names-parent-requires : extends-lts.Need-names-parent-requires (extends-claims t) (extends-at t) extends.Post
+  extends-names-parent-requires c κs =
+      let z = c .before .before .before .before .before .before .before .before .before .before .before .before .before
+      .before .before .before in
+      (z .pre .1 .0, (c .before .before .before .before .dummies-after .ensures .1, (z .pre .1 .1 .1 .1, omega arith)))
+
+  extends-returns : extends-lts.Need-returns (extends-claims t) (extends-at t) extends.Post
+  extends-returns c =
+      let called = c .before .before in
+      let third = called .before .before in
+      let ran = third .before .before .before in
+      let second = ran .before .before in
+      let walked = second .before .before .before in
+      let first = walked .before .before in
+      let read = first .before in
+      let z = read .before .before .before .before in
+      let v = viewOf (z .args .kind) (z .args .book .now) in
+      let j = read .parent-height .result in
+      let named = called .names-parent in (
+        named .ensures .0 ∙ sym (extends-by-digest v (z .args .h) j (z .args .block .now)
+            (sym (read .parent-height .ensures .0)) (lt-ltb j (z .args .h) (first .if1 .taken))
+            (sym (walked .linked .ensures .0) ∙ second .if2 .taken)
+            (sym (ran .dummies-after .ensures .0) ∙ third .if3 .taken)),
+        named .ensures .1,
+      )
+
+  extends-returns-2 : extends-lts.Need-returns-2 (extends-claims t) (extends-at t) extends.Post
+  extends-returns-2 c =
+      let read = c .before .before .before .before .before .before .before .before .before .before .before in
+      let z = read .before .before .before .before in
+      let v = viewOf (z .args .kind) (z .args .book .now) in
+      let j = read .parent-height .result in
+      let run = c .before .before .before .dummies-after in (
+        sym (extends-not-run v (z .args .h) j (z .args .block .now) (sym (read .parent-height .ensures .0))
+            (sym (run .ensures .0) ∙ c .if3 .left)),
+        run .ensures .1,
+      )
+
+  extends-returns-3 : extends-lts.Need-returns-3 (extends-claims t) (extends-at t) extends.Post
+  extends-returns-3 c =
+      let read = c .before .before .before .before .before .before in
+      let z = read .before .before .before .before in
+      let v = viewOf (z .args .kind) (z .args .book .now) in
+      let j = read .parent-height .result in (
+        sym (extends-not-linked v (z .args .h) j (z .args .block .now) (sym (read .parent-height .ensures .0))
+            (sym (c .before .before .before .linked .ensures .0) ∙ c .if2 .left)),
+        c .before .before .before .linked .ensures .1,
+      )
+
+  extends-returns-4 : extends-lts.Need-returns-4 (extends-claims t) (extends-at t) extends.Post
+  extends-returns-4 c =
+      let read = c .before in
+      let z = read .before .before .before .before in
+      let v = viewOf (z .args .kind) (z .args .book .now) in
+      let j = read .parent-height .result in (
+        sym (extends-not-below v (z .args .h) j (z .args .block .now) (sym (read .parent-height .ensures .0))
+            (le-ltb j (z .args .h) (omega arith))),
+        z .pre .1 .1 .0,
+      )
+
+  linked-returns : linked-lts.Need-returns (linked-claims t) (linked-at t) linked.Post
+  linked-returns c =
+      let z = c .before .before .before in
+      (sym (linked-start (viewOf (z .args .kind) (z .args .book .now)) (z .args .h) (c .if1 .taken)), z .pre .1 .1 .0)
+
+  linked-returns-2 : linked-lts.Need-returns-2 (linked-claims t) (linked-at t) linked.Post
+  linked-returns-2 c =
+      let z = c .before .before .before .before .before in
+      (sym (z .pre .1 .1 .0 .each (z .args .h) (omega arith) .is-linked (c .if2 .taken)), z .pre .1 .1 .0)
+
+  linked-returns-3 : linked-lts.Need-returns-3 (linked-claims t) (linked-at t) linked.Post
+  linked-returns-3 c =
+      let z = c .before .before .before .before .before .before in
+      (sym (z .pre .1 .1 .0 .each (z .args .h) (omega arith) .not-linked (c .if3 .taken)), z .pre .1 .1 .0)
+
+  linked-links-back-requires : linked-lts.Need-links-back-requires (linked-claims t) (linked-at t) linked.Post
+  linked-links-back-requires c κs =
+      let z = c .before .before .before .before .before .before .before in
+      (omega arith, (z .pre .1 .0, (z .pre .1 .1 .0, record { low = omega arith; high = z .pre .1 .1 .1 })))
+
+  linked-returns-4 : linked-lts.Need-returns-4 (linked-claims t) (linked-at t) linked.Post
+  linked-returns-4 c =
+      let z = c .before .before .before .before .before .before .before .before .before .before .before in
+      let back = c .before .before .before .links-back in (
+        back .ensures .0,
+        remember-linked (viewOf (z .args .kind) (z .args .book .now)) (back .last .1 .1 .1 .0)
+            (back .ensures .1) (z .args .h) (omega arith) (sym (back .ensures .0) ∙ c .if4 .taken),
+      )
+
+  linked-returns-5 : linked-lts.Need-returns-5 (linked-claims t) (linked-at t) linked.Post
+  linked-returns-5 c =
+      let z = c .before .before .before .before .before .before .before .before .before .before .before in
+      let back = c .before .before .before .links-back in (
+        back .ensures .0,
+        remember-unlinked (viewOf (z .args .kind) (z .args .book .now)) (back .last .1 .1 .1 .0)
+            (back .ensures .1) (z .args .h) (omega arith) (sym (back .ensures .0) ∙ c .if4 .left),
+      )
+
+  links-back-extends-requires :
+      links-back-lts.Need-extends-requires (links-back-claims t) (links-back-at t) links-back.Post
+  links-back-extends-requires c κs =
+      let z = c .before .before .before .before .before .before in
+      (omega arith, (z .pre .1 .0, (z .pre .1 .1 .0, (z .pre .1 .1 .1, c .before .block .ensures .1))))
+
+  links-back-returns : links-back-lts.Need-returns (links-back-claims t) (links-back-at t) links-back.Post
+  links-back-returns c =
+      let z = c .before .before .before .before .before .before .before .before .before in
+      let v = viewOf (z .args .kind) (z .args .book .now) in
+      let h = z .args .h in (
+        c .before .before .extends .ensures .0
+            ∙ ap (λ (b : Bytes). extends-test sha256 v h b) (c .before .before .before .before .block .ensures .0)
+            ∙ sym (linked-by-block v h (z .pre .1 .1 .1 .low)
+            (sym (c .before .before .before .before .before .before .has-block .ensures)
+            ∙ c .before .before .before .before .before .if1 .taken)),
+        c .before .before .extends .ensures .1,
+      )
+
+  links-back-returns-2 : links-back-lts.Need-returns-2 (links-back-claims t) (links-back-at t) links-back.Post
+  links-back-returns-2 c =
+      let z = c .before .before .before .before in (
+        sym (not-linked-without (viewOf (z .args .kind) (z .args .book .now)) (z .args .h) (z .pre .1 .1 .1 .low)
+            (sym (c .before .has-block .ensures) ∙ c .if1 .left)),
+        z .pre .1 .1 .0,
+      )
+
+pub +extends+linked+links-back-spec : {M : Type 1} → statement M
++extends+linked+links-back-spec = close μ-extends μ-linked μ-links-back (λ t. extends-lts.spec (extends-claims t)
     (extends-at t)
     extends.Post
-    (extends-parent-height-requires t)
+    (λ c κs. search needs)
     (extends-linked-requires t)
-    (extends-sub-dummies-after t)
+    (λ c. search needs)
     (extends-dummies-after-requires t)
     (extends-names-parent-requires t)
-    (extends-same-length t)
+    (λ c. search needs)
     (extends-returns t)
-    (extends-same-length-2 t)
+    (λ c. search needs)
     (extends-returns-2 t)
-    (extends-same-length-3 t)
+    (λ c. search needs)
     (extends-returns-3 t)
     (extends-returns-4 t))
-    (λ t. linked-lts.spec
-    (links-back-below t, links-back.Post)
+    (λ t. linked-lts.spec (linked-claims t)
     (linked-at t)
     linked.Post
     (linked-returns t)
-    (linked-mul-seen t)
-    (linked-slice-read-seen t)
+    (λ c. search needs)
+    (λ c. search needs)
     (linked-returns-2 t)
     (linked-returns-3 t)
     (linked-links-back-requires t)
-    (linked-mul-known t)
-    (linked-slice-write-known t)
-    (linked-mul-known-2 t)
-    (linked-slice-write-known-2 t)
-    (linked-same-length t)
+    (λ c. search needs)
+    (λ c. search needs)
+    (λ c. search needs)
+    (λ c. search needs)
+    (λ c. search needs)
     (linked-returns-4 t)
-    (linked-same-length-2 t)
+    (λ c. search needs)
     (linked-returns-5 t))
-    λ t. links-back-lts.spec (
-      has-block-reads.Asked,
-      has-block-reads.Learnt,
-      block-reads.Asked,
-      block-reads.Learnt,
-      extends-below t,
-      extends.Post,
-    )
+    λ t. links-back-lts.spec (links-back-claims t)
     (links-back-at t)
     links-back.Post
-    (links-back-has-block-requires t)
-    (links-back-block-requires t)
+    (λ c κs. search needs)
+    (λ c κs. search needs)
     (links-back-extends-requires t)
-    (links-back-same-length t)
+    (λ c. search needs)
     (links-back-returns t)
     (links-back-returns-2 t)

@@ -8,7 +8,7 @@ use lib.ListN.{length}
 use Rattle.sha256.specs.Digest.{sha256}
 use Rattle.fields.specs.Book.{viewOf}
 use Rattle.protocol.specs.View.{largestFinalized}
-use Rattle.linking.specs.Memo.{MemoAs}
+use Rattle.memory.specs.Memo.{MemoAs}
 use Rattle.linking.proofs.Walk.{largest-here, largest-below, largest-none}
 use Rattle.linking.proofs.linking.largest_finalized.Statement.{statement}
 use Rattle.linking.proofs.linking.largest_finalized.Tie as tie

@@ -8,7 +8,7 @@ use lib.ListN.{length}
 use Rattle.sha256.specs.Digest.{sha256}
 use Rattle.fields.specs.Book.{viewOf}
 use Rattle.protocol.specs.View.{parentOf}
-use Rattle.linking.specs.Memo.{MemoAs}
+use Rattle.memory.specs.Memo.{MemoAs}
 use Rattle.linking.specs.Parent.{parentOption}
 use Rattle.linking.proofs.Walk.{parent-here, parent-below, parent-stops, parent-start}
 use Rattle.linking.proofs.linking.parent_of.Statement.{statement}

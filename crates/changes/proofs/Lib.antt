@@ -1,0 +1,3 @@
+mod Copies
+mod Writes
+mod Leaders

@@ -1,0 +1,32 @@
+-- `keep_notarized` meets its contract: the block is copied to the notarized block's place, and status and mask are
+-- written.
+use Rattle.changes.proofs.Writes.{kept-notarized}
+use borrow.Author.Needs.{needs}
+use Rattle.changes.proofs.height.keep_notarized.Statement.{statement}
+use Rattle.changes.proofs.height.keep_notarized.Tie as tie
+
+returns : tie.Need-returns
+returns c =
+    let after-mark-notarized = c .before .before in
+    let copied = after-mark-notarized .before .before .before .before in
+    let read = copied .before .before in
+    let placed = read .before .before in
+    let begun = placed .before .before in
+    let start = begun .before .before .before in
+    kept-notarized (start .args .book .now) (start .pre .0) (start .args .h) (start .pre .1 .0) _
+    (begun .content-at .ensures) _ (placed .body-at .ensures) _
+    (read .status .ensures .0) (start .args .mask) (start .args .block .now) (start .pre .1 .1 .1 .0) _
+    (copied .copy-to .ensures) _ (after-mark-notarized .mark-notarized .ensures)
+
+pub keep-notarized-spec : {M : Type 1} → statement M
+keep-notarized-spec =
+    tie.close
+    (tie.spec
+    (λ c κs. search needs)
+    (λ c κs. search needs)
+    (λ c κs. search needs)
+    (λ c. search needs)
+    (λ c κs. search needs)
+    (λ c κs. search needs)
+    (λ c. search needs)
+    returns)

@@ -1,0 +1,44 @@
+-- `keep_proposal` meets its contract: the status gains 1, and the block is copied to the proposal's place.
+use native.Mathlib.Omega.{arith}
+use mathlib.Core.Path.{_∙_}
+use lib.ListN.{length-set}
+use Rattle.changes.proofs.Writes.{kept-proposal}
+use borrow.Author.Needs.{needs}
+use Rattle.changes.proofs.height.keep_proposal.Statement.{statement}
+use Rattle.changes.proofs.height.keep_proposal.Tie as tie
+
+copy-to-requires : tie.Need-copy-to-requires
+copy-to-requires c κs = simp length-set (omega (
+  arith,
+  c .before .before .before .before .before .before .before .before,
+))
+
+same-length : tie.Need-same-length
+same-length c = c .before .before .copy-to .kept .0 ∙ simp length-set
+
+returns : tie.Need-returns
+returns c =
+    let after-copy-to = c .before .before in
+    let read = after-copy-to .before .before in
+    let placed = read .before .before in
+    let begun = placed .before .before in
+    let start = begun .before .before .before in
+    after-copy-to .copy-to .ensures ∙
+    kept-proposal (start .args .book .now) (start .pre .0) (start .args .h) (start .pre .1 .0) _
+    (begun .content-at .ensures) _ (placed .body-at .ensures) _
+    (read .status .ensures .0) (start .args .block .now) (start .pre .1 .1 .1)
+
+pub keep-proposal-spec : {M : Type 1} → statement M
+keep-proposal-spec =
+    tie.close
+    (tie.spec
+    (λ c κs. search needs)
+    (λ c κs. search needs)
+    (λ c κs. search needs)
+    (λ c. search needs)
+    (λ c. search needs)
+    (λ c. search needs)
+    (λ c. search needs)
+    copy-to-requires
+    same-length
+    returns)

@@ -1,0 +1,2 @@
+-- What the contracts of a memory speak of.
+pub mod Memo
