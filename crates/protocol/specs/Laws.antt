@@ -8,6 +8,7 @@ pub mod FlagLaws
 pub mod MoveLaws
 pub mod DeliverLaws
 pub mod FetchLaws
+pub mod TestedLaws
 pub mod RowLaws
 pub mod BytesLaws
 pub mod PiecesLaws

@@ -4,16 +4,14 @@ use native.Mathlib.Omega.{arith}
 use native.Mathlib.Decide.{ℕ-discrete}
 use mathlib.Core.Path.{_≡_, refl, sym, ap, subst, _∙_}
 use mathlib.Core.Logic.{inl, inr, _≢_}
-use mathlib.Core.Bool.{Bool, true, false, _||_, not, true≢false}
-use mathlib.Core.List.{[], _∷_}
+use mathlib.Core.Bool.{Bool, true, false, _||_, true≢false}
 use mathlib.Core.Option.{Option, some, none}
 use lib.ListN.{length}
 use lib.Dec.{eqb, leb}
-use borrow.Author.Tests.{eqb-true, eqb-false, eq-eqb, leb-true, leb-false, le-leb, not-true}
+use borrow.Author.Tests.{eqb-true, eqb-false, eq-eqb, leb-true, leb-false, le-leb}
 use Rattle.protocol.specs.ReadFrame.{ReadFrame}
 use Rattle.protocol.specs.SoundState.{ShapedHeight, SoundState}
 use Rattle.protocol.specs.Bytes.{Bytes, same}
-use Rattle.protocol.specs.Tests.{allOf}
 use Rattle.protocol.specs.Answer.{refused, accepted}
 use Rattle.protocol.specs.Mask.{inMask, union}
 use Rattle.protocol.specs.Frame.{kind, signer, frameHeight, signerMask, frameDigest, frameBlock}
@@ -26,13 +24,12 @@ use Rattle.protocol.specs.Deliver.{keepDummyCertificate, keepFinalizeCertificat
 use Rattle.protocol.specs.Laws.MaskLaws.{inMask-add-self, inMask-add-other}
 use Rattle.protocol.specs.Laws.UnionLaws.{union-bit}
 use Rattle.protocol.specs.Laws.TestsLaws.{cond-elim, eqb-self}
-use Rattle.protocol.specs.Laws.RowLaws.{row}
 use Rattle.protocol.specs.Sound.{view}
 use Rattle.protocol.specs.Laws.StateLaws.{decode-encode}
 use Rattle.protocol.specs.Laws.PlaceLaws.{with-at, at-with}
 use Rattle.protocol.specs.Laws.SoundLaws.{sound-decode}
 use Rattle.protocol.specs.Laws.VoteLaws.{vote-same, vote-other}
-use Rattle.protocol.specs.Laws.DeliverLaws.{Agrees, Accepts, digest-size, signer-few, keep-cases}
+use Rattle.protocol.specs.Laws.DeliverLaws.{Agrees, Accepts, digest-size, signer-few, keep-cases, notarize-cases}
 use Rattle.call_laws.specs.Laws.DeliverKeptLaws.{keep-sound, shaped}
 use Rattle.call_laws.specs.Keeping.{says, NewlyKept, KeepsState, KeepsMasks, KeepsVotes, KeepsProposal}
 use Rattle.call_laws.specs.Keeping.{KeepsBlock, KeepsAt, Voted, Tallied, ByVotes, heldVoters}
@@ -143,27 +140,22 @@ module _ (digest : Bytes → Bytes) (v : View) (k : ℕ) (frame : Bytes) (x : He
     unfolding ByVotes Voted withNotarized votersFor voteOf
     by-votes held enough = ((holds-notarized z (heldVoters digest v z) (z .proposal) ∙ held, enough), refl, refl)
 
-    overlooked : allOf (not (isNotarized z) ∷ holdsProposal z ∷ quorum v (heldVoters digest v z) ∷ []) ≡ false →
+    overlooked : (holdsProposal z ≡ true → quorum v (heldVoters digest v z) ≡ true → isNotarized z ≡ true) →
         Tallied digest v z
-    unfolding Tallied Voted allOf
-    overlooked e (held, enough) = go (isNotarized z) refl
-      where
-        go : (b : Bool) → isNotarized z ≡ b → isNotarized z ≡ true
-        go true f = f
-        go false f = absurd (true≢false (rw (f, held, enough) at e))
+    unfolding Tallied Voted
+    overlooked e (held, enough) = e held enough
 
     counted : KeepsBlock digest v k frame x (notarize digest v z)
-    unfolding notarize Tallied
+    unfolding Tallied
     counted =
-        cond-elim (KeepsBlock digest v k frame x)
-        (allOf (not (isNotarized z) ∷ holdsProposal z ∷ quorum v (heldVoters digest v z) ∷ []))
-        (λ e. record {
-          first-block = λ has. absurd (true≢false (sym (status ∙ has) ∙ not-true _ (row _ 0 e)));
+        notarize-cases digest v z (KeepsBlock digest v k frame x)
+        (λ votes. record {
+          first-block = λ has. absurd (true≢false (sym (status ∙ has) ∙ votes .free));
           this-block = λ is. absurd (eqb-false k 5 other is);
           this-certificate = λ is _. absurd (eqb-false k 5 other is);
           counted = λ _ _. is-notarized z _ _;
           tallied = λ _ _. is-notarized z _ _;
-          only-so = λ has. inr (inr (new, by-votes (row _ 1 e) (row _ 2 e)));
+          only-so = λ has. inr (inr (new, by-votes (votes .held) (votes .enough)));
         })
         (λ e. same-block digest v k frame x z other status block mask (λ _. overlooked e) (λ _. overlooked e))
 
@@ -198,9 +190,8 @@ module _ (digest : Bytes → Bytes) (v : View) (frame : Bytes) (x : Height) wher
   }
 
   notarize-too : (k : ℕ) (z : Height) → Before k z → Before k (notarize digest v z)
-  unfolding notarize
   notarize-too k z is =
-      cond-elim (Before k) (allOf (not (isNotarized z) ∷ holdsProposal z ∷ quorum v (heldVoters digest v z) ∷ []))
+      notarize-cases digest v z (Before k)
       (λ _. notarized-too k z (heldVoters digest v z) (z .proposal) is) (λ _. is)
 
   whole : (k : ℕ) (y : Height) → Before k y → KeepsBlock digest v k frame x y → KeepsAt digest v k frame x y

@@ -3,33 +3,31 @@ use Prim.Native.Nat.{ℕ, suc, _+_, _-_, _*_, _^_, _≤_, _<_}
 use native.Mathlib.Omega.{arith}
 use mathlib.Core.Path.{_≡_, refl, sym, ap, subst, _∙_}
 use mathlib.Core.Logic.{_⊎_, inl, inr, _≢_}
-use mathlib.Core.Bool.{Bool, true, false, _&&_, _||_, not, cond, true≢false}
+use mathlib.Core.Bool.{Bool, true, false, _&&_, _||_, cond, true≢false}
 use mathlib.Core.List.{List, [], _∷_, _++_}
 use mathlib.Core.Option.{Option, some}
 use lib.ListN.{length, set, length-set}
 use lib.Seq.{getD-set-other}
 use lib.Dec.{eqb, leb, ltb}
 use lib.Pow.{pow-pos}
-use borrow.Author.Tests.{eqb-false, le-leb, lt-ltb, not-true}
+use borrow.Author.Tests.{eqb-false, le-leb, lt-ltb}
 use Rattle.protocol.specs.ReadFrame.{ReadFrame}
 use Rattle.protocol.specs.SoundState.{ShapedHeight, Shaped, SoundState}
 use Rattle.protocol.specs.Bytes.{Bytes, le16, put}
-use Rattle.protocol.specs.Tests.{allOf}
 use Rattle.protocol.specs.Laws.BytesLaws.{length-put, put-other}
 use Rattle.protocol.specs.Mask.{inMask, union}
 use Rattle.protocol.specs.Frame.{kind, signer, frameHeight, signerMask, frameDigest, frameBlock}
 use Rattle.protocol.specs.State.{State, Height, at, last, encode, withHeight, holdsProposal, isNotarized}
-use Rattle.protocol.specs.View.{View, quorum}
+use Rattle.protocol.specs.View.{View}
 use Rattle.protocol.specs.Sound.{view}
-use Rattle.protocol.specs.Deliver.{withProposal, withNotarized, withMasks, withVote, votersFor, notarize, keepProposal}
+use Rattle.protocol.specs.Deliver.{withProposal, withNotarized, withMasks, withVote, notarize, keepProposal}
 use Rattle.protocol.specs.Deliver.{keepBlockVote, keepDummyVote, keepFinalize, keepBlockCertificate}
 use Rattle.protocol.specs.Deliver.{keepDummyCertificate, keepFinalizeCertificate, keep}
 use Rattle.protocol.specs.Laws.TestsLaws.{cond-elim, le-or-lt}
-use Rattle.protocol.specs.Laws.RowLaws.{row}
 use Rattle.protocol.specs.Laws.PlaceLaws.{length-encode, suc-pred, last-with, shaped-with}
 use Rattle.protocol.specs.Laws.ChangeLaws.{make-proposal, make-notarized, make-dummy-mask, make-finalize-mask}
 use Rattle.protocol.specs.Laws.ChangeLaws.{make-vote, shaped-proposal, shaped-vote}
-use Rattle.protocol.specs.Laws.DeliverLaws.{OnSome, digest-size, block-size, signer-few, keep-cases}
+use Rattle.protocol.specs.Laws.DeliverLaws.{OnSome, digest-size, block-size, signer-few, keep-cases, notarize-cases}
 use Rattle.call_laws.specs.Laws.DeliverKeptLaws.{shaped}
 use Rattle.call_laws.specs.Laws.KeepsStateLaws.{is-notarized, proposal-status}
 use Rattle.call_laws.specs.KeptBytes.{Part, inParts, SameOutside, contentAt, bodyAt, proposalParts, voteParts}
@@ -208,12 +206,9 @@ module _ {s : State} {h : ℕ} (place : Place s h) where
     -- the votes are counted after a change that left `z`
     then-counted : (parts : List Part) (z : Height) → ShapedHeight z → isNotarized z ≡ isNotarized x →
         SameOutside parts (placed x) (placed z) → Writes parts (notarize digest v z)
-    unfolding notarize
     then-counted parts z shape status same =
-        let voters : ℕ = votersFor z (digest (z .proposal)) (v .n) in
-        cond-elim (Writes parts) (allOf (not (isNotarized z) ∷ holdsProposal z ∷ quorum v voters ∷ []))
-        (λ e. then-notarized parts z shape same (sym status ∙ not-true _ (row _ 0 e)) voters (z .proposal)
-        (shape .proposal-size))
+        notarize-cases digest v z (Writes parts)
+        (λ votes. then-notarized parts z shape same (sym status ∙ votes .free) _ (z .proposal) (shape .proposal-size))
         (λ _. more-outside _ same)
 
     proposal-only : length (frameBlock frame) ≡ 176 → Only 1 (keepProposal digest v x frame)
@@ -263,19 +258,13 @@ module _ (digest : Bytes → Bytes) (v : View) (frame : Bytes) (x : Height) wher
   Other o = OnSome (λ (y : Height). y ≢ x) o
 
   same-voters : (z : Height) → notarize digest v z .voterMask ≡ z .voterMask
-  unfolding notarize
   same-voters z =
-      let voters : ℕ = votersFor z (digest (z .proposal)) (v .n) in
-      cond-elim (λ (y : Height). y .voterMask ≡ z .voterMask)
-      (allOf (not (isNotarized z) ∷ holdsProposal z ∷ quorum v voters ∷ []))
+      notarize-cases digest v z (λ (y : Height). y .voterMask ≡ z .voterMask)
       (λ _. unfold withNotarized in refl) (λ _. refl)
 
   more-status : (z : Height) → z .status ≤ notarize digest v z .status
-  unfolding notarize
   more-status z =
-      let voters : ℕ = votersFor z (digest (z .proposal)) (v .n) in
-      cond-elim (λ (y : Height). z .status ≤ y .status)
-      (allOf (not (isNotarized z) ∷ holdsProposal z ∷ quorum v voters ∷ []))
+      notarize-cases digest v z (λ (y : Height). z .status ≤ y .status)
       (λ _. unfold withNotarized in omega arith) (λ _. omega arith)
 
   proposal-other : Other (keepProposal digest v x frame)

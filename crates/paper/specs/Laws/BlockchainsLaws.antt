@@ -8,11 +8,10 @@ use mathlib.Core.Logic.{_⊎_, inl, inr, _↔_}
 use mathlib.Core.Bool.{true, false≢true}
 use mathlib.Core.List.{List, _++_}
 use lib.ListN.{length, List·getD-eq-default}
-use borrow.Author.Tests.{eqb-true}
 use Rattle.protocol.specs.SoundState.{SoundState}
 use Rattle.protocol.specs.Bytes.{Bytes}
-use Rattle.protocol.specs.Block.{parentHeight, parentDigest, entries, blockWellFormed}
-use Rattle.protocol.specs.Laws.RowLaws.{row}
+use Rattle.protocol.specs.Block.{parentHeight, parentDigest, entries}
+use Rattle.protocol.specs.Laws.FormedLaws.{formed}
 use Rattle.protocol.specs.State.{State, last, at, isNotarized, noHeight}
 use Rattle.protocol.specs.View.{View, linked, isDummy, extends, isFinalized, parentOf, digestAt, logAt}
 use Rattle.protocol.specs.Sound.{view, log}
@@ -277,9 +276,9 @@ module _ (digest : Bytes → Bytes) (s : State) (sound : SoundState digest s) wh
           at e))
 
   proper : Proper (view s)
-  unfolding view blockWellFormed
+  unfolding view
   proper = record {
-    its-height = λ h low e. eqb-true _ _ (row _ 1 (sound .each h low (here h e) .notarized-formed e));
+    its-height = λ h low e. formed h _ (sound .each h low (here h e) .notarized-formed e) .height-is;
     certified = λ h low e. sound .each h low (here h e) .certified e;
   }
 

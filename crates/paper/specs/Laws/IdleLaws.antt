@@ -3,27 +3,24 @@ use Prim.Native.Nat.{ℕ, zero, suc, _+_, _-_, _≤_, _<_}
 use native.Mathlib.Omega.{arith}
 use mathlib.Core.Path.{_≡_, refl, sym, ap, _∙_}
 use mathlib.Core.Logic.{_⊎_, inl, inr}
-use mathlib.Core.Bool.{Bool, true, false, _&&_, not, and-false}
-use mathlib.Core.List.{List, [], _∷_}
+use mathlib.Core.Bool.{Bool, true, false, _&&_, and-false}
 use lib.ListN.{length}
 use lib.Dec.{eqb, leb}
-use borrow.Author.Tests.{not-true, leb-true, le-leb, lt-leb}
+use borrow.Author.Tests.{leb-true, le-leb, lt-leb}
 use Rattle.protocol.specs.Bytes.{Bytes, zeros, join}
 use Rattle.protocol.specs.Tests.{allOf, firstRefusal}
 use Rattle.protocol.specs.Laws.FrontLaws.{front-none}
 use Rattle.protocol.specs.Laws.SoundLaws.{encode-decode}
 use Rattle.protocol.specs.Laws.TestsLaws.{and-true}
 use Rattle.protocol.specs.Laws.FlagLaws.{flag-set, flag-kept}
-use Rattle.protocol.specs.Laws.MoveLaws.{step-cases}
-use Rattle.protocol.specs.Laws.RowLaws.{row}
-use Rattle.protocol.specs.State.{State, decode, last, at, flag, withHead, holdsProposal}
+use Rattle.protocol.specs.Laws.MoveLaws.{step-cases, dummy-vote-rows, propose-rows, block-vote-rows}
+use Rattle.protocol.specs.State.{State, decode, last, at, flag, withHead}
 use Rattle.protocol.specs.Sound.{view, sound}
 use Rattle.protocol.specs.Answer.{accepted, Move, idle, moveNumber}
 use Rattle.protocol.specs.Move.{MoveOutcome, moveRows, moveCall, unlessMoveRefused, moved, written, unused, Step, step}
 use Rattle.protocol.specs.Move.{afterMoves, firstStep, isRunning, idleStep, dummyVoteApplies, dummyVoteStep}
 use Rattle.protocol.specs.Move.{outputApplies, outputStep, passApplies, passStep, proposeApplies, proposeStep}
-use Rattle.protocol.specs.Move.{blockVoteApplies, blockVoteStep, newFinalized, parentBelow, passesAt, isSome}
-use Rattle.protocol.specs.View.{extends}
+use Rattle.protocol.specs.Move.{blockVoteApplies, blockVoteStep, newFinalized, passesAt}
 use Rattle.paper.specs.Idle.{NoMove, IdleMeansNoMove, IdlesJustThen, IdleWithin, MovesEnd}
 
 module _ (digest : Bytes → Bytes) where
@@ -208,14 +205,13 @@ module _ (digest : Bytes → Bytes) where
   lower-dummy : (s : State) → dummyVoteApplies s ≡ true → measure (dummyVoteStep s .after) < measure s
   unfolding dummyVoteStep
   lower-dummy s e =
-      let rows : List Bool = isRunning s ∷ flag 1 s ∷ not (flag 2 s) ∷ [] in
-      let all : allOf rows ≡ true = unfold dummyVoteApplies in e in
-      let clear = not-true (flag 2 s) (row rows 2 all) in
+      let rows = dummy-vote-rows s e in
+      let clear = rows .not-yet in
       let kept = flag-kept s (s .current) (s .finalized) 1 clear in
       let f = s .flags + 2 in
       rw (
-        measure-is s (row rows 0 all) e refl refl refl refl,
-        measure-is (flagged s f) (running-same s f ∙ row rows 0 all)
+        measure-is s (rows .running) e refl refl refl refl,
+        measure-is (flagged s f) (running-same s f ∙ rows .running)
             (dummy-after s f (flag-set s (s .current) (s .finalized) 1 clear)) (output-same s f) (pass-same s f)
             (propose-same s f (kept 3 (omega arith))) (vote-same s f (kept 2 (omega arith))),
         left-same s f,
@@ -289,15 +285,13 @@ module _ (digest : Bytes → Bytes) where
       measure (proposeStep digest s .after) < measure s
   unfolding proposeStep
   lower-propose s e1 e2 e3 e4 =
-      let rows : List Bool = isRunning s ∷ eqb (at s (s .current) .leader) (s .own) ∷ not (flag 8 s) ∷ isSome
-      (parentBelow digest s) ∷ [] in
-      let all : allOf rows ≡ true = unfold proposeApplies in e4 in
-      let clear = not-true (flag 8 s) (row rows 2 all) in
+      let rows = propose-rows digest s e4 in
+      let clear = rows .not-yet in
       let kept = flag-kept s (s .current) (s .finalized) 3 clear in
       let f = s .flags + 8 in
       rw (
-        measure-is s (row rows 0 all) e1 e2 e3 e4 refl,
-        measure-is (flagged s f) (running-same s f ∙ row rows 0 all)
+        measure-is s (rows .running) e1 e2 e3 e4 refl,
+        measure-is (flagged s f) (running-same s f ∙ rows .running)
             (dummy-same s f (kept 0 (omega arith)) (kept 1 (omega arith)) ∙ e1) (output-same s f ∙ e2)
             (pass-same s f ∙ e3) (propose-after s f (flag-set s (s .current) (s .finalized) 3 clear))
             (vote-same s f (kept 2 (omega arith))),
@@ -310,15 +304,13 @@ module _ (digest : Bytes → Bytes) where
       blockVoteApplies digest s ≡ true → measure (blockVoteStep digest s .after) < measure s
   unfolding blockVoteStep
   lower-vote s e1 e2 e3 e4 e5 =
-      let rows : List Bool = isRunning s ∷ not (flag 4 s) ∷ holdsProposal (at s (s .current)) ∷ extends digest (view s)
-      (s .current) (at s (s .current) .proposal) ∷ [] in
-      let all : allOf rows ≡ true = unfold blockVoteApplies in e5 in
-      let clear = not-true (flag 4 s) (row rows 1 all) in
+      let rows = block-vote-rows digest s e5 in
+      let clear = rows .not-yet in
       let kept = flag-kept s (s .current) (s .finalized) 2 clear in
       let f = s .flags + 4 in
       rw (
-        measure-is s (row rows 0 all) e1 e2 e3 e4 e5,
-        measure-is (flagged s f) (running-same s f ∙ row rows 0 all)
+        measure-is s (rows .running) e1 e2 e3 e4 e5,
+        measure-is (flagged s f) (running-same s f ∙ rows .running)
             (dummy-same s f (kept 0 (omega arith)) (kept 1 (omega arith)) ∙ e1) (output-same s f ∙ e2)
             (pass-same s f ∙ e3) (propose-same s f (kept 3 (omega arith)) ∙ e4)
             (vote-after s f (flag-set s (s .current) (s .finalized) 2 clear)),

@@ -8,16 +8,17 @@ use mathlib.Core.Bool.{Bool, true, false, _&&_, not, cond, false≢true}
 use mathlib.Core.List.{List, [], _∷_}
 use mathlib.Core.Option.{Option, some, none}
 use lib.ListN.{length}
-use borrow.Author.Tests.{eqb-true, eq-eqb, leb-true, le-leb, ltb-true, lt-ltb, not-true}
+use borrow.Author.Tests.{eq-eqb, leb-true, le-leb, ltb-true, lt-ltb}
 use Rattle.protocol.specs.SoundState.{SoundState}
 use Rattle.protocol.specs.Every.{Every}
 use Rattle.protocol.specs.Bytes.{Bytes, without, Sized}
-use Rattle.protocol.specs.Block.{blockHeight, blockWellFormed}
+use Rattle.protocol.specs.Block.{blockHeight}
 use Rattle.protocol.specs.Frame.{finalize}
 use Rattle.protocol.specs.Laws.TestsLaws.{and-true, or-true, or-right}
-use Rattle.protocol.specs.Laws.RowLaws.{row, all-of, true-and, not-passed}
+use Rattle.protocol.specs.Laws.RowLaws.{all-of, true-and, not-passed}
+use Rattle.protocol.specs.Laws.FormedLaws.{formed}
 use Rattle.protocol.specs.Laws.BlockLaws.{digest-back, entries-back, new-block-good, new-block-height, new-block-parent}
-use Rattle.protocol.specs.Laws.MoveLaws.{step-cases}
+use Rattle.protocol.specs.Laws.MoveLaws.{step-cases, dummy-vote-rows, propose-rows, block-vote-rows}
 use Rattle.protocol.specs.Laws.ViewLaws.{digest-at-size, digest-at-start}
 use Rattle.protocol.specs.Laws.PendingLaws.{offered-sized, offered-few}
 use Rattle.protocol.specs.State.{State, at, last, flag, withHead, holdsProposal, pending}
@@ -109,8 +110,7 @@ module _ (digest : Bytes → Bytes) (s : State) where
   dummy-applies (r, f, g) = all-of (Every.one (is-running r) (Every.one f (Every.one (rw g) Every.none)))
 
   dummy-when : dummyVoteApplies s ≡ true → MayVoteDummy digest s
-  unfolding dummyVoteApplies
-  dummy-when e = (running (row _ 0 e), row _ 1 e, not-true (flag 2 s) (row _ 2 e))
+  dummy-when e = let rows = dummy-vote-rows s e in (running (rows .running), rows .fired, rows .not-yet)
 
   step-dummy : dummyVoteApplies s ≡ true → step digest s ≡ dummyVoteStep s
   unfolding step firstStep
@@ -330,20 +330,20 @@ module _ (digest : Bytes → Bytes) (s : State) where
     extends-seen : holdsProposal (at s (s .current)) ≡ true → Running digest s →
         (extends digest (view s) (s .current) (at s (s .current) .proposal) ≡ true) ↔ ParentOf digest (view s)
         (s .current - 1) (at s (s .current) .proposal)
-    unfolding ExtendsIsFollowing blockWellFormed
+    unfolding ExtendsIsFollowing
     extends-seen held r =
-        let formed = sound .each (s .current) (sound .current-low) r .proposal-formed held in
-        let its : blockHeight (at s (s .current) .proposal) ≡ suc (s .current - 1) = eqb-true _ _ (row _ 1 formed)
-        ∙ sym before in
+        let block = at s (s .current) .proposal in
+        let good = formed (s .current) block (sound .each (s .current) (sound .current-low) r .proposal-formed held) in
+        let its : blockHeight block ≡ suc (s .current - 1) = good .height-is ∙ sym before in
         subst (λ (c : ℕ). (extends digest (view s) c (at s (s .current) .proposal) ≡ true) ↔ ParentOf digest (view s)
         (s .current - 1) (at s (s .current) .proposal)) before
         (terms .extends-is (s .current - 1) (at s (s .current) .proposal) its)
 
     block-when : blockVoteApplies digest s ≡ true → MayVoteBlock digest s
-    unfolding blockVoteApplies
     block-when e =
-        let r = running (row _ 0 e) in
-        (r, not-true (flag 4 s) (row _ 1 e), row _ 2 e, extends-seen (row _ 2 e) r .0 (row _ 3 e))
+        let rows = block-vote-rows digest s e in
+        let r = running (rows .running) in
+        (r, rows .not-yet, rows .held, extends-seen (rows .held) r .0 (rows .extending))
 
     block-applies : MayVoteBlock digest s → blockVoteApplies digest s ≡ true
     unfolding blockVoteApplies
@@ -370,13 +370,9 @@ module _ (digest : Bytes → Bytes) (s : State) where
 
     -- ---- step 1
     propose-when : proposeApplies digest s ≡ true → MayPropose digest s
-    unfolding proposeApplies
-    propose-when e = (
-      running (row _ 0 e),
-      eqb-true _ _ (row _ 1 e),
-      not-true (flag 8 s) (row _ 2 e),
-      parent-seen (s .current - 1) .0 (row _ 3 e),
-    )
+    propose-when e =
+        let rows = propose-rows digest s e in
+        (running (rows .running), rows .leads, rows .not-yet, parent-seen (s .current - 1) .0 (rows .has-parent))
 
     propose-applies : MayPropose digest s → proposeApplies digest s ≡ true
     unfolding proposeApplies
@@ -475,8 +471,8 @@ module _ (digest : Bytes → Bytes) (s : State) where
 
       proposed : proposeApplies digest s ≡ true →
           Offers digest s (proposedBlock digest s (someOr 0 (parentBelow digest s)))
-      unfolding proposeApplies someOr
-      proposed e = go (parentBelow digest s) refl (row _ 3 e)
+      unfolding someOr
+      proposed e = go (parentBelow digest s) refl (propose-rows digest s e .has-parent)
         where
           go : (o : Option ℕ) → parentBelow digest s ≡ o → isSome o ≡ true →
               Offers digest s (proposedBlock digest s (someOr 0 o))

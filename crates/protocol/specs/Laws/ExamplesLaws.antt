@@ -9,21 +9,20 @@ use mathlib.Core.List.{List, [], _∷_}
 use mathlib.Core.Option.{Option, some, none}
 use lib.ListN.{length}
 use lib.Pow.{pow-pos}
-use lib.Dec.{eqb, ltb}
-use borrow.Author.Tests.{ltb-true, eqb-true, le-leb, lt-leb}
+use lib.Dec.{ltb}
+use borrow.Author.Tests.{ltb-true, le-leb, lt-leb}
 use Rattle.protocol.specs.Bytes.{Bytes, byteAt, word16, le16, part, zeros, join, pieces, overFront, all, without}
-use Rattle.protocol.specs.Tests.{allOf, inRange, firstRefusal}
+use Rattle.protocol.specs.Tests.{allOf, firstRefusal}
 use Rattle.protocol.specs.Laws.TestsLaws.{and-true}
-use Rattle.protocol.specs.Laws.RowLaws.{in-range, row-passes}
-use Rattle.protocol.specs.Block.{maximumHeights, parentHeight, entryCount, newBlock, allEntries}
+use Rattle.protocol.specs.Laws.TestedLaws.{OpenRanges, open-ranges, open-tested}
+use Rattle.protocol.specs.Block.{parentHeight, entryCount, newBlock, allEntries}
 use Rattle.protocol.specs.Mask.{inMask, maskOf, ones, union, belowBit, weigh, total}
 use Rattle.protocol.specs.State.{State, at, last, encode, decode, headBytes, bookSize, flag, pending, withHead}
-use Rattle.protocol.specs.State.{maximumReplicas}
 use Rattle.protocol.specs.View.{View, quorum, isDummy, dummyRun, digestAt, parentOf, chain, chainWithin, logAt}
 use Rattle.protocol.specs.View.{extends, extendsOver}
 use Rattle.protocol.specs.Sound.{view}
 use Rattle.protocol.specs.Answer.{Outcome, Delivery, fresh, idle, voteDummy, accepted, Done, done, unlessRefused}
-use Rattle.protocol.specs.Open.{newState, newHeight, openInRange, openRows, openCall}
+use Rattle.protocol.specs.Open.{newState, newHeight, openRows, openCall}
 use Rattle.protocol.specs.Deliver.{withMasks, deliverCall, deliverAll}
 use Rattle.protocol.specs.Signal.{signalCall}
 use Rattle.protocol.specs.Frame.{kind, frameBlock, frameOf, proposal, dummyVote, finalize}
@@ -82,51 +81,35 @@ open-rows x =
     open-answer (firstRefusal (openRows (x .old) (x .n) (x .own) (x .heights) (x .leaders))) (x .old)
     (record { answer = accepted done; book = encode (newState (x .n) (x .own) (x .leaders)) }) (x .opens)
 
-ranges-of : (n own heights : ℕ) (leaders : Bytes) → (1 ≤ n) × (n ≤ maximumReplicas) →
-    (1 ≤ heights) × (heights ≤ maximumHeights) → own < n →
-    length leaders ≡ heights → all (λ x. ltb x n) leaders ≡ true →
+-- the ranges that Open tests are those of a first leader and of the leaders after it
+ranges-of : (n own heights : ℕ) (leaders : Bytes) → OpenRanges n own heights leaders →
     (leader : ℕ) × (rest : Bytes) × (leaders ≡ leader ∷ rest) × Ranges n own leader rest
 unfolding all
-ranges-of n own heights [] r1 r2 r3 r4 r5 = absurd (omega arith)
-ranges-of n own heights (leader ∷ rest) r1 r2 r3 r4 r5 =
-    let w = and-true (ltb leader n) (all (λ x. ltb x n) rest) r5 in (
+ranges-of n own heights [] is = absurd (omega arith)
+ranges-of n own heights (leader ∷ rest) is =
+    let below = and-true (ltb leader n) (all (λ x. ltb x n) rest) (is .leaders-below) in (
       leader,
       rest,
       refl,
       record {
-        some-replica = r1 .0;
-        few-replicas = r1 .1;
-        own-below = r3;
-        leader-below = ltb-true leader n (w .0);
-        leaders-below = w .1;
+        some-replica = is .n-low;
+        few-replicas = is .n-high;
+        own-below = is .own-below;
+        leader-below = ltb-true leader n (below .0);
+        leaders-below = below .1;
         few-heights = omega arith;
       },
     )
-
-open-ranges : (n own heights : ℕ) (leaders : Bytes) → openInRange n own heights leaders ≡ true →
-    (leader : ℕ) × (rest : Bytes) × (leaders ≡ leader ∷ rest) × Ranges n own leader rest
-unfolding openInRange allOf
-open-ranges n own heights leaders q =
-    let q1 = and-true (inRange 1 maximumReplicas n) _ q in
-    let q2 = and-true (ltb own n) _ (q1 .1) in
-    let q3 = and-true (inRange 1 maximumHeights heights) _ (q2 .1) in
-    let q4 = and-true (eqb (length leaders) heights) _ (q3 .1) in
-    let q5 = and-true (all (λ x. ltb x n) leaders) true (q4 .1) in
-    ranges-of n own heights leaders (in-range 1 maximumReplicas n (q1 .0)) (in-range 1 maximumHeights heights (q3 .0))
-    (ltb-true own n (q2 .0))
-    (eqb-true (length leaders) heights (q4 .0)) (q5 .0)
 
 opened-new : (x : Start) → opened x ≡ encode (newState (x .n) (x .own) (x .leaders))
 unfolding opened openCall unlessRefused
 opened-new x = rw (open-rows x, opened)
 
-range-row : (x : Start) → openInRange (x .n) (x .own) (x .heights) (x .leaders) ≡ true
-unfolding openRows
-range-row x = row-passes _ _ (open-rows x) .0
-
 opening : (x : Start) → Opened x
 opening x =
-    let r = open-ranges (x .n) (x .own) (x .heights) (x .leaders) (range-row x) in
+    let tested = open-tested (x .n) (x .own) (x .heights) (x .leaders) (x .old) (open-rows x) in
+    let r = ranges-of (x .n) (x .own) (x .heights) (x .leaders)
+    (open-ranges (x .n) (x .own) (x .heights) (x .leaders) (tested .in-ranges)) in
     record {
       leader = r .0;
       leaders = r .1;

@@ -14,7 +14,7 @@ use Rattle.protocol.specs.View.{isFinalized}
 use Rattle.protocol.specs.Linked.{OnParent, Linked, start, link, Extends, Finalized}
 use Rattle.protocol.specs.Laws.TestsLaws.{and-true}
 use Rattle.protocol.specs.Laws.ViewLaws.{run-sound, run-complete}
-use Rattle.protocol.specs.Laws.RowLaws.{row, same-eq, same-self}
+use Rattle.protocol.specs.Laws.RowLaws.{by-rows, same-eq, same-self}
 
 module _ (digest : Bytes → Bytes) where
   -- ---- no fuel
@@ -68,13 +68,14 @@ module _ (digest : Bytes → Bytes) where
       (linked digest v (parentHeight block) ≡ true) × OnParent digest v h (parentHeight block) block
   unfolding extends extendsOver
   extends-rows v h block e =
-      let lower : parentHeight block < h = ltb-true _ _ (row _ 0 e) in (
-        row _ 1 e,
+      by-rows _ e λ below parent names dummies.
+      let lower : parentHeight block < h = ltb-true _ _ below in (
+        parent,
         record {
           height = refl;
           below = lower;
-          names = same-eq _ _ (row _ 2 e);
-          dummies = λ k low high. run-sound v (parentHeight block) (h - 1 - parentHeight block) (row _ 3 e) k low
+          names = same-eq _ _ names;
+          dummies = λ k low high. run-sound v (parentHeight block) (h - 1 - parentHeight block) dummies k low
               (omega arith);
         },
       )

@@ -38,6 +38,17 @@ unfolding allOf
 all-of Every.none = refl
 all-of (one {x = x} {xs = xs} p ps) = true-and x (allOf xs) p (all-of ps)
 
+-- what follows from rows follows from a list of them: the list's own law names them in order, as in
+-- `by-rows _ e λ size height. ..`, so that a row more is a name more there, and moves no other
+abbrev pub FromRows : List Bool → Type 0 → Type 0
+FromRows [] Fact = Fact
+FromRows (x ∷ xs) Fact = x ≡ true → FromRows xs Fact
+
+pub by-rows : {Fact : Type 0} (rows : List Bool) → allOf rows ≡ true → FromRows rows Fact → Fact
+unfolding allOf
+by-rows [] e fact = fact
+by-rows (x ∷ xs) e fact = let t = and-true x (allOf xs) e in by-rows xs (t .1) (fact (t .0))
+
 -- one row that fails is enough
 pub row-fails : (rows : List Bool) (i : ℕ) → getD rows i true ≡ false → allOf rows ≡ false
 row-fails rows i f = not-passed (allOf rows) (λ e. true≢false (sym (row rows i e) ∙ f))
@@ -106,13 +117,25 @@ pub refuse-row : (r : Row) (rows : List Row) → r .1 ≡ false → firstRefusal
 unfolding firstRefusal
 refuse-row r rows e = rw e
 
--- the row of that number, counted from 0, where nothing is refused
-pub passed : (rows : List Row) (i : ℕ) → firstRefusal rows ≡ none → getD rows i (0, true) .1 ≡ true
-passed [] i e = refl
-passed (r ∷ rows) zero e = row-passes r rows e .0
-passed (r ∷ rows) (suc i) e = passed rows i (row-passes r rows e .1)
+-- the same of refusals, where nothing is refused
+abbrev pub FromTested : List Row → Type 0 → Type 0
+FromTested [] Fact = Fact
+FromTested (r ∷ rows) Fact = r .1 ≡ true → FromTested rows Fact
+
+pub by-tested : {Fact : Type 0} (rows : List Row) → firstRefusal rows ≡ none → FromTested rows Fact → Fact
+by-tested [] e fact = fact
+by-tested (r ∷ rows) e fact = let t = row-passes r rows e in by-tested rows (t .1) (fact (t .0))
 
 -- rows after rows
+pub split-rows : (rows more : List Row) → firstRefusal (rows ++ more) ≡ none →
+    (firstRefusal rows ≡ none) × (firstRefusal more ≡ none)
+unfolding firstRefusal
+split-rows [] more e = (refl, e)
+split-rows (r ∷ rows) more e =
+    let t = row-passes r (rows ++ more) e in
+    let q = split-rows rows more (t .1) in
+    (pass-row r rows (t .0) ∙ q .0, q .1)
+
 pub pass-rows : (rows more : List Row) → firstRefusal rows ≡ none → firstRefusal (rows ++ more) ≡ firstRefusal more
 pass-rows [] more e = refl
 pass-rows (r ∷ rows) more e =

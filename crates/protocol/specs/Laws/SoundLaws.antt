@@ -1,6 +1,6 @@
 -- What soundness says of a state, apart from bytes: a sound book says a sound state, and a sound state's bytes are a
 -- sound book.
-use Prim.Native.Nat.{ℕ, zero, suc, _+_, _-_, _*_, _^_, _≤_, _<_}
+use Prim.Native.Nat.{ℕ, zero, suc, _+_, _-_, _*_, _≤_, _<_}
 use native.Mathlib.Omega.{arith}
 use mathlib.Core.Path.{_≡_, sym, subst}
 use mathlib.Core.Logic.{_⊎_, inl, inr}
@@ -8,18 +8,18 @@ use mathlib.Core.Bool.{true, false, _&&_, _||_}
 use lib.ListN.{length}
 use lib.Dec.{eqb, leb, ltb}
 use borrow.Author.Tests.{eqb-true, eq-eqb, leb-true, le-leb, ltb-true, lt-ltb}
-use Rattle.protocol.specs.SoundState.{Shaped, SoundHeight, SoundState}
+use Rattle.protocol.specs.SoundState.{SoundHeight, SoundState}
 use Rattle.protocol.specs.Every.{none, one}
-use Rattle.protocol.specs.Bytes.{Bytes, byteAt, part, isZero, AreBytes}
+use Rattle.protocol.specs.Bytes.{Bytes, part, isZero, AreBytes}
 use Rattle.protocol.specs.Tests.{implies}
 use Rattle.protocol.specs.Block.{maximumHeights, blockWellFormed}
 use Rattle.protocol.specs.Mask.{belowBit}
 use Rattle.protocol.specs.State.{State, Height, at, last, decode, encode, bookSize, holdsProposal, isNotarized}
-use Rattle.protocol.specs.State.{bookHeights, maximumReplicas, maximumPending}
+use Rattle.protocol.specs.State.{bookHeights, maximumReplicas}
 use Rattle.protocol.specs.View.{View, quorum, extendsOver, linkedWithin, linked, isFinalized}
 use Rattle.protocol.specs.Sound.{view, masksBelow, blocksWellFormed, contentZeros, sound}
 use Rattle.protocol.specs.Laws.TestsLaws.{and-true, or-true, or-right}
-use Rattle.protocol.specs.Laws.RowLaws.{not-passed, row, all-of, true-and, every-height-at, every-height}
+use Rattle.protocol.specs.Laws.RowLaws.{not-passed, row, by-rows, all-of, true-and, every-height-at, every-height}
 use Rattle.protocol.specs.Laws.RowLaws.{implies-true, true-implies, in-range, range-in, zeros-is-zero}
 use Rattle.protocol.specs.Laws.StateLaws.{decode-encode}
 use Rattle.protocol.specs.Laws.BytesLaws.{zero-part}
@@ -63,16 +63,16 @@ module _ (v : View) (h : ℕ) (x : Height) where
       blocksWellFormed h x ≡ true →
       implies (isNotarized x) (quorum v (x .certificateMask)) ≡ true → SoundHeight v h x
   unfolding masksBelow blocksWellFormed belowBit
-  height-facts leader masks status blocks certificate = record {
+  height-facts leader masks status blocks certified = by-rows _ masks λ certificate dummy finalize voter. record {
     leader-below = ltb-true _ _ leader;
     status-small = leb-true _ _ status;
-    certificate-below = ltb-true _ _ (row _ 0 masks);
-    dummy-below = ltb-true _ _ (row _ 1 masks);
-    finalize-below = ltb-true _ _ (row _ 2 masks);
-    voter-below = ltb-true _ _ (row _ 3 masks);
+    certificate-below = ltb-true _ _ certificate;
+    dummy-below = ltb-true _ _ dummy;
+    finalize-below = ltb-true _ _ finalize;
+    voter-below = ltb-true _ _ voter;
     proposal-formed = implies-true _ _ (formed .0);
     notarized-formed = implies-true _ _ (formed .1);
-    certified = implies-true _ _ certificate;
+    certified = implies-true _ _ certified;
   }
     where
       formed : (implies (holdsProposal x) (blockWellFormed h (x .proposal)) ≡ true) ×
