@@ -16,7 +16,7 @@ use Rattle.protocol.specs.SoundState.{SoundHeight}
 use Rattle.protocol.specs.Every.{Every, none, one}
 use Rattle.protocol.specs.Bytes.{Bytes, byteAt, word16, part, same, AreBytes}
 use Rattle.protocol.specs.Laws.BytesLaws.{byte-part, word-low, word-high}
-use Rattle.protocol.specs.Laws.TestsLaws.{and-true, or-true, both-ways, cond-elim}
+use Rattle.protocol.specs.Laws.TestsLaws.{and-both, or-either, both-ways, cond-elim}
 use Rattle.protocol.specs.Laws.EveryLaws.{every-append}
 use Rattle.protocol.specs.Mask.{inMask}
 use Rattle.protocol.specs.Laws.MaskLaws.{maskOf-same, mask-same}
@@ -48,7 +48,7 @@ module _ (before after after′ : Bytes) where
   within : (p : Part) → Inside p → (i : ℕ) → (leb (p .0) i && ltb i (p .0 + p .1)) ≡ true →
       byteAt after i ≡ byteAt after′ i
   within p inside i e =
-      let both = and-true (leb (p .0) i) (ltb i (p .0 + p .1)) e in
+      let both = and-both (leb (p .0) i) (ltb i (p .0 + p .1)) e in
       let low = leb-true (p .0) i (both .0) in
       let high = ltb-true i (p .0 + p .1) (both .1) in
       let place : p .0 + (i - p .0) ≡ i = omega arith in
@@ -58,7 +58,7 @@ module _ (before after after′ : Bytes) where
   unfolding inParts
   in-part none i e = absurd (true≢false (sym e))
   in-part (one {x = p} {xs = ps} here rest) i e =
-      go (or-true (leb (p .0) i && ltb i (p .0 + p .1)) (inParts ps i) e) (λ q. in-part rest i q)
+      go (or-either (leb (p .0) i && ltb i (p .0 + p .1)) (inParts ps i) e) (λ q. in-part rest i q)
     where
       go : ((leb (p .0) i && ltb i (p .0 + p .1)) ≡ true) ⊎ (inParts ps i ≡ true) →
           (inParts ps i ≡ true → byteAt after i ≡ byteAt after′ i) →
@@ -116,13 +116,13 @@ module _ (digest : Bytes → Bytes) (v : View) (k : ℕ) (frame : Bytes) (x y y�
   same-voter t l = is .votes .voters t l ∙ sym (is′ .votes .voters t l)
 
   same-vote : (t : ℕ) → t < v .n → inMask (y .voterMask) t ≡ true → voteOf y t ≡ voteOf y′ t
-  same-vote t l has = go (or-true (inMask (x .voterMask) t) (eqb k 2 && eqb (signer frame) t)
+  same-vote t l has = go (or-either (inMask (x .voterMask) t) (eqb k 2 && eqb (signer frame) t)
       (sym (is .votes .voters t l) ∙ has))
     where
       go : (inMask (x .voterMask) t ≡ true) ⊎ ((eqb k 2 && eqb (signer frame) t) ≡ true) → voteOf y t ≡ voteOf y′ t
       go (inl old) = is .votes .first-vote t old ∙ sym (is′ .votes .first-vote t old)
       go (inr new) =
-          let both = and-true (eqb k 2) (eqb (signer frame) t) new in
+          let both = and-both (eqb k 2) (eqb (signer frame) t) new in
           let kind : k ≡ 2 = eqb-true k 2 (both .0) in
           let who : signer frame ≡ t = eqb-true (signer frame) t (both .1) in
           subst (λ (r : ℕ). voteOf y r ≡ voteOf y′ r) who
@@ -130,7 +130,7 @@ module _ (digest : Bytes → Bytes) (v : View) (k : ℕ) (frame : Bytes) (x y y�
 
   -- a held proposal is the frame's, or the one held before
   same-proposal : holdsProposal y ≡ true → y .proposal ≡ y′ .proposal
-  same-proposal held = go (or-true (holdsProposal x) (eqb k 1) (sym (is .proposal .holds) ∙ held))
+  same-proposal held = go (or-either (holdsProposal x) (eqb k 1) (sym (is .proposal .holds) ∙ held))
     where
       go : (holdsProposal x ≡ true) ⊎ (eqb k 1 ≡ true) → y .proposal ≡ y′ .proposal
       go (inl old) = is .proposal .first-proposal old ∙ sym (is′ .proposal .first-proposal old)
@@ -364,7 +364,7 @@ module _ (digest : Bytes → Bytes) (book frame : Bytes)
     notarized-in : Every In (cond (newlyNotarized x z) (notarizedParts (bookHeights book) h) [])
     unfolding notarizedParts newlyNotarized
     notarized-in = cond-elim (Every In) (newlyNotarized x z) (λ e.
-        let both = and-true (not (isNotarized x)) (isNotarized z) e in
+        let both = and-both (not (isNotarized x)) (isNotarized z) e in
         let same = newly-same (not-true _ (both .0)) (both .1) in
         one status-in
         (one (mask-in (c + 2) (certificate-at news after is ∙ same .1 ∙ sym (certificate-at news′ after′ is′)))

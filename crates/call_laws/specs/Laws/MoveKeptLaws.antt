@@ -16,7 +16,7 @@ use Rattle.protocol.specs.Move.{idleStep}
 use Rattle.protocol.specs.Linked.{Finalized}
 use Rattle.protocol.specs.Laws.LinkedLaws.{finalized-complete}
 use Rattle.protocol.specs.Laws.ParentLaws.{largestFinalized-is}
-use Rattle.protocol.specs.Laws.TestsLaws.{and-true}
+use Rattle.protocol.specs.Laws.TestsLaws.{and-both}
 use Rattle.call_laws.specs.Laws.HeadKeptLaws.{head-sound}
 use Rattle.protocol.specs.Laws.FlagLaws.{flag-room}
 use Rattle.protocol.specs.Laws.MoveLaws.{step-cases, dummy-vote-rows, propose-rows, block-vote-rows}
@@ -56,7 +56,7 @@ module _ (digest : Bytes → Bytes) (s : State) (is : SoundState digest s) where
   pass-sound : passApplies digest s ≡ true → After (passStep digest s)
   unfolding passApplies passStep isRunning
   pass-sound e =
-      let running : s .current ≤ last s = leb-true _ _ (and-true _ _ e .0) in
+      let running : s .current ≤ last s = leb-true _ _ (and-both _ _ e .0) in
       with-head-sound 0 (s .current + 1) (s .finalized) (omega arith) (omega arith) (omega arith) (is .final)
 
   propose-sound : proposeApplies digest s ≡ true → After (proposeStep digest s)

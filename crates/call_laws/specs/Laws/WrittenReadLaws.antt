@@ -23,7 +23,7 @@ use Rattle.protocol.specs.Certificates.{certificateFrame}
 use Rattle.protocol.specs.Linked.{Linked, start, link}
 use Rattle.protocol.specs.Laws.LinkedLaws.{linked-sound}
 use Rattle.protocol.specs.Laws.ParentLaws.{parent-some}
-use Rattle.protocol.specs.Laws.TestsLaws.{and-true}
+use Rattle.protocol.specs.Laws.TestsLaws.{and-both}
 use Rattle.protocol.specs.Laws.BlockLaws.{new-block-good}
 use Rattle.protocol.specs.Laws.ViewLaws.{digest-at-size, digest-at-start}
 use Rattle.protocol.specs.Laws.PendingLaws.{offered-few, offered-sized}
@@ -116,14 +116,14 @@ module _ (digest : Bytes → Bytes) (s : State) (is : SoundState digest s) (t : 
   unfolding certificateFields certificateFrame certificateKind view
   certificate true e high reason = block-certificate c (is .current-low) high
       (has-block (linked-sound digest (view s) c e) (is .current-low))
-  certificate false e high reason = dummy-certificate c (is .current-low) high (and-true _ _ reason .0)
+  certificate false e high reason = dummy-certificate c (is .current-low) high (and-both _ _ reason .0)
 
   pass-good : passApplies digest s ≡ true → Good (passStep digest s)
   unfolding passApplies passStep
   pass-good e = go (not (flag 1 s))
     where
       both : (isRunning s ≡ true) × (passesAt digest (view s) c ≡ true)
-      both = and-true _ _ e
+      both = and-both _ _ e
 
       go : (inTime : Bool) → Said t (moveFields digest s (pass c (passesBy digest s) inTime))
           (certificateFrame s (certificateKind (passesBy digest s)) c ∷

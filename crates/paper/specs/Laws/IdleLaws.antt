@@ -11,7 +11,7 @@ use Rattle.protocol.specs.Bytes.{Bytes, zeros, join}
 use Rattle.protocol.specs.Tests.{allOf, firstRefusal}
 use Rattle.protocol.specs.Laws.FrontLaws.{front-none}
 use Rattle.protocol.specs.Laws.SoundLaws.{encode-decode}
-use Rattle.protocol.specs.Laws.TestsLaws.{and-true}
+use Rattle.protocol.specs.Laws.TestsLaws.{and-both}
 use Rattle.protocol.specs.Laws.FlagLaws.{flag-set, flag-kept}
 use Rattle.protocol.specs.Laws.MoveLaws.{step-cases, dummy-vote-rows, propose-rows, block-vote-rows}
 use Rattle.protocol.specs.State.{State, decode, last, at, flag, withHead}
@@ -256,7 +256,7 @@ module _ (digest : Bytes → Bytes) where
   unfolding passStep isRunning withHead last
   lower-pass s e1 e2 e3 =
       let parts : (isRunning s && passesAt digest (view s) (s .current)) ≡ true = unfold passApplies in e3 in
-      let running : isRunning s ≡ true = and-true (isRunning s) (passesAt digest (view s) (s .current)) parts .0 in
+      let running : isRunning s ≡ true = and-both (isRunning s) (passesAt digest (view s) (s .current)) parts .0 in
       rw (measure-is s running e1 e2 e3 refl refl) (go (isRunning after) (passApplies digest after) refl refl)
     where
       after : State

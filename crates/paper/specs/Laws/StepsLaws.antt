@@ -14,7 +14,7 @@ use Rattle.protocol.specs.Every.{Every}
 use Rattle.protocol.specs.Bytes.{Bytes, without, Sized}
 use Rattle.protocol.specs.Block.{blockHeight}
 use Rattle.protocol.specs.Frame.{finalize}
-use Rattle.protocol.specs.Laws.TestsLaws.{and-true, or-true, or-right}
+use Rattle.protocol.specs.Laws.TestsLaws.{and-both, or-either, or-right}
 use Rattle.protocol.specs.Laws.RowLaws.{all-of, true-and, not-passed}
 use Rattle.protocol.specs.Laws.FormedLaws.{formed}
 use Rattle.protocol.specs.Laws.BlockLaws.{digest-back, entries-back, new-block-good, new-block-height, new-block-parent}
@@ -243,9 +243,9 @@ module _ (digest : Bytes → Bytes) (s : State) where
     pass-seen : passApplies digest s ≡ true → MayPass digest s
     unfolding passApplies
     pass-seen e =
-        let q = and-true (isRunning s) (passesAt digest (view s) (s .current)) e in (
+        let q = and-both (isRunning s) (passesAt digest (view s) (s .current)) e in (
           running (q .0),
-          go (or-true (linked digest (view s) (s .current))
+          go (or-either (linked digest (view s) (s .current))
               (isDummy (view s) (s .current) && isSome (parentBelow digest s)) (q .1)),
         )
       where
@@ -254,7 +254,7 @@ module _ (digest : Bytes → Bytes) (s : State) where
             SeenOfHeight digest (view s) (s .current)
         go (inl l) = with-block (linked-seen (s .current) (sound .current-low) .0 l)
         go (inr d) =
-            let both = and-true (isDummy (view s) (s .current)) (isSome (parentBelow digest s)) d in
+            let both = and-both (isDummy (view s) (s .current)) (isSome (parentBelow digest s)) d in
             let below = parent-seen (s .current - 1) .0 (both .1) in
             subst (λ (c : ℕ). SeenOfHeight digest (view s) c) before
             (with-dummy (s .current - 1) (subst (λ (c : ℕ). isDummy (view s) c ≡ true) (sym before) (both .0))

@@ -13,7 +13,7 @@ use lib.Dec.{ltb}
 use borrow.Author.Tests.{ltb-true, le-leb, lt-leb}
 use Rattle.protocol.specs.Bytes.{Bytes, byteAt, word16, le16, part, zeros, join, pieces, overFront, all, without}
 use Rattle.protocol.specs.Tests.{allOf, firstRefusal}
-use Rattle.protocol.specs.Laws.TestsLaws.{and-true}
+use Rattle.protocol.specs.Laws.TestsLaws.{and-both}
 use Rattle.protocol.specs.Laws.TestedLaws.{OpenRanges, open-ranges, open-tested}
 use Rattle.protocol.specs.Block.{parentHeight, entryCount, newBlock, allEntries}
 use Rattle.protocol.specs.Mask.{inMask, maskOf, ones, union, belowBit, weigh, total}
@@ -87,7 +87,7 @@ ranges-of : (n own heights : ℕ) (leaders : Bytes) → OpenRanges n own heights
 unfolding all
 ranges-of n own heights [] is = absurd (omega arith)
 ranges-of n own heights (leader ∷ rest) is =
-    let below = and-true (ltb leader n) (all (λ x. ltb x n) rest) (is .leaders-below) in (
+    let below = and-both (ltb leader n) (all (λ x. ltb x n) rest) (is .leaders-below) in (
       leader,
       rest,
       refl,

@@ -10,7 +10,7 @@ use Rattle.protocol.specs.Bytes.{Bytes, byteAt, part, zeros}
 use Rattle.protocol.specs.Block.{blockHeight, parentHeight, entryCount, parentDigest, blockWellFormed}
 use Rattle.protocol.specs.Frame.{kind, frameHeight, frameBlock, isStatement, isCertificate, carriesBlock}
 use Rattle.protocol.specs.Frame.{frameWellFormed}
-use Rattle.protocol.specs.Laws.TestsLaws.{or-true}
+use Rattle.protocol.specs.Laws.TestsLaws.{or-either}
 use Rattle.protocol.specs.Laws.RowLaws.{by-rows, in-range, implies-true, is-zero-zeros}
 use Rattle.protocol.specs.Laws.BytesLaws.{zero-part}
 
@@ -62,7 +62,7 @@ pub formed-frame : (frame : Bytes) → frameWellFormed frame ≡ true → Formed
 unfolding frameWellFormed
 formed-frame frame e =
     by-rows _ e λ size one-of-seven signer high mask zeros digest no-block block.
-    let kinds = kind-range (kind frame) (or-true _ _ one-of-seven) in
+    let kinds = kind-range (kind frame) (or-either _ _ one-of-seven) in
     record {
       size = eqb-true _ _ size;
       kind-low = kinds .0;

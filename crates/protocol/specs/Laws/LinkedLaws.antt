@@ -12,7 +12,7 @@ use Rattle.protocol.specs.Block.{parentHeight, parentDigest}
 use Rattle.protocol.specs.View.{View, quorum, dummyRun, digestAt, extendsOver, linkedWithin, linked, extends}
 use Rattle.protocol.specs.View.{isFinalized}
 use Rattle.protocol.specs.Linked.{OnParent, Linked, start, link, Extends, Finalized}
-use Rattle.protocol.specs.Laws.TestsLaws.{and-true}
+use Rattle.protocol.specs.Laws.TestsLaws.{and-both}
 use Rattle.protocol.specs.Laws.ViewLaws.{run-sound, run-complete}
 use Rattle.protocol.specs.Laws.RowLaws.{by-rows, same-eq, same-self}
 
@@ -94,7 +94,7 @@ module _ (digest : Bytes → Bytes) where
       let j : ℕ = parentHeight (v .block (suc i)) in
       (v .hasBlock (suc i) ≡ true) × (linked digest v j ≡ true) × OnParent digest v (suc i) j (v .block (suc i))
   linked-parent v i e =
-      let both = and-true (v .hasBlock (suc i)) (extends digest v (suc i) (v .block (suc i)))
+      let both = and-both (v .hasBlock (suc i)) (extends digest v (suc i) (v .block (suc i)))
       (sym (linked-suc v i) ∙ e) in
       let rows = extends-rows v (suc i) (v .block (suc i)) (both .1) in
       (both .0, rows .0, rows .1)
@@ -136,7 +136,7 @@ module _ (digest : Bytes → Bytes) where
   pub finalized-sound : (v : View) (h : ℕ) → isFinalized digest v h ≡ true → Finalized digest v h
   unfolding isFinalized
   finalized-sound v h e =
-      let both = and-true (linked digest v h) (quorum v (v .finalizeMask h)) e in
+      let both = and-both (linked digest v h) (quorum v (v .finalizeMask h)) e in
       record { isLinked = linked-sound v h (both .0); hasQuorum = both .1 }
 
   pub finalized-complete : (v : View) (h : ℕ) → Finalized digest v h → isFinalized digest v h ≡ true

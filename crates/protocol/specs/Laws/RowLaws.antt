@@ -12,7 +12,7 @@ use borrow.Author.Tests.{eqb-true, leb-true, le-leb}
 use Rattle.protocol.specs.Every.{Every, one}
 use Rattle.protocol.specs.Bytes.{Bytes, zeros, all, isZero, same}
 use Rattle.protocol.specs.Tests.{allOf, implies, inRange, everyHeight, Row, firstRefusal}
-use Rattle.protocol.specs.Laws.TestsLaws.{eqb-self, and-true, le-or-lt}
+use Rattle.protocol.specs.Laws.TestsLaws.{eqb-self, and-both, le-or-lt}
 
 abbrev pub IsTrue : Bool → Type 0
 IsTrue test = test ≡ true
@@ -30,8 +30,8 @@ not-passed false f = refl
 pub row : (rows : List Bool) (i : ℕ) → allOf rows ≡ true → getD rows i true ≡ true
 unfolding allOf
 row [] i e = refl
-row (x ∷ xs) zero e = and-true x (allOf xs) e .0
-row (x ∷ xs) (suc i) e = row xs i (and-true x (allOf xs) e .1)
+row (x ∷ xs) zero e = and-both x (allOf xs) e .0
+row (x ∷ xs) (suc i) e = row xs i (and-both x (allOf xs) e .1)
 
 pub all-of : {rows : List Bool} → Every IsTrue rows → allOf rows ≡ true
 unfolding allOf
@@ -47,7 +47,7 @@ FromRows (x ∷ xs) Fact = x ≡ true → FromRows xs Fact
 pub by-rows : {Fact : Type 0} (rows : List Bool) → allOf rows ≡ true → FromRows rows Fact → Fact
 unfolding allOf
 by-rows [] e fact = fact
-by-rows (x ∷ xs) e fact = let t = and-true x (allOf xs) e in by-rows xs (t .1) (fact (t .0))
+by-rows (x ∷ xs) e fact = let t = and-both x (allOf xs) e in by-rows xs (t .1) (fact (t .0))
 
 -- one row that fails is enough
 pub row-fails : (rows : List Bool) (i : ℕ) → getD rows i true ≡ false → allOf rows ≡ false
@@ -58,7 +58,7 @@ pub every-height-at : (test : ℕ → Bool) (last h : ℕ) → everyHeight test 
 unfolding everyHeight
 every-height-at test zero h e low high = absurd (omega arith)
 every-height-at test (suc last) h e low high = pick (le-or-lt h last)
-    (and-true (everyHeight test last) (test (suc last)) e)
+    (and-both (everyHeight test last) (test (suc last)) e)
     (λ l t. every-height-at test last h t low l)
   where
     pick : (h ≤ last) ⊎ (last < h) → (everyHeight test last ≡ true) × (test (suc last) ≡ true) →
@@ -91,7 +91,7 @@ true-implies false b f = refl
 
 pub in-range : (low high x : ℕ) → inRange low high x ≡ true → (low ≤ x) × (x ≤ high)
 unfolding inRange
-in-range low high x e = let t = and-true (leb low x) (leb x high) e in (leb-true low x (t .0), leb-true x high (t .1))
+in-range low high x e = let t = and-both (leb low x) (leb x high) e in (leb-true low x (t .0), leb-true x high (t .1))
 
 pub range-in : (low high x : ℕ) → low ≤ x → x ≤ high → inRange low high x ≡ true
 unfolding inRange
@@ -159,7 +159,7 @@ pub is-zero-zeros : (bytes : Bytes) → isZero bytes ≡ true → bytes ≡ zero
 unfolding isZero all zeros
 is-zero-zeros [] e = refl
 is-zero-zeros (x ∷ xs) e =
-    let t = and-true (eqb x 0) (all (λ y. eqb y 0) xs) e in
+    let t = and-both (eqb x 0) (all (λ y. eqb y 0) xs) e in
     ap₂ _∷_ (eqb-true x 0 (t .0)) (is-zero-zeros xs (t .1))
 
 pub zeros-is-zero : (count : ℕ) → isZero (zeros count) ≡ true
@@ -173,7 +173,7 @@ same-eq [] [] e = refl
 same-eq [] (y ∷ ys) e = absurd (false≢true e)
 same-eq (x ∷ xs) [] e = absurd (false≢true e)
 same-eq (x ∷ xs) (y ∷ ys) e =
-    let t = and-true (eqb x y) (same xs ys) e in
+    let t = and-both (eqb x y) (same xs ys) e in
     ap₂ _∷_ (eqb-true x y (t .0)) (same-eq xs ys (t .1))
 
 pub same-self : (a : Bytes) → same a a ≡ true
@@ -189,8 +189,8 @@ pub all-at : (test : ℕ → Bool) (bytes : Bytes) (i : ℕ) → all test bytes 
     test (getD bytes i 0) ≡ true
 unfolding all
 all-at test [] i e l = absurd (omega arith)
-all-at test (x ∷ xs) zero e l = and-true (test x) (all test xs) e .0
-all-at test (x ∷ xs) (suc i) e l = all-at test xs i (and-true (test x) (all test xs) e .1) (omega arith)
+all-at test (x ∷ xs) zero e l = and-both (test x) (all test xs) e .0
+all-at test (x ∷ xs) (suc i) e l = all-at test xs i (and-both (test x) (all test xs) e .1) (omega arith)
 
 pub at-all : (test : ℕ → Bool) (bytes : Bytes) → ((i : ℕ) → i < length bytes → test (getD bytes i 0) ≡ true) →
     all test bytes ≡ true
@@ -203,5 +203,5 @@ at-all test (x ∷ xs) each = true-and (test x) (all test xs) (each 0 (omega ari
 pub is-zero-byte : (bytes : Bytes) (i : ℕ) → isZero bytes ≡ true → getD bytes i 0 ≡ 0
 unfolding isZero all
 is-zero-byte [] i e = refl
-is-zero-byte (x ∷ xs) zero e = eqb-true x 0 (and-true (eqb x 0) (all (λ y. eqb y 0) xs) e .0)
-is-zero-byte (x ∷ xs) (suc i) e = is-zero-byte xs i (and-true (eqb x 0) (all (λ y. eqb y 0) xs) e .1)
+is-zero-byte (x ∷ xs) zero e = eqb-true x 0 (and-both (eqb x 0) (all (λ y. eqb y 0) xs) e .0)
+is-zero-byte (x ∷ xs) (suc i) e = is-zero-byte xs i (and-both (eqb x 0) (all (λ y. eqb y 0) xs) e .1)

@@ -18,7 +18,7 @@ use Rattle.protocol.specs.State.{State, Height, at, last, decode, encode
 use Rattle.protocol.specs.State.{bookHeights, maximumReplicas}
 use Rattle.protocol.specs.View.{View, quorum, extendsOver, linkedWithin, linked, isFinalized}
 use Rattle.protocol.specs.Sound.{view, masksBelow, blocksWellFormed, contentZeros, sound}
-use Rattle.protocol.specs.Laws.TestsLaws.{and-true, or-true, or-right}
+use Rattle.protocol.specs.Laws.TestsLaws.{and-both, or-either, or-right}
 use Rattle.protocol.specs.Laws.RowLaws.{not-passed, row, by-rows, all-of, true-and, every-height-at, every-height}
 use Rattle.protocol.specs.Laws.RowLaws.{implies-true, true-implies, in-range, range-in, zeros-is-zero}
 use Rattle.protocol.specs.Laws.StateLaws.{decode-encode}
@@ -34,12 +34,12 @@ module _ (digest : Bytes → Bytes) (s : State) where
   pub linked-in : (h : ℕ) → linked digest (view s) h ≡ true → h ≤ last s
   unfolding linked linkedWithin view
   linked-in zero e = omega arith
-  linked-in (suc i) e = go (or-true (eqb (suc i) 0) _ e)
+  linked-in (suc i) e = go (or-either (eqb (suc i) 0) _ e)
     where
       go : (eqb (suc i) 0 ≡ true) ⊎ ((isNotarized (at s (suc i)) && extendsOver digest
           (λ j. linkedWithin digest i (view s) j) (view s) (suc i) (at s (suc i) .notarized)) ≡ true) → suc i ≤ last s
       go (inl z) = let impossible : suc i ≡ 0 = eqb-true (suc i) 0 z in absurd (omega arith)
-      go (inr z) = notarized-in s i (and-true _ _ z .0)
+      go (inr z) = notarized-in s i (and-both _ _ z .0)
 
   pub not-linked-past : (h : ℕ) → last s < h → linked digest (view s) h ≡ false
   not-linked-past h past = not-passed (linked digest (view s) h) (λ e. let inside = linked-in h e in omega arith)
@@ -55,7 +55,7 @@ module _ (digest : Bytes → Bytes) (s : State) where
       go : (s .finalized ≡ 0) ⊎ ((linked digest (view s) (s .finalized) && quorum (view s)
           (view s .finalizeMask (s .finalized))) ≡ true) → s .finalized ≤ last s
       go (inl z) = omega arith
-      go (inr z) = linked-in (s .finalized) (and-true _ _ z .0)
+      go (inr z) = linked-in (s .finalized) (and-both _ _ z .0)
 
 -- ---- rows about one height, as facts
 module _ (v : View) (h : ℕ) (x : Height) where
@@ -77,7 +77,7 @@ module _ (v : View) (h : ℕ) (x : Height) where
     where
       formed : (implies (holdsProposal x) (blockWellFormed h (x .proposal)) ≡ true) ×
           (implies (isNotarized x) (blockWellFormed h (x .notarized)) ≡ true)
-      formed = and-true _ _ blocks
+      formed = and-both _ _ blocks
 
   module _ (facts : SoundHeight v h x) where
     masks-row : masksBelow (v .n) x ≡ true
@@ -141,7 +141,7 @@ module _ (digest : Bytes → Bytes) where
 
     final-row : (S .finalized ≡ 0) ⊎ (isFinalized digest (view S) (S .finalized) ≡ true)
     unfolding sound
-    final-row = zero-or (or-true _ _ (row _ finalizedRow e))
+    final-row = zero-or (or-either _ _ (row _ finalizedRow e))
       where
         zero-or : {A : Type 0} → (eqb (S .finalized) 0 ≡ true) ⊎ A → (S .finalized ≡ 0) ⊎ A
         zero-or (inl z) = inl (eqb-true _ _ z)

@@ -16,7 +16,7 @@ use Rattle.protocol.specs.Open.{openInRange, openRows}
 use Rattle.protocol.specs.Signal.{signalRows}
 use Rattle.protocol.specs.Submit.{stillPending, submitRows}
 use Rattle.protocol.specs.Move.{moveRows}
-use Rattle.protocol.specs.Laws.TestsLaws.{and-true}
+use Rattle.protocol.specs.Laws.TestsLaws.{and-both}
 use Rattle.protocol.specs.Laws.RowLaws.{by-rows, by-tested, in-range}
 
 -- ---- Open
@@ -71,7 +71,7 @@ module _ (digest : Bytes → Bytes) (book : Bytes) where
   signal-tested h e =
       by-tested _ e λ is-sound height timer.
       let range = in-range 1 (last s) h height in
-      let runs = and-true (eqb h (s .current)) (not (flag 1 s)) timer in
+      let runs = and-both (eqb h (s .current)) (not (flag 1 s)) timer in
       record {
         was-sound = is-sound;
         low = range .0;

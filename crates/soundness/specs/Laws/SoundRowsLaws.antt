@@ -10,7 +10,7 @@ use Rattle.protocol.specs.Bytes.{Bytes, byteAt, word16, zeros}
 use Rattle.protocol.specs.Tests.{allOf, everyHeight}
 use Rattle.protocol.specs.State.{bookSize, bookHeights}
 use Rattle.protocol.specs.Sound.{sound}
-use Rattle.protocol.specs.Laws.TestsLaws.{and-true, both-ways}
+use Rattle.protocol.specs.Laws.TestsLaws.{and-both, both-ways}
 use Rattle.protocol.specs.Laws.RowLaws.{row, all-of, true-and, every-height-at, every-height, in-range, is-zero-byte}
 use Rattle.protocol.specs.Laws.RowLaws.{zeros-is-zero}
 use Rattle.protocol.specs.Laws.BytesLaws.{length-zeros}
@@ -78,8 +78,8 @@ module _ (digest : Bytes → Bytes) (book : Bytes) where
   sound-is = both-ways (sound digest book) (allOf (headRows book) && (every && finalRow digest book))
       (λ e. true-and _ _ (head-passes e) (true-and _ _ (every-height _ _ (height-passes e)) (final-passes e)))
       (λ e.
-      let t = and-true (allOf (headRows book)) (every && finalRow digest book) e in
-      let u = and-true every (finalRow digest book) (t .1) in
+      let t = and-both (allOf (headRows book)) (every && finalRow digest book) e in
+      let u = and-both every (finalRow digest book) (t .1) in
       sound-passes (t .0) (u .0) (u .1))
 
 -- the head's rows are all that reading asks
