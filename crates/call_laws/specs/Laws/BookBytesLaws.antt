@@ -28,7 +28,7 @@ use Rattle.protocol.specs.Laws.StateLaws.{decode-encode}
 use Rattle.protocol.specs.Laws.WriteLaws.{write-pool, write-pending-count}
 use Rattle.protocol.specs.Laws.MoveLaws.{head-only}
 use Rattle.protocol.specs.Laws.SoundLaws.{sound-decode, encode-decode}
-use Rattle.call_laws.specs.Laws.KeepsStateLaws.{refused≢accepted}
+use Rattle.call_laws.specs.Laws.RefusalsLaws.{refused≢accepted}
 use Rattle.call_laws.specs.Laws.SubmitKeptLaws.{submit-sound}
 use Rattle.call_laws.specs.BookBytes.{openedBook, Signals, entriesAfter, Submits, headOf}
 

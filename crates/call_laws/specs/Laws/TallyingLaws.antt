@@ -33,7 +33,8 @@ use Rattle.call_laws.specs.Laws.SubmitKeptLaws.{submit-sound}
 use Rattle.call_laws.specs.Laws.GrowsLaws.{same-quorum, views-alike}
 use Rattle.call_laws.specs.Grows.{SameReplicas}
 use Rattle.call_laws.specs.Keeping.{Voted, Tallied, AllTallied, KeepsState}
-use Rattle.call_laws.specs.Laws.KeepsStateLaws.{refused≢accepted, fresh-keeps}
+use Rattle.call_laws.specs.Laws.RefusalsLaws.{refused≢accepted}
+use Rattle.call_laws.specs.Laws.KeepsStateLaws.{fresh-keeps}
 use Rattle.call_laws.specs.Laws.HeightKeptLaws.{each-height}
 
 module _ (digest : Bytes → Bytes) where
