@@ -37,6 +37,9 @@ pub mod NewStateLaws
 pub mod FormedLaws
 pub mod NewBookLaws
 pub mod NewBookCallsLaws
+pub mod OpenedLaws
+pub mod FirstMovesLaws
+pub mod FourReplicasLaws
 pub mod ExamplesLaws
 pub mod BuildLaws
 pub mod EditionLaws
