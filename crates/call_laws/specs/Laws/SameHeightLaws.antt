@@ -1,9 +1,9 @@
 -- Two heights that keep what `Keeping` says of the same height and frame hold the same.
-use Prim.Native.Nat.{ℕ, _-_, _%_, _≤_, _<_}
+use Prim.Native.Nat.{ℕ, _+_, _%_, _≤_, _<_}
 use native.Mathlib.Omega.{arith}
 use mathlib.Core.Path.{_≡_, refl, sym, subst, _∙_}
 use mathlib.Core.Logic.{_⊎_, inl, inr, _≢_}
-use mathlib.Core.Bool.{Bool, true, false, _&&_}
+use mathlib.Core.Bool.{cond, Bool, true, false, _&&_}
 use lib.Dec.{eqb, leb}
 use borrow.Author.Tests.{eqb-true, eqb-false, leb-true, leb-false}
 use Rattle.protocol.specs.Bytes.{Bytes, same}
@@ -16,37 +16,18 @@ use Rattle.protocol.specs.View.{View}
 use Rattle.protocol.specs.Deliver.{votersFor}
 use Rattle.call_laws.specs.Keeping.{NewlyKept, KeepsAt, heldVoters, Voted, Tallied, ByVotes}
 
--- a state is known by its two tests
-pub same-status : (a b : ℕ) → a ≤ 3 → b ≤ 3 → eqb (a % 2) 1 ≡ eqb (b % 2) 1 → leb 2 a ≡ leb 2 b → a ≡ b
-same-status a b low low′ odd two = go (eqb (a % 2) 1) (leb 2 a) refl refl
+-- a status is known by its two tests
+status-is : (a : ℕ) → a ≤ 3 → a ≡ cond (eqb (a % 2) 1) 1 0 + cond (leb 2 a) 2 0
+status-is a few = go (eqb (a % 2) 1) (leb 2 a) refl refl
   where
-    go : (p q : Bool) → eqb (a % 2) 1 ≡ p → leb 2 a ≡ q → a ≡ b
-    go true true e f =
-        omega (
-          arith,
-          eqb-true (a % 2) 1 e,
-          eqb-true (b % 2) 1 (sym odd ∙ e),
-          leb-true 2 a f,
-          leb-true 2 b
-              (sym two ∙ f),
-        )
-    go true false e f =
-        omega (
-          arith,
-          eqb-true (a % 2) 1 e,
-          eqb-true (b % 2) 1 (sym odd ∙ e),
-          leb-false 2 a f,
-          leb-false 2 b
-              (sym two ∙ f),
-        )
-    go false true e f =
-        let o : a % 2 ≢ 1 = eqb-false (a % 2) 1 e in
-        let o′ : b % 2 ≢ 1 = eqb-false (b % 2) 1 (sym odd ∙ e) in
-        omega (arith, leb-true 2 a f, leb-true 2 b (sym two ∙ f))
-    go false false e f =
-        let o : a % 2 ≢ 1 = eqb-false (a % 2) 1 e in
-        let o′ : b % 2 ≢ 1 = eqb-false (b % 2) 1 (sym odd ∙ e) in
-        omega (arith, leb-false 2 a f, leb-false 2 b (sym two ∙ f))
+    go : (p q : Bool) → eqb (a % 2) 1 ≡ p → leb 2 a ≡ q → a ≡ cond p 1 0 + cond q 2 0
+    go true true e f = omega (arith, eqb-true (a % 2) 1 e, leb-true 2 a f)
+    go true false e f = omega (arith, eqb-true (a % 2) 1 e, leb-false 2 a f)
+    go false true e f = let even : a % 2 ≢ 1 = eqb-false (a % 2) 1 e in omega (arith, leb-true 2 a f)
+    go false false e f = let even : a % 2 ≢ 1 = eqb-false (a % 2) 1 e in omega (arith, leb-false 2 a f)
+
+pub same-status : (a b : ℕ) → a ≤ 3 → b ≤ 3 → eqb (a % 2) 1 ≡ eqb (b % 2) 1 → leb 2 a ≡ leb 2 b → a ≡ b
+same-status a b few few′ odd two = status-is a few ∙ rw (odd, two) (sym (status-is b few′))
 
 module _ (digest : Bytes → Bytes) (v : View) (k : ℕ) (frame : Bytes) (x y y′ : Height)
     (is : KeepsAt digest v k frame x y) (is′ : KeepsAt digest v k frame x y′) where

@@ -1,7 +1,7 @@
 -- The parts of a height that a delivery leaves, the mask that grows, and the block once the votes are counted.
 use Prim.Native.Nat.{ℕ, _<_}
 use mathlib.Core.Path.{_≡_, refl, sym, _∙_}
-use mathlib.Core.Logic.{inl, inr, _≢_}
+use mathlib.Core.Logic.{inl, inr}
 use mathlib.Core.Bool.{true, false, _||_, true≢false}
 use lib.Dec.{eqb}
 use borrow.Author.Tests.{eqb-false}

@@ -1,5 +1,4 @@
 -- Step 2 of the paper, dummy blocks: its condition is the test of move 1.
-use Prim.Native.Nat.{_-_}
 use mathlib.Core.Path.{_≡_}
 use mathlib.Core.Bool.{true}
 use Rattle.protocol.specs.Every.{Every}

@@ -1,6 +1,5 @@
 -- The paper's five steps are the moves of Move, for every sound state; where none may be taken Move idles. Each step
 -- has a file of its own.
-use Prim.Native.Nat.{_-_}
 use mathlib.Core.Path.{_≡_, sym, _∙_}
 use mathlib.Core.Bool.{Bool, true, false, false≢true}
 use lib.ListN.{length}

@@ -5,7 +5,7 @@ use native.Mathlib.Nat.{mod-lt}
 use mathlib.Core.Path.{_≡_, refl, sym, ap₂, subst, _∙_}
 use mathlib.Core.Bool.{Bool, true, false, _&&_, cond}
 use mathlib.Core.List.{List, [], _∷_}
-use lib.ListN.{length, replicate, length-replicate}
+use lib.ListN.{length, replicate}
 use lib.Dec.{eqb, leb}
 use Rattle.protocol.specs.Mask.{inMask, ones, weigh, total}
 use Rattle.protocol.specs.View.{View, quorum, maskWeight, totalWeight}

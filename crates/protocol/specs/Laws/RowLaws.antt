@@ -49,10 +49,6 @@ unfolding allOf
 by-rows [] e fact = fact
 by-rows (x ∷ xs) e fact = let t = and-both x (allOf xs) e in by-rows xs (t .1) (fact (t .0))
 
--- one row that fails is enough
-pub row-fails : (rows : List Bool) (i : ℕ) → getD rows i true ≡ false → allOf rows ≡ false
-row-fails rows i f = not-passed (allOf rows) (λ e. true≢false (sym (row rows i e) ∙ f))
-
 -- ---- heights
 pub every-height-at : (test : ℕ → Bool) (last h : ℕ) → everyHeight test last ≡ true → 1 ≤ h → h ≤ last → test h ≡ true
 unfolding everyHeight
