@@ -77,8 +77,8 @@ module _ (digest : Bytes → Bytes) (book reply : Bytes) (ok : sound digest book
         );
   }
 
--- ---- moving until idle ends
 module _ (digest : Bytes → Bytes) where
+  -- ---- moving until idle ends
   ends : (most : ℕ) (s : State) → measure digest s ≤ most → IdleWithin digest most s
   unfolding IdleWithin afterMoves
   ends zero s le = go (lowers digest s)
