@@ -1,7 +1,16 @@
 -- What is proved of the definitions beside this folder: nothing here has to be believed.
+pub mod HeightBitsLaws
+pub mod SamePartsLaws
+pub mod KeepsKindLaws
 pub mod KeepsStateLaws
+pub mod OutsideLaws
+pub mod ChangedPartsLaws
+pub mod KeptOtherLaws
 pub mod KeptBytesLaws
 pub mod KeepingLaws
+pub mod SameBytesLaws
+pub mod SameHeightLaws
+pub mod KeptFieldsLaws
 pub mod KeepsExactLaws
 pub mod RefusalsLaws
 pub mod BookBytesLaws

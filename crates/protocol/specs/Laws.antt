@@ -8,6 +8,7 @@ pub mod FlagLaws
 pub mod MoveLaws
 pub mod DeliverLaws
 pub mod FetchLaws
+pub mod TestedLaws
 pub mod RowLaws
 pub mod BytesLaws
 pub mod PiecesLaws
@@ -36,6 +37,9 @@ pub mod NewStateLaws
 pub mod FormedLaws
 pub mod NewBookLaws
 pub mod NewBookCallsLaws
+pub mod OpenedLaws
+pub mod FirstMovesLaws
+pub mod FourReplicasLaws
 pub mod ExamplesLaws
 pub mod BuildLaws
 pub mod EditionLaws

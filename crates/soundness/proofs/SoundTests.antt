@@ -15,7 +15,7 @@ use Rattle.protocol.specs.Mask.{belowBit}
 use Rattle.protocol.specs.State.{Height, at, decode, bookSize, holdsProposal, isNotarized, bookHeights}
 use Rattle.protocol.specs.View.{quorum, isFinalized}
 use Rattle.protocol.specs.Sound.{view, masksBelow, blocksWellFormed, contentZeros, sound}
-use Rattle.protocol.specs.Laws.RowLaws.{row, true-and, row-fails}
+use Rattle.protocol.specs.Laws.RowLaws.{by-rows, true-and}
 use Rattle.protocol.specs.Laws.CodecLaws.{last-decode}
 use Rattle.protocol.specs.Laws.SoundLaws.{not-finalized-past}
 use Rattle.soundness.specs.SoundRows.{numberRows, headRows, heightRows, bookRows, finalRow}
@@ -39,8 +39,8 @@ module _ (book : Bytes) where
   head-are = simp and-true
 
   pub head-short : length book < 576 → allOf (headRows book) ≡ false
-  unfolding headRows bookSize
-  head-short short = row-fails _ 0 (ne-eqb (length book) (576 + 880 * bookHeights book) (λ e. omega arith))
+  unfolding headRows bookSize allOf
+  head-short short = rw (ne-eqb (length book) (576 + 880 * bookHeights book) (λ e. omega arith))
 
 -- ---- masks
 pub masks-are : (n : ℕ) (x : Height) →
@@ -115,9 +115,7 @@ module _ (digest : Bytes → Bytes) (book : Bytes) where
   pub sound-final : allOf (bookRows book) ≡ true → finalRow digest book ≡ sound digest book
   unfolding bookRows
   sound-final rows =
-      let head : allOf (headRows book) ≡ true = row _ 0 rows in
-      let heights : every ≡ true = row _ 1 rows in
-      sym (sound-is digest book ∙ rw (head, heights))
+      by-rows _ rows λ head heights. sym (sound-is digest book ∙ rw (head, heights))
 
   pub not-sound-rows : allOf (bookRows book) ≡ false → false ≡ sound digest book
   unfolding bookRows allOf

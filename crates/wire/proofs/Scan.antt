@@ -3,7 +3,7 @@
 use Prim.Native.Nat.{ℕ, zero, suc, _+_, _<_}
 use native.Mathlib.Omega.{arith}
 use mathlib.Core.Path.{_≡_, refl, sym, ap}
-use mathlib.Core.Bool.{Bool, true, false, _&&_, false≢true, and-assoc, and-true as and-right-true}
+use mathlib.Core.Bool.{Bool, true, false, _&&_, false≢true, and-assoc, and-true}
 use mathlib.Core.List.{[], _∷_}
 use lib.Bits.{bitOr, bitXor, or-zero-l, xor-self, or-add-and, xor-add-and, and-le-l, and-le-r}
 use lib.Dec.{eqb}
@@ -11,7 +11,7 @@ use lib.ListN.{length, getD, take, set, replicate, length-replicate, getD-replic
 use lib.Seq.{paste, paste-suc}
 use borrow.Author.Tests.{eq-eqb, eqb-true}
 use Rattle.protocol.specs.Bytes.{Bytes, byteAt, all, isZero, same, zeros}
-use Rattle.protocol.specs.Laws.TestsLaws.{and-true, both-ways}
+use Rattle.protocol.specs.Laws.TestsLaws.{and-both, both-ways}
 use Rattle.protocol.specs.Laws.RowLaws.{true-and, not-passed}
 
 or-zero : (a b : ℕ) → bitOr a b ≡ 0 → (a ≡ 0) × (b ≡ 0)
@@ -26,7 +26,7 @@ pub or-is-zero : (a b : ℕ) → eqb (bitOr a b) 0 ≡ (eqb a 0 && eqb b 0)
 or-is-zero a b = both-ways (eqb (bitOr a b) 0) (eqb a 0 && eqb b 0)
     (λ e. let z = or-zero a b (eqb-true (bitOr a b) 0 e) in
     true-and (eqb a 0) (eqb b 0) (eq-eqb a 0 (z .0)) (eq-eqb b 0 (z .1)))
-    (λ e. let t = and-true (eqb a 0) (eqb b 0) e in
+    (λ e. let t = and-both (eqb a 0) (eqb b 0) e in
     eq-eqb (bitOr a b) 0 (rw (eqb-true a 0 (t .0), eqb-true b 0 (t .1)) (or-zero-l 0)))
 
 xor-zero : (a b : ℕ) → bitXor a b ≡ 0 → a ≡ b
@@ -47,7 +47,7 @@ pub all-more : (test : ℕ → Bool) (bytes : Bytes) (i : ℕ) → i < length by
     all test (take (suc i) bytes) ≡ (all test (take i bytes) && test (byteAt bytes i))
 unfolding all
 all-more test [] i h = absurd (omega arith)
-all-more test (x ∷ xs) zero h = and-right-true (test x)
+all-more test (x ∷ xs) zero h = and-true (test x)
 all-more test (x ∷ xs) (suc i) h =
     rw (all-more test xs i (omega arith)) (sym (and-assoc (test x) (all test (take i xs)) (test (byteAt xs i))))
 
@@ -56,7 +56,7 @@ pub same-more : (a b : Bytes) (i : ℕ) → i < length a → i < length b →
 unfolding same
 same-more [] b i h k = absurd (omega arith)
 same-more (x ∷ xs) [] i h k = absurd (omega arith)
-same-more (x ∷ xs) (y ∷ ys) zero h k = and-right-true (eqb x y)
+same-more (x ∷ xs) (y ∷ ys) zero h k = and-true (eqb x y)
 same-more (x ∷ xs) (y ∷ ys) (suc i) h k =
     rw (same-more xs ys i (omega arith) (omega arith))
     (sym (and-assoc (eqb x y) (same (take i xs) (take i ys)) (eqb (byteAt xs i) (byteAt ys i))))
@@ -86,7 +86,7 @@ unfolding same
 same-length [] [] e = refl
 same-length [] (y ∷ ys) e = absurd (false≢true e)
 same-length (x ∷ xs) [] e = absurd (false≢true e)
-same-length (x ∷ xs) (y ∷ ys) e = ap suc (same-length xs ys (and-true (eqb x y) (same xs ys) e .1))
+same-length (x ∷ xs) (y ∷ ys) e = ap suc (same-length xs ys (and-both (eqb x y) (same xs ys) e .1))
 
 pub different-lengths : (a b : Bytes) → (length a ≡ length b → ⊥) → same a b ≡ false
 different-lengths a b f = not-passed (same a b) (λ e. f (same-length a b e))

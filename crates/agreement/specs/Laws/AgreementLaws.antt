@@ -16,7 +16,7 @@ use Rattle.protocol.specs.Laws.CallLaws.{only-opening, only-reading}
 use Rattle.protocol.specs.Read.{logSize, readPart}
 use Rattle.protocol.specs.Sound.{log, sound, view}
 use Rattle.protocol.specs.State.{State, at, decode, isNotarized}
-use Rattle.protocol.specs.Laws.TestsLaws.{and-true, cond-elim, le-or-lt, member-split}
+use Rattle.protocol.specs.Laws.TestsLaws.{and-both, cond-elim, le-or-lt, member-split}
 use Rattle.protocol.specs.View.{chain, isDummy, isFinalized, logAt, quorum, maskWeight, totalWeight}
 use Rattle.agreement.specs.Laws.ChainsLaws.{Prefix, prefix-bytes, settled-chains}
 use Rattle.agreement.specs.Laws.GrantsLaws.{Grants, grants}
@@ -182,7 +182,7 @@ module _ (digest : Bytes → Bytes) (n dishonest : ℕ) (l : List Member) (third
       let (buffer, e, q) = only-reading digest (m .book) (m .call) r x in
       subst (λ (z : Bytes). ReadOf m z) (sym q)
       (cond-elim (λ (z : Bytes). ReadOf m z) (sound digest (m .book) && leb (logSize (m .book)) (length buffer))
-      (λ ok. inr (had (and-true (sound digest (m .book)) _ ok .0), refl)) (λ ok. inl refl))
+      (λ ok. inr (had (and-both (sound digest (m .book)) _ ok .0), refl)) (λ ok. inl refl))
     where
       split : (front : List Member) × (back : List Member) × (l ≡ front ++ (m ∷ back))
       split = member-split l here

@@ -13,7 +13,7 @@ use Rattle.protocol.specs.Laws.MaskLaws.{inMask-maskOf}
 use Rattle.protocol.specs.Laws.RowLaws.{row, same-eq}
 use Rattle.protocol.specs.State.{Height, holdsProposal, isNotarized, voteOf}
 use Rattle.protocol.specs.Tests.{allOf}
-use Rattle.protocol.specs.Laws.TestsLaws.{and-true, cond-elim}
+use Rattle.protocol.specs.Laws.TestsLaws.{and-both, cond-elim}
 use Rattle.protocol.specs.View.{View, quorum}
 use Rattle.agreement.specs.Lists.{Statement, finalizes, votesBlock, votesDummy}
 
@@ -160,5 +160,5 @@ module _ (digest : Bytes → Bytes) where
         agreed : (t : ℕ) → (inMask (x .voterMask) t && same (voteOf x t) (digest (x .proposal))) ≡ true →
             W t (votesBlock h (digest (x .proposal)))
         agreed t e =
-            let q = and-true (inMask (x .voterMask) t) (same (voteOf x t) (digest (x .proposal))) e in
+            let q = and-both (inMask (x .voterMask) t) (same (voteOf x t) (digest (x .proposal))) e in
             rw (← same-eq (voteOf x t) (digest (x .proposal)) (q .1)) (k .held .ballots t (q .0))

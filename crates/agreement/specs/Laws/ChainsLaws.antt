@@ -12,7 +12,7 @@ use borrow.Author.Tests.{eqb-true}
 use Rattle.protocol.specs.Block.{allEntries, parentHeight}
 use Rattle.protocol.specs.Bytes.{Bytes, join}
 use Rattle.protocol.specs.Laws.RowLaws.{row}
-use Rattle.protocol.specs.Laws.TestsLaws.{and-true, le-or-lt}
+use Rattle.protocol.specs.Laws.TestsLaws.{and-both, le-or-lt}
 use Rattle.protocol.specs.Laws.PiecesLaws.{join-append}
 use Rattle.protocol.specs.Laws.ViewLaws.{run-sound, chain-none, chain-step, allEntries-append}
 use Rattle.protocol.specs.View.{View, chain, chainWithin, dummyRun, extendsOver, isDummy, isFinalized, linked}
@@ -40,7 +40,7 @@ module _ (digest : Bytes → Bytes) where
   link : (f : ℕ) (v : View) (i : ℕ) → linkedWithin digest (suc f) v (suc i) ≡ true → Link f v (suc i)
   unfolding linkedWithin extendsOver
   link f v i e =
-      let q = and-true (v .hasBlock (suc i)) _ (rw eqb·suc-zero at e) in
+      let q = and-both (v .hasBlock (suc i)) _ (rw eqb·suc-zero at e) in
       record { present = q .0; below = row _ 1 (q .1); run = row _ 3 (q .1) }
 
   no-fuel : (v : View) (h : ℕ) → linkedWithin digest 0 v h ≡ true → h ≡ 0
@@ -109,8 +109,8 @@ module _ (digest : Bytes → Bytes) where
     settled-chains apart (suc i) g′ (inl q) q′ le = absurd (omega arith)
     settled-chains apart (suc i) g′ (inr q) (inl q′) le = absurd (omega arith)
     settled-chains apart (suc i) g′ (inr q) (inr q′) le =
-        let a = and-true (linked digest v (suc i)) (quorum v (v .finalizeMask (suc i))) q in
-        let a′ = and-true (linked digest v′ g′) (quorum v′ (v′ .finalizeMask g′)) q′ in
+        let a = and-both (linked digest v (suc i)) (quorum v (v .finalizeMask (suc i))) q in
+        let a′ = and-both (linked digest v′ g′) (quorum v′ (v′ .finalizeMask g′)) q′ in
         begins (suc i) g′ (suc i) g′ (a .0) (a′ .0) (λ z. apart i (a .1) z) le
 
 -- ---- from chains to bytes

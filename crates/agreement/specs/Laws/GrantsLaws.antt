@@ -11,7 +11,7 @@ use Rattle.protocol.specs.Laws.CodecLaws.{last-decode, notarized-in}
 use Rattle.protocol.specs.Laws.RowLaws.{every-height-at, implies-true, in-range, row}
 use Rattle.protocol.specs.Sound.{sound, view}
 use Rattle.protocol.specs.State.{State, at, decode, isNotarized, bookHeights}
-use Rattle.protocol.specs.Laws.TestsLaws.{or-true}
+use Rattle.protocol.specs.Laws.TestsLaws.{or-either}
 use Rattle.protocol.specs.View.{isFinalized, quorum}
 use Rattle.protocol.specs.Laws.SoundRowNames.{replicasRow, currentRow, pendingRow, certifiedRow, finalizedRow}
 
@@ -34,7 +34,7 @@ module _ (digest : Bytes → Bytes) (book : Bytes) where
     positive = in-range 1 (bookHeights book + 1) (b .current) (row _ currentRow e) .0;
     pends = leb-true (b .pendingCount) 32 (row _ pendingRow e);
     certificates = certified;
-    finalizes = settled (or-true (eqb (b .finalized) 0) _ (row _ finalizedRow e));
+    finalizes = settled (or-either (eqb (b .finalized) 0) _ (row _ finalizedRow e));
   }
     where
       certified : (i : ℕ) → isNotarized (at b (suc i)) ≡ true → quorum (view b) (at b (suc i) .certificateMask) ≡ true

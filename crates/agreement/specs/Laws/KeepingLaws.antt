@@ -20,7 +20,7 @@ use Rattle.protocol.specs.Laws.MaskLaws.{inMask-add, inMask-maskOf}
 use Rattle.protocol.specs.Sound.{view}
 use Rattle.protocol.specs.State.{Height, State, at, holdsProposal, isNotarized, voteOf}
 use Rattle.protocol.specs.Tests.{allOf}
-use Rattle.protocol.specs.Laws.TestsLaws.{cond-elim, eqb-self, or-true}
+use Rattle.protocol.specs.Laws.TestsLaws.{cond-elim, eqb-self, or-either}
 use Rattle.protocol.specs.View.{View, quorum}
 use Rattle.protocol.specs.Laws.VoteLaws.{vote-same, vote-other}
 use Rattle.agreement.specs.Laws.BackingLaws.{Backed, backed-dummies, backed-finalizations, backed-notarize}
@@ -39,7 +39,7 @@ module _ {Q : ℕ → Type 0} (mask : ℕ) (old : (t : ℕ) → inMask mask t �
   with-all : (n other : ℕ) → ((t : ℕ) → inMask other t ≡ true → Q t) → (t : ℕ) → inMask (union n mask other) t ≡ true →
       Q t
   unfolding union
-  with-all n other new t e = go (or-true (inMask mask t) (inMask other t) (inMask-maskOf _ n t e .1))
+  with-all n other new t e = go (or-either (inMask mask t) (inMask other t) (inMask-maskOf _ n t e .1))
     where
       go : (inMask mask t ≡ true) ⊎ (inMask other t ≡ true) → Q t
       go (inl q) = old t q

@@ -17,7 +17,7 @@ use Rattle.protocol.specs.Move.{isSome}
 use Rattle.protocol.specs.Call.{Opened}
 use Rattle.protocol.specs.Laws.RowLaws.{eq-same, implies-true, same-eq}
 use Rattle.protocol.specs.Tests.{implies}
-use Rattle.protocol.specs.Laws.TestsLaws.{and-true, le-or-lt, or-true}
+use Rattle.protocol.specs.Laws.TestsLaws.{and-both, le-or-lt, or-either}
 use Rattle.agreement.specs.ListTests.{deliversBacked, everyHonest, everyIn, follows, hearsAt, isAmong, isBacked}
 use Rattle.agreement.specs.ListTests.{isHonest, keepsOneBook, noCollision, notForged, opensFor, readsAt}
 use Rattle.agreement.specs.ListTests.{readsPart, shows, showsOnly, signed, signedIn, someIn, statementBytes}
@@ -36,7 +36,7 @@ every-in test [] e x i = absurd (List·Memᴰ·not-nil i)
 every-in test (y ∷ ys) e x i = go (List·Memᴰ·cases-cons i) (every-in test ys (q .1) x)
   where
     q : (test y ≡ true) × (everyIn test ys ≡ true)
-    q = and-true (test y) (everyIn test ys) e
+    q = and-both (test y) (everyIn test ys) e
 
     go : (x ≡ y) ⊎ List·Memᴰ x ys → (List·Memᴰ x ys → test x ≡ true) → test x ≡ true
     go (inl z) below = ap test z ∙ q .0
@@ -46,7 +46,7 @@ pub some-in : {A : Type 0} (test : A → Bool) (l : List A) → someIn test l �
     (x : A) × List·Memᴰ x l × (test x ≡ true)
 unfolding someIn
 some-in test [] e = absurd (false≢true e)
-some-in {A} test (y ∷ ys) e = go (or-true (test y) (someIn test ys) e) (some-in test ys)
+some-in {A} test (y ∷ ys) e = go (or-either (test y) (someIn test ys) e) (some-in test ys)
   where
     go : (test y ≡ true) ⊎ (someIn test ys ≡ true) →
         (someIn test ys ≡ true → (x : A) × List·Memᴰ x ys × (test x ≡ true)) →
@@ -62,7 +62,7 @@ every-honest dishonest test (suc k) e s (low, h) =
     go (le-or-lt k s) (λ l. every-honest dishonest test k (q .0) s (l, h))
   where
     q : (everyHonest dishonest test k ≡ true) × (implies (not (inMask dishonest k)) (test k) ≡ true)
-    q = and-true (everyHonest dishonest test k) _ e
+    q = and-both (everyHonest dishonest test k) _ e
 
     go : (k ≤ s) ⊎ (s < k) → (s < k → test s ≡ true) → test s ≡ true
     go (inl l) below = let z : s ≡ k = omega arith in rw z (implies-true _ _ (q .1) (rw (rw z at h)))
@@ -75,7 +75,7 @@ is-honest n dishonest s (low, h) = rw (h, le-leb (suc s) n low)
 pub honest-in : (n dishonest s : ℕ) → isHonest n dishonest s ≡ true → HonestIn n dishonest s
 unfolding isHonest HonestIn
 honest-in n dishonest s e =
-    let q = and-true (ltb s n) (not (inMask dishonest s)) e in
+    let q = and-both (ltb s n) (not (inMask dishonest s)) e in
     (leb-true (suc s) n (q .0), not-true (inMask dishonest s) (q .1))
 
 -- ---- bytes
@@ -125,7 +125,7 @@ module _ (digest : Bytes → Bytes) where
   unfolding opensFor
   opens-for n s none e = absurd (false≢true e)
   opens-for n s (some opened) e =
-      let q = and-true (eqb (opened .n) n) (eqb (opened .own) s) e in
+      let q = and-both (eqb (opened .n) n) (eqb (opened .own) s) e in
       rw (← eqb-true (opened .n) n (q .0), ← eqb-true (opened .own) s (q .1)) refl
 
   opens-nothing : (o : Option Opened) → isSome o ≡ false → o ≡ none
@@ -138,7 +138,7 @@ module _ (digest : Bytes → Bytes) where
   unfolding follows Follows Opens Continues
   follows-sound n s m none e = opens-for n s (does digest m .opens) e
   follows-sound n s m (some book) e =
-      let q = and-true (same (m .book) book) _ e in
+      let q = and-both (same (m .book) book) _ e in
       (same-eq (m .book) book (q .0), opens-nothing (does digest m .opens) (not-true _ (q .1)))
 
   keeps-from : (n s : ℕ) (left : Option Bytes) (l : List Member) → keepsOneBook digest n s left l ≡ true →
@@ -149,12 +149,12 @@ module _ (digest : Bytes → Bytes) where
   keeps-from n s left [] t before m after e own = absurd (split-never m before after e)
   keeps-from n s left (x ∷ xs) t [] m after e own =
       let x≡m = split-head e .0 in
-      let q = and-true (implies (eqb (x .replica) s) (follows digest n s x left)) _ t .0 in
+      let q = and-both (implies (eqb (x .replica) s) (follows digest n s x left)) _ t .0 in
       follows-sound n s m left (subst (λ (y : Member). follows digest n s y left ≡ true) x≡m
       (implies-true _ _ q (eq-eqb (x .replica) s (ap (λ (y : Member). y .replica) x≡m ∙ own))))
   keeps-from n s left (x ∷ xs) t (y ∷ before) m after e own =
       let x≡y = split-head e .0 in
-      let q = and-true (implies (eqb (x .replica) s) (follows digest n s x left)) _ t .1 in
+      let q = and-both (implies (eqb (x .replica) s) (follows digest n s x left)) _ t .1 in
       let r = keeps-from n s (orElse (leftBy digest s x) left) xs q before m after (split-head e .1) own in
       subst (λ (o : Option Bytes). Follows digest n s m o)
       (ap (λ (z : Member). orElse (lastLeft digest s before) (orElse (leftBy digest s z) left)) x≡y
@@ -242,11 +242,11 @@ module _ (digest : Bytes → Bytes) where
     forged-from P log [] h t before m after frame s st e hm hs d r = absurd (split-never m before after e)
     forged-from P log (x ∷ xs) h t [] m after frame s st e hm hs d r =
         let q = subst (λ (y : Member). deliversBacked digest n dishonest log y ≡ true) (split-head e .0)
-        (and-true _ _ t .0) in
+        (and-both _ _ t .0) in
         rw append-nil (backed-sound P log frame h (delivers-backed log m q hm frame d) s st hs r)
     forged-from P log (x ∷ xs) h t (y ∷ before) m after frame s st e hm hs d r =
         let rest = signedIn digest (x .replica) (writes digest x) ++ log in
-        let q = and-true (deliversBacked digest n dishonest log x) (notForged digest n dishonest rest xs) t .1 in
+        let q = and-both (deliversBacked digest n dishonest log x) (notForged digest n dishonest rest xs) t .1 in
         let w = forged-from (P ++ (x ∷ [])) rest xs (logged-more P log x h) q before m after frame s st
         (split-head e .1) hm hs d r in
         subst (λ (z : List Member). Wrote digest s st z)
@@ -302,7 +302,7 @@ module _ (digest : Bytes → Bytes) where
       ((m : Member) → test m ≡ true → P m) → someIn (λ m. eqb (m .replica) s && test m) list ≡ true → MemberOf list s P
   found list s test P f e =
       let (m, i, t) = some-in (λ (m : Member). eqb (m .replica) s && test m) list e in
-      let q = and-true (eqb (m .replica) s) (test m) t in
+      let q = and-both (eqb (m .replica) s) (test m) t in
       (m, i, eqb-true (m .replica) s (q .0), f m (q .1))
 
   pub reads-found : (list : List Member) (part : Bytes) (s : ℕ) → someIn (readsAt digest part s) list ≡ true →

@@ -29,7 +29,7 @@ use Rattle.protocol.specs.State.{Height, State, at, decode, encode, flag, last,
 use Rattle.protocol.specs.State.{withTimerFired}
 use Rattle.protocol.specs.Laws.StateLaws.{decode-encode}
 use Rattle.protocol.specs.Tests.{firstRefusal}
-use Rattle.protocol.specs.Laws.TestsLaws.{and-true}
+use Rattle.protocol.specs.Laws.TestsLaws.{and-both}
 use Rattle.agreement.specs.Laws.BackingLaws.{Backed, later}
 use Rattle.agreement.specs.Laws.GrantsLaws.{grants}
 use Rattle.agreement.specs.Laws.KeepingLaws.{keep-good}
@@ -297,7 +297,7 @@ module _ (digest : Bytes → Bytes) where
               let r1 = row-passes _ _ e in
               let r2 = row-passes _ _ (r1 .1) in
               let r3 = row-passes _ _ (r2 .1) in
-              let off = not-true (flag 1 b) (and-true (eqb h (b .current)) _ (r3 .0) .1) in
+              let off = not-true (flag 1 b) (and-both (eqb h (b .current)) _ (r3 .0) .1) in
               quiet s b (withHead b (b .flags + 1) (b .current) (b .finalized)) g (λ q. silent) refl refl
               (λ q. flag-set b (b .current) (b .finalized) 0 off)
               (λ q. flag-kept b (b .current) (b .finalized) 0 off 2 (omega arith) ∙ q)

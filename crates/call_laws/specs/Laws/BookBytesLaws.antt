@@ -2,26 +2,24 @@
 use Prim.Native.Nat.{ℕ, _+_, _-_, _*_, _≤_, _<_}
 use native.Mathlib.Omega.{arith}
 use mathlib.Core.Path.{_≡_, refl, sym, ap, _∙_}
-use mathlib.Core.Bool.{true, not}
+use mathlib.Core.Bool.{true}
 use mathlib.Core.List.{List, [], _∷_, _++_, map, append-assoc}
 use mathlib.Core.Option.{Option, some, none}
 use lib.ListN.{length, set, length-append, length-map}
-use lib.Dec.{eqb}
-use borrow.Author.Tests.{eqb-true, le-leb, ltb-true, not-true}
+use borrow.Author.Tests.{le-leb}
 use Rattle.protocol.specs.Every.{Every, none, one}
 use Rattle.protocol.specs.Bytes.{Bytes, le16, zeros, join, AreBytes, put, Sized}
 use Rattle.protocol.specs.Tests.{firstRefusal}
 use Rattle.protocol.specs.Laws.BytesLaws.{put-all, zeros-add}
 use Rattle.protocol.specs.Answer.{done, accepted, unlessRefused}
 use Rattle.protocol.specs.State.{State, decode, encode, headBytes, contentBytes, bodyBytes, withHead, withTimerFired}
-use Rattle.protocol.specs.State.{flag, pending, withPool}
+use Rattle.protocol.specs.State.{pending, withPool}
 use Rattle.protocol.specs.Sound.{sound, log}
-use Rattle.protocol.specs.Open.{newHeight, newState, openRows, openInRange, openCall}
+use Rattle.protocol.specs.Open.{newHeight, newState, openRows, openCall}
 use Rattle.protocol.specs.Move.{step, moved, moveRows, moveCall, unlessMoveRefused}
 use Rattle.protocol.specs.Signal.{signalRows, signalCall}
 use Rattle.protocol.specs.Submit.{withPending, stillPending, submitRows, submitCall}
-use Rattle.protocol.specs.Laws.TestsLaws.{and-true}
-use Rattle.protocol.specs.Laws.RowLaws.{row, row-passes}
+use Rattle.protocol.specs.Laws.TestedLaws.{open-ranges, open-tested, signal-tested, submit-tested}
 use Rattle.protocol.specs.Laws.EveryLaws.{every-append}
 use Rattle.protocol.specs.Laws.PiecesLaws.{pieces-join}
 use Rattle.protocol.specs.Laws.PoolLaws.{every-without, pending-pool-size}
@@ -30,7 +28,7 @@ use Rattle.protocol.specs.Laws.StateLaws.{decode-encode}
 use Rattle.protocol.specs.Laws.WriteLaws.{write-pool, write-pending-count}
 use Rattle.protocol.specs.Laws.MoveLaws.{head-only}
 use Rattle.protocol.specs.Laws.SoundLaws.{sound-decode, encode-decode}
-use Rattle.call_laws.specs.Laws.KeepsStateLaws.{refused≢accepted}
+use Rattle.call_laws.specs.Laws.RefusalsLaws.{refused≢accepted}
 use Rattle.call_laws.specs.Laws.SubmitKeptLaws.{submit-sound}
 use Rattle.call_laws.specs.BookBytes.{openedBook, Signals, entriesAfter, Submits, headOf}
 
@@ -78,9 +76,9 @@ open-bytes book n own heights leaders =
   where
     made : firstRefusal (openRows book n own heights leaders) ≡ none →
         encode (newState n own leaders) ≡ openedBook n own heights leaders
-    made passes = unfold openRows openInRange in
-        let count : length leaders ≡ heights = eqb-true _ _ (row _ 3 (row-passes _ _ passes .0)) in
-        new-book n own leaders ∙ ap (λ (k : ℕ). openedBook n own k leaders) count
+    made passes =
+        let ranges = open-ranges n own heights leaders (open-tested n own heights leaders book passes .in-ranges) in
+        new-book n own leaders ∙ ap (λ (k : ℕ). openedBook n own k leaders) (ranges .listed)
 
 -- ---- calls on a sound book, whose numbers are bytes
 module _ (digest : Bytes → Bytes) (book : Bytes) (small : AreBytes book) where
@@ -99,13 +97,12 @@ module _ (digest : Bytes → Bytes) (book : Bytes) (small : AreBytes book) where
       (encode (withTimerFired s)) fired
     where
       fired : firstRefusal (signalRows digest book h) ≡ none → Signals book h (encode (withTimerFired s))
-      fired passes = unfold signalRows in
-          let r1 = row-passes _ _ passes in
-          let r14 = and-true (eqb h (s .current)) (not (flag 1 s)) (row-passes _ _ (row-passes _ _ (r1 .1) .1) .0) in
+      fired passes =
+          let tested = signal-tested digest book h passes in
           record {
-            current = eqb-true _ _ (r14 .0) ∙ unfold decode in refl;
-            was-clear = not-true _ (r14 .1);
-            bytes = timer-bytes ∙ rw (encode-decode digest book (r1 .0) small) (unfold decode in refl);
+            current = tested .is-current ∙ unfold decode in refl;
+            was-clear = tested .not-fired;
+            bytes = timer-bytes ∙ rw (encode-decode digest book (tested .was-sound) small) (unfold decode in refl);
           }
 
   -- ---- Submit
@@ -128,12 +125,11 @@ module _ (digest : Bytes → Bytes) (book : Bytes) (small : AreBytes book) where
     where
       kept : firstRefusal (submitRows digest book entry) ≡ none →
           Submits book entry (encode (withPending s (entriesAfter book entry)))
-      kept passes = unfold submitRows in
-          let r1 = row-passes _ _ passes in
-          let r4 = row-passes _ _ (r1 .1) in
-          let room : length (stillPending s) < 32 = ltb-true _ _ (row-passes _ _ (row-passes _ _ (r4 .1) .1) .0) in
-          let size : length entry ≡ 16 = eqb-true _ _ (r4 .0) in
-          let state = sound-decode digest book (r1 .0) in
+      kept passes =
+          let tested = submit-tested digest book entry passes in
+          let room : length (stillPending s) < 32 = tested .room in
+          let size : length entry ≡ 16 = tested .size in
+          let state = sound-decode digest book (tested .was-sound) in
           let few : length (entriesAfter book entry) ≤ 32 = simp length-append (omega arith) in
           let left : Every (Sized 16) (stillPending s) = unfold stillPending in
           every-without (log s) (pending-sized digest s state) in
@@ -143,7 +139,7 @@ module _ (digest : Bytes → Bytes) (book : Bytes) (small : AreBytes book) where
             bytes =
                 pool-bytes (entriesAfter book entry) (state .shaped .pool-size)
                 (pending-pool-size (entriesAfter book entry) sized few) ∙
-                rw (encode-decode digest book (r1 .0) small);
+                rw (encode-decode digest book (tested .was-sound) small);
             now-pending =
                 ap pending (decode-encode (withPending s (entriesAfter book entry))
                 (submit-sound digest s state entry size room .shaped)) ∙

@@ -8,20 +8,19 @@ use mathlib.Core.List.{[], _∷_}
 use mathlib.Core.Option.{Option, some, none}
 use lib.ListN.{length}
 use lib.Dec.{eqb}
-use borrow.Author.Tests.{leb-true}
 use Rattle.protocol.specs.SoundState.{SoundState}
 use Rattle.protocol.specs.Bytes.{Bytes}
 use Rattle.protocol.specs.Tests.{firstRefusal}
 use Rattle.protocol.specs.Frame.{finalize, blockCertificate, dummyCertificate, finalizeCertificate}
 use Rattle.protocol.specs.State.{State, at, decode, flag, isNotarized}
 use Rattle.protocol.specs.View.{linked, quorum, isDummy}
-use Rattle.protocol.specs.Sound.{view, sound}
+use Rattle.protocol.specs.Sound.{view}
 use Rattle.protocol.specs.Answer.{pass, onBlock, onDummy, certificateKind}
 use Rattle.protocol.specs.Move.{Step, unused, written, moved, unlessMoveRefused, passesBy, step, dummyVoteStep}
 use Rattle.protocol.specs.Move.{outputStep, passStep, proposeStep, blockVoteStep, idleStep, moveRows, moveCall}
 use Rattle.protocol.specs.Fetch.{hasCertificate, unlessFetchRefused, fetchRows, fetchCall}
 use Rattle.protocol.specs.Certificates.{certificateFrame}
-use Rattle.protocol.specs.Laws.RowLaws.{row-passes}
+use Rattle.protocol.specs.Laws.TestedLaws.{MoveTested, move-tested}
 use Rattle.protocol.specs.Laws.SoundLaws.{sound-decode}
 use Rattle.call_laws.specs.Fields.{blockCertificateFields, dummyCertificateFields, finalizeCertificateFields}
 use Rattle.call_laws.specs.Readable.{Said, SameSetting, DigestSized}
@@ -97,38 +96,33 @@ module _ (digest : Bytes → Bytes) (book reply : Bytes) where
       go none = unfold unlessMoveRefused moved moveAnswerFrames in step-named digest state
       go (some number) = unfold unlessMoveRefused moveAnswerFrames in refl
 
-  -- what the rows of Move say
-  move-facts : firstRefusal (moveRows digest book reply) ≡ none → (sound digest book ≡ true) × (448 ≤ length reply)
-  unfolding moveRows
-  move-facts passes = let r1 = row-passes _ _ passes in (r1 .0, leb-true _ _ (row-passes _ _ (r1 .1) .0))
-
   module _ (sized : DigestSized digest) where
     pub move-said : (t : State) → SameSetting state t →
         Said t (moveAnswerFields digest state (moveCall digest book reply .answer)) (moveCall digest book reply .frames)
     unfolding moveCall
-    move-said t same = go (firstRefusal (moveRows digest book reply)) move-facts
+    move-said t same = go (firstRefusal (moveRows digest book reply)) (move-tested digest book reply)
       where
-        go : (r : Option ℕ) → (r ≡ none → (sound digest book ≡ true) × (448 ≤ length reply)) →
+        go : (r : Option ℕ) → (r ≡ none → MoveTested digest book reply) →
             Said t (moveAnswerFields digest state (unlessMoveRefused r book reply (step digest state) .answer))
             (unlessMoveRefused r book reply (step digest state) .frames)
         go none facts = unfold unlessMoveRefused moved moveAnswerFields in
-            step-said digest state (sound-decode digest book (facts refl .0)) t same sized
+            step-said digest state (sound-decode digest book (facts refl .was-sound)) t same sized
         go (some number) facts = unfold unlessMoveRefused moveAnswerFields in said-none t
 
     pub move-wrote : Wrote (moveCall digest book reply .frames) (blankAfter (moveCall digest book reply .answer)) reply
         (moveCall digest book reply .reply)
     unfolding moveCall
-    move-wrote = go (firstRefusal (moveRows digest book reply)) move-facts
+    move-wrote = go (firstRefusal (moveRows digest book reply)) (move-tested digest book reply)
       where
-        go : (r : Option ℕ) → (r ≡ none → (sound digest book ≡ true) × (448 ≤ length reply)) →
+        go : (r : Option ℕ) → (r ≡ none → MoveTested digest book reply) →
             Wrote (unlessMoveRefused r book reply (step digest state) .frames)
             (blankAfter (unlessMoveRefused r book reply (step digest state) .answer)) reply
             (unlessMoveRefused r book reply (step digest state) .reply)
         go none facts = unfold unlessMoveRefused moved blankAfter written in
             front-wrote (step digest state .frames)
-            (step-said digest state (sound-decode digest book (facts refl .0)) state (same-setting state) sized
+            (step-said digest state (sound-decode digest book (facts refl .was-sound)) state (same-setting state) sized
             .sized)
-            (unused (step digest state .move)) reply (omega (arith, step-fits digest state, facts refl .1))
+            (unused (step digest state .move)) reply (omega (arith, step-fits digest state, facts refl .room))
         go (some number) facts = unfold unlessMoveRefused blankAfter in nothing-wrote reply
 
 -- ---- Fetch

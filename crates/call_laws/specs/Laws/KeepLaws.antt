@@ -3,21 +3,18 @@ use Prim.Native.Nat.{ℕ, _+_, _%_, _^_, _≤_, _<_}
 use native.Mathlib.Omega.{arith}
 use mathlib.Core.Path.{_≡_, refl, sym, _∙_}
 use mathlib.Core.Logic.{_≢_}
-use mathlib.Core.Bool.{true, false, not, true≢false}
-use mathlib.Core.List.{[], _∷_}
+use mathlib.Core.Bool.{true, false, true≢false}
 use lib.ListN.{length}
-use borrow.Author.Tests.{eqb-true, eqb-false, eq-eqb, leb-true, leb-false, le-leb, not-true}
+use borrow.Author.Tests.{eqb-true, eqb-false, eq-eqb, leb-true, leb-false, le-leb}
 use Rattle.protocol.specs.SoundState.{ShapedHeight, SoundHeight}
 use Rattle.protocol.specs.Bytes.{Bytes}
-use Rattle.protocol.specs.Tests.{allOf}
 use Rattle.protocol.specs.Block.{blockWellFormed}
 use Rattle.protocol.specs.Mask.{inMask, Within}
 use Rattle.protocol.specs.State.{Height, holdsProposal, isNotarized}
 use Rattle.protocol.specs.View.{View, quorum}
 use Rattle.protocol.specs.Deliver.{withProposal, withNotarized, withMasks, withVote, votersFor, notarize}
+use Rattle.protocol.specs.Laws.DeliverLaws.{notarize-cases}
 use Rattle.protocol.specs.Laws.MaskLaws.{add-below, maskOf-below}
-use Rattle.protocol.specs.Laws.TestsLaws.{cond-elim}
-use Rattle.protocol.specs.Laws.RowLaws.{row}
 use Rattle.protocol.specs.Laws.FormedLaws.{formed}
 use Rattle.protocol.specs.Laws.ChangeLaws.{shaped-proposal, shaped-notarized, shaped-masks, shaped-vote}
 use Rattle.call_laws.specs.Laws.HeightKeptLaws.{Replaces}
@@ -146,13 +143,11 @@ module _ (v : View) (h : ℕ) (x y : Height) (fits : Replaces v h x y) where
 
   module _ (digest : Bytes → Bytes) where
     pub notarize-replaces : Replaces v h x (notarize digest v y)
-    unfolding notarize
     notarize-replaces =
-        let voters : ℕ = votersFor y (digest (y .proposal)) (v .n) in
-        cond-elim (Replaces v h x) (allOf (not (isNotarized y) ∷ holdsProposal y ∷ quorum v voters ∷ []))
-        (λ e. notarized-replaces voters (y .proposal) (not-true _ (row _ 0 e)) voters-below (row _ 2 e)
-        (fits .sound .proposal-formed (row _ 1 e)))
-        (λ e. fits)
+        notarize-cases digest v y (Replaces v h x)
+        (λ votes. notarized-replaces _ (y .proposal) (votes .free) voters-below (votes .enough)
+        (fits .sound .proposal-formed (votes .held)))
+        (λ _. fits)
       where
         voters-below : votersFor y (digest (y .proposal)) (v .n) < 2 ^ v .n
         voters-below = unfold votersFor in maskOf-below _ (v .n)

@@ -22,8 +22,8 @@ use Rattle.protocol.specs.Laws.SoundLaws.{exact, encode-decode, sound-encode}
 use Rattle.call_laws.specs.Laws.DeliverKeptLaws.{keep-sound}
 use Rattle.call_laws.specs.KeptBytes.{Part, SameOutside, deliveryParts}
 use Rattle.call_laws.specs.Laws.KeptBytesLaws.{keep-only, keep-other}
-use Rattle.call_laws.specs.Laws.KeepsStateLaws.{refused≢accepted, at-placed, placed-same, state, known-keeps}
-use Rattle.call_laws.specs.Laws.KeepsStateLaws.{fresh-keeps}
+use Rattle.call_laws.specs.Laws.RefusalsLaws.{refused≢accepted}
+use Rattle.call_laws.specs.Laws.KeepsStateLaws.{at-placed, placed-same, state, known-keeps, fresh-keeps}
 use Rattle.call_laws.specs.Keeping.{Keeps}
 
 -- two byte strings of the same length that are not the same differ at a byte

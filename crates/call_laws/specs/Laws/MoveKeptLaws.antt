@@ -3,8 +3,8 @@ use Prim.Native.Nat.{ℕ, _+_, _^_, _≤_, _<_}
 use native.Mathlib.Omega.{arith}
 use mathlib.Core.Path.{_≡_}
 use mathlib.Core.Logic.{_⊎_, inl, inr}
-use mathlib.Core.Bool.{true, not}
-use borrow.Author.Tests.{leb-true, not-true}
+use mathlib.Core.Bool.{true, false}
+use borrow.Author.Tests.{leb-true}
 use Rattle.protocol.specs.SoundState.{SoundState}
 use Rattle.protocol.specs.Bytes.{Bytes}
 use Rattle.protocol.specs.State.{State, last, flag, withHead, withTimerFired}
@@ -16,11 +16,10 @@ use Rattle.protocol.specs.Move.{idleStep}
 use Rattle.protocol.specs.Linked.{Finalized}
 use Rattle.protocol.specs.Laws.LinkedLaws.{finalized-complete}
 use Rattle.protocol.specs.Laws.ParentLaws.{largestFinalized-is}
-use Rattle.protocol.specs.Laws.TestsLaws.{and-true}
-use Rattle.protocol.specs.Laws.RowLaws.{row}
+use Rattle.protocol.specs.Laws.TestsLaws.{and-both}
 use Rattle.call_laws.specs.Laws.HeadKeptLaws.{head-sound}
 use Rattle.protocol.specs.Laws.FlagLaws.{flag-room}
-use Rattle.protocol.specs.Laws.MoveLaws.{step-cases}
+use Rattle.protocol.specs.Laws.MoveLaws.{step-cases, dummy-vote-rows, propose-rows, block-vote-rows}
 
 module _ (digest : Bytes → Bytes) (s : State) (is : SoundState digest s) where
   with-head-sound : (f c g : ℕ) → f < 16 → 1 ≤ c → c ≤ last s + 1 → (g ≡ 0) ⊎ (isFinalized digest (view s) g ≡ true) →
@@ -30,19 +29,19 @@ module _ (digest : Bytes → Bytes) (s : State) (is : SoundState digest s) where
       ended (is .pending-few) (is .shaped .pool-size)
 
   -- one more flag
-  flag-sound : (bit : ℕ) → bit < 4 → not (flag (2 ^ bit) s) ≡ true →
+  flag-sound : (bit : ℕ) → bit < 4 → flag (2 ^ bit) s ≡ false →
       SoundState digest (withHead s (s .flags + 2 ^ bit) (s .current) (s .finalized))
   flag-sound bit inside e =
       with-head-sound (s .flags + 2 ^ bit) (s .current) (s .finalized)
-      (flag-room s (s .current) (s .finalized) bit (not-true _ e) inside (is .flags-small)) (is .current-low)
+      (flag-room s (s .current) (s .finalized) bit e inside (is .flags-small)) (is .current-low)
       (is .current-high) (is .final)
 
   abbrev After : Step → Type 0
   After st = SoundState digest (st .after)
 
   dummy-vote : dummyVoteApplies s ≡ true → After (dummyVoteStep s)
-  unfolding dummyVoteApplies dummyVoteStep
-  dummy-vote e = flag-sound 1 (omega arith) (row _ 2 e)
+  unfolding dummyVoteStep
+  dummy-vote e = flag-sound 1 (omega arith) (dummy-vote-rows s e .not-yet)
 
   output-sound : After (outputStep digest s)
   unfolding outputStep newFinalized
@@ -57,16 +56,16 @@ module _ (digest : Bytes → Bytes) (s : State) (is : SoundState digest s) where
   pass-sound : passApplies digest s ≡ true → After (passStep digest s)
   unfolding passApplies passStep isRunning
   pass-sound e =
-      let running : s .current ≤ last s = leb-true _ _ (and-true _ _ e .0) in
+      let running : s .current ≤ last s = leb-true _ _ (and-both _ _ e .0) in
       with-head-sound 0 (s .current + 1) (s .finalized) (omega arith) (omega arith) (omega arith) (is .final)
 
   propose-sound : proposeApplies digest s ≡ true → After (proposeStep digest s)
-  unfolding proposeApplies proposeStep
-  propose-sound e = flag-sound 3 (omega arith) (row _ 2 e)
+  unfolding proposeStep
+  propose-sound e = flag-sound 3 (omega arith) (propose-rows digest s e .not-yet)
 
   block-vote : blockVoteApplies digest s ≡ true → After (blockVoteStep digest s)
-  unfolding blockVoteApplies blockVoteStep
-  block-vote e = flag-sound 2 (omega arith) (row _ 1 e)
+  unfolding blockVoteStep
+  block-vote e = flag-sound 2 (omega arith) (block-vote-rows digest s e .not-yet)
 
   idle-sound : After (idleStep s)
   unfolding idleStep
@@ -77,6 +76,6 @@ module _ (digest : Bytes → Bytes) (s : State) (is : SoundState digest s) where
       dummy-vote (λ _ _. output-sound) (λ _ _. pass-sound) (λ _ _ _. propose-sound) (λ _ _ _ _. block-vote)
       (λ _ _ _ _ _. idle-sound)
 
-  pub timer-sound : not (flag 1 s) ≡ true → SoundState digest (withTimerFired s)
+  pub timer-sound : flag 1 s ≡ false → SoundState digest (withTimerFired s)
   unfolding withTimerFired
   timer-sound e = flag-sound 0 (omega arith) e

@@ -1,7 +1,7 @@
 -- Every call refuses as `Refusals` says.
 use Prim.Native.Nat.{ℕ}
 use mathlib.Core.Path.{_≡_, refl, sym, ap, subst, _∙_}
-use mathlib.Core.Bool.{Bool, true, false, cond}
+use mathlib.Core.Bool.{Bool, true, false, cond, true≢false}
 use mathlib.Core.List.{List, [], _∷_}
 use mathlib.Core.Option.{Option, some, none}
 use Rattle.protocol.specs.Bytes.{Bytes}
@@ -17,8 +17,10 @@ use Rattle.protocol.specs.Submit.{submitRows, submitCall}
 use Rattle.protocol.specs.Read.{logSize, sizeCall}
 use Rattle.protocol.specs.Fetch.{unlessFetchRefused, fetchRows, fetchCall}
 use Rattle.protocol.specs.Certificates.{certificateFrame}
-use Rattle.call_laws.specs.Laws.KeepsStateLaws.{refused≢accepted}
 use Rattle.call_laws.specs.Refusals.{Refuses}
+
+pub refused≢accepted : {A : Type 0} (number : ℕ) (answer : A) → refused number ≡ accepted answer → ⊥
+refused≢accepted number answer e = true≢false (let impossible : true ≡ false = cc in impossible)
 
 same-number : {A : Type 0} {m n : ℕ} → _≡_ {A = Answer A} (refused m) (refused n) → m ≡ n
 same-number e = cc

@@ -5,8 +5,6 @@ use mathlib.Core.Path.{_≡_, refl}
 use mathlib.Core.Bool.{true}
 use mathlib.Core.List.{List, [], _∷_, _++_}
 use mathlib.Core.Option.{Option, some, none}
-use lib.Dec.{eqb}
-use borrow.Author.Tests.{eqb-true, ltb-true}
 use Rattle.protocol.specs.SoundState.{SoundState}
 use Rattle.protocol.specs.Bytes.{Bytes}
 use Rattle.protocol.specs.Tests.{Row, firstRefusal}
@@ -19,8 +17,7 @@ use Rattle.protocol.specs.Deliver.{deliverCall}
 use Rattle.protocol.specs.Move.{step, moved, unlessMoveRefused, moveRows, moveCall}
 use Rattle.protocol.specs.Signal.{signalRows, signalCall}
 use Rattle.protocol.specs.Submit.{withPending, stillPending, submitRows, submitCall}
-use Rattle.protocol.specs.Laws.TestsLaws.{and-true}
-use Rattle.protocol.specs.Laws.RowLaws.{row-passes}
+use Rattle.protocol.specs.Laws.TestedLaws.{open-tested, signal-tested, submit-tested}
 use Rattle.protocol.specs.Laws.DeliverLaws.{deliver-cases}
 use Rattle.protocol.specs.Laws.SoundLaws.{sound-decode, sound-encode}
 use Rattle.call_laws.specs.Laws.OpenKeptLaws.{open-sound}
@@ -63,11 +60,9 @@ module _ (digest : Bytes → Bytes) where
         go (some number) = unfold unlessMoveRefused in was
 
     fired : (h : ℕ) → firstRefusal (signalRows digest book h) ≡ none → Sound (encode (withTimerFired s))
-    unfolding signalRows
     fired h passes =
-        let r6 = row-passes _ _ (row-passes _ _ passes .1) in
-        let r14 = and-true (eqb h (s .current)) _ (row-passes _ _ (r6 .1) .0) in
-        sound-encode digest (withTimerFired s) (timer-sound digest s state (r14 .1))
+        sound-encode digest (withTimerFired s) (timer-sound digest s state (signal-tested digest book h passes
+        .not-fired))
 
     pub signal-kept : (h : ℕ) → Sound (signalCall digest book h .book)
     unfolding signalCall
@@ -78,12 +73,10 @@ module _ (digest : Bytes → Bytes) where
     submitted entry = encode (withPending s (stillPending s ++ (entry ∷ [])))
 
     appended : (entry : Bytes) → firstRefusal (submitRows digest book entry) ≡ none → Sound (submitted entry)
-    unfolding submitRows
     appended entry passes =
-        let r4 = row-passes _ _ (row-passes _ _ passes .1) in
-        let r12 = row-passes _ _ (row-passes _ _ (r4 .1) .1) in
+        let tested = submit-tested digest book entry passes in
         sound-encode digest (withPending s (stillPending s ++ (entry ∷ [])))
-        (submit-sound digest s state entry (eqb-true _ _ (r4 .0)) (ltb-true _ _ (r12 .0)))
+        (submit-sound digest s state entry (tested .size) (tested .room))
 
     pub submit-kept : (entry : Bytes) → Sound (submitCall digest book entry .book)
     unfolding submitCall
@@ -93,9 +86,8 @@ module _ (digest : Bytes → Bytes) where
   -- ---- Open, over any bytes
   module _ (book : Bytes) (n own heights : ℕ) (leaders : Bytes) where
     made : firstRefusal (openRows book n own heights leaders) ≡ none → Sound (encode (newState n own leaders))
-    unfolding openRows
     made passes = sound-encode digest (newState n own leaders)
-        (open-sound digest n own heights leaders (row-passes _ _ passes .0))
+        (open-sound digest n own heights leaders (open-tested n own heights leaders book passes .in-ranges))
 
     pub open-kept : Sound book → Sound (openCall book n own heights leaders .book)
     unfolding openCall

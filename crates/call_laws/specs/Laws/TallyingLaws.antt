@@ -6,7 +6,6 @@ use mathlib.Core.Bool.{true, false, true≢false}
 use mathlib.Core.List.{[], _∷_, _++_, map}
 use mathlib.Core.Option.{Option, some, none}
 use lib.ListN.{getD}
-use borrow.Author.Tests.{eqb-true, ltb-true}
 use Rattle.protocol.specs.SoundState.{Shaped, SoundState}
 use Rattle.protocol.specs.Bytes.{Bytes}
 use Rattle.protocol.specs.Tests.{firstRefusal}
@@ -21,7 +20,7 @@ use Rattle.protocol.specs.Deliver.{votersFor, deliverCall}
 use Rattle.protocol.specs.Move.{step, moved, unlessMoveRefused, moveRows, moveCall}
 use Rattle.protocol.specs.Signal.{signalRows, signalCall}
 use Rattle.protocol.specs.Submit.{withPending, stillPending, submitRows, submitCall}
-use Rattle.protocol.specs.Laws.RowLaws.{row-passes}
+use Rattle.protocol.specs.Laws.TestedLaws.{submit-tested}
 use Rattle.protocol.specs.Laws.CodecLaws.{at-suc}
 use Rattle.protocol.specs.Laws.StateLaws.{decode-encode}
 use Rattle.protocol.specs.Laws.NewStateLaws.{new-shaped}
@@ -34,7 +33,8 @@ use Rattle.call_laws.specs.Laws.SubmitKeptLaws.{submit-sound}
 use Rattle.call_laws.specs.Laws.GrowsLaws.{same-quorum, views-alike}
 use Rattle.call_laws.specs.Grows.{SameReplicas}
 use Rattle.call_laws.specs.Keeping.{Voted, Tallied, AllTallied, KeepsState}
-use Rattle.call_laws.specs.Laws.KeepsStateLaws.{refused≢accepted, fresh-keeps}
+use Rattle.call_laws.specs.Laws.RefusalsLaws.{refused≢accepted}
+use Rattle.call_laws.specs.Laws.KeepsStateLaws.{fresh-keeps}
 use Rattle.call_laws.specs.Laws.HeightKeptLaws.{each-height}
 
 module _ (digest : Bytes → Bytes) where
@@ -134,11 +134,9 @@ module _ (digest : Bytes → Bytes) where
 
     submitted : (entry : Bytes) → firstRefusal (submitRows digest book entry) ≡ none →
         SoundState digest (withPending s (stillPending s ++ (entry ∷ [])))
-    unfolding submitRows
     submitted entry passes =
-        let r4 = row-passes _ _ (row-passes _ _ passes .1) in
-        let r12 = row-passes _ _ (row-passes _ _ (r4 .1) .1) in
-        submit-sound digest s state entry (eqb-true _ _ (r4 .0)) (ltb-true _ _ (r12 .0))
+        let tested = submit-tested digest book entry passes in
+        submit-sound digest s state entry (tested .size) (tested .room)
 
     pub submit-keeps : (entry : Bytes) → AllTallied digest (decode (submitCall digest book entry .book))
     unfolding submitCall

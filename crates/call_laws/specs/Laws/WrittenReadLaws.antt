@@ -5,7 +5,7 @@ use mathlib.Core.Path.{_≡_, refl, sym, _∙_}
 use mathlib.Core.Bool.{Bool, true, false, _&&_, _||_, not, cond, false≢true}
 use mathlib.Core.List.{[], _∷_}
 use mathlib.Core.Option.{Option, some, none}
-use borrow.Author.Tests.{lt-ltb, leb-true, eqb-true}
+use borrow.Author.Tests.{lt-ltb, leb-true}
 use Rattle.protocol.specs.SoundState.{SoundHeight, SoundState}
 use Rattle.protocol.specs.Every.{none}
 use Rattle.protocol.specs.Bytes.{Bytes}
@@ -23,8 +23,7 @@ use Rattle.protocol.specs.Certificates.{certificateFrame}
 use Rattle.protocol.specs.Linked.{Linked, start, link}
 use Rattle.protocol.specs.Laws.LinkedLaws.{linked-sound}
 use Rattle.protocol.specs.Laws.ParentLaws.{parent-some}
-use Rattle.protocol.specs.Laws.TestsLaws.{and-true}
-use Rattle.protocol.specs.Laws.RowLaws.{row}
+use Rattle.protocol.specs.Laws.TestsLaws.{and-both}
 use Rattle.protocol.specs.Laws.BlockLaws.{new-block-good}
 use Rattle.protocol.specs.Laws.ViewLaws.{digest-at-size, digest-at-start}
 use Rattle.protocol.specs.Laws.PendingLaws.{offered-few, offered-sized}
@@ -35,7 +34,7 @@ use Rattle.call_laws.specs.Laws.ReadLaws.{Written, said-none, said-more,
 use Rattle.call_laws.specs.Laws.ReadLaws.{dummy-vote-read, finalize-read, block-certificate-read}
 use Rattle.call_laws.specs.Laws.ReadLaws.{dummy-certificate-read, finalize-certificate-read}
 use Rattle.call_laws.specs.Laws.GrowsLaws.{same-quorum, views-alike}
-use Rattle.protocol.specs.Laws.MoveLaws.{step-cases}
+use Rattle.protocol.specs.Laws.MoveLaws.{step-cases, dummy-vote-rows, propose-rows, block-vote-rows}
 
 -- a linked height from 1 on has a block
 has-block : {digest : Bytes → Bytes} {v : View} {h : ℕ} → Linked digest v h → 1 ≤ h → v .hasBlock h ≡ true
@@ -99,9 +98,11 @@ module _ (digest : Bytes → Bytes) (s : State) (is : SoundState digest s) (t : 
   runs e = leb-true _ _ e
 
   dummy-vote : dummyVoteApplies s ≡ true → Good (dummyVoteStep s)
-  unfolding dummyVoteApplies dummyVoteStep moveFields
-  dummy-vote e = said-more (dummy-vote-read t c (is .current-low) (also-high c (is .current-low) (runs (row _ 0 e)))
-      (short c (is .current-low) (runs (row _ 0 e))) (s .own) own-small) (said-none t)
+  unfolding dummyVoteStep moveFields
+  dummy-vote e =
+      let high : c ≤ last s = runs (dummy-vote-rows s e .running) in
+      said-more (dummy-vote-read t c (is .current-low) (also-high c (is .current-low) high)
+      (short c (is .current-low) high) (s .own) own-small) (said-none t)
 
   output-good : Good (outputStep digest s)
   unfolding outputStep moveFields
@@ -115,14 +116,14 @@ module _ (digest : Bytes → Bytes) (s : State) (is : SoundState digest s) (t : 
   unfolding certificateFields certificateFrame certificateKind view
   certificate true e high reason = block-certificate c (is .current-low) high
       (has-block (linked-sound digest (view s) c e) (is .current-low))
-  certificate false e high reason = dummy-certificate c (is .current-low) high (and-true _ _ reason .0)
+  certificate false e high reason = dummy-certificate c (is .current-low) high (and-both _ _ reason .0)
 
   pass-good : passApplies digest s ≡ true → Good (passStep digest s)
   unfolding passApplies passStep
   pass-good e = go (not (flag 1 s))
     where
       both : (isRunning s ≡ true) × (passesAt digest (view s) c ≡ true)
-      both = and-true _ _ e
+      both = and-both _ _ e
 
       go : (inTime : Bool) → Said t (moveFields digest s (pass c (passesBy digest s) inTime))
           (certificateFrame s (certificateKind (passesBy digest s)) c ∷
@@ -150,22 +151,24 @@ module _ (digest : Bytes → Bytes) (s : State) (is : SoundState digest s) (t : 
         (let few = is .last-high in let near = is .current-high in omega arith)
 
     propose-good : proposeApplies digest s ≡ true → Good (proposeStep digest s)
-    unfolding proposeApplies proposeStep moveFields offeredBlock
+    unfolding proposeStep moveFields offeredBlock
     propose-good e =
-        let high : c ≤ last s = runs (row _ 0 e) in
+        let rows = propose-rows digest s e in
+        let high : c ≤ last s = runs (rows .running) in
         said-more
         (proposal-read t c (is .current-low) (also-high c (is .current-low) high) (short c (is .current-low) high)
         (s .own) own-small
         (proposedBlock digest s (someOr 0 (parentBelow digest s)))
-        (proposed-good (parentBelow digest s) refl (row _ 3 e))
-        (sym (eqb-true _ _ (row _ 1 e)) ∙ sym (same .same-leaders c (is .current-low) high)))
+        (proposed-good (parentBelow digest s) refl (rows .has-parent))
+        (sym (rows .leads) ∙ sym (same .same-leaders c (is .current-low) high)))
         (said-none t)
 
     block-vote : blockVoteApplies digest s ≡ true → Good (blockVoteStep digest s)
-    unfolding blockVoteApplies blockVoteStep moveFields
+    unfolding blockVoteStep moveFields
     block-vote e =
-        said-more (block-vote-read t c (is .current-low) (also-high c (is .current-low) (runs (row _ 0 e)))
-        (short c (is .current-low) (runs (row _ 0 e))) (s .own) own-small (digest (at s c .proposal)) (sized _))
+        let high : c ≤ last s = runs (block-vote-rows digest s e .running) in
+        said-more (block-vote-read t c (is .current-low) (also-high c (is .current-low) high)
+        (short c (is .current-low) high) (s .own) own-small (digest (at s c .proposal)) (sized _))
         (said-none t)
 
     idle-good : Good (idleStep s)

@@ -12,7 +12,7 @@ use Rattle.protocol.specs.Frame.{kind, signer, signerMask, isStatement}
 use Rattle.protocol.specs.Mask.{inMask, union}
 use Rattle.protocol.specs.State.{State, Height, at, decode}
 use Rattle.protocol.specs.Sound.{view}
-use Rattle.protocol.specs.Laws.TestsLaws.{or-true, le-or-lt}
+use Rattle.protocol.specs.Laws.TestsLaws.{or-either, le-or-lt}
 use Rattle.protocol.specs.Laws.RowLaws.{in-range}
 use Rattle.protocol.specs.Deliver.{keep, keepProposal, keepBlockVote, keepDummyVote, keepFinalize, keepBlockCertificate}
 use Rattle.protocol.specs.Deliver.{keepDummyCertificate, keepFinalizeCertificate}
@@ -73,7 +73,7 @@ module _ (digest : Bytes → Bytes) (book : Bytes) (h : ℕ) (frame : Bytes) (gi
       keep digest s frame ≡ joinSigners 1 x (signersOf frame)
   dummy-joins e =
       ⊎-elim (λ a. vote (eqb-true (kind frame) 3 a)) (λ b. certificate (eqb-true (kind frame) 6 b))
-      (or-true (eqb (kind frame) 3) (eqb (kind frame) 6) e)
+      (or-either (eqb (kind frame) 3) (eqb (kind frame) 6) e)
     where
       vote : kind frame ≡ 3 → keep digest s frame ≡ joinSigners 1 x (signersOf frame)
       vote k = keep-dummy-vote digest s frame k ∙ unfold keepDummyVote in

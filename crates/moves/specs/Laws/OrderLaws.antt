@@ -9,7 +9,7 @@ use borrow.Author.Tests.{lt-ltb, le-ltb}
 use Rattle.sha256.specs.Digest.{sha256}
 use Rattle.protocol.specs.Bytes.{Bytes, zeros, join, overFront}
 use Rattle.protocol.specs.Tests.{firstRefusal}
-use Rattle.protocol.specs.Laws.TestsLaws.{and-true}
+use Rattle.protocol.specs.Laws.TestsLaws.{and-both}
 use Rattle.protocol.specs.Laws.RowLaws.{row}
 use Rattle.protocol.specs.State.{State, decode, encode}
 use Rattle.protocol.specs.Sound.{sound}
@@ -59,7 +59,7 @@ module _ (s : State) where
   -- ---- what a test that passed says
   pub pass-running : passApplies sha256 s ≡ true → isRunning s ≡ true
   unfolding passApplies
-  pass-running e = and-true _ _ e .0
+  pass-running e = and-both _ _ e .0
 
   pub propose-running : proposeApplies sha256 s ≡ true → isRunning s ≡ true
   unfolding proposeApplies

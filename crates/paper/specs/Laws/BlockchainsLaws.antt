@@ -1,268 +1,122 @@
--- Proofs of `Blockchains`: a linked height gives a notarized blockchain, and a notarized blockchain gives a linked
--- height.
-use Prim.Native.Nat.{ℕ, zero, suc, _+_, _-_, _≤_, _<_}
+-- Proofs of `Blockchains`: linked, extends, finalized, the parent and the log of every sound state in the paper's
+-- terms.
+use Prim.Native.Nat.{ℕ, suc, _-_, _≤_, _<_}
 use native.Mathlib.Omega.{arith}
-use native.Mathlib.Nat.{add-suc}
-use mathlib.Core.Path.{_≡_, refl, sym, ap, ap₂, subst, _∙_}
+use mathlib.Core.Path.{_≡_, refl, sym, ap, subst, _∙_}
 use mathlib.Core.Logic.{_⊎_, inl, inr, _↔_}
 use mathlib.Core.Bool.{true, false≢true}
-use mathlib.Core.List.{List, _++_}
 use lib.ListN.{length, List·getD-eq-default}
-use borrow.Author.Tests.{eqb-true}
 use Rattle.protocol.specs.SoundState.{SoundState}
 use Rattle.protocol.specs.Bytes.{Bytes}
-use Rattle.protocol.specs.Block.{parentHeight, parentDigest, entries, blockWellFormed}
-use Rattle.protocol.specs.Laws.RowLaws.{row}
+use Rattle.protocol.specs.Laws.FormedLaws.{formed}
 use Rattle.protocol.specs.State.{State, last, at, isNotarized, noHeight}
-use Rattle.protocol.specs.View.{View, linked, isDummy, extends, isFinalized, parentOf, digestAt, logAt}
+use Rattle.protocol.specs.View.{View, linked, extends, isFinalized, parentOf, logAt}
 use Rattle.protocol.specs.Sound.{view, log}
 use Rattle.protocol.specs.Move.{isSome}
 use Rattle.protocol.specs.Laws.TestsLaws.{le-or-lt}
-use Rattle.protocol.specs.Linked.{Linked, start, link, OnParent, ChainOf}
+use Rattle.protocol.specs.Linked.{ChainOf}
 use Rattle.protocol.specs.Laws.LinkedLaws.{linked-sound, linked-complete, extends-sound, extends-complete}
 use Rattle.protocol.specs.Laws.LinkedLaws.{finalized-sound, finalized-complete}
-use Rattle.protocol.specs.Laws.ChainLaws.{log-suc}
 use Rattle.protocol.specs.Laws.ViewLaws.{log-zero}
-use Rattle.protocol.specs.Laws.ParentLaws.{parent-some, parent-isSome, isSome-parent, chain-here, chain-dummy}
+use Rattle.protocol.specs.Laws.ParentLaws.{parent-some, parent-isSome, isSome-parent}
 use Rattle.paper.specs.Paper as Paper
-use Rattle.paper.specs.Paper.{Sequence, genesis, addDummy, addBlock, height, linearize, lastBlock, lastDigest}
-use Rattle.paper.specs.Paper.{Follows, NotarizedBlock, NotarizedBlockchain, Finalization, SeenOfHeight}
-use Rattle.paper.specs.Paper.{SeenWithBlock}
-use Rattle.paper.specs.Blockchains.{Proper, ChainEndingAt, ParentOf, LinkedIsSeen, ParentIsSeen, ParentIsLargest}
+use Rattle.paper.specs.Paper.{genesis, height, linearize, lastBlock, Finalization, SeenOfHeight, SeenWithBlock}
+use Rattle.paper.specs.Blockchains.{Proper, ParentOf, LinkedIsSeen, ParentIsSeen, ParentIsLargest}
 use Rattle.paper.specs.Blockchains.{ExtendsIsFollowing, FinalizedIsSeen, LogIsLinearized, InThePapersTerms}
+use Rattle.paper.specs.Laws.LinkedChainLaws.{chain-linked, chain-of, ending}
+use Rattle.paper.specs.Laws.TracedLaws.{traced}
 
-module _ (digest : Bytes → Bytes) (v : View) where
-  -- one more dummy
-  pad : {h j : ℕ} → ChainEndingAt digest v h j → isDummy v (suc h) ≡ true → ChainEndingAt digest v (suc h) j
-  unfolding isDummy height lastBlock lastDigest linearize
-  pad {h} c e = record {
-    sequence = addDummy (c .sequence);
-    notarized = Paper.NotarizedBlockchain.dummyNext (c .notarized) (rw (c .its-height) e);
-    its-height = ap suc (c .its-height);
-    its-last = c .its-last;
-    its-digest = c .its-digest;
-    its-log = c .its-log;
-  }
+module _ (digest : Bytes → Bytes) (v : View) (proper : Proper v) where
+  pub linked-is : (h : ℕ) → LinkedIsSeen digest v h
+  unfolding LinkedIsSeen height lastBlock
+  linked-is h low = ((λ e. ending digest v proper h (linked-sound digest v h e) low), back)
+    where
+      back : SeenWithBlock digest v h → linked digest v h ≡ true
+      back q = subst (λ (k : ℕ). linked digest v k ≡ true) (q .its-height)
+          (linked-complete digest v (traced digest v (q .notarized) .chain .isLinked))
 
-  pads : (h j count : ℕ) → ChainEndingAt digest v h j → ((k : ℕ) → h < k → k ≤ h + count → isDummy v k ≡ true) →
-      ChainEndingAt digest v (h + count) j
-  pads h j zero c e = subst (λ (k : ℕ). ChainEndingAt digest v k j) (let q : h ≡ h + 0 = omega arith in q) c
-  pads h j (suc count) c e =
-      rw (add-suc h count) (pad (pads h j count c (λ k a b. e k a (omega arith)))
-      (e (suc (h + count)) (omega arith) (omega arith)))
+  pub parent-is : (h : ℕ) → ParentIsSeen digest v h
+  unfolding ParentIsSeen
+  parent-is h = (forth, back)
+    where
+      forth : isSome (parentOf digest v h) ≡ true → SeenOfHeight digest v h
+      forth e =
+          let c = chain-of digest v proper (isSome-parent digest v h e .2) in
+          record { sequence = c .sequence; notarized = c .notarized; its-height = c .its-height }
 
-  module _ (proper : Proper v) where
-    -- the block of a linked height on a chain of the heights below
-    onto : (i j : ℕ) → v .hasBlock (suc i) ≡ true → linked digest v (suc i) ≡ true →
-        OnParent digest v (suc i) j (v .block (suc i)) → ChainEndingAt digest v i j →
-        ChainEndingAt digest v (suc i) (suc i)
-    unfolding height lastBlock lastDigest linearize digestAt
-    onto i j has l on c = record {
-      sequence = addBlock (c .sequence) (v .block (suc i));
-      notarized = Paper.NotarizedBlockchain.blockNext (c .notarized)
+      back : SeenOfHeight digest v h → isSome (parentOf digest v h) ≡ true
+      back q = parent-isSome digest v h (lastBlock (q .sequence))
+          (subst (λ (k : ℕ). ChainOf digest v k (lastBlock (q .sequence))) (q .its-height)
+          (traced digest v (q .notarized) .chain))
+
+  pub parent-largest : (h : ℕ) → ParentIsLargest digest v h
+  unfolding ParentIsLargest
+  parent-largest h j e =
+      let q = parent-some digest v h j e in (
+        chain-of digest v proper (q .0),
+        λ c n k. q .1 (lastBlock c)
+            (subst (λ (m : ℕ). ChainOf digest v m (lastBlock c)) k (traced digest v n .chain)),
+      )
+
+  pub extends-is : (h : ℕ) (b : Bytes) → ExtendsIsFollowing digest v h b
+  unfolding ExtendsIsFollowing
+  extends-is h b e = (forth, back)
+    where
+      forth : extends digest v (suc h) b ≡ true → ParentOf digest v h b
+      forth q =
+          let x = extends-sound digest v (suc h) b q in
+          let on = x .onParent in
+          let below = on .below in
+          let c = chain-of digest v proper {h = h} {j = x .parent}
           (record {
-            its-height = proper .its-height (suc i) (omega arith) has ∙ ap suc (sym (c .its-height));
-            its-parent = on .height ∙ sym (c .its-last);
-            its-digest = on .names ∙ sym (c .its-digest);
+            within = omega arith;
+            isLinked = x .parentLinked;
+            dummies =
+                λ k a l. on .dummies k a (omega arith);
+          }) in
+          record {
+            parent = c .sequence;
+            notarized = c .notarized;
+            its-height = c .its-height;
+            follows = record {
+              its-height = e ∙ ap suc (sym (c .its-height));
+              its-parent = on .height
+                  ∙ sym (c .its-last);
+              its-digest = on .names ∙ sym (c .its-digest);
+            };
+          }
+
+      back : ParentOf digest v h b → extends digest v (suc h) b ≡ true
+      back q =
+          let t = traced digest v (q .notarized) in
+          let within = t .chain .within in
+          let its = q .its-height in
+          extends-complete digest v (suc h) b
+          (record {
+            parent = lastBlock (q .parent);
+            parentLinked = t .chain .isLinked;
+            onParent = record {
+              height = q .follows .its-parent;
+              below = omega arith;
+              names = q .follows .its-digest ∙ t .its-digest;
+              dummies = λ k a l. t .chain .dummies k a (omega arith);
+            };
           })
-          (record {
-            seen = rw (c .its-height) has;
-            same = ap (λ (k : ℕ). v .block (suc k)) (c .its-height);
-            votes =
-                rw (c .its-height) (proper .certified (suc i) (omega arith) has);
-          });
-      its-height = ap suc (c .its-height);
-      its-last = ap suc (c .its-height);
-      its-digest = refl;
-      its-log = ap (λ (l : List Bytes). l ++ entries (v .block (suc i)))
-          (c .its-log ∙ ap (λ (k : ℕ). logAt v k) (sym (on .height))) ∙ sym (log-suc digest v i l);
-    }
 
-    -- ---- from a linked height to a blockchain
-    chain-linked : {h : ℕ} → Linked digest v h → ChainEndingAt digest v h h
-    unfolding height lastBlock lastDigest linearize digestAt
-    chain-linked start = record {
-      sequence = genesis;
-      notarized = Paper.NotarizedBlockchain.start;
-      its-height = refl;
-      its-last = refl;
-      its-digest = refl;
-      its-log = sym (log-zero v);
-    }
-    chain-linked (link {h = h} {j = j} has l on) =
-        up h has on (linked-complete digest v (link has l on)) (chain-linked l)
-      where
-        up : (h : ℕ) → v .hasBlock h ≡ true → OnParent digest v h j (v .block h) → linked digest v h ≡ true →
-            ChainEndingAt digest v j j → ChainEndingAt digest v h h
-        up zero has on e c = let z = on .below in absurd (omega arith)
-        up (suc i) has on e c =
-            let low = on .below in
-            let between : j + (i - j) ≡ i = omega arith in
-            onto i j has e on (subst (λ (k : ℕ). ChainEndingAt digest v k j) between
-            (pads j j (i - j) c (λ k a b. on .dummies k a (omega arith))))
-
-    chain-of : {h j : ℕ} → ChainOf digest v h j → ChainEndingAt digest v h j
-    chain-of {h} {j} c =
-        let low = c .within in
-        let between : j + (h - j) ≡ h = omega arith in
-        subst (λ (k : ℕ). ChainEndingAt digest v k j) between
-        (pads j j (h - j) (chain-linked (c .isLinked)) (λ k a b. c .dummies k a (omega arith)))
-
-  -- ---- and back
-  pub record Traced (c : Sequence) : Type 0 where
-    pub chain : ChainOf digest v (height c) (lastBlock c)
-    pub its-digest : lastDigest digest c ≡ digestAt digest v (lastBlock c)
-    pub its-log : linearize c ≡ logAt v (lastBlock c)
-
-  trace-dummy : (c : Sequence) → Traced c → isDummy v (suc (height c)) ≡ true → Traced (addDummy c)
-  unfolding height lastBlock lastDigest linearize
-  trace-dummy c t e = record {
-    chain = chain-dummy digest v e (t .chain);
-    its-digest = t .its-digest;
-    its-log =
-        t .its-log;
-  }
-
-  trace-block : (c : Sequence) (b : Bytes) → Traced c → Follows digest c b → NotarizedBlock v (suc (height c)) b →
-      Traced (addBlock c b)
-  unfolding height lastBlock lastDigest linearize digestAt
-  trace-block c b t f q =
-      let low = t .chain .within in
-      let on : OnParent digest v (suc (height c)) (lastBlock c) (v .block (suc (height c))) = record {
-        height = ap parentHeight (q .same) ∙ f .its-parent;
-        below = omega arith;
-        names = ap parentDigest (q .same) ∙ f .its-digest ∙ t .its-digest;
-        dummies = λ k a e. t .chain .dummies k a (omega arith);
-      } in
-      let l : Linked digest v (suc (height c)) = link (q .seen) (t .chain .isLinked) on in
-      record {
-        chain = chain-here digest v l;
-        its-digest = ap digest (sym (q .same));
-        its-log = ap₂ (λ (x : List Bytes) (y : Bytes). x ++ entries y)
-            (t .its-log ∙ ap (λ (k : ℕ). logAt v k) (sym (on .height))) (sym (q .same))
-            ∙ sym (log-suc digest v (height c) (linked-complete digest v l));
-      }
-
-  pub traced : {c : Sequence} → NotarizedBlockchain digest v c → Traced c
-  unfolding height lastBlock lastDigest linearize digestAt isDummy
-  traced Paper.NotarizedBlockchain.start =
-      record { chain = chain-here digest v start; its-digest = refl; its-log = sym (log-zero v) }
-  traced (Paper.NotarizedBlockchain.dummyNext {c = c} n e) = trace-dummy c (traced n) e
-  traced (Paper.NotarizedBlockchain.blockNext {c = c} {b = b} n f q) = trace-block c b (traced n) f q
-
-  -- ---- the equivalences
-  module _ (proper : Proper v) where
-    ending : (h : ℕ) → Linked digest v h → 1 ≤ h → SeenWithBlock digest v h
-    unfolding height onto
-    ending h start low = absurd (omega arith)
-    ending h (link {j = j} has l on) low = up h has on (linked-complete digest v (link has l on)) low
-      where
-        up : (h : ℕ) → v .hasBlock h ≡ true → OnParent digest v h j (v .block h) → linked digest v h ≡ true → 1 ≤ h →
-            SeenWithBlock digest v h
-        up zero has on e low = absurd (omega arith)
-        up (suc i) has on e low =
-            let below = on .below in
-            let c = chain-of proper {h = i} {j = j}
-            (record { within = omega arith; isLinked = l; dummies = λ k a b. on .dummies k a (omega arith) }) in
-            let whole = onto proper i j has e on c in
-            record {
-              parent = c .sequence;
-              block = v .block (suc i);
-              notarized = whole .notarized;
-              its-height =
-                  ap suc (c .its-height);
-            }
-
-    pub linked-is : (h : ℕ) → LinkedIsSeen digest v h
-    unfolding LinkedIsSeen height lastBlock
-    linked-is h low = ((λ e. ending h (linked-sound digest v h e) low), back)
-      where
-        back : SeenWithBlock digest v h → linked digest v h ≡ true
-        back q = subst (λ (k : ℕ). linked digest v k ≡ true) (q .its-height)
-            (linked-complete digest v (traced (q .notarized) .chain .isLinked))
-
-    pub parent-is : (h : ℕ) → ParentIsSeen digest v h
-    unfolding ParentIsSeen
-    parent-is h = (forth, back)
-      where
-        forth : isSome (parentOf digest v h) ≡ true → SeenOfHeight digest v h
-        forth e =
-            let c = chain-of proper (isSome-parent digest v h e .2) in
-            record { sequence = c .sequence; notarized = c .notarized; its-height = c .its-height }
-
-        back : SeenOfHeight digest v h → isSome (parentOf digest v h) ≡ true
-        back q = parent-isSome digest v h (lastBlock (q .sequence))
-            (subst (λ (k : ℕ). ChainOf digest v k (lastBlock (q .sequence))) (q .its-height)
-            (traced (q .notarized) .chain))
-
-    pub parent-largest : (h : ℕ) → ParentIsLargest digest v h
-    unfolding ParentIsLargest
-    parent-largest h j e =
-        let q = parent-some digest v h j e in (
-          chain-of proper (q .0),
-          λ c n k. q .1 (lastBlock c)
-              (subst (λ (m : ℕ). ChainOf digest v m (lastBlock c)) k (traced n .chain)),
-        )
-
-    pub extends-is : (h : ℕ) (b : Bytes) → ExtendsIsFollowing digest v h b
-    unfolding ExtendsIsFollowing
-    extends-is h b e = (forth, back)
-      where
-        forth : extends digest v (suc h) b ≡ true → ParentOf digest v h b
-        forth q =
-            let x = extends-sound digest v (suc h) b q in
-            let on = x .onParent in
-            let below = on .below in
-            let c = chain-of proper {h = h} {j = x .parent}
-            (record {
-              within = omega arith;
-              isLinked = x .parentLinked;
-              dummies =
-                  λ k a l. on .dummies k a (omega arith);
-            }) in
-            record {
-              parent = c .sequence;
-              notarized = c .notarized;
-              its-height = c .its-height;
-              follows = record {
-                its-height = e ∙ ap suc (sym (c .its-height));
-                its-parent = on .height
-                    ∙ sym (c .its-last);
-                its-digest = on .names ∙ sym (c .its-digest);
-              };
-            }
-
-        back : ParentOf digest v h b → extends digest v (suc h) b ≡ true
-        back q =
-            let t = traced (q .notarized) in
-            let within = t .chain .within in
-            let its = q .its-height in
-            extends-complete digest v (suc h) b
-            (record {
-              parent = lastBlock (q .parent);
-              parentLinked = t .chain .isLinked;
-              onParent = record {
-                height = q .follows .its-parent;
-                below = omega arith;
-                names = q .follows .its-digest ∙ t .its-digest;
-                dummies = λ k a l. t .chain .dummies k a (omega arith);
-              };
-            })
-
-    pub finalized-is : (h : ℕ) → FinalizedIsSeen digest v h
-    unfolding FinalizedIsSeen
-    finalized-is h low = (
-      (λ e. let f = finalized-sound digest v h e in (ending h (f .isLinked) low, f .hasQuorum)),
-      λ q. finalized-complete digest v h (record {
-        isLinked = linked-sound digest v h (link-back q);
-        hasQuorum =
-            q .1;
-      }),
-    )
-      where
-        link-back : SeenWithBlock digest v h × Finalization v h → linked digest v h ≡ true
-        link-back q = let both : (linked digest v h ≡ true) ↔ SeenWithBlock digest v h = unfold LinkedIsSeen in
-            linked-is h low in both .1 (q .0)
+  pub finalized-is : (h : ℕ) → FinalizedIsSeen digest v h
+  unfolding FinalizedIsSeen
+  finalized-is h low = (
+    (λ e. let f = finalized-sound digest v h e in (ending digest v proper h (f .isLinked) low, f .hasQuorum)),
+    λ q. finalized-complete digest v h (record {
+      isLinked = linked-sound digest v h (link-back q);
+      hasQuorum =
+          q .1;
+    }),
+  )
+    where
+      link-back : SeenWithBlock digest v h × Finalization v h → linked digest v h ≡ true
+      link-back q = let both : (linked digest v h ≡ true) ↔ SeenWithBlock digest v h = unfold LinkedIsSeen in
+          linked-is h low in both .1 (q .0)
 
 -- ---- every sound state
 module _ (digest : Bytes → Bytes) (s : State) (sound : SoundState digest s) where
@@ -277,9 +131,9 @@ module _ (digest : Bytes → Bytes) (s : State) (sound : SoundState digest s) wh
           at e))
 
   proper : Proper (view s)
-  unfolding view blockWellFormed
+  unfolding view
   proper = record {
-    its-height = λ h low e. eqb-true _ _ (row _ 1 (sound .each h low (here h e) .notarized-formed e));
+    its-height = λ h low e. formed h _ (sound .each h low (here h e) .notarized-formed e) .height-is;
     certified = λ h low e. sound .each h low (here h e) .certified e;
   }
 

@@ -5,10 +5,9 @@ use mathlib.Core.Path.{_≡_, sym, ap, _∙_}
 use mathlib.Core.Bool.{true}
 use mathlib.Core.List.{List, [], _∷_, _++_}
 use lib.ListN.{length, drop, length-append, length-drop}
-use borrow.Author.Tests.{eqb-true, leb-true}
 use Rattle.protocol.specs.Every.{Every, none}
 use Rattle.protocol.specs.Bytes.{Bytes, join, Sized}
-use Rattle.protocol.specs.Laws.RowLaws.{row}
+use Rattle.protocol.specs.Laws.FormedLaws.{formed}
 use Rattle.protocol.specs.Laws.EveryLaws.{every-append}
 use Rattle.protocol.specs.Laws.PiecesLaws.{length-join, length-pieces, pieces-sized}
 use Rattle.protocol.specs.Block.{parentHeight, entryCount, entries, allEntries, blockWellFormed}
@@ -56,21 +55,16 @@ module _ (digest : Bytes → Bytes) (v : View) where
       ∙ ap (λ (x : List Bytes). allEntries p ++ x) (allEntries-one b)
 
 -- ---- sizes
--- a well-formed block has room for the entries that it counts
-entries-fit : (h : ℕ) (block : Bytes) → blockWellFormed h block ≡ true → (length block ≡ 176) × (entryCount block ≤ 8)
-unfolding blockWellFormed
-entries-fit h block e = (eqb-true _ _ (row _ 0 e), leb-true _ _ (row _ 5 e))
-
 pub entries-sized : (h : ℕ) (block : Bytes) → blockWellFormed h block ≡ true → Every (Sized 16) (entries block)
 unfolding entries
 entries-sized h block e =
-    let fit = entries-fit h block e in
+    let is = formed h block e in
     pieces-sized 16 (entryCount block) (drop 48 block) (simp length-drop (omega arith))
 
 pub entries-count : (h : ℕ) (block : Bytes) → blockWellFormed h block ≡ true → length (entries block) ≤ 8
 unfolding entries
 entries-count h block e =
-    let fit = entries-fit h block e in
+    let is = formed h block e in
     let n = length-pieces 16 (entryCount block) (drop 48 block) in
     omega arith
 

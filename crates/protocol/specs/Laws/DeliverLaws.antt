@@ -1,35 +1,36 @@
 -- Deliver: what is known of a frame that is read and of one that contradicts nothing, what each kind keeps, and the
 -- three ways in which a delivery ends.
-use Prim.Native.Nat.{ℕ, _^_, _≤_, _<_}
+use Prim.Native.Nat.{ℕ, _≤_, _<_}
 use native.Mathlib.Omega.{arith}
 use native.Mathlib.Decide.{ℕ-discrete}
 use mathlib.Core.Path.{_≡_, refl, sym, subst}
-use mathlib.Core.Logic.{_⊎_, inl, inr}
-use mathlib.Core.Bool.{Bool, true, false, _||_, cond}
-use mathlib.Core.List.{List, _++_}
+use mathlib.Core.Bool.{Bool, true, false, _||_, not, cond, true≢false}
+use mathlib.Core.List.{List, [], _∷_, _++_}
 use mathlib.Core.Option.{Option, some, none}
 use lib.ListN.{length, length-drop}
 use lib.Dec.{ltb}
-use borrow.Author.Tests.{eqb-true, ltb-true}
+use borrow.Author.Tests.{eqb-true, ltb-true, not-true}
 use Rattle.protocol.specs.ReadFrame.{ReadFrame}
 use Rattle.protocol.specs.Bytes.{Bytes}
-use Rattle.protocol.specs.Tests.{inRange, implies, Row, firstRefusal}
-use Rattle.protocol.specs.Block.{blockWellFormed}
+use Rattle.protocol.specs.Tests.{allOf, inRange, implies, Row, firstRefusal}
 use Rattle.protocol.specs.Frame.{kind, signer, frameHeight, signerMask, frameDigest, frameBlock, frameWellFormed}
-use Rattle.protocol.specs.Frame.{isStatement, isCertificate, carriesBlock}
+use Rattle.protocol.specs.Frame.{isStatement}
 use Rattle.protocol.specs.Mask.{inMask, belowBit}
 use Rattle.protocol.specs.State.{State, Height, at, last, decode, encode, withHeight, holdsProposal, isNotarized}
 use Rattle.protocol.specs.State.{voteOf}
-use Rattle.protocol.specs.View.{quorum}
+use Rattle.protocol.specs.View.{View, quorum}
 use Rattle.protocol.specs.Sound.{view, sound}
 use Rattle.protocol.specs.Answer.{Outcome, Delivery, refused, accepted, known, fresh, unlessRefused}
 use Rattle.protocol.specs.Deliver.{readRows, clashRows, deliverRows, keepProposal, keepBlockVote, keepDummyVote}
 use Rattle.protocol.specs.Deliver.{keepFinalize, keepBlockCertificate, keepDummyCertificate}
-use Rattle.protocol.specs.Deliver.{keepFinalizeCertificate, keep, kept, deliverCall}
+use Rattle.protocol.specs.Deliver.{keepFinalizeCertificate, keep, kept, deliverCall, votersFor, notarize}
+use Rattle.protocol.specs.Deliver.{withNotarized}
 use Rattle.protocol.specs.Laws.BytesLaws.{length-part}
 use Rattle.protocol.specs.Laws.MaskLaws.{below-lt}
-use Rattle.protocol.specs.Laws.TestsLaws.{or-true}
-use Rattle.protocol.specs.Laws.RowLaws.{row, row-passes, in-range, range-in, not-passed, implies-true, same-eq}
+use Rattle.protocol.specs.Laws.TestsLaws.{cond-elim}
+use Rattle.protocol.specs.Laws.RowLaws.{row-passes, by-rows, by-tested, split-rows, in-range, range-in}
+use Rattle.protocol.specs.Laws.RowLaws.{not-passed, implies-true, same-eq}
+use Rattle.protocol.specs.Laws.FormedLaws.{formed-frame}
 
 -- ---- kinds
 pub statement-kind : (k : ℕ) → 1 ≤ k → k ≤ 4 → isStatement k ≡ true
@@ -40,58 +41,39 @@ pub certificate-kind : (k : ℕ) → 5 ≤ k → isStatement k ≡ false
 unfolding isStatement
 certificate-kind k high = not-passed (inRange 1 4 k) (λ e. omega (arith, in-range 1 4 k e))
 
--- ---- frames that are well formed
-module _ (frame : Bytes) (formed : frameWellFormed frame ≡ true) where
-  pub formed-size : length frame ≡ 224
-  unfolding frameWellFormed
-  formed-size = eqb-true (length frame) 224 (row _ 0 formed)
+pub formed-size : (frame : Bytes) → frameWellFormed frame ≡ true → length frame ≡ 224
+formed-size frame formed = formed-frame frame formed .size
 
-  formed-kind : (1 ≤ kind frame) × (kind frame ≤ 7)
-  unfolding frameWellFormed isStatement isCertificate
-  formed-kind = go (or-true (isStatement (kind frame)) (isCertificate (kind frame)) (row _ 1 formed))
-    where
-      go : (isStatement (kind frame) ≡ true) ⊎ (isCertificate (kind frame) ≡ true) → (1 ≤ kind frame) × (kind frame ≤ 7)
-      go (inl e) = let range = in-range 1 4 (kind frame) e in (range .0, omega arith)
-      go (inr e) = let range = in-range 5 7 (kind frame) e in (omega arith, range .1)
-
-  formed-block : carriesBlock (kind frame) ≡ true → blockWellFormed (frameHeight frame) (frameBlock frame) ≡ true
-  unfolding frameWellFormed
-  formed-block carries =
-      implies-true (carriesBlock (kind frame)) (blockWellFormed (frameHeight frame) (frameBlock frame))
-      (row _ 8 formed) carries
-
+-- ---- a frame that is read
 module _ (s : State) (frame : Bytes) where
   -- refusal 5, by whether the frame is a statement
   abbrev Members : Bool → Type 0
   Members statement = cond statement (ltb (signer frame) (s .n)) (belowBit (s .n) (signerMask frame)) ≡ true
 
+  rows-read : firstRefusal (readRows s frame) ≡ none → ReadFrame s frame
+  unfolding readRows
+  rows-read e =
+      by-tested _ e λ formed height members leader enough.
+      let is = formed-frame frame formed in
+      let range = in-range 1 (last s) (frameHeight frame) height in
+      record {
+        size = is .size;
+        kind-low = is .kind-low;
+        kind-high = is .kind-high;
+        block-formed = is .block-formed;
+        low = range .0;
+        high = range .1;
+        signer-small = λ l. ltb-true _ _ (subst Members (statement-kind (kind frame) (is .kind-low) l) members);
+        mask-small = λ l. below-lt _ _ (subst Members (certificate-kind (kind frame) l) members);
+        led = λ one. eqb-true _ _ (implies-true _ _ leader (rw one refl));
+        enough = λ l. subst (λ (b : Bool). (b || quorum (view s) (signerMask frame)) ≡ true)
+            (certificate-kind (kind frame) l) enough;
+      }
+
   -- the rows of reading pass, whatever rows follow them
   pub read-facts : (rest : List Row) → firstRefusal (readRows s frame ++ rest) ≡ none →
       ReadFrame s frame × (firstRefusal rest ≡ none)
-  unfolding readRows
-  read-facts rest e =
-      let r4 = row-passes _ _ e in
-      let r6 = row-passes _ _ (r4 .1) in
-      let r5 = row-passes _ _ (r6 .1) in
-      let r7 = row-passes _ _ (r5 .1) in
-      let r9 = row-passes _ _ (r7 .1) in
-      let kinds = formed-kind frame (r4 .0) in
-      let range = in-range 1 (last s) (frameHeight frame) (r6 .0) in (
-        record {
-          size = formed-size frame (r4 .0);
-          kind-low = kinds .0;
-          kind-high = kinds .1;
-          block-formed = formed-block frame (r4 .0);
-          low = range .0;
-          high = range .1;
-          signer-small = λ l. ltb-true _ _ (subst Members (statement-kind (kind frame) (kinds .0) l) (r5 .0));
-          mask-small = λ l. below-lt _ _ (subst Members (certificate-kind (kind frame) l) (r5 .0));
-          led = λ one. eqb-true _ _ (implies-true _ _ (r7 .0) (rw one refl));
-          enough = λ l. subst (λ (b : Bool). (b || quorum (view s) (signerMask frame)) ≡ true)
-              (certificate-kind (kind frame) l) (r9 .0);
-        },
-        r9 .1,
-      )
+  read-facts rest e = let (read, more) = split-rows (readRows s frame) rest e in (rows-read read, more)
 
 module _ {s : State} {frame : Bytes} (read : ReadFrame s frame) where
   pub digest-size : length (frameDigest frame) ≡ 32
@@ -118,13 +100,10 @@ pub record Agrees (s : State) (frame : Bytes) : Type 0 where
 pub clash-facts : (s : State) (frame : Bytes) → firstRefusal (clashRows s frame) ≡ none → Agrees s frame
 unfolding clashRows implies
 clash-facts s frame e =
-    let first = row-passes _ _ e in
-    let second = row-passes _ _ (first .1) in
-    let third = row-passes _ _ (second .1) in
-    record {
-      proposal = λ one held. same-eq _ _ (rw (one, held) at (first .0));
-      vote = λ two has. same-eq _ _ (rw (two, has) at (second .0));
-      block = λ five has. same-eq _ _ (rw (five, has) at (third .0));
+    by-tested _ e λ proposals votes blocks. record {
+      proposal = λ one held. same-eq _ _ (rw (one, held) at proposals);
+      vote = λ two has. same-eq _ _ (rw (two, has) at votes);
+      block = λ five has. same-eq _ _ (rw (five, has) at blocks);
     }
 
 -- ---- what each of the seven kinds keeps
@@ -138,6 +117,36 @@ pub unless-known : {A : Type 0} (P : A → Type 0) (was : Bool) {y : A} → (was
     OnSome P (cond was none (some y))
 unless-known P true new = tt
 unless-known P false new = new refl
+
+-- ---- a notarization by votes
+-- what the rows of `notarize` say of a height
+pub record Counted (digest : Bytes → Bytes) (v : View) (x : Height) : Type 0 where
+  pub free : isNotarized x ≡ false
+  pub held : holdsProposal x ≡ true
+  pub enough : quorum v (votersFor x (digest (x .proposal)) (v .n)) ≡ true
+
+module _ (digest : Bytes → Bytes) (v : View) (x : Height) where
+  -- the held proposal is notarized, or the height stays, and then no quorum of votes for it is overlooked
+  pub notarize-cases : (P : Height → Type 0) →
+      (Counted digest v x → P (withNotarized x (votersFor x (digest (x .proposal)) (v .n)) (x .proposal))) →
+      ((holdsProposal x ≡ true → quorum v (votersFor x (digest (x .proposal)) (v .n)) ≡ true → isNotarized x ≡ true) →
+      P x) → P (notarize digest v x)
+  unfolding notarize
+  notarize-cases P notarized stays =
+      let rows : List Bool = not (isNotarized x) ∷ holdsProposal x ∷ quorum v voters ∷ [] in
+      cond-elim P (allOf rows)
+      (λ e. notarized (by-rows rows e λ free held enough.
+      record { free = not-true _ free; held = held; enough = enough }))
+      (λ e. stays (λ held enough. overlooked held enough e (isNotarized x) refl))
+    where
+      voters : ℕ
+      voters = votersFor x (digest (x .proposal)) (v .n)
+
+      overlooked : holdsProposal x ≡ true → quorum v voters ≡ true →
+          allOf (not (isNotarized x) ∷ holdsProposal x ∷ quorum v voters ∷ []) ≡ false → (b : Bool) →
+          isNotarized x ≡ b → isNotarized x ≡ true
+      overlooked held enough e true f = f
+      overlooked held enough e false f = unfold allOf in absurd (true≢false (rw (f, held, enough) at e))
 
 module _ (digest : Bytes → Bytes) (s : State) (frame : Bytes) where
   abbrev x : Height
@@ -212,9 +221,9 @@ module _ (digest : Bytes → Bytes) (book frame : Bytes) where
   pub deliver-facts : firstRefusal (deliverRows digest book frame) ≡ none → Accepts digest book frame
   unfolding deliverRows
   deliver-facts e =
-      let r1 = row-passes _ _ e in
-      let (read, clash) = read-facts (decode book) frame (clashRows (decode book) frame) (r1 .1) in
-      record { was-sound = r1 .0; read = read; agrees = clash-facts (decode book) frame clash }
+      let (is-sound, rest) = row-passes _ _ e in
+      let (read, clash) = read-facts (decode book) frame (clashRows (decode book) frame) rest in
+      record { was-sound = is-sound; read = read; agrees = clash-facts (decode book) frame clash }
 
   -- a delivery is refused, or the frame is known, and the book stays; or the frame is fresh, and one height changes
   pub deliver-cases : (P : Outcome Delivery → Type 0) →

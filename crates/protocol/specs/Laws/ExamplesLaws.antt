@@ -1,46 +1,35 @@
 -- The proofs of document 01's lettered examples.
-use Prim.Native.Nat.{ℕ, zero, suc, _+_, _*_, _^_, _≤_, _<_}
+use Prim.Native.Nat.{ℕ, _*_, _≤_, _<_}
 use native.Mathlib.Omega.{arith}
-use native.Mathlib.Nat.{zero-div}
 use mathlib.Core.Path.{_≡_, refl, sym, ap, subst, _∙_}
 use mathlib.Core.Logic.{_≢_}
-use mathlib.Core.Bool.{true, false, _&&_, not, and-false}
-use mathlib.Core.List.{List, [], _∷_}
-use mathlib.Core.Option.{Option, some, none}
+use mathlib.Core.Bool.{true, false, and-false}
+use mathlib.Core.List.{[], _∷_}
 use lib.ListN.{length}
-use lib.Pow.{pow-pos}
-use lib.Dec.{eqb, ltb}
-use borrow.Author.Tests.{ltb-true, eqb-true, le-leb, lt-leb}
-use Rattle.protocol.specs.Bytes.{Bytes, byteAt, word16, le16, part, zeros, join, pieces, overFront, all, without}
-use Rattle.protocol.specs.Tests.{allOf, inRange, firstRefusal}
-use Rattle.protocol.specs.Laws.TestsLaws.{and-true}
-use Rattle.protocol.specs.Laws.RowLaws.{in-range, row-passes}
-use Rattle.protocol.specs.Block.{maximumHeights, parentHeight, entryCount, newBlock, allEntries}
-use Rattle.protocol.specs.Mask.{inMask, maskOf, ones, union, belowBit, weigh, total}
-use Rattle.protocol.specs.State.{State, at, last, encode, decode, headBytes, bookSize, flag, pending, withHead}
-use Rattle.protocol.specs.State.{maximumReplicas}
+use borrow.Author.Tests.{le-leb, lt-leb}
+use Rattle.protocol.specs.Bytes.{Bytes, byteAt, word16, le16, part, zeros, join, pieces, overFront, without}
+use Rattle.protocol.specs.Tests.{allOf}
+use Rattle.protocol.specs.Block.{parentHeight, entryCount, newBlock, allEntries}
+use Rattle.protocol.specs.Mask.{ones}
+use Rattle.protocol.specs.State.{encode, bookSize, flag, pending, withHead}
 use Rattle.protocol.specs.View.{View, quorum, isDummy, dummyRun, digestAt, parentOf, chain, chainWithin, logAt}
 use Rattle.protocol.specs.View.{extends, extendsOver}
-use Rattle.protocol.specs.Sound.{view}
-use Rattle.protocol.specs.Answer.{Outcome, Delivery, fresh, idle, voteDummy, accepted, Done, done, unlessRefused}
-use Rattle.protocol.specs.Open.{newState, newHeight, openInRange, openRows, openCall}
-use Rattle.protocol.specs.Deliver.{withMasks, deliverCall, deliverAll}
+use Rattle.protocol.specs.Answer.{idle, voteDummy, accepted, done}
+use Rattle.protocol.specs.Open.{openCall}
 use Rattle.protocol.specs.Signal.{signalCall}
 use Rattle.protocol.specs.Frame.{kind, frameBlock, frameOf, proposal, dummyVote, finalize}
-use Rattle.protocol.specs.Move.{step, moveCall, moved, MoveOutcome, idleStep, dummyVoteStep, passStep}
-use Rattle.protocol.specs.Move.{proposeStep, written, unused, proposedBlock, offered, someOr, dummyVoteApplies}
+use Rattle.protocol.specs.Move.{moveCall, moved, MoveOutcome, dummyVoteStep, passStep, proposeStep, written}
+use Rattle.protocol.specs.Move.{unused, proposedBlock, offered, someOr}
 use Rattle.protocol.specs.Computing.{everything}
 use Rattle.protocol.specs.Examples.{Letter, claim, Start, opened, firstLeader, quorumFrom, signalled, afterSignal}
 use Rattle.protocol.specs.Examples.{afterDummyVotes, afterFinalizes, frameIn, passesDummy, proposesFirst}
 use Rattle.protocol.specs.Examples.{notFinalized}
-use Rattle.protocol.specs.Laws.PlaceLaws.{count-encode}
 use Rattle.protocol.specs.Laws.QuorumLaws.{quorum-even}
-use Rattle.protocol.specs.Laws.FieldLaws.{read-finalized, read-finalize-mask}
 use Rattle.protocol.specs.Laws.NewBookLaws.{Ranges, early, firstHeight}
-use Rattle.protocol.specs.Laws.NewBookCallsLaws.{early-move, early-not-notarized, voting, step-idle, step-vote}
-use Rattle.protocol.specs.Laws.NewBookCallsLaws.{step-pass, step-propose, early-signal, early-vote}
-use Rattle.protocol.specs.Laws.NewBookCallsLaws.{early-certificate, finalized-stays}
-use Rattle.protocol.specs.Laws.MoveLaws.{head-only}
+use Rattle.protocol.specs.Laws.NewBookCallsLaws.{finalized-stays}
+use Rattle.protocol.specs.Laws.OpenedLaws.{Opened, opening}
+use Rattle.protocol.specs.Laws.FirstMovesLaws.{new-idle, new-signal, new-vote, voted-idle, new-propose}
+use Rattle.protocol.specs.Laws.FourReplicasLaws.{passes, not-finalized}
 
 -- ---- a to d
 quorum-from : (n enough : ℕ) → ((x : ℕ) → enough ≤ x → 2 * n ≤ 3 * x) → ((x : ℕ) → x < enough → 3 * x < 2 * n) →
@@ -58,140 +47,8 @@ away : (digest : Bytes → Bytes) (v : View) (block : Bytes) → parentHeight bl
 unfolding extends extendsOver allOf dummyRun
 away digest v block p q = rw (p, q) (simp and-false)
 
--- ---- the new book
-record Opened (x : Start) : Type 0 where
-  leader : ℕ
-  leaders : Bytes
-  roll : x .leaders ≡ leader ∷ leaders
-  ranges : Ranges (x .n) (x .own) leader leaders
-  book : opened x ≡ encode (early (x .n) (x .own) 0 0 0 leader leaders)
-
-new-early : (n own leader : ℕ) (leaders : Bytes) → newState n own (leader ∷ leaders) ≡ early n own 0 0 0 leader leaders
-unfolding newState firstHeight withMasks newHeight
-new-early n own leader leaders = refl
-
-open-answer : (o : Option ℕ) (book : Bytes) (w : Outcome Done) → unlessRefused o book w .answer ≡ accepted done →
-    o ≡ none
-unfolding unlessRefused
-open-answer none book w q = refl
-open-answer (some number) book w q = let y : _≡_ {A = ℕ} 0 1 = cc in absurd (omega arith)
-
-open-rows : (x : Start) → firstRefusal (openRows (x .old) (x .n) (x .own) (x .heights) (x .leaders)) ≡ none
-unfolding openCall
-open-rows x =
-    open-answer (firstRefusal (openRows (x .old) (x .n) (x .own) (x .heights) (x .leaders))) (x .old)
-    (record { answer = accepted done; book = encode (newState (x .n) (x .own) (x .leaders)) }) (x .opens)
-
-ranges-of : (n own heights : ℕ) (leaders : Bytes) → (1 ≤ n) × (n ≤ maximumReplicas) →
-    (1 ≤ heights) × (heights ≤ maximumHeights) → own < n →
-    length leaders ≡ heights → all (λ x. ltb x n) leaders ≡ true →
-    (leader : ℕ) × (rest : Bytes) × (leaders ≡ leader ∷ rest) × Ranges n own leader rest
-unfolding all
-ranges-of n own heights [] r1 r2 r3 r4 r5 = absurd (omega arith)
-ranges-of n own heights (leader ∷ rest) r1 r2 r3 r4 r5 =
-    let w = and-true (ltb leader n) (all (λ x. ltb x n) rest) r5 in (
-      leader,
-      rest,
-      refl,
-      record {
-        some-replica = r1 .0;
-        few-replicas = r1 .1;
-        own-below = r3;
-        leader-below = ltb-true leader n (w .0);
-        leaders-below = w .1;
-        few-heights = omega arith;
-      },
-    )
-
-open-ranges : (n own heights : ℕ) (leaders : Bytes) → openInRange n own heights leaders ≡ true →
-    (leader : ℕ) × (rest : Bytes) × (leaders ≡ leader ∷ rest) × Ranges n own leader rest
-unfolding openInRange allOf
-open-ranges n own heights leaders q =
-    let q1 = and-true (inRange 1 maximumReplicas n) _ q in
-    let q2 = and-true (ltb own n) _ (q1 .1) in
-    let q3 = and-true (inRange 1 maximumHeights heights) _ (q2 .1) in
-    let q4 = and-true (eqb (length leaders) heights) _ (q3 .1) in
-    let q5 = and-true (all (λ x. ltb x n) leaders) true (q4 .1) in
-    ranges-of n own heights leaders (in-range 1 maximumReplicas n (q1 .0)) (in-range 1 maximumHeights heights (q3 .0))
-    (ltb-true own n (q2 .0))
-    (eqb-true (length leaders) heights (q4 .0)) (q5 .0)
-
-opened-new : (x : Start) → opened x ≡ encode (newState (x .n) (x .own) (x .leaders))
-unfolding opened openCall unlessRefused
-opened-new x = rw (open-rows x, opened)
-
-range-row : (x : Start) → openInRange (x .n) (x .own) (x .heights) (x .leaders) ≡ true
-unfolding openRows
-range-row x = row-passes _ _ (open-rows x) .0
-
-opening : (x : Start) → Opened x
-opening x =
-    let r = open-ranges (x .n) (x .own) (x .heights) (x .leaders) (range-row x) in
-    record {
-      leader = r .0;
-      leaders = r .1;
-      roll = r .2;
-      ranges = r .3;
-      book = opened-new x ∙ (ap (λ (m : Bytes). encode (newState (x .n) (x .own) m)) (r .2)
-          ∙ ap encode (new-early (x .n) (x .own) (r .0) (r .1)));
-    }
-
--- ---- f to k
-none-signed : (n : ℕ) → ones 0 n ≡ 0
-unfolding ones
-none-signed zero = refl
-none-signed (suc n) = rw (none-signed n, zero-div)
-
-module _ (digest : Bytes → Bytes) (n own leader : ℕ) (leaders : Bytes) (ranges : Ranges n own leader leaders) where
-  not-dummy : (flags : ℕ) → isDummy (view (early n own flags 0 0 leader leaders)) 1 ≡ false
-  unfolding isDummy view at firstHeight withMasks newHeight
-  not-dummy flags =
-      quorum-even (view (early n own flags 0 0 leader leaders)) n 0 refl ∙
-      rw (none-signed n) (lt-leb (2 * n) (3 * 0) (omega (arith, ranges .some-replica)))
-
-  zero-below : 0 < 2 ^ n
-  zero-below = pow-pos n
-
-  -- a book with no masks yet idles unless the replica leads
-  idles : (flags : ℕ) → flags < 16 → dummyVoteApplies (early n own flags 0 0 leader leaders) ≡ false → leader ≢ own →
-      (reply : Bytes) → 448 ≤ length reply → moveCall digest (encode (early n own flags 0 0 leader leaders)) reply
-      .answer ≡ accepted idle
-  unfolding moved idleStep
-  idles flags small quiet other reply room =
-      rw (
-        early-move n own flags 0 0 leader leaders ranges small zero-below zero-below digest reply room,
-        step-idle n own flags 0 0 leader leaders ranges small zero-below zero-below digest quiet (not-dummy flags)
-            other,
-      )
-
-  quiet : (flags : ℕ) → flags < 16 → (flag 1 (early n own flags 0 0 leader leaders) &&
-      (not (flag 2 (early n own flags 0 0 leader leaders)) && true)) ≡ false →
-      dummyVoteApplies (early n own flags 0 0 leader leaders) ≡ false
-  quiet flags small e = voting n own flags 0 0 leader leaders ranges small zero-below zero-below digest false e
-
-  new-idle : leader ≢ own → (reply : Bytes) → 448 ≤ length reply →
-      moveCall digest (encode (early n own 0 0 0 leader leaders)) reply .answer ≡ accepted idle
-  unfolding flag
-  new-idle = idles 0 (omega arith) (quiet 0 (omega arith) refl)
-
-  new-signal : signalCall digest (encode (early n own 0 0 0 leader leaders)) 1 .book ≡ encode
-      (early n own 1 0 0 leader leaders)
-  unfolding flag
-  new-signal = ap (λ (o : Outcome Done). o .book)
-      (early-signal n own 0 0 0 leader leaders ranges (omega arith) zero-below zero-below digest refl)
-
-  -- the move after the signal
-  new-vote : (reply : Bytes) → 448 ≤ length reply →
-      moveCall digest (encode (early n own 1 0 0 leader leaders)) reply ≡ moved reply
-      (dummyVoteStep (early n own 1 0 0 leader leaders))
-  unfolding flag
-  new-vote reply room =
-      rw (
-        early-move n own 1 0 0 leader leaders ranges (omega arith) zero-below zero-below digest reply room,
-        step-vote n own 1 0 0 leader leaders ranges (omega arith) zero-below zero-below digest
-            (voting n own 1 0 0 leader leaders ranges (omega arith) zero-below zero-below digest true refl),
-      )
-
+-- ---- f to k: what the moves leave, computed
+module _ (digest : Bytes → Bytes) (n own leader : ℕ) (leaders : Bytes) where
   -- frames at the front of a reply
   vote-first : (reply : Bytes) → frameIn (moved reply (dummyVoteStep (early n own 1 0 0 leader leaders)) .reply)
       0 ≡ dummyVote own 1
@@ -203,23 +60,6 @@ module _ (digest : Bytes → Bytes) (n own leader : ℕ) (leaders : Bytes) (rang
   unfolding moved dummyVoteStep withHead
   voted-book reply = refl
 
-  voted-idle : leader ≢ own → (reply : Bytes) → 448 ≤ length reply →
-      moveCall digest (encode (early n own 3 0 0 leader leaders)) reply .answer ≡ accepted idle
-  unfolding flag
-  voted-idle = idles 3 (omega arith) (quiet 3 (omega arith) refl)
-
-  -- a replica that leads height 1 proposes
-  new-propose : leader ≡ own → (reply : Bytes) → 448 ≤ length reply →
-      moveCall digest (encode (early n own 0 0 0 leader leaders)) reply ≡ moved reply
-      (proposeStep digest (early n own 0 0 0 leader leaders))
-  unfolding flag
-  new-propose lead reply room =
-      rw (
-        early-move n own 0 0 0 leader leaders ranges (omega arith) zero-below zero-below digest reply room,
-        step-propose n own 0 0 0 leader leaders ranges (omega arith) zero-below zero-below digest
-            (quiet 0 (omega arith) refl) (not-dummy 0) lead refl,
-      )
-
   proposal-first : (reply : Bytes) → frameIn (moved reply (proposeStep digest (early n own 0 0 0 leader leaders))
       .reply) 0 ≡
       proposal own 1 (newBlock 1 0 (zeros 32) [])
@@ -227,52 +67,7 @@ module _ (digest : Bytes → Bytes) (n own leader : ℕ) (leaders : Bytes) (rang
       newBlock offered without logAt chain chainWithin allEntries pending pieces parentOf someOr digestAt
   proposal-first reply = refl
 
--- one frame more is delivered
-deliver-one : (digest : Bytes → Bytes) (book after frame : Bytes) (frames : List Bytes) →
-    deliverCall digest book frame ≡ record { answer = accepted fresh; book = after } →
-    deliverAll digest book (frame ∷ frames) ≡ deliverAll digest after frames
-unfolding deliverAll
-deliver-one digest book after frame frames q = ap (λ (o : Outcome Delivery). deliverAll digest (o .book) frames) q
-
--- four replicas
-module _ (digest : Bytes → Bytes) (own leader : ℕ) (leaders : Bytes) (ranges : Ranges 4 own leader leaders) where
-  abbrev B : ℕ → ℕ → ℕ → Bytes
-  B flags dummy final = encode (early 4 own flags dummy final leader leaders)
-
-  one-vote : (flags dummy s : ℕ) (frames : List Bytes) → flags < 16 → dummy < 16 → s < 4 → inMask dummy s ≡ false →
-      deliverAll digest (B flags dummy 0) (dummyVote s 1 ∷ frames) ≡ deliverAll digest (B flags (dummy + 2 ^ s) 0)
-      frames
-  one-vote flags dummy s frames p q r out =
-      deliver-one digest (B flags dummy 0) (B flags (dummy + 2 ^ s) 0) (dummyVote s 1) frames
-      (early-vote 4 own flags dummy 0 leader leaders ranges p q (omega arith) digest s r out)
-
-  three-votes : (flags : ℕ) → flags < 16 →
-      deliverAll digest (B flags 0 0) (dummyVote 0 1 ∷ dummyVote 1 1 ∷ dummyVote 2 1 ∷ []) ≡ B flags 7 0
-  unfolding deliverAll inMask
-  three-votes flags p =
-      one-vote flags 0 0 (dummyVote 1 1 ∷ dummyVote 2 1 ∷ []) p (omega arith) (omega arith) refl ∙
-      (one-vote flags 1 1 (dummyVote 2 1 ∷ []) p (omega arith) (omega arith) refl ∙
-      one-vote flags 3 2 [] p (omega arith) (omega arith) refl)
-
-  dummy-now : (flags : ℕ) → isDummy (view (early 4 own flags 7 0 leader leaders)) 1 ≡ true
-  unfolding isDummy quorum view at firstHeight withMasks newHeight weigh total inMask
-  dummy-now flags = refl
-
-  -- the move after the three votes
-  passes : (flags : ℕ) → flags < 16 → (flag 1 (early 4 own flags 7 0 leader leaders) &&
-      (not (flag 2 (early 4 own flags 7 0 leader leaders)) && true)) ≡ false →
-      (reply : Bytes) → 448 ≤ length reply → afterDummyVotes digest (B flags 0 0) reply ≡ moved reply
-      (passStep digest (early 4 own flags 7 0 leader leaders))
-  unfolding afterDummyVotes
-  passes flags p silent reply room =
-      rw (
-        three-votes flags p,
-        early-move 4 own flags 7 0 leader leaders ranges p (omega arith) (omega arith) digest reply room,
-        step-pass 4 own flags 7 0 leader leaders ranges p (omega arith) (omega arith) digest
-            (voting 4 own flags 7 0 leader leaders ranges p (omega arith) (omega arith) digest false silent)
-            (dummy-now flags),
-      )
-
+module _ (digest : Bytes → Bytes) (own leader : ℕ) (leaders : Bytes) where
   abbrev P : ℕ → Bytes → MoveOutcome
   P flags reply = moved reply (passStep digest (early 4 own flags 7 0 leader leaders))
 
@@ -283,50 +78,6 @@ module _ (digest : Bytes → Bytes) (own leader : ℕ) (leaders : Bytes) (ranges
   pass-late : (reply : Bytes) → passesDummy (P 3 reply) false (zeros 224)
   unfolding everything frameIn firstHeight
   pass-late reply = (refl, refl, refl)
-
-  -- the move after the finalize certificate
-  finalizes : (reply : Bytes) → 448 ≤ length reply →
-      afterFinalizes digest (B 0 0 0) reply ≡ moved reply (step digest (early 4 own 0 0 7 leader leaders))
-  unfolding afterFinalizes word16 le16 belowBit quorum union maskOf inMask weigh total view
-  finalizes reply room =
-      rw (
-        early-certificate 4 own 0 0 0 leader leaders ranges (omega arith) (omega arith) (omega arith) digest 7 refl refl
-            refl,
-        early-move 4 own 0 0 7 leader leaders ranges (omega arith) (omega arith) (omega arith) digest reply room,
-      )
-
-  abbrev K : ℕ → ℕ → ℕ → Bytes
-  K flags current finalized = encode (withHead (early 4 own 0 0 7 leader leaders) flags current finalized)
-
-  mask-kept : (flags current finalized : ℕ) → word16 (K flags current finalized) 582 ≡ 7
-  unfolding everything firstHeight
-  mask-kept flags current finalized = refl
-
-  mask-decoded : (flags current finalized : ℕ) → at (decode (K flags current finalized)) 1 .finalizeMask ≡ 7
-  unfolding last withHead
-  mask-decoded flags current finalized =
-      let count = count-encode (withHead (early 4 own 0 0 7 leader leaders) flags current finalized) in
-      sym (read-finalize-mask (K flags current finalized) 0 (omega arith)) ∙ mask-kept flags current finalized
-
-  finalized-byte : (s : State) → byteAt (encode s) 5 ≡ s .finalized
-  unfolding encode headBytes
-  finalized-byte s = refl
-
-  not-finalized : (reply : Bytes) → 448 ≤ length reply → notFinalized (afterFinalizes digest (B 0 0 0) reply .book)
-  unfolding moved
-  not-finalized reply room =
-      let s : State = early 4 own 0 0 7 leader leaders in
-      let stays = head-only digest s in
-      let bare = early-not-notarized 4 own 0 0 7 leader leaders ranges (omega arith) (omega arith) (omega arith)
-      digest in
-      let zero-byte = finalized-byte (step digest s .after) ∙ finalized-stays digest s bare in
-      rw (finalizes reply room) (
-        ap (λ (t : State). word16 (encode t) 582) (stays .3) ∙ mask-kept (stays .0) (stays .1) (stays .2),
-        zero-byte,
-        ap (λ (t : State). at (decode (encode t)) 1 .finalizeMask) (stays .3)
-            ∙ mask-decoded (stays .0) (stays .1) (stays .2),
-        sym (read-finalized (encode (step digest s .after))) ∙ zero-byte,
-      )
 
 -- ---- the table
 first-leader : (x : Start) (o : Opened x) → firstLeader x ≡ o .leader
@@ -357,7 +108,7 @@ module _ (digest : Bytes → Bytes) (x : Start) where
       (x .room))
 
   after-signal-book : afterSignal digest x .book ≡ encode (early (x .n) (x .own) 3 0 0 (O .leader) (O .leaders))
-  after-signal-book = rw after-signal (voted-book digest (x .n) (x .own) (O .leader) (O .leaders) (O .ranges)
+  after-signal-book = rw after-signal (voted-book digest (x .n) (x .own) (O .leader) (O .leaders)
       (x .reply))
 
   led-by-another : firstLeader x ≢ x .own → O .leader ≢ x .own
@@ -375,7 +126,7 @@ module _ (digest : Bytes → Bytes) (x : Start) where
   unfolding moved dummyVoteStep
   example-g other = (
     rw after-signal,
-    rw after-signal (vote-first digest (x .n) (x .own) (O .leader) (O .leaders) (O .ranges) (x .reply)),
+    rw after-signal (vote-first digest (x .n) (x .own) (O .leader) (O .leaders) (x .reply)),
     rw after-signal-book (voted-idle digest (x .n) (x .own) (O .leader) (O .leaders) (O .ranges) (led-by-another other)
         (x .reply) (x .room)),
   )
@@ -388,7 +139,7 @@ module _ (digest : Bytes → Bytes) (x : Start) where
         passes digest (x .own) (O .leader) (O .leaders) (four-ranges x O four) 0 (omega arith)
             refl (x .reply) (x .room),
       )
-      (pass-in-time digest (x .own) (O .leader) (O .leaders) (four-ranges x O four) (x .reply))
+      (pass-in-time digest (x .own) (O .leader) (O .leaders) (x .reply))
 
   example-i : x .n ≡ 4 → passesDummy (afterDummyVotes digest (afterSignal digest x .book) (x .reply)) false (zeros 224)
   unfolding flag
@@ -399,7 +150,7 @@ module _ (digest : Bytes → Bytes) (x : Start) where
         passes digest (x .own) (O .leader) (O .leaders) (four-ranges x O four) 3 (omega arith) refl (x .reply)
             (x .room),
       )
-      (pass-late digest (x .own) (O .leader) (O .leaders) (four-ranges x O four) (x .reply))
+      (pass-late digest (x .own) (O .leader) (O .leaders) (x .reply))
 
   example-j : firstLeader x ≡ x .own → proposesFirst (moveCall digest (opened x) (x .reply))
   unfolding moved proposeStep kind parentHeight entryCount frameBlock proposal frameOf newBlock word16 le16 zeros
@@ -415,7 +166,7 @@ module _ (digest : Bytes → Bytes) (x : Start) where
           field (frameIn (moved (x .reply) (proposeStep digest (early (x .n) (x .own) 0 0 0 (O .leader) (O .leaders)))
           .reply) 0) ≡
           field (proposal (x .own) 1 (newBlock 1 0 (zeros 32) []))
-      first field = ap field (proposal-first digest (x .n) (x .own) (O .leader) (O .leaders) (O .ranges) (x .reply))
+      first field = ap field (proposal-first digest (x .n) (x .own) (O .leader) (O .leaders) (x .reply))
 
   example-k : x .n ≡ 4 → notFinalized (afterFinalizes digest (opened x) (x .reply) .book)
   example-k four =

@@ -20,7 +20,7 @@ use Rattle.protocol.specs.Certificates.{certificateFrame}
 use Rattle.protocol.specs.Fetch.{hasCertificate, certificateIf, certificatesAt, certificatesTo, everyCertificate}
 use Rattle.protocol.specs.Fetch.{unlessFetchRefused, fetchRows, fetchCall}
 use Rattle.protocol.specs.Laws.TestsLaws.{cond-elim}
-use Rattle.protocol.specs.Laws.RowLaws.{row-passes, in-range, range-in}
+use Rattle.protocol.specs.Laws.RowLaws.{by-tested, in-range, range-in}
 
 -- ---- what the rows of Fetch say
 -- a certificate that a state gives: its kind, its height, and that the state has it
@@ -39,16 +39,12 @@ module _ (digest : Bytes → Bytes) (book : Bytes) (k h : ℕ) (reply : Bytes) w
   pub fetch-tested : firstRefusal (fetchRows digest book k h reply) ≡ none → Fetches
   unfolding fetchRows
   fetch-tested passes =
-      let r1 = row-passes _ _ passes in
-      let r4 = row-passes _ _ (r1 .1) in
-      let r6 = row-passes _ _ (r4 .1) in
-      let r3 = row-passes _ _ (r6 .1) in
-      let r11 = row-passes _ _ (r3 .1) in
-      let range = in-range 1 (last (decode book)) h (r6 .0) in
+      by-tested _ passes λ is-sound certificate height room has.
+      let range = in-range 1 (last (decode book)) h height in
       record {
-        was-sound = r1 .0;
-        gives = record { a-certificate = r4 .0; low = range .0; high = range .1; has = r11 .0 };
-        room = leb-true 224 (length reply) (r3 .0);
+        was-sound = is-sound;
+        gives = record { a-certificate = certificate; low = range .0; high = range .1; has = has };
+        room = leb-true 224 (length reply) room;
       }
 
   fetch-passes : Fetches → firstRefusal (fetchRows digest book k h reply) ≡ none

@@ -12,9 +12,9 @@ use Rattle.protocol.specs.Block.{parentHeight, parentDigest}
 use Rattle.protocol.specs.View.{View, quorum, dummyRun, digestAt, extendsOver, linkedWithin, linked, extends}
 use Rattle.protocol.specs.View.{isFinalized}
 use Rattle.protocol.specs.Linked.{OnParent, Linked, start, link, Extends, Finalized}
-use Rattle.protocol.specs.Laws.TestsLaws.{and-true}
+use Rattle.protocol.specs.Laws.TestsLaws.{and-both}
 use Rattle.protocol.specs.Laws.ViewLaws.{run-sound, run-complete}
-use Rattle.protocol.specs.Laws.RowLaws.{row, same-eq, same-self}
+use Rattle.protocol.specs.Laws.RowLaws.{by-rows, same-eq, same-self}
 
 module _ (digest : Bytes → Bytes) where
   -- ---- no fuel
@@ -68,13 +68,14 @@ module _ (digest : Bytes → Bytes) where
       (linked digest v (parentHeight block) ≡ true) × OnParent digest v h (parentHeight block) block
   unfolding extends extendsOver
   extends-rows v h block e =
-      let lower : parentHeight block < h = ltb-true _ _ (row _ 0 e) in (
-        row _ 1 e,
+      by-rows _ e λ below parent names dummies.
+      let lower : parentHeight block < h = ltb-true _ _ below in (
+        parent,
         record {
           height = refl;
           below = lower;
-          names = same-eq _ _ (row _ 2 e);
-          dummies = λ k low high. run-sound v (parentHeight block) (h - 1 - parentHeight block) (row _ 3 e) k low
+          names = same-eq _ _ names;
+          dummies = λ k low high. run-sound v (parentHeight block) (h - 1 - parentHeight block) dummies k low
               (omega arith);
         },
       )
@@ -93,7 +94,7 @@ module _ (digest : Bytes → Bytes) where
       let j : ℕ = parentHeight (v .block (suc i)) in
       (v .hasBlock (suc i) ≡ true) × (linked digest v j ≡ true) × OnParent digest v (suc i) j (v .block (suc i))
   linked-parent v i e =
-      let both = and-true (v .hasBlock (suc i)) (extends digest v (suc i) (v .block (suc i)))
+      let both = and-both (v .hasBlock (suc i)) (extends digest v (suc i) (v .block (suc i)))
       (sym (linked-suc v i) ∙ e) in
       let rows = extends-rows v (suc i) (v .block (suc i)) (both .1) in
       (both .0, rows .0, rows .1)
@@ -135,7 +136,7 @@ module _ (digest : Bytes → Bytes) where
   pub finalized-sound : (v : View) (h : ℕ) → isFinalized digest v h ≡ true → Finalized digest v h
   unfolding isFinalized
   finalized-sound v h e =
-      let both = and-true (linked digest v h) (quorum v (v .finalizeMask h)) e in
+      let both = and-both (linked digest v h) (quorum v (v .finalizeMask h)) e in
       record { isLinked = linked-sound v h (both .0); hasQuorum = both .1 }
 
   pub finalized-complete : (v : View) (h : ℕ) → Finalized digest v h → isFinalized digest v h ≡ true

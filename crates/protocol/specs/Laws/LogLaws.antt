@@ -11,7 +11,7 @@ use Rattle.protocol.specs.Block.{blockWellFormed}
 use Rattle.protocol.specs.State.{State, maximumEntries}
 use Rattle.protocol.specs.View.{linked, isFinalized, quorum, logAt}
 use Rattle.protocol.specs.Sound.{view, log}
-use Rattle.protocol.specs.Laws.TestsLaws.{and-true}
+use Rattle.protocol.specs.Laws.TestsLaws.{and-both}
 use Rattle.protocol.specs.Laws.SoundLaws.{linked-in}
 use Rattle.protocol.specs.Laws.CodecLaws.{notarized-in}
 use Rattle.protocol.specs.Laws.LinkedLaws.{linked-zero}
@@ -30,7 +30,7 @@ module _ (digest : Bytes → Bytes) (s : State) (facts : SoundState digest s) wh
       go : (s .finalized ≡ 0) ⊎ (isFinalized digest (view s) (s .finalized) ≡ true) →
           linked digest (view s) (s .finalized) ≡ true
       go (inl z) = ap (linked digest (view s)) z ∙ linked-zero digest (view s)
-      go (inr z) = unfold isFinalized in and-true _ (quorum (view s) (view s .finalizeMask (s .finalized))) z .0
+      go (inr z) = unfold isFinalized in and-both _ (quorum (view s) (view s .finalizeMask (s .finalized))) z .0
 
   -- ---- the log that ends at any linked height: at most eight entries for each height
   module _ (h : ℕ) (e : linked digest (view s) h ≡ true) where

@@ -1,15 +1,19 @@
 -- Move takes one of six steps: what holds of each of them where it applies and no earlier one does holds of the step
 -- taken.
--- It changes nothing past the head.
+-- It changes nothing past the head. The rows of the moves' tests by name.
 use Prim.Native.Nat.{ℕ, zero, suc}
 use mathlib.Core.Path.{_≡_, refl, sym, subst, _∙_}
 use mathlib.Core.Bool.{true, false}
+use borrow.Author.Tests.{eqb-true, not-true}
 use Rattle.protocol.specs.Bytes.{Bytes}
-use Rattle.protocol.specs.State.{State, withHead}
+use Rattle.protocol.specs.State.{State, at, flag, holdsProposal, withHead}
+use Rattle.protocol.specs.View.{extends}
+use Rattle.protocol.specs.Sound.{view}
 use Rattle.protocol.specs.Move.{Step, firstStep, step, afterMoves, dummyVoteApplies, dummyVoteStep, outputApplies}
 use Rattle.protocol.specs.Move.{outputStep, passApplies, passStep, proposeApplies, proposeStep, blockVoteApplies}
-use Rattle.protocol.specs.Move.{blockVoteStep, idleStep}
+use Rattle.protocol.specs.Move.{blockVoteStep, idleStep, isRunning, isSome, parentBelow}
 use Rattle.protocol.specs.Laws.TestsLaws.{cond-elim}
+use Rattle.protocol.specs.Laws.RowLaws.{by-rows}
 
 module _ (digest : Bytes → Bytes) (s : State) (P : Step → Type 0) where
   pub step-cases :
@@ -70,4 +74,48 @@ module _ (digest : Bytes → Bytes) where
         same-n = rest .same-n ∙ first .same-n;
         same-pool = rest .same-pool ∙ first .same-pool;
         same-heights = rest .same-heights ∙ first .same-heights;
+      }
+
+-- ---- the rows of moves 1, 4 and 5
+pub record VotesDummy (s : State) : Type 0 where
+  pub running : isRunning s ≡ true
+  pub fired : flag 1 s ≡ true
+  pub not-yet : flag 2 s ≡ false
+
+pub dummy-vote-rows : (s : State) → dummyVoteApplies s ≡ true → VotesDummy s
+unfolding dummyVoteApplies
+dummy-vote-rows s e =
+    by-rows _ e λ running fired not-yet. record { running = running; fired = fired; not-yet = not-true _ not-yet }
+
+module _ (digest : Bytes → Bytes) (s : State) where
+  pub record Proposes : Type 0 where
+    pub running : isRunning s ≡ true
+    pub leads : at s (s .current) .leader ≡ s .own
+    pub not-yet : flag 8 s ≡ false
+    pub has-parent : isSome (parentBelow digest s) ≡ true
+
+  pub propose-rows : proposeApplies digest s ≡ true → Proposes
+  unfolding proposeApplies
+  propose-rows e =
+      by-rows _ e λ running leads not-yet has-parent. record {
+        running = running;
+        leads = eqb-true _ _ leads;
+        not-yet = not-true _ not-yet;
+        has-parent = has-parent;
+      }
+
+  pub record VotesBlock : Type 0 where
+    pub running : isRunning s ≡ true
+    pub not-yet : flag 4 s ≡ false
+    pub held : holdsProposal (at s (s .current)) ≡ true
+    pub extending : extends digest (view s) (s .current) (at s (s .current) .proposal) ≡ true
+
+  pub block-vote-rows : blockVoteApplies digest s ≡ true → VotesBlock
+  unfolding blockVoteApplies
+  block-vote-rows e =
+      by-rows _ e λ running not-yet held extending. record {
+        running = running;
+        not-yet = not-true _ not-yet;
+        held = held;
+        extending = extending;
       }

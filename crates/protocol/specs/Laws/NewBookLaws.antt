@@ -12,7 +12,7 @@ use borrow.Author.Tests.{ltb-true}
 use Rattle.protocol.specs.SoundState.{ShapedHeight, Shaped, SoundHeight}
 use Rattle.protocol.specs.Every.{Every, none, one}
 use Rattle.protocol.specs.Bytes.{Bytes, zeros, all}
-use Rattle.protocol.specs.Laws.TestsLaws.{and-true}
+use Rattle.protocol.specs.Laws.TestsLaws.{and-both}
 use Rattle.protocol.specs.Block.{maximumHeights}
 use Rattle.protocol.specs.State.{State, Height, at, last, encode, decode, noHeight, holdsProposal, isNotarized}
 use Rattle.protocol.specs.State.{maximumReplicas}
@@ -77,7 +77,7 @@ pub all-bare : (n : ℕ) (leaders : Bytes) → all (λ x. ltb x n) leaders ≡ t
 unfolding all
 all-bare n [] h = none
 all-bare n (x ∷ xs) h =
-    let q = and-true (ltb x n) (all (λ x. ltb x n) xs) h in
+    let q = and-both (ltb x n) (all (λ x. ltb x n) xs) h in
     one (new-bare n x (ltb-true x n (q .0))) (all-bare n xs (q .1))
 
 first-shaped : (x dummy final : ℕ) → ShapedHeight (firstHeight x dummy final)

@@ -5,12 +5,12 @@ use native.Mathlib.Nat.{mod-lt}
 use mathlib.Core.Path.{_≡_, refl, sym, ap₂, subst, _∙_}
 use mathlib.Core.Bool.{Bool, true, false, _&&_, cond}
 use mathlib.Core.List.{List, [], _∷_}
-use lib.ListN.{length, replicate, length-replicate}
+use lib.ListN.{length, replicate}
 use lib.Dec.{eqb, leb}
 use Rattle.protocol.specs.Mask.{inMask, ones, weigh, total}
 use Rattle.protocol.specs.View.{View, quorum, maskWeight, totalWeight}
 use borrow.Author.Tests.{leb-true}
-use Rattle.protocol.specs.Laws.TestsLaws.{and-true}
+use Rattle.protocol.specs.Laws.TestsLaws.{and-both}
 
 one-replica : (x y : Bool) (w : ℕ) → cond x w 0 + cond y w 0 ≤ w + cond (x && y) w 0
 one-replica true true w = omega arith
@@ -100,4 +100,4 @@ quorums-meet v v′ a b d e p q h = found (outside (λ t. inMask a t && inMask b
 
     found : Outside (λ t. inMask a t && inMask b t) (λ t. inMask d t) (length (v .weights)) →
         (t : ℕ) × (t < length (v .weights)) × (inMask a t ≡ true) × (inMask b t ≡ true) × (inMask d t ≡ false)
-    found (t, l, ab, nd) = let k = and-true (inMask a t) (inMask b t) ab in (t, l, k .0, k .1, nd)
+    found (t, l, ab, nd) = let k = and-both (inMask a t) (inMask b t) ab in (t, l, k .0, k .1, nd)

@@ -12,7 +12,7 @@ use borrow.Author.Tests.{eqb-true, leb-true, le-leb}
 use Rattle.protocol.specs.Every.{Every, one}
 use Rattle.protocol.specs.Bytes.{Bytes, zeros, all, isZero, same}
 use Rattle.protocol.specs.Tests.{allOf, implies, inRange, everyHeight, Row, firstRefusal}
-use Rattle.protocol.specs.Laws.TestsLaws.{eqb-self, and-true, le-or-lt}
+use Rattle.protocol.specs.Laws.TestsLaws.{eqb-self, and-both, le-or-lt}
 
 abbrev pub IsTrue : Bool → Type 0
 IsTrue test = test ≡ true
@@ -30,24 +30,31 @@ not-passed false f = refl
 pub row : (rows : List Bool) (i : ℕ) → allOf rows ≡ true → getD rows i true ≡ true
 unfolding allOf
 row [] i e = refl
-row (x ∷ xs) zero e = and-true x (allOf xs) e .0
-row (x ∷ xs) (suc i) e = row xs i (and-true x (allOf xs) e .1)
+row (x ∷ xs) zero e = and-both x (allOf xs) e .0
+row (x ∷ xs) (suc i) e = row xs i (and-both x (allOf xs) e .1)
 
 pub all-of : {rows : List Bool} → Every IsTrue rows → allOf rows ≡ true
 unfolding allOf
 all-of Every.none = refl
 all-of (one {x = x} {xs = xs} p ps) = true-and x (allOf xs) p (all-of ps)
 
--- one row that fails is enough
-pub row-fails : (rows : List Bool) (i : ℕ) → getD rows i true ≡ false → allOf rows ≡ false
-row-fails rows i f = not-passed (allOf rows) (λ e. true≢false (sym (row rows i e) ∙ f))
+-- what follows from rows follows from a list of them: the list's own law names them in order, as in
+-- `by-rows _ e λ size height. ..`, so that a row more is a name more there, and moves no other
+abbrev pub FromRows : List Bool → Type 0 → Type 0
+FromRows [] Fact = Fact
+FromRows (x ∷ xs) Fact = x ≡ true → FromRows xs Fact
+
+pub by-rows : {Fact : Type 0} (rows : List Bool) → allOf rows ≡ true → FromRows rows Fact → Fact
+unfolding allOf
+by-rows [] e fact = fact
+by-rows (x ∷ xs) e fact = let t = and-both x (allOf xs) e in by-rows xs (t .1) (fact (t .0))
 
 -- ---- heights
 pub every-height-at : (test : ℕ → Bool) (last h : ℕ) → everyHeight test last ≡ true → 1 ≤ h → h ≤ last → test h ≡ true
 unfolding everyHeight
 every-height-at test zero h e low high = absurd (omega arith)
 every-height-at test (suc last) h e low high = pick (le-or-lt h last)
-    (and-true (everyHeight test last) (test (suc last)) e)
+    (and-both (everyHeight test last) (test (suc last)) e)
     (λ l t. every-height-at test last h t low l)
   where
     pick : (h ≤ last) ⊎ (last < h) → (everyHeight test last ≡ true) × (test (suc last) ≡ true) →
@@ -80,7 +87,7 @@ true-implies false b f = refl
 
 pub in-range : (low high x : ℕ) → inRange low high x ≡ true → (low ≤ x) × (x ≤ high)
 unfolding inRange
-in-range low high x e = let t = and-true (leb low x) (leb x high) e in (leb-true low x (t .0), leb-true x high (t .1))
+in-range low high x e = let t = and-both (leb low x) (leb x high) e in (leb-true low x (t .0), leb-true x high (t .1))
 
 pub range-in : (low high x : ℕ) → low ≤ x → x ≤ high → inRange low high x ≡ true
 unfolding inRange
@@ -106,13 +113,25 @@ pub refuse-row : (r : Row) (rows : List Row) → r .1 ≡ false → firstRefusal
 unfolding firstRefusal
 refuse-row r rows e = rw e
 
--- the row of that number, counted from 0, where nothing is refused
-pub passed : (rows : List Row) (i : ℕ) → firstRefusal rows ≡ none → getD rows i (0, true) .1 ≡ true
-passed [] i e = refl
-passed (r ∷ rows) zero e = row-passes r rows e .0
-passed (r ∷ rows) (suc i) e = passed rows i (row-passes r rows e .1)
+-- the same of refusals, where nothing is refused
+abbrev pub FromTested : List Row → Type 0 → Type 0
+FromTested [] Fact = Fact
+FromTested (r ∷ rows) Fact = r .1 ≡ true → FromTested rows Fact
+
+pub by-tested : {Fact : Type 0} (rows : List Row) → firstRefusal rows ≡ none → FromTested rows Fact → Fact
+by-tested [] e fact = fact
+by-tested (r ∷ rows) e fact = let t = row-passes r rows e in by-tested rows (t .1) (fact (t .0))
 
 -- rows after rows
+pub split-rows : (rows more : List Row) → firstRefusal (rows ++ more) ≡ none →
+    (firstRefusal rows ≡ none) × (firstRefusal more ≡ none)
+unfolding firstRefusal
+split-rows [] more e = (refl, e)
+split-rows (r ∷ rows) more e =
+    let t = row-passes r (rows ++ more) e in
+    let q = split-rows rows more (t .1) in
+    (pass-row r rows (t .0) ∙ q .0, q .1)
+
 pub pass-rows : (rows more : List Row) → firstRefusal rows ≡ none → firstRefusal (rows ++ more) ≡ firstRefusal more
 pass-rows [] more e = refl
 pass-rows (r ∷ rows) more e =
@@ -136,7 +155,7 @@ pub is-zero-zeros : (bytes : Bytes) → isZero bytes ≡ true → bytes ≡ zero
 unfolding isZero all zeros
 is-zero-zeros [] e = refl
 is-zero-zeros (x ∷ xs) e =
-    let t = and-true (eqb x 0) (all (λ y. eqb y 0) xs) e in
+    let t = and-both (eqb x 0) (all (λ y. eqb y 0) xs) e in
     ap₂ _∷_ (eqb-true x 0 (t .0)) (is-zero-zeros xs (t .1))
 
 pub zeros-is-zero : (count : ℕ) → isZero (zeros count) ≡ true
@@ -150,7 +169,7 @@ same-eq [] [] e = refl
 same-eq [] (y ∷ ys) e = absurd (false≢true e)
 same-eq (x ∷ xs) [] e = absurd (false≢true e)
 same-eq (x ∷ xs) (y ∷ ys) e =
-    let t = and-true (eqb x y) (same xs ys) e in
+    let t = and-both (eqb x y) (same xs ys) e in
     ap₂ _∷_ (eqb-true x y (t .0)) (same-eq xs ys (t .1))
 
 pub same-self : (a : Bytes) → same a a ≡ true
@@ -166,8 +185,8 @@ pub all-at : (test : ℕ → Bool) (bytes : Bytes) (i : ℕ) → all test bytes 
     test (getD bytes i 0) ≡ true
 unfolding all
 all-at test [] i e l = absurd (omega arith)
-all-at test (x ∷ xs) zero e l = and-true (test x) (all test xs) e .0
-all-at test (x ∷ xs) (suc i) e l = all-at test xs i (and-true (test x) (all test xs) e .1) (omega arith)
+all-at test (x ∷ xs) zero e l = and-both (test x) (all test xs) e .0
+all-at test (x ∷ xs) (suc i) e l = all-at test xs i (and-both (test x) (all test xs) e .1) (omega arith)
 
 pub at-all : (test : ℕ → Bool) (bytes : Bytes) → ((i : ℕ) → i < length bytes → test (getD bytes i 0) ≡ true) →
     all test bytes ≡ true
@@ -180,5 +199,5 @@ at-all test (x ∷ xs) each = true-and (test x) (all test xs) (each 0 (omega ari
 pub is-zero-byte : (bytes : Bytes) (i : ℕ) → isZero bytes ≡ true → getD bytes i 0 ≡ 0
 unfolding isZero all
 is-zero-byte [] i e = refl
-is-zero-byte (x ∷ xs) zero e = eqb-true x 0 (and-true (eqb x 0) (all (λ y. eqb y 0) xs) e .0)
-is-zero-byte (x ∷ xs) (suc i) e = is-zero-byte xs i (and-true (eqb x 0) (all (λ y. eqb y 0) xs) e .1)
+is-zero-byte (x ∷ xs) zero e = eqb-true x 0 (and-both (eqb x 0) (all (λ y. eqb y 0) xs) e .0)
+is-zero-byte (x ∷ xs) (suc i) e = is-zero-byte xs i (and-both (eqb x 0) (all (λ y. eqb y 0) xs) e .1)

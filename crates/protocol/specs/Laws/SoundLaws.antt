@@ -1,6 +1,6 @@
 -- What soundness says of a state, apart from bytes: a sound book says a sound state, and a sound state's bytes are a
 -- sound book.
-use Prim.Native.Nat.{ℕ, zero, suc, _+_, _-_, _*_, _^_, _≤_, _<_}
+use Prim.Native.Nat.{ℕ, zero, suc, _+_, _-_, _*_, _≤_, _<_}
 use native.Mathlib.Omega.{arith}
 use mathlib.Core.Path.{_≡_, sym, subst}
 use mathlib.Core.Logic.{_⊎_, inl, inr}
@@ -8,18 +8,18 @@ use mathlib.Core.Bool.{true, false, _&&_, _||_}
 use lib.ListN.{length}
 use lib.Dec.{eqb, leb, ltb}
 use borrow.Author.Tests.{eqb-true, eq-eqb, leb-true, le-leb, ltb-true, lt-ltb}
-use Rattle.protocol.specs.SoundState.{Shaped, SoundHeight, SoundState}
+use Rattle.protocol.specs.SoundState.{SoundHeight, SoundState}
 use Rattle.protocol.specs.Every.{none, one}
-use Rattle.protocol.specs.Bytes.{Bytes, byteAt, part, isZero, AreBytes}
+use Rattle.protocol.specs.Bytes.{Bytes, part, isZero, AreBytes}
 use Rattle.protocol.specs.Tests.{implies}
 use Rattle.protocol.specs.Block.{maximumHeights, blockWellFormed}
 use Rattle.protocol.specs.Mask.{belowBit}
 use Rattle.protocol.specs.State.{State, Height, at, last, decode, encode, bookSize, holdsProposal, isNotarized}
-use Rattle.protocol.specs.State.{bookHeights, maximumReplicas, maximumPending}
+use Rattle.protocol.specs.State.{bookHeights, maximumReplicas}
 use Rattle.protocol.specs.View.{View, quorum, extendsOver, linkedWithin, linked, isFinalized}
 use Rattle.protocol.specs.Sound.{view, masksBelow, blocksWellFormed, contentZeros, sound}
-use Rattle.protocol.specs.Laws.TestsLaws.{and-true, or-true, or-right}
-use Rattle.protocol.specs.Laws.RowLaws.{not-passed, row, all-of, true-and, every-height-at, every-height}
+use Rattle.protocol.specs.Laws.TestsLaws.{and-both, or-either, or-right}
+use Rattle.protocol.specs.Laws.RowLaws.{not-passed, row, by-rows, all-of, true-and, every-height-at, every-height}
 use Rattle.protocol.specs.Laws.RowLaws.{implies-true, true-implies, in-range, range-in, zeros-is-zero}
 use Rattle.protocol.specs.Laws.StateLaws.{decode-encode}
 use Rattle.protocol.specs.Laws.BytesLaws.{zero-part}
@@ -34,12 +34,12 @@ module _ (digest : Bytes → Bytes) (s : State) where
   pub linked-in : (h : ℕ) → linked digest (view s) h ≡ true → h ≤ last s
   unfolding linked linkedWithin view
   linked-in zero e = omega arith
-  linked-in (suc i) e = go (or-true (eqb (suc i) 0) _ e)
+  linked-in (suc i) e = go (or-either (eqb (suc i) 0) _ e)
     where
       go : (eqb (suc i) 0 ≡ true) ⊎ ((isNotarized (at s (suc i)) && extendsOver digest
           (λ j. linkedWithin digest i (view s) j) (view s) (suc i) (at s (suc i) .notarized)) ≡ true) → suc i ≤ last s
       go (inl z) = let impossible : suc i ≡ 0 = eqb-true (suc i) 0 z in absurd (omega arith)
-      go (inr z) = notarized-in s i (and-true _ _ z .0)
+      go (inr z) = notarized-in s i (and-both _ _ z .0)
 
   pub not-linked-past : (h : ℕ) → last s < h → linked digest (view s) h ≡ false
   not-linked-past h past = not-passed (linked digest (view s) h) (λ e. let inside = linked-in h e in omega arith)
@@ -55,7 +55,7 @@ module _ (digest : Bytes → Bytes) (s : State) where
       go : (s .finalized ≡ 0) ⊎ ((linked digest (view s) (s .finalized) && quorum (view s)
           (view s .finalizeMask (s .finalized))) ≡ true) → s .finalized ≤ last s
       go (inl z) = omega arith
-      go (inr z) = linked-in (s .finalized) (and-true _ _ z .0)
+      go (inr z) = linked-in (s .finalized) (and-both _ _ z .0)
 
 -- ---- rows about one height, as facts
 module _ (v : View) (h : ℕ) (x : Height) where
@@ -63,21 +63,21 @@ module _ (v : View) (h : ℕ) (x : Height) where
       blocksWellFormed h x ≡ true →
       implies (isNotarized x) (quorum v (x .certificateMask)) ≡ true → SoundHeight v h x
   unfolding masksBelow blocksWellFormed belowBit
-  height-facts leader masks status blocks certificate = record {
+  height-facts leader masks status blocks certified = by-rows _ masks λ certificate dummy finalize voter. record {
     leader-below = ltb-true _ _ leader;
     status-small = leb-true _ _ status;
-    certificate-below = ltb-true _ _ (row _ 0 masks);
-    dummy-below = ltb-true _ _ (row _ 1 masks);
-    finalize-below = ltb-true _ _ (row _ 2 masks);
-    voter-below = ltb-true _ _ (row _ 3 masks);
+    certificate-below = ltb-true _ _ certificate;
+    dummy-below = ltb-true _ _ dummy;
+    finalize-below = ltb-true _ _ finalize;
+    voter-below = ltb-true _ _ voter;
     proposal-formed = implies-true _ _ (formed .0);
     notarized-formed = implies-true _ _ (formed .1);
-    certified = implies-true _ _ certificate;
+    certified = implies-true _ _ certified;
   }
     where
       formed : (implies (holdsProposal x) (blockWellFormed h (x .proposal)) ≡ true) ×
           (implies (isNotarized x) (blockWellFormed h (x .notarized)) ≡ true)
-      formed = and-true _ _ blocks
+      formed = and-both _ _ blocks
 
   module _ (facts : SoundHeight v h x) where
     masks-row : masksBelow (v .n) x ≡ true
@@ -141,7 +141,7 @@ module _ (digest : Bytes → Bytes) where
 
     final-row : (S .finalized ≡ 0) ⊎ (isFinalized digest (view S) (S .finalized) ≡ true)
     unfolding sound
-    final-row = zero-or (or-true _ _ (row _ finalizedRow e))
+    final-row = zero-or (or-either _ _ (row _ finalizedRow e))
       where
         zero-or : {A : Type 0} → (eqb (S .finalized) 0 ≡ true) ⊎ A → (S .finalized ≡ 0) ⊎ A
         zero-or (inl z) = inl (eqb-true _ _ z)

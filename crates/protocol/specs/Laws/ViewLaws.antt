@@ -10,7 +10,7 @@ use lib.ListN.{length}
 use Rattle.protocol.specs.Bytes.{Bytes, isZero}
 use Rattle.protocol.specs.Block.{parentHeight, entries, allEntries}
 use Rattle.protocol.specs.View.{View, isDummy, dummyRun, digestAt, chainWithin, chain, logAt}
-use Rattle.protocol.specs.Laws.TestsLaws.{and-true, le-or-lt}
+use Rattle.protocol.specs.Laws.TestsLaws.{and-both, le-or-lt}
 use Rattle.protocol.specs.Laws.RowLaws.{zeros-is-zero}
 use Rattle.protocol.specs.Laws.BytesLaws.{length-zeros}
 
@@ -20,7 +20,7 @@ pub run-sound : (v : View) (j count : ℕ) → dummyRun v j count ≡ true → (
 unfolding dummyRun
 run-sound v j zero e k low high = absurd (omega arith)
 run-sound v j (suc count) e k low high =
-    let both = and-true (dummyRun v j count) (isDummy v (j + suc count)) e in
+    let both = and-both (dummyRun v j count) (isDummy v (j + suc count)) e in
     pick (both .1) (λ z. run-sound v j count (both .0) k low z) (le-or-lt k (j + count))
   where
     pick : isDummy v (j + suc count) ≡ true → (k ≤ j + count → isDummy v k ≡ true) → (k ≤ j + count) ⊎ (j + count < k) →

@@ -26,122 +26,65 @@ write-pool s size j new h =
     (head-size s) j new (rw size h)
 
 -- ---- one field of a height
-unfoldable pub withLeader : Height → ℕ → Height
-withLeader x leader = record {
+-- other numbers, or another body
+abbrev withNumbers : Height → (leader status certificate dummy finalize voter : ℕ) → Height
+withNumbers x leader status certificate dummy finalize voter = record {
   leader = leader;
-  status = x .status;
-  certificateMask = x .certificateMask;
-  dummyMask = x .dummyMask;
-  finalizeMask = x .finalizeMask;
-  voterMask = x .voterMask;
-  proposal = x .proposal;
-  notarized = x .notarized;
-  voteDigests = x .voteDigests;
-}
-
-unfoldable pub withStatus : Height → ℕ → Height
-withStatus x status = record {
-  leader = x .leader;
   status = status;
-  certificateMask = x .certificateMask;
-  dummyMask = x .dummyMask;
-  finalizeMask = x .finalizeMask;
-  voterMask = x .voterMask;
+  certificateMask = certificate;
+  dummyMask = dummy;
+  finalizeMask = finalize;
+  voterMask = voter;
   proposal = x .proposal;
   notarized = x .notarized;
   voteDigests = x .voteDigests;
 }
 
-unfoldable pub withCertificateMask : Height → ℕ → Height
-withCertificateMask x mask = record {
-  leader = x .leader;
-  status = x .status;
-  certificateMask = mask;
-  dummyMask = x .dummyMask;
-  finalizeMask = x .finalizeMask;
-  voterMask = x .voterMask;
-  proposal = x .proposal;
-  notarized = x .notarized;
-  voteDigests = x .voteDigests;
-}
-
-unfoldable pub withDummyMask : Height → ℕ → Height
-withDummyMask x mask = record {
-  leader = x .leader;
-  status = x .status;
-  certificateMask = x .certificateMask;
-  dummyMask = mask;
-  finalizeMask = x .finalizeMask;
-  voterMask = x .voterMask;
-  proposal = x .proposal;
-  notarized = x .notarized;
-  voteDigests = x .voteDigests;
-}
-
-unfoldable pub withFinalizeMask : Height → ℕ → Height
-withFinalizeMask x mask = record {
-  leader = x .leader;
-  status = x .status;
-  certificateMask = x .certificateMask;
-  dummyMask = x .dummyMask;
-  finalizeMask = mask;
-  voterMask = x .voterMask;
-  proposal = x .proposal;
-  notarized = x .notarized;
-  voteDigests = x .voteDigests;
-}
-
-unfoldable pub withVoterMask : Height → ℕ → Height
-withVoterMask x mask = record {
-  leader = x .leader;
-  status = x .status;
-  certificateMask = x .certificateMask;
-  dummyMask = x .dummyMask;
-  finalizeMask = x .finalizeMask;
-  voterMask = mask;
-  proposal = x .proposal;
-  notarized = x .notarized;
-  voteDigests = x .voteDigests;
-}
-
-unfoldable pub withProposalBytes : Height → Bytes → Height
-withProposalBytes x block = record {
+abbrev withBody : Height → (proposal notarized digests : Bytes) → Height
+withBody x proposal notarized digests = record {
   leader = x .leader;
   status = x .status;
   certificateMask = x .certificateMask;
   dummyMask = x .dummyMask;
   finalizeMask = x .finalizeMask;
   voterMask = x .voterMask;
-  proposal = block;
-  notarized = x .notarized;
-  voteDigests = x .voteDigests;
-}
-
-unfoldable pub withNotarizedBytes : Height → Bytes → Height
-withNotarizedBytes x block = record {
-  leader = x .leader;
-  status = x .status;
-  certificateMask = x .certificateMask;
-  dummyMask = x .dummyMask;
-  finalizeMask = x .finalizeMask;
-  voterMask = x .voterMask;
-  proposal = x .proposal;
-  notarized = block;
-  voteDigests = x .voteDigests;
-}
-
-unfoldable pub withVoteDigests : Height → Bytes → Height
-withVoteDigests x digests = record {
-  leader = x .leader;
-  status = x .status;
-  certificateMask = x .certificateMask;
-  dummyMask = x .dummyMask;
-  finalizeMask = x .finalizeMask;
-  voterMask = x .voterMask;
-  proposal = x .proposal;
-  notarized = x .notarized;
+  proposal = proposal;
+  notarized = notarized;
   voteDigests = digests;
 }
+
+unfoldable pub withLeader : Height → ℕ → Height
+withLeader x leader =
+    withNumbers x leader (x .status) (x .certificateMask) (x .dummyMask) (x .finalizeMask) (x .voterMask)
+
+unfoldable pub withStatus : Height → ℕ → Height
+withStatus x status =
+    withNumbers x (x .leader) status (x .certificateMask) (x .dummyMask) (x .finalizeMask) (x .voterMask)
+
+unfoldable pub withCertificateMask : Height → ℕ → Height
+withCertificateMask x mask =
+    withNumbers x (x .leader) (x .status) mask (x .dummyMask) (x .finalizeMask) (x .voterMask)
+
+unfoldable pub withDummyMask : Height → ℕ → Height
+withDummyMask x mask =
+    withNumbers x (x .leader) (x .status) (x .certificateMask) mask (x .finalizeMask) (x .voterMask)
+
+unfoldable pub withFinalizeMask : Height → ℕ → Height
+withFinalizeMask x mask =
+    withNumbers x (x .leader) (x .status) (x .certificateMask) (x .dummyMask) mask (x .voterMask)
+
+unfoldable pub withVoterMask : Height → ℕ → Height
+withVoterMask x mask =
+    withNumbers x (x .leader) (x .status) (x .certificateMask) (x .dummyMask) (x .finalizeMask) mask
+
+unfoldable pub withProposalBytes : Height → Bytes → Height
+withProposalBytes x block = withBody x block (x .notarized) (x .voteDigests)
+
+unfoldable pub withNotarizedBytes : Height → Bytes → Height
+withNotarizedBytes x block = withBody x (x .proposal) block (x .voteDigests)
+
+unfoldable pub withVoteDigests : Height → Bytes → Height
+withVoteDigests x digests = withBody x (x .proposal) (x .notarized) digests
 
 -- ---- a height: its bytes in place of those of `x`
 module _ (s : State) (shaped : Shaped s) (i : ℕ) (inside : i < last s) (x : Height) where

@@ -15,7 +15,7 @@ use Rattle.protocol.specs.Move.{Step, firstStep, step, isRunning, newFinalized,
 use Rattle.protocol.specs.Move.{outputApplies, outputStep, passApplies, passStep, proposeApplies, proposeStep}
 use Rattle.protocol.specs.Move.{blockVoteApplies, blockVoteStep, idleStep, moved, unlessMoveRefused, moveRows, moveCall}
 use Rattle.protocol.specs.Read.{logSize, sizeCall}
-use Rattle.protocol.specs.Laws.TestsLaws.{and-true, cond-elim}
+use Rattle.protocol.specs.Laws.TestsLaws.{and-both, cond-elim}
 use Rattle.protocol.specs.Laws.RowLaws.{row, row-passes}
 use Rattle.protocol.specs.Laws.ParentLaws.{largestFinalized-is}
 use Rattle.protocol.specs.Laws.SoundLaws.{sound-decode}
@@ -43,7 +43,7 @@ module _ (digest : Bytes → Bytes) where
     step-within =
         cond-elim Within (dummyVoteApplies s) (λ e. running (row _ 0 e)) λ _.
         cond-elim Within (outputApplies digest s) (λ _. output-within) λ _.
-        cond-elim Within (passApplies digest s) (λ e. running (and-true _ _ e .0)) λ _.
+        cond-elim Within (passApplies digest s) (λ e. running (and-both _ _ e .0)) λ _.
         cond-elim Within (proposeApplies digest s) (λ e. running (row _ 0 e)) λ _.
         cond-elim Within (blockVoteApplies digest s) (λ e. running (row _ 0 e)) λ _. omega arith
 

@@ -11,7 +11,7 @@ use lib.Dec.{eqb}
 use lib.ListN.{length}
 use Rattle.protocol.specs.Bytes.{Bytes}
 use Rattle.protocol.specs.Tests.{Row, inRange, firstRefusal}
-use Rattle.protocol.specs.Laws.TestsLaws.{and-true, cond-elim}
+use Rattle.protocol.specs.Laws.TestsLaws.{and-both, cond-elim}
 use Rattle.protocol.specs.Laws.RowLaws.{in-range}
 use Rattle.protocol.specs.Frame.{finalize}
 use Rattle.protocol.specs.State.{State, Height, decode, flag}
@@ -75,7 +75,7 @@ first-numbered : (rows : List Row) → allNumbered rows ≡ true → NumberedRow
 unfolding firstRefusal allNumbered
 first-numbered [] e = λ number f. let z : _≡_ {A = ℕ} 0 1 = cc in absurd (omega arith)
 first-numbered (row ∷ rows) e =
-    let t = and-true (inRange 1 14 (row .0)) (allNumbered rows) e in
+    let t = and-both (inRange 1 14 (row .0)) (allNumbered rows) e in
     cond-elim NumberedRows (row .1)
     (λ _. first-numbered rows (t .1))
     (λ _ number f. let same : row .0 ≡ number = cc in rw same at (in-range 1 14 (row .0) (t .0)))

@@ -3,25 +3,82 @@ use Prim.Native.Nat.{ℕ, _+_, _*_, _≤_}
 use native.Mathlib.Omega.{arith}
 use mathlib.Core.Path.{_≡_}
 use mathlib.Core.Bool.{Bool, true, _&&_}
-use lib.ListN.{length, getD}
+use lib.ListN.{length}
+use lib.Dec.{eqb, leb, ltb}
 use borrow.Author.Tests.{eqb-true}
 use Rattle.protocol.specs.Every.{none, one}
-use Rattle.protocol.specs.Bytes.{Bytes, byteAt, word16, zeros}
-use Rattle.protocol.specs.Tests.{allOf, everyHeight}
-use Rattle.protocol.specs.State.{bookSize, bookHeights}
-use Rattle.protocol.specs.Sound.{sound}
-use Rattle.protocol.specs.Laws.TestsLaws.{and-true, both-ways}
-use Rattle.protocol.specs.Laws.RowLaws.{row, all-of, true-and, every-height-at, every-height, in-range, is-zero-byte}
-use Rattle.protocol.specs.Laws.RowLaws.{zeros-is-zero}
+use Rattle.protocol.specs.Bytes.{Bytes, byteAt, word16, part, zeros, isZero}
+use Rattle.protocol.specs.Tests.{allOf, inRange, everyHeight}
+use Rattle.protocol.specs.Block.{maximumHeights}
+use Rattle.protocol.specs.State.{decode, bookSize, bookHeights, maximumReplicas, maximumPending}
+use Rattle.protocol.specs.Sound.{sound, masksBelow, blocksWellFormed, contentZeros}
+use Rattle.protocol.specs.Laws.TestsLaws.{and-both, both-ways}
+use Rattle.protocol.specs.Laws.RowLaws.{row, by-rows, all-of, true-and, every-height-at, every-height, in-range}
+use Rattle.protocol.specs.Laws.RowLaws.{is-zero-byte, zeros-is-zero}
 use Rattle.protocol.specs.Laws.BytesLaws.{length-zeros}
 use Rattle.fields.specs.Laws.BookLaws.{readable as make-readable}
-use Rattle.fields.specs.Book.{Readable}
+use Rattle.fields.specs.Book.{Readable, heightIn}
 use Rattle.memory.specs.Memo.{Memo, memorySize}
-use Rattle.soundness.specs.SoundRows.{numberRows, headRows, heightRows, finalRow}
+use Rattle.soundness.specs.SoundRows.{numberRows, headRows, heightRows, certificateRow, finalRow}
 use Rattle.protocol.specs.Laws.SoundRowNames.{lengthRow, replicasRow, ownRow, heightsRow, editionRow, currentRow}
 use Rattle.protocol.specs.Laws.SoundRowNames.{flagsRow, pendingRow, leadersRow, masksRow, statusRow, blocksRow}
 use Rattle.protocol.specs.Laws.SoundRowNames.{certifiedRow, headZerosRow, contentZerosRow, finalizedRow}
 
+-- ---- the rows of each group by name
+module _ (book : Bytes) where
+  record NumbersPass : Type 0 where
+    replicas : inRange 1 maximumReplicas (decode book .n) ≡ true
+    own : ltb (decode book .own) (decode book .n) ≡ true
+    heights : inRange 1 maximumHeights (bookHeights book) ≡ true
+    edition : eqb (decode book .edition) 1 ≡ true
+    current : inRange 1 (bookHeights book + 1) (decode book .current) ≡ true
+    flags : ltb (decode book .flags) 16 ≡ true
+    pending : leb (decode book .pendingCount) maximumPending ≡ true
+
+  number-rows : allOf (numberRows book) ≡ true → NumbersPass
+  unfolding numberRows
+  number-rows e =
+      by-rows _ e λ replicas own heights edition current flags pending. record {
+        replicas = replicas;
+        own = own;
+        heights = heights;
+        edition = edition;
+        current = current;
+        flags = flags;
+        pending = pending;
+      }
+
+  record HeadPasses : Type 0 where
+    size : eqb (length book) (bookSize (bookHeights book)) ≡ true
+    numbers : NumbersPass
+    zeros : isZero (part book 8 56) ≡ true
+
+  head-rows : allOf (headRows book) ≡ true → HeadPasses
+  unfolding headRows
+  head-rows e =
+      by-rows _ e λ size numbers zeros. record { size = size; numbers = number-rows numbers; zeros = zeros }
+
+  record HeightPasses (h : ℕ) : Type 0 where
+    leader : ltb (heightIn book h .leader) (decode book .n) ≡ true
+    masks : masksBelow (decode book .n) (heightIn book h) ≡ true
+    status : leb (heightIn book h .status) 3 ≡ true
+    blocks : blocksWellFormed h (heightIn book h) ≡ true
+    certificate : certificateRow book h ≡ true
+    zeros : isZero (contentZeros book h) ≡ true
+
+  height-rows : (h : ℕ) → allOf (heightRows book h) ≡ true → HeightPasses h
+  unfolding heightRows
+  height-rows h e =
+      by-rows _ e λ leader masks status blocks certificate zeros. record {
+        leader = leader;
+        masks = masks;
+        status = status;
+        blocks = blocks;
+        certificate = certificate;
+        zeros = zeros;
+      }
+
+-- ---- the groups make soundness
 module _ (digest : Bytes → Bytes) (book : Bytes) where
   -- the rows of every height
   abbrev every : Bool
@@ -52,25 +109,25 @@ module _ (digest : Bytes → Bytes) (book : Bytes) where
     final-passes = row _ finalizedRow e
 
   module _ (head : allOf (headRows book) ≡ true) (heights : every ≡ true) (final : finalRow digest book ≡ true) where
-    number : (i : ℕ) → getD (numberRows book) i true ≡ true
-    unfolding headRows
-    number i = row (numberRows book) i (row _ 1 head)
-
-    at-height : (h : ℕ) → 1 ≤ h → h ≤ bookHeights book → allOf (heightRows book h) ≡ true
-    at-height h low high = every-height-at _ (bookHeights book) h heights low high
+    at-height : (h : ℕ) → 1 ≤ h → h ≤ bookHeights book → HeightPasses book h
+    at-height h low high = height-rows book h (every-height-at _ (bookHeights book) h heights low high)
 
     sound-passes : sound digest book ≡ true
-    unfolding sound headRows numberRows heightRows finalRow
-    sound-passes = all-of
-        (one (row _ 0 head)
-        (one (number 0) (one (number 1) (one (number 2) (one (number 3) (one (number 4) (one (number 5) (one (number 6)
-        (one (every-height _ _ (λ h low high. row _ 0 (at-height h low high)))
-        (one (every-height _ _ (λ h low high. row _ 1 (at-height h low high)))
-        (one (every-height _ _ (λ h low high. row _ 2 (at-height h low high)))
-        (one (every-height _ _ (λ h low high. row _ 3 (at-height h low high)))
-        (one (every-height _ _ (λ h low high. row _ 4 (at-height h low high)))
-        (one (row _ 2 head)
-        (one (every-height _ _ (λ h low high. row _ 5 (at-height h low high)))
+    unfolding sound finalRow
+    sound-passes =
+        let is = head-rows book head in
+        let n = is .numbers in
+        all-of
+        (one (is .size)
+        (one (n .replicas) (one (n .own) (one (n .heights) (one (n .edition) (one (n .current) (one (n .flags)
+        (one (n .pending)
+        (one (every-height _ _ (λ h low high. at-height h low high .leader))
+        (one (every-height _ _ (λ h low high. at-height h low high .masks))
+        (one (every-height _ _ (λ h low high. at-height h low high .status))
+        (one (every-height _ _ (λ h low high. at-height h low high .blocks))
+        (one (every-height _ _ (λ h low high. at-height h low high .certificate))
+        (one (is .zeros)
+        (one (every-height _ _ (λ h low high. at-height h low high .zeros))
         (one final none))))))))))))))))
 
   -- soundness, group by group
@@ -78,17 +135,17 @@ module _ (digest : Bytes → Bytes) (book : Bytes) where
   sound-is = both-ways (sound digest book) (allOf (headRows book) && (every && finalRow digest book))
       (λ e. true-and _ _ (head-passes e) (true-and _ _ (every-height _ _ (height-passes e)) (final-passes e)))
       (λ e.
-      let t = and-true (allOf (headRows book)) (every && finalRow digest book) e in
-      let u = and-true every (finalRow digest book) (t .1) in
+      let t = and-both (allOf (headRows book)) (every && finalRow digest book) e in
+      let u = and-both every (finalRow digest book) (t .1) in
       sound-passes (t .0) (u .0) (u .1))
 
 -- the head's rows are all that reading asks
 pub readable : (book : Bytes) → allOf (headRows book) ≡ true → Readable book
-unfolding headRows numberRows bookSize
+unfolding bookSize
 readable book e =
-    let numbers : allOf (numberRows book) ≡ true = row _ 1 e in
-    let size : length book ≡ 576 + 880 * bookHeights book = eqb-true _ _ (row _ 0 e) in
-    make-readable book size (in-range _ _ _ (row _ 0 numbers) .1) (in-range _ _ _ (row _ 2 numbers) .1)
+    let is = head-rows book e in
+    let size : length book ≡ 576 + 880 * bookHeights book = eqb-true _ _ (is .size) in
+    make-readable book size (in-range _ _ _ (is .numbers .replicas) .1) (in-range _ _ _ (is .numbers .heights) .1)
 
 -- zeros say nothing of any height
 pub zero-memo : (book known : Bytes) → Readable book → known ≡ zeros memorySize → Memo book known

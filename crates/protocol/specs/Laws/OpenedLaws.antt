@@ -1,0 +1,79 @@
+-- The book that an example opens is a new one at its first height.
+use Prim.Native.Nat.{ℕ}
+use native.Mathlib.Omega.{arith}
+use mathlib.Core.Path.{_≡_, refl, ap, _∙_}
+use mathlib.Core.List.{[], _∷_}
+use mathlib.Core.Option.{Option, some, none}
+use lib.Dec.{ltb}
+use borrow.Author.Tests.{ltb-true}
+use Rattle.protocol.specs.Bytes.{Bytes, all}
+use Rattle.protocol.specs.Tests.{firstRefusal}
+use Rattle.protocol.specs.Laws.TestsLaws.{and-both}
+use Rattle.protocol.specs.Laws.TestedLaws.{OpenRanges, open-ranges, open-tested}
+use Rattle.protocol.specs.State.{encode}
+use Rattle.protocol.specs.Answer.{Outcome, accepted, Done, done, unlessRefused}
+use Rattle.protocol.specs.Open.{newState, newHeight, openRows, openCall}
+use Rattle.protocol.specs.Deliver.{withMasks}
+use Rattle.protocol.specs.Examples.{Start, opened}
+use Rattle.protocol.specs.Laws.NewBookLaws.{Ranges, early, firstHeight}
+
+pub record Opened (x : Start) : Type 0 where
+  pub leader : ℕ
+  pub leaders : Bytes
+  pub roll : x .leaders ≡ leader ∷ leaders
+  pub ranges : Ranges (x .n) (x .own) leader leaders
+  pub book : opened x ≡ encode (early (x .n) (x .own) 0 0 0 leader leaders)
+
+new-early : (n own leader : ℕ) (leaders : Bytes) → newState n own (leader ∷ leaders) ≡ early n own 0 0 0 leader leaders
+unfolding newState firstHeight withMasks newHeight
+new-early n own leader leaders = refl
+
+open-answer : (o : Option ℕ) (book : Bytes) (w : Outcome Done) → unlessRefused o book w .answer ≡ accepted done →
+    o ≡ none
+unfolding unlessRefused
+open-answer none book w q = refl
+open-answer (some number) book w q = let y : _≡_ {A = ℕ} 0 1 = cc in absurd (omega arith)
+
+open-rows : (x : Start) → firstRefusal (openRows (x .old) (x .n) (x .own) (x .heights) (x .leaders)) ≡ none
+unfolding openCall
+open-rows x =
+    open-answer (firstRefusal (openRows (x .old) (x .n) (x .own) (x .heights) (x .leaders))) (x .old)
+    (record { answer = accepted done; book = encode (newState (x .n) (x .own) (x .leaders)) }) (x .opens)
+
+-- the ranges that Open tests are those of a first leader and of the leaders after it
+ranges-of : (n own heights : ℕ) (leaders : Bytes) → OpenRanges n own heights leaders →
+    (leader : ℕ) × (rest : Bytes) × (leaders ≡ leader ∷ rest) × Ranges n own leader rest
+unfolding all
+ranges-of n own heights [] is = absurd (omega arith)
+ranges-of n own heights (leader ∷ rest) is =
+    let below = and-both (ltb leader n) (all (λ x. ltb x n) rest) (is .leaders-below) in (
+      leader,
+      rest,
+      refl,
+      record {
+        some-replica = is .n-low;
+        few-replicas = is .n-high;
+        own-below = is .own-below;
+        leader-below = ltb-true leader n (below .0);
+        leaders-below = below .1;
+        few-heights = omega arith;
+      },
+    )
+
+opened-new : (x : Start) → opened x ≡ encode (newState (x .n) (x .own) (x .leaders))
+unfolding opened openCall unlessRefused
+opened-new x = rw (open-rows x, opened)
+
+pub opening : (x : Start) → Opened x
+opening x =
+    let tested = open-tested (x .n) (x .own) (x .heights) (x .leaders) (x .old) (open-rows x) in
+    let r = ranges-of (x .n) (x .own) (x .heights) (x .leaders)
+    (open-ranges (x .n) (x .own) (x .heights) (x .leaders) (tested .in-ranges)) in
+    record {
+      leader = r .0;
+      leaders = r .1;
+      roll = r .2;
+      ranges = r .3;
+      book = opened-new x ∙ (ap (λ (m : Bytes). encode (newState (x .n) (x .own) m)) (r .2)
+          ∙ ap encode (new-early (x .n) (x .own) (r .0) (r .1)));
+    }
