@@ -3,8 +3,8 @@ use Prim.Native.Nat.{ℕ, zero, suc, _/_}
 use mathlib.Core.List.{List, [], _∷_, _++_}
 use lib.ListN.{length}
 use Rattle.sha256.specs.Bytes.{Bytes}
-use Rattle.sha256.specs.Constants.{initialHash}
-use Rattle.sha256.specs.Compression.{compression}
+use Rattle.sha256_compression.specs.Constants.{initialHash}
+use Rattle.sha256_compression.specs.Compression.{compression}
 use Rattle.sha256.specs.Padding.{bigEndian, padded, block}
 
 -- the hash value after the first `count` blocks, which the standard writes H(count), where `hash` is H(0)

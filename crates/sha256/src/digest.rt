@@ -1,13 +1,13 @@
 // The digest of a byte slice, FIPS 180-4, section 6.2.2: the whole blocks where they lie, then the rest with the
 // padding.
-use crate::compression::compress;
+use sha256_compression::compress;
 use crate::padding::begin;
 use crate::padding::put_length;
 ghost use mathlib.Core.Path.{_≡_};
 ghost use mathlib.Core.List.{_++_};
 ghost use Prim.Native.Nat.{_%_};
 ghost use lib.ListN.{length};
-ghost use Rattle.sha256.specs.Constants.{initialHash};
+ghost use Rattle.sha256_compression.specs.Constants.{initialHash};
 ghost use Rattle.sha256.specs.Padding.{padding};
 ghost use Rattle.sha256.specs.Digest.{hashAll, wordsBytes, sha256};
 
