@@ -1,4 +1,4 @@
 -- What is proved of the definitions beside this folder: nothing here has to be believed.
-pub mod PaddingLaws
-pub mod EndingLaws
+pub mod CompressionLaws
+pub mod StepsLaws
 pub mod DigestLaws

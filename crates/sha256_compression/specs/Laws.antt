@@ -1,4 +1,0 @@
--- What is proved of the definitions beside this folder: nothing here has to be believed.
-pub mod ScheduleLaws
-pub mod CompressionLaws
-pub mod StepsLaws
