@@ -2,17 +2,17 @@
 // hash value.
 // A word of the schedule is computed beside the round that is sixteen before its own, four rounds to a turn of the
 // loop.
-use sha256_rounds::add_words;
 use sha256_rounds::one_round;
 use sha256_rounds::round_constants;
 use sha256_schedule::message_words;
 use sha256_schedule::next_word;
+use std::num::wrapping_add_u32;
 ghost use mathlib.Core.Path.{_≡_};
 ghost use Prim.Native.Nat.{_+_, _≤_, _<_};
 ghost use lib.ListN.{length, getD, set};
 ghost use Rattle.sha256_schedule.specs.Schedule.{nextWord};
 ghost use Rattle.sha256_rounds.specs.Rounds.{round};
-ghost use Rattle.sha256.specs.Compression.{compression};
+ghost use Rattle.sha256.specs.Compression.{addWords, compression};
 ghost use Rattle.sha256.specs.Steps.{roundsFrom, extendedFrom};
 
 // The round t, and the word of the schedule sixteen further on.
@@ -72,6 +72,22 @@ fn last_rounds(start: [u32; 8], k: &[u32; 64], w: &[u32; 64]) -> [u32; 8]
         s = turned;
     }
     s
+}
+
+// The working variables s, added word by word to the hash value.
+fn add_words(s: [u32; 8], hash: [u32; 8]) -> [u32; 8]
+    ensures { λ r. ⌜ r ≡ addWords s hash ⌝ }
+{
+    [
+        wrapping_add_u32(s[0], hash[0]),
+        wrapping_add_u32(s[1], hash[1]),
+        wrapping_add_u32(s[2], hash[2]),
+        wrapping_add_u32(s[3], hash[3]),
+        wrapping_add_u32(s[4], hash[4]),
+        wrapping_add_u32(s[5], hash[5]),
+        wrapping_add_u32(s[6], hash[6]),
+        wrapping_add_u32(s[7], hash[7]),
+    ]
 }
 
 // The hash value after the block.

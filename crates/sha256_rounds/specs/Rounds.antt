@@ -1,5 +1,4 @@
--- FIPS 180-4, section 6.2.2, steps 2 to 4: the rounds on the eight working variables, and their sum with the hash value.
--- Assumes nothing.
+-- FIPS 180-4, section 6.2.2, steps 2 and 3: the rounds on the eight working variables. Assumes nothing.
 use Prim.Native.Nat.{ℕ, zero, suc}
 use mathlib.Core.List.{List, [], _∷_}
 use lib.ListN.{getD}
@@ -24,11 +23,3 @@ round Kt Wt s =
 unfoldable pub rounds : List ℕ → List ℕ → ℕ → List ℕ
 rounds hash W zero = hash
 rounds hash W (suc t) = round (getD K t 0) (getD W t 0) (rounds hash W t)
-
--- step 4: the working variables s are added to the hash value, word by word
-unfoldable pub addWords : List ℕ → List ℕ → List ℕ
-addWords s hash =
-    add (getD s 0 0) (getD hash 0 0) ∷ add (getD s 1 0) (getD hash 1 0) ∷ add (getD s 2 0) (getD hash 2 0) ∷ add
-    (getD s 3 0) (getD hash 3 0)
-    ∷ add (getD s 4 0) (getD hash 4 0) ∷ add (getD s 5 0) (getD hash 5 0) ∷ add (getD s 6 0) (getD hash 6 0) ∷ add
-    (getD s 7 0) (getD hash 7 0) ∷ []

@@ -1,5 +1,5 @@
-// The rounds of FIPS 180-4, section 6.2.2, steps 2 to 4: the table of constants, one round, and the sum of the working
-// variables with the hash value. What each must compute is defined in specs/.
+// The rounds of FIPS 180-4, section 6.2.2, step 3: the table of constants, and one round. What each must compute is
+// defined in specs/.
 use sha256_functions::choose;
 use sha256_functions::majority;
 use sha256_functions::upper_sigma_0;
@@ -7,7 +7,7 @@ use sha256_functions::upper_sigma_1;
 use std::num::wrapping_add_u32;
 ghost use mathlib.Core.Path.{_≡_};
 ghost use Rattle.sha256_rounds.specs.Constants.{K};
-ghost use Rattle.sha256_rounds.specs.Rounds.{round, addWords};
+ghost use Rattle.sha256_rounds.specs.Rounds.{round};
 
 // The constants of section 4.2.2, by round.
 const ROUND_CONSTANTS: [u32; 64] = [
@@ -102,21 +102,5 @@ pub fn one_round(s: [u32; 8], constant: u32, word: u32) -> [u32; 8]
         s[4],
         s[5],
         s[6],
-    ]
-}
-
-// The working variables s, added word by word to the hash value.
-pub fn add_words(s: [u32; 8], hash: [u32; 8]) -> [u32; 8]
-    ensures { λ r. ⌜ r ≡ addWords s hash ⌝ }
-{
-    [
-        wrapping_add_u32(s[0], hash[0]),
-        wrapping_add_u32(s[1], hash[1]),
-        wrapping_add_u32(s[2], hash[2]),
-        wrapping_add_u32(s[3], hash[3]),
-        wrapping_add_u32(s[4], hash[4]),
-        wrapping_add_u32(s[5], hash[5]),
-        wrapping_add_u32(s[6], hash[6]),
-        wrapping_add_u32(s[7], hash[7]),
     ]
 }

@@ -25,9 +25,3 @@ pub variables-by : (Kt Wt d h : ℕ) {a b c e f g h₁ h₂ ch h₃ s₁ T1 s₀
 unfolding variables add
 variables-by Kt Wt d h {e = e} {f = f} {g = g} p₁ p₂ p₃ p₄ p₅ p₆ p₇ p₈ p₉ p₁₀ p₁₁ =
     cc (reordered h Kt Wt (Ch e f g) (Σ1 e))
-
--- eight words by eight equations
-pub eight-words : {a a′ b b′ c c′ d d′ e e′ f f′ g g′ h h′ : ℕ} → a ≡ a′ → b ≡ b′ → c ≡ c′ → d ≡ d′ → e ≡ e′ → f ≡ f′ →
-    g ≡ g′ → h ≡ h′
-    → _≡_ {A = List ℕ} (a ∷ b ∷ c ∷ d ∷ e ∷ f ∷ g ∷ h ∷ []) (a′ ∷ b′ ∷ c′ ∷ d′ ∷ e′ ∷ f′ ∷ g′ ∷ h′ ∷ [])
-eight-words p q r s t u v w = cc

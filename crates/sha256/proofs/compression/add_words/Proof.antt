@@ -1,10 +1,10 @@
 -- `add_words` meets its contract: each of the eight sums wraps as the standard's does. Assumes nothing.
 use Rattle.sha256_functions.specs.Words.{add}
-use Rattle.sha256_rounds.specs.Rounds.{addWords}
-use Rattle.sha256_rounds.specs.Laws.RoundsLaws.{eight-words}
+use Rattle.sha256.specs.Compression.{addWords}
+use Rattle.sha256.specs.Laws.CompressionLaws.{eight-words}
 use borrow.Author.Needs.{needs}
-use Rattle.sha256_rounds.proofs.add_words.Statement.{statement}
-use Rattle.sha256_rounds.proofs.add_words.Tie as tie
+use Rattle.sha256.proofs.compression.add_words.Statement.{statement}
+use Rattle.sha256.proofs.compression.add_words.Tie as tie
 
 returns : tie.Need-returns
 unfolding add addWords
