@@ -7,8 +7,8 @@ use native.Mathlib.Omega.{arith}
 use lib.Arith.{half-le}
 use lib.Bits.{bitAnd, and-mask, and-comm}
 use Rattle.sha256_functions.specs.Words.{_&_, _⊕_, complement, shr, rotr}
-use Rattle.sha256_functions.specs.Laws.WordsLaws.{and-half, and-odd, xor-half, xor-odd, xor-word, rotr-word, rotr-xor}
-use Rattle.sha256_functions.specs.Laws.WordsLaws.{rotr-rotr}
+use Rattle.sha256_functions.specs.Laws.WordsLaws.{and-half, and-odd, xor-half, xor-odd, xor-word}
+use Rattle.sha256_functions.specs.Laws.WordsLaws.{rotr-word, rotr-xor, rotr-rotr}
 use Rattle.sha256_functions.specs.Functions.{Ch, Maj, Σ0, Σ1, σ0, σ1}
 
 -- ---- two expressions in three numbers are equal where they are at the digits 0 and 1
