@@ -1,6 +1,2 @@
--- Bytes as the contracts read them: a list of numbers below 256. Assumes nothing.
-use Prim.Native.Nat.{ℕ}
-use mathlib.Core.List.{List}
-
-abbrev pub Bytes : Type 0
-Bytes = List ℕ
+-- Bytes as the contracts read them, passed on for the crates above. Assumes nothing.
+pub use Rattle.sha256_functions.specs.Bytes.{Bytes}

@@ -1,11 +1,16 @@
--- FIPS 180-4, section 6.2.2: the hash value over all blocks of the padded message, and the digest. Assumes nothing.
+-- FIPS 180-4, sections 5.3.3 and 6.2.2: the hash value over all blocks of the padded message, and the digest. Assumes
+-- nothing.
 use Prim.Native.Nat.{ℕ, zero, suc, _/_}
 use mathlib.Core.List.{List, [], _∷_, _++_}
 use lib.ListN.{length}
 use Rattle.sha256.specs.Bytes.{Bytes}
-use Rattle.sha256.specs.Constants.{initialHash}
 use Rattle.sha256.specs.Compression.{compression}
-use Rattle.sha256.specs.Padding.{bigEndian, padded, block}
+use Rattle.sha256_padding.specs.Padding.{bigEndian, padded, block}
+
+-- section 5.3.3: the initial hash value H(0)
+unfoldable pub initialHash : List ℕ
+initialHash =
+    0x6a09e667 ∷ 0xbb67ae85 ∷ 0x3c6ef372 ∷ 0xa54ff53a ∷ 0x510e527f ∷ 0x9b05688c ∷ 0x1f83d9ab ∷ 0x5be0cd19 ∷ []
 
 -- the hash value after the first `count` blocks, which the standard writes H(count), where `hash` is H(0)
 unfoldable pub hashBlocks : List ℕ → Bytes → ℕ → List ℕ

@@ -3,8 +3,8 @@
 use Prim.Native.Nat.{ℕ, zero, suc, _+_}
 use mathlib.Core.List.{List}
 use lib.ListN.{getD, set}
-use Rattle.sha256.specs.Schedule.{nextWord}
-use Rattle.sha256.specs.Compression.{round}
+use Rattle.sha256_schedule.specs.Schedule.{nextWord}
+use Rattle.sha256_rounds.specs.Rounds.{round}
 
 -- n rounds from round t on, with the round constants k and the words W
 unfoldable pub roundsFrom : List ℕ → List ℕ → List ℕ → ℕ → ℕ → List ℕ

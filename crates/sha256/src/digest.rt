@@ -1,15 +1,14 @@
 // The digest of a byte slice, FIPS 180-4, section 6.2.2: the whole blocks where they lie, then the rest with the
 // padding.
 use crate::compression::compress;
-use crate::padding::begin;
-use crate::padding::put_length;
+use sha256_padding::begin;
+use sha256_padding::put_length;
 ghost use mathlib.Core.Path.{_≡_};
 ghost use mathlib.Core.List.{_++_};
 ghost use Prim.Native.Nat.{_%_};
 ghost use lib.ListN.{length};
-ghost use Rattle.sha256.specs.Constants.{initialHash};
-ghost use Rattle.sha256.specs.Padding.{padding};
-ghost use Rattle.sha256.specs.Digest.{hashAll, wordsBytes, sha256};
+ghost use Rattle.sha256.specs.Digest.{initialHash, hashAll, wordsBytes, sha256};
+ghost use Rattle.sha256_padding.specs.Padding.{padding};
 
 // Section 5.3.3: the hash value before the first block.
 const INITIAL_HASH: [u32; 8] = [

@@ -7,12 +7,11 @@ use native.Mathlib.Nat.{add-zero, add-suc}
 use lib.ListN.{length, getD, take, drop, length-append, length-drop, drop-of-length-le}
 use lib.Seq.{drop-append-le, take-all}
 use Rattle.sha256.specs.Bytes.{Bytes}
-use Rattle.sha256.specs.Constants.{initialHash}
+use Rattle.sha256.specs.Digest.{initialHash, hashBlocks, hashAll, wordsBytes, sha256}
 use Rattle.sha256.specs.Compression.{compression}
 use Rattle.sha256.specs.Laws.CompressionLaws.{compression-length}
-use Rattle.sha256.specs.Padding.{bigEndian, padding, padded, block}
-use Rattle.sha256.specs.Laws.PaddingLaws.{bigEndian-length, block-front, block-drop}
-use Rattle.sha256.specs.Digest.{hashBlocks, hashAll, wordsBytes, sha256}
+use Rattle.sha256_padding.specs.Padding.{bigEndian, padding, padded, block}
+use Rattle.sha256_padding.specs.Laws.PaddingLaws.{bigEndian-length, block-front, block-drop}
 
 pub wordsBytes-length : (words : List ℕ) → length (wordsBytes words) ≡ 4 * length words
 unfolding wordsBytes

@@ -9,9 +9,10 @@ use native.Mathlib.Omega.{arith}
 use lib.ListN.{length, getD, take, set, length-set}
 use lib.Seq.{take-suc-set, getD-take, getD-set-other, take-all}
 use Rattle.sha256.specs.Bytes.{Bytes}
-use Rattle.sha256.specs.Constants.{K}
-use Rattle.sha256.specs.Schedule.{messageWords, nextWord, scheduleTo, schedule}
-use Rattle.sha256.specs.Compression.{round, rounds, addWords, compression}
+use Rattle.sha256_rounds.specs.Constants.{K}
+use Rattle.sha256_schedule.specs.Schedule.{messageWords, nextWord, scheduleTo, schedule}
+use Rattle.sha256_rounds.specs.Rounds.{round, rounds}
+use Rattle.sha256.specs.Compression.{addWords, compression}
 use Rattle.sha256.specs.Steps.{roundsFrom, extendedFrom}
 
 -- ---- one step more

@@ -1,5 +1,5 @@
 -- `add_words` meets its contract: each of the eight sums wraps as the standard's does. Assumes nothing.
-use Rattle.sha256.specs.Words.{add}
+use Rattle.sha256_functions.specs.Words.{add}
 use Rattle.sha256.specs.Compression.{addWords}
 use Rattle.sha256.specs.Laws.CompressionLaws.{eight-words}
 use borrow.Author.Needs.{needs}

@@ -5,9 +5,8 @@ use mathlib.Core.Path.{_≡_, refl, ap, _∙_}
 use native.Mathlib.Omega.{arith}
 use borrow.Author.Needs.{needs}
 use lib.ListN.{length}
-use Rattle.sha256.specs.Digest.{hashBlocks}
+use Rattle.sha256.specs.Digest.{hashBlocks, hashAll}
 use lib.ListN.{length-take, length-drop}
-use Rattle.sha256.specs.Digest.{hashAll}
 use Rattle.sha256.specs.Laws.DigestLaws.{hashBlocks-next}
 use Rattle.sha256.proofs.digest.hash_blocks.Statement.{statement}
 use Rattle.sha256.proofs.digest.hash_blocks.Tie as tie

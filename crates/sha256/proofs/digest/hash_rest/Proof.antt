@@ -3,9 +3,9 @@
 use mathlib.Core.Path.{_≡_, refl, _∙_}
 use native.Mathlib.Omega.{arith}
 use lib.ListN.{length}
-use Rattle.sha256.specs.Padding.{zeros}
-use Rattle.sha256.specs.Ending.{opened}
-use Rattle.sha256.specs.Laws.EndingLaws.{opened-length, ends-here, ends-later}
+use Rattle.sha256_padding.specs.Padding.{zeros}
+use Rattle.sha256_padding.specs.Ending.{opened}
+use Rattle.sha256_padding.specs.Laws.EndingLaws.{opened-length, ends-here, ends-later}
 use Rattle.sha256.specs.Laws.DigestLaws.{hashAll-block}
 use borrow.Author.Needs.{needs}
 use Rattle.sha256.proofs.digest.hash_rest.Statement.{statement}

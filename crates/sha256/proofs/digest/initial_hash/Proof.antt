@@ -1,7 +1,7 @@
 -- digest::initial_hash is the standard's table.
 -- Assumes nothing.
 use mathlib.Core.Path.{refl}
-use Rattle.sha256.specs.Constants.{initialHash}
+use Rattle.sha256.specs.Digest.{initialHash}
 use Rattle.sha256.proofs.digest.initial_hash.Statement.{statement}
 use Rattle.sha256.proofs.digest.initial_hash.Tie as tie
 

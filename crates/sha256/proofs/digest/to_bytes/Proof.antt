@@ -6,9 +6,9 @@ use mathlib.Core.List.{_++_}
 use native.Mathlib.Omega.{arith}
 use borrow.Author.Needs.{needs}
 use lib.ListN.{length, take}
-use Rattle.sha256.specs.Padding.{zeros}
+use Rattle.sha256_padding.specs.Padding.{zeros}
 use Rattle.sha256.specs.Digest.{wordsBytes}
-use Rattle.sha256.proofs.Stores.{worded, wrote}
+use Rattle.sha256.proofs.WordStores.{worded, wrote}
 use Rattle.sha256.proofs.digest.to_bytes.Statement.{statement}
 use Rattle.sha256.proofs.digest.to_bytes.Tie as tie
 
