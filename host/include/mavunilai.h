@@ -20,10 +20,11 @@
  * answers the first in the order given with it. What stands above the lowest byte is told at each call; where nothing
  * is told it is 0.
  *
- * The packing is defined in crates/replica_c/specs/Packing.antt, and the contracts in crates/replica_c/src/lib.rt say
- * that each call returns the packed answer of document 01's call and leaves its bytes; docs/GUIDE.md leads there. That
- * the functions below which take an answer apart give back what was packed is proved of their counterparts in
- * specs/Unpacking.antt; names and bodies of this file itself are not proved, the host's tests hold them to the library.
+ * The packing is defined in crates/packing/specs/Packing.antt, and the contracts in crates/replica_c/src/lib.rt say that
+ * each call returns the packed answer of document 01's call and leaves its bytes; docs/GUIDE.md leads there. That the
+ * functions below which take an answer apart give back what was packed is proved of their counterparts in
+ * Unpacking.antt beside it; names and bodies of this file itself are not proved, the host's tests hold them to the
+ * library.
  */
 #ifndef MAVUNILAI_H
 #define MAVUNILAI_H

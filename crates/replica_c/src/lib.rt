@@ -1,18 +1,11 @@
 // The calls for programs in C: on byte slices, each a pointer and a length, and numbers. host/include/mavunilai.h
 // declares them.
-// An answer is one number. Its lowest byte is the refusal's number, 0 where the call is not refused; specs/Packing says
-// what stands above.
+// An answer is one number. Its lowest byte is the refusal's number, 0 where the call is not refused; `packing Packing`
+// says what stands above.
 // Each contract equates the number with the packing of what the protocol's definition of the call answers, and the lent
 // bytes with what it leaves.
-use answers::answer::Answer;
-use answers::answer::Certificate;
-use answers::answer::Delivered;
-use answers::answer::Moved;
-use answers::answer::Size;
 ghost use mathlib.Core.Path.{_≡_};
-ghost use Prim.Native.Nat.{_+_, _*_, _<_, _≤_};
 ghost use lib.ListN.{length};
-ghost use Rattle.protocol.specs.Answer.{certificateKind, finalizeKind};
 ghost use Rattle.sha256.specs.Digest.{sha256};
 ghost use Rattle.protocol.specs.Open.{openCall};
 ghost use Rattle.protocol.specs.Deliver.{deliverCall};
@@ -21,32 +14,8 @@ ghost use Rattle.protocol.specs.Signal.{signalCall};
 ghost use Rattle.protocol.specs.Submit.{submitCall};
 ghost use Rattle.protocol.specs.Fetch.{fetchCall};
 ghost use Rattle.protocol.specs.Read.{readPart, readBuffer, sizeCall};
-ghost use Rattle.protocol.specs.Block.{maximumHeights};
-ghost use Rattle.answers.specs.Answers.{doneAnswer, deliveredAnswer, certificateOf, movedAnswer, sizeAnswer};
 ghost use Rattle.replica_c.specs.Interface.{interfaceNumber};
-ghost use Rattle.replica_c.specs.Packing.{packedDone, packedDelivery, packedMove, packedSize, answeredHeight};
-ghost use Rattle.replica_c.specs.Packing.{answeredSize};
-
-// The number for an answer that says no more than done or refused.
-fn done_number(answer: Answer) -> usize
-    ensures { λ r. ⌜ r ≡ packedDone (doneAnswer answer) ⌝ }
-{
-    match answer {
-        Answer::Done => 0,
-        Answer::Refused(number) => number,
-    }
-}
-
-// The number for the answer of Deliver.
-fn delivered_number(answer: Delivered) -> usize
-    ensures { λ r. ⌜ r ≡ packedDelivery (deliveredAnswer answer) ⌝ }
-{
-    match answer {
-        Delivered::Fresh => 256,
-        Delivered::Known => 0,
-        Delivered::Refused(number) => number,
-    }
-}
+ghost use Rattle.packing.specs.Packing.{packedDone, packedDelivery, packedMove, packedSize};
 
 // Open: makes a new book for replica `own` of `n`; byte h - 1 of `leaders` is the leader of height h. The book's old
 // bytes do not matter.
@@ -63,7 +32,7 @@ pub extern "C" fn mavunilai_open(
         packedDone (openCall (now (book .entry)) n own heights (now (leaders .entry)) .answer) ⌝ }
     ensures book { λ _. ⌜ now (book .exit) ≡ openCall (now (book .entry)) n own heights (now (leaders .entry)) .book ⌝ }
 {
-    done_number(replica::open::open(book, n, own, heights, leaders))
+    packing::done_number(replica::open::open(book, n, own, heights, leaders))
 }
 
 // Deliver: keeps what a frame says, whose signatures the caller has checked.
@@ -74,7 +43,7 @@ pub extern "C" fn mavunilai_deliver(book: &mut [u8], frame: &[u8]) -> usize
     ensures answer { λ r. ⌜ r ≡ packedDelivery (deliverCall sha256 (now (book .entry)) (now (frame .entry)) .answer) ⌝ }
     ensures book { λ _. ⌜ now (book .exit) ≡ deliverCall sha256 (now (book .entry)) (now (frame .entry)) .book ⌝ }
 {
-    delivered_number(replica::deliver::deliver(book, frame))
+    packing::delivered_number(replica::deliver::deliver(book, frame))
 }
 
 // Signal: sets the timer flag of the current height, which the caller names.
@@ -84,7 +53,7 @@ pub extern "C" fn mavunilai_signal(book: &mut [u8], height: usize) -> usize
     ensures answer { λ r. ⌜ r ≡ packedDone (signalCall sha256 (now (book .entry)) height .answer) ⌝ }
     ensures book { λ _. ⌜ now (book .exit) ≡ signalCall sha256 (now (book .entry)) height .book ⌝ }
 {
-    done_number(replica::signal::signal(book, height))
+    packing::done_number(replica::signal::signal(book, height))
 }
 
 // Submit: makes an entry of 16 bytes the last pending one, and drops pending ones that the log has.
@@ -94,7 +63,7 @@ pub extern "C" fn mavunilai_submit(book: &mut [u8], entry: &[u8]) -> usize
     ensures answer { λ r. ⌜ r ≡ packedDone (submitCall sha256 (now (book .entry)) (now (entry .entry)) .answer) ⌝ }
     ensures book { λ _. ⌜ now (book .exit) ≡ submitCall sha256 (now (book .entry)) (now (entry .entry)) .book ⌝ }
 {
-    done_number(replica::submit::submit(book, entry))
+    packing::done_number(replica::submit::submit(book, entry))
 }
 
 // Fetch: writes a height's certificate of kind 5, 6 or 7 to the first 224 bytes of the reply.
@@ -111,7 +80,7 @@ pub extern "C" fn mavunilai_fetch(
     ensures reply { λ _. ⌜ now (reply .exit) ≡
         fetchCall sha256 (now (book .entry)) kind height (now (reply .entry)) .reply ⌝ }
 {
-    done_number(replica::fetch::fetch(book, kind, height, reply))
+    packing::done_number(replica::fetch::fetch(book, kind, height, reply))
 }
 
 // Read: copies the log to the front of the buffer.
@@ -125,61 +94,6 @@ pub extern "C" fn mavunilai_read(book: &[u8], buffer: &mut [u8]) -> usize
     replica::read::read_into(book, buffer)
 }
 
-// The kind of a pass's first frame.
-fn certificate_number(certificate: Certificate) -> usize
-    ensures { λ r. ⌜ (r ≡ certificateKind (certificateOf certificate)) × (r < 8) ⌝ }
-{
-    match certificate {
-        Certificate::Page => 5,
-        Certificate::Blank => 6,
-    }
-}
-
-// The kind of a pass's second frame, and 0 where the pass finalises nothing.
-fn finalized_number(finalised: bool) -> usize
-    ensures { λ r. ⌜ (r ≡ finalizeKind finalised) × (r < 8) ⌝ }
-{
-    if finalised { 4 } else { 0 }
-}
-
-// A move's place in document 01's list, its height and the kinds of a pass's frames, each at its place in the answer.
-fn move_number(number: usize, height: usize, kinds: usize) -> usize
-    requires { ⌜ (number < 8) × (height ≤ maximumHeights) × (kinds < 65536) ⌝ }
-    ensures { λ r. ⌜ r ≡ 256 * number + 65536 * height + 4294967296 * kinds ⌝ }
-{
-    256 * number + 65536 * height + 4294967296 * kinds
-}
-
-// The number for the answer of Move. No answer of Move names a height above 63 (specs/PackingLaws), so the sum fits.
-fn moved_number(answer: Moved) -> usize
-    requires { ⌜ answeredHeight (movedAnswer answer) ≤ maximumHeights ⌝ }
-    ensures { λ r. ⌜ r ≡ packedMove (movedAnswer answer) ⌝ }
-{
-    match answer {
-        Moved::Idle => 0,
-        Moved::Dummy(h) => move_number(1, h, 0),
-        Moved::Final(g) => move_number(2, g, 0),
-        Moved::Pass(h, certificate, finalised) => {
-            let kinds = certificate_number(certificate) + 256 * finalized_number(finalised);
-            move_number(3, h, kinds)
-        }
-        Moved::Offer(h) => move_number(4, h, 0),
-        Moved::Vote(h) => move_number(5, h, 0),
-        Moved::Refused(number) => number,
-    }
-}
-
-// The number for the answer of Register size, which is at most 8,064 (specs/PackingLaws), so the product fits.
-fn size_number(answer: Size) -> usize
-    requires { ⌜ answeredSize (sizeAnswer answer) ≤ 8064 ⌝ }
-    ensures { λ r. ⌜ r ≡ packedSize (sizeAnswer answer) ⌝ }
-{
-    match answer {
-        Size::Bytes(size) => 256 * size,
-        Size::Refused(number) => number,
-    }
-}
-
 // Move: makes the first move that applies, and writes its frames to the front of the reply. Returns in byte 1 the
 // move's number, in bytes 2 and 3 its height, in bytes 4 and 5 the kinds of a pass's frames; 0 where it is idle
 // (`packedMove`). Refusals: 1, 3 (`moveCall`). Test for a refusal first: the bytes above it are 0, and 0 is idle's
@@ -190,7 +104,7 @@ pub extern "C" fn mavunilai_move(book: &mut [u8], reply: &mut [u8]) -> usize
     ensures book { λ _. ⌜ now (book .exit) ≡ moveCall sha256 (now (book .entry)) (now (reply .entry)) .book ⌝ }
     ensures reply { λ _. ⌜ now (reply .exit) ≡ moveCall sha256 (now (book .entry)) (now (reply .entry)) .reply ⌝ }
 {
-    moved_number(replica::make_move::make_move(book, reply))
+    packing::moved_number(replica::make_move::make_move(book, reply))
 }
 
 // Register size: the length of the log in bytes.
@@ -199,7 +113,7 @@ pub extern "C" fn mavunilai_move(book: &mut [u8], reply: &mut [u8]) -> usize
 pub extern "C" fn mavunilai_size(book: &[u8]) -> usize
     ensures { λ r. ⌜ r ≡ packedSize (sizeCall sha256 (now (book .entry))) ⌝ }
 {
-    size_number(replica::read::size(book))
+    packing::size_number(replica::read::size(book))
 }
 
 // The number of this interface, which a program compares with its header's before it makes another call.

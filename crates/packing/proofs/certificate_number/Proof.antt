@@ -5,10 +5,10 @@ use Rattle.protocol.specs.Answer.{certificateKind}
 use Rattle.answers.specs.Answers.{certificateOf}
 use Rattle.answers.specs.declared.answer.Certificate.{Certificate}
 use borrow.Author.Needs.{needs}
-use Rattle.replica_c.proofs.certificate_number.Statement.{statement}
-use Rattle.replica_c.proofs.certificate_number.Tie as tie
-use Rattle.replica_c.proofs.certificate_number.Reads as reads
-use Rattle.replica_c.proofs.certificate_number.Lts as lts
+use Rattle.packing.proofs.certificate_number.Statement.{statement}
+use Rattle.packing.proofs.certificate_number.Tie as tie
+use Rattle.packing.proofs.certificate_number.Reads as reads
+use Rattle.packing.proofs.certificate_number.Lts as lts
 
 returns : tie.Need-returns
 unfolding certificateKind certificateOf

@@ -10,7 +10,7 @@ use lib.Bits.{bitAnd}
 use lib.Dec.{eqb}
 use Rattle.protocol.specs.Answer.{Answer, refused, accepted, Done, Delivery, known, fresh, Move, refusalNumber}
 use Rattle.answers.specs.MoveNumbers.{answerNumbers}
-use Rattle.replica_c.specs.Packing.{answeredSize}
+use Rattle.packing.specs.Packing.{answeredSize}
 
 -- ---- the header's functions
 -- mavunilai_refusal

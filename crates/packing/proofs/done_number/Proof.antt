@@ -2,12 +2,12 @@
 use mathlib.Core.Path.{sym, ap}
 use Rattle.answers.specs.Answers.{doneAnswer}
 use Rattle.answers.specs.declared.answer.Answer.{Answer}
-use Rattle.replica_c.specs.Packing.{packedDone}
+use Rattle.packing.specs.Packing.{packedDone}
 use borrow.Author.Needs.{needs}
-use Rattle.replica_c.proofs.done_number.Statement.{statement}
-use Rattle.replica_c.proofs.done_number.Tie as tie
-use Rattle.replica_c.proofs.done_number.Reads as reads
-use Rattle.replica_c.proofs.done_number.Lts as lts
+use Rattle.packing.proofs.done_number.Statement.{statement}
+use Rattle.packing.proofs.done_number.Tie as tie
+use Rattle.packing.proofs.done_number.Reads as reads
+use Rattle.packing.proofs.done_number.Lts as lts
 
 returns : tie.Need-returns
 unfolding packedDone doneAnswer

@@ -3,12 +3,12 @@ use native.Mathlib.Omega.{arith}
 use mathlib.Core.Path.{sym, ap}
 use Rattle.answers.specs.Answers.{sizeAnswer}
 use Rattle.answers.specs.declared.answer.Size.{Size}
-use Rattle.replica_c.specs.Packing.{packedSize, answeredSize}
+use Rattle.packing.specs.Packing.{packedSize, answeredSize}
 use borrow.Author.Needs.{needs}
-use Rattle.replica_c.proofs.size_number.Statement.{statement}
-use Rattle.replica_c.proofs.size_number.Tie as tie
-use Rattle.replica_c.proofs.size_number.Reads as reads
-use Rattle.replica_c.proofs.size_number.Lts as lts
+use Rattle.packing.proofs.size_number.Statement.{statement}
+use Rattle.packing.proofs.size_number.Tie as tie
+use Rattle.packing.proofs.size_number.Reads as reads
+use Rattle.packing.proofs.size_number.Lts as lts
 
 mul-result : tie.Need-mul-result
 unfolding answeredSize sizeAnswer

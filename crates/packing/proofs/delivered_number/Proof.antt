@@ -2,12 +2,12 @@
 use mathlib.Core.Path.{sym, ap}
 use Rattle.answers.specs.Answers.{deliveredAnswer}
 use Rattle.answers.specs.declared.answer.Delivered.{Delivered}
-use Rattle.replica_c.specs.Packing.{packedDelivery}
+use Rattle.packing.specs.Packing.{packedDelivery}
 use borrow.Author.Needs.{needs}
-use Rattle.replica_c.proofs.delivered_number.Statement.{statement}
-use Rattle.replica_c.proofs.delivered_number.Tie as tie
-use Rattle.replica_c.proofs.delivered_number.Reads as reads
-use Rattle.replica_c.proofs.delivered_number.Lts as lts
+use Rattle.packing.proofs.delivered_number.Statement.{statement}
+use Rattle.packing.proofs.delivered_number.Tie as tie
+use Rattle.packing.proofs.delivered_number.Reads as reads
+use Rattle.packing.proofs.delivered_number.Lts as lts
 
 returns : tie.Need-returns
 unfolding packedDelivery deliveredAnswer

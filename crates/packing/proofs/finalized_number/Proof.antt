@@ -2,10 +2,10 @@
 use native.Mathlib.Omega.{arith}
 use mathlib.Core.Path.{sym, ap}
 use Rattle.protocol.specs.Answer.{finalizeKind}
-use Rattle.replica_c.proofs.finalized_number.Statement.{statement}
-use Rattle.replica_c.proofs.finalized_number.Tie as tie
-use Rattle.replica_c.proofs.finalized_number.Reads as reads
-use Rattle.replica_c.proofs.finalized_number.Lts as lts
+use Rattle.packing.proofs.finalized_number.Statement.{statement}
+use Rattle.packing.proofs.finalized_number.Tie as tie
+use Rattle.packing.proofs.finalized_number.Reads as reads
+use Rattle.packing.proofs.finalized_number.Lts as lts
 
 returns : tie.Need-returns
 unfolding finalizeKind

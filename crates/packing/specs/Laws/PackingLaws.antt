@@ -21,7 +21,7 @@ use Rattle.protocol.specs.Laws.ParentLaws.{largestFinalized-is}
 use Rattle.protocol.specs.Laws.SoundLaws.{sound-decode}
 use Rattle.protocol.specs.Laws.LogLaws.{log-few}
 use Rattle.protocol.specs.Block.{maximumHeights}
-use Rattle.replica_c.specs.Packing.{answeredHeight, answeredSize}
+use Rattle.packing.specs.Packing.{answeredHeight, answeredSize}
 
 module _ (digest : Bytes → Bytes) where
   -- ---- Move: a step names a height of the book, or is idle and names 0
