@@ -4,7 +4,9 @@ pub mod BackingLaws
 pub mod KeepingLaws
 pub mod StatementsLaws
 pub mod MovingLaws
+pub mod ListsLaws
 pub mod RunLaws
+pub mod CallingLaws
 pub mod OpeningLaws
 pub mod FetchingLaws
 pub mod ReplicaLaws
@@ -12,6 +14,8 @@ pub mod ChainsLaws
 pub mod AgreementLaws
 pub mod MetLaws
 pub mod ListTestsLaws
+pub mod NotForgedLaws
+pub mod OneBookLaws
 pub mod TurnsLaws
 pub mod WitnessLaws
 pub mod AnyDigestLaws

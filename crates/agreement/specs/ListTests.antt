@@ -10,7 +10,7 @@ use Rattle.protocol.specs.Mask.{inMask}
 use Rattle.protocol.specs.Move.{isSome}
 use Rattle.protocol.specs.Call.{Opened}
 use Rattle.agreement.specs.Lists.{Member, Statement, proposes, votesBlock, votesDummy, finalizes, statementOf}
-use Rattle.agreement.specs.Lists.{blockIn, leftBy, orElse, does, delivers, writes}
+use Rattle.agreement.specs.Lists.{blockIn, does, delivers, writes}
 
 -- ---- over lists and replicas
 unfoldable pub everyIn : {A : Type 0} → (A → Bool) → List A → Bool
@@ -52,15 +52,16 @@ isAmong blocks (some block) = holds block blocks
 
 module _ (digest : Bytes → Bytes) where
   -- ---- the book
-  unfoldable pub follows : ℕ → ℕ → Member → Option Bytes → Bool
-  follows n s m none = opensFor n s (does digest m .opens)
-  follows n s m (some book) = same (m .book) book && not (isSome (does digest m .opens))
+  -- a member of replica `s` opens its book, or does not, as it has opened before
+  unfoldable pub opensInTurn : ℕ → ℕ → Bool → Member → Bool
+  opensInTurn n s true m = not (isSome (does digest m .opens))
+  opensInTurn n s false m = opensFor n s (does digest m .opens)
 
-  -- the members of replica `s` keep one book, where `left` is what its last member before these left
-  unfoldable pub keepsOneBook : ℕ → ℕ → Option Bytes → List Member → Bool
-  keepsOneBook n s left [] = true
-  keepsOneBook n s left (m ∷ ms) =
-      implies (eqb (m .replica) s) (follows n s m left) && keepsOneBook n s (orElse (leftBy digest s m) left) ms
+  -- the members of replica `s` open its book first and once, where `opened` says whether one did before these
+  unfoldable pub opensOnce : ℕ → ℕ → Bool → List Member → Bool
+  opensOnce n s opened [] = true
+  opensOnce n s opened (m ∷ ms) =
+      implies (eqb (m .replica) s) (opensInTurn n s opened m) && opensOnce n s (eqb (m .replica) s || opened) ms
 
   -- ---- statements
   -- the statement that a frame makes in the name of `s`, with `s` in front, as bytes

@@ -8,10 +8,10 @@ use Rattle.protocol.specs.Block.{newBlock}
 use Rattle.protocol.specs.Call.{Call, opening, delivery, moving, submitting, sizing, reading, fetching, bookAfter}
 use Rattle.protocol.specs.Computing.{everything}
 use Rattle.agreement.specs.ListTests.{everyIn, someIn, everyHonest, isHonest, statementBytes, opensFor, isAmong}
-use Rattle.agreement.specs.ListTests.{follows, keepsOneBook, signed, signedIn, isBacked, deliversBacked}
+use Rattle.agreement.specs.ListTests.{opensInTurn, opensOnce, signed, signedIn, isBacked, deliversBacked}
 use Rattle.agreement.specs.ListTests.{notForged, shows, showsOnly, noCollision, readsPart, readsAt, hearsAt}
 use Rattle.agreement.specs.ListTests.{writesAt}
-use Rattle.agreement.specs.Lists.{Member, when, blockIn, orElse, statementOf, leftBy}
+use Rattle.agreement.specs.Lists.{Member, when, blockIn, statementOf}
 
 -- a turn: whose call, and the call
 abbrev pub Turn : Type 0
@@ -63,7 +63,7 @@ dishonest = 8
 
 -- one name that opens every definition of these lists and their tests
 unfoldable pub everyTurn : Unit {0}
-unfolding everything everyHonest isHonest keepsOneBook deliversBacked notForged shows showsOnly noCollision someIn
-    everyIn signed signedIn isBacked statementBytes opensFor isAmong follows readsPart readsAt hearsAt writesAt orElse
-    when blockIn statementOf leftBy entry nextBlock move hear openings readings build anything
+unfolding everything everyHonest isHonest opensInTurn opensOnce deliversBacked notForged shows showsOnly noCollision
+    someIn everyIn signed signedIn isBacked statementBytes opensFor isAmong readsPart readsAt hearsAt writesAt when
+    blockIn statementOf entry nextBlock move hear openings readings build anything
 everyTurn = tt

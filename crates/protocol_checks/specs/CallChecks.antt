@@ -9,10 +9,11 @@ use Rattle.protocol.specs.Bytes.{Bytes, zeros, part}
 use Rattle.protocol.specs.Tests.{allOf}
 use Rattle.protocol.specs.Block.{newBlock}
 use Rattle.protocol.specs.Frame.{dummyVote, finalize, blockCertificate, dummyCertificate, finalizeCertificate}
-use Rattle.protocol.specs.Fetch.{fetchCall}
+use Rattle.protocol.specs.State.{decode}
+use Rattle.protocol.specs.Fetch.{everyCertificate, fetchCall}
 use Rattle.protocol.specs.Call.{Call, delivery, moving, signalling, submitting, sizing, reading, fetching}
 use Rattle.protocol_checks.specs.CheckCalls.{standIn, Result, perform, refuses, splice, expect, disagreement}
-use Rattle.protocol_checks.specs.CheckStates.{entry, counting, entriesFrom, stateTools}
+use Rattle.protocol_checks.specs.CheckStates.{entry, counting, entriesFrom, height, vacant, state, stateTools}
 
 -- ---- books, byte by byte
 first : Bytes
@@ -171,6 +172,22 @@ fetched-frames : fetchCall standIn unlinked 6 1 (zeros 224) .frames ++ fetchCall
     dummyCertificate 1 11 ∷ []
 unfolding calls unlinked
 fetched-frames = refl
+
+-- all that Fetch gives, by height, then kind: of that book two at height 1 and the page of height 2; of a height with
+-- all three, page, dummies and finalizes, after the finalizes of the height below
+every-certificate : everyCertificate (decode unlinked) ++
+    everyCertificate (state 4 0 0 1 0 0 [] (height 0 0 0 0 7 0 [] [] [] ∷
+    height 1 2 13 14 11 15 [] (newBlock 2 0 (zeros 32) []) [] ∷ vacant 0 ∷ [])) ≡
+    (6 ∷ 0 ∷ 1 ∷ 0 ∷ 11 ∷ zeros 219) ∷
+    (7 ∷ 0 ∷ 1 ∷ 0 ∷ 14 ∷ zeros 219) ∷
+    (5 ∷ 0 ∷ 2 ∷ 0 ∷ 13 ∷
+    (zeros 43 ++ (2 ∷ 0 ∷ 1 ∷ 0 ∷ 1 ∷ (zeros 11 ++ (replicate 32 3 ++ (entry 4 ++ zeros 112)))))) ∷
+    (7 ∷ 0 ∷ 1 ∷ 0 ∷ 7 ∷ zeros 219) ∷
+    (5 ∷ 0 ∷ 2 ∷ 0 ∷ 13 ∷ (zeros 43 ++ (2 ∷ zeros 175))) ∷
+    (6 ∷ 0 ∷ 2 ∷ 0 ∷ 14 ∷ zeros 219) ∷
+    (7 ∷ 0 ∷ 2 ∷ 0 ∷ 11 ∷ zeros 219) ∷ []
+unfolding calls unlinked
+every-certificate = refl
 
 -- 4 for kinds outside 5 to 7, 6 for heights outside 1 to H, 3 for replies below 224; in this order, and 11 after them
 fetch-refusals : map (λ k. answer unlinked (fetching k 1 (zeros 224))) (counting 0 9) ++

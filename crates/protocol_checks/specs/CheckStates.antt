@@ -2,12 +2,12 @@
 use Prim.Native.Nat.{ℕ, zero, suc, _%_}
 use mathlib.Core.Bool.{Bool, cond}
 use mathlib.Core.List.{List, [], _∷_, _++_}
-use lib.ListN.{length, replicate}
-use Rattle.protocol.specs.Bytes.{Bytes, byteAt}
+use lib.ListN.{replicate}
+use Rattle.protocol.specs.Bytes.{Bytes}
 use Rattle.protocol.specs.State.{State, Height}
 use Rattle.protocol.specs.View.{View}
 use Rattle.protocol.specs.Sound.{view}
-use Rattle.protocol_checks.specs.CheckCalls.{splice, tools}
+use Rattle.protocol_checks.specs.CheckCalls.{tools}
 
 -- ---- bytes
 -- the entry of a number: 15 such bytes behind one of 0 to 3, which goes round
@@ -26,7 +26,10 @@ entriesFrom from (suc count) = entry from ++ entriesFrom (suc from) count
 
 -- the byte at a place is one larger
 unfoldable pub raised : ℕ → Bytes → Bytes
-raised place bytes = splice place (suc (byteAt bytes place) ∷ []) bytes
+raised zero [] = 1 ∷ []
+raised zero (x ∷ xs) = suc x ∷ xs
+raised (suc place) [] = 1 ∷ []
+raised (suc place) (x ∷ xs) = x ∷ raised place xs
 
 -- those of the places where a raised byte leaves a test passed: the bytes that a rule leaves free
 unfoldable pub freePlaces : (Bytes → Bool) → Bytes → List ℕ → List ℕ
@@ -69,6 +72,13 @@ dummied mask = height 0 0 0 mask 0 0 [] [] []
 unfoldable pub notarizedBy7 : Bytes → Height
 notarizedBy7 block = height 0 2 7 0 0 0 [] block []
 
+-- one with a block and a mask of finalizes; one where a proposal is held
+unfoldable pub finalizedBy : ℕ → Bytes → Height
+finalizedBy mask block = height 0 2 7 0 mask 0 [] block []
+
+unfoldable pub holding : Bytes → Height
+holding block = height 0 1 0 0 0 0 block [] []
+
 -- a state with its number of replicas, own number, flags, current and finalized height, pending entries and heights
 unfoldable pub state : (n own flags current finalized pendingCount : ℕ) → Bytes → List Height → State
 state n own flags current finalized pendingCount pool heights = record {
@@ -87,6 +97,14 @@ state n own flags current finalized pendingCount pool heights = record {
 unfoldable pub viewOf : List Height → View
 viewOf heights = view (state 4 0 0 1 0 0 [] heights)
 
+-- four and sixteen replicas with this at height 1, and height 2 the current one
+unfoldable pub ofFour : Height → State
+ofFour x = state 4 0 0 2 0 0 [] (x ∷ [])
+
+unfoldable pub ofSixteen : Height → State
+ofSixteen x = state 16 0 0 2 0 0 [] (x ∷ [])
+
 unfoldable pub stateTools : Unit {0}
-unfolding tools entry counting entriesFrom raised freePlaces passing height vacant dummied notarizedBy7 state viewOf
+unfolding tools entry counting entriesFrom raised freePlaces passing height vacant dummied notarizedBy7 finalizedBy
+    holding state viewOf ofFour ofSixteen
 stateTools = tt

@@ -11,6 +11,8 @@ pub mod SoundChecks
 pub mod ViewChecks
 pub mod OpenChecks
 pub mod DeliverChecks
+pub mod KeepChecks
 pub mod MoveChecks
+pub mod MoveFrameChecks
 pub mod CallChecks
 pub mod EffectChecks

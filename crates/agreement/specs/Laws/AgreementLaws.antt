@@ -24,7 +24,8 @@ use Rattle.agreement.specs.Lists.{Agreement, Begins, Continues, FewDisho
 use Rattle.agreement.specs.Lists.{Member, NoCollision, NotForged, Opens, Reads, Statement, Wrote, finalizes}
 use Rattle.agreement.specs.Lists.{lastLeft, votesBlock, votesDummy}
 use Rattle.agreement.specs.Laws.ReplicaLaws.{good-after}
-use Rattle.agreement.specs.Laws.RunLaws.{BackedBy, Good, GoodBytes, Kept, States, wrote-more}
+use Rattle.agreement.specs.Laws.ListsLaws.{wrote-more}
+use Rattle.agreement.specs.Laws.RunLaws.{BackedBy, Good, GoodBytes, Kept, States}
 
 -- what is granted of more books and names is granted of fewer
 pub unforged-fewer : (digest : Bytes → Bytes) {books names books′ names′ : ℕ → Type 0} (l : List Member) →

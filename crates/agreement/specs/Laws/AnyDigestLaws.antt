@@ -6,7 +6,7 @@ use mathlib.Core.Path.{_≡_, refl, sym, ap, _∙_}
 use mathlib.Core.Logic.{_≢_}
 use mathlib.Core.Bool.{Bool, true, false, cond, _&&_}
 use mathlib.Core.List.{List, [], _∷_, _++_}
-use mathlib.Core.Option.{some, none}
+use mathlib.Core.Option.{some}
 use lib.ListN.{length, take}
 use lib.Seq.{take-append-seam}
 use Rattle.protocol.specs.Bytes.{Bytes, byteAt, same, zeros}
@@ -14,15 +14,15 @@ use Rattle.protocol.specs.Frame.{blockVote, dummyCertificate, dummyVote, finali
 use Rattle.protocol.specs.Laws.RowLaws.{eq-same, row}
 use Rattle.protocol.specs.Tests.{allOf}
 use Rattle.agreement.specs.AnyDigest.{AnyDigest, agreed, list, oneDigest, otherDigest, split, timeouts}
-use Rattle.agreement.specs.ListTests.{everyHonest, hearsAt, keepsOneBook, notForged, readsAt, showsOnly, someIn}
+use Rattle.agreement.specs.ListTests.{everyHonest, hearsAt, opensOnce, notForged, readsAt, showsOnly, someIn}
 use Rattle.agreement.specs.ListTests.{writesAt}
-use Rattle.agreement.specs.Laws.ListTestsLaws.{every-honest, forged-sound, hears-found, keeps-sound}
-use Rattle.agreement.specs.Laws.ListTestsLaws.{one-block-sound, reads-found, writes-found}
+use Rattle.agreement.specs.Laws.ListTestsLaws.{hears-found, one-block-sound, reads-found, writes-found}
+use Rattle.agreement.specs.Laws.NotForgedLaws.{forged-sound}
 use Rattle.agreement.specs.Lists.{Member, Statement, finalizes, statementOf, votesBlock, votesDummy}
 use Rattle.agreement.specs.Met.{Met}
 use Rattle.agreement.specs.Laws.MetLaws.{OneBegins, applied}
 use Rattle.agreement.specs.Turns.{dishonest, entry, everyTurn, nextBlock}
-use Rattle.agreement.specs.Laws.TurnsLaws.{entry-not-empty, few, honest-0, honest-1}
+use Rattle.agreement.specs.Laws.TurnsLaws.{entry-not-empty, few, honest-0, honest-1, keeps}
 
 -- the digests differ in their first byte
 two-digests : oneDigest ≢ otherDigest
@@ -30,23 +30,42 @@ unfolding oneDigest otherDigest
 two-digests e = let z : _≡_ {A = ℕ} 1 2 = ap (λ (d : Bytes). byteAt d 0) e in omega arith
 
 module _ (digest : Bytes → Bytes) where
-  -- all that computes without the digest, in one test
-  tests : List Member → Bool
-  tests l = allOf
-      (everyHonest dishonest (λ s. keepsOneBook digest 4 s none l) 4 ∷
-      showsOnly digest 4 dishonest (nextBlock ∷ []) l ∷
-      someIn (readsAt digest entry 0) l ∷
-      someIn (readsAt digest entry 1) l ∷
-      someIn (hearsAt digest (blockVote 3 1 oneDigest) 0) l ∷
-      someIn (hearsAt digest (blockVote 3 1 otherDigest) 1) l ∷
-      someIn (hearsAt digest (dummyVote 3 1) 0) l ∷
-      someIn (hearsAt digest (finalize 3 1) 1) l ∷
-      someIn (writesAt digest (dummyCertificate 1 11) 0) l ∷
-      someIn (writesAt digest (dummyCertificate 1 11) 1) l ∷ [])
+  -- ---- the tests
+  -- what the tests come to, in one, so that each call is computed once: all that needs nothing of the digest, and
+  -- whether nothing is forged
+  tests : List Member → Bool × Bool
+  tests l = (
+    allOf
+        (everyHonest dishonest (λ s. opensOnce digest 4 s false l) 4 ∷
+        showsOnly digest 4 dishonest (nextBlock ∷ []) l ∷
+        someIn (readsAt digest entry 0) l ∷
+        someIn (readsAt digest entry 1) l ∷
+        someIn (hearsAt digest (blockVote 3 1 oneDigest) 0) l ∷
+        someIn (hearsAt digest (blockVote 3 1 otherDigest) 1) l ∷
+        someIn (hearsAt digest (dummyVote 3 1) 0) l ∷
+        someIn (hearsAt digest (finalize 3 1) 1) l ∷
+        someIn (writesAt digest (dummyCertificate 1 11) 0) l ∷
+        someIn (writesAt digest (dummyCertificate 1 11) 1) l ∷ []),
+    notForged digest 4 dishonest [] l,
+  )
 
-  tested : tests (list digest) ≡ true
+  -- the digest in a vote for the block is the block's
+  abbrev ownVote : Bool
+  ownVote = same (digest nextBlock) (take 32 (digest nextBlock ++ zeros 176))
+
+  -- the certificate is delivered three times, each time in the names of replicas 0 and 1
+  abbrev backed : Bool → Bool
+  backed b =
+      let name : Bool = cond b true false && true in
+      let certificate : Bool = (((name && name) && true) && true) && true in
+      certificate && (certificate && (certificate && true))
+
+  comes-to : tests (list digest) ≡ (true, backed ownVote)
   unfolding everyTurn tests list oneDigest otherDigest split timeouts agreed
-  tested = refl
+  comes-to = refl
+
+  tested : tests (list digest) .0 ≡ true
+  tested = ap (λ (r : Bool × Bool). r .0) comes-to
 
   -- what replica 3 states in the four frames
   abbrev States3 : Bytes → Statement → Type 0
@@ -58,22 +77,6 @@ module _ (digest : Bytes → Bytes) where
   unfolding everyTurn oneDigest otherDigest
   says = (refl, refl, refl, refl)
 
-  -- ---- nothing is forged
-  -- the digest in a vote for the block is the block's
-  abbrev ownVote : Bool
-  ownVote = same (digest nextBlock) (take 32 (digest nextBlock ++ zeros 176))
-
-  -- what the test comes to: the certificate is delivered three times, each time in the names of replicas 0 and 1
-  abbrev backed : Bool → Bool
-  backed b =
-      let name : Bool = cond b true false && true in
-      let certificate : Bool = (((name && name) && true) && true) && true in
-      certificate && (certificate && (certificate && true))
-
-  comes-to : notForged digest 4 dishonest [] (list digest) ≡ backed ownVote
-  unfolding everyTurn list oneDigest otherDigest split timeouts agreed
-  comes-to = refl
-
   module _ (size : length (digest nextBlock) ≡ 32) where
     own-vote : ownVote ≡ true
     own-vote =
@@ -81,13 +84,14 @@ module _ (digest : Bytes → Bytes) where
         eq-same _ _ (sym front ∙ ap (λ (k : ℕ). take k (digest nextBlock ++ zeros 176)) size)
 
     unforged : notForged digest 4 dishonest [] (list digest) ≡ true
-    unforged = comes-to ∙ ap backed own-vote
+    unfolding tests
+    unforged = ap (λ (r : Bool × Bool). r .1) comes-to ∙ ap backed own-vote
 
     met : Met digest 4 dishonest (list digest) entry
-    unfolding tests
+    unfolding tests list
     met = record {
       few = few;
-      keeps = λ s h. keeps-sound digest 4 s (list digest) (every-honest dishonest _ 4 (row _ 0 tested) s h);
+      keeps = keeps digest _ (row _ 0 tested);
       unforged = forged-sound digest 4 dishonest (list digest) unforged;
       collisionless = one-block-sound digest 4 dishonest nextBlock (list digest) (row _ 1 tested);
       honest-0 = honest-0;

@@ -18,7 +18,9 @@ use Rattle.agreement.specs.Laws.BackingLaws.{Backed}
 use Rattle.agreement.specs.Lists.{Member, Statement, Wrote, statementOf, writes}
 use Rattle.agreement.specs.Laws.MovingLaws.{blockCertificate-says, dummyCertificate-says}
 use Rattle.agreement.specs.Laws.MovingLaws.{finalizeCertificate-says}
-use Rattle.agreement.specs.Laws.RunLaws.{Good, Seen, States, backed-more, unchanged, wrote-last}
+use Rattle.agreement.specs.Laws.CallingLaws.{backed-more, unchanged}
+use Rattle.agreement.specs.Laws.ListsLaws.{wrote-last}
+use Rattle.agreement.specs.Laws.RunLaws.{Good, Seen, States}
 use Rattle.agreement.specs.Laws.StatementsLaws.{stated-nothing}
 
 module _ (digest : Bytes → Bytes) (n : ℕ) (books names : ℕ → Type 0) (P : List Member) (m : Member) (s : ℕ)

@@ -26,8 +26,8 @@ use Rattle.protocol.specs.Tests.{firstRefusal}
 use Rattle.agreement.specs.Laws.BackingLaws.{Backed}
 use Rattle.agreement.specs.Laws.GrantsLaws.{grants}
 use Rattle.agreement.specs.Lists.{Member, Statement, Wrote, writes}
-use Rattle.agreement.specs.Laws.RunLaws.{Good, States, backed-more, encoded, nothing-new, quiet, unchanged}
-use Rattle.agreement.specs.Laws.RunLaws.{unless-refused-good}
+use Rattle.agreement.specs.Laws.CallingLaws.{backed-more, nothing-new, quiet, unchanged, unless-refused-good}
+use Rattle.agreement.specs.Laws.RunLaws.{Good, States, encoded}
 
 -- ---- one more pending entry
 module _ (digest : Bytes → Bytes) (n : ℕ) (books names : ℕ → Type 0) (P : List Member) (m : Member) where

@@ -17,8 +17,10 @@ use Rattle.agreement.specs.Lists.{Continues, Follows, KeepsOneBook, Memb
 use Rattle.agreement.specs.Lists.{lastLeft, leftBy, orElse}
 use Rattle.agreement.specs.Laws.FetchingLaws.{fetch-good}
 use Rattle.agreement.specs.Laws.OpeningLaws.{opening-good, submit-good}
-use Rattle.agreement.specs.Laws.RunLaws.{Good, GoodBytes, delivery-good, last-left-snoc, move-good, nothing-new}
-use Rattle.agreement.specs.Laws.RunLaws.{reopening-good, signal-good, unchanged}
+use Rattle.agreement.specs.Laws.CallingLaws.{delivery-good, move-good, nothing-new, reopening-good, signal-good}
+use Rattle.agreement.specs.Laws.CallingLaws.{unchanged}
+use Rattle.agreement.specs.Laws.ListsLaws.{last-left-snoc}
+use Rattle.agreement.specs.Laws.RunLaws.{Good, GoodBytes}
 
 module _ (digest : Bytes → Bytes) (n : ℕ) (books names : ℕ → Type 0) (l : List Member)
     (unforged : NotForged digest books names l) where

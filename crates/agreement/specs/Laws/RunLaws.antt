@@ -1,78 +1,30 @@
--- The book of an honest replica, along a list of calls.
-use Prim.Native.Nat.{ℕ, suc, _+_, _-_, _<_}
+-- The book of an honest replica along a list of calls: what is backed in it, and what the frames delivered to it leave.
+use Prim.Native.Nat.{ℕ, suc, _-_, _<_}
 use native.Mathlib.Omega.{arith}
-use mathlib.Core.Path.{_≡_, refl, sym, subst, _∙_}
-use mathlib.Core.Logic.{_⊎_, inl, inr}
-use mathlib.Core.Bool.{Bool, true, false, cond, true≢false}
-use mathlib.Core.List.{List, [], _∷_, _++_, List·Memᴰ, List·Memᴰ·head, List·Memᴰ·eq-of-singleton}
-use mathlib.Core.List.{List·Memᴰ·append-cases, List·Memᴰ·not-nil, Memᴰ·append-left, Memᴰ·append-right}
+use mathlib.Core.Path.{_≡_, refl, sym, subst}
+use mathlib.Core.Bool.{Bool, true, false}
+use mathlib.Core.List.{List, [], _∷_, List·Memᴰ, Memᴰ·append-left}
 use mathlib.Core.Option.{Option, some, none}
 use lib.ListN.{length, getD, set}
 use lib.Seq.{getD-set-same, getD-set-other}
 use lib.Dec.{eqb}
-use borrow.Author.Tests.{eqb-true, eqb-false, not-true}
+use borrow.Author.Tests.{eqb-true, eqb-false}
 use Rattle.protocol.specs.SoundState.{ShapedHeight, Shaped}
-use Rattle.protocol.specs.Answer.{Delivery, Done, Outcome, accepted, done, isAccepted, unlessRefused}
+use Rattle.protocol.specs.Answer.{Delivery, Outcome, isAccepted}
 use Rattle.protocol.specs.Bytes.{Bytes}
 use Rattle.protocol.specs.Deliver.{deliverAll, deliverCall, keep}
 use Rattle.protocol.specs.Laws.EveryLaws.{every-set, every-at}
-use Rattle.protocol.specs.Laws.FlagLaws.{flag-set, flag-kept}
 use Rattle.protocol.specs.Frame.{frameHeight}
 use Rattle.protocol.specs.Laws.DeliverLaws.{Accepts, deliver-cases}
-use Rattle.protocol.specs.Laws.MoveLaws.{step-body}
-use Rattle.protocol.specs.Move.{Step, moveCall, moveRows, moved, step, unlessMoveRefused}
-use Rattle.protocol.specs.Open.{newState, openCall, openRows}
-use Rattle.protocol.specs.Laws.RowLaws.{row-passes}
-use Rattle.protocol.specs.Signal.{signalCall, signalRows}
-use Rattle.protocol.specs.Sound.{sound}
-use Rattle.protocol.specs.State.{Height, State, at, decode, encode, flag, last, noHeight, withHead, withHeight}
-use Rattle.protocol.specs.State.{withTimerFired}
+use Rattle.protocol.specs.State.{Height, State, at, decode, encode, flag, last, noHeight, withHeight}
 use Rattle.protocol.specs.Laws.StateLaws.{decode-encode}
-use Rattle.protocol.specs.Tests.{firstRefusal}
-use Rattle.protocol.specs.Laws.TestsLaws.{and-both}
-use Rattle.agreement.specs.Laws.BackingLaws.{Backed, later}
+use Rattle.agreement.specs.Laws.BackingLaws.{Backed}
 use Rattle.agreement.specs.Laws.GrantsLaws.{grants}
 use Rattle.agreement.specs.Laws.KeepingLaws.{keep-good}
-use Rattle.agreement.specs.Lists.{Member, Shows, Statement, Wrote, blockIn, delivers, lastLeft, leftBy, orElse}
-use Rattle.agreement.specs.Lists.{statementOf, writes}
-use Rattle.agreement.specs.Laws.MovingLaws.{step-good}
-use Rattle.agreement.specs.Laws.StatementsLaws.{Consistent, stated-nothing}
-
--- ---- lists
-pub or-else-assoc : {A : Type 0} (x y z : Option A) → orElse (orElse x y) z ≡ orElse x (orElse y z)
-unfolding orElse
-or-else-assoc (some a) y z = refl
-or-else-assoc none y z = refl
-
-pub or-else-none : {A : Type 0} (x : Option A) → x ≡ orElse x none
-unfolding orElse
-or-else-none (some a) = refl
-or-else-none none = refl
-
-pub last-left-snoc : (digest : Bytes → Bytes) (s : ℕ) (P : List Member) (m : Member) →
-    lastLeft digest s (P ++ (m ∷ [])) ≡ orElse (leftBy digest s m) (lastLeft digest s P)
-unfolding lastLeft orElse
-last-left-snoc digest s [] m = or-else-none (leftBy digest s m)
-last-left-snoc digest s (q ∷ P) m =
-    rw (last-left-snoc digest s P m) (or-else-assoc (leftBy digest s m) (lastLeft digest s P) (leftBy digest s q))
+use Rattle.agreement.specs.Lists.{Member, Shows, Statement, Wrote, blockIn, delivers, statementOf, writes}
+use Rattle.agreement.specs.Laws.StatementsLaws.{Consistent}
 
 module _ (digest : Bytes → Bytes) where
-  pub wrote-more : (s : ℕ) (st : Statement) (P Q : List Member) → Wrote digest s st P → Wrote digest s st (P ++ Q)
-  unfolding Wrote
-  wrote-more s st P Q w = (w .0, w .1, Memᴰ·append-left Q (w .2), w .3, w .4, w .5)
-
-  pub wrote-last : (s : ℕ) (st : Statement) (P : List Member) (m : Member) → Wrote digest s st (P ++ (m ∷ [])) →
-      Wrote digest s st P ⊎ ((m .replica ≡ s) × (f : Bytes) × List·Memᴰ f
-      (writes digest m) × (statementOf digest f s ≡ some st))
-  unfolding Wrote
-  wrote-last s st P m w = go (List·Memᴰ·append-cases P (w .2))
-    where
-      go : List·Memᴰ (w .0) P ⊎ List·Memᴰ (w .0) (m ∷ []) →
-          Wrote digest s st P ⊎ ((m .replica ≡ s) × (f : Bytes) × List·Memᴰ f
-          (writes digest m) × (statementOf digest f s ≡ some st))
-      go (inl i) = inl (w .0, w .1, i, w .3, w .4, w .5)
-      go (inr i) = let e = List·Memᴰ·eq-of-singleton i in inr (rw e at (w .3), w .1, rw e at (w .4), w .5)
-
   -- `books`: whose books are meant; `names`: whose statements. An honest replica is among both
   module _ (n : ℕ) (books names : ℕ → Type 0) where
     -- what the named have stated, and the blocks that were delivered to those books or written from them
@@ -204,146 +156,3 @@ module _ (digest : Bytes → Bytes) where
       frames-good s book [] said g all = g
       frames-good s book (f ∷ fs) said g (d, all) =
           frames-good s (deliverCall digest book f .book) fs said (frame-good s book f g d (said f)) all
-
-    module _ (P : List Member) (m : Member) where
-      abbrev pub P′ : List Member
-      P′ = P ++ (m ∷ [])
-
-      pub states-more : (t : ℕ) (st : Statement) → States P t st → States P′ t st
-      states-more t st w h = wrote-more t st P (m ∷ []) (w h)
-
-      pub seen-more : (p : Bytes) → Seen P p → Seen P′ p
-      seen-more p w = (w .0, Memᴰ·append-left (m ∷ []) (w .1), w .2, w .3)
-
-      pub backed-more : {h : ℕ} {x : Height} → BackedBy P h x → BackedBy P′ h x
-      backed-more k = later digest states-more seen-more k
-
-      -- a call that writes nothing
-      pub nothing-new : (s : ℕ) → (m .replica ≡ s → writes digest m ≡ []) → (st : Statement) → Wrote digest s st P′ →
-          Wrote digest s st P
-      nothing-new s e st w = go (wrote-last s st P m w)
-        where
-          go : Wrote digest s st P ⊎ ((m .replica ≡ s) × (f : Bytes) × List·Memᴰ f
-              (writes digest m) × (statementOf digest f s ≡ some st)) →
-              Wrote digest s st P
-          go (inl v) = v
-          go (inr v) = absurd (List·Memᴰ·not-nil (rw (e (v .0)) at (v .2)))
-
-      -- and changes flags only upwards
-      pub quiet : (s : ℕ) (b b′ : State) → Good P s b → (m .replica ≡ s → writes digest m ≡ []) → b′ .n ≡ b .n →
-          b′ .current ≡ b .current →
-          (flag 1 b ≡ true → flag 1 b′ ≡ true) → (flag 4 b ≡ true → flag 4 b′ ≡ true) → Shaped b′ →
-          ((i : ℕ) → BackedBy P′ (suc i) (getD (b′ .heights) i noHeight)) → Good P′ s b′
-      quiet s b b′ g e en ec e1 e4 sh k = record {
-        same-n = en ∙ g .same-n;
-        kept = record { shaped = sh; backed = k };
-        consistent = subst (λ (c : ℕ). Consistent (States P′ s) c (flag 1 b′) (flag 4 b′)) (sym ec)
-            (stated-nothing (g .consistent) (λ st w. inl (λ h. nothing-new s e st (w h))) e1 e4);
-      }
-
-      pub unchanged : (s : ℕ) (b : State) → Good P s b → (m .replica ≡ s → writes digest m ≡ []) → Good P′ s b
-      unchanged s b g e =
-          quiet s b b g e refl refl (λ q. q) (λ q. q) (g .kept .shaped) (λ i. backed-more (g .kept .backed i))
-
-      -- ---- a delivery
-      pub delivery-good : (s : ℕ) (book f : Bytes) → Good P s (decode book) → writes digest m ≡ [] →
-          books (m .replica) →
-          delivers digest m ≡ cond (isAccepted (deliverCall digest book f .answer)) (f ∷ []) [] →
-          (List·Memᴰ f (delivers digest m) → (t : ℕ) (st : Statement) → statementOf digest f t ≡ some st →
-          States P t st) →
-          Good P′ s (decode (deliverCall digest book f .book))
-      delivery-good s book f g silent ours e said =
-          frame-good P′ m (Memᴰ·append-right P (List·Memᴰ·head refl)) ours s book f
-          (unchanged s (decode book) g (λ z. silent)) (λ ok. rw (e, ok) (List·Memᴰ·head refl))
-          (λ d t st q. states-more t st (said d t st q))
-
-      -- ---- a call that changes the book unless it is refused
-      pub unless-refused-good : {A : Type 0} (s : ℕ) (o : Option ℕ) (book : Bytes) (outcome : Outcome A) →
-          Good P′ s (decode book) →
-          (o ≡ none → Good P′ s (decode (outcome .book))) → Good P′ s (decode (unlessRefused o book outcome .book))
-      unfolding unlessRefused
-      unless-refused-good s none book outcome g g′ = g′ refl
-      unless-refused-good s (some number) book outcome g g′ = g
-
-      pub reopening-good : (s : ℕ) (book : Bytes) (n′ own heights : ℕ) (leaders : Bytes) → Good P s (decode book) →
-          writes digest m ≡ [] →
-          isAccepted (openCall book n′ own heights leaders .answer) ≡ false → Good P′ s
-          (decode (openCall book n′ own heights leaders .book))
-      unfolding openCall unlessRefused isAccepted
-      reopening-good s book n′ own heights leaders g silent no-way =
-          go (firstRefusal (openRows book n′ own heights leaders)) no-way
-        where
-          opened : Outcome Done
-          opened = record { answer = accepted done; book = encode (newState n′ own leaders) }
-
-          go : (o : Option ℕ) → isAccepted (unlessRefused o book opened .answer) ≡ false →
-              Good P′ s (decode (unlessRefused o book opened .book))
-          go none e = absurd (true≢false e)
-          go (some number) e = unchanged s (decode book) g (λ q. silent)
-
-      pub signal-good : (s : ℕ) (book : Bytes) (h : ℕ) → Good P s (decode book) → writes digest m ≡ [] →
-          Good P′ s (decode (signalCall digest book h .book))
-      unfolding signalCall signalRows withTimerFired withHead
-      signal-good s book h g silent =
-          unless-refused-good s (firstRefusal (signalRows digest book h)) book _ (unchanged s b g (λ q. silent))
-          (λ e. encoded P′ s _ (fired e))
-        where
-          b : State
-          b = decode book
-
-          fired : firstRefusal (signalRows digest book h) ≡ none →
-              Good P′ s (withHead b (b .flags + 1) (b .current) (b .finalized))
-          fired e =
-              let r1 = row-passes _ _ e in
-              let r2 = row-passes _ _ (r1 .1) in
-              let r3 = row-passes _ _ (r2 .1) in
-              let off = not-true (flag 1 b) (and-both (eqb h (b .current)) _ (r3 .0) .1) in
-              quiet s b (withHead b (b .flags + 1) (b .current) (b .finalized)) g (λ q. silent) refl refl
-              (λ q. flag-set b (b .current) (b .finalized) 0 off)
-              (λ q. flag-kept b (b .current) (b .finalized) 0 off 2 (omega arith) ∙ q)
-              (record { pool-size = g .kept .shaped .pool-size; heights = g .kept .shaped .heights })
-              (λ i. backed-more (g .kept .backed i))
-
-      -- ---- a move
-      pub step-keeps : (s : ℕ) (book : Bytes) → names s → Good P s (decode book) → sound digest book ≡ true →
-          writes digest m ≡ step digest (decode book) .frames →
-          Good P′ s (step digest (decode book) .after)
-      step-keeps s book hs g ok e =
-          let body = step-body digest b in
-          record {
-            same-n = body .same-n ∙ g .same-n;
-            kept = record {
-              shaped = record {
-                pool-size = rw (body .same-pool) (g .kept .shaped .pool-size);
-                heights = rw (body .same-heights) (g .kept .shaped .heights);
-              };
-              backed = λ i. rw (body .same-heights) (backed-more (g .kept .backed i));
-            };
-            consistent = step-good digest (States P) (States P′ s) (Seen P) s b (g .kept .backed) (g .consistent)
-                (grants digest book ok .positive) (λ t w. go t (wrote-last s t P m (w hs)));
-          }
-        where
-          b : State
-          b = decode book
-
-          go : (t : Statement) →
-              Wrote digest s t P ⊎ ((m .replica ≡ s) × (f : Bytes) × List·Memᴰ f
-              (writes digest m) × (statementOf digest f s ≡ some t)) →
-              States P s t ⊎ ((f : Bytes) × List·Memᴰ f (step digest b .frames) × (statementOf digest f s ≡ some t))
-          go t (inl v) = inl (λ q. v)
-          go t (inr v) = inr (v .1, rw e at (v .2), v .3)
-
-      pub move-good : (s : ℕ) (book reply : Bytes) → names s → Good P s (decode book) →
-          writes digest m ≡ moveCall digest book reply .frames →
-          Good P′ s (decode (moveCall digest book reply .book))
-      unfolding moveCall unlessMoveRefused moved moveRows
-      move-good s book reply hs g = go (firstRefusal (moveRows digest book reply)) refl
-        where
-          st : Step
-          st = step digest (decode book)
-
-          go : (o : Option ℕ) → firstRefusal (moveRows digest book reply) ≡ o →
-              writes digest m ≡ unlessMoveRefused o book reply st .frames →
-              Good P′ s (decode (unlessMoveRefused o book reply st .book))
-          go none p e = encoded P′ s (st .after) (step-keeps s book hs g (row-passes _ _ p .0) e)
-          go (some number) p e = unchanged s (decode book) g (λ z. e)

@@ -1,14 +1,22 @@
--- What the lists have in common: one of four is dishonest, and the entry that is read is not empty.
-use Prim.Native.Nat.{ℕ}
+-- What the lists have in common: one of four is dishonest, the honest ones have books and keep them, and the entry that
+-- is read is not empty.
+use Prim.Native.Nat.{ℕ, suc, _<_}
 use native.Mathlib.Omega.{arith}
 use mathlib.Core.Path.{_≡_, refl}
 use mathlib.Core.Logic.{_≢_}
-use mathlib.Core.List.{[]}
+use mathlib.Core.Bool.{true, false}
+use mathlib.Core.List.{List, []}
+use lib.ListN.{length}
+use lib.Dec.{ltb}
+use borrow.Author.Tests.{leb-true}
+use Rattle.protocol.specs.Bytes.{Bytes}
 use Rattle.protocol.specs.Mask.{inMask, ones}
-use Rattle.agreement.specs.ListTests.{isHonest}
-use Rattle.agreement.specs.Laws.ListTestsLaws.{honest-in}
-use Rattle.agreement.specs.Lists.{FewDishonest, HonestIn}
-use Rattle.agreement.specs.Turns.{dishonest, entry}
+use Rattle.protocol.specs.Tests.{implies}
+use Rattle.agreement.specs.ListTests.{everyHonest, isHonest, opensOnce}
+use Rattle.agreement.specs.Laws.ListTestsLaws.{every-honest, honest-in}
+use Rattle.agreement.specs.Laws.OneBookLaws.{keeps-one-book}
+use Rattle.agreement.specs.Lists.{FewDishonest, HonestIn, KeepsOneBook}
+use Rattle.agreement.specs.Turns.{Turn, anything, build, dishonest, entry}
 
 pub few : FewDishonest 4 dishonest
 unfolding ones
@@ -21,6 +29,17 @@ honest-0 = honest-in 4 dishonest 0 refl
 pub honest-1 : HonestIn 4 dishonest 1
 unfolding isHonest inMask
 honest-1 = honest-in 4 dishonest 1 refl
+
+has-book : (s : ℕ) → HonestIn 4 dishonest s → s < length anything
+unfolding everyHonest implies inMask anything
+has-book s h =
+    leb-true (suc s) (length anything) (every-honest dishonest (λ (t : ℕ). ltb t (length anything)) 4 refl s h)
+
+pub keeps : (digest : Bytes → Bytes) (turns : List Turn) →
+    everyHonest dishonest (λ s. opensOnce digest 4 s false (build digest anything turns)) 4 ≡ true →
+    (s : ℕ) → HonestIn 4 dishonest s → KeepsOneBook digest 4 (build digest anything turns) s
+keeps digest turns test s h = keeps-one-book digest 4 s anything (has-book s h) turns
+    (every-honest dishonest (λ (t : ℕ). opensOnce digest 4 t false (build digest anything turns)) 4 test s h)
 
 pub entry-not-empty : entry ≢ []
 unfolding entry

@@ -3,23 +3,23 @@ use Prim.Native.Nat.{ℕ}
 use native.Mathlib.Omega.{arith}
 use mathlib.Core.Path.{_≡_, refl, ap}
 use mathlib.Core.Logic.{_≢_}
-use mathlib.Core.Bool.{Bool, true}
+use mathlib.Core.Bool.{Bool, true, false}
 use mathlib.Core.List.{List, [], _∷_}
-use mathlib.Core.Option.{some, none}
+use mathlib.Core.Option.{some}
 use Rattle.protocol.specs.Block.{newBlock}
 use Rattle.protocol.specs.Bytes.{Bytes, byteAt, join, le16, word16, zeros}
 use Rattle.protocol.specs.Frame.{dummyCertificate, frameBlock, frameHeight, frameOf, kind, proposal, signer}
 use Rattle.protocol.specs.Laws.RowLaws.{row}
 use Rattle.protocol.specs.Tests.{allOf}
-use Rattle.agreement.specs.ListTests.{everyHonest, hearsAt, keepsOneBook, noCollision, notForged, readsAt}
-use Rattle.agreement.specs.ListTests.{showsOnly, someIn, writesAt}
-use Rattle.agreement.specs.Laws.ListTestsLaws.{collision-sound, every-honest, forged-sound, hears-found}
-use Rattle.agreement.specs.Laws.ListTestsLaws.{keeps-sound, reads-found, writes-found}
+use Rattle.agreement.specs.ListTests.{everyHonest, hearsAt, opensOnce, noCollision, notForged, readsAt, showsOnly}
+use Rattle.agreement.specs.ListTests.{someIn, writesAt}
+use Rattle.agreement.specs.Laws.ListTestsLaws.{collision-sound, hears-found, reads-found, writes-found}
+use Rattle.agreement.specs.Laws.NotForgedLaws.{forged-sound}
 use Rattle.agreement.specs.Lists.{Member, proposes, statementOf, when}
 use Rattle.agreement.specs.Met.{Met}
 use Rattle.agreement.specs.Laws.MetLaws.{OneBegins, applied}
 use Rattle.agreement.specs.Turns.{dishonest, entry, everyTurn, nextBlock}
-use Rattle.agreement.specs.Laws.TurnsLaws.{entry-not-empty, few, honest-0, honest-1}
+use Rattle.agreement.specs.Laws.TurnsLaws.{entry-not-empty, few, honest-0, honest-1, keeps}
 use Rattle.agreement.specs.Witness.{Witness, agreed, list, oneBlock, otherBlock, sample, split, timeouts}
 
 abbrev blocks : List Bytes
@@ -28,7 +28,7 @@ blocks = oneBlock ∷ otherBlock ∷ nextBlock ∷ []
 -- all that is to be computed, in one test
 tests : List Member → Bool
 tests l = allOf
-    (everyHonest dishonest (λ s. keepsOneBook sample 4 s none l) 4 ∷
+    (everyHonest dishonest (λ s. opensOnce sample 4 s false l) 4 ∷
     notForged sample 4 dishonest [] l ∷
     showsOnly sample 4 dishonest blocks l ∷
     noCollision sample blocks ∷
@@ -54,10 +54,10 @@ unfolding oneBlock otherBlock newBlock le16 zeros join
 two-blocks e = let z : _≡_ {A = ℕ} 1 2 = ap (λ (b : Bytes). byteAt b 48) e in omega arith
 
 met : Met sample 4 dishonest list entry
-unfolding tests
+unfolding tests list
 met = record {
   few = few;
-  keeps = λ s h. keeps-sound sample 4 s list (every-honest dishonest _ 4 (row _ 0 tested) s h);
+  keeps = keeps sample _ (row _ 0 tested);
   unforged = forged-sound sample 4 dishonest list (row _ 1 tested);
   collisionless = collision-sound sample 4 dishonest blocks list (row _ 2 tested) (row _ 3 tested);
   honest-0 = honest-0;

@@ -1,0 +1,188 @@
+-- One call more in the list: what a delivery, a refused opening, a signal and a move leave of a good book.
+use Prim.Native.Nat.{ℕ, suc, _+_}
+use native.Mathlib.Omega.{arith}
+use mathlib.Core.Path.{_≡_, refl, sym, subst, _∙_}
+use mathlib.Core.Logic.{_⊎_, inl, inr}
+use mathlib.Core.Bool.{true, false, cond, true≢false}
+use mathlib.Core.List.{List, [], _∷_, _++_, List·Memᴰ, List·Memᴰ·head, List·Memᴰ·not-nil, Memᴰ·append-left}
+use mathlib.Core.List.{Memᴰ·append-right}
+use mathlib.Core.Option.{Option, some, none}
+use lib.ListN.{getD}
+use lib.Dec.{eqb}
+use borrow.Author.Tests.{not-true}
+use Rattle.protocol.specs.SoundState.{Shaped}
+use Rattle.protocol.specs.Answer.{Done, Outcome, accepted, done, isAccepted, unlessRefused}
+use Rattle.protocol.specs.Bytes.{Bytes}
+use Rattle.protocol.specs.Deliver.{deliverCall}
+use Rattle.protocol.specs.Laws.FlagLaws.{flag-set, flag-kept}
+use Rattle.protocol.specs.Laws.MoveLaws.{step-body}
+use Rattle.protocol.specs.Move.{Step, moveCall, moveRows, moved, step, unlessMoveRefused}
+use Rattle.protocol.specs.Open.{newState, openCall, openRows}
+use Rattle.protocol.specs.Laws.RowLaws.{row-passes}
+use Rattle.protocol.specs.Signal.{signalCall, signalRows}
+use Rattle.protocol.specs.Sound.{sound}
+use Rattle.protocol.specs.State.{Height, State, decode, encode, flag, noHeight, withHead, withTimerFired}
+use Rattle.protocol.specs.Tests.{firstRefusal}
+use Rattle.protocol.specs.Laws.TestsLaws.{and-both}
+use Rattle.agreement.specs.Laws.BackingLaws.{later}
+use Rattle.agreement.specs.Laws.GrantsLaws.{grants}
+use Rattle.agreement.specs.Lists.{Member, Statement, Wrote, delivers, statementOf, writes}
+use Rattle.agreement.specs.Laws.MovingLaws.{step-good}
+use Rattle.agreement.specs.Laws.StatementsLaws.{Consistent, stated-nothing}
+use Rattle.agreement.specs.Laws.RunLaws.{BackedBy, Good, Seen, States, encoded, frame-good}
+use Rattle.agreement.specs.Laws.ListsLaws.{wrote-last, wrote-more}
+
+module _ (digest : Bytes → Bytes) (n : ℕ) (books names : ℕ → Type 0) (P : List Member) (m : Member) where
+  abbrev StatesIn : List Member → ℕ → Statement → Type 0
+  StatesIn Q = States digest n books names Q
+
+  abbrev SeenIn : List Member → Bytes → Type 0
+  SeenIn Q = Seen digest n books names Q
+
+  abbrev BackedIn : List Member → ℕ → Height → Type 0
+  BackedIn Q = BackedBy digest n books names Q
+
+  abbrev GoodIn : List Member → ℕ → State → Type 0
+  GoodIn Q = Good digest n books names Q
+
+  abbrev pub P′ : List Member
+  P′ = P ++ (m ∷ [])
+
+  pub states-more : (t : ℕ) (st : Statement) → StatesIn P t st → StatesIn P′ t st
+  states-more t st w h = wrote-more digest t st P (m ∷ []) (w h)
+
+  pub seen-more : (p : Bytes) → SeenIn P p → SeenIn P′ p
+  seen-more p w = (w .0, Memᴰ·append-left (m ∷ []) (w .1), w .2, w .3)
+
+  pub backed-more : {h : ℕ} {x : Height} → BackedIn P h x → BackedIn P′ h x
+  backed-more k = later digest states-more seen-more k
+
+  -- a call that writes nothing
+  pub nothing-new : (s : ℕ) → (m .replica ≡ s → writes digest m ≡ []) → (st : Statement) → Wrote digest s st P′ →
+      Wrote digest s st P
+  nothing-new s e st w = go (wrote-last digest s st P m w)
+    where
+      go : Wrote digest s st P ⊎ ((m .replica ≡ s) × (f : Bytes) × List·Memᴰ f
+          (writes digest m) × (statementOf digest f s ≡ some st)) →
+          Wrote digest s st P
+      go (inl v) = v
+      go (inr v) = absurd (List·Memᴰ·not-nil (rw (e (v .0)) at (v .2)))
+
+  -- and changes flags only upwards
+  pub quiet : (s : ℕ) (b b′ : State) → GoodIn P s b → (m .replica ≡ s → writes digest m ≡ []) → b′ .n ≡ b .n →
+      b′ .current ≡ b .current →
+      (flag 1 b ≡ true → flag 1 b′ ≡ true) → (flag 4 b ≡ true → flag 4 b′ ≡ true) → Shaped b′ →
+      ((i : ℕ) → BackedIn P′ (suc i) (getD (b′ .heights) i noHeight)) → GoodIn P′ s b′
+  quiet s b b′ g e en ec e1 e4 sh k = record {
+    same-n = en ∙ g .same-n;
+    kept = record { shaped = sh; backed = k };
+    consistent = subst (λ (c : ℕ). Consistent (StatesIn P′ s) c (flag 1 b′) (flag 4 b′)) (sym ec)
+        (stated-nothing (g .consistent) (λ st w. inl (λ h. nothing-new s e st (w h))) e1 e4);
+  }
+
+  pub unchanged : (s : ℕ) (b : State) → GoodIn P s b → (m .replica ≡ s → writes digest m ≡ []) → GoodIn P′ s b
+  unchanged s b g e =
+      quiet s b b g e refl refl (λ q. q) (λ q. q) (g .kept .shaped) (λ i. backed-more (g .kept .backed i))
+
+  -- ---- a delivery
+  pub delivery-good : (s : ℕ) (book f : Bytes) → GoodIn P s (decode book) → writes digest m ≡ [] →
+      books (m .replica) →
+      delivers digest m ≡ cond (isAccepted (deliverCall digest book f .answer)) (f ∷ []) [] →
+      (List·Memᴰ f (delivers digest m) → (t : ℕ) (st : Statement) → statementOf digest f t ≡ some st →
+      StatesIn P t st) →
+      GoodIn P′ s (decode (deliverCall digest book f .book))
+  delivery-good s book f g silent ours e said =
+      frame-good digest n books names P′ m (Memᴰ·append-right P (List·Memᴰ·head refl)) ours s book f
+      (unchanged s (decode book) g (λ z. silent)) (λ ok. rw (e, ok) (List·Memᴰ·head refl))
+      (λ d t st q. states-more t st (said d t st q))
+
+  -- ---- a call that changes the book unless it is refused
+  pub unless-refused-good : {A : Type 0} (s : ℕ) (o : Option ℕ) (book : Bytes) (outcome : Outcome A) →
+      GoodIn P′ s (decode book) →
+      (o ≡ none → GoodIn P′ s (decode (outcome .book))) → GoodIn P′ s (decode (unlessRefused o book outcome .book))
+  unfolding unlessRefused
+  unless-refused-good s none book outcome g g′ = g′ refl
+  unless-refused-good s (some number) book outcome g g′ = g
+
+  pub reopening-good : (s : ℕ) (book : Bytes) (n′ own heights : ℕ) (leaders : Bytes) → GoodIn P s (decode book) →
+      writes digest m ≡ [] →
+      isAccepted (openCall book n′ own heights leaders .answer) ≡ false → GoodIn P′ s
+      (decode (openCall book n′ own heights leaders .book))
+  unfolding openCall unlessRefused isAccepted
+  reopening-good s book n′ own heights leaders g silent no-way =
+      go (firstRefusal (openRows book n′ own heights leaders)) no-way
+    where
+      opened : Outcome Done
+      opened = record { answer = accepted done; book = encode (newState n′ own leaders) }
+
+      go : (o : Option ℕ) → isAccepted (unlessRefused o book opened .answer) ≡ false →
+          GoodIn P′ s (decode (unlessRefused o book opened .book))
+      go none e = absurd (true≢false e)
+      go (some number) e = unchanged s (decode book) g (λ q. silent)
+
+  pub signal-good : (s : ℕ) (book : Bytes) (h : ℕ) → GoodIn P s (decode book) → writes digest m ≡ [] →
+      GoodIn P′ s (decode (signalCall digest book h .book))
+  unfolding signalCall signalRows withTimerFired withHead
+  signal-good s book h g silent =
+      unless-refused-good s (firstRefusal (signalRows digest book h)) book _ (unchanged s b g (λ q. silent))
+      (λ e. encoded digest n books names P′ s _ (fired e))
+    where
+      b : State
+      b = decode book
+
+      fired : firstRefusal (signalRows digest book h) ≡ none →
+          GoodIn P′ s (withHead b (b .flags + 1) (b .current) (b .finalized))
+      fired e =
+          let r1 = row-passes _ _ e in
+          let r2 = row-passes _ _ (r1 .1) in
+          let r3 = row-passes _ _ (r2 .1) in
+          let off = not-true (flag 1 b) (and-both (eqb h (b .current)) _ (r3 .0) .1) in
+          quiet s b (withHead b (b .flags + 1) (b .current) (b .finalized)) g (λ q. silent) refl refl
+          (λ q. flag-set b (b .current) (b .finalized) 0 off)
+          (λ q. flag-kept b (b .current) (b .finalized) 0 off 2 (omega arith) ∙ q)
+          (record { pool-size = g .kept .shaped .pool-size; heights = g .kept .shaped .heights })
+          (λ i. backed-more (g .kept .backed i))
+
+  -- ---- a move
+  pub step-keeps : (s : ℕ) (book : Bytes) → names s → GoodIn P s (decode book) → sound digest book ≡ true →
+      writes digest m ≡ step digest (decode book) .frames →
+      GoodIn P′ s (step digest (decode book) .after)
+  step-keeps s book hs g ok e =
+      let body = step-body digest b in
+      record {
+        same-n = body .same-n ∙ g .same-n;
+        kept = record {
+          shaped = record {
+            pool-size = rw (body .same-pool) (g .kept .shaped .pool-size);
+            heights = rw (body .same-heights) (g .kept .shaped .heights);
+          };
+          backed = λ i. rw (body .same-heights) (backed-more (g .kept .backed i));
+        };
+        consistent = step-good digest (StatesIn P) (StatesIn P′ s) (SeenIn P) s b (g .kept .backed) (g .consistent)
+            (grants digest book ok .positive) (λ t w. go t (wrote-last digest s t P m (w hs)));
+      }
+    where
+      b : State
+      b = decode book
+
+      go : (t : Statement) →
+          Wrote digest s t P ⊎ ((m .replica ≡ s) × (f : Bytes) × List·Memᴰ f
+          (writes digest m) × (statementOf digest f s ≡ some t)) →
+          StatesIn P s t ⊎ ((f : Bytes) × List·Memᴰ f (step digest b .frames) × (statementOf digest f s ≡ some t))
+      go t (inl v) = inl (λ q. v)
+      go t (inr v) = inr (v .1, rw e at (v .2), v .3)
+
+  pub move-good : (s : ℕ) (book reply : Bytes) → names s → GoodIn P s (decode book) →
+      writes digest m ≡ moveCall digest book reply .frames →
+      GoodIn P′ s (decode (moveCall digest book reply .book))
+  unfolding moveCall unlessMoveRefused moved moveRows
+  move-good s book reply hs g = go (firstRefusal (moveRows digest book reply)) refl
+    where
+      st : Step
+      st = step digest (decode book)
+
+      go : (o : Option ℕ) → firstRefusal (moveRows digest book reply) ≡ o →
+          writes digest m ≡ unlessMoveRefused o book reply st .frames →
+          GoodIn P′ s (decode (unlessMoveRefused o book reply st .book))
+      go none p e = encoded digest n books names P′ s (st .after) (step-keeps s book hs g (row-passes _ _ p .0) e)
+      go (some number) p e = unchanged s (decode book) g (λ z. e)
