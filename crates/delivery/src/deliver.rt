@@ -3,7 +3,7 @@ use crate::clash::clash_refusal;
 use crate::keep::keep;
 use crate::refuse::read_refusal;
 use answers::answer::Delivered;
-use wire::frame::frame_height;
+use frames::frame_height;
 ghost use mathlib.Core.Path.{_≡_};
 ghost use mathlib.Core.Bool.{true};
 ghost use Rattle.sha256.specs.Digest.{sha256};

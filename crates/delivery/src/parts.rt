@@ -37,7 +37,7 @@ pub fn is_statement(frame: &[u8]) -> bool
     requires { ⌜ length (now frame) ≡ 224 ⌝ }
     ensures { λ r. ⌜ r ≡ isStatement (kind (now (frame .entry))) ⌝ }
 {
-    let kind = wire::frame::frame_kind(frame);
+    let kind = frames::frame_kind(frame);
     (1 <= kind) & (kind <= 4)
 }
 
@@ -48,8 +48,8 @@ pub fn frame_signers(frame: &[u8]) -> usize
     ensures { λ r. ⌜ (r ≡ signersOf (now (frame .entry))) × (r < maskLimit) ⌝ }
 {
     if is_statement(frame) {
-        fields::mask::bit(wire::frame::frame_signer(frame))
+        fields::mask::bit(frames::frame_signer(frame))
     } else {
-        wire::frame::frame_mask(frame)
+        frames::frame_mask(frame)
     }
 }

@@ -1,5 +1,4 @@
 pub mod Rows
 pub mod Scan
 pub mod BlockRows
-pub mod FrameRows
 pub mod Writes

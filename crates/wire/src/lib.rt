@@ -1,4 +1,3 @@
-// Checks and writes blocks and frames where they lie, in lent byte slices.
+// Bytes as they are sent and kept: byte strings and blocks.
 pub mod block;
 pub mod bytes;
-pub mod frame;

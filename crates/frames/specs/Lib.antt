@@ -1,0 +1,2 @@
+-- What the contracts of frames speak of.
+pub mod Parts
