@@ -1,5 +1,5 @@
 -- Refusals as numbers, the rows of reading and of contradiction one by one, and what a kept frame leaves.
-use Prim.Native.Nat.{ℕ, zero, suc, _^_}
+use Prim.Native.Nat.{ℕ, zero, suc}
 use mathlib.Core.Bool.{Bool, true, false, _&&_, _||_, cond}
 use mathlib.Core.List.{List, [], _∷_}
 use mathlib.Core.Option.{Option, some, none}
@@ -43,17 +43,13 @@ unfoldable pub voteAgrees : Height → Bytes → Bool
 voteAgrees x frame = implies (isBlockVote (kind frame) && inMask (x .voterMask) (signer frame))
     (same (voteOf x (signer frame)) (frameDigest frame))
 
--- ---- signers of a statement or a certificate
-unfoldable pub signersOf : Bytes → ℕ
-signersOf frame = cond (isStatement (kind frame)) (2 ^ signer frame) (signerMask frame)
-
+-- ---- what is kept
 -- signers join mask `k` of a height, 1 of the dummy votes or 2 of the finalize statements, unless it holds them all
 unfoldable pub joinSigners : ℕ → Height → ℕ → Option Height
 joinSigners k x signers =
     let mask : ℕ = bitOr (maskAt x k) signers in
     cond (eqb mask (maskAt x k)) none (some (withMaskAt x k mask))
 
--- ---- what is kept
 -- whether a frame changes its height
 unfoldable pub isKept : Option Height → Bool
 isKept none = false

@@ -1,6 +1,4 @@
 // Whether a frame that is read contradicts what its height keeps: refusals 8 and 10.
-use crate::parts::frame_block;
-use crate::parts::frame_digest;
 use crate::refuse::first_refusal;
 use fields::height::holds_proposal;
 use fields::height::is_notarized;
@@ -8,10 +6,12 @@ use fields::height::notarized;
 use fields::height::proposal;
 use fields::height::vote_digest;
 use fields::height::voter_mask;
-use fields::mask::in_mask;
+use frames::frame_block;
+use frames::frame_digest;
 use frames::frame_kind;
 use frames::frame_signer;
 use wire::bytes::same_bytes;
+use wire::mask::in_mask;
 ghost use mathlib.Core.Path.{_≡_};
 ghost use Rattle.protocol.specs.Bytes.{same};
 ghost use Rattle.protocol.specs.Tests.{implies, firstRefusal};

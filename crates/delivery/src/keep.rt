@@ -1,10 +1,6 @@
 // What each kind of frame changes at its height. Each function answers whether the book changed.
 use crate::notarize::notarize;
 use crate::notarize::notarize_with;
-use crate::parts::frame_block;
-use crate::parts::frame_block_digest;
-use crate::parts::frame_digest;
-use crate::parts::frame_signers;
 use fields::height::holds_proposal;
 use fields::height::is_notarized;
 use fields::height::mask_at;
@@ -12,10 +8,14 @@ use fields::height::voter_mask;
 use fields::keep::keep_mask;
 use fields::keep::keep_notarized;
 use fields::keep::keep_vote;
-use fields::mask::in_mask;
+use frames::frame_block;
+use frames::frame_block_digest;
+use frames::frame_digest;
 use frames::frame_kind;
 use frames::frame_mask;
 use frames::frame_signer;
+use frames::frame_signers;
+use wire::mask::in_mask;
 ghost use mathlib.Core.Path.{_≡_};
 ghost use Prim.Native.Nat.{_<_, _≤_};
 ghost use Rattle.sha256.specs.Digest.{sha256 as sha};

@@ -3,5 +3,4 @@ mod clash;
 pub mod deliver;
 mod keep;
 mod notarize;
-mod parts;
 mod refuse;

@@ -1,15 +1,15 @@
 // Whether a frame can be read over a book: refusals 4, 6, 5, 7 and 9, in document 01's order.
-use crate::parts::is_statement;
 use fields::head::heights;
 use fields::head::replicas;
 use fields::height::leader;
-use fields::mask::below;
 use fields::quorum::quorum;
 use frames::frame_height;
 use frames::frame_kind;
 use frames::frame_mask;
 use frames::frame_signer;
 use frames::frame_well_formed;
+use frames::is_statement;
+use wire::mask::below;
 ghost use mathlib.Core.Path.{_≡_};
 ghost use Prim.Native.Nat.{_≤_};
 ghost use lib.ListN.{length};

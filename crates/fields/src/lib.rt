@@ -6,6 +6,5 @@ pub mod height;
 mod inside;
 pub mod keep;
 pub mod kind;
-pub mod mask;
 pub mod pool;
 pub mod quorum;

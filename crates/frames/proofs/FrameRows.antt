@@ -1,9 +1,7 @@
 -- The groups of tests that the code makes are the rows of a frame.
 use mathlib.Core.Path.{_≡_}
 use mathlib.Core.Bool.{true, false, _&&_, _||_, and-assoc, and-true}
-use lib.ListN.{length, take, drop, length-drop}
-use lib.Seq.{take-all}
-use native.Mathlib.Omega.{arith}
+use lib.ListN.{length}
 use lib.Dec.{eqb, leb}
 use Rattle.protocol.specs.Bytes.{Bytes, byteAt, part, isZero}
 use Rattle.protocol.specs.Tests.{allOf, implies, inRange}
@@ -31,14 +29,10 @@ module _ (frame : Bytes) where
   rest-are = simp and-true
 
   pub block-carried : (eqb (kind frame) 1 || eqb (kind frame) 5) ≡ true →
-      frameBlockPart frame ≡ blockWellFormed (frameHeight frame) (drop 48 frame)
-  unfolding frameBlockPart carriesBlock frameBlock implies allOf
-  block-carried e = rw e (and-true (blockWellFormed (frameHeight frame) (drop 48 frame)))
+      frameBlockPart frame ≡ blockWellFormed (frameHeight frame) (frameBlock frame)
+  unfolding frameBlockPart carriesBlock implies allOf
+  block-carried e = rw e (and-true (blockWellFormed (frameHeight frame) (frameBlock frame)))
 
-  pub block-missing : (eqb (kind frame) 1 || eqb (kind frame) 5) ≡ false → frameBlockPart frame ≡ isZero (drop 48 frame)
-  unfolding frameBlockPart carriesBlock frameBlock implies allOf
-  block-missing e = rw e (and-true (isZero (drop 48 frame)))
-
-  -- the last part of a frame
-  pub block-part : length frame ≡ 224 → take 176 (drop 48 frame) ≡ drop 48 frame
-  block-part size = take-all 176 (drop 48 frame) (rw length-drop (omega arith))
+  pub block-missing : (eqb (kind frame) 1 || eqb (kind frame) 5) ≡ false → frameBlockPart frame ≡ isZero (frameBlock frame)
+  unfolding frameBlockPart carriesBlock implies allOf
+  block-missing e = rw e (and-true (isZero (frameBlock frame)))

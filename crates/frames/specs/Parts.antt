@@ -1,6 +1,6 @@
--- The tests of a frame in the groups in which the code makes them, and the head that the frames share.
-use Prim.Native.Nat.{ℕ}
-use mathlib.Core.Bool.{Bool, _||_}
+-- The tests of a frame in the groups in which the code makes them, the head that frames share, and a frame's signers.
+use Prim.Native.Nat.{ℕ, _^_}
+use mathlib.Core.Bool.{Bool, _||_, cond}
 use mathlib.Core.List.{[], _∷_, _++_}
 use lib.Dec.{eqb}
 use Rattle.protocol.specs.Bytes.{Bytes, byteAt, le16, part, zeros, isZero}
@@ -33,3 +33,7 @@ frameRest frame = allOf
 -- the first 16 bytes of a frame
 unfoldable pub frameHead : (k s h mask : ℕ) → Bytes
 frameHead k s h mask = (k ∷ s ∷ le16 h) ++ (le16 mask ++ zeros 10)
+
+-- the mask of the signer of a statement, or of the signers of a certificate
+unfoldable pub signersOf : Bytes → ℕ
+signersOf frame = cond (isStatement (kind frame)) (2 ^ signer frame) (signerMask frame)

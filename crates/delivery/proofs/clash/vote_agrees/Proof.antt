@@ -7,7 +7,7 @@ use Rattle.protocol.specs.Bytes.{Bytes, same}
 use Rattle.protocol.specs.Tests.{implies}
 use Rattle.protocol.specs.Frame.{kind}
 use Rattle.protocol.specs.State.{decode, at, voteOf}
-use Rattle.delivery.specs.Laws.KeepLaws.{same-bit}
+use Rattle.wire.proofs.Masks.{same-bit}
 use Rattle.delivery.specs.Refusal.{voteAgrees}
 use borrow.Author.Needs.{needs}
 use Rattle.delivery.proofs.clash.vote_agrees.Statement.{statement}

@@ -1,6 +1,7 @@
 -- `block_fits` meets its contract: the last 176 bytes of 224 are all that follow byte 48.
 use mathlib.Core.Path.{sym, _∙_}
-use Rattle.frames.proofs.FrameRows.{block-part, block-carried, block-missing}
+use Rattle.frames.specs.Laws.PartLaws.{block-lent}
+use Rattle.frames.proofs.FrameRows.{block-carried, block-missing}
 use borrow.Author.Needs.{needs}
 use Rattle.frames.proofs.well_formed.block_fits.Statement.{statement}
 use Rattle.frames.proofs.well_formed.block_fits.Tie as tie
@@ -12,7 +13,7 @@ returns c =
     let after-frame-kind = after-if1 .before in
     let start = after-frame-kind .before .before in
     let frame = start .args .frame .now in
-    let whole = block-part frame (start .pre) in
+    let whole = block-lent frame (start .pre) .0 in
     let carried = rw (after-frame-kind .frame-kind .ensures .0) at (after-if1 .if1 .taken) in
     c .block-well-formed .ensures ∙ rw (after-frame-height .frame-height .ensures .0, whole)
     (sym (block-carried frame carried))
@@ -23,7 +24,7 @@ returns-2 c =
     let after-frame-kind = after-if1 .before in
     let start = after-frame-kind .before .before in
     let frame = start .args .frame .now in
-    let whole = block-part frame (start .pre) in
+    let whole = block-lent frame (start .pre) .0 in
     let missing = rw (after-frame-kind .frame-kind .ensures .0) at (after-if1 .if1 .left) in
     c .is-zero .ensures ∙ rw whole (sym (block-missing frame missing))
 

@@ -1,8 +1,8 @@
 -- `frame_block` meets its contract: the last 176 bytes of 224 are all that follow byte 48.
-use Rattle.delivery.specs.Laws.PartLaws.{block-lent}
+use Rattle.frames.specs.Laws.PartLaws.{block-lent}
 use borrow.Author.Needs.{needs}
-use Rattle.delivery.proofs.parts.frame_block.Statement.{statement}
-use Rattle.delivery.proofs.parts.frame_block.Tie as tie
+use Rattle.frames.proofs.parts.frame_block.Statement.{statement}
+use Rattle.frames.proofs.parts.frame_block.Tie as tie
 
 returns : tie.Need-returns
 returns c = block-lent _ (c .before .pre)

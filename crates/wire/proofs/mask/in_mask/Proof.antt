@@ -2,8 +2,8 @@
 use mathlib.Core.Path.{refl}
 use Rattle.protocol.specs.Mask.{inMask}
 use borrow.Author.Needs.{needs}
-use Rattle.fields.proofs.mask.in_mask.Statement.{statement}
-use Rattle.fields.proofs.mask.in_mask.Tie as tie
+use Rattle.wire.proofs.mask.in_mask.Statement.{statement}
+use Rattle.wire.proofs.mask.in_mask.Tie as tie
 
 returns : tie.Need-returns
 unfolding inMask

@@ -3,10 +3,10 @@ use Prim.Native.Nat.{ℕ, _^_, _<_}
 use native.Mathlib.Omega.{arith}
 use mathlib.Core.Path.{sym, ap, _∙_}
 use lib.Pow.{pow-lt}
-use Rattle.delivery.specs.Laws.KindLaws.{statement-high, one-signed, many-signed}
+use Rattle.frames.specs.Laws.PartLaws.{statement-high, one-signed, many-signed}
 use borrow.Author.Needs.{needs}
-use Rattle.delivery.proofs.parts.frame_signers.Statement.{statement}
-use Rattle.delivery.proofs.parts.frame_signers.Tie as tie
+use Rattle.frames.proofs.parts.frame_signers.Statement.{statement}
+use Rattle.frames.proofs.parts.frame_signers.Tie as tie
 
 bit-requires : tie.Need-bit-requires
 bit-requires c κs =

@@ -1,8 +1,8 @@
 -- `below` meets its contract: the mask is less than the bit after the last.
 use Rattle.protocol.specs.Mask.{belowBit}
 use borrow.Author.Needs.{needs}
-use Rattle.fields.proofs.mask.below.Statement.{statement}
-use Rattle.fields.proofs.mask.below.Tie as tie
+use Rattle.wire.proofs.mask.below.Statement.{statement}
+use Rattle.wire.proofs.mask.below.Tie as tie
 
 returns : tie.Need-returns
 unfolding belowBit

@@ -2,8 +2,8 @@
 use Rattle.protocol.specs.Frame.{isStatement}
 use Rattle.protocol.specs.Tests.{inRange}
 use borrow.Author.Needs.{needs}
-use Rattle.delivery.proofs.parts.is_statement.Statement.{statement}
-use Rattle.delivery.proofs.parts.is_statement.Tie as tie
+use Rattle.frames.proofs.parts.is_statement.Statement.{statement}
+use Rattle.frames.proofs.parts.is_statement.Tie as tie
 
 returns : tie.Need-returns
 unfolding isStatement inRange

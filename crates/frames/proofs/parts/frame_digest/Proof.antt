@@ -2,10 +2,10 @@
 use mathlib.Core.Path.{refl}
 use Rattle.protocol.specs.Bytes.{part}
 use Rattle.protocol.specs.Frame.{frameDigest}
-use Rattle.delivery.specs.Laws.PartLaws.{digest-lent}
+use Rattle.frames.specs.Laws.PartLaws.{digest-lent}
 use borrow.Author.Needs.{needs}
-use Rattle.delivery.proofs.parts.frame_digest.Statement.{statement}
-use Rattle.delivery.proofs.parts.frame_digest.Tie as tie
+use Rattle.frames.proofs.parts.frame_digest.Statement.{statement}
+use Rattle.frames.proofs.parts.frame_digest.Tie as tie
 
 returns : tie.Need-returns
 unfolding frameDigest part

@@ -2,8 +2,8 @@
 use mathlib.Core.Path.{ap, _∙_}
 use Rattle.sha256.specs.Digest.{sha256}
 use borrow.Author.Needs.{needs}
-use Rattle.delivery.proofs.parts.frame_block_digest.Statement.{statement}
-use Rattle.delivery.proofs.parts.frame_block_digest.Tie as tie
+use Rattle.frames.proofs.parts.frame_block_digest.Statement.{statement}
+use Rattle.frames.proofs.parts.frame_block_digest.Tie as tie
 
 returns : tie.Need-returns
 returns c = c .sha256 .ensures ∙ ap sha256 (c .before .frame-block .ensures .0)

@@ -1,8 +1,8 @@
 -- `bit` meets its contract: a shift within 16 bits loses nothing.
-use Rattle.fields.proofs.Counts.{one-shifted}
+use Rattle.wire.proofs.Masks.{one-shifted}
 use borrow.Author.Needs.{needs}
-use Rattle.fields.proofs.mask.bit.Statement.{statement}
-use Rattle.fields.proofs.mask.bit.Tie as tie
+use Rattle.wire.proofs.mask.bit.Statement.{statement}
+use Rattle.wire.proofs.mask.bit.Tie as tie
 
 returns : tie.Need-returns
 returns c = one-shifted _ (c .pre)
