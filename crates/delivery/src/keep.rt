@@ -23,8 +23,8 @@ ghost use Rattle.protocol.specs.Frame.{signer};
 ghost use Rattle.protocol.specs.State.{decode, at};
 ghost use Rattle.protocol.specs.Deliver.{keepProposal, keepBlockVote, keepBlockCertificate, keep as keeps};
 ghost use Rattle.protocol.specs.Mask.{maskLimit};
-ghost use Rattle.delivery.specs.Refusal.{isKept, keptBook, joinSigners};
-ghost use Rattle.delivery.specs.Given.{Spot, Read};
+ghost use Rattle.delivery.specs.Kept.{isKept, keptBook, joinSigners};
+ghost use Rattle.frame_refusals.specs.Given.{Spot, Read};
 ghost use Rattle.fields.specs.Book.{heightIn, bookView};
 
 // Keeps a proposal where none is held, and notarizes it if its votes are a quorum.

@@ -18,8 +18,8 @@ use Rattle.protocol.specs.Laws.PlaceLaws.{with-with, at-with, shaped-at, shaped
 use Rattle.protocol.specs.Laws.ChangeLaws.{named-height}
 use Rattle.protocol.specs.Deliver.{withProposal, withVote, notarize}
 use Rattle.fields.specs.Laws.BookLaws.{ready-state, ready-height, same-heights, last-with-height}
-use Rattle.delivery.specs.Refusal.{isKept, keptBook}
-use Rattle.delivery.specs.Given.{Spot}
+use Rattle.delivery.specs.Kept.{isKept, keptBook}
+use Rattle.frame_refusals.specs.Given.{Spot}
 
 -- ---- known and new
 module _ (book : Bytes) (h : ℕ) where

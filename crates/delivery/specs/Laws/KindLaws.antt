@@ -21,8 +21,8 @@ use Rattle.protocol.specs.Laws.DeliverLaws.{keep-dummy-certificate, keep-finali
 use Rattle.fields.specs.Numbered.{maskAt, withMaskAt}
 use Rattle.frames.specs.Parts.{signersOf}
 use Rattle.frames.specs.Laws.PartLaws.{one-signed, many-signed}
-use Rattle.delivery.specs.Refusal.{joinSigners}
-use Rattle.delivery.specs.Given.{Read}
+use Rattle.delivery.specs.Kept.{joinSigners}
+use Rattle.frame_refusals.specs.Given.{Read}
 use Rattle.delivery.specs.Laws.JoinLaws.{vote-joins, signers-join}
 
 module _ (digest : Bytes → Bytes) (book : Bytes) (h : ℕ) (frame : Bytes) (given : Read book h frame) where
