@@ -4,5 +4,4 @@ pub mod JoinLaws
 pub mod KeepLaws
 pub mod KindLaws
 pub mod NotarizeLaws
-pub mod PartLaws
-pub mod RefusalLaws
+pub mod OutcomeLaws

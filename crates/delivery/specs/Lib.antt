@@ -1,4 +1,3 @@
 -- What the contracts of Deliver's parts speak of, and laws about it.
-pub mod Given
-pub mod Refusal
+pub mod Kept
 pub mod Laws

@@ -1,17 +1,17 @@
 // Deliver: reads a frame over the book, and keeps what it states.
-use crate::clash::clash_refusal;
 use crate::keep::keep;
-use crate::refuse::read_refusal;
 use answers::answer::Delivered;
-use wire::frame::frame_height;
+use frame_refusals::clash_refusal;
+use frame_refusals::read_refusal;
+use frames::frame_height;
 ghost use mathlib.Core.Path.{_≡_};
 ghost use mathlib.Core.Bool.{true};
 ghost use Rattle.sha256.specs.Digest.{sha256};
 ghost use Rattle.protocol.specs.Sound.{sound};
 ghost use Rattle.protocol.specs.Deliver.{deliverCall};
 ghost use Rattle.answers.specs.Answers.{deliveredAnswer};
-ghost use Rattle.delivery.specs.Refusal.{readOutcome};
-ghost use Rattle.delivery.specs.Given.{Read};
+ghost use Rattle.delivery.specs.Kept.{readOutcome};
+ghost use Rattle.frame_refusals.specs.Given.{Read};
 
 // Keeps a frame that is read and contradicts nothing.
 fn deliver_read(book: &mut [u8], h: usize, frame: &[u8]) -> Delivered
@@ -32,7 +32,7 @@ fn deliver_read(book: &mut [u8], h: usize, frame: &[u8]) -> Delivered
 }
 
 // Delivers a frame to a sound book.
-fn deliver_sound(book: &mut [u8], frame: &[u8]) -> Delivered
+pub fn deliver_sound(book: &mut [u8], frame: &[u8]) -> Delivered
     requires { ⌜ sound sha256 (now book) ≡ true ⌝ }
     ensures answer { λ r. ⌜ deliveredAnswer r ≡ deliverCall sha256 (now (book .entry)) (now (frame .entry)) .answer ⌝ }
     ensures book { λ _. ⌜ now (book .exit) ≡ deliverCall sha256 (now (book .entry)) (now (frame .entry)) .book ⌝ }

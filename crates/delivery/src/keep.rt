@@ -1,10 +1,6 @@
 // What each kind of frame changes at its height. Each function answers whether the book changed.
 use crate::notarize::notarize;
 use crate::notarize::notarize_with;
-use crate::parts::frame_block;
-use crate::parts::frame_block_digest;
-use crate::parts::frame_digest;
-use crate::parts::frame_signers;
 use changes::height::keep_mask;
 use changes::height::keep_notarized;
 use changes::height::keep_vote;
@@ -12,10 +8,14 @@ use fields::height::holds_proposal;
 use fields::height::is_notarized;
 use fields::height::mask_at;
 use fields::height::voter_mask;
-use fields::mask::in_mask;
-use wire::frame::frame_kind;
-use wire::frame::frame_mask;
-use wire::frame::frame_signer;
+use frames::frame_block;
+use frames::frame_block_digest;
+use frames::frame_digest;
+use frames::frame_kind;
+use frames::frame_mask;
+use frames::frame_signer;
+use frames::frame_signers;
+use wire::mask::in_mask;
 ghost use mathlib.Core.Path.{_≡_};
 ghost use Prim.Native.Nat.{_<_, _≤_};
 ghost use Rattle.sha256.specs.Digest.{sha256 as sha};
@@ -23,8 +23,8 @@ ghost use Rattle.protocol.specs.Frame.{signer};
 ghost use Rattle.protocol.specs.State.{decode, at};
 ghost use Rattle.protocol.specs.Deliver.{keepProposal, keepBlockVote, keepBlockCertificate, keep as keeps};
 ghost use Rattle.protocol.specs.Mask.{maskLimit};
-ghost use Rattle.delivery.specs.Refusal.{isKept, keptBook, joinSigners};
-ghost use Rattle.delivery.specs.Given.{Spot, Read};
+ghost use Rattle.delivery.specs.Kept.{isKept, keptBook, joinSigners};
+ghost use Rattle.frame_refusals.specs.Given.{Spot, Read};
 ghost use Rattle.fields.specs.Book.{heightIn, bookView};
 
 // Keeps a proposal where none is held, and notarizes it if its votes are a quorum.

@@ -1,7 +1,4 @@
-// Deliver: the tests that a frame passes, and what each kind of frame changes.
-mod clash;
+// Deliver: a frame that no refusal stands against is kept, each kind in its way.
 pub mod deliver;
 mod keep;
 mod notarize;
-mod parts;
-mod refuse;

@@ -10,7 +10,7 @@ ghost use mathlib.Core.Bool.{_&&_, not};
 ghost use Rattle.sha256.specs.Digest.{sha256 as sha};
 ghost use Rattle.protocol.specs.State.{holdsProposal, isNotarized};
 ghost use Rattle.protocol.specs.Deliver.{notarize as notarized};
-ghost use Rattle.delivery.specs.Given.{Spot};
+ghost use Rattle.frame_refusals.specs.Given.{Spot};
 ghost use Rattle.fields.specs.Book.{heightIn, bookView, changed};
 
 // Whether height `h` holds a proposal and has no notarized block yet.

@@ -48,9 +48,9 @@ fn write_certificate(book: &[u8], kind: usize, height: usize, reply: &mut [u8])
     let mask = fields::height::mask_at(book, height, kind - 5);
     if kind == 5 {
         let block = fields::height::notarized(book, height);
-        wire::frame::write_block_certificate(reply, height, mask, block);
+        frames::write_block_certificate(reply, height, mask, block);
     } else {
-        wire::frame::write_plain(reply, kind, 0, height, mask);
+        frames::write_plain(reply, kind, 0, height, mask);
     }
 }
 

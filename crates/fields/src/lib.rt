@@ -3,6 +3,5 @@ pub mod bounds;
 pub mod head;
 pub mod height;
 pub mod kind;
-pub mod mask;
 pub mod pool;
 pub mod quorum;

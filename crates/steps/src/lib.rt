@@ -36,7 +36,7 @@ pub fn cast_dummy_vote(book: &mut [u8], reply: &mut [u8]) -> Moved
     let c = current(book);
     let seen = flags(book);
     let settled = finalized(book);
-    wire::frame::write_dummy_vote(reply, own(book), c);
+    frames::write_dummy_vote(reply, own(book), c);
     set_head(book, seen + 2, c, settled);
     Moved::Dummy(c)
 }
@@ -77,10 +77,10 @@ fn write_pass_certificate(book: &[u8], reply: &mut [u8], linked: bool) -> Certif
     let c = current(book);
     if linked {
         let mask = fields::height::certificate_mask(book, c);
-        wire::frame::write_block_certificate(reply, c, mask, fields::height::notarized(book, c));
+        frames::write_block_certificate(reply, c, mask, fields::height::notarized(book, c));
         Certificate::Page
     } else {
-        wire::frame::write_dummy_certificate(reply, c, fields::height::dummy_mask(book, c));
+        frames::write_dummy_certificate(reply, c, fields::height::dummy_mask(book, c));
         Certificate::Blank
     }
 }
@@ -95,7 +95,7 @@ fn write_pass_finalize(book: &[u8], reply: &mut [u8], finalizes: bool)
     if finalizes {
         let c = current(book);
         let signer = own(book);
-        wire::frame::write_finalize(&mut reply[224..], signer, c);
+        frames::write_finalize(&mut reply[224..], signer, c);
     } else {
         wire::bytes::clear(reply, 224, 224);
     }
@@ -136,7 +136,7 @@ fn write_proposal(book: &[u8], reply: &mut [u8], j: usize, known: &mut [u8])
     let c = current(book);
     let signer = own(book);
     let digest = linking::links::parent_digest(book, j, known);
-    wire::frame::write_plain(reply, 1, signer, c, 0);
+    frames::write_plain(reply, 1, signer, c, 0);
     chains::entries::offer(book, c, j, &digest, &mut reply[48..224]);
 }
 
@@ -172,7 +172,7 @@ pub fn cast_block_vote(book: &mut [u8], reply: &mut [u8]) -> Moved
     let settled = finalized(book);
     let signer = own(book);
     let digest = sha256::sha256(fields::height::proposal(book, c));
-    wire::frame::write_block_vote(reply, signer, c, &digest);
+    frames::write_block_vote(reply, signer, c, &digest);
     set_head(book, seen + 4, c, settled);
     Moved::Vote(c)
 }

@@ -16,7 +16,7 @@ fn votes_for(book: &[u8], h: usize, s: usize, voters: usize, digest: &[u8]) -> b
     ensures { λ r. ⌜ r ≡
         (inMask voters s && same (voteOf (heightIn (now (book .entry)) h) s) (now (digest .entry))) ⌝ }
 {
-    if fields::mask::in_mask(voters, s) {
+    if wire::mask::in_mask(voters, s) {
         wire::bytes::same_bytes(fields::height::vote_digest(book, h, s), digest)
     } else {
         false

@@ -1,5 +1,5 @@
 pub mod Rows
 pub mod Scan
 pub mod BlockRows
-pub mod FrameRows
+pub mod Masks
 pub mod Writes

@@ -1,4 +1,4 @@
-// Checks and writes blocks and frames where they lie, in lent byte slices.
+// Bytes as they are sent and kept: byte strings, blocks and masks, tested and written where they lie.
 pub mod block;
 pub mod bytes;
-pub mod frame;
+pub mod mask;

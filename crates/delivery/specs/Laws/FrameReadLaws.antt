@@ -18,7 +18,7 @@ use Rattle.protocol.specs.Laws.GrantedLaws.{height-range}
 use Rattle.protocol.specs.Deliver.{readRows}
 use Rattle.fields.specs.Book.{Readable, SoundBook}
 use Rattle.fields.specs.Laws.BookLaws.{sound-book}
-use Rattle.delivery.specs.Given.{Read}
+use Rattle.frame_refusals.specs.Given.{Read}
 
 -- a sound book is readable
 pub sound-readable : (digest : Bytes → Bytes) (book : Bytes) → AreBytes book → sound digest book ≡ true → Readable book

@@ -1,7 +1,7 @@
 -- What a frame keeps: known and new frames, and a second write at the height of a first.
 use Prim.Native.Nat.{ℕ, zero, suc, _+_, _%_, _^_, _≤_, _<_}
 use native.Mathlib.Omega.{arith}
-use mathlib.Core.Path.{_≡_, refl, ap, _∙_, ap₂, sym}
+use mathlib.Core.Path.{_≡_, refl, ap, _∙_}
 use mathlib.Core.Bool.{Bool, true, false, cond}
 use mathlib.Core.Option.{Option, some, none}
 use borrow.Author.Tests.{eqb-false}
@@ -18,8 +18,8 @@ use Rattle.protocol.specs.Laws.PlaceLaws.{with-with, at-with, shaped-at, shaped
 use Rattle.protocol.specs.Laws.ChangeLaws.{named-height}
 use Rattle.protocol.specs.Deliver.{withProposal, withVote, notarize}
 use Rattle.fields.specs.Laws.BookLaws.{ready-state, ready-height, same-heights, last-with-height}
-use Rattle.delivery.specs.Refusal.{isKept, keptBook}
-use Rattle.delivery.specs.Given.{Spot}
+use Rattle.delivery.specs.Kept.{isKept, keptBook}
+use Rattle.frame_refusals.specs.Given.{Spot}
 
 -- ---- known and new
 module _ (book : Bytes) (h : ℕ) where
@@ -42,11 +42,6 @@ module _ (book : Bytes) (h : ℕ) where
 -- a replica that is missing has room in a mask of 16 bits
 pub room : (n mask s : ℕ) → s < n → mask < 2 ^ n → 2 ^ n ≤ 65536 → inMask mask s ≡ false → mask + 2 ^ s < 65536
 room n mask s small fits bound new = omega (arith, add-below s n mask small fits new)
-
--- what code finds and writes, of the mask that is held and the signer of the frame
-module _ {held mask s signer : ℕ} (holds : held ≡ mask) (signs : s ≡ signer) where
-  pub same-bit : {found : Bool} → found ≡ inMask held s → inMask mask signer ≡ found
-  same-bit e = sym (ap₂ (λ (m k : ℕ). inMask m k) holds signs) ∙ sym e
 
 -- ---- a height that is there
 pub shaped-here : (book : Bytes) (h : ℕ) → Spot book h → ShapedHeight (at (decode book) h)

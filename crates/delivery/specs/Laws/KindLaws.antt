@@ -8,36 +8,23 @@ use mathlib.Core.Option.{some, none}
 use lib.Dec.{eqb}
 use borrow.Author.Tests.{eqb-true}
 use Rattle.protocol.specs.Bytes.{Bytes}
-use Rattle.protocol.specs.Frame.{kind, signer, signerMask, isStatement}
+use Rattle.protocol.specs.Frame.{kind, signer, signerMask}
 use Rattle.protocol.specs.Mask.{inMask, union}
 use Rattle.protocol.specs.State.{State, Height, at, decode}
 use Rattle.protocol.specs.Sound.{view}
 use Rattle.protocol.specs.Laws.TestsLaws.{or-either, le-or-lt}
-use Rattle.protocol.specs.Laws.RowLaws.{in-range}
 use Rattle.protocol.specs.Deliver.{keep, keepProposal, keepBlockVote, keepDummyVote, keepFinalize, keepBlockCertificate}
 use Rattle.protocol.specs.Deliver.{keepDummyCertificate, keepFinalizeCertificate}
 use Rattle.protocol.specs.Laws.DeliverLaws.{statement-kind, certificate-kind, keep-proposal, keep-block-vote}
 use Rattle.protocol.specs.Laws.DeliverLaws.{keep-dummy-vote, keep-finalize, keep-block-certificate}
 use Rattle.protocol.specs.Laws.DeliverLaws.{keep-dummy-certificate, keep-finalize-certificate}
 use Rattle.fields.specs.Numbered.{maskAt, withMaskAt}
-use Rattle.delivery.specs.Refusal.{signersOf, joinSigners}
-use Rattle.delivery.specs.Given.{Read}
+use Rattle.frames.specs.Parts.{signersOf}
+use Rattle.frames.specs.Laws.PartLaws.{one-signed, many-signed}
+use Rattle.delivery.specs.Kept.{joinSigners}
+use Rattle.frame_refusals.specs.Given.{Read}
 use Rattle.delivery.specs.Laws.JoinLaws.{vote-joins, signers-join}
 
--- ---- signers
-pub statement-high : (frame : Bytes) → isStatement (kind frame) ≡ true → kind frame ≤ 4
-unfolding isStatement
-statement-high frame e = in-range 1 4 (kind frame) e .1
-
-pub one-signed : (frame : Bytes) → isStatement (kind frame) ≡ true → signersOf frame ≡ 2 ^ signer frame
-unfolding signersOf
-one-signed frame e = rw e
-
-pub many-signed : (frame : Bytes) → isStatement (kind frame) ≡ false → signersOf frame ≡ signerMask frame
-unfolding signersOf
-many-signed frame e = rw e
-
--- ---- what is kept
 module _ (digest : Bytes → Bytes) (book : Bytes) (h : ℕ) (frame : Bytes) (given : Read book h frame) where
   abbrev s : State
   s = decode book

@@ -2,7 +2,7 @@
 use mathlib.Core.Path.{refl, sym, _∙_}
 use Rattle.sha256.specs.Digest.{sha256}
 use Rattle.answers.specs.Answers.{deliveredAnswer}
-use Rattle.delivery.specs.Laws.RefusalLaws.{call-unsound}
+use Rattle.delivery.specs.Laws.OutcomeLaws.{call-unsound}
 use borrow.Author.Needs.{needs}
 use Rattle.delivery.proofs.deliver.deliver.Statement.{statement}
 use Rattle.delivery.proofs.deliver.deliver.Tie as tie

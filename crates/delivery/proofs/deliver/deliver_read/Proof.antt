@@ -2,8 +2,8 @@
 use mathlib.Core.Path.{refl, sym, _∙_}
 use Rattle.sha256.specs.Digest.{sha256}
 use Rattle.answers.specs.Answers.{deliveredAnswer}
-use Rattle.delivery.specs.Laws.RefusalLaws.{number-refuses, zero-passes, read-refused, read-kept, kept-fresh}
-use Rattle.delivery.specs.Laws.RefusalLaws.{kept-known}
+use Rattle.delivery.specs.Laws.OutcomeLaws.{read-refused, read-kept, kept-fresh, kept-known}
+use Rattle.frame_refusals.specs.Laws.RefusalLaws.{number-refuses, zero-passes}
 use borrow.Author.Needs.{needs}
 use Rattle.delivery.proofs.deliver.deliver_read.Statement.{statement}
 use Rattle.delivery.proofs.deliver.deliver_read.Tie as tie

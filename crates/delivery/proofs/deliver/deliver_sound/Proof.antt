@@ -4,7 +4,8 @@ use mathlib.Core.Path.{refl}
 use Rattle.sha256.specs.Digest.{sha256}
 use Rattle.answers.specs.Answers.{deliveredAnswer}
 use Rattle.delivery.specs.Laws.FrameReadLaws.{sound-readable, frame-read, frame-size}
-use Rattle.delivery.specs.Laws.RefusalLaws.{number-refuses, zero-passes, call-refused, call-read}
+use Rattle.delivery.specs.Laws.OutcomeLaws.{call-refused, call-read}
+use Rattle.frame_refusals.specs.Laws.RefusalLaws.{number-refuses, zero-passes}
 use borrow.Author.Needs.{needs}
 use Rattle.delivery.proofs.deliver.deliver_sound.Statement.{statement}
 use Rattle.delivery.proofs.deliver.deliver_sound.Tie as tie

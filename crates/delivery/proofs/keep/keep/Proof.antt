@@ -6,7 +6,7 @@ use mathlib.Core.Bool.{_||_}
 use lib.Dec.{eqb}
 use Rattle.sha256.specs.Digest.{sha256}
 use Rattle.protocol.specs.State.{decode, at}
-use Rattle.delivery.specs.Refusal.{joinSigners}
+use Rattle.delivery.specs.Kept.{joinSigners}
 use Rattle.delivery.specs.Laws.KeepLaws.{same-kept}
 use Rattle.delivery.specs.Laws.KindLaws.{kind-one, kind-two, kind-five, dummy-joins, finalize-joins}
 use borrow.Author.Needs.{needs}

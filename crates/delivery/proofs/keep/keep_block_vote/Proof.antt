@@ -9,7 +9,8 @@ use Rattle.protocol.specs.State.{decode, encode, at, withHeight}
 use Rattle.protocol.specs.Sound.{view}
 use Rattle.protocol.specs.Laws.ChangeLaws.{shaped-vote}
 use Rattle.protocol.specs.Deliver.{withVote, notarize, keepBlockVote}
-use Rattle.delivery.specs.Laws.KeepLaws.{known-frame, new-frame, room, same-bit, shaped-here, vote-status}
+use Rattle.delivery.specs.Laws.KeepLaws.{known-frame, new-frame, room, shaped-here, vote-status}
+use Rattle.wire.proofs.Masks.{same-bit}
 use Rattle.delivery.specs.Laws.KeepLaws.{spot-after, notarized-after}
 use borrow.Author.Needs.{needs}
 use Rattle.delivery.proofs.keep.keep_block_vote.Statement.{statement}

@@ -1,0 +1,71 @@
+// Whether a frame that is read contradicts what its height keeps: refusals 8 and 10.
+use crate::first::first_refusal;
+use fields::height::holds_proposal;
+use fields::height::is_notarized;
+use fields::height::notarized;
+use fields::height::proposal;
+use fields::height::vote_digest;
+use fields::height::voter_mask;
+use frames::frame_block;
+use frames::frame_digest;
+use frames::frame_kind;
+use frames::frame_signer;
+use wire::bytes::same_bytes;
+use wire::mask::in_mask;
+ghost use mathlib.Core.Path.{_≡_};
+ghost use Rattle.protocol.specs.Bytes.{same};
+ghost use Rattle.protocol.specs.Tests.{implies, firstRefusal};
+ghost use Rattle.protocol.specs.State.{decode};
+ghost use Rattle.protocol.specs.Deliver.{clashRows};
+ghost use Rattle.frame_refusals.specs.Refusal.{refusalOf, voteAgrees};
+ghost use Rattle.frame_refusals.specs.Given.{Read};
+ghost use Rattle.fields.specs.Book.{heightIn};
+
+// Whether what a frame carries is what is kept, where that is to be asked.
+fn agrees(asked: bool, kept: &[u8], carried: &[u8]) -> bool
+    ensures { λ r. ⌜ r ≡ implies asked (same (now (kept .entry)) (now (carried .entry))) ⌝ }
+{
+    if asked {
+        same_bytes(kept, carried)
+    } else {
+        true
+    }
+}
+
+// Whether a vote for a block is the signer's kept one, if there is one. Other kinds pass.
+fn vote_agrees(book: &[u8], h: usize, frame: &[u8]) -> bool
+    requires { ⌜ Read (now book) h (now frame) ⌝ }
+    ensures { λ r. ⌜ r ≡ voteAgrees (heightIn (now (book .entry)) h) (now (frame .entry)) ⌝ }
+{
+    if frame_kind(frame) == 2 {
+        let s = frame_signer(frame);
+        agrees(
+            in_mask(voter_mask(book, h), s),
+            vote_digest(book, h, s),
+            frame_digest(frame),
+        )
+    } else {
+        true
+    }
+}
+
+// The first of refusals 8 and 10 that stands against a frame that is read, and 0 where none does.
+pub fn clash_refusal(book: &[u8], h: usize, frame: &[u8]) -> usize
+    requires { ⌜ Read (now book) h (now frame) ⌝ }
+    ensures { λ r. ⌜ refusalOf r ≡ firstRefusal (clashRows (decode (now (book .entry))) (now (frame .entry))) ⌝ }
+{
+    let kind = frame_kind(frame);
+    let block = frame_block(frame);
+    let proposed = agrees(
+        (kind == 1) & holds_proposal(book, h),
+        proposal(book, h),
+        block,
+    );
+    let voted = vote_agrees(book, h, frame);
+    let certified = agrees(
+        (kind == 5) & is_notarized(book, h),
+        notarized(book, h),
+        block,
+    );
+    first_refusal(8, proposed, 8, voted, 10, certified)
+}

@@ -1,0 +1,2 @@
+pub mod FrameRows
+pub mod Writes

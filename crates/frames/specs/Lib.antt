@@ -1,0 +1,3 @@
+-- What the contracts of frames speak of, and laws about it.
+pub mod Parts
+pub mod Laws
