@@ -95,25 +95,25 @@ module _ (book : Bytes) (r : Ready book) (few : decode book .pendingCount ≤ ma
         ap (λ (x : State). part (x .pool) (16 * k) 16) closed-state
         ∙ moved-entry (decode book) pool-size es sized k (staying-few (decode book) k)
 
-    pub closed-more : (kept : ℕ) {next : Bytes} {more : List Bytes} → kept ≡ length es → k < maximumPending →
+    pub closed-more : (left : ℕ) {next : Bytes} {more : List Bytes} → left ≡ length es → k < maximumPending →
         next ≡ encode (withPool (decode after) (decode after .pendingCount)
-        (put (decode after .pool) (16 * kept) (part (decode after .pool) (16 * k) 16))) →
+        (put (decode after .pool) (16 * left) (part (decode after .pool) (16 * k) 16))) →
         more ≡ es ++ (part (decode book .pool) (16 * k) 16 ∷ []) → next ≡ encode (moved (decode book) more)
-    closed-more kept count inside e m =
+    closed-more left count inside e m =
         e ∙
         ap (λ (x : State). encode (withPool x (x .pendingCount)
-        (put (x .pool) (16 * kept) (part (x .pool) (16 * k) 16)))) closed-state ∙
+        (put (x .pool) (16 * left) (part (x .pool) (16 * k) 16)))) closed-state ∙
         ap (λ (n : ℕ). encode (withPool (moved (decode book) es) (moved (decode book) es .pendingCount)
         (put (moved (decode book) es .pool) (16 * n) (part (moved (decode book) es .pool) (16 * k) 16)))) count ∙
         ap encode (moved-more (decode book) pool-size es sized k (staying-few (decode book) k) inside) ∙
         ap (λ (l : List Bytes). encode (moved (decode book) l)) (sym m)
 
-    pub closed-end : (kept : ℕ) (entry : Bytes) {end : Bytes} {all : List Bytes} → kept ≡ length es → es ≡ all →
-        end ≡ encode (withPending (decode after) (pieces 16 kept (decode after .pool) ++ (entry ∷ []))) →
+    pub closed-end : (left : ℕ) (entry : Bytes) {end : Bytes} {all : List Bytes} → left ≡ length es → es ≡ all →
+        end ≡ encode (withPending (decode after) (pieces 16 left (decode after .pool) ++ (entry ∷ []))) →
         end ≡ encode (withPending (decode book) (all ++ (entry ∷ [])))
-    closed-end kept entry count a e =
+    closed-end left entry count a e =
         e ∙
-        ap (λ (x : State). encode (withPending x (pieces 16 kept (x .pool) ++ (entry ∷ [])))) closed-state ∙
+        ap (λ (x : State). encode (withPending x (pieces 16 left (x .pool) ++ (entry ∷ [])))) closed-state ∙
         ap (λ (n : ℕ). encode (withPending (moved (decode book) es)
         (pieces 16 n (moved (decode book) es .pool) ++ (entry ∷ [])))) count ∙
         ap (λ (l : List Bytes). encode (withPending (moved (decode book) es) (l ++ (entry ∷ []))))

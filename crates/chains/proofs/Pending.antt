@@ -54,8 +54,8 @@ module _ (s : State) (x : Bytes) (k : ℕ) where
   pending-over h = ap (holds x) (pending-done s k h) ∙ holds-none x
 
 -- ---- those that stay
-pub one-more : (es : List Bytes) (entry : Bytes) {more : List Bytes} {kept : ℕ} → kept ≡ length es →
-    more ≡ es ++ (entry ∷ []) → kept + 1 ≡ length more
+pub one-more : (es : List Bytes) (entry : Bytes) {more : List Bytes} {left : ℕ} → left ≡ length es →
+    more ≡ es ++ (entry ∷ []) → left + 1 ≡ length more
 one-more es entry p q = rw p (sym (ap length q ∙ length-append es (entry ∷ [])))
 
 pub all-stay : (s : State) (finalized k : ℕ) → finalized ≡ s .finalized → s .pendingCount ≤ k →

@@ -75,17 +75,17 @@ pub fn unlogged_count(book: &[u8]) -> usize
 {
     let finalized = fields::head::finalized(book);
     let count = fields::head::pending_count(book);
-    let mut kept = 0;
+    let mut left = 0;
     let mut k = 0;
     while k < count {
         if chain_holds(book, finalized, fields::pool::pending_entry(book, k)) {
             k += 1;
         } else {
-            kept += 1;
+            left += 1;
             k += 1;
         }
     }
-    kept
+    left
 }
 
 // Whether this entry is pending. Compares at most 32 entries.
@@ -108,7 +108,7 @@ pub fn is_pending(book: &[u8], entry: &[u8]) -> bool
 
 // Makes the pending entries that the log does not hold, and `entry` after them, all that is pending. Closes the pool up
 // in place and walks the log once for each pending entry, 32 times at most.
-pub fn keep_unlogged(book: &mut [u8], entry: &[u8])
+pub fn add_pending(book: &mut [u8], entry: &[u8])
     requires { ⌜ Ready (now book) ⌝ }
     requires { ⌜ Walkable (now book) (decode (now book) .finalized) ⌝ }
     requires { ⌜ (decode (now book) .pendingCount ≤ maximumPending) ×
@@ -119,16 +119,16 @@ pub fn keep_unlogged(book: &mut [u8], entry: &[u8])
 {
     let log_height = fields::head::finalized(book);
     let count = fields::head::pending_count(book);
-    let mut kept = 0;
+    let mut left = 0;
     let mut k = 0;
     while k < count {
         if chain_holds(book, log_height, fields::pool::pending_entry(book, k)) {
             k += 1;
         } else {
-            changes::pool::move_entry(book, k, kept);
-            kept += 1;
+            changes::pool::move_entry(book, k, left);
+            left += 1;
             k += 1;
         }
     }
-    changes::pool::finish_pool(book, kept, entry);
+    changes::pool::finish_pool(book, left, entry);
 }

@@ -87,21 +87,21 @@ module _ (book : Bytes) (ready : Ready book) (h : ℕ) (within : Within book h) 
   named claim p = subst claim (suc-pred h (within .low)) p
 
   module _ (content : ℕ) (content-place : content ≡ 576 + 16 * (h - 1)) where
-    pub kept-mask : (k : ℕ) → 1 ≤ k → k ≤ 2 → (mask : ℕ) →
+    pub mask-set : (k : ℕ) → 1 ≤ k → k ≤ 2 → (mask : ℕ) →
         put book (content + (2 + 2 * k)) (le16 mask) ≡ encode
         (withHeight (decode book) h (withMaskAt (at (decode book) h) k mask))
-    kept-mask zero low high mask = absurd (omega arith)
-    kept-mask (suc zero) low high mask =
+    mask-set zero low high mask = absurd (omega arith)
+    mask-set (suc zero) low high mask =
         rw content-place
         (named (λ i. put book (576 + 16 * (h - 1) + 4) (le16 mask) ≡ encode
         (withHeight (decode book) i (withMaskAt (at (decode book) i) 1 mask)))
         (book-dummy-mask book (ready .whole) (ready .readable .sized .size) (h - 1) inside mask))
-    kept-mask (suc (suc zero)) low high mask =
+    mask-set (suc (suc zero)) low high mask =
         rw content-place
         (named (λ i. put book (576 + 16 * (h - 1) + 6) (le16 mask) ≡ encode
         (withHeight (decode book) i (withMaskAt (at (decode book) i) 2 mask)))
         (book-finalize-mask book (ready .whole) (ready .readable .sized .size) (h - 1) inside mask))
-    kept-mask (suc (suc (suc k))) low high mask = absurd (omega arith)
+    mask-set (suc (suc (suc k))) low high mask = absurd (omega arith)
 
     module _ (body : ℕ) (body-place : body ≡ 576 + 16 * bookHeights book + 864 * (h - 1)) where
       pub held-proposal : part book body 176 ≡ at (decode book) h .proposal
@@ -111,10 +111,10 @@ module _ (book : Bytes) (ready : Ready book) (h : ℕ) (within : Within book h) 
           (read-proposal book (h - 1) inside))
 
       module _ (status : ℕ) (status-is : status ≡ at (decode book) h .status) where
-        pub kept-proposal : (block : Bytes) → length block ≡ 176 →
+        pub proposal-set : (block : Bytes) → length block ≡ 176 →
             put (set book (content + 1) (status + 1)) body block ≡ encode
             (withHeight (decode book) h (withProposal (at (decode book) h) block))
-        kept-proposal block e =
+        proposal-set block e =
             rw (content-place, body-place, status-is)
             (named (λ k. put (set book (576 + 16 * (h - 1) + 1) (at (decode book) k .status + 1))
             (576 + 16 * bookHeights book + 864 * (h - 1)) block ≡
@@ -122,11 +122,11 @@ module _ (book : Bytes) (ready : Ready book) (h : ℕ) (within : Within book h) 
             (book-proposal book (ready .whole) (ready .readable .sized .size) (h - 1) inside block e))
 
         -- `copied` is the book after the block was copied to its place, and `marked` after status and mask were written
-        pub kept-notarized : (mask : ℕ) (block : Bytes) → length block ≡ 176 → (copied : Bytes) →
+        pub notarized-set : (mask : ℕ) (block : Bytes) → length block ≡ 176 → (copied : Bytes) →
             copied ≡ put book (body + 176) block →
             (marked : Bytes) → marked ≡ put (set copied (content + 1) (status + 2)) (content + 2) (le16 mask) →
             marked ≡ encode (withHeight (decode book) h (withNotarized (at (decode book) h) mask block))
-        kept-notarized mask block e copied copy marked mark =
+        notarized-set mask block e copied copy marked mark =
             rw (mark, copy, content-place, body-place, status-is)
             (named (λ k. put (set (put book (576 + 16 * bookHeights book + 864 * (h - 1) + 176) block)
             (576 + 16 * (h - 1) + 1) (at (decode book) k .status + 2)) (576 + 16 * (h - 1) + 2) (le16 mask) ≡
@@ -134,22 +134,22 @@ module _ (book : Bytes) (ready : Ready book) (h : ℕ) (within : Within book h) 
             (book-block book ready (h - 1) inside mask block e))
 
         -- the same with the held proposal, copied inside the book
-        pub kept-held : (mask : ℕ) (copied : Bytes) → copied ≡ put book (body + 176) (part book body 176) →
+        pub held-set : (mask : ℕ) (copied : Bytes) → copied ≡ put book (body + 176) (part book body 176) →
             (marked : Bytes) → marked ≡ put (set copied (content + 1) (status + 2)) (content + 2) (le16 mask) →
             marked ≡ encode (withHeight (decode book) h
             (withNotarized (at (decode book) h) mask (at (decode book) h .proposal)))
-        kept-held mask copied copy marked mark =
-            kept-notarized mask (at (decode book) h .proposal)
+        held-set mask copied copy marked mark =
+            notarized-set mask (at (decode book) h .proposal)
             (height-shaped book h (ready .readable .sized .size) within .proposal-size) copied
             (copy ∙ ap (λ (block : Bytes). put book (body + 176) block) held-proposal) marked mark
 
       -- `marked` is the book after the voter mask was written
-      pub kept-vote : (r : ℕ) (digest : Bytes) → r < 16 → length digest ≡ 32 → (mask : ℕ) →
+      pub vote-set : (r : ℕ) (digest : Bytes) → r < 16 → length digest ≡ 32 → (mask : ℕ) →
           mask ≡ at (decode book) h .voterMask + 2 ^ r →
           (marked : Bytes) → marked ≡ put book (content + 8) (le16 mask) →
           put marked (body + (352 + 32 * r)) digest ≡ encode
           (withHeight (decode book) h (withVote (at (decode book) h) r digest))
-      kept-vote r digest small e mask mask-is marked mark =
+      vote-set r digest small e mask mask-is marked mark =
           rw (mark, content-place, body-place, mask-is)
           (named (λ k. put (put book (576 + 16 * (h - 1) + 8) (le16 (at (decode book) k .voterMask + 2 ^ r)))
           (576 + 16 * bookHeights book + 864 * (h - 1) + (352 + 32 * r)) digest ≡

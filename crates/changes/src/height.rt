@@ -18,7 +18,7 @@ ghost use Rattle.fields.specs.Book.{Ready, Within, heightIn, changed};
 ghost use Rattle.fields.specs.Numbered.{withMaskAt};
 
 // Keeps a block as the held proposal of height `h`.
-pub fn keep_proposal(book: &mut [u8], h: usize, block: &[u8])
+pub fn set_proposal(book: &mut [u8], h: usize, block: &[u8])
     requires { ⌜ Ready (now book) ⌝ }
     requires { ⌜ Within (now book) h ⌝ }
     requires { ⌜ heightIn (now book) h .status ≤ 3 ⌝ }
@@ -45,7 +45,7 @@ fn mark_notarized(book: &mut [u8], content: usize, held: usize, mask: usize)
 }
 
 // Keeps a block as the notarized block of height `h`, with the mask of its certificate.
-pub fn keep_notarized(book: &mut [u8], h: usize, mask: usize, block: &[u8])
+pub fn set_notarized(book: &mut [u8], h: usize, mask: usize, block: &[u8])
     requires { ⌜ Ready (now book) ⌝ }
     requires { ⌜ Within (now book) h ⌝ }
     requires { ⌜ heightIn (now book) h .status ≤ 3 ⌝ }
@@ -77,7 +77,7 @@ pub fn notarize_held(book: &mut [u8], h: usize, mask: usize)
 }
 
 // Sets mask `k` of height `h`: 1 of the dummy votes, or 2 of the finalize statements.
-pub fn keep_mask(book: &mut [u8], h: usize, k: usize, mask: usize)
+pub fn set_mask(book: &mut [u8], h: usize, k: usize, mask: usize)
     requires { ⌜ Ready (now book) ⌝ }
     requires { ⌜ Within (now book) h ⌝ }
     requires { ⌜ (1 ≤ k) × (k ≤ 2) ⌝ }
@@ -89,7 +89,7 @@ pub fn keep_mask(book: &mut [u8], h: usize, k: usize, mask: usize)
 }
 
 // Keeps the digest that replica `s` voted for, which had no vote yet.
-pub fn keep_vote(book: &mut [u8], h: usize, s: usize, digest: &[u8])
+pub fn set_vote(book: &mut [u8], h: usize, s: usize, digest: &[u8])
     requires { ⌜ Ready (now book) ⌝ }
     requires { ⌜ Within (now book) h ⌝ }
     requires { ⌜ s < maximumReplicas ⌝ }

@@ -1,9 +1,9 @@
 // What each kind of frame changes at its height. Each function answers whether the book changed.
 use crate::notarize::notarize;
 use crate::notarize::notarize_with;
-use changes::height::keep_mask;
-use changes::height::keep_notarized;
-use changes::height::keep_vote;
+use changes::height::set_mask;
+use changes::height::set_notarized;
+use changes::height::set_vote;
 use fields::height::holds_proposal;
 use fields::height::is_notarized;
 use fields::height::mask_at;
@@ -39,7 +39,7 @@ fn keep_proposal(book: &mut [u8], h: usize, frame: &[u8]) -> bool
         false
     } else {
         let digest = frame_block_digest(frame);
-        changes::height::keep_proposal(book, h, frame_block(frame));
+        changes::height::set_proposal(book, h, frame_block(frame));
         notarize_with(book, h, &digest);
         true
     }
@@ -58,7 +58,7 @@ fn keep_block_vote(book: &mut [u8], h: usize, frame: &[u8]) -> bool
     if in_mask(voter_mask(book, h), s) {
         false
     } else {
-        keep_vote(book, h, s, frame_digest(frame));
+        set_vote(book, h, s, frame_digest(frame));
         notarize(book, h);
         true
     }
@@ -74,7 +74,7 @@ fn keep_block_certificate(book: &mut [u8], h: usize, frame: &[u8]) -> bool
     if is_notarized(book, h) {
         false
     } else {
-        keep_notarized(book, h, frame_mask(frame), frame_block(frame));
+        set_notarized(book, h, frame_mask(frame), frame_block(frame));
         true
     }
 }
@@ -93,7 +93,7 @@ fn join_signers(book: &mut [u8], h: usize, k: usize, signers: usize) -> bool
     if joined == held {
         false
     } else {
-        keep_mask(book, h, k, joined);
+        set_mask(book, h, k, joined);
         true
     }
 }

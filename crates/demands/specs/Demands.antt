@@ -47,8 +47,8 @@ use Rattle.call_laws.specs.Laws.BookBytesLaws.{open-bytes, signal-bytes, submit
 use Rattle.call_laws.specs.Keeping.{Keeps, AllTallied}
 use Rattle.call_laws.specs.Laws.KeepingLaws.{deliver-keeps}
 use Rattle.call_laws.specs.Laws.KeepsExactLaws.{keeps-exact}
-use Rattle.call_laws.specs.Laws.SoundKept.{sound-kept, sound-opened}
-use Rattle.call_laws.specs.Laws.Tallying.{tallied-kept-all, tallied-opened}
+use Rattle.call_laws.specs.Laws.SoundStays.{sound-stays, sound-opened}
+use Rattle.call_laws.specs.Laws.Tallying.{tallied-stays-all, tallied-opened}
 use Rattle.call_laws.specs.Readable.{SameSetting}
 use Rattle.call_laws.specs.WrittenRead.{MoveWritten, FetchWritten}
 use Rattle.call_laws.specs.Laws.CallWrittenLaws.{move-written-read, fetch-written-read}
@@ -121,7 +121,7 @@ move-writes = move-bytes sha256
 -- every call leaves a sound book sound, and Open makes a sound one of any bytes
 pub sound-stays : (book : Bytes) (call : Call) → sound sha256 book ≡ true →
     sound sha256 (bookAfter sha256 book call) ≡ true
-sound-stays = sound-kept sha256
+sound-stays = sound-stays sha256
 
 pub open-makes-sound : (book : Bytes) (n own heights : ℕ) (leaders : Bytes) →
     openCall book n own heights leaders .answer ≡ accepted done →
@@ -166,7 +166,7 @@ pub votes-are-tallied : (book : Bytes) (n own heights : ℕ) (leaders : Bytes) (
     openCall book n own heights leaders .answer ≡ accepted done →
     AllTallied sha256 (decode (bookAfterAll sha256 (openCall book n own heights leaders .book) calls))
 votes-are-tallied book n own heights leaders calls opened =
-    tallied-kept-all sha256 _ calls (sound-opened sha256 book n own heights leaders opened)
+    tallied-stays-all sha256 _ calls (sound-opened sha256 book n own heights leaders opened)
     (tallied-opened sha256 book n own heights leaders opened)
 
 -- ---- demand 2: what is read

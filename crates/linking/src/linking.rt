@@ -28,7 +28,7 @@ pub fn parent_digest(kind: Kind, book: &[u8], j: usize, known: &mut [u8]) -> [u8
     if j == 0 {
         return digest;
     }
-    memory::keep_digest(kind, book, j, known);
+    memory::remember_digest(kind, book, j, known);
     let start = 36 * j + 4;
     wire::bytes::copy_to(&mut digest, 0, &known[start..start + 32]);
     digest

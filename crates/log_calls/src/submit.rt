@@ -48,7 +48,7 @@ fn submit_new(book: &mut [u8], entry: &[u8]) -> Answer
     ensures book { λ _. ⌜ now (book .exit) ≡ submitCall sha (now (book .entry)) (now (entry .entry)) .book ⌝ }
 {
     if leaves_room(book) {
-        chains::entries::keep_unlogged(book, entry);
+        chains::entries::add_pending(book, entry);
         Answer::Done
     } else {
         Answer::Refused(12)

@@ -112,7 +112,7 @@ module _ {heights : ℕ} (v : View) (known : Bytes) (memo : Known heights v know
         (byteAt marked (36 * h) ≡ 1 → linked sha256 v h ≡ true) →
         (byteAt marked (36 * h) ≡ 2 → linked sha256 v h ≡ false) →
         (byteAt marked (36 * h + 1) ≡ 1 → part known (36 * h + 4) 32 ≡ sha256 (v .block h)) → Known heights v marked
-    mark links no-links kept =
+    mark links no-links stays =
         let room = memo .room in
         let sized = length-set known i value in
         let word : word16 marked (36 * h + 2) ≡ word16 known (36 * h + 2) =
@@ -127,7 +127,7 @@ module _ {heights : ℕ} (v : View) (known : Bytes) (memo : Known heights v know
           digest = λ q.
               parts-same marked known (36 * h + 4) (36 * h + 4) 32 (omega arith) (omega arith)
               (λ m in-part. marked-other (36 * h + 4 + m) (λ e. omega arith))
-              ∙ kept q;
+              ∙ stays q;
           run = λ q. word ∙ old .run (omega arith);
         })
 
@@ -143,8 +143,8 @@ module _ {heights : ℕ} (v : View) (known : Bytes) (memo : Known heights v know
       (λ q. e)
       (λ q. old .digest (sym (marked-other (36 * h) 2 (omega arith) (omega arith) (36 * h + 1) (λ p. omega arith)) ∙ q))
 
-  remember-kept : part known (36 * h + 4) 32 ≡ sha256 (v .block h) → Known heights v (set known (36 * h + 1) 1)
-  remember-kept e =
+  remember-seen : part known (36 * h + 4) 32 ≡ sha256 (v .block h) → Known heights v (set known (36 * h + 1) 1)
+  remember-seen e =
       let first = marked-other (36 * h + 1) 1 (omega arith) (omega arith) (36 * h) (λ p. omega arith) in
       mark (36 * h + 1) 1 (omega arith) (omega arith) (λ q. old .is-linked (sym first ∙ q))
       (λ q. old .not-linked (sym first ∙ q)) (λ q. e)
@@ -178,8 +178,8 @@ module _ {heights : ℕ} (v : View) (known : Bytes) (memo : Known heights v know
       after ≡ put known (36 * h + 2) (le16 (start + 1)) → Known heights v after
   remember-run start e after stores = subst (λ (b : Bytes). Known heights v b) (sym stores) (run-stored start e)
 
-  -- ---- a digest is stored, and then said to be kept
-  module _ (new : Bytes) (whole : length new ≡ 32) (unkept : byteAt known (36 * h + 1) ≡ 1 → ⊥)
+  -- ---- a digest is stored, and then said to be known
+  module _ (new : Bytes) (whole : length new ≡ 32) (unknown : byteAt known (36 * h + 1) ≡ 1 → ⊥)
       (is : new ≡ sha256 (v .block h)) where
     abbrev after : Bytes
     after = put known (36 * h + 4) new
@@ -190,7 +190,7 @@ module _ {heights : ℕ} (v : View) (known : Bytes) (memo : Known heights v know
     below : (k : ℕ) → k < 36 * h + 4 → byteAt after k ≡ byteAt known k
     below k less = put-other known new (36 * h + 4) fits k (inl less)
 
-    -- the bytes of a digest may be stored as long as none is said to be kept there
+    -- the bytes of a digest may be stored as long as none is said to be known there
     remember-bytes : Known heights v after
     remember-bytes =
         let word : word16 after (36 * h + 2) ≡ word16 known (36 * h + 2) =
@@ -201,7 +201,7 @@ module _ {heights : ℕ} (v : View) (known : Bytes) (memo : Known heights v know
         (record {
           is-linked = λ q. old .is-linked (sym (below (36 * h) (omega arith)) ∙ q);
           not-linked = λ q. old .not-linked (sym (below (36 * h) (omega arith)) ∙ q);
-          digest = λ q. absurd (unkept (sym (below (36 * h + 1) (omega arith)) ∙ q));
+          digest = λ q. absurd (unknown (sym (below (36 * h + 1) (omega arith)) ∙ q));
           run = λ q. word ∙ old .run (omega arith);
         })
 
@@ -211,15 +211,15 @@ module _ {heights : ℕ} (v : View) (known : Bytes) (memo : Known heights v know
 -- the same after a store whose outcome is known by an equation
 module _ {heights : ℕ} (v : View) (known : Bytes) (memo : Known heights v known) (j : ℕ) (inside : j ≤ heights)
     (new : Bytes) (whole : length new ≡ 32)
-    (unkept : byteAt known (36 * j + 1) ≡ 1 → ⊥) (is : new ≡ sha256 (v .block j)) where
+    (unknown : byteAt known (36 * j + 1) ≡ 1 → ⊥) (is : new ≡ sha256 (v .block j)) where
   digest-stored : (part (set (put known (36 * j + 4) new) (36 * j + 1) 1) (36 * j + 4) 32 ≡ sha256 (v .block j)) × Known
       heights v (set (put known (36 * j + 4) new) (36 * j + 1) 1)
   digest-stored =
-      let bytes = remember-bytes v known memo j inside new whole unkept is in
-      let kept = remember-kept v (put known (36 * j + 4) new) bytes j inside
-      (there v known memo j inside new whole unkept is) in
+      let bytes = remember-bytes v known memo j inside new whole unknown is in
+      let stays = remember-seen v (put known (36 * j + 4) new) bytes j inside
+      (there v known memo j inside new whole unknown is) in
       let room = bytes .room in
-      (kept .each j inside .digest (getD-set-same (put known (36 * j + 4) new) (36 * j + 1) 1 0 (omega arith)), kept)
+      (stays .each j inside .digest (getD-set-same (put known (36 * j + 4) new) (36 * j + 1) 1 0 (omega arith)), stays)
 
   pub stored : (stores : Bytes) → stores ≡ put known (36 * j + 4) new →
       (part (set stores (36 * j + 1) 1) (36 * j + 4) 32 ≡ sha256 (v .block j)) × Known heights v

@@ -23,7 +23,7 @@ abbrev pub memorySize : ℕ
 memorySize = 36 * (maximumHeights + 1)
 
 -- What the 36 bytes of a height say. The first is 1 where the height is known to be linked, and 2 where it is known not
--- to be. The second is 1 where the digest of the height's notarized block is kept, in the last 32 bytes. The two
+-- to be. The second is 1 where the digest of the height's notarized block stands in the last 32 bytes. The two
 -- between are 0, or one more than the start of the run of dummies that ends at the height.
 pub record KnownAt (v : View) (known : Bytes) (h : ℕ) : Type 0 where
   pub is-linked : byteAt known (36 * h) ≡ 1 → linked sha256 v h ≡ true

@@ -1,5 +1,5 @@
 // What a call remembers of a book while it walks it, so that it looks at each height, counts each mask and computes
-// each digest once. A memory has 36 bytes a height: whether it is linked, whether its digest is kept, where its run of
+// each digest once. A memory has 36 bytes a height: whether it is linked, whether its digest is known, where its run of
 // dummies starts (two bytes), and the digest.
 use fields::kind::Kind;
 ghost use mathlib.Core.Path.{_≡_};
@@ -14,17 +14,16 @@ ghost use Rattle.memory.specs.Memo.{MemoAs, runStart};
 // The size of a memory of the largest book.
 pub const SIZE: usize = 2304;
 
-// Keeps the digest of the notarized block of height `j`. Costs one digest where it is not kept yet, and one read where
-// it is.
-pub fn keep_digest(kind: Kind, book: &[u8], j: usize, known: &mut [u8])
+// Remembers the digest of the notarized block of height `j`. Costs one digest the first time, and one read after that.
+pub fn remember_digest(kind: Kind, book: &[u8], j: usize, known: &mut [u8])
     requires { ⌜ Shown kind (now book) ⌝ }
     requires { ⌜ MemoAs kind (now book) (now known) ⌝ }
     requires { ⌜ Within (now book) j ⌝ }
-    ensures kept { λ _. ⌜ part (now (known .exit)) (36 * j + 4) 32 ≡ sha (viewOf kind (now (book .entry)) .block j) ⌝ }
+    ensures digest { λ _. ⌜ part (now (known .exit)) (36 * j + 4) 32 ≡ sha (viewOf kind (now (book .entry)) .block j) ⌝ }
     ensures memo { λ _. ⌜ MemoAs kind (now (book .entry)) (now (known .exit)) ⌝ }
 {
-    let kept = known[36 * j + 1];
-    if kept == 1 {
+    let seen = known[36 * j + 1];
+    if seen == 1 {
         return;
     }
     let digest = sha256::sha256(fields::kind::block(kind, book, j));

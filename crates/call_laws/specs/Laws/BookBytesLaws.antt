@@ -29,7 +29,7 @@ use Rattle.protocol.specs.Laws.WriteLaws.{write-pool, write-pending-count}
 use Rattle.protocol.specs.Laws.MoveLaws.{head-only}
 use Rattle.protocol.specs.Laws.SoundLaws.{sound-decode, encode-decode}
 use Rattle.call_laws.specs.Laws.RefusalsLaws.{refused≢accepted}
-use Rattle.call_laws.specs.Laws.SubmitKeptLaws.{submit-sound}
+use Rattle.call_laws.specs.Laws.SubmitSoundLaws.{submit-sound}
 use Rattle.call_laws.specs.BookBytes.{openedBook, Signals, entriesAfter, Submits, headOf}
 
 -- to prove something of a call that says no more than that it was done, prove it where no row refuses

@@ -12,7 +12,7 @@ use Rattle.protocol.specs.Deliver.{withProposal, withNotarized, withMasks, with
 use Rattle.protocol.specs.Laws.PlaceLaws.{length-encode, suc-pred, last-with, shaped-with}
 use Rattle.protocol.specs.Laws.ChangeLaws.{make-proposal, make-notarized, make-dummy-mask, make-finalize-mask}
 use Rattle.protocol.specs.Laws.ChangeLaws.{make-vote}
-use Rattle.call_laws.specs.Laws.DeliverKeptLaws.{shaped}
+use Rattle.call_laws.specs.Laws.DeliverSoundLaws.{shaped}
 use Rattle.call_laws.specs.KeptBytes.{SameOutside, contentAt, bodyAt, proposalParts, voteParts, dummyParts}
 use Rattle.call_laws.specs.KeptBytes.{finalizeParts, notarizedParts}
 use Rattle.call_laws.specs.Laws.OutsideLaws.{put-outside, set-outside, both-outside}

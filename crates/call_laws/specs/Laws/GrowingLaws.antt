@@ -15,7 +15,7 @@ use Rattle.protocol.specs.Move.{step}
 use Rattle.protocol.specs.Laws.MoveLaws.{step-body}
 use Rattle.call_laws.specs.Grows.{Grows}
 use Rattle.call_laws.specs.Laws.GrowsLaws.{same-grows}
-use Rattle.call_laws.specs.Laws.DeliverKeptLaws.{keep-grows, keep-sound}
+use Rattle.call_laws.specs.Laws.DeliverSoundLaws.{keep-grows, keep-sound}
 
 module _ (digest : Bytes → Bytes) where
   pub deliver-grows : (book frame : Bytes) → sound digest book ≡ true →

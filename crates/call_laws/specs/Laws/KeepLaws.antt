@@ -17,7 +17,7 @@ use Rattle.protocol.specs.Laws.DeliverLaws.{notarize-cases}
 use Rattle.protocol.specs.Laws.MaskLaws.{add-below, maskOf-below}
 use Rattle.protocol.specs.Laws.FormedLaws.{formed}
 use Rattle.protocol.specs.Laws.ChangeLaws.{shaped-proposal, shaped-notarized, shaped-masks, shaped-vote}
-use Rattle.call_laws.specs.Laws.HeightKeptLaws.{Replaces}
+use Rattle.call_laws.specs.Laws.HeightSoundLaws.{Replaces}
 
 -- ---- what a status says
 none-held : (x : Height) → holdsProposal x ≡ false → x .status % 2 ≡ 0

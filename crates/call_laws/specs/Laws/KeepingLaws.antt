@@ -19,7 +19,7 @@ use Rattle.protocol.specs.Laws.PlaceLaws.{length-encode}
 use Rattle.protocol.specs.Laws.CodecLaws.{last-decode}
 use Rattle.protocol.specs.Laws.DeliverLaws.{Accepts, deliver-cases}
 use Rattle.protocol.specs.Laws.SoundLaws.{exact, encode-decode, sound-encode}
-use Rattle.call_laws.specs.Laws.DeliverKeptLaws.{keep-sound}
+use Rattle.call_laws.specs.Laws.DeliverSoundLaws.{keep-sound}
 use Rattle.call_laws.specs.KeptBytes.{Part, SameOutside, deliveryParts}
 use Rattle.call_laws.specs.Laws.KeptBytesLaws.{keep-only, keep-other}
 use Rattle.call_laws.specs.Laws.RefusalsLaws.{refused≢accepted}

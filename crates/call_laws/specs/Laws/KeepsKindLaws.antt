@@ -21,7 +21,7 @@ use Rattle.protocol.specs.Laws.UnionLaws.{union-bit}
 use Rattle.protocol.specs.Laws.TestsLaws.{cond-elim}
 use Rattle.protocol.specs.Laws.VoteLaws.{vote-same, vote-other}
 use Rattle.protocol.specs.Laws.DeliverLaws.{notarize-cases}
-use Rattle.call_laws.specs.Laws.DeliverKeptLaws.{shaped}
+use Rattle.call_laws.specs.Laws.DeliverSoundLaws.{shaped}
 use Rattle.call_laws.specs.Keeping.{says, NewlyKept, KeepsMasks, KeepsVotes, KeepsProposal, KeepsBlock, KeepsAt}
 use Rattle.call_laws.specs.Keeping.{Voted, Tallied, heldVoters}
 use Rattle.call_laws.specs.Laws.HeightBitsLaws.{known-bit, known-bits, new-bit, holds-notarized, is-notarized}

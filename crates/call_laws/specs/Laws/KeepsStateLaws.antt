@@ -14,7 +14,7 @@ use Rattle.protocol.specs.Laws.StateLaws.{decode-encode}
 use Rattle.protocol.specs.Laws.PlaceLaws.{with-at, at-with}
 use Rattle.protocol.specs.Laws.SoundLaws.{sound-decode}
 use Rattle.protocol.specs.Laws.DeliverLaws.{Agrees, Accepts, digest-size, signer-few, keep-cases}
-use Rattle.call_laws.specs.Laws.DeliverKeptLaws.{keep-sound, shaped}
+use Rattle.call_laws.specs.Laws.DeliverSoundLaws.{keep-sound, shaped}
 use Rattle.call_laws.specs.Keeping.{KeepsState}
 use Rattle.call_laws.specs.Laws.KeepsKindLaws.{left, Kept, proposal-keeps, vote-keeps, dummy-keeps}
 use Rattle.call_laws.specs.Laws.KeepsKindLaws.{finalize-keeps, certificate-keeps, dummy-certificate-keeps}

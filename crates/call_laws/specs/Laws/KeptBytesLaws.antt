@@ -21,7 +21,7 @@ use Rattle.protocol.specs.Deliver.{keepFinalizeCertificate, keep}
 use Rattle.protocol.specs.Laws.TestsLaws.{cond-elim}
 use Rattle.protocol.specs.Laws.ChangeLaws.{shaped-proposal, shaped-vote}
 use Rattle.protocol.specs.Laws.DeliverLaws.{OnSome, digest-size, block-size, signer-few, keep-cases, notarize-cases}
-use Rattle.call_laws.specs.Laws.DeliverKeptLaws.{shaped}
+use Rattle.call_laws.specs.Laws.DeliverSoundLaws.{shaped}
 use Rattle.call_laws.specs.Laws.HeightBitsLaws.{is-notarized, proposal-status}
 use Rattle.call_laws.specs.KeptBytes.{Part, SameOutside, proposalParts, voteParts, notarizedParts, keptParts}
 use Rattle.call_laws.specs.KeptBytes.{newlyNotarized}

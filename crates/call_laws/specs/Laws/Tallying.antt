@@ -12,32 +12,32 @@ use Rattle.protocol.specs.Open.{openCall}
 use Rattle.protocol.specs.Call.{Call, opening, delivery, moving, signalling, submitting, sizing, reading, fetching}
 use Rattle.protocol.specs.Call.{effect, bookAfter, bookAfterAll}
 use Rattle.call_laws.specs.Keeping.{AllTallied}
-use Rattle.call_laws.specs.Laws.SoundKept.{sound-kept}
+use Rattle.call_laws.specs.Laws.SoundStays.{sound-stays}
 use Rattle.call_laws.specs.Laws.TallyingLaws.{open-tallied, open-keeps, deliver-keeps-tallies, move-keeps}
 use Rattle.call_laws.specs.Laws.TallyingLaws.{signal-keeps, submit-keeps}
 
 module _ (digest : Bytes → Bytes) where
   -- each call on a sound book keeps that all its heights are tallied
-  pub tallied-kept : (book : Bytes) (call : Call) → sound digest book ≡ true → AllTallied digest (decode book) →
+  pub tallied-stays : (book : Bytes) (call : Call) → sound digest book ≡ true → AllTallied digest (decode book) →
       AllTallied digest (decode (bookAfter digest book call))
   unfolding effect
-  tallied-kept book (opening n own heights leaders) was all = open-keeps digest book n own heights leaders all
-  tallied-kept book (delivery frame) was all = deliver-keeps-tallies digest book was all frame
-  tallied-kept book (moving reply) was all = move-keeps digest book was all reply
-  tallied-kept book (signalling h) was all = signal-keeps digest book was all h
-  tallied-kept book (submitting entry) was all = submit-keeps digest book was all entry
-  tallied-kept book sizing was all = all
-  tallied-kept book (reading buffer) was all = all
-  tallied-kept book (fetching k h reply) was all = all
+  tallied-stays book (opening n own heights leaders) was all = open-keeps digest book n own heights leaders all
+  tallied-stays book (delivery frame) was all = deliver-keeps-tallies digest book was all frame
+  tallied-stays book (moving reply) was all = move-keeps digest book was all reply
+  tallied-stays book (signalling h) was all = signal-keeps digest book was all h
+  tallied-stays book (submitting entry) was all = submit-keeps digest book was all entry
+  tallied-stays book sizing was all = all
+  tallied-stays book (reading buffer) was all = all
+  tallied-stays book (fetching k h reply) was all = all
 
   -- and so does each list of calls
-  pub tallied-kept-all : (book : Bytes) (calls : List Call) → sound digest book ≡ true →
+  pub tallied-stays-all : (book : Bytes) (calls : List Call) → sound digest book ≡ true →
       AllTallied digest (decode book) → AllTallied digest (decode (bookAfterAll digest book calls))
   unfolding bookAfterAll
-  tallied-kept-all book [] was all = all
-  tallied-kept-all book (call ∷ calls) was all =
-      tallied-kept-all (bookAfter digest book call) calls (sound-kept digest book call was)
-      (tallied-kept book call was all)
+  tallied-stays-all book [] was all = all
+  tallied-stays-all book (call ∷ calls) was all =
+      tallied-stays-all (bookAfter digest book call) calls (sound-stays digest book call was)
+      (tallied-stays book call was all)
 
   -- Open that is not refused leaves such a book, whatever bytes were there
   pub tallied-opened : (book : Bytes) (n own heights : ℕ) (leaders : Bytes) →

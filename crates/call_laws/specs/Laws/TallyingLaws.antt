@@ -27,15 +27,15 @@ use Rattle.protocol.specs.Laws.NewStateLaws.{new-shaped}
 use Rattle.protocol.specs.Laws.MoveLaws.{HeadOnly, head-only}
 use Rattle.protocol.specs.Laws.DeliverLaws.{deliver-cases}
 use Rattle.protocol.specs.Laws.SoundLaws.{sound-decode}
-use Rattle.call_laws.specs.Laws.SoundKeptLaws.{unless-refused}
-use Rattle.call_laws.specs.Laws.MoveKeptLaws.{step-sound}
-use Rattle.call_laws.specs.Laws.SubmitKeptLaws.{submit-sound}
+use Rattle.call_laws.specs.Laws.SoundStaysLaws.{unless-refused}
+use Rattle.call_laws.specs.Laws.MoveSoundLaws.{step-sound}
+use Rattle.call_laws.specs.Laws.SubmitSoundLaws.{submit-sound}
 use Rattle.call_laws.specs.Laws.GrowsLaws.{same-quorum, views-alike}
 use Rattle.call_laws.specs.Grows.{SameReplicas}
 use Rattle.call_laws.specs.Keeping.{Voted, Tallied, AllTallied, KeepsState}
 use Rattle.call_laws.specs.Laws.RefusalsLaws.{refused≢accepted}
 use Rattle.call_laws.specs.Laws.KeepsStateLaws.{fresh-keeps}
-use Rattle.call_laws.specs.Laws.HeightKeptLaws.{each-height}
+use Rattle.call_laws.specs.Laws.HeightSoundLaws.{each-height}
 
 module _ (digest : Bytes → Bytes) where
   -- tallies go by the replicas alone

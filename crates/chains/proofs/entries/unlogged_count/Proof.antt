@@ -13,11 +13,11 @@ use Rattle.chains.proofs.entries.unlogged_count.Statement.{statement}
 use Rattle.chains.proofs.entries.unlogged_count.Tie as tie
 
 abbrev Inv-loop : tie.InvT-loop
-Inv-loop book finalized count kept₀ k₀ kept k = (k ≤ count) ×
-    (kept ≡ length (without (logAt (view (decode book)) finalized) (take k (pending (decode book))))) × (kept ≤ k)
+Inv-loop book finalized count left₀ k₀ left k = (k ≤ count) ×
+    (left ≡ length (without (logAt (view (decode book)) finalized) (take k (pending (decode book))))) × (left ≤ k)
 
 abbrev μ-loop : tie.MeasureT-loop
-μ-loop book finalized count kept₀ k₀ kept k = count - k
+μ-loop book finalized count left₀ k₀ left k = count - k
 
 finalized-requires : tie.Need-finalized-requires Inv-loop μ-loop
 finalized-requires c κs = c .before .pre .0 .shown

@@ -2,7 +2,7 @@
 -- written.
 use native.Mathlib.Omega.{arith}
 use mathlib.Core.Logic.{inr}
-use Rattle.changes.proofs.Writes.{kept-held}
+use Rattle.changes.proofs.Writes.{held-set}
 use borrow.Author.Needs.{needs}
 use Rattle.changes.proofs.height.notarize_held.Statement.{statement}
 use Rattle.changes.proofs.height.notarize_held.Tie as tie
@@ -18,7 +18,7 @@ returns c =
     let placed = read .before .before in
     let begun = placed .before .before in
     let start = begun .before .before in
-    kept-held (start .args .book .now) (start .pre .0) (start .args .h) (start .pre .1 .0) _
+    held-set (start .args .book .now) (start .pre .0) (start .args .h) (start .pre .1 .0) _
     (begun .content-at .ensures) _ (placed .body-at .ensures) _
     (read .status .ensures .0) (start .args .mask) _ (copied .copy-inside .ensures) _
     (after-mark-notarized .mark-notarized .ensures)

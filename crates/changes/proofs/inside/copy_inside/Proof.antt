@@ -7,7 +7,7 @@ use lib.ListN.{length, length-set}
 use lib.Seq.{paste, paste-zero}
 use Rattle.protocol.specs.Bytes.{byteAt, part}
 use Rattle.protocol.specs.Laws.BytesLaws.{length-part, put-paste}
-use Rattle.changes.proofs.Copies.{copy-more, rest-kept}
+use Rattle.changes.proofs.Copies.{copy-more, rest-stays}
 use Rattle.changes.proofs.inside.copy_inside.Statement.{statement}
 use Rattle.changes.proofs.inside.copy_inside.Tie as tie
 
@@ -38,7 +38,7 @@ loop-again c =
       copy-more (args .bytes .now) (at .bytes) (args .from) (args .to) (args .count) (at .i) (at .inv .1)
           (at .inv .3 (at .i) (omega arith) (omega arith)) (omega arith) (start .pre .0) (start .pre .1 .0),
       rw length-set (at .inv .2),
-      rest-kept (args .bytes .now) (at .bytes) (args .from) (args .to) (args .count) (at .i) (start .pre .1 .1)
+      rest-stays (args .bytes .now) (at .bytes) (args .from) (args .to) (args .count) (at .i) (start .pre .1 .1)
           (at .inv .3) _,
     )
 

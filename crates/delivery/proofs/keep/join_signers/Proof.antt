@@ -11,8 +11,8 @@ use borrow.Author.Needs.{needs}
 use Rattle.delivery.proofs.keep.join_signers.Statement.{statement}
 use Rattle.delivery.proofs.keep.join_signers.Tie as tie
 
-keep-mask-requires : tie.Need-keep-mask-requires
-keep-mask-requires c κs =
+set-mask-requires : tie.Need-set-mask-requires
+set-mask-requires c κs =
     let after-mask-at = c .before .before in
     let start = after-mask-at .before .before .before in
     let spot = start .pre .0 in (
@@ -38,19 +38,19 @@ returns c =
 returns-2 : tie.Need-returns-2
 unfolding joinSigners
 returns-2 c =
-    let after-keep-mask = c .before .before in
-    let branch = after-keep-mask .before .before in
+    let after-set-mask = c .before .before in
+    let branch = after-set-mask .before .before in
     let start = branch .before .before .before .before in
     let book = start .args .book .now in
     let h = start .args .h in
     let held = branch .before .mask-at .ensures .0 in
     let joined = ap (λ (mask : ℕ). bitOr mask (start .args .signers)) held in
     let more = ne-eqb _ _ (λ e. branch .if1 .left (joined ∙ e ∙ sym held)) in
-    new-frame book h _ _ _ more (after-keep-mask .keep-mask .ensures
+    new-frame book h _ _ _ more (after-set-mask .set-mask .ensures
     ∙ ap (λ (mask : ℕ). encode (withHeight (decode book) h (withMaskAt (at (decode book) h) (start .args .k) mask)))
     joined)
 
 pub join-signers-spec : {M : Type 1} → statement M
 join-signers-spec =
     tie.close
-    (tie.spec (λ c κs. search needs) keep-mask-requires (λ c. search needs) returns (λ c. search needs) returns-2)
+    (tie.spec (λ c κs. search needs) set-mask-requires (λ c. search needs) returns (λ c. search needs) returns-2)

@@ -9,8 +9,8 @@ use borrow.Author.Needs.{needs}
 use Rattle.delivery.proofs.keep.keep_block_certificate.Statement.{statement}
 use Rattle.delivery.proofs.keep.keep_block_certificate.Tie as tie
 
-keep-notarized-requires : tie.Need-keep-notarized-requires
-keep-notarized-requires c κs =
+set-notarized-requires : tie.Need-set-notarized-requires
+set-notarized-requires c κs =
     let after-frame-mask = c .before in
     let start = after-frame-mask .before .before .before .before .before .before .before in
     let given = start .pre in (
@@ -36,8 +36,8 @@ returns c =
 returns-2 : tie.Need-returns-2
 unfolding keepBlockCertificate
 returns-2 c =
-    let after-keep-notarized = c .before .before in
-    let after-frame-block = after-keep-notarized .before in
+    let after-set-notarized = c .before .before in
+    let after-frame-block = after-set-notarized .before in
     let after-frame-mask = after-frame-block .before in
     let branch = after-frame-mask .before .before in
     let start = branch .before .before .before .before .before in
@@ -47,7 +47,7 @@ returns-2 c =
     let free = sym (branch .before .is-notarized .ensures) ∙ branch .if1 .left in
     let signed = after-frame-mask .frame-mask .ensures .0 in
     let carried = after-frame-block .frame-block .ensures .0 in
-    new-frame book h _ _ _ free (after-keep-notarized .keep-notarized .ensures
+    new-frame book h _ _ _ free (after-set-notarized .set-notarized .ensures
     ∙ ap₂ (λ (mask : ℕ) (block : Bytes). encode (withHeight (decode book) h (withNotarized x mask block))) signed
     carried)
 
@@ -58,7 +58,7 @@ keep-block-certificate-spec =
     (λ c κs. search needs)
     (λ c κs. search needs)
     (λ c κs. search needs)
-    keep-notarized-requires
+    set-notarized-requires
     (λ c. search needs)
     returns
     (λ c. search needs)

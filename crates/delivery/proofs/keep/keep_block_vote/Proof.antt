@@ -25,8 +25,8 @@ in-mask-requires c κs =
     let signed = after-frame-signer .frame-signer .ensures .0 in
     omega (arith, signed, start .pre .1, few-replicas _ (given .spot .ready .readable))
 
-keep-vote-requires : tie.Need-keep-vote-requires
-keep-vote-requires c κs =
+set-vote-requires : tie.Need-set-vote-requires
+set-vote-requires c κs =
     let after-if1 = c .before .before in
     let after-in-mask = after-if1 .before in
     let after-voter-mask = after-in-mask .before in
@@ -56,8 +56,8 @@ keep-vote-requires c κs =
 
 notarize-requires : tie.Need-notarize-requires
 notarize-requires c κs =
-    let after-keep-vote = c .before .before .before in
-    let after-frame-digest = after-keep-vote .before in
+    let after-set-vote = c .before .before .before in
+    let after-frame-digest = after-set-vote .before in
     let after-frame-signer = after-frame-digest .before .before .before .before .before .before in
     let start = after-frame-signer .before .before .before in
     let book = start .args .book .now in
@@ -73,7 +73,7 @@ notarize-requires c κs =
       few-replicas _ (given .spot .ready .readable),
     )) (after-frame-digest .frame-digest .ensures .1)
     (shaped-here book h (given .spot)) in
-    spot-after book h (given .spot) _ fits _ (after-keep-vote .keep-vote .ensures)
+    spot-after book h (given .spot) _ fits _ (after-set-vote .set-vote .ensures)
     (vote-status x _ _ (given .spot .status-small))
 
 returns : tie.Need-returns
@@ -94,8 +94,8 @@ returns-2 : tie.Need-returns-2
 unfolding keepBlockVote
 returns-2 c =
     let after-notarize = c .before .before in
-    let after-keep-vote = after-notarize .before .before .before .before in
-    let after-frame-digest = after-keep-vote .before in
+    let after-set-vote = after-notarize .before .before .before .before in
+    let after-frame-digest = after-set-vote .before in
     let branch = after-frame-digest .before .before in
     let start = branch .before .before .before .before .before .before .before in
     let book = start .args .book .now in
@@ -113,7 +113,7 @@ returns-2 c =
       start .pre .1,
       few-replicas _ (given .spot .ready .readable),
     )) (named .1) (shaped-here book h (given .spot)) in
-    let counted = notarized-after book h (given .spot) _ fits sha256 _ _ (after-keep-vote .keep-vote .ensures)
+    let counted = notarized-after book h (given .spot) _ fits sha256 _ _ (after-set-vote .set-vote .ensures)
     (after-notarize .notarize .ensures) in
     new-frame book h _ _ _ missing
     (counted ∙ ap₂ (λ (k : ℕ) (digest : Bytes). encode
@@ -127,7 +127,7 @@ keep-block-vote-spec =
     (λ c κs. search needs)
     in-mask-requires
     (λ c κs. search needs)
-    keep-vote-requires
+    set-vote-requires
     notarize-requires
     (λ c. search needs)
     returns

@@ -14,8 +14,8 @@ use Rattle.delivery.proofs.keep.keep_proposal.Tie as tie
 
 notarize-with-requires : tie.Need-notarize-with-requires
 notarize-with-requires c κs =
-    let after-keep-proposal = c .before .before .before .before in
-    let after-frame-block = after-keep-proposal .before in
+    let after-set-proposal = c .before .before .before .before in
+    let after-frame-block = after-set-proposal .before in
     let after-frame-block-digest = after-frame-block .before .before in
     let branch = after-frame-block-digest .before in
     let start = branch .before .before .before .before .before in
@@ -26,7 +26,7 @@ notarize-with-requires c κs =
     let free = sym (branch .before .holds-proposal .ensures) ∙ branch .if1 .left in
     let carried = after-frame-block .frame-block .ensures in
     let fits = shaped-proposal x _ (carried .1) (shaped-here book h spot) in
-    let kept = after-keep-proposal .keep-proposal .ensures in
+    let kept = after-set-proposal .set-proposal .ensures in
     let held = ap (λ (y : Height). y .proposal) (height-after book h spot _ fits _ kept) ∙ kept-proposal x _
     ∙ carried .0 in (
       spot-after book h spot _ fits _ kept (proposal-status x _ (spot .status-small) free),
@@ -46,8 +46,8 @@ returns-2 : tie.Need-returns-2
 unfolding keepProposal
 returns-2 c =
     let after-notarize-with = c .before .before in
-    let after-keep-proposal = after-notarize-with .before .before .before .before .before in
-    let after-frame-block = after-keep-proposal .before in
+    let after-set-proposal = after-notarize-with .before .before .before .before .before in
+    let after-frame-block = after-set-proposal .before in
     let branch = after-frame-block .before .before .before in
     let start = branch .before .before .before .before .before in
     let book = start .args .book .now in
@@ -57,7 +57,7 @@ returns-2 c =
     let free = sym (branch .before .holds-proposal .ensures) ∙ branch .if1 .left in
     let carried = after-frame-block .frame-block .ensures in
     let fits = shaped-proposal x _ (carried .1) (shaped-here book h (given .spot)) in
-    let counted = notarized-after book h (given .spot) _ fits sha256 _ _ (after-keep-proposal .keep-proposal .ensures)
+    let counted = notarized-after book h (given .spot) _ fits sha256 _ _ (after-set-proposal .set-proposal .ensures)
     (after-notarize-with .notarize-with .ensures) in
     new-frame book h _ _ _ free (counted ∙ ap (λ (block : Bytes).
     encode (withHeight (decode book) h (notarize sha256 (view (decode book)) (withProposal x block)))) (carried .0))

@@ -16,8 +16,8 @@ returns c =
     let z = c .before .before .before in
     (digest-start (viewOf (z .args .kind) (z .args .book .now)) (z .args .j) (c .if1 .taken), z .pre .1 .0)
 
-keep-digest-requires : tie.Need-keep-digest-requires
-keep-digest-requires c κs =
+remember-digest-requires : tie.Need-remember-digest-requires
+remember-digest-requires c κs =
     let z = c .before .before .before .before in
     (z .pre .0, (z .pre .1 .0, record { low = omega arith; high = z .pre .1 .1 }))
 
@@ -28,11 +28,11 @@ returns-2 : tie.Need-returns-2
 unfolding zeros
 returns-2 c =
     let after-copy-to = c .before in
-    let after-keep-digest = after-copy-to .before .before .before .before .before .before in
-    let after-if1 = after-keep-digest .before .before in
+    let after-remember-digest = after-copy-to .before .before .before .before .before .before in
+    let after-if1 = after-remember-digest .before .before in
     let z = after-if1 .before .before .before in
     let j = z .args .j in
-    let kept = after-keep-digest .keep-digest in (
+    let kept = after-remember-digest .remember-digest in (
       after-copy-to .copy-to .ensures ∙ digest-copied (viewOf (z .args .kind) (z .args .book .now))
           (kept .last .1 .1 .1 .0) (zeros 32) j (36 * j + 4 + 32 - (36 * j + 4)) (after-if1 .if1 .left) (omega arith)
           (length-zeros 32) (omega arith) (kept .ensures .0),
@@ -44,7 +44,7 @@ parent-digest-spec =
     tie.close
     (tie.spec
     returns
-    keep-digest-requires
+    remember-digest-requires
     (λ c. search needs)
     (λ c. search needs)
     (λ c. search needs)

@@ -1,4 +1,4 @@
--- `submit_new` meets its contract: an entry that is new is kept if fewer than 32 stay pending.
+-- `submit_new` meets its contract: an entry that is new is added if fewer than 32 stay pending.
 use Prim.Native.Nat.{_<_}
 use mathlib.Core.Path.{refl, sym, _∙_}
 use lib.ListN.{length}
@@ -15,8 +15,8 @@ use Rattle.log_calls.proofs.submit.submit_new.Tie as tie
 leaves-room-requires : tie.Need-leaves-room-requires
 leaves-room-requires c κs = let z = c .before .before .before in z .pre .0
 
-keep-unlogged-requires : tie.Need-keep-unlogged-requires
-keep-unlogged-requires c κs =
+add-pending-requires : tie.Need-add-pending-requires
+add-pending-requires c κs =
     let after-if1 = c .before in
     let after-leaves-room = after-if1 .before in
     let z = after-leaves-room .before .before .before .before in
@@ -32,14 +32,14 @@ keep-unlogged-requires c κs =
 
 returns : tie.Need-returns
 returns c =
-    let after-keep-unlogged = c .before .before in
-    let after-if1 = after-keep-unlogged .before .before in
+    let after-add-pending = c .before .before in
+    let after-if1 = after-add-pending .before .before in
     let after-leaves-room = after-if1 .before in
     let z = after-leaves-room .before .before .before .before in
     let room = sym (after-leaves-room .leaves-room .ensures) ∙ after-if1 .if1 .taken in
     let fits = eq-eqb (length (z .args .entry .now)) 16 (z .pre .1 .0) in
     outcome-done (submit-done (z .args .book .now) (z .args .entry .now) (z .pre .0 .is-sound) fits (z .pre .1 .1) room)
-    (after-keep-unlogged .keep-unlogged .ensures)
+    (after-add-pending .add-pending .ensures)
 
 returns-2 : tie.Need-returns-2
 returns-2 c =
@@ -55,7 +55,7 @@ submit-new-spec =
     tie.close
     (tie.spec
     leaves-room-requires
-    keep-unlogged-requires
+    add-pending-requires
     (λ c. search needs)
     returns
     (λ c. search needs)

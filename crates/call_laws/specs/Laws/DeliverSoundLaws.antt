@@ -20,7 +20,7 @@ use Rattle.protocol.specs.Laws.UnionLaws.{union-left, union-lt}
 use Rattle.protocol.specs.Laws.TestsLaws.{cond-elim}
 use Rattle.protocol.specs.Laws.PlaceLaws.{shaped-at}
 use Rattle.call_laws.specs.Grows.{Grows}
-use Rattle.call_laws.specs.Laws.HeightKeptLaws.{Replaces, grows, with-height-sound}
+use Rattle.call_laws.specs.Laws.HeightSoundLaws.{Replaces, grows, with-height-sound}
 use Rattle.call_laws.specs.Laws.KeepLaws.{replaces-self, masks-replace, proposal-replaces, vote-replaces}
 use Rattle.call_laws.specs.Laws.KeepLaws.{notarized-replaces, notarize-replaces}
 
@@ -52,55 +52,55 @@ module _ (digest : Bytes → Bytes) (s : State) (is : SoundState digest s) (fram
     same-mask : (mask : ℕ) → Within (v .n) mask mask
     same-mask mask t l e = e
 
-    proposal-kept : kind frame ≡ 1 → OnSome Fits (keepProposal digest v x frame)
+    proposal-fits : kind frame ≡ 1 → OnSome Fits (keepProposal digest v x frame)
     unfolding keepProposal
-    proposal-kept e = cond-elim (OnSome Fits) (holdsProposal x) (λ _. tt) (λ free.
+    proposal-fits e = cond-elim (OnSome Fits) (holdsProposal x) (λ _. tt) (λ free.
         notarize-replaces v h x (withProposal x (frameBlock frame))
         (proposal-replaces v h x shaped here (frameBlock frame) free
         (read .block-formed (unfold carriesBlock in rw e refl))) digest)
 
-    vote-kept : kind frame ≡ 2 → OnSome Fits (keepBlockVote digest v x frame)
+    vote-fits : kind frame ≡ 2 → OnSome Fits (keepBlockVote digest v x frame)
     unfolding keepBlockVote
-    vote-kept e = cond-elim (OnSome Fits) (inMask (x .voterMask) (signer frame)) (λ _. tt) (λ new.
+    vote-fits e = cond-elim (OnSome Fits) (inMask (x .voterMask) (signer frame)) (λ _. tt) (λ new.
         notarize-replaces v h x (withVote x (signer frame) (frameDigest frame))
         (vote-replaces v h x shaped here (signer frame) (frameDigest frame)
         (unfold view in read .signer-small (omega arith)) (unfold view in is .n-high) new (digest-size read)) digest)
 
-    dummy-kept : kind frame ≡ 3 → OnSome Fits (keepDummyVote x frame)
+    dummy-fits : kind frame ≡ 3 → OnSome Fits (keepDummyVote x frame)
     unfolding keepDummyVote
-    dummy-kept e = cond-elim (OnSome Fits) (inMask (x .dummyMask) (signer frame)) (λ _. tt) (λ new.
+    dummy-fits e = cond-elim (OnSome Fits) (inMask (x .dummyMask) (signer frame)) (λ _. tt) (λ new.
         masks-replace v h x shaped here (x .dummyMask + 2 ^ signer frame) (x .finalizeMask)
         (add-below (signer frame) (v .n) (x .dummyMask) (unfold view in read .signer-small (omega arith))
         (here .dummy-below) new) (here .finalize-below)
         (λ t l m. inMask-add-keep (x .dummyMask) (signer frame) t new m) (same-mask (x .finalizeMask)))
 
-    finalize-kept : kind frame ≡ 4 → OnSome Fits (keepFinalize x frame)
+    finalize-fits : kind frame ≡ 4 → OnSome Fits (keepFinalize x frame)
     unfolding keepFinalize
-    finalize-kept e = cond-elim (OnSome Fits) (inMask (x .finalizeMask) (signer frame)) (λ _. tt) (λ new.
+    finalize-fits e = cond-elim (OnSome Fits) (inMask (x .finalizeMask) (signer frame)) (λ _. tt) (λ new.
         masks-replace v h x shaped here (x .dummyMask) (x .finalizeMask + 2 ^ signer frame) (here .dummy-below)
         (add-below (signer frame) (v .n) (x .finalizeMask) (unfold view in read .signer-small (omega arith))
         (here .finalize-below) new)
         (same-mask (x .dummyMask)) (λ t l m. inMask-add-keep (x .finalizeMask) (signer frame) t new m))
 
-    block-certificate-kept : kind frame ≡ 5 → OnSome Fits (keepBlockCertificate x frame)
+    block-certificate-fits : kind frame ≡ 5 → OnSome Fits (keepBlockCertificate x frame)
     unfolding keepBlockCertificate
-    block-certificate-kept e = cond-elim (OnSome Fits) (isNotarized x) (λ _. tt) (λ free.
+    block-certificate-fits e = cond-elim (OnSome Fits) (isNotarized x) (λ _. tt) (λ free.
         notarized-replaces v h x x (replaces-self v h x shaped here) (signerMask frame) (frameBlock frame) free
         (unfold view in read .mask-small (omega arith)) (read .enough (omega arith))
         (read .block-formed (unfold carriesBlock in rw e refl)))
 
-    dummy-certificate-kept : OnSome Fits (keepDummyCertificate (s .n) x frame)
+    dummy-certificate-fits : OnSome Fits (keepDummyCertificate (s .n) x frame)
     unfolding keepDummyCertificate view
-    dummy-certificate-kept = cond-elim (OnSome Fits)
+    dummy-certificate-fits = cond-elim (OnSome Fits)
         (eqb (union (v .n) (x .dummyMask) (signerMask frame)) (x .dummyMask))
         (λ _. tt) (λ _.
         masks-replace v h x shaped here (union (v .n) (x .dummyMask) (signerMask frame)) (x .finalizeMask)
         (union-lt (v .n) (x .dummyMask) (signerMask frame)) (here .finalize-below)
         (λ t l m. union-left (v .n) (x .dummyMask) (signerMask frame) t l m) (same-mask (x .finalizeMask)))
 
-    finalize-certificate-kept : OnSome Fits (keepFinalizeCertificate (s .n) x frame)
+    finalize-certificate-fits : OnSome Fits (keepFinalizeCertificate (s .n) x frame)
     unfolding keepFinalizeCertificate view
-    finalize-certificate-kept = cond-elim (OnSome Fits)
+    finalize-certificate-fits = cond-elim (OnSome Fits)
         (eqb (union (v .n) (x .finalizeMask) (signerMask frame)) (x .finalizeMask)) (λ _. tt) (λ _.
         masks-replace v h x shaped here (x .dummyMask) (union (v .n) (x .finalizeMask) (signerMask frame))
         (here .dummy-below)
@@ -109,8 +109,8 @@ module _ (digest : Bytes → Bytes) (s : State) (is : SoundState digest s) (fram
 
     keep-fits : OnSome Fits (keep digest s frame)
     keep-fits = keep-cases digest s frame read (λ _. OnSome Fits)
-        proposal-kept vote-kept dummy-kept finalize-kept block-certificate-kept
-        (λ _. dummy-certificate-kept) (λ _. finalize-certificate-kept)
+        proposal-fits vote-fits dummy-fits finalize-fits block-certificate-fits
+        (λ _. dummy-certificate-fits) (λ _. finalize-certificate-fits)
 
     placed : (k : ℕ) → 1 ≤ k → k ≤ last s → (y : Height) → Replaces v k (at s k) y →
         SoundState digest (withHeight s k y)

@@ -1,4 +1,4 @@
--- `keep_unlogged` meets its contract: after `k` places, those of their entries that the log lacks are in front of the
+-- `add_pending` meets its contract: after `k` places, those of their entries that the log lacks are in front of the
 -- pool.
 use Prim.Native.Nat.{_*_, _≤_, _<_, _-_}
 use native.Mathlib.Omega.{arith}
@@ -16,16 +16,16 @@ use Rattle.fields.specs.Book.{Ready}
 use Rattle.chains.proofs.Pending.{walk-at, one-more}
 use Rattle.chains.proofs.Closing.{staying, staying-few, staying-all, closed-ready, closed-walk, closed-log}
 use Rattle.chains.proofs.Closing.{closed-place, closed-length, closed-more, closed-end}
-use Rattle.chains.proofs.entries.keep_unlogged.Statement.{statement}
-use Rattle.chains.proofs.entries.keep_unlogged.Tie as tie
+use Rattle.chains.proofs.entries.add_pending.Statement.{statement}
+use Rattle.chains.proofs.entries.add_pending.Tie as tie
 
 abbrev Inv-loop : tie.InvT-loop
-Inv-loop book₀ entry finalized count kept₀ k₀ book kept k =
-    (k ≤ count) × (kept ≡ length (staying (decode book₀) k)) ×
+Inv-loop book₀ entry finalized count left₀ k₀ book left k =
+    (k ≤ count) × (left ≡ length (staying (decode book₀) k)) ×
     (book ≡ encode (moved (decode book₀) (staying (decode book₀) k)))
 
 abbrev μ-loop : tie.MeasureT-loop
-μ-loop book₀ entry finalized count kept₀ k₀ book kept k = count - k
+μ-loop book₀ entry finalized count left₀ k₀ book left k = count - k
 
 -- what is known whenever the loop's test is reached
 module _ (at : tie.At-loop Inv-loop μ-loop) where
@@ -112,8 +112,8 @@ move-entry-requires c κs =
     let short = staying-few (s at) (at .loop .k) in
     (ready-now at, omega arith)
 
-add-kept : tie.Need-add-kept Inv-loop μ-loop
-add-kept c =
+add-left : tie.Need-add-left Inv-loop μ-loop
+add-left c =
     let at = c .before .before .before .before .before .before .before .before .before in
     let short = staying-few (s at) (at .loop .k) in
     omega arith
@@ -133,7 +133,7 @@ loop-again-2 c =
       omega arith,
       one-more (staying (s at) (at .loop .k)) entry (at .loop .inv .1) stays,
       closed-more (book at) (start at .pre .0) most (at .loop .k) (within at) (at .loop .book) (at .loop .inv .2)
-          (at .loop .kept) (at .loop .inv .1) (omega arith)
+          (at .loop .left) (at .loop .inv .1) (omega arith)
           (after-move-entry .move-entry .ensures)
           (stays ∙ ap (λ (e : Bytes). staying (s at) (at .loop .k) ++ (e ∷ [])) read),
     )
@@ -143,7 +143,7 @@ finish-pool-requires c κs =
     let at = c .before .before in
     let over : s at .pendingCount ≤ at .loop .k = omega arith in
     let all = ap length (staying-all (s at) (at .loop .k) over) in
-    let count : at .loop .kept < maximumPending = omega (arith, start at .pre .1 .1 .0 .1) in
+    let count : at .loop .left < maximumPending = omega (arith, start at .pre .1 .1 .0 .1) in
     (ready-now at, (count, start at .pre .1 .1 .1))
 
 same-length : tie.Need-same-length Inv-loop μ-loop
@@ -159,11 +159,11 @@ returns c =
     let at = after-finish-pool .before .before .before in
     let over : s at .pendingCount ≤ at .loop .k = omega arith in
     closed-end (book at) (start at .pre .0) (few at) (at .loop .k) (within at) (at .loop .book) (at .loop .inv .2)
-    (at .loop .kept) (start at .args .entry .now) (at .loop .inv .1)
+    (at .loop .left) (start at .args .entry .now) (at .loop .inv .1)
     (staying-all (s at) (at .loop .k) over) (after-finish-pool .finish-pool .ensures)
 
-pub keep-unlogged-spec : {M : Type 1} → statement M
-keep-unlogged-spec =
+pub add-pending-spec : {M : Type 1} → statement M
+add-pending-spec =
     tie.close
     (tie.spec
     Inv-loop
@@ -177,7 +177,7 @@ keep-unlogged-spec =
     (λ c. omega arith)
     loop-again
     move-entry-requires
-    add-kept
+    add-left
     (λ c. omega arith)
     (λ c. omega arith)
     loop-again-2

@@ -79,11 +79,11 @@ module _ (s : State) (i : ℕ) (high : i < last s) (y : Height) where
         (λ l. same-height (view s) (view s′) (suc i) y same (fits .sound))
         (λ h low l. same-height (view s) (view s′) h (at s h) same (is .each h low l))
 
-    final-kept : (g : ℕ) → (g ≡ 0) ⊎ (isFinalized digest (view s) g ≡ true) →
+    final-stays : (g : ℕ) → (g ≡ 0) ⊎ (isFinalized digest (view s) g ≡ true) →
         (g ≡ 0) ⊎ (isFinalized digest (view s′) g ≡ true)
-    final-kept zero e = inl refl
-    final-kept (suc g) (inl e) = inl e
-    final-kept (suc g) (inr e) = inr (finalized-grows (view s) (view s′) grows digest (suc g) (omega arith) e)
+    final-stays zero e = inl refl
+    final-stays (suc g) (inl e) = inl e
+    final-stays (suc g) (inr e) = inr (finalized-grows (view s) (view s′) grows digest (suc g) (omega arith) e)
 
     pub with-height-sound : SoundState digest (withHeight s (suc i) y)
     with-height-sound =
@@ -101,5 +101,5 @@ module _ (s : State) (i : ℕ) (high : i < last s) (y : Height) where
           flags-small = unfold withHeight in is .flags-small;
           pending-few = unfold withHeight in is .pending-few;
           each = λ h low high. sound-each h low (rw count at high);
-          final = unfold withHeight in final-kept (s .finalized) (is .final);
+          final = unfold withHeight in final-stays (s .finalized) (is .final);
         }

@@ -17,7 +17,7 @@ use Rattle.protocol.specs.Linked.{Finalized}
 use Rattle.protocol.specs.Laws.LinkedLaws.{finalized-complete}
 use Rattle.protocol.specs.Laws.ParentLaws.{largestFinalized-is}
 use Rattle.protocol.specs.Laws.TestsLaws.{and-both}
-use Rattle.call_laws.specs.Laws.HeadKeptLaws.{head-sound}
+use Rattle.call_laws.specs.Laws.HeadSoundLaws.{head-sound}
 use Rattle.protocol.specs.Laws.FlagLaws.{flag-room}
 use Rattle.protocol.specs.Laws.MoveLaws.{step-cases, dummy-vote-rows, propose-rows, block-vote-rows}
 

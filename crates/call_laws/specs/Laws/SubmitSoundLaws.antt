@@ -13,7 +13,7 @@ use Rattle.protocol.specs.Submit.{withPending, stillPending}
 use Rattle.protocol.specs.Laws.EveryLaws.{every-append}
 use Rattle.protocol.specs.Laws.PendingLaws.{pending-sized}
 use Rattle.protocol.specs.Laws.PoolLaws.{every-without, pending-pool-size}
-use Rattle.call_laws.specs.Laws.HeadKeptLaws.{head-sound}
+use Rattle.call_laws.specs.Laws.HeadSoundLaws.{head-sound}
 
 module _ (digest : Bytes → Bytes) (s : State) (is : SoundState digest s) where
   with-pending-sound : (es : List Bytes) → Every (Sized 16) es → length es ≤ 32 → SoundState digest (withPending s es)

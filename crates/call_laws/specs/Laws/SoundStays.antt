@@ -10,29 +10,29 @@ use Rattle.protocol.specs.Answer.{accepted, done}
 use Rattle.protocol.specs.Open.{openCall}
 use Rattle.protocol.specs.Call.{Call, opening, delivery, moving, signalling, submitting, sizing, reading, fetching}
 use Rattle.protocol.specs.Call.{effect, bookAfter, bookAfterAll}
-use Rattle.call_laws.specs.Laws.SoundKeptLaws.{open-kept, open-made, deliver-kept, move-kept, signal-kept}
-use Rattle.call_laws.specs.Laws.SoundKeptLaws.{submit-kept}
+use Rattle.call_laws.specs.Laws.SoundStaysLaws.{open-stays, open-made, deliver-stays, move-stays, signal-stays}
+use Rattle.call_laws.specs.Laws.SoundStaysLaws.{submit-stays}
 
 module _ (digest : Bytes → Bytes) where
   -- each call on a sound book leaves a sound book
-  pub sound-kept : (book : Bytes) (call : Call) → sound digest book ≡ true →
+  pub sound-stays : (book : Bytes) (call : Call) → sound digest book ≡ true →
       sound digest (bookAfter digest book call) ≡ true
   unfolding effect
-  sound-kept book (opening n own heights leaders) was = open-kept digest book n own heights leaders was
-  sound-kept book (delivery frame) was = deliver-kept digest book was frame
-  sound-kept book (moving reply) was = move-kept digest book was reply
-  sound-kept book (signalling h) was = signal-kept digest book was h
-  sound-kept book (submitting entry) was = submit-kept digest book was entry
-  sound-kept book sizing was = was
-  sound-kept book (reading buffer) was = was
-  sound-kept book (fetching k h reply) was = was
+  sound-stays book (opening n own heights leaders) was = open-stays digest book n own heights leaders was
+  sound-stays book (delivery frame) was = deliver-stays digest book was frame
+  sound-stays book (moving reply) was = move-stays digest book was reply
+  sound-stays book (signalling h) was = signal-stays digest book was h
+  sound-stays book (submitting entry) was = submit-stays digest book was entry
+  sound-stays book sizing was = was
+  sound-stays book (reading buffer) was = was
+  sound-stays book (fetching k h reply) was = was
 
   -- and so does each list of calls
-  pub sound-kept-all : (book : Bytes) (calls : List Call) → sound digest book ≡ true →
+  pub sound-stays-all : (book : Bytes) (calls : List Call) → sound digest book ≡ true →
       sound digest (bookAfterAll digest book calls) ≡ true
   unfolding bookAfterAll
-  sound-kept-all book [] was = was
-  sound-kept-all book (call ∷ calls) was = sound-kept-all (bookAfter digest book call) calls (sound-kept book call was)
+  sound-stays-all book [] was = was
+  sound-stays-all book (call ∷ calls) was = sound-stays-all (bookAfter digest book call) calls (sound-stays book call was)
 
   -- Open that is not refused leaves a sound book, whatever bytes were there
   pub sound-opened : (book : Bytes) (n own heights : ℕ) (leaders : Bytes) →

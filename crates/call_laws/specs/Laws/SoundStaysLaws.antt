@@ -20,10 +20,10 @@ use Rattle.protocol.specs.Submit.{withPending, stillPending, submitRows, submit
 use Rattle.protocol.specs.Laws.TestedLaws.{open-tested, signal-tested, submit-tested}
 use Rattle.protocol.specs.Laws.DeliverLaws.{deliver-cases}
 use Rattle.protocol.specs.Laws.SoundLaws.{sound-decode, sound-encode}
-use Rattle.call_laws.specs.Laws.OpenKeptLaws.{open-sound}
-use Rattle.call_laws.specs.Laws.DeliverKeptLaws.{keep-sound}
-use Rattle.call_laws.specs.Laws.MoveKeptLaws.{step-sound, timer-sound}
-use Rattle.call_laws.specs.Laws.SubmitKeptLaws.{submit-sound}
+use Rattle.call_laws.specs.Laws.OpenSoundLaws.{open-sound}
+use Rattle.call_laws.specs.Laws.DeliverSoundLaws.{keep-sound}
+use Rattle.call_laws.specs.Laws.MoveSoundLaws.{step-sound, timer-sound}
+use Rattle.call_laws.specs.Laws.SubmitSoundLaws.{submit-sound}
 
 -- to prove something of the book after a call, prove it of the old book and of the new one where no row refuses
 pub unless-refused : {A : Type 0} (P : Bytes → Type 0) (rows : List Row) (book : Bytes) (outcome : Outcome A) →
@@ -45,14 +45,14 @@ module _ (digest : Bytes → Bytes) where
     state : SoundState digest s
     state = sound-decode digest book was
 
-    pub deliver-kept : (frame : Bytes) → Sound (deliverCall digest book frame .book)
-    deliver-kept frame = deliver-cases digest book frame (λ (o : Outcome Delivery). Sound (o .book))
+    pub deliver-stays : (frame : Bytes) → Sound (deliverCall digest book frame .book)
+    deliver-stays frame = deliver-cases digest book frame (λ (o : Outcome Delivery). Sound (o .book))
         (λ _ _. was) (λ _ _. was) (λ y accepts e.
         sound-encode digest (withHeight s (frameHeight frame) y) (keep-sound digest s state frame (accepts .read) y e))
 
-    pub move-kept : (reply : Bytes) → Sound (moveCall digest book reply .book)
+    pub move-stays : (reply : Bytes) → Sound (moveCall digest book reply .book)
     unfolding moveCall
-    move-kept reply = go (firstRefusal (moveRows digest book reply))
+    move-stays reply = go (firstRefusal (moveRows digest book reply))
       where
         go : (r : Option ℕ) → Sound (unlessMoveRefused r book reply (step digest s) .book)
         go none = unfold unlessMoveRefused moved in
@@ -64,9 +64,9 @@ module _ (digest : Bytes → Bytes) where
         sound-encode digest (withTimerFired s) (timer-sound digest s state (signal-tested digest book h passes
         .not-fired))
 
-    pub signal-kept : (h : ℕ) → Sound (signalCall digest book h .book)
+    pub signal-stays : (h : ℕ) → Sound (signalCall digest book h .book)
     unfolding signalCall
-    signal-kept h = unless-refused Sound (signalRows digest book h) book
+    signal-stays h = unless-refused Sound (signalRows digest book h) book
         (record { answer = accepted done; book = encode (withTimerFired s) }) was (fired h)
 
     abbrev submitted : Bytes → Bytes
@@ -78,9 +78,9 @@ module _ (digest : Bytes → Bytes) where
         sound-encode digest (withPending s (stillPending s ++ (entry ∷ [])))
         (submit-sound digest s state entry (tested .size) (tested .room))
 
-    pub submit-kept : (entry : Bytes) → Sound (submitCall digest book entry .book)
+    pub submit-stays : (entry : Bytes) → Sound (submitCall digest book entry .book)
     unfolding submitCall
-    submit-kept entry = unless-refused Sound (submitRows digest book entry) book
+    submit-stays entry = unless-refused Sound (submitRows digest book entry) book
         (record { answer = accepted done; book = submitted entry }) was (appended entry)
 
   -- ---- Open, over any bytes
@@ -89,9 +89,9 @@ module _ (digest : Bytes → Bytes) where
     made passes = sound-encode digest (newState n own leaders)
         (open-sound digest n own heights leaders (open-tested n own heights leaders book passes .in-ranges))
 
-    pub open-kept : Sound book → Sound (openCall book n own heights leaders .book)
+    pub open-stays : Sound book → Sound (openCall book n own heights leaders .book)
     unfolding openCall
-    open-kept was = unless-refused Sound (openRows book n own heights leaders) book
+    open-stays was = unless-refused Sound (openRows book n own heights leaders) book
         (record { answer = accepted done; book = encode (newState n own leaders) }) was made
 
     pub open-made : openCall book n own heights leaders .answer ≡ accepted done →

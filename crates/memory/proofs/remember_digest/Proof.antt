@@ -1,5 +1,5 @@
--- `keep_digest` meets its contract: a digest that is kept is the right one, and else it is stored before it is said to
--- be kept.
+-- `remember_digest` meets its contract: a digest that is known is the right one, and else it is stored before it is said
+-- to be known.
 use native.Mathlib.Omega.{arith}
 use mathlib.Core.Path.{_≡_, ap, _∙_}
 use lib.ListN.{length}
@@ -7,8 +7,8 @@ use Rattle.sha256.specs.Digest.{sha256}
 use Rattle.fields.specs.Book.{viewOf}
 use Rattle.memory.proofs.Stores.{stored}
 use borrow.Author.Needs.{needs}
-use Rattle.memory.proofs.keep_digest.Statement.{statement}
-use Rattle.memory.proofs.keep_digest.Tie as tie
+use Rattle.memory.proofs.remember_digest.Statement.{statement}
+use Rattle.memory.proofs.remember_digest.Tie as tie
 
 returns : tie.Need-returns
 returns c =
@@ -29,8 +29,8 @@ returns-2 c =
     (hashed .result) whole (after-if1 .if1 .left)
     (hashed .ensures ∙ ap sha256 (after-block .block .ensures .0)) (copied .last .0) (copied .ensures)
 
-pub keep-digest-spec : {M : Type 1} → statement M
-keep-digest-spec =
+pub remember-digest-spec : {M : Type 1} → statement M
+remember-digest-spec =
     tie.close
     (tie.spec
     (λ c. search needs)

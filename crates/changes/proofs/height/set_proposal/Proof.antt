@@ -1,11 +1,11 @@
--- `keep_proposal` meets its contract: the status gains 1, and the block is copied to the proposal's place.
+-- `set_proposal` meets its contract: the status gains 1, and the block is copied to the proposal's place.
 use native.Mathlib.Omega.{arith}
 use mathlib.Core.Path.{_∙_}
 use lib.ListN.{length-set}
-use Rattle.changes.proofs.Writes.{kept-proposal}
+use Rattle.changes.proofs.Writes.{proposal-set}
 use borrow.Author.Needs.{needs}
-use Rattle.changes.proofs.height.keep_proposal.Statement.{statement}
-use Rattle.changes.proofs.height.keep_proposal.Tie as tie
+use Rattle.changes.proofs.height.set_proposal.Statement.{statement}
+use Rattle.changes.proofs.height.set_proposal.Tie as tie
 
 copy-to-requires : tie.Need-copy-to-requires
 copy-to-requires c κs = simp length-set (omega (
@@ -24,12 +24,12 @@ returns c =
     let begun = placed .before .before in
     let start = begun .before .before .before in
     after-copy-to .copy-to .ensures ∙
-    kept-proposal (start .args .book .now) (start .pre .0) (start .args .h) (start .pre .1 .0) _
+    proposal-set (start .args .book .now) (start .pre .0) (start .args .h) (start .pre .1 .0) _
     (begun .content-at .ensures) _ (placed .body-at .ensures) _
     (read .status .ensures .0) (start .args .block .now) (start .pre .1 .1 .1)
 
-pub keep-proposal-spec : {M : Type 1} → statement M
-keep-proposal-spec =
+pub set-proposal-spec : {M : Type 1} → statement M
+set-proposal-spec =
     tie.close
     (tie.spec
     (λ c κs. search needs)
