@@ -7,7 +7,8 @@ use Rattle.calls.proofs.list.play.Statement.{statement}
 use Rattle.calls.proofs.list.play.Tie as tie
 
 abbrev Inv-loop : tie.InvT-loop
-Inv-loop list memory₀ table₀ at₀ number₀ t7 memory table at number = (at ≤ length list + 1) × ((number ≤ at + 1) × (length memory ≡ length memory₀))
+Inv-loop list memory₀ table₀ at₀ number₀ t7 memory table at number =
+    (at ≤ length list + 1) × ((number ≤ at + 1) × (length memory ≡ length memory₀))
 
 abbrev μ-loop : tie.MeasureT-loop
 μ-loop list memory₀ table₀ at₀ number₀ t7 memory table at number = (length list + 1) - at

@@ -7,7 +7,8 @@ use Rattle.exchange_list.proofs.literal.piece.Statement.{statement}
 use Rattle.exchange_list.proofs.literal.piece.Tie as tie
 
 abbrev Inv-loop : tie.InvT-loop
-Inv-loop piece size out₀ count step i₀ at₀ out i at = (i ≤ count) × ((at ≤ 2 * i) × ((size + count ≤ length out) × (length out ≡ length out₀)))
+Inv-loop piece size out₀ count step i₀ at₀ out i at =
+    (i ≤ count) × ((at ≤ 2 * i) × ((size + count ≤ length out) × (length out ≡ length out₀)))
 
 abbrev μ-loop : tie.MeasureT-loop
 μ-loop piece size out₀ count step i₀ at₀ out i at = count - i
