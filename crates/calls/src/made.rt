@@ -1,5 +1,9 @@
-// Each call on the buffers that it names, and what it prints: the answer, and the digests of the buffers afterwards.
-use crate::operands::Call;
+// Each call on what it is lent, and what it prints: the answer, and the digests of the buffers afterwards.
+use exchange_list::operands::Call;
+use exchange_list::operands::kept;
+use exchange_list::operands::named;
+use exchange_list::words::amount;
+use exchange_list::words::word;
 use lines::answered;
 use lines::print::hex;
 use lines::print::text;
@@ -9,29 +13,15 @@ fn digest(buffer: &[u8]) {
     hex(&sha256::sha256(buffer));
 }
 
-fn open(values: [usize; 10], bytes: &[u8], book: &mut [u8]) {
-    let answer = replica::open::open(book, values[2], values[3], values[4], bytes);
-    answered::done(answer);
+fn number(line: &[u8], k: usize) -> usize {
+    amount(word(line, k))
 }
 
-fn deliver(bytes: &[u8], book: &mut [u8]) {
-    answered::delivered(replica::deliver::deliver(book, bytes));
-}
-
-fn make_move(book: &mut [u8], reply: &mut [u8]) {
-    answered::moved(replica::make_move::make_move(book, reply));
-}
-
-fn signal(h: usize, book: &mut [u8]) {
-    answered::done(replica::signal::signal(book, h));
-}
-
-fn submit(bytes: &[u8], book: &mut [u8]) {
-    answered::done(replica::submit::submit(book, bytes));
-}
-
-fn size(book: &[u8]) {
-    answered::size(replica::read::size(book));
+fn open(line: &[u8], book: &mut [u8], roll: &[u8]) {
+    let n = number(line, 2);
+    let own = number(line, 3);
+    let heights = number(line, 4);
+    answered::done(replica::open::open(book, n, own, heights, roll));
 }
 
 // Read, by the part that it returns.
@@ -40,40 +30,32 @@ fn read(book: &[u8], buffer: &mut [u8]) {
     answered::part(part.len());
 }
 
-fn fetch(kind: usize, h: usize, book: &[u8], reply: &mut [u8]) {
-    answered::done(replica::fetch::fetch(book, kind, h, reply));
-}
-
-// The call alone, with its words at their digits (`operands::shape`).
-fn answer(call: Call, values: [usize; 10], bytes: &[u8], book: &mut [u8], reply: &mut [u8]) {
-    match call {
-        Call::Open => open(values, bytes, book),
-        Call::Deliver => deliver(bytes, book),
-        Call::Move => make_move(book, reply),
-        Call::Signal => signal(values[2], book),
-        Call::Submit => submit(bytes, book),
-        Call::Size => size(book),
-        Call::Read => read(book, reply),
-        Call::Fetch => fetch(values[2], values[3], book, reply),
-        Call::Give => {}
-        Call::Unknown => {}
-    }
-}
-
-// Whether a call is lent a second buffer.
-fn lends(call: Call) -> bool {
-    match call {
-        Call::Move | Call::Read | Call::Fetch => true,
-        _ => false,
+// The call of a line, on its book and on what else it is lent: the bytes that it has, or a second buffer.
+fn answer(line: &[u8], book: &mut [u8], lent: &mut [u8]) {
+    match named(line) {
+        Call::Open => open(line, book, lent),
+        Call::Deliver => answered::delivered(replica::deliver::deliver(book, lent)),
+        Call::Move => answered::moved(replica::make_move::make_move(book, lent)),
+        Call::Signal => answered::done(replica::signal::signal(book, number(line, 2))),
+        Call::Submit => answered::done(replica::submit::submit(book, lent)),
+        Call::Size => answered::size(replica::read::size(book)),
+        Call::Read => read(book, lent),
+        Call::Fetch => answered::done(replica::fetch::fetch(
+            book,
+            number(line, 2),
+            number(line, 3),
+            lent,
+        )),
+        _ => {}
     }
 }
 
 // The call and what stands behind it in a recorded list.
-pub fn made(call: Call, values: [usize; 10], bytes: &[u8], book: &mut [u8], reply: &mut [u8]) {
+pub fn made(line: &[u8], book: &mut [u8], lent: &mut [u8]) {
     text(b" = ");
-    answer(call, values, bytes, book, reply);
+    answer(line, book, lent);
     digest(book);
-    if lends(call) {
-        digest(reply);
+    if 1 < kept(line) {
+        digest(lent);
     }
 }

@@ -2,10 +2,7 @@
 // what each call answered and the digests of the buffers that were lent to it. A line that is no line of a list is
 // named, and the next one follows.
 mod list;
-mod literal;
 mod made;
-mod operands;
-mod words;
 
 // Room for sixteen buffers, or for a list.
 fn memory() -> [u8; 1048576] {
@@ -15,10 +12,9 @@ fn memory() -> [u8; 1048576] {
 fn main() {
     let mut text = memory();
     let size = io::read_full(libc::STDIN_FILENO, &mut text);
-    let mut books = memory();
-    let mut replies = memory();
+    let mut buffers = memory();
     let mut table = [0usize; 32];
-    list::play(&text[..size], &mut books, &mut replies, &mut table);
+    list::play(&text[..size], &mut buffers, &mut table);
     if 1048576 <= size {
         lines::print::text(b"the list has 1048576 bytes or more, and was read no further\n");
     }

@@ -19,7 +19,8 @@ pub fn remember_digest(kind: Kind, book: &[u8], j: usize, known: &mut [u8])
     requires { ⌜ Shown kind (now book) ⌝ }
     requires { ⌜ MemoAs kind (now book) (now known) ⌝ }
     requires { ⌜ Within (now book) j ⌝ }
-    ensures digest { λ _. ⌜ part (now (known .exit)) (36 * j + 4) 32 ≡ sha (viewOf kind (now (book .entry)) .block j) ⌝ }
+    ensures digest { λ _. ⌜ part (now (known .exit)) (36 * j + 4) 32 ≡
+        sha (viewOf kind (now (book .entry)) .block j) ⌝ }
     ensures memo { λ _. ⌜ MemoAs kind (now (book .entry)) (now (known .exit)) ⌝ }
 {
     let seen = known[36 * j + 1];

@@ -20,14 +20,9 @@ fn next_frame(book: &mut [u8], reply: &mut [u8]) -> bool {
     if got == 0 {
         return false;
     }
-    if got < 224 {
-        printed::delivered(replica::deliver::deliver(book, &frame[..got]), &frame);
-        move_until_idle(book, reply);
-        return false;
-    }
-    printed::delivered(replica::deliver::deliver(book, &frame), &frame);
+    printed::delivered(replica::deliver::deliver(book, &frame[..got]), &frame);
     move_until_idle(book, reply);
-    true
+    got == 224
 }
 
 fn main() {

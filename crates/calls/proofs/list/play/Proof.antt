@@ -1,4 +1,4 @@
--- `play` stays within the list, and ends: each line takes it further. The memories and the table keep their lengths.
+-- `play` stays within the list, and ends: each line takes it further. The memory keeps its length.
 use Prim.Native.Nat.{_≤_, _-_, _+_}
 use lib.ListN.{length}
 use mathlib.Core.Path.{_≡_}
@@ -7,12 +7,11 @@ use Rattle.calls.proofs.list.play.Statement.{statement}
 use Rattle.calls.proofs.list.play.Tie as tie
 
 abbrev Inv-loop : tie.InvT-loop
-Inv-loop list books₀ replies₀ table₀ at₀ number₀ books replies table at number =
-    (at ≤ length list + 1) × ((number ≤ at + 1) ×
-    ((length books ≡ length books₀) × ((length replies ≡ length replies₀) × (length table ≡ length table₀))))
+Inv-loop list memory₀ table₀ at₀ number₀ t7 memory table at number =
+    (at ≤ length list + 1) × ((number ≤ at + 1) × (length memory ≡ length memory₀))
 
 abbrev μ-loop : tie.MeasureT-loop
-μ-loop list books₀ replies₀ table₀ at₀ number₀ books replies table at number = (length list + 1) - at
+μ-loop list memory₀ table₀ at₀ number₀ t7 memory table at number = (length list + 1) - at
 
 pub play-spec : {M : Type 1} → statement M
 play-spec =
@@ -27,7 +26,7 @@ play-spec =
     (λ c. search needs)
     (λ c κs. search needs)
     (λ c. search needs)
-    (λ c. search needs)
+    (λ c κs. search needs)
     (λ c. search needs)
     (λ c. search needs)
     (λ c. search needs)

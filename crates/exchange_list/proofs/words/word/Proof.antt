@@ -2,8 +2,8 @@
 use Prim.Native.Nat.{_≤_}
 use lib.ListN.{length}
 use borrow.Author.Needs.{needs}
-use Rattle.calls.proofs.words.word.Statement.{statement}
-use Rattle.calls.proofs.words.word.Tie as tie
+use Rattle.exchange_list.proofs.words.word.Statement.{statement}
+use Rattle.exchange_list.proofs.words.word.Tie as tie
 
 abbrev Inv-loop : tie.InvT-loop
 Inv-loop line k at₀ left₀ at left = at ≤ length line

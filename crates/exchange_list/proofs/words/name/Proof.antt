@@ -2,8 +2,8 @@
 use Prim.Native.Nat.{_≤_, _-_}
 use lib.ListN.{length}
 use borrow.Author.Needs.{needs}
-use Rattle.calls.proofs.words.name.Statement.{statement}
-use Rattle.calls.proofs.words.name.Tie as tie
+use Rattle.exchange_list.proofs.words.name.Statement.{statement}
+use Rattle.exchange_list.proofs.words.name.Tie as tie
 
 abbrev Inv-loop : tie.InvT-loop
 Inv-loop word name₀ i₀ name i = i ≤ length word

@@ -47,22 +47,20 @@ fn wide(byte: u8) -> usize
     byte as usize
 }
 
-// The value of a hexadecimal digit, or 16.
-pub fn digit(byte: u8) -> usize
+// The value of the hexadecimal digit at a place, or 16.
+pub fn digit(text: &[u8], at: usize) -> usize
     ensures { λ r. ⌜ r ≤ 16 ⌝ }
 {
-    let value = wide(byte);
-    if value < 48 {
+    if text.len() <= at {
         return 16;
     }
-    if value <= 57 {
-        return value - 48;
+    let decimal = std::num::wrapping_sub_u8(text[at], b'0');
+    if decimal <= 9 {
+        return decimal as usize;
     }
-    if value < 97 {
-        return 16;
-    }
-    if value <= 102 {
-        return value - 87;
+    let letter = std::num::wrapping_sub_u8(text[at], b'a');
+    if letter <= 5 {
+        return letter as usize + 10;
     }
     16
 }
@@ -71,8 +69,11 @@ pub fn digit(byte: u8) -> usize
 pub fn number(word: &[u8]) -> Value {
     let mut value: usize = 0;
     let mut i = 0;
+    if word.len() == 0 {
+        return Value::Nothing;
+    }
     while i < word.len() {
-        let next = digit(word[i]);
+        let next = digit(word, i);
         if 9 < next {
             return Value::Nothing;
         }
@@ -82,10 +83,21 @@ pub fn number(word: &[u8]) -> Value {
         value = 10 * value + next;
         i += 1;
     }
-    if i == 0 {
-        Value::Nothing
-    } else {
-        Value::Is(value)
+    Value::Is(value)
+}
+
+pub fn is_number(word: &[u8]) -> bool {
+    match number(word) {
+        Value::Is(_) => true,
+        Value::Nothing => false,
+    }
+}
+
+// The number that a word stands for, or `usize::MAX`.
+pub fn amount(word: &[u8]) -> usize {
+    match number(word) {
+        Value::Is(value) => value,
+        Value::Nothing => usize::MAX,
     }
 }
 

@@ -1,31 +1,32 @@
--- `fill` is safe and ends, and the buffer keeps its length: `i` counts up to `count`, for which there is room.
+-- `literal` stays within the word, and ends: each piece takes it further. The buffer keeps its length.
 use Prim.Native.Nat.{_≤_, _-_, _+_}
 use lib.ListN.{length}
 use mathlib.Core.Path.{_≡_}
 use borrow.Author.Needs.{needs}
-use Rattle.calls.proofs.literal.fill.Statement.{statement}
-use Rattle.calls.proofs.literal.fill.Tie as tie
+use Rattle.exchange_list.proofs.literal.literal.Statement.{statement}
+use Rattle.exchange_list.proofs.literal.literal.Tie as tie
 
 abbrev Inv-loop : tie.InvT-loop
-Inv-loop piece over count size out₀ i₀ out i = (i ≤ count) × ((size + count ≤ length out) × (length out ≡ length out₀))
+Inv-loop word out₀ at₀ size₀ out at size = (at ≤ length word + 1) × ((size ≤ length out) × (length out ≡ length out₀))
 
 abbrev μ-loop : tie.MeasureT-loop
-μ-loop piece over count size out₀ i₀ out i = count - i
+μ-loop word out₀ at₀ size₀ out at size = (length word + 1) - at
 
-pub fill-spec : {M : Type 1} → statement M
-fill-spec =
+pub literal-spec : {M : Type 1} → statement M
+literal-spec =
     tie.close
     (tie.spec
     Inv-loop
     μ-loop
     (λ c. search needs)
-    (λ c. search needs)
-    (λ c. search needs)
+    (λ c κs. search needs)
     (λ c. search needs)
     (λ c. search needs)
     (λ c κs. search needs)
     (λ c. search needs)
     (λ c. search needs)
+    (λ c. search needs)
+    (λ c κs. search needs)
     (λ c. search needs)
     (λ c. search needs)
     (λ c. search needs)

@@ -2,8 +2,8 @@
 use Prim.Native.Nat.{_≤_, _-_}
 use lib.ListN.{length}
 use borrow.Author.Needs.{needs}
-use Rattle.calls.proofs.words.find.Statement.{statement}
-use Rattle.calls.proofs.words.find.Tie as tie
+use Rattle.exchange_list.proofs.words.find.Statement.{statement}
+use Rattle.exchange_list.proofs.words.find.Tie as tie
 
 abbrev Inv-loop : tie.InvT-loop
 Inv-loop text from byte at₀ at = (from ≤ at) × (at ≤ length text)

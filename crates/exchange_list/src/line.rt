@@ -1,0 +1,23 @@
+// Whether a line makes a call, and the part of it that says which.
+use crate::words::find;
+
+// Whether a line makes no call: it is empty, a remark or the heading.
+pub fn is_remark(line: &[u8]) -> bool {
+    if line.len() == 0 || line[0] == b'#' {
+        return true;
+    }
+    check::same(line, b"mavunilai exchange 1")
+}
+
+// The line up to what it expects, which stands behind ` =`.
+pub fn call_text(line: &[u8]) -> &[u8] {
+    let sign = find(line, 0, b'=');
+    if sign == line.len() {
+        return line;
+    }
+    if sign == 0 {
+        return &line[0..0];
+    }
+    let end = sign - 1;
+    &line[0..end]
+}

@@ -1,0 +1,112 @@
+// The calls by name, and what the words behind the name must be.
+use crate::buffers::enter;
+use crate::buffers::place;
+use crate::buffers::size_at;
+use crate::literal::literal;
+use crate::words::is_number;
+use crate::words::name;
+use crate::words::word;
+
+pub enum Call {
+    Give,
+    Open,
+    Deliver,
+    Move,
+    Signal,
+    Submit,
+    Size,
+    Read,
+    Fetch,
+    Unknown,
+}
+
+// The call of a line, by its name, whose letters are the bytes of the number (`words::name`).
+pub fn named(line: &[u8]) -> Call {
+    match name(word(line, 0)) {
+        // give, open, deliver
+        0x6769_7665 => Call::Give,
+        0x6f70_656e => Call::Open,
+        0x64_656c_6976_6572 => Call::Deliver,
+        // move, signal, submit
+        0x6d6f_7665 => Call::Move,
+        0x7369_676e_616c => Call::Signal,
+        0x7375_626d_6974 => Call::Submit,
+        // size, read, fetch
+        0x7369_7a65 => Call::Size,
+        0x7265_6164 => Call::Read,
+        0x66_6574_6368 => Call::Fetch,
+        _ => Call::Unknown,
+    }
+}
+
+// The words behind the name, a digit each, from the last digit on: 1 a buffer, 2 a number, 3 bytes. What a call is lent
+// besides its book is the last word.
+fn shape(call: Call) -> usize {
+    match call {
+        Call::Open => 32221,
+        Call::Give | Call::Deliver | Call::Submit => 31,
+        Call::Move | Call::Read => 11,
+        Call::Signal => 21,
+        Call::Size => 1,
+        Call::Fetch => 1221,
+        Call::Unknown => 0,
+    }
+}
+
+// The word whose buffer holds what was lent from then on, or 0: that of a gift is the book.
+pub fn kept(line: &[u8]) -> usize {
+    match named(line) {
+        Call::Give => 1,
+        Call::Move | Call::Read => 2,
+        Call::Fetch => 4,
+        _ => 0,
+    }
+}
+
+// What one word adds to what is lent: how many bytes, those of a literal at the front of `out`; or `usize::MAX` where
+// the word is not what it must be.
+fn operand(kind: usize, word: &[u8], table: &[usize; 32], out: &mut [u8]) -> usize {
+    match kind {
+        1 => size_at(table, place(table, word)),
+        2 => if is_number(word) { 0 } else { usize::MAX },
+        _ => literal(word, out),
+    }
+}
+
+// What the words of a line come to: how many bytes its call is lent besides the book, or the number of the first word
+// that does not fit, counted from 1.
+pub enum Operands {
+    Fit(usize),
+    Wrong(usize),
+}
+
+// Reads the words of a line, and puts the bytes of its literal at the front of `out`.
+fn read_words(line: &[u8], table: &[usize; 32], out: &mut [u8]) -> Operands {
+    let mut left = shape(named(line));
+    let mut size = 0;
+    let mut k = 1;
+    if left == 0 {
+        return Operands::Wrong(1);
+    }
+    while k < 6 && left > 0 {
+        size = operand(left % 10, word(line, k), table, out);
+        if out.len() < size {
+            return Operands::Wrong(k + 1);
+        }
+        left = left / 10;
+        k += 1;
+    }
+    if word(line, k).len() == 0 {
+        Operands::Fit(size)
+    } else {
+        Operands::Wrong(k + 1)
+    }
+}
+
+// The same, once a name that is given has its place.
+pub fn read(line: &[u8], table: &mut [usize; 32], out: &mut [u8]) -> Operands {
+    if kept(line) == 1 {
+        enter(table, word(line, 1));
+    }
+    read_words(line, table, out)
+}
