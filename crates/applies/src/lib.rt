@@ -1,35 +1,20 @@
 // Which of the moves apply to a book: one test for each, over a memory of linked heights.
 use fields::head::current;
+use fields::head::flag;
 use fields::head::heights;
+use fields::head::is_running;
 use linking::links::Parent;
 ghost use mathlib.Core.Path.{_≡_};
-ghost use Prim.Native.Nat.{_≤_, _<_};
+ghost use Prim.Native.Nat.{_≤_};
 ghost use Rattle.sha256.specs.Digest.{sha256 as sha};
-ghost use Rattle.protocol.specs.State.{decode, flag as isFlagged, bookHeights};
-ghost use Rattle.protocol.specs.Move.{isRunning, isSome, someOr, parentBelow, newFinalized, dummyVoteApplies};
+ghost use Rattle.protocol.specs.State.{decode, bookHeights};
+ghost use Rattle.protocol.specs.Move.{isSome, someOr, parentBelow, newFinalized, dummyVoteApplies};
 ghost use Rattle.protocol.specs.Move.{passApplies, proposeApplies, blockVoteApplies};
 ghost use Rattle.protocol.specs.Block.{maximumHeights};
 ghost use Rattle.fields.specs.Book.{Readable, SoundBook};
 ghost use Rattle.linking.specs.Memo.{Memo};
 ghost use Rattle.linking.specs.Parent.{parentOption};
 ghost use Rattle.applies.specs.Held.{heldExtends};
-
-// Whether the current height is one of the book's.
-pub fn is_running(book: &[u8]) -> bool
-    requires { ⌜ Readable (now book) ⌝ }
-    ensures { λ r. ⌜ r ≡ isRunning (decode (now (book .entry))) ⌝ }
-{
-    current(book) <= heights(book)
-}
-
-// Whether flag `k` of the current height, one of 1, 2, 4 and 8, is set.
-pub fn flag(book: &[u8], k: usize) -> bool
-    requires { ⌜ Readable (now book) ⌝ }
-    requires { ⌜ 1 ≤ k ⌝ }
-    ensures { λ r. ⌜ r ≡ isFlagged k (decode (now (book .entry))) ⌝ }
-{
-    fields::head::flags(book) / k % 2 == 1
-}
 
 // The best chain of the height below the current one. The memory keeps each height from a second digest.
 fn chain_below(book: &[u8], known: &mut [u8]) -> Parent

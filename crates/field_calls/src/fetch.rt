@@ -1,6 +1,6 @@
 // Fetch: the certificate of a kind and a height, for sending.
-use crate::range::in_book;
 use answers::answer::Answer;
+use fields::head::in_book;
 ghost use mathlib.Core.Path.{_≡_};
 ghost use mathlib.Core.Bool.{true};
 ghost use Prim.Native.Nat.{_≤_};

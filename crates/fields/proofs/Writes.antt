@@ -6,7 +6,7 @@ use mathlib.Core.List.{[], _∷_, _++_}
 use lib.ListN.{length, set}
 use Rattle.protocol.specs.SoundState.{ShapedHeight, Shaped}
 use Rattle.protocol.specs.Bytes.{Bytes, le16, part, zeros, pieces, put}
-use Rattle.protocol.specs.State.{State, Height, headBytes, encode, decode, at, last, withHead, withHeight, withPool}
+use Rattle.protocol.specs.State.{State, Height, encode, decode, at, last, withHeight, withPool}
 use Rattle.protocol.specs.State.{bookHeights}
 use Rattle.protocol.specs.Deliver.{withProposal, withNotarized, withVote}
 use Rattle.protocol.specs.Submit.{withPending}
@@ -22,16 +22,6 @@ use Rattle.protocol.specs.Laws.PoolLaws.{book-finish}
 use Rattle.fields.specs.Book.{Ready, Within}
 use Rattle.fields.specs.Numbered.{withMaskAt}
 use Rattle.fields.proofs.Places.{height-shaped}
-
--- ---- the head
-write-head : (s : State) (flags current finalized : ℕ) →
-    set (set (set (encode s) 3 flags) 4 current) 5 finalized ≡ encode (withHead s flags current finalized)
-unfolding encode headBytes withHead
-write-head s flags current finalized = refl
-
-pub book-head : (book : Bytes) → encode (decode book) ≡ book → (flags current finalized : ℕ) →
-    set (set (set book 3 flags) 4 current) 5 finalized ≡ encode (withHead (decode book) flags current finalized)
-book-head book whole flags current finalized = rw whole at (write-head (decode book) flags current finalized)
 
 -- ---- a notarized block: the block first, then status and mask
 notarized-last : (x : Height) (mask : ℕ) (block : Bytes) →

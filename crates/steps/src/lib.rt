@@ -1,13 +1,10 @@
 // The steps that the moves take: each writes its frames to the front of the reply and the new head to the book.
 use answers::answer::Certificate;
 use answers::answer::Moved;
-use applies::flag;
 use applies::parent_below;
 use fields::head::current;
-use fields::head::finalized;
-use fields::head::flags;
 use fields::head::own;
-use fields::head::set_head;
+use fields::head::set_flag;
 ghost use mathlib.Core.Path.{_≡_};
 ghost use mathlib.Core.Bool.{true, not, cond};
 ghost use Prim.Native.Nat.{_≤_};
@@ -26,7 +23,7 @@ ghost use Rattle.applies.specs.Took.{Took};
 ghost use Rattle.steps.specs.Pass.{certificateOn, finalizeOn, proposalOn};
 ghost use Rattle.fields.specs.Book.{SoundBook, Readable};
 
-// Move 1: casts the dummy vote. Costs 224 stores to the reply and three to the book.
+// Move 1: casts the dummy vote. Costs 224 stores to the reply and one to the book.
 pub fn cast_dummy_vote(book: &mut [u8], reply: &mut [u8]) -> Moved
     requires { ⌜ SoundBook sha (now book) ⌝ }
     requires { ⌜ 448 ≤ length (now reply) ⌝ }
@@ -34,14 +31,12 @@ pub fn cast_dummy_vote(book: &mut [u8], reply: &mut [u8]) -> Moved
         (now (reply .entry)) r (now (book .exit)) (now (reply .exit)) ⌝ }
 {
     let c = current(book);
-    let seen = flags(book);
-    let settled = finalized(book);
     wire::frame::write_dummy_vote(reply, own(book), c);
-    set_head(book, seen + 2, c, settled);
+    set_flag(book, 2);
     Moved::Dummy(c)
 }
 
-// Move 2: makes `g` the finalized height. It writes no frame. Costs three stores.
+// Move 2: makes `g` the finalized height. It writes no frame. Costs one store.
 pub fn settle(book: &mut [u8], g: usize) -> Moved
     requires { ⌜ SoundBook sha (now book) ⌝ }
     requires { ⌜ g ≡ newFinalized sha (decode (now book)) ⌝ }
@@ -49,9 +44,7 @@ pub fn settle(book: &mut [u8], g: usize) -> Moved
     ensures answer { λ r. ⌜ movedAnswer r ≡ accepted (outputStep sha (decode (now (book .entry))) .move) ⌝ }
     ensures book { λ _. ⌜ now (book .exit) ≡ encode (outputStep sha (decode (now (book .entry))) .after) ⌝ }
 {
-    let c = current(book);
-    let seen = flags(book);
-    set_head(book, seen, c, g);
+    fields::head::set_finalized(book, g);
     Moved::Final(g)
 }
 
@@ -60,7 +53,7 @@ fn in_time(book: &[u8]) -> bool
     requires { ⌜ Readable (now book) ⌝ }
     ensures { λ r. ⌜ r ≡ not (isFlagged 1 (decode (now (book .entry)))) ⌝ }
 {
-    !flag(book, 1)
+    !fields::head::flag(book, 1)
 }
 
 // Writes a pass's first frame: the certificate of the current height's block where that is linked, else of its dummy
@@ -102,7 +95,7 @@ fn write_pass_finalize(book: &[u8], reply: &mut [u8], finalizes: bool)
 }
 
 // Move 3: passes to the next height, on the block where the current height is linked, and else on the dummy block. It
-// finalizes on either, by the timer alone. Costs 448 stores to the reply and three to the book; the memory spares a
+// finalizes on either, by the timer alone. Costs 448 stores to the reply and two to the book; the memory spares a
 // second walk.
 pub fn pass(book: &mut [u8], reply: &mut [u8], known: &mut [u8]) -> Moved
     requires { ⌜ SoundBook sha (now book) ⌝ }
@@ -113,12 +106,11 @@ pub fn pass(book: &mut [u8], reply: &mut [u8], known: &mut [u8]) -> Moved
         (now (reply .entry)) r (now (book .exit)) (now (reply .exit)) ⌝ }
 {
     let c = current(book);
-    let settled = finalized(book);
     let linked = linking::links::linked(book, c, known);
     let finalizes = in_time(book);
     let certificate = write_pass_certificate(book, reply, linked);
     write_pass_finalize(book, reply, finalizes);
-    set_head(book, 0, c + 1, settled);
+    fields::head::enter(book, c + 1);
     Moved::Pass(c, certificate, finalizes)
 }
 
@@ -151,11 +143,9 @@ pub fn propose(book: &mut [u8], reply: &mut [u8], known: &mut [u8]) -> Moved
         (now (reply .entry)) r (now (book .exit)) (now (reply .exit)) ⌝ }
 {
     let c = current(book);
-    let seen = flags(book);
-    let settled = finalized(book);
     let j = parent_below(book, known);
     write_proposal(book, reply, j, known);
-    set_head(book, seen + 8, c, settled);
+    set_flag(book, 8);
     Moved::Offer(c)
 }
 
@@ -168,11 +158,9 @@ pub fn cast_block_vote(book: &mut [u8], reply: &mut [u8]) -> Moved
         (now (reply .entry)) r (now (book .exit)) (now (reply .exit)) ⌝ }
 {
     let c = current(book);
-    let seen = flags(book);
-    let settled = finalized(book);
     let signer = own(book);
     let digest = sha256::sha256(fields::height::proposal(book, c));
     wire::frame::write_block_vote(reply, signer, c, &digest);
-    set_head(book, seen + 4, c, settled);
+    set_flag(book, 4);
     Moved::Vote(c)
 }

@@ -3,7 +3,7 @@ use mathlib.Core.Path.{sym, _∙_}
 use Rattle.sha256.specs.Digest.{sha256}
 use Rattle.protocol.specs.State.{decode}
 use Rattle.applies.specs.Laws.AppliesLaws.{pass-stopped, pass-linked, pass-chain, pass-neither}
-use Rattle.applies.specs.Laws.RunningLaws.{current-high, current-within}
+use Rattle.fields.specs.Laws.HeadLaws.{current-high, current-within}
 use borrow.Author.Needs.{needs}
 use Rattle.applies.proofs.pass_applies.Statement.{statement}
 use Rattle.applies.proofs.pass_applies.Tie as tie

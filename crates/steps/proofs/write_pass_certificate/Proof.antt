@@ -4,7 +4,8 @@ use mathlib.Core.Path.{ap, _∙_}
 use lib.ListN.{length}
 use Rattle.protocol.specs.State.{decode}
 use Rattle.answers.specs.Answers.{certificateOf}
-use Rattle.applies.specs.Laws.RunningLaws.{within-current, notarized-size}
+use Rattle.fields.specs.Laws.HeadLaws.{within-current}
+use Rattle.fields.proofs.Places.{notarized-size}
 use Rattle.steps.specs.Laws.StepsLaws.{wrote-block, wrote-dummy}
 use borrow.Author.Needs.{needs}
 use Rattle.steps.proofs.write_pass_certificate.Statement.{statement}
@@ -22,8 +23,8 @@ write-block-certificate-requires c κs =
       omega (arith, room),
       (
         (omega (arith, height .ensures .1), after-certificate-mask .certificate-mask .ensures .1),
-        ap length (c .notarized .ensures) ∙ notarized-size book (start .pre .0 .ready .readable) (height .result)
-            inside,
+        ap length (c .notarized .ensures) ∙ notarized-size book (height .result)
+            (start .pre .0 .ready .readable .sized .size) inside,
       ),
     )
 

@@ -12,19 +12,17 @@ use Rattle.protocol.specs.Laws.BuildLaws.{frame-size}
 use Rattle.protocol.specs.Laws.FrontLaws.{goes-on}
 use Rattle.protocol.specs.Laws.TestsLaws.{cond-elim}
 use Rattle.protocol.specs.Frame.{proposal, dummyVote, blockVote, finalize, blockCertificate, dummyCertificate}
-use Rattle.protocol.specs.State.{State, at, decode, encode, flag, withHead}
+use Rattle.protocol.specs.State.{State, at, encode, flag, withHead, withFlag}
 use Rattle.protocol.specs.Sound.{view}
 use Rattle.protocol.specs.View.{linked}
 use Rattle.protocol.specs.Answer.{accepted, Certificate, onBlock, onDummy, pass, certificateKind}
 use Rattle.protocol.specs.Certificates.{certificateFrame}
 use Rattle.protocol.specs.Move.{unused, written, dummyVoteStep, outputStep, newFinalized, passesBy, passStep, someOr}
 use Rattle.protocol.specs.Move.{parentBelow, proposedBlock, proposeStep, blockVoteStep}
-use Rattle.fields.specs.Book.{Within, Readable}
 use Rattle.answers.specs.declared.answer.Moved.the-variants as Moved
 use Rattle.answers.specs.declared.answer.Certificate as code
 use Rattle.answers.specs.Answers.{movedAnswer, certificateOf}
 use Rattle.applies.specs.Took.{Took}
-use Rattle.applies.specs.Laws.RunningLaws.{notarized-size}
 use Rattle.steps.specs.Pass.{certificateOn}
 
 -- ---- sizes
@@ -49,15 +47,13 @@ dummy-certificate-size h mask = omega (
 abbrev passed : State → Bytes
 passed s = certificateFrame s (certificateKind (passesBy sha256 s)) (s .current)
 
-pass-certificate-size : (book : Bytes) → Readable book → Within book (decode book .current) →
-    length (passed (decode book)) ≡ 224
+pass-certificate-size : (s : State) → length (at s (s .current) .notarized) ≡ 176 → length (passed s) ≡ 224
 unfolding certificateFrame certificateKind
-pass-certificate-size book r w =
-    let s : State = decode book in
+pass-certificate-size s size =
     cond-elim (λ (by : Certificate). length (certificateFrame s (certificateKind by) (s .current)) ≡ 224)
     (linked sha256 (view s) (s .current))
     (λ _. block-certificate-size (s .current) (at s (s .current) .certificateMask) (at s (s .current) .notarized)
-    (notarized-size book r (s .current) w))
+    size)
     (λ _. dummy-certificate-size (s .current) (at s (s .current) .dummyMask))
 
 -- ---- the certificate of a pass
@@ -91,27 +87,25 @@ unfolding written passStep
 pass-written s = two-written _ (not (flag 1 s)) (passed s) (finalize (s .own) (s .current)) (s .current)
 
 -- ---- the steps that write one frame and set one flag
-module _ (s : State) (reply bookAfter replyAfter : Bytes) (c own seen settled : ℕ) (c-is : c ≡ s .current)
-    (own-is : own ≡ s .own)
-    (seen-is : seen ≡ s .flags) (settled-is : settled ≡ s .finalized) where
-  pub took-dummy-vote : bookAfter ≡ encode (withHead s (seen + 2) c settled) →
+module _ (s : State) (reply bookAfter replyAfter : Bytes) (c : ℕ) (c-is : c ≡ s .current) where
+  pub took-dummy-vote : (own : ℕ) → own ≡ s .own → bookAfter ≡ encode (withFlag 2 s) →
       replyAfter ≡ overFront (dummyVote own c) reply →
       Took (dummyVoteStep s) reply (Moved.Dummy c) bookAfter replyAfter
   unfolding dummyVoteStep written unused movedAnswer
-  took-dummy-vote b r = record {
+  took-dummy-vote own own-is b r = record {
     answer = rw c-is;
-    book = b ∙ rw (seen-is, c-is, settled-is);
+    book = b;
     reply-is = r ∙ rw (own-is, c-is, one-written (dummyVote (s .own) (s .current)));
   }
 
-  pub took-block-vote : (digest block : Bytes) → digest ≡ sha256 block → block ≡ at s c .proposal →
-      bookAfter ≡ encode (withHead s (seen + 4) c settled) →
+  pub took-block-vote : (own : ℕ) (digest block : Bytes) → own ≡ s .own → digest ≡ sha256 block →
+      block ≡ at s c .proposal → bookAfter ≡ encode (withFlag 4 s) →
       replyAfter ≡ overFront (blockVote own c digest) reply →
       Took (blockVoteStep sha256 s) reply (Moved.Vote c) bookAfter replyAfter
   unfolding blockVoteStep written unused movedAnswer
-  took-block-vote digest block d p b r = record {
+  took-block-vote own digest block own-is d p b r = record {
     answer = rw c-is;
-    book = b ∙ rw (seen-is, c-is, settled-is);
+    book = b;
     reply-is = r ∙ rw (
       d,
       p,
@@ -122,14 +116,13 @@ module _ (s : State) (reply bookAfter replyAfter : Bytes) (c own seen settled : 
     );
   }
 
-  pub took-propose : (j : ℕ) → j ≡ someOr 0 (parentBelow sha256 s) →
-      bookAfter ≡ encode (withHead s (seen + 8) c settled) →
+  pub took-propose : (j : ℕ) → j ≡ someOr 0 (parentBelow sha256 s) → bookAfter ≡ encode (withFlag 8 s) →
       replyAfter ≡ overFront (proposal (s .own) (s .current) (proposedBlock sha256 s j)) reply →
       Took (proposeStep sha256 s) reply (Moved.Offer c) bookAfter replyAfter
   unfolding proposeStep written unused movedAnswer
   took-propose j j-is b r = record {
     answer = rw c-is;
-    book = b ∙ rw (seen-is, c-is, settled-is);
+    book = b;
     reply-is = r ∙ rw (
       j-is,
       one-written (proposal (s .own) (s .current)
@@ -143,31 +136,28 @@ module _ (s : State) (g : ℕ) (g-is : g ≡ newFinalized sha256 s) where
   unfolding outputStep movedAnswer
   settled-answer = rw g-is
 
-  pub settled-book : (bookAfter : Bytes) (c seen : ℕ) → c ≡ s .current → seen ≡ s .flags →
-      bookAfter ≡ encode (withHead s seen c g) → bookAfter ≡ encode (outputStep sha256 s .after)
+  pub settled-book : (bookAfter : Bytes) → bookAfter ≡ encode (withHead s (s .flags) (s .current) g) →
+      bookAfter ≡ encode (outputStep sha256 s .after)
   unfolding outputStep
-  settled-book bookAfter c seen c-is seen-is b = b ∙ rw (seen-is, c-is, g-is)
+  settled-book bookAfter b = b ∙ rw g-is
 
 -- ---- the pass
-module _ (book : Bytes) (m : Readable book) (w : Within book (decode book .current)) where
-  abbrev s : State
-  s = decode book
-
-  pub took-pass : (reply bookAfter middle replyAfter : Bytes) (c settled : ℕ) (isLinked : Bool)
+module _ (s : State) (size : length (at s (s .current) .notarized) ≡ 176) where
+  pub took-pass : (reply bookAfter middle replyAfter : Bytes) (c : ℕ) (isLinked : Bool)
       (chosen : code.Certificate) (inTime : Bool) →
-      c ≡ s .current → settled ≡ s .finalized → isLinked ≡ linked sha256 (view s) c → inTime ≡ not (flag 1 s) →
+      c ≡ s .current → isLinked ≡ linked sha256 (view s) c → inTime ≡ not (flag 1 s) →
       certificateOf chosen ≡ cond isLinked onBlock onDummy →
       middle ≡ overFront (certificateOn isLinked s) reply →
       replyAfter ≡ put middle 224 (cond inTime (finalize (s .own) (s .current)) (zeros 224)) →
-      bookAfter ≡ encode (withHead s 0 (c + 1) settled) →
+      bookAfter ≡ encode (withHead s 0 (c + 1) (s .finalized)) →
       Took (passStep sha256 s) reply (Moved.Pass c chosen inTime) bookAfter replyAfter
   unfolding passStep movedAnswer
-  took-pass reply bookAfter middle replyAfter c settled isLinked chosen inTime c-is settled-is linked-is in-time-is
+  took-pass reply bookAfter middle replyAfter c isLinked chosen inTime c-is linked-is in-time-is
       kind-is first second b = record {
         answer = rw (kind-is, linked-is, c-is, in-time-is);
-        book = b ∙ rw (c-is, settled-is);
+        book = b ∙ rw c-is;
         reply-is =
             goes-on (passed s) reply middle (cond inTime (finalize (s .own) (s .current)) (zeros 224)) replyAfter 224
-            (first ∙ rw (linked-is, c-is)) (pass-certificate-size book m w) second
+            (first ∙ rw (linked-is, c-is)) (pass-certificate-size s size) second
             ∙ rw (in-time-is, pass-written s);
       }

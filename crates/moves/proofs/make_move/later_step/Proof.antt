@@ -1,7 +1,7 @@
 -- `later_step` meets its contract: the first of the last three moves whose test passes.
 use mathlib.Core.Path.{sym, _∙_}
 use Rattle.protocol.specs.State.{decode}
-use Rattle.applies.specs.Laws.RunningLaws.{running-high}
+use Rattle.fields.specs.Laws.HeadLaws.{running-high}
 use Rattle.moves.specs.Laws.OrderLaws.{later-pass, later-propose, later-vote, later-idle, pass-running}
 use Rattle.moves.specs.Laws.OrderLaws.{propose-running, propose-has, vote-running, took-as, took-idle}
 use borrow.Author.Needs.{needs}

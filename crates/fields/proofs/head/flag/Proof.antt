@@ -1,8 +1,8 @@
 -- `flag` meets its contract: it is the test of the definition.
 use Rattle.protocol.specs.State.{flag}
 use borrow.Author.Needs.{needs}
-use Rattle.applies.proofs.flag.Statement.{statement}
-use Rattle.applies.proofs.flag.Tie as tie
+use Rattle.fields.proofs.head.flag.Statement.{statement}
+use Rattle.fields.proofs.head.flag.Tie as tie
 
 returns : tie.Need-returns
 unfolding flag

@@ -1,8 +1,8 @@
 -- `is_running` meets its contract: the book says as many heights as its state has.
-use Rattle.applies.specs.Laws.RunningLaws.{running-is}
+use Rattle.fields.specs.Laws.HeadLaws.{running-is}
 use borrow.Author.Needs.{needs}
-use Rattle.applies.proofs.is_running.Statement.{statement}
-use Rattle.applies.proofs.is_running.Tie as tie
+use Rattle.fields.proofs.head.is_running.Statement.{statement}
+use Rattle.fields.proofs.head.is_running.Tie as tie
 
 returns : tie.Need-returns
 returns c =
