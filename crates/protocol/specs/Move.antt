@@ -9,7 +9,8 @@ use Rattle.protocol.specs.Bytes.{Bytes, zeros, join, without, overFront}
 use Rattle.protocol.specs.Tests.{allOf, Row, firstRefusal}
 use Rattle.protocol.specs.Block.{blockEntries, newBlock}
 use Rattle.protocol.specs.Frame.{frameSize, proposal, blockVote, dummyVote, finalize}
-use Rattle.protocol.specs.State.{State, at, last, encode, decode, holdsProposal, flag, withHead, withFlag, pending}
+use Rattle.protocol.specs.State.{State, at, last, encode, decode, holdsProposal, flag, pending}
+use Rattle.protocol.specs.State.{withHead, withFlag}
 use Rattle.protocol.specs.View.{View, linked, isDummy, extends, largestFinalized, parentOf, digestAt, logAt}
 use Rattle.protocol.specs.Sound.{view, sound}
 use Rattle.protocol.specs.Certificates.{certificateFrame}
