@@ -18,6 +18,10 @@ pub is-certificate : (k : ℕ) → (leb 5 k && leb k 7) ≡ isCertificate k
 unfolding isCertificate inRange
 is-certificate k = refl
 
+pub certificate-range : (k : ℕ) → isCertificate k ≡ true → (5 ≤ k) × (k ≤ 7)
+unfolding isCertificate
+certificate-range k e = in-range 5 7 k e
+
 -- ---- Open
 module _ (n : ℕ) (leaders : Bytes) where
   pub all-below : (i : ℕ) → length leaders ≤ i → ((k : ℕ) → k < i → getD leaders k 0 < n) →

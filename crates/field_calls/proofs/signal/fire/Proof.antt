@@ -1,5 +1,4 @@
 -- `fire` meets its contract: the timer's flag is set, and nothing else changes.
-use mathlib.Core.Path.{refl}
 use Rattle.protocol.specs.State.{withTimerFired}
 use borrow.Author.Needs.{needs}
 use Rattle.field_calls.proofs.signal.fire.Statement.{statement}

@@ -3,21 +3,15 @@ use Prim.Native.Nat.{ℕ, _-_, _≤_}
 use native.Mathlib.Omega.{arith}
 use mathlib.Core.Path.{_≡_}
 use mathlib.Core.Logic.{_⊎_, inl, inr, ⊎-elim}
-use mathlib.Core.Bool.{true}
 use Rattle.protocol.specs.Bytes.{Bytes, zeros}
 use Rattle.protocol.specs.State.{State, at, isNotarized}
 use Rattle.protocol.specs.View.{quorum}
 use Rattle.protocol.specs.Sound.{view}
-use Rattle.protocol.specs.Frame.{isCertificate, frameOf, blockCertificate, dummyCertificate, finalizeCertificate}
+use Rattle.protocol.specs.Frame.{frameOf, blockCertificate, dummyCertificate, finalizeCertificate}
 use Rattle.protocol.specs.Fetch.{hasCertificate}
 use Rattle.protocol.specs.Certificates.{certificateFrame}
 use Rattle.protocol.specs.Laws.TestsLaws.{le-or-lt}
-use Rattle.protocol.specs.Laws.RowLaws.{in-range}
 use Rattle.fields.specs.Numbered.{maskAt}
-
-pub certificate-range : (k : ℕ) → isCertificate k ≡ true → (5 ≤ k) × (k ≤ 7)
-unfolding isCertificate
-certificate-range k e = in-range 5 7 k e
 
 six-or-seven : (k : ℕ) → 6 ≤ k → k ≤ 7 → (k ≡ 6) ⊎ (k ≡ 7)
 six-or-seven k low high = ⊎-elim (λ l. inl (omega arith)) (λ l. inr (omega arith)) (le-or-lt k 6)

@@ -6,10 +6,10 @@ use lib.ListN.{length}
 use Rattle.protocol.specs.Bytes.{Bytes, overFront}
 use Rattle.protocol.specs.State.{decode}
 use Rattle.fields.proofs.Places.{notarized-size}
-use Rattle.field_calls.proofs.Certificates.{frame-block, frame-signers}
+use Rattle.certificates.proofs.OfKind.{frame-block, frame-signers}
 use borrow.Author.Needs.{needs}
-use Rattle.field_calls.proofs.fetch.write_certificate.Statement.{statement}
-use Rattle.field_calls.proofs.fetch.write_certificate.Tie as tie
+use Rattle.certificates.proofs.write_certificate.Statement.{statement}
+use Rattle.certificates.proofs.write_certificate.Tie as tie
 
 write-block-certificate-requires : tie.Need-write-block-certificate-requires
 write-block-certificate-requires c κs =

@@ -5,10 +5,10 @@ use mathlib.Core.Path.{sym, ap, _∙_}
 use Rattle.protocol.specs.State.{decode}
 use Rattle.protocol.specs.Sound.{view}
 use Rattle.protocol.specs.View.{quorum}
-use Rattle.field_calls.proofs.Certificates.{has-block, has-signers}
+use Rattle.certificates.proofs.OfKind.{has-block, has-signers}
 use borrow.Author.Needs.{needs}
-use Rattle.field_calls.proofs.fetch.has_certificate.Statement.{statement}
-use Rattle.field_calls.proofs.fetch.has_certificate.Tie as tie
+use Rattle.certificates.proofs.has_certificate.Statement.{statement}
+use Rattle.certificates.proofs.has_certificate.Tie as tie
 
 returns : tie.Need-returns
 returns c =
