@@ -6,10 +6,10 @@ use lib.ListN.{length}
 use Rattle.protocol.specs.State.{decode}
 use Rattle.protocol.specs.Frame.{finalize}
 use Rattle.protocol.specs.Laws.FrontLaws.{front-in-part}
-use Rattle.steps.specs.Laws.StepsLaws.{finalize-size}
+use Rattle.passing.specs.Laws.PassLaws.{finalize-size}
 use borrow.Author.Needs.{needs}
-use Rattle.steps.proofs.write_pass_finalize.Statement.{statement}
-use Rattle.steps.proofs.write_pass_finalize.Tie as tie
+use Rattle.passing.proofs.write_pass_finalize.Statement.{statement}
+use Rattle.passing.proofs.write_pass_finalize.Tie as tie
 
 returns : tie.Need-returns
 returns c =

@@ -2,8 +2,8 @@
 use mathlib.Core.Path.{ap}
 use mathlib.Core.Bool.{not}
 use borrow.Author.Needs.{needs}
-use Rattle.steps.proofs.in_time.Statement.{statement}
-use Rattle.steps.proofs.in_time.Tie as tie
+use Rattle.passing.proofs.in_time.Statement.{statement}
+use Rattle.passing.proofs.in_time.Tie as tie
 
 returns : tie.Need-returns
 returns c = ap not (c .flag .ensures)
