@@ -1,35 +1,25 @@
-// Which of the moves apply to a book: one test for each, over a memory of linked heights.
+// Which of the moves apply to a book: one test for each, over a memory of linked heights. A test answers what it found,
+// so that the step need not look for it again.
+pub mod found;
+
+use crate::found::Passing;
+use answers::answer::Certificate;
 use fields::head::current;
+use fields::head::flag;
 use fields::head::heights;
+use fields::head::is_running;
 use linking::links::Parent;
 ghost use mathlib.Core.Path.{_≡_};
-ghost use Prim.Native.Nat.{_≤_, _<_};
+ghost use Prim.Native.Nat.{_≤_};
 ghost use Rattle.sha256.specs.Digest.{sha256 as sha};
-ghost use Rattle.protocol.specs.State.{decode, flag as isFlagged, bookHeights};
-ghost use Rattle.protocol.specs.Move.{isRunning, isSome, someOr, parentBelow, newFinalized, dummyVoteApplies};
-ghost use Rattle.protocol.specs.Move.{passApplies, proposeApplies, blockVoteApplies};
+ghost use Rattle.protocol.specs.State.{decode, bookHeights};
+ghost use Rattle.protocol.specs.Move.{parentBelow, newFinalized, dummyVoteApplies, blockVoteApplies};
 ghost use Rattle.protocol.specs.Block.{maximumHeights};
 ghost use Rattle.fields.specs.Book.{Readable, SoundBook};
 ghost use Rattle.memory.specs.Memo.{Memo};
 ghost use Rattle.linking.specs.Parent.{parentOption};
 ghost use Rattle.applies.specs.Held.{heldExtends};
-
-// Whether the current height is one of the book's.
-pub fn is_running(book: &[u8]) -> bool
-    requires { ⌜ Readable (now book) ⌝ }
-    ensures { λ r. ⌜ r ≡ isRunning (decode (now (book .entry))) ⌝ }
-{
-    current(book) <= heights(book)
-}
-
-// Whether flag `k` of the current height, one of 1, 2, 4 and 8, is set.
-pub fn flag(book: &[u8], k: usize) -> bool
-    requires { ⌜ Readable (now book) ⌝ }
-    requires { ⌜ 1 ≤ k ⌝ }
-    ensures { λ r. ⌜ r ≡ isFlagged k (decode (now (book .entry))) ⌝ }
-{
-    fields::head::flags(book) / k % 2 == 1
-}
+ghost use Rattle.applies.specs.Found.{PassFound, ProposeFound};
 
 // The best chain of the height below the current one. The memory keeps each height from a second digest.
 fn chain_below(book: &[u8], known: &mut [u8]) -> Parent
@@ -40,32 +30,6 @@ fn chain_below(book: &[u8], known: &mut [u8]) -> Parent
 {
     let c = current(book);
     linking::links::parent_of(book, c - 1, known)
-}
-
-// Whether there is such a chain.
-fn has_chain_below(book: &[u8], known: &mut [u8]) -> bool
-    requires { ⌜ SoundBook sha (now book) ⌝ }
-    requires { ⌜ Memo (now book) (now known) ⌝ }
-    ensures answer { λ r. ⌜ r ≡ isSome (parentBelow sha (decode (now (book .entry)))) ⌝ }
-    ensures memo { λ _. ⌜ Memo (now (book .entry)) (now (known .exit)) ⌝ }
-{
-    match chain_below(book, known) {
-        Parent::At(_) => true,
-        Parent::Nothing => false,
-    }
-}
-
-// The height of its last block, and 0 where there is none.
-pub fn parent_below(book: &[u8], known: &mut [u8]) -> usize
-    requires { ⌜ SoundBook sha (now book) ⌝ }
-    requires { ⌜ Memo (now book) (now known) ⌝ }
-    ensures answer { λ r. ⌜ r ≡ someOr 0 (parentBelow sha (decode (now (book .entry)))) ⌝ }
-    ensures memo { λ _. ⌜ Memo (now (book .entry)) (now (known .exit)) ⌝ }
-{
-    match chain_below(book, known) {
-        Parent::At(j) => j,
-        Parent::Nothing => 0,
-    }
 }
 
 // Move 1: the timer fired, and no dummy vote was cast.
@@ -96,46 +60,51 @@ pub fn new_finalized(book: &[u8], known: &mut [u8]) -> usize
     linking::links::largest_finalized(book, top, known)
 }
 
-// Move 3: the current height is linked, or its dummy block is notarized and a chain ends below.
-pub fn pass_applies(book: &[u8], known: &mut [u8]) -> bool
+// Move 3: by the block's certificate where the current height is linked, and by the dummy block's where that is
+// notarized and a chain ends below.
+pub fn pass_applies(book: &[u8], known: &mut [u8]) -> Passing
     requires { ⌜ SoundBook sha (now book) ⌝ }
     requires { ⌜ Memo (now book) (now known) ⌝ }
-    ensures answer { λ r. ⌜ r ≡ passApplies sha (decode (now (book .entry))) ⌝ }
+    ensures answer { λ r. ⌜ PassFound sha (decode (now (book .entry))) r ⌝ }
     ensures memo { λ _. ⌜ Memo (now (book .entry)) (now (known .exit)) ⌝ }
 {
     if is_running(book) {
         let c = current(book);
         if linking::links::linked(book, c, known) {
-            true
+            Passing::By(Certificate::Page)
         } else if fields::quorum::is_dummy(book, c) {
-            has_chain_below(book, known)
+            match chain_below(book, known) {
+                Parent::At(_) => Passing::By(Certificate::Blank),
+                Parent::Nothing => Passing::Not,
+            }
         } else {
-            false
+            Passing::Not
         }
     } else {
-        false
+        Passing::Not
     }
 }
 
-// Move 4: the replica leads the current height and has not proposed, and a chain ends below.
-pub fn propose_applies(book: &[u8], known: &mut [u8]) -> bool
+// Move 4: the replica leads the current height and has not proposed, and a chain ends below, whose last block is the
+// parent.
+pub fn propose_applies(book: &[u8], known: &mut [u8]) -> Parent
     requires { ⌜ SoundBook sha (now book) ⌝ }
     requires { ⌜ Memo (now book) (now known) ⌝ }
-    ensures answer { λ r. ⌜ r ≡ proposeApplies sha (decode (now (book .entry))) ⌝ }
+    ensures answer { λ r. ⌜ ProposeFound sha (decode (now (book .entry))) r ⌝ }
     ensures memo { λ _. ⌜ Memo (now (book .entry)) (now (known .exit)) ⌝ }
 {
     if is_running(book) {
         if fields::height::leader(book, current(book)) == fields::head::own(book) {
             if flag(book, 8) {
-                false
+                Parent::Nothing
             } else {
-                has_chain_below(book, known)
+                chain_below(book, known)
             }
         } else {
-            false
+            Parent::Nothing
         }
     } else {
-        false
+        Parent::Nothing
     }
 }
 

@@ -1,2 +1,1 @@
-pub mod Certificates
 pub mod Numbers

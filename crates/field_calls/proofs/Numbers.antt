@@ -1,30 +1,26 @@
 -- Tests of numbers as the code makes them, against the tests of the protocol.
-use Prim.Native.Nat.{ℕ, _+_, _*_, _%_, _≤_, _<_}
+use Prim.Native.Nat.{ℕ, _+_, _*_, _≤_, _<_}
 use native.Mathlib.Omega.{arith}
-use native.Mathlib.Nat.{div-one}
 use mathlib.Core.Path.{_≡_, refl, sym, _∙_}
-use mathlib.Core.Bool.{Bool, true, false, _&&_, not, true≢false, and-true}
+use mathlib.Core.Bool.{Bool, true, false, _&&_, true≢false, and-true}
 use lib.ListN.{length, getD}
 use lib.Dec.{eqb, leb, ltb}
 use borrow.Author.Tests.{lt-ltb, le-ltb, ltb-true, eqb-true, eq-eqb, ne-eqb}
 use Rattle.protocol.specs.Bytes.{Bytes, all}
 use Rattle.protocol.specs.Tests.{allOf, inRange}
-use Rattle.protocol.specs.State.{decode, encode, last, flag, withHead, withTimerFired, bookSize, bookHeights}
-use Rattle.protocol.specs.State.{maximumReplicas}
+use Rattle.protocol.specs.State.{bookSize, maximumReplicas}
 use Rattle.protocol.specs.Open.{openInRange}
 use Rattle.protocol.specs.Frame.{isCertificate}
-use Rattle.protocol.specs.Laws.CodecLaws.{last-decode}
 use Rattle.protocol.specs.Laws.RowLaws.{not-passed, row, in-range, all-at, at-all}
 use Rattle.protocol.specs.Block.{maximumHeights}
-
-pub in-book : (book : Bytes) (h heights : ℕ) → heights ≡ bookHeights book →
-    (leb 1 h && leb h heights) ≡ inRange 1 (last (decode book)) h
-unfolding inRange
-in-book book h heights e = rw (e, last-decode book)
 
 pub is-certificate : (k : ℕ) → (leb 5 k && leb k 7) ≡ isCertificate k
 unfolding isCertificate inRange
 is-certificate k = refl
+
+pub certificate-range : (k : ℕ) → isCertificate k ≡ true → (5 ≤ k) × (k ≤ 7)
+unfolding isCertificate
+certificate-range k e = in-range 5 7 k e
 
 -- ---- Open
 module _ (n : ℕ) (leaders : Bytes) where
@@ -70,16 +66,3 @@ pub not-long-enough : (book : Bytes) (heights : ℕ) → (length book ≡ 576 + 
     eqb (length book) (bookSize heights) ≡ false
 unfolding bookSize
 not-long-enough book heights f = ne-eqb (length book) (576 + 880 * heights) f
-
--- ---- Signal
-pub timer-runs : (book : Bytes) (h current flags : ℕ) → current ≡ decode book .current → flags ≡ decode book .flags →
-    (eqb h current && not (eqb (flags % 2) 1)) ≡ (eqb h (decode book .current) && not (flag 1 (decode book)))
-unfolding flag
-timer-runs book h current flags p q = rw (p, q, div-one (decode book .flags))
-
-pub fired : (book : Bytes) (flags current finalized : ℕ) (after : Bytes) →
-    after ≡ encode (withHead (decode book) (flags + 1) current finalized) →
-    flags ≡ decode book .flags → current ≡ decode book .current → finalized ≡ decode book .finalized →
-    after ≡ encode (withTimerFired (decode book))
-unfolding withTimerFired
-fired book flags current finalized after e p q r = e ∙ rw (p, q, r)

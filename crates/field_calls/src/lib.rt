@@ -1,5 +1,4 @@
 // The calls that need the book's fields alone, on a sound book: Open, Signal and Fetch.
 pub mod fetch;
 pub mod open;
-mod range;
 pub mod signal;

@@ -1,11 +1,12 @@
 // Signal: the timer of the current height has fired.
-use crate::range::in_book;
 use answers::answer::Answer;
+use fields::head::flag;
+use fields::head::in_book;
 ghost use mathlib.Core.Path.{_≡_};
 ghost use mathlib.Core.Bool.{_&&_, not};
 ghost use lib.Dec.{eqb};
 ghost use Rattle.sha256.specs.Digest.{sha256 as sha};
-ghost use Rattle.protocol.specs.State.{decode, flag, withTimerFired};
+ghost use Rattle.protocol.specs.State.{decode, flag as isFlagged, withTimerFired};
 ghost use Rattle.protocol.specs.Signal.{signalCall};
 ghost use Rattle.fields.specs.Book.{Readable, SoundBook, recoded};
 ghost use Rattle.answers.specs.Answers.{doneAnswer};
@@ -14,11 +15,11 @@ ghost use Rattle.answers.specs.Answers.{doneAnswer};
 fn timer_runs(book: &[u8], height: usize) -> bool
     requires { ⌜ Readable (now book) ⌝ }
     ensures { λ r. ⌜ r ≡
-        (eqb height (decode (now (book .entry)) .current) && not (flag 1 (decode (now (book .entry))))) ⌝ }
+        (eqb height (decode (now (book .entry)) .current) && not (isFlagged 1 (decode (now (book .entry))))) ⌝ }
 {
     let current = fields::head::current(book);
-    let flags = fields::head::flags(book);
-    (height == current) & (flags % 2 != 1)
+    let fired = flag(book, 1);
+    (height == current) & !fired
 }
 
 // Sets the timer's flag of a sound book.
@@ -26,10 +27,7 @@ fn fire(book: &mut [u8])
     requires { ⌜ SoundBook sha (now book) ⌝ }
     ensures { λ _. ⌜ now (book .exit) ≡ recoded (now (book .entry)) withTimerFired ⌝ }
 {
-    let flags = fields::head::flags(book);
-    let current = fields::head::current(book);
-    let finalized = fields::head::finalized(book);
-    fields::head::set_head(book, flags + 1, current, finalized);
+    fields::head::set_flag(book, 1);
 }
 
 // The signal to a sound book.

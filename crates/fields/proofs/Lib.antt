@@ -1,4 +1,3 @@
 pub mod Places
 pub mod Counts
-pub mod Writes
 pub mod Showing

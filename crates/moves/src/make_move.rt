@@ -2,12 +2,14 @@
 use answers::answer::Moved;
 use applies::block_vote_applies;
 use applies::dummy_vote_applies;
+use applies::found::Passing;
 use applies::new_finalized;
 use applies::pass_applies;
 use applies::propose_applies;
+use linking::links::Parent;
+use passing::pass;
 use steps::cast_block_vote;
 use steps::cast_dummy_vote;
-use steps::pass;
 use steps::propose;
 use steps::settle;
 ghost use mathlib.Core.Path.{_≡_};
@@ -30,11 +32,11 @@ fn later_step(book: &mut [u8], reply: &mut [u8], known: &mut [u8]) -> Moved
     ensures { λ r. ⌜ Took (laterStep (decode (now (book .entry))))
         (now (reply .entry)) r (now (book .exit)) (now (reply .exit)) ⌝ }
 {
-    if pass_applies(book, known) {
-        return pass(book, reply, known);
+    if let Passing::By(certificate) = pass_applies(book, known) {
+        return pass(book, reply, certificate);
     }
-    if propose_applies(book, known) {
-        return propose(book, reply, known);
+    if let Parent::At(j) = propose_applies(book, known) {
+        return propose(book, reply, j, known);
     }
     if block_vote_applies(book, known) {
         return cast_block_vote(book, reply);

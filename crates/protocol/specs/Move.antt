@@ -9,7 +9,8 @@ use Rattle.protocol.specs.Bytes.{Bytes, zeros, join, without, overFront}
 use Rattle.protocol.specs.Tests.{allOf, Row, firstRefusal}
 use Rattle.protocol.specs.Block.{blockEntries, newBlock}
 use Rattle.protocol.specs.Frame.{frameSize, proposal, blockVote, dummyVote, finalize}
-use Rattle.protocol.specs.State.{State, at, last, encode, decode, holdsProposal, flag, withHead, pending}
+use Rattle.protocol.specs.State.{State, at, last, encode, decode, holdsProposal, flag, pending}
+use Rattle.protocol.specs.State.{withHead, withFlag}
 use Rattle.protocol.specs.View.{View, linked, isDummy, extends, largestFinalized, parentOf, digestAt, logAt}
 use Rattle.protocol.specs.Sound.{view, sound}
 use Rattle.protocol.specs.Certificates.{certificateFrame}
@@ -53,7 +54,7 @@ dummyVoteApplies s = allOf (isRunning s ∷ flag 1 s ∷ not (flag 2 s) ∷ [])
 unfoldable pub dummyVoteStep : State → Step
 dummyVoteStep s = record {
   move = voteDummy (s .current);
-  after = withHead s (s .flags + 2) (s .current) (s .finalized);
+  after = withFlag 2 s;
   frames = dummyVote (s .own) (s .current) ∷ [];
 }
 
@@ -149,7 +150,7 @@ module _ (digest : Bytes → Bytes) where
   unfoldable pub proposeStep : State → Step
   proposeStep s = record {
     move = propose (s .current);
-    after = withHead s (s .flags + 8) (s .current) (s .finalized);
+    after = withFlag 8 s;
     frames = proposal (s .own) (s .current) (proposedBlock s (someOr 0 (parentBelow s))) ∷ [];
   }
 
@@ -163,7 +164,7 @@ module _ (digest : Bytes → Bytes) where
   unfoldable pub blockVoteStep : State → Step
   blockVoteStep s = record {
     move = voteBlock (s .current);
-    after = withHead s (s .flags + 4) (s .current) (s .finalized);
+    after = withFlag 4 s;
     frames = blockVote (s .own) (s .current) (digest (at s (s .current) .proposal)) ∷ [];
   }
 

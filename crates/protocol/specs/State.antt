@@ -185,11 +185,15 @@ withHead s flags current finalized = renewed s flags current finalized (s .pendi
 unfoldable pub withPool : State → ℕ → Bytes → State
 withPool s count pool = renewed s (s .flags) (s .current) (s .finalized) count pool (s .heights)
 
+-- flag `k` (1, 2, 4 or 8) of the current height, which is not set, is set
+abbrev pub withFlag : ℕ → State → State
+withFlag k s = withHead s (s .flags + k) (s .current) (s .finalized)
+
 -- the timer of the current height has fired
 unfoldable pub withTimerFired : State → State
-withTimerFired s = withHead s (s .flags + 1) (s .current) (s .finalized)
+withTimerFired s = withFlag 1 s
 
--- whether flag `k` (1, 2, 4 or 8) is set
+-- whether flag `k` is set
 unfoldable pub flag : ℕ → State → Bool
 flag k s = eqb (s .flags / k % 2) 1
 

@@ -1,3 +1,3 @@
 -- What the steps speak of, and laws about it.
-pub mod Pass
+pub mod Proposal
 pub mod Laws

@@ -1,32 +1,27 @@
-// The steps that the moves take: each writes its frames to the front of the reply and the new head to the book.
-use answers::answer::Certificate;
+// The steps of moves 1, 2, 4 and 5: each writes its frame to the front of the reply and what it changes to the book.
 use answers::answer::Moved;
-use applies::flag;
-use applies::parent_below;
 use fields::head::current;
-use fields::head::finalized;
-use fields::head::flags;
 use fields::head::own;
-use fields::head::set_head;
+use fields::head::set_flag;
 ghost use mathlib.Core.Path.{_≡_};
-ghost use mathlib.Core.Bool.{true, not, cond};
+ghost use mathlib.Core.Option.{some};
 ghost use Prim.Native.Nat.{_≤_};
 ghost use lib.ListN.{length};
 ghost use Rattle.sha256.specs.Digest.{sha256 as sha};
-ghost use Rattle.protocol.specs.Bytes.{overFront, put};
-ghost use Rattle.protocol.specs.State.{decode, encode, flag as isFlagged, bookHeights};
-ghost use Rattle.protocol.specs.Answer.{accepted, onBlock, onDummy};
-ghost use Rattle.protocol.specs.Move.{dummyVoteStep, outputStep, passStep, proposeStep, blockVoteStep, newFinalized};
-ghost use Rattle.protocol.specs.Move.{parentBelow, isSome};
+ghost use Rattle.protocol.specs.Bytes.{overFront};
+ghost use Rattle.protocol.specs.State.{decode, encode, bookHeights};
+ghost use Rattle.protocol.specs.Answer.{accepted};
+ghost use Rattle.protocol.specs.Move.{dummyVoteStep, outputStep, proposeStep, blockVoteStep, newFinalized};
+ghost use Rattle.protocol.specs.Move.{parentBelow};
 ghost use Rattle.protocol.specs.Block.{maximumHeights};
 ghost use Rattle.memory.specs.Memo.{Memo};
 ghost use Rattle.chains.specs.Walkable.{Walkable};
-ghost use Rattle.answers.specs.Answers.{movedAnswer, certificateOf};
+ghost use Rattle.answers.specs.Answers.{movedAnswer};
 ghost use Rattle.applies.specs.Took.{Took};
-ghost use Rattle.steps.specs.Pass.{certificateOn, finalizeOn, proposalOn};
-ghost use Rattle.fields.specs.Book.{SoundBook, Readable};
+ghost use Rattle.steps.specs.Proposal.{proposalOn};
+ghost use Rattle.fields.specs.Book.{SoundBook};
 
-// Move 1: casts the dummy vote. Costs 224 stores to the reply and three to the book.
+// Move 1: casts the dummy vote. Costs 224 stores to the reply and one to the book.
 pub fn cast_dummy_vote(book: &mut [u8], reply: &mut [u8]) -> Moved
     requires { ⌜ SoundBook sha (now book) ⌝ }
     requires { ⌜ 448 ≤ length (now reply) ⌝ }
@@ -34,14 +29,12 @@ pub fn cast_dummy_vote(book: &mut [u8], reply: &mut [u8]) -> Moved
         (now (reply .entry)) r (now (book .exit)) (now (reply .exit)) ⌝ }
 {
     let c = current(book);
-    let seen = flags(book);
-    let settled = finalized(book);
     frames::write_dummy_vote(reply, own(book), c);
-    set_head(book, seen + 2, c, settled);
+    set_flag(book, 2);
     Moved::Dummy(c)
 }
 
-// Move 2: makes `g` the finalized height. It writes no frame. Costs three stores.
+// Move 2: makes `g` the finalized height. It writes no frame. Costs one store.
 pub fn settle(book: &mut [u8], g: usize) -> Moved
     requires { ⌜ SoundBook sha (now book) ⌝ }
     requires { ⌜ g ≡ newFinalized sha (decode (now book)) ⌝ }
@@ -49,77 +42,8 @@ pub fn settle(book: &mut [u8], g: usize) -> Moved
     ensures answer { λ r. ⌜ movedAnswer r ≡ accepted (outputStep sha (decode (now (book .entry))) .move) ⌝ }
     ensures book { λ _. ⌜ now (book .exit) ≡ encode (outputStep sha (decode (now (book .entry))) .after) ⌝ }
 {
-    let c = current(book);
-    let seen = flags(book);
-    set_head(book, seen, c, g);
+    fields::head::set_finalized(book, g);
     Moved::Final(g)
-}
-
-// Whether the timer of the current height has not fired.
-fn in_time(book: &[u8]) -> bool
-    requires { ⌜ Readable (now book) ⌝ }
-    ensures { λ r. ⌜ r ≡ not (isFlagged 1 (decode (now (book .entry)))) ⌝ }
-{
-    !flag(book, 1)
-}
-
-// Writes a pass's first frame: the certificate of the current height's block where that is linked, else of its dummy
-// block.
-// Costs 224 stores.
-fn write_pass_certificate(book: &[u8], reply: &mut [u8], linked: bool) -> Certificate
-    requires { ⌜ SoundBook sha (now book) ⌝ }
-    requires { ⌜ decode (now book) .current ≤ bookHeights (now book) ⌝ }
-    requires { ⌜ 448 ≤ length (now reply) ⌝ }
-    ensures answer { λ r. ⌜ certificateOf r ≡ cond linked onBlock onDummy ⌝ }
-    ensures reply { λ _. ⌜ now (reply .exit) ≡
-        overFront (certificateOn linked (decode (now (book .entry)))) (now (reply .entry)) ⌝ }
-{
-    let c = current(book);
-    if linked {
-        let mask = fields::height::certificate_mask(book, c);
-        frames::write_block_certificate(reply, c, mask, fields::height::notarized(book, c));
-        Certificate::Page
-    } else {
-        frames::write_dummy_certificate(reply, c, fields::height::dummy_mask(book, c));
-        Certificate::Blank
-    }
-}
-
-// Writes a pass's second frame, from byte 224 on: a finalize statement, or zero bytes. Costs 224 stores.
-fn write_pass_finalize(book: &[u8], reply: &mut [u8], finalizes: bool)
-    requires { ⌜ Readable (now book) ⌝ }
-    requires { ⌜ 448 ≤ length (now reply) ⌝ }
-    ensures { λ _. ⌜ now (reply .exit) ≡
-        put (now (reply .entry)) 224 (finalizeOn finalizes (decode (now (book .entry)))) ⌝ }
-{
-    if finalizes {
-        let c = current(book);
-        let signer = own(book);
-        frames::write_finalize(&mut reply[224..], signer, c);
-    } else {
-        wire::bytes::clear(reply, 224, 224);
-    }
-}
-
-// Move 3: passes to the next height, on the block where the current height is linked, and else on the dummy block. It
-// finalizes on either, by the timer alone. Costs 448 stores to the reply and three to the book; the memory spares a
-// second walk.
-pub fn pass(book: &mut [u8], reply: &mut [u8], known: &mut [u8]) -> Moved
-    requires { ⌜ SoundBook sha (now book) ⌝ }
-    requires { ⌜ Memo (now book) (now known) ⌝ }
-    requires { ⌜ decode (now book) .current ≤ bookHeights (now book) ⌝ }
-    requires { ⌜ 448 ≤ length (now reply) ⌝ }
-    ensures { λ r. ⌜ Took (passStep sha (decode (now (book .entry))))
-        (now (reply .entry)) r (now (book .exit)) (now (reply .exit)) ⌝ }
-{
-    let c = current(book);
-    let settled = finalized(book);
-    let linked = linking::links::linked(book, c, known);
-    let finalizes = in_time(book);
-    let certificate = write_pass_certificate(book, reply, linked);
-    write_pass_finalize(book, reply, finalizes);
-    set_head(book, 0, c + 1, settled);
-    Moved::Pass(c, certificate, finalizes)
 }
 
 // Writes a proposal of a block on the block of height `j`: the frame first, and the block, with its entries, in its
@@ -140,22 +64,19 @@ fn write_proposal(book: &[u8], reply: &mut [u8], j: usize, known: &mut [u8])
     chains::entries::offer(book, c, j, &digest, &mut reply[48..224]);
 }
 
-// Move 4: proposes a block on the best chain below the current height.
-pub fn propose(book: &mut [u8], reply: &mut [u8], known: &mut [u8]) -> Moved
+// Move 4: proposes a block on the best chain below the current height, whose last block is that of height `j`.
+pub fn propose(book: &mut [u8], reply: &mut [u8], j: usize, known: &mut [u8]) -> Moved
     requires { ⌜ SoundBook sha (now book) ⌝ }
     requires { ⌜ Memo (now book) (now known) ⌝ }
     requires { ⌜ decode (now book) .current ≤ bookHeights (now book) ⌝ }
-    requires { ⌜ isSome (parentBelow sha (decode (now book))) ≡ true ⌝ }
+    requires { ⌜ parentBelow sha (decode (now book)) ≡ some j ⌝ }
     requires { ⌜ 448 ≤ length (now reply) ⌝ }
     ensures { λ r. ⌜ Took (proposeStep sha (decode (now (book .entry))))
         (now (reply .entry)) r (now (book .exit)) (now (reply .exit)) ⌝ }
 {
     let c = current(book);
-    let seen = flags(book);
-    let settled = finalized(book);
-    let j = parent_below(book, known);
     write_proposal(book, reply, j, known);
-    set_head(book, seen + 8, c, settled);
+    set_flag(book, 8);
     Moved::Offer(c)
 }
 
@@ -168,11 +89,9 @@ pub fn cast_block_vote(book: &mut [u8], reply: &mut [u8]) -> Moved
         (now (reply .entry)) r (now (book .exit)) (now (reply .exit)) ⌝ }
 {
     let c = current(book);
-    let seen = flags(book);
-    let settled = finalized(book);
     let signer = own(book);
     let digest = sha256::sha256(fields::height::proposal(book, c));
     frames::write_block_vote(reply, signer, c, &digest);
-    set_head(book, seen + 4, c, settled);
+    set_flag(book, 4);
     Moved::Vote(c)
 }

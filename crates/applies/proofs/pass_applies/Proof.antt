@@ -1,9 +1,11 @@
--- `pass_applies` meets its contract: its tests are those of move 3.
-use mathlib.Core.Path.{sym, _∙_}
+-- `pass_applies` meets its contract: its tests are those of move 3, and the first that passes names the certificate.
+use mathlib.Core.Path.{sym, subst, _∙_}
 use Rattle.sha256.specs.Digest.{sha256}
 use Rattle.protocol.specs.State.{decode}
-use Rattle.applies.specs.Laws.AppliesLaws.{pass-stopped, pass-linked, pass-chain, pass-neither}
-use Rattle.applies.specs.Laws.RunningLaws.{current-high, current-within}
+use Rattle.fields.specs.Laws.HeadLaws.{current-high, current-within}
+use Rattle.linking.specs.declared.links.Parent.{Parent}
+use Rattle.applies.specs.Found.{PassFound}
+use Rattle.applies.specs.Laws.AppliesLaws.{pass-stopped, pass-page, onChain, pass-chain, pass-neither}
 use borrow.Author.Needs.{needs}
 use Rattle.applies.proofs.pass_applies.Statement.{statement}
 use Rattle.applies.proofs.pass_applies.Tie as tie
@@ -44,16 +46,16 @@ returns c =
     let start = after-is-running .before .before .before in
     let height = after-current .current in
     let link = after-linked .linked in (
-      sym (pass-linked sha256 (decode (start .args .book .now)) (height .result) (height .ensures .0)
+      pass-page sha256 (decode (start .args .book .now)) (height .result) (height .ensures .0)
           (sym (after-is-running .is-running .ensures) ∙ after-if1 .if1 .taken)
-          (sym (link .ensures .0) ∙ c .if2 .taken)),
+          (sym (link .ensures .0) ∙ c .if2 .taken),
       link .ensures .1,
     )
 
 returns-2 : tie.Need-returns-2
 returns-2 c =
-    let after-has-chain-below = c .before .before in
-    let after-if3 = after-has-chain-below .before .before in
+    let after-chain-below = c .before .before .before .before in
+    let after-if3 = after-chain-below .before .before in
     let after-is-dummy = after-if3 .before in
     let after-if2 = after-is-dummy .before in
     let after-linked = after-if2 .before .before .before in
@@ -61,18 +63,41 @@ returns-2 c =
     let after-if1 = after-current .before in
     let after-is-running = after-if1 .before in
     let start = after-is-running .before .before .before in
+    let s = decode (start .args .book .now) in
     let height = after-current .current in
-    let link = after-linked .linked in
-    let chain = after-has-chain-below .has-chain-below in (
-      chain .ensures .0 ∙ sym (pass-chain sha256 (decode (start .args .book .now)) (height .result) (height .ensures .0)
+    let found = after-chain-below .chain-below in (
+      subst (λ (p : Parent). PassFound sha256 s (onChain p)) (c .enum-told .given .1)
+          (pass-chain sha256 s (height .result) (height .ensures .0)
           (sym (after-is-running .is-running .ensures) ∙ after-if1 .if1 .taken)
-          (sym (link .ensures .0) ∙ after-if2 .if2 .left)
-          (sym (after-is-dummy .is-dummy .ensures) ∙ after-if3 .if3 .taken)),
-      chain .ensures .1,
+          (sym (after-linked .linked .ensures .0) ∙ after-if2 .if2 .left)
+          (sym (after-is-dummy .is-dummy .ensures) ∙ after-if3 .if3 .taken) (found .result) (found .ensures .0)),
+      found .ensures .1,
     )
 
 returns-3 : tie.Need-returns-3
 returns-3 c =
+    let after-chain-below = c .before .before .before .before in
+    let after-if3 = after-chain-below .before .before in
+    let after-is-dummy = after-if3 .before in
+    let after-if2 = after-is-dummy .before in
+    let after-linked = after-if2 .before .before .before in
+    let after-current = after-linked .before .before in
+    let after-if1 = after-current .before in
+    let after-is-running = after-if1 .before in
+    let start = after-is-running .before .before .before in
+    let s = decode (start .args .book .now) in
+    let height = after-current .current in
+    let found = after-chain-below .chain-below in (
+      subst (λ (p : Parent). PassFound sha256 s (onChain p)) (c .enum-told2 .given .1)
+          (pass-chain sha256 s (height .result) (height .ensures .0)
+          (sym (after-is-running .is-running .ensures) ∙ after-if1 .if1 .taken)
+          (sym (after-linked .linked .ensures .0) ∙ after-if2 .if2 .left)
+          (sym (after-is-dummy .is-dummy .ensures) ∙ after-if3 .if3 .taken) (found .result) (found .ensures .0)),
+      found .ensures .1,
+    )
+
+returns-4 : tie.Need-returns-4
+returns-4 c =
     let after-is-dummy = c .before in
     let after-if2 = after-is-dummy .before in
     let after-linked = after-if2 .before .before .before in
@@ -82,18 +107,18 @@ returns-3 c =
     let start = after-is-running .before .before .before in
     let height = after-current .current in
     let link = after-linked .linked in (
-      sym (pass-neither sha256 (decode (start .args .book .now)) (height .result) (height .ensures .0)
+      pass-neither sha256 (decode (start .args .book .now)) (height .result) (height .ensures .0)
           (sym (after-is-running .is-running .ensures) ∙ after-if1 .if1 .taken)
-          (sym (link .ensures .0) ∙ after-if2 .if2 .left) (sym (after-is-dummy .is-dummy .ensures) ∙ c .if3 .left)),
+          (sym (link .ensures .0) ∙ after-if2 .if2 .left) (sym (after-is-dummy .is-dummy .ensures) ∙ c .if3 .left),
       link .ensures .1,
     )
 
-returns-4 : tie.Need-returns-4
-returns-4 c =
+returns-5 : tie.Need-returns-5
+returns-5 c =
     let after-is-running = c .before in
     let start = after-is-running .before .before .before in (
-      sym (pass-stopped sha256 (decode (start .args .book .now))
-          (sym (after-is-running .is-running .ensures) ∙ c .if1 .left)),
+      pass-stopped sha256 (decode (start .args .book .now))
+          (sym (after-is-running .is-running .ensures) ∙ c .if1 .left),
       start .pre .1,
     )
 
@@ -107,9 +132,13 @@ pass-applies-spec =
     is-dummy-requires
     (λ c κs. search needs)
     (λ c. search needs)
+    (λ c. search needs)
+    (λ c. search needs)
     returns
     (λ c. search needs)
     returns-2
     (λ c. search needs)
     returns-3
-    returns-4)
+    (λ c. search needs)
+    returns-4
+    returns-5)

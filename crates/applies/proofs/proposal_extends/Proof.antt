@@ -4,8 +4,9 @@ use lib.ListN.{length}
 use Rattle.sha256.specs.Digest.{sha256}
 use Rattle.protocol.specs.State.{decode}
 use Rattle.fields.specs.Book.{Within}
+use Rattle.fields.specs.Laws.HeadLaws.{within-current}
+use Rattle.fields.proofs.Places.{height-shaped}
 use Rattle.applies.specs.Laws.AppliesLaws.{held-extends, held-none}
-use Rattle.applies.specs.Laws.RunningLaws.{within-current, proposal-size}
 use borrow.Author.Needs.{needs}
 use Rattle.applies.proofs.proposal_extends.Statement.{statement}
 use Rattle.applies.proofs.proposal_extends.Tie as tie
@@ -25,7 +26,7 @@ extends-requires c κs =
         (
           inside,
           ap length (after-proposal .proposal .ensures)
-              ∙ proposal-size book (start .pre .0 .ready .readable) (height .result) inside,
+              ∙ height-shaped book (height .result) (start .pre .0 .ready .readable .sized .size) inside .proposal-size,
         ),
       ),
     )

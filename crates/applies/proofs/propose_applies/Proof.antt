@@ -4,7 +4,7 @@ use Rattle.sha256.specs.Digest.{sha256}
 use Rattle.protocol.specs.State.{decode}
 use Rattle.applies.specs.Laws.AppliesLaws.{leads, leads-not, propose-stopped, propose-follows, propose-done}
 use Rattle.applies.specs.Laws.AppliesLaws.{propose-chain}
-use Rattle.applies.specs.Laws.RunningLaws.{current-within}
+use Rattle.fields.specs.Laws.HeadLaws.{current-within}
 use borrow.Author.Needs.{needs}
 use Rattle.applies.proofs.propose_applies.Statement.{statement}
 use Rattle.applies.proofs.propose_applies.Tie as tie
@@ -34,15 +34,15 @@ returns c =
     let leads-it = leads sha256 s (after-current .current .result) (after-current .current .ensures .0)
     (after-leader .leader .result) (after-own .own .result) (after-leader .leader .ensures .0)
     (after-own .own .ensures .0) (after-if2 .if2 .taken) in (
-      sym (propose-done sha256 s (sym (after-is-running .is-running .ensures) ∙ after-if1 .if1 .taken) leads-it
-          (sym (after-flag .flag .ensures) ∙ c .if3 .taken)),
+      propose-done sha256 s (sym (after-is-running .is-running .ensures) ∙ after-if1 .if1 .taken) leads-it
+          (sym (after-flag .flag .ensures) ∙ c .if3 .taken),
       start .pre .1,
     )
 
 returns-2 : tie.Need-returns-2
 returns-2 c =
-    let after-has-chain-below = c .before .before in
-    let after-if3 = after-has-chain-below .before .before in
+    let after-chain-below = c .before .before in
+    let after-if3 = after-chain-below .before .before in
     let after-flag = after-if3 .before in
     let after-if2 = after-flag .before in
     let after-own = after-if2 .before in
@@ -52,14 +52,13 @@ returns-2 c =
     let after-is-running = after-if1 .before in
     let start = after-is-running .before .before .before in
     let s = decode (start .args .book .now) in
-    let chain = after-has-chain-below .has-chain-below in
+    let found = after-chain-below .chain-below in
     let leads-it = leads sha256 s (after-current .current .result) (after-current .current .ensures .0)
     (after-leader .leader .result) (after-own .own .result) (after-leader .leader .ensures .0)
     (after-own .own .ensures .0) (after-if2 .if2 .taken) in (
-      chain .ensures .0 ∙ sym (propose-chain sha256 s
-          (sym (after-is-running .is-running .ensures) ∙ after-if1 .if1 .taken) leads-it
-          (sym (after-flag .flag .ensures) ∙ after-if3 .if3 .left)),
-      chain .ensures .1,
+      propose-chain sha256 s (sym (after-is-running .is-running .ensures) ∙ after-if1 .if1 .taken) leads-it
+          (sym (after-flag .flag .ensures) ∙ after-if3 .if3 .left) (found .result) (found .ensures .0),
+      found .ensures .1,
     )
 
 returns-3 : tie.Need-returns-3
@@ -74,7 +73,7 @@ returns-3 c =
     let follows = leads-not sha256 s (after-current .current .result) (after-current .current .ensures .0)
     (after-leader .leader .result) (after-own .own .result) (after-leader .leader .ensures .0)
     (after-own .own .ensures .0) (c .if2 .left) in (
-      sym (propose-follows sha256 s (sym (after-is-running .is-running .ensures) ∙ after-if1 .if1 .taken) follows),
+      propose-follows sha256 s (sym (after-is-running .is-running .ensures) ∙ after-if1 .if1 .taken) follows,
       start .pre .1,
     )
 
@@ -82,8 +81,8 @@ returns-4 : tie.Need-returns-4
 returns-4 c =
     let after-is-running = c .before in
     let start = after-is-running .before .before .before in (
-      sym (propose-stopped sha256 (decode (start .args .book .now))
-          (sym (after-is-running .is-running .ensures) ∙ c .if1 .left)),
+      propose-stopped sha256 (decode (start .args .book .now))
+          (sym (after-is-running .is-running .ensures) ∙ c .if1 .left),
       start .pre .1,
     )
 

@@ -13,7 +13,20 @@ use Rattle.protocol.specs.View.{linked, isDummy, extends, largestFinalized, par
 use Rattle.protocol.specs.Sound.{view}
 use Rattle.protocol.specs.Move.{isRunning, isSome, dummyVoteApplies, newFinalized, parentBelow, passApplies}
 use Rattle.protocol.specs.Move.{proposeApplies, blockVoteApplies}
+use Rattle.answers.specs.declared.answer.Certificate.the-variants.{Page, Blank}
+use Rattle.answers.specs.Answers.{certificateOf}
+use Rattle.linking.specs.declared.links.Parent.{Parent}
+use Rattle.linking.specs.declared.links.Parent.the-variants.{At, Nothing}
+use Rattle.linking.specs.Parent.{parentOption}
+use Rattle.applies.specs.declared.found.Passing.{Passing}
+use Rattle.applies.specs.declared.found.Passing.the-variants.{By, Not}
 use Rattle.applies.specs.Held.{heldExtends}
+use Rattle.applies.specs.Found.{PassFound, ProposeFound}
+
+-- a pass on the dummy block, where a chain ends below
+abbrev pub onChain : Parent → Passing
+onChain (At j) = By Blank
+onChain Nothing = Not
 
 -- ---- move 1
 module _ (s : State) where
@@ -45,19 +58,23 @@ module _ (digest : Bytes → Bytes) where
     below-is = rw is
 
     -- ---- move 3
-    pub pass-linked : isRunning s ≡ true → linked digest (view s) c ≡ true → passApplies digest s ≡ true
-    unfolding passApplies
-    pass-linked e f =
+    pub pass-page : isRunning s ≡ true → linked digest (view s) c ≡ true → PassFound digest s (By Page)
+    unfolding passApplies certificateOf
+    pass-page e f =
         let l : linked digest (view s) (s .current) ≡ true = rw is at f in
-        rw (e, l)
+        (rw (e, l), rw l)
 
     pub pass-chain : isRunning s ≡ true → linked digest (view s) c ≡ false → isDummy (view s) c ≡ true →
-        passApplies digest s ≡ isSome (parentBelow digest s)
-    unfolding passApplies
-    pass-chain e f g =
+        (p : Parent) → parentOption p ≡ parentBelow digest s → PassFound digest s (onChain p)
+    unfolding passApplies certificateOf parentOption isSome
+    pass-chain e f g (At j) p =
         let l : linked digest (view s) (s .current) ≡ false = rw is at f in
         let d : isDummy (view s) (s .current) ≡ true = rw is at g in
-        rw (e, l, d)
+        (rw (e, l, d, ← p), rw l)
+    pass-chain e f g Nothing p =
+        let l : linked digest (view s) (s .current) ≡ false = rw is at f in
+        let d : isDummy (view s) (s .current) ≡ true = rw is at g in
+        rw (e, l, d, ← p)
 
     pub pass-neither : isRunning s ≡ true → linked digest (view s) c ≡ false → isDummy (view s) c ≡ false →
         passApplies digest s ≡ false
@@ -110,9 +127,10 @@ module _ (digest : Bytes → Bytes) where
     propose-done e f g = rw (e, f, g)
 
     pub propose-chain : isRunning s ≡ true → eqb (at s (s .current) .leader) (s .own) ≡ true → flag 8 s ≡ false →
-        proposeApplies digest s ≡ isSome (parentBelow digest s)
-    unfolding proposeApplies allOf
-    propose-chain e f g = rw (e, f, g) (and-true (isSome (parentBelow digest s)))
+        (p : Parent) → parentOption p ≡ parentBelow digest s → ProposeFound digest s p
+    unfolding proposeApplies allOf parentOption isSome
+    propose-chain e f g (At j) p = (rw (e, f, g, ← p), sym p)
+    propose-chain e f g Nothing p = rw (e, f, g, ← p)
 
     -- ---- move 5
     pub vote-stopped : isRunning s ≡ false → blockVoteApplies digest s ≡ false

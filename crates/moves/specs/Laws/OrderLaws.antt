@@ -15,7 +15,7 @@ use Rattle.protocol.specs.State.{State, decode, encode}
 use Rattle.protocol.specs.Sound.{sound}
 use Rattle.protocol.specs.Answer.{accepted}
 use Rattle.protocol.specs.Move.{Step, firstStep, step, written, unused, moved, unlessMoveRefused, moveRows, moveCall}
-use Rattle.protocol.specs.Move.{isRunning, isSome, parentBelow, newFinalized, dummyVoteApplies, dummyVoteStep}
+use Rattle.protocol.specs.Move.{isRunning, newFinalized, dummyVoteApplies, dummyVoteStep}
 use Rattle.protocol.specs.Move.{outputApplies, outputStep, passApplies, passStep, proposeApplies, proposeStep}
 use Rattle.protocol.specs.Move.{blockVoteApplies, blockVoteStep, idleStep}
 use Rattle.answers.specs.declared.answer.Moved.{Moved}
@@ -64,10 +64,6 @@ module _ (s : State) where
   pub propose-running : proposeApplies sha256 s ≡ true → isRunning s ≡ true
   unfolding proposeApplies
   propose-running e = row _ 0 e
-
-  pub propose-has : proposeApplies sha256 s ≡ true → isSome (parentBelow sha256 s) ≡ true
-  unfolding proposeApplies
-  propose-has e = row _ 3 e
 
   pub vote-running : blockVoteApplies sha256 s ≡ true → isRunning s ≡ true
   unfolding blockVoteApplies

@@ -7,26 +7,21 @@ use Rattle.steps.proofs.cast_block_vote.Tie as tie
 
 returns : tie.Need-returns
 returns c =
-    let after-set-head = c .before .before in
-    let after-write-block-vote = after-set-head .before .before .before .before in
+    let after-set-flag = c .before .before in
+    let after-write-block-vote = after-set-flag .before .before .before .before in
     let after-sha256 = after-write-block-vote .before .before .before in
     let after-proposal = after-sha256 .before in
     let after-own = after-proposal .before .before in
-    let after-finalized = after-own .before .before in
-    let after-flags = after-finalized .before .before in
-    let after-current = after-flags .before .before in
+    let after-current = after-own .before .before in
     let start = after-current .before .before .before .before in
     let height = after-current .current in
-    let seen = after-flags .flags in
-    let settled = after-finalized .finalized in
     let signer = after-own .own in
     let block = after-proposal .proposal in
     let digest = after-sha256 .sha256 in
-    took-block-vote (decode (start .args .book .now)) (start .args .reply .now) (after-set-head .set-head .last .0)
+    took-block-vote (decode (start .args .book .now)) (start .args .reply .now) (after-set-flag .set-flag .last .0)
     (after-write-block-vote .write-block-vote .last .0)
-    (height .result) (signer .result) (seen .result) (settled .result) (height .ensures .0) (signer .ensures .0)
-    (seen .ensures .0) (settled .ensures .0)
-    (digest .result) (block .result .now) (digest .ensures) (block .ensures) (after-set-head .set-head .ensures)
+    (height .result) (height .ensures .0) (signer .result) (digest .result) (block .result .now) (signer .ensures .0)
+    (digest .ensures) (block .ensures) (after-set-flag .set-flag .ensures)
     (after-write-block-vote .write-block-vote .ensures)
 
 pub cast-block-vote-spec : {M : Type 1} → statement M
@@ -37,11 +32,8 @@ cast-block-vote-spec =
     (λ c κs. search needs)
     (λ c κs. search needs)
     (λ c κs. search needs)
-    (λ c κs. search needs)
-    (λ c κs. search needs)
     (λ c. search needs)
     (λ c κs. search needs)
-    (λ c. search needs)
     (λ c κs. search needs)
     (λ c. search needs)
     (λ c. search needs)

@@ -1,5 +1,4 @@
--- `propose` meets its contract: the frame and the head are those of move 4, on the best chain below.
-use mathlib.Core.Path.{refl}
+-- `propose` meets its contract: the frame and the flag are those of move 4, on the best chain below.
 use Rattle.protocol.specs.State.{decode}
 use Rattle.steps.specs.Laws.ProposeLaws.{walkable}
 use Rattle.steps.specs.Laws.StepsLaws.{took-propose}
@@ -9,16 +8,13 @@ use Rattle.steps.proofs.propose.Tie as tie
 
 write-proposal-requires : tie.Need-write-proposal-requires
 write-proposal-requires c κs =
-    let after-parent-below = c .before .before .before .before .before in
-    let start = after-parent-below .before .before .before .before .before .before .before .before .before .before
-    .before .before in
-    let found = after-parent-below .parent-below in (
+    let start = c .before .before .before .before .before .before .before .before in (
       start .pre .0,
       (
-        found .ensures .1,
+        start .pre .1 .0,
         (
-          walkable (start .args .book .now) (start .pre .0) (start .pre .1 .1 .0)
-              (start .pre .1 .1 .1 .0) (found .result) (found .ensures .0),
+          walkable (start .args .book .now) (start .pre .0) (start .pre .1 .1 .0) (start .args .j)
+              (start .pre .1 .1 .1 .0),
           start .pre .1 .1 .1 .1,
         ),
       ),
@@ -26,34 +22,22 @@ write-proposal-requires c κs =
 
 returns : tie.Need-returns
 returns c =
-    let after-set-head = c .before .before in
-    let after-write-proposal = after-set-head .before .before .before .before .before .before in
-    let after-parent-below = after-write-proposal .before .before .before .before .before .before in
-    let after-finalized = after-parent-below .before .before .before in
-    let after-flags = after-finalized .before .before in
-    let after-current = after-flags .before .before in
+    let after-set-flag = c .before .before in
+    let after-write-proposal = after-set-flag .before .before .before .before .before .before in
+    let after-current = after-write-proposal .before .before .before .before in
     let start = after-current .before .before .before .before .before in
-    let s = decode (start .args .book .now) in
     let height = after-current .current in
-    let seen = after-flags .flags in
-    let settled = after-finalized .finalized in
-    let found = after-parent-below .parent-below in
     let proposed = after-write-proposal .write-proposal in
-    took-propose s (start .args .reply .now) (after-set-head .set-head .last .0) (proposed .last .1 .0)
-    (height .result) (s .own) (seen .result) (settled .result) (height .ensures .0) refl (seen .ensures .0)
-    (settled .ensures .0)
-    (found .result) (found .ensures .0) (after-set-head .set-head .ensures) (proposed .ensures)
+    took-propose (decode (start .args .book .now)) (start .args .reply .now) (after-set-flag .set-flag .last .0)
+    (proposed .last .1 .0) (height .result) (height .ensures .0) (start .args .j) (start .pre .1 .1 .1 .0)
+    (after-set-flag .set-flag .ensures) (proposed .ensures)
 
 pub propose-spec : {M : Type 1} → statement M
 propose-spec =
     tie.close
     (tie.spec
     (λ c κs. search needs)
-    (λ c κs. search needs)
-    (λ c κs. search needs)
-    (λ c κs. search needs)
     write-proposal-requires
-    (λ c. search needs)
     (λ c κs. search needs)
     (λ c. search needs)
     (λ c. search needs)

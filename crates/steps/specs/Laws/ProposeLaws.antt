@@ -1,8 +1,8 @@
 -- What a proposal's writes leave, and that the chain it stands on can be walked.
 use Prim.Native.Nat.{ℕ, _-_, _≤_}
 use native.Mathlib.Omega.{arith}
-use mathlib.Core.Path.{_≡_, sym, ap, _∙_}
-use mathlib.Core.Bool.{true}
+use mathlib.Core.Path.{_≡_, sym, _∙_}
+use mathlib.Core.Option.{some}
 use lib.ListN.{length}
 use Rattle.protocol.specs.Every.{Every}
 use Rattle.sha256.specs.Digest.{sha256}
@@ -20,8 +20,8 @@ use Rattle.protocol.specs.State.{State, decode, pending, bookHeights}
 use Rattle.protocol.specs.Sound.{view}
 use Rattle.protocol.specs.View.{digestAt}
 use Rattle.protocol.specs.Laws.LinkedLaws.{linked-complete}
-use Rattle.protocol.specs.Laws.ParentLaws.{isSome-parent}
-use Rattle.protocol.specs.Move.{isSome, someOr, parentBelow, offered, proposedBlock}
+use Rattle.protocol.specs.Laws.ParentLaws.{parent-some}
+use Rattle.protocol.specs.Move.{parentBelow, offered, proposedBlock}
 use Rattle.protocol.specs.Laws.LogLaws.{view-formed}
 use Rattle.fields.specs.Laws.BookLaws.{ready-state}
 use Rattle.fields.specs.Book.{SoundBook}
@@ -32,17 +32,14 @@ module _ (book : Bytes) (m : SoundBook sha256 book) where
   s = decode book
 
   -- the chain below the current height
-  pub walkable : s .current ≤ bookHeights book → isSome (parentBelow sha256 s) ≡ true → (j : ℕ) →
-      j ≡ someOr 0 (parentBelow sha256 s) → Walkable book j
-  unfolding someOr
-  walkable high e j is =
-      let found = isSome-parent sha256 (view s) (s .current - 1) e in
-      let same-height : j ≡ found .0 = is ∙ ap (someOr 0) (found .1) in
-      let within : found .0 ≤ s .current - 1 = found .2 .within in
+  pub walkable : s .current ≤ bookHeights book → (j : ℕ) → parentBelow sha256 s ≡ some j → Walkable book j
+  walkable high j e =
+      let chain = parent-some sha256 (view s) (s .current - 1) j e .0 in
+      let within : j ≤ s .current - 1 = chain .within in
       record {
         shown = m .ready .readable;
         high = omega arith;
-        is-linked = rw same-height (linked-complete sha256 (view s) (found .2 .isLinked));
+        is-linked = linked-complete sha256 (view s) (chain .isLinked);
         formed = view-formed sha256 s (m .state);
       }
 

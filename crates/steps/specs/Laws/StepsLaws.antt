@@ -1,117 +1,44 @@
--- What the writes of each step leave: the step's frames in the reply and the step's state in the book.
-use Prim.Native.Nat.{ℕ, _+_}
-use native.Mathlib.Omega.{arith}
-use mathlib.Core.Path.{_≡_, ap, _∙_}
-use mathlib.Core.Bool.{Bool, true, false, not, cond}
+-- What the writes of each step leave: the step's frame in the reply and the step's state in the book.
+use Prim.Native.Nat.{ℕ}
+use mathlib.Core.Path.{_≡_, _∙_}
 use mathlib.Core.List.{[], _∷_, _++_, append-nil}
-use lib.ListN.{length}
+use mathlib.Core.Option.{some}
 use Rattle.sha256.specs.Digest.{sha256}
-use Rattle.protocol.specs.Bytes.{Bytes, zeros, join, overFront, put}
-use Rattle.protocol.specs.Laws.BytesLaws.{length-zeros}
-use Rattle.protocol.specs.Laws.BuildLaws.{frame-size}
-use Rattle.protocol.specs.Laws.FrontLaws.{goes-on}
-use Rattle.protocol.specs.Laws.TestsLaws.{cond-elim}
-use Rattle.protocol.specs.Frame.{proposal, dummyVote, blockVote, finalize, blockCertificate, dummyCertificate}
-use Rattle.protocol.specs.State.{State, at, decode, encode, flag, withHead}
-use Rattle.protocol.specs.Sound.{view}
-use Rattle.protocol.specs.View.{linked}
-use Rattle.protocol.specs.Answer.{accepted, Certificate, onBlock, onDummy, pass, certificateKind}
-use Rattle.protocol.specs.Certificates.{certificateFrame}
-use Rattle.protocol.specs.Move.{unused, written, dummyVoteStep, outputStep, newFinalized, passesBy, passStep, someOr}
-use Rattle.protocol.specs.Move.{parentBelow, proposedBlock, proposeStep, blockVoteStep}
-use Rattle.fields.specs.Book.{Within, Readable}
+use Rattle.protocol.specs.Bytes.{Bytes, zeros, join, overFront}
+use Rattle.protocol.specs.Frame.{proposal, dummyVote, blockVote}
+use Rattle.protocol.specs.State.{State, at, encode, withHead, withFlag}
+use Rattle.protocol.specs.Answer.{accepted}
+use Rattle.protocol.specs.Move.{unused, written, dummyVoteStep, outputStep, newFinalized, someOr, parentBelow}
+use Rattle.protocol.specs.Move.{proposedBlock, proposeStep, blockVoteStep}
 use Rattle.answers.specs.declared.answer.Moved.the-variants as Moved
-use Rattle.answers.specs.declared.answer.Certificate as code
-use Rattle.answers.specs.Answers.{movedAnswer, certificateOf}
+use Rattle.answers.specs.Answers.{movedAnswer}
 use Rattle.applies.specs.Took.{Took}
-use Rattle.applies.specs.Laws.RunningLaws.{notarized-size}
-use Rattle.steps.specs.Pass.{certificateOn}
-
--- ---- sizes
-pub finalize-size : (s h : ℕ) → length (finalize s h) ≡ 224
-unfolding finalize
-finalize-size s h = omega (arith, frame-size 4 s h 0 (zeros 32) (zeros 176), length-zeros 32, length-zeros 176)
-
-block-certificate-size : (h mask : ℕ) (block : Bytes) → length block ≡ 176 →
-    length (blockCertificate h mask block) ≡ 224
-unfolding blockCertificate
-block-certificate-size h mask block size = omega (arith, frame-size 5 0 h mask (zeros 32) block, length-zeros 32)
-
-dummy-certificate-size : (h mask : ℕ) → length (dummyCertificate h mask) ≡ 224
-unfolding dummyCertificate
-dummy-certificate-size h mask = omega (
-  arith,
-  frame-size 6 0 h mask (zeros 32) (zeros 176),
-  length-zeros 32,
-  length-zeros 176,
-)
-
-abbrev passed : State → Bytes
-passed s = certificateFrame s (certificateKind (passesBy sha256 s)) (s .current)
-
-pass-certificate-size : (book : Bytes) → Readable book → Within book (decode book .current) →
-    length (passed (decode book)) ≡ 224
-unfolding certificateFrame certificateKind
-pass-certificate-size book r w =
-    let s : State = decode book in
-    cond-elim (λ (by : Certificate). length (certificateFrame s (certificateKind by) (s .current)) ≡ 224)
-    (linked sha256 (view s) (s .current))
-    (λ _. block-certificate-size (s .current) (at s (s .current) .certificateMask) (at s (s .current) .notarized)
-    (notarized-size book r (s .current) w))
-    (λ _. dummy-certificate-size (s .current) (at s (s .current) .dummyMask))
-
--- ---- the certificate of a pass
-module _ (s : State) (reply replyAfter : Bytes) (chosen : Bool) (c mask : ℕ) (c-is : c ≡ s .current) where
-  pub wrote-block : (block : Bytes) → chosen ≡ true → mask ≡ at s c .certificateMask → block ≡ at s c .notarized →
-      replyAfter ≡ overFront (blockCertificate c mask block) reply →
-      replyAfter ≡ overFront (certificateOn chosen s) reply
-  unfolding certificateFrame certificateKind
-  wrote-block block e m b r = r ∙ rw (e, m, b, c-is)
-
-  pub wrote-dummy : chosen ≡ false → mask ≡ at s c .dummyMask →
-      replyAfter ≡ overFront (dummyCertificate c mask) reply → replyAfter ≡ overFront (certificateOn chosen s) reply
-  unfolding certificateFrame certificateKind
-  wrote-dummy e m r = r ∙ rw (e, m, c-is)
 
 -- ---- what is written
 one-written : (frame : Bytes) → join (frame ∷ []) ++ zeros 0 ≡ frame
 unfolding join zeros
 one-written frame = append-nil (frame ++ []) ∙ append-nil frame
 
-two-written : (kind : Certificate) (inTime : Bool) (first second : Bytes) (c : ℕ) →
-    join (first ∷ cond inTime (second ∷ []) []) ++ zeros (unused (pass c kind inTime)) ≡ first ++ cond inTime second
-    (zeros 224)
-two-written kind true first second c = unfold join unused zeros in
-    append-nil (first ++ (second ++ [])) ∙ ap (λ (x : Bytes). first ++ x) (append-nil second)
-two-written kind false first second c = unfold join unused in ap (λ (x : Bytes). x ++ zeros 224) (append-nil first)
-
-pass-written : (s : State) → written (passStep sha256 s) ≡ passed s ++ cond (not (flag 1 s))
-    (finalize (s .own) (s .current)) (zeros 224)
-unfolding written passStep
-pass-written s = two-written _ (not (flag 1 s)) (passed s) (finalize (s .own) (s .current)) (s .current)
-
 -- ---- the steps that write one frame and set one flag
-module _ (s : State) (reply bookAfter replyAfter : Bytes) (c own seen settled : ℕ) (c-is : c ≡ s .current)
-    (own-is : own ≡ s .own)
-    (seen-is : seen ≡ s .flags) (settled-is : settled ≡ s .finalized) where
-  pub took-dummy-vote : bookAfter ≡ encode (withHead s (seen + 2) c settled) →
+module _ (s : State) (reply bookAfter replyAfter : Bytes) (c : ℕ) (c-is : c ≡ s .current) where
+  pub took-dummy-vote : (own : ℕ) → own ≡ s .own → bookAfter ≡ encode (withFlag 2 s) →
       replyAfter ≡ overFront (dummyVote own c) reply →
       Took (dummyVoteStep s) reply (Moved.Dummy c) bookAfter replyAfter
   unfolding dummyVoteStep written unused movedAnswer
-  took-dummy-vote b r = record {
+  took-dummy-vote own own-is b r = record {
     answer = rw c-is;
-    book = b ∙ rw (seen-is, c-is, settled-is);
+    book = b;
     reply-is = r ∙ rw (own-is, c-is, one-written (dummyVote (s .own) (s .current)));
   }
 
-  pub took-block-vote : (digest block : Bytes) → digest ≡ sha256 block → block ≡ at s c .proposal →
-      bookAfter ≡ encode (withHead s (seen + 4) c settled) →
+  pub took-block-vote : (own : ℕ) (digest block : Bytes) → own ≡ s .own → digest ≡ sha256 block →
+      block ≡ at s c .proposal → bookAfter ≡ encode (withFlag 4 s) →
       replyAfter ≡ overFront (blockVote own c digest) reply →
       Took (blockVoteStep sha256 s) reply (Moved.Vote c) bookAfter replyAfter
   unfolding blockVoteStep written unused movedAnswer
-  took-block-vote digest block d p b r = record {
+  took-block-vote own digest block own-is d p b r = record {
     answer = rw c-is;
-    book = b ∙ rw (seen-is, c-is, settled-is);
+    book = b;
     reply-is = r ∙ rw (
       d,
       p,
@@ -122,19 +49,14 @@ module _ (s : State) (reply bookAfter replyAfter : Bytes) (c own seen settled : 
     );
   }
 
-  pub took-propose : (j : ℕ) → j ≡ someOr 0 (parentBelow sha256 s) →
-      bookAfter ≡ encode (withHead s (seen + 8) c settled) →
+  pub took-propose : (j : ℕ) → parentBelow sha256 s ≡ some j → bookAfter ≡ encode (withFlag 8 s) →
       replyAfter ≡ overFront (proposal (s .own) (s .current) (proposedBlock sha256 s j)) reply →
       Took (proposeStep sha256 s) reply (Moved.Offer c) bookAfter replyAfter
-  unfolding proposeStep written unused movedAnswer
+  unfolding proposeStep written unused movedAnswer someOr
   took-propose j j-is b r = record {
     answer = rw c-is;
-    book = b ∙ rw (seen-is, c-is, settled-is);
-    reply-is = r ∙ rw (
-      j-is,
-      one-written (proposal (s .own) (s .current)
-          (proposedBlock sha256 s (someOr 0 (parentBelow sha256 s)))),
-    );
+    book = b;
+    reply-is = r ∙ rw (j-is, one-written (proposal (s .own) (s .current) (proposedBlock sha256 s j)));
   }
 
 -- ---- the step that writes none
@@ -143,31 +65,7 @@ module _ (s : State) (g : ℕ) (g-is : g ≡ newFinalized sha256 s) where
   unfolding outputStep movedAnswer
   settled-answer = rw g-is
 
-  pub settled-book : (bookAfter : Bytes) (c seen : ℕ) → c ≡ s .current → seen ≡ s .flags →
-      bookAfter ≡ encode (withHead s seen c g) → bookAfter ≡ encode (outputStep sha256 s .after)
+  pub settled-book : (bookAfter : Bytes) → bookAfter ≡ encode (withHead s (s .flags) (s .current) g) →
+      bookAfter ≡ encode (outputStep sha256 s .after)
   unfolding outputStep
-  settled-book bookAfter c seen c-is seen-is b = b ∙ rw (seen-is, c-is, g-is)
-
--- ---- the pass
-module _ (book : Bytes) (m : Readable book) (w : Within book (decode book .current)) where
-  abbrev s : State
-  s = decode book
-
-  pub took-pass : (reply bookAfter middle replyAfter : Bytes) (c settled : ℕ) (isLinked : Bool)
-      (chosen : code.Certificate) (inTime : Bool) →
-      c ≡ s .current → settled ≡ s .finalized → isLinked ≡ linked sha256 (view s) c → inTime ≡ not (flag 1 s) →
-      certificateOf chosen ≡ cond isLinked onBlock onDummy →
-      middle ≡ overFront (certificateOn isLinked s) reply →
-      replyAfter ≡ put middle 224 (cond inTime (finalize (s .own) (s .current)) (zeros 224)) →
-      bookAfter ≡ encode (withHead s 0 (c + 1) settled) →
-      Took (passStep sha256 s) reply (Moved.Pass c chosen inTime) bookAfter replyAfter
-  unfolding passStep movedAnswer
-  took-pass reply bookAfter middle replyAfter c settled isLinked chosen inTime c-is settled-is linked-is in-time-is
-      kind-is first second b = record {
-        answer = rw (kind-is, linked-is, c-is, in-time-is);
-        book = b ∙ rw (c-is, settled-is);
-        reply-is =
-            goes-on (passed s) reply middle (cond inTime (finalize (s .own) (s .current)) (zeros 224)) replyAfter 224
-            (first ∙ rw (linked-is, c-is)) (pass-certificate-size book m w) second
-            ∙ rw (in-time-is, pass-written s);
-      }
+  settled-book bookAfter b = b ∙ rw g-is

@@ -5,7 +5,7 @@ use borrow.Author.Tests.{le-leb, lt-leb}
 use Rattle.answers.specs.Laws.AnswerLaws.{fetch-answered, fetch-refused}
 use Rattle.answers.specs.Laws.CallLaws.{fetch-short, fetch-lacking, fetch-done}
 use Rattle.soundness.specs.Laws.WithinLaws.{in-heights}
-use Rattle.field_calls.proofs.Certificates.{certificate-range}
+use Rattle.field_calls.proofs.Numbers.{certificate-range}
 use borrow.Author.Needs.{needs}
 use Rattle.field_calls.proofs.fetch.fetch_at.Statement.{statement}
 use Rattle.field_calls.proofs.fetch.fetch_at.Tie as tie

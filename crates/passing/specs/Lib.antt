@@ -1,0 +1,3 @@
+-- What a pass speaks of, and laws about it.
+pub mod Second
+pub mod Laws
