@@ -33,6 +33,7 @@ module _ (frame : Bytes) where
   unfolding frameBlockPart carriesBlock implies allOf
   block-carried e = rw e (and-true (blockWellFormed (frameHeight frame) (frameBlock frame)))
 
-  pub block-missing : (eqb (kind frame) 1 || eqb (kind frame) 5) ≡ false → frameBlockPart frame ≡ isZero (frameBlock frame)
+  pub block-missing : (eqb (kind frame) 1 || eqb (kind frame) 5) ≡ false →
+      frameBlockPart frame ≡ isZero (frameBlock frame)
   unfolding frameBlockPart carriesBlock implies allOf
   block-missing e = rw e (and-true (isZero (frameBlock frame)))

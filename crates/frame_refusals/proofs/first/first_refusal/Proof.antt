@@ -1,7 +1,8 @@
 -- `first_refusal` meets its contract: the first test that fails gives its number.
 use mathlib.Core.Path.{sym, _∙_}
 use Rattle.frame_refusals.specs.Refusal.{refusalOf}
-use Rattle.frame_refusals.specs.Laws.RefusalLaws.{refusal-some, first-fails, second-fails, third-fails, none-fails}
+use Rattle.frame_refusals.specs.Laws.RefusalLaws.{refusal-some, first-fails, second-fails, third-fails}
+use Rattle.frame_refusals.specs.Laws.RefusalLaws.{none-fails}
 use Rattle.frame_refusals.proofs.first.first_refusal.Statement.{statement}
 use Rattle.frame_refusals.proofs.first.first_refusal.Tie as tie
 
