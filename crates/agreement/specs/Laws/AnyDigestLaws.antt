@@ -50,7 +50,7 @@ module _ (digest : Bytes → Bytes) where
   )
 
   -- what the rows say of a list, by name
-  record Tested (l : List Member) : Type 0 where
+  record Passes (l : List Member) : Type 0 where
     opens : everyHonest dishonest (λ s. opensOnce digest 4 s false l) 4 ≡ true
     shows : showsOnly digest 4 dishonest (nextBlock ∷ []) l ≡ true
     reads-0 : someIn (readsAt digest entry 0) l ≡ true
@@ -62,9 +62,9 @@ module _ (digest : Bytes → Bytes) where
     writes-0 : someIn (writesAt digest (dummyCertificate 1 11) 0) l ≡ true
     writes-1 : someIn (writesAt digest (dummyCertificate 1 11) 1) l ≡ true
 
-  rows-tested : (l : List Member) → tests l .0 ≡ true → Tested l
+  passes-rows : (l : List Member) → tests l .0 ≡ true → Passes l
   unfolding tests
-  rows-tested l e =
+  passes-rows l e =
       by-rows _ e λ opens shows reads-0 reads-1 one other dummy final writes-0 writes-1. record {
         opens = opens;
         shows = shows;
@@ -93,8 +93,8 @@ module _ (digest : Bytes → Bytes) where
   unfolding everyTurn tests list oneDigest otherDigest split timeouts agreed
   comes-to = refl
 
-  tested : Tested (list digest)
-  tested = rows-tested (list digest) (ap (λ (r : Bool × Bool). r .0) comes-to)
+  passes : Passes (list digest)
+  passes = passes-rows (list digest) (ap (λ (r : Bool × Bool). r .0) comes-to)
 
   -- what replica 3 states in the four frames
   abbrev States3 : Bytes → Statement → Type 0
@@ -120,26 +120,26 @@ module _ (digest : Bytes → Bytes) where
     unfolding list
     met = record {
       few = few;
-      keeps = keeps digest _ (tested .opens);
+      keeps = keeps digest _ (passes .opens);
       unforged = forged-sound digest 4 dishonest (list digest) unforged;
-      collisionless = one-block-sound digest 4 dishonest nextBlock (list digest) (tested .shows);
+      collisionless = one-block-sound digest 4 dishonest nextBlock (list digest) (passes .shows);
       honest-0 = honest-0;
       honest-1 = honest-1;
-      reads-0 = reads-found digest (list digest) entry 0 (tested .reads-0);
-      reads-1 = reads-found digest (list digest) entry 1 (tested .reads-1);
+      reads-0 = reads-found digest (list digest) entry 0 (passes .reads-0);
+      reads-1 = reads-found digest (list digest) entry 1 (passes .reads-1);
       not-empty = entry-not-empty;
     }
 
     pub any-digest : AnyDigest digest
     any-digest = record {
       met = met;
-      one-vote = hears-found digest (list digest) _ 0 3 _ (says .0) (tested .hears-one);
-      other-vote = hears-found digest (list digest) _ 1 3 _ (says .1) (tested .hears-other);
+      one-vote = hears-found digest (list digest) _ 0 3 _ (says .0) (passes .hears-one);
+      other-vote = hears-found digest (list digest) _ 1 3 _ (says .1) (passes .hears-other);
       two-digests = two-digests;
-      dummy-vote = hears-found digest (list digest) _ 0 3 _ (says .2) (tested .hears-dummy);
-      finalize-vote = hears-found digest (list digest) _ 1 3 _ (says .3) (tested .hears-finalize);
-      dummy-0 = writes-found digest (list digest) _ 0 (tested .writes-0);
-      dummy-1 = writes-found digest (list digest) _ 1 (tested .writes-1);
+      dummy-vote = hears-found digest (list digest) _ 0 3 _ (says .2) (passes .hears-dummy);
+      finalize-vote = hears-found digest (list digest) _ 1 3 _ (says .3) (passes .hears-finalize);
+      dummy-0 = writes-found digest (list digest) _ 0 (passes .writes-0);
+      dummy-1 = writes-found digest (list digest) _ 1 (passes .writes-1);
     }
 
     -- agreement, applied to the list

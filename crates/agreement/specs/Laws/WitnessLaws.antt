@@ -40,7 +40,7 @@ tests l = allOf
     someIn (writesAt sample (dummyCertificate 1 7) 1) l ∷ [])
 
 -- what they say of a list, by name
-record Tested (l : List Member) : Type 0 where
+record Passes (l : List Member) : Type 0 where
   opens : everyHonest dishonest (λ s. opensOnce sample 4 s false l) 4 ≡ true
   unforged : notForged sample 4 dishonest [] l ≡ true
   shows : showsOnly sample 4 dishonest blocks l ≡ true
@@ -52,9 +52,9 @@ record Tested (l : List Member) : Type 0 where
   writes-0 : someIn (writesAt sample (dummyCertificate 1 7) 0) l ≡ true
   writes-1 : someIn (writesAt sample (dummyCertificate 1 7) 1) l ≡ true
 
-rows-tested : (l : List Member) → tests l ≡ true → Tested l
+passes-rows : (l : List Member) → tests l ≡ true → Passes l
 unfolding tests
-rows-tested l e =
+passes-rows l e =
     by-rows _ e λ opens unforged shows no-collision reads-0 reads-1 hears-0 hears-1 writes-0 writes-1. record {
       opens = opens;
       unforged = unforged;
@@ -68,12 +68,12 @@ rows-tested l e =
       writes-1 = writes-1;
     }
 
-computed : tests list ≡ true
+tested : tests list ≡ true
 unfolding everyTurn tests list sample oneBlock otherBlock split timeouts agreed
-computed = refl
+tested = refl
 
-tested : Tested list
-tested = rows-tested list computed
+passes : Passes list
+passes = passes-rows list tested
 
 -- ---- from tests to facts
 proposal-says : (block : Bytes) → statementOf sample (proposal 3 1 block) 3 ≡ some (proposes 1 block)
@@ -89,24 +89,24 @@ met : Met sample 4 dishonest list entry
 unfolding list
 met = record {
   few = few;
-  keeps = keeps sample _ (tested .opens);
-  unforged = forged-sound sample 4 dishonest list (tested .unforged);
-  collisionless = collision-sound sample 4 dishonest blocks list (tested .shows) (tested .no-collision);
+  keeps = keeps sample _ (passes .opens);
+  unforged = forged-sound sample 4 dishonest list (passes .unforged);
+  collisionless = collision-sound sample 4 dishonest blocks list (passes .shows) (passes .no-collision);
   honest-0 = honest-0;
   honest-1 = honest-1;
-  reads-0 = reads-found sample list entry 0 (tested .reads-0);
-  reads-1 = reads-found sample list entry 1 (tested .reads-1);
+  reads-0 = reads-found sample list entry 0 (passes .reads-0);
+  reads-1 = reads-found sample list entry 1 (passes .reads-1);
   not-empty = entry-not-empty;
 }
 
 pub witness : Witness
 witness = record {
   met = met;
-  one-proposal = hears-found sample list _ 0 3 _ (proposal-says oneBlock) (tested .hears-0);
-  other-proposal = hears-found sample list _ 1 3 _ (proposal-says otherBlock) (tested .hears-1);
+  one-proposal = hears-found sample list _ 0 3 _ (proposal-says oneBlock) (passes .hears-0);
+  other-proposal = hears-found sample list _ 1 3 _ (proposal-says otherBlock) (passes .hears-1);
   two-blocks = two-blocks;
-  dummy-0 = writes-found sample list _ 0 (tested .writes-0);
-  dummy-1 = writes-found sample list _ 1 (tested .writes-1);
+  dummy-0 = writes-found sample list _ 0 (passes .writes-0);
+  dummy-1 = writes-found sample list _ 1 (passes .writes-1);
 }
 
 -- agreement, applied to the list
