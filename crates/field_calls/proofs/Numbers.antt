@@ -5,13 +5,13 @@ use mathlib.Core.Path.{_≡_, refl, sym, _∙_}
 use mathlib.Core.Bool.{Bool, true, false, _&&_, true≢false, and-true}
 use lib.ListN.{length, getD}
 use lib.Dec.{eqb, leb, ltb}
-use borrow.Author.Tests.{lt-ltb, le-ltb, ltb-true, eqb-true, eq-eqb, ne-eqb}
+use borrow.Author.Tests.{lt-ltb, le-ltb, eq-eqb, ne-eqb}
 use Rattle.protocol.specs.Bytes.{Bytes, all}
 use Rattle.protocol.specs.Tests.{allOf, inRange}
 use Rattle.protocol.specs.State.{bookSize, maximumReplicas}
 use Rattle.protocol.specs.Open.{openInRange}
 use Rattle.protocol.specs.Frame.{isCertificate}
-use Rattle.protocol.specs.Laws.RowLaws.{not-passed, row, in-range, all-at, at-all}
+use Rattle.protocol.specs.Laws.RowLaws.{not-passed, in-range, all-at, at-all}
 use Rattle.protocol.specs.Block.{maximumHeights}
 
 pub is-certificate : (k : ℕ) → (leb 5 k && leb k 7) ≡ isCertificate k
@@ -39,23 +39,6 @@ pub open-fits : (n own heights : ℕ) (leaders : Bytes) (led : Bool) → led ≡
     own heights leaders
 unfolding openInRange allOf inRange
 open-fits n own heights leaders led e = rw (e, and-true (all (λ leader. ltb leader n) leaders))
-
--- what the ranges grant
-pub record Fitting (n own heights : ℕ) (leaders : Bytes) : Type 0 where
-  pub n-high : n ≤ maximumReplicas
-  pub own-below : own < n
-  pub few : heights ≤ maximumHeights
-  pub listed : length leaders ≡ heights
-
-pub fitting : (n own heights : ℕ) (leaders : Bytes) → openInRange n own heights leaders ≡ true →
-    Fitting n own heights leaders
-unfolding openInRange
-fitting n own heights leaders e = record {
-  n-high = in-range 1 maximumReplicas n (row _ 0 e) .1;
-  own-below = ltb-true own n (row _ 1 e);
-  few = in-range 1 maximumHeights heights (row _ 2 e) .1;
-  listed = eqb-true (length leaders) heights (row _ 3 e);
-}
 
 pub long-enough : (book : Bytes) (heights : ℕ) → length book ≡ 576 + 880 * heights →
     eqb (length book) (bookSize heights) ≡ true

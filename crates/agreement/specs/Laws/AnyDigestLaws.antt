@@ -11,7 +11,7 @@ use lib.ListN.{length, take}
 use lib.Seq.{take-append-seam}
 use Rattle.protocol.specs.Bytes.{Bytes, byteAt, same, zeros}
 use Rattle.protocol.specs.Frame.{blockVote, dummyCertificate, dummyVote, finalize}
-use Rattle.protocol.specs.Laws.RowLaws.{eq-same, row}
+use Rattle.protocol.specs.Laws.RowLaws.{by-rows, eq-same}
 use Rattle.protocol.specs.Tests.{allOf}
 use Rattle.agreement.specs.AnyDigest.{AnyDigest, agreed, list, oneDigest, otherDigest, split, timeouts}
 use Rattle.agreement.specs.ListTests.{everyHonest, hearsAt, opensOnce, notForged, readsAt, showsOnly, someIn}
@@ -49,6 +49,35 @@ module _ (digest : Bytes → Bytes) where
     notForged digest 4 dishonest [] l,
   )
 
+  -- what the rows say of a list, by name
+  record Passes (l : List Member) : Type 0 where
+    opens : everyHonest dishonest (λ s. opensOnce digest 4 s false l) 4 ≡ true
+    shows : showsOnly digest 4 dishonest (nextBlock ∷ []) l ≡ true
+    reads-0 : someIn (readsAt digest entry 0) l ≡ true
+    reads-1 : someIn (readsAt digest entry 1) l ≡ true
+    hears-one : someIn (hearsAt digest (blockVote 3 1 oneDigest) 0) l ≡ true
+    hears-other : someIn (hearsAt digest (blockVote 3 1 otherDigest) 1) l ≡ true
+    hears-dummy : someIn (hearsAt digest (dummyVote 3 1) 0) l ≡ true
+    hears-finalize : someIn (hearsAt digest (finalize 3 1) 1) l ≡ true
+    writes-0 : someIn (writesAt digest (dummyCertificate 1 11) 0) l ≡ true
+    writes-1 : someIn (writesAt digest (dummyCertificate 1 11) 1) l ≡ true
+
+  passes-rows : (l : List Member) → tests l .0 ≡ true → Passes l
+  unfolding tests
+  passes-rows l e =
+      by-rows _ e λ opens shows reads-0 reads-1 one other dummy final writes-0 writes-1. record {
+        opens = opens;
+        shows = shows;
+        reads-0 = reads-0;
+        reads-1 = reads-1;
+        hears-one = one;
+        hears-other = other;
+        hears-dummy = dummy;
+        hears-finalize = final;
+        writes-0 = writes-0;
+        writes-1 = writes-1;
+      }
+
   -- the digest in a vote for the block is the block's
   abbrev ownVote : Bool
   ownVote = same (digest nextBlock) (take 32 (digest nextBlock ++ zeros 176))
@@ -64,8 +93,8 @@ module _ (digest : Bytes → Bytes) where
   unfolding everyTurn tests list oneDigest otherDigest split timeouts agreed
   comes-to = refl
 
-  tested : tests (list digest) .0 ≡ true
-  tested = ap (λ (r : Bool × Bool). r .0) comes-to
+  passes : Passes (list digest)
+  passes = passes-rows (list digest) (ap (λ (r : Bool × Bool). r .0) comes-to)
 
   -- what replica 3 states in the four frames
   abbrev States3 : Bytes → Statement → Type 0
@@ -88,30 +117,29 @@ module _ (digest : Bytes → Bytes) where
     unforged = ap (λ (r : Bool × Bool). r .1) comes-to ∙ ap backed own-vote
 
     met : Met digest 4 dishonest (list digest) entry
-    unfolding tests list
+    unfolding list
     met = record {
       few = few;
-      keeps = keeps digest _ (row _ 0 tested);
+      keeps = keeps digest _ (passes .opens);
       unforged = forged-sound digest 4 dishonest (list digest) unforged;
-      collisionless = one-block-sound digest 4 dishonest nextBlock (list digest) (row _ 1 tested);
+      collisionless = one-block-sound digest 4 dishonest nextBlock (list digest) (passes .shows);
       honest-0 = honest-0;
       honest-1 = honest-1;
-      reads-0 = reads-found digest (list digest) entry 0 (row _ 2 tested);
-      reads-1 = reads-found digest (list digest) entry 1 (row _ 3 tested);
+      reads-0 = reads-found digest (list digest) entry 0 (passes .reads-0);
+      reads-1 = reads-found digest (list digest) entry 1 (passes .reads-1);
       not-empty = entry-not-empty;
     }
 
     pub any-digest : AnyDigest digest
-    unfolding tests
     any-digest = record {
       met = met;
-      one-vote = hears-found digest (list digest) _ 0 3 _ (says .0) (row _ 4 tested);
-      other-vote = hears-found digest (list digest) _ 1 3 _ (says .1) (row _ 5 tested);
+      one-vote = hears-found digest (list digest) _ 0 3 _ (says .0) (passes .hears-one);
+      other-vote = hears-found digest (list digest) _ 1 3 _ (says .1) (passes .hears-other);
       two-digests = two-digests;
-      dummy-vote = hears-found digest (list digest) _ 0 3 _ (says .2) (row _ 6 tested);
-      finalize-vote = hears-found digest (list digest) _ 1 3 _ (says .3) (row _ 7 tested);
-      dummy-0 = writes-found digest (list digest) _ 0 (row _ 8 tested);
-      dummy-1 = writes-found digest (list digest) _ 1 (row _ 9 tested);
+      dummy-vote = hears-found digest (list digest) _ 0 3 _ (says .2) (passes .hears-dummy);
+      finalize-vote = hears-found digest (list digest) _ 1 3 _ (says .3) (passes .hears-finalize);
+      dummy-0 = writes-found digest (list digest) _ 0 (passes .writes-0);
+      dummy-1 = writes-found digest (list digest) _ 1 (passes .writes-1);
     }
 
     -- agreement, applied to the list

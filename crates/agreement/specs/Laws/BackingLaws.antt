@@ -2,19 +2,18 @@
 use Prim.Native.Nat.{ℕ, _+_, _%_, _^_}
 use native.Mathlib.Omega.{arith}
 use mathlib.Core.Path.{_≡_}
-use mathlib.Core.Bool.{Bool, true, false, _&&_, not}
-use mathlib.Core.List.{[], _∷_}
+use mathlib.Core.Bool.{Bool, true, false, _&&_}
 use lib.Dec.{eqb, leb}
 use borrow.Author.Tests.{eqb-false, leb-true, le-leb}
 use Rattle.protocol.specs.Bytes.{Bytes, same}
 use Rattle.protocol.specs.Deliver.{notarize, votersFor, withMasks, withNotarized, withProposal, withVote}
+use Rattle.protocol.specs.Laws.DeliverLaws.{notarize-cases}
 use Rattle.protocol.specs.Mask.{inMask}
 use Rattle.protocol.specs.Laws.MaskLaws.{inMask-maskOf}
-use Rattle.protocol.specs.Laws.RowLaws.{row, same-eq}
+use Rattle.protocol.specs.Laws.RowLaws.{same-eq}
 use Rattle.protocol.specs.State.{Height, holdsProposal, isNotarized, voteOf}
-use Rattle.protocol.specs.Tests.{allOf}
-use Rattle.protocol.specs.Laws.TestsLaws.{and-both, cond-elim}
-use Rattle.protocol.specs.View.{View, quorum}
+use Rattle.protocol.specs.Laws.TestsLaws.{and-both}
+use Rattle.protocol.specs.View.{View}
 use Rattle.agreement.specs.Lists.{Statement, finalizes, votesBlock, votesDummy}
 
 module _ (digest : Bytes → Bytes) where
@@ -146,17 +145,13 @@ module _ (digest : Bytes → Bytes) where
     }
 
     pub backed-notarize : (v : View) → Backed W S h (notarize digest v x)
-    unfolding notarize votersFor
+    unfolding votersFor
     backed-notarize v =
-        cond-elim (λ (y : Height). Backed W S h y)
-        (allOf (not (isNotarized x) ∷ holdsProposal x ∷ quorum v voters ∷ []))
-        (λ e. backed-notarized voters (x .proposal) (λ t z. agreed t (inMask-maskOf _ (v .n) t z .1))
-        (k .held .proposal-seen (row _ 1 e)))
-        (λ e. k)
+        notarize-cases digest v x (Backed W S h)
+        (λ counted. backed-notarized _ (x .proposal) (λ t z. agreed t (inMask-maskOf _ (v .n) t z .1))
+        (k .held .proposal-seen (counted .held)))
+        (λ _. k)
       where
-        voters : ℕ
-        voters = votersFor x (digest (x .proposal)) (v .n)
-
         agreed : (t : ℕ) → (inMask (x .voterMask) t && same (voteOf x t) (digest (x .proposal))) ≡ true →
             W t (votesBlock h (digest (x .proposal)))
         agreed t e =

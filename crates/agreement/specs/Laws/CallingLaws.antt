@@ -8,8 +8,6 @@ use mathlib.Core.List.{List, [], _∷_, _++_, List·Memᴰ, List·Memᴰ·head, 
 use mathlib.Core.List.{Memᴰ·append-right}
 use mathlib.Core.Option.{Option, some, none}
 use lib.ListN.{getD}
-use lib.Dec.{eqb}
-use borrow.Author.Tests.{not-true}
 use Rattle.protocol.specs.SoundState.{Shaped}
 use Rattle.protocol.specs.Answer.{Done, Outcome, accepted, done, isAccepted, unlessRefused}
 use Rattle.protocol.specs.Bytes.{Bytes}
@@ -18,12 +16,11 @@ use Rattle.protocol.specs.Laws.FlagLaws.{flag-set, flag-kept}
 use Rattle.protocol.specs.Laws.MoveLaws.{step-body}
 use Rattle.protocol.specs.Move.{Step, moveCall, moveRows, moved, step, unlessMoveRefused}
 use Rattle.protocol.specs.Open.{newState, openCall, openRows}
-use Rattle.protocol.specs.Laws.RowLaws.{row-passes}
 use Rattle.protocol.specs.Signal.{signalCall, signalRows}
 use Rattle.protocol.specs.Sound.{sound}
 use Rattle.protocol.specs.State.{Height, State, decode, encode, flag, noHeight, withHead, withTimerFired}
 use Rattle.protocol.specs.Tests.{firstRefusal}
-use Rattle.protocol.specs.Laws.TestsLaws.{and-both}
+use Rattle.protocol.specs.Laws.TestedLaws.{signal-tested, move-tested}
 use Rattle.agreement.specs.Laws.BackingLaws.{later}
 use Rattle.agreement.specs.Laws.GrantsLaws.{grants}
 use Rattle.agreement.specs.Lists.{Member, Statement, Wrote, delivers, statementOf, writes}
@@ -122,7 +119,7 @@ module _ (digest : Bytes → Bytes) (n : ℕ) (books names : ℕ → Type 0) (P 
 
   pub signal-good : (s : ℕ) (book : Bytes) (h : ℕ) → GoodIn P s (decode book) → writes digest m ≡ [] →
       GoodIn P′ s (decode (signalCall digest book h .book))
-  unfolding signalCall signalRows withTimerFired withHead
+  unfolding signalCall withTimerFired withHead
   signal-good s book h g silent =
       unless-refused-good s (firstRefusal (signalRows digest book h)) book _ (unchanged s b g (λ q. silent))
       (λ e. encoded digest n books names P′ s _ (fired e))
@@ -133,10 +130,7 @@ module _ (digest : Bytes → Bytes) (n : ℕ) (books names : ℕ → Type 0) (P 
       fired : firstRefusal (signalRows digest book h) ≡ none →
           GoodIn P′ s (withHead b (b .flags + 1) (b .current) (b .finalized))
       fired e =
-          let r1 = row-passes _ _ e in
-          let r2 = row-passes _ _ (r1 .1) in
-          let r3 = row-passes _ _ (r2 .1) in
-          let off = not-true (flag 1 b) (and-both (eqb h (b .current)) _ (r3 .0) .1) in
+          let off = signal-tested digest book h e .not-fired in
           quiet s b (withHead b (b .flags + 1) (b .current) (b .finalized)) g (λ q. silent) refl refl
           (λ q. flag-set b (b .current) (b .finalized) 0 off)
           (λ q. flag-kept b (b .current) (b .finalized) 0 off 2 (omega arith) ∙ q)
@@ -175,7 +169,7 @@ module _ (digest : Bytes → Bytes) (n : ℕ) (books names : ℕ → Type 0) (P 
   pub move-good : (s : ℕ) (book reply : Bytes) → names s → GoodIn P s (decode book) →
       writes digest m ≡ moveCall digest book reply .frames →
       GoodIn P′ s (decode (moveCall digest book reply .book))
-  unfolding moveCall unlessMoveRefused moved moveRows
+  unfolding moveCall unlessMoveRefused moved
   move-good s book reply hs g = go (firstRefusal (moveRows digest book reply)) refl
     where
       st : Step
@@ -184,5 +178,7 @@ module _ (digest : Bytes → Bytes) (n : ℕ) (books names : ℕ → Type 0) (P 
       go : (o : Option ℕ) → firstRefusal (moveRows digest book reply) ≡ o →
           writes digest m ≡ unlessMoveRefused o book reply st .frames →
           GoodIn P′ s (decode (unlessMoveRefused o book reply st .book))
-      go none p e = encoded digest n books names P′ s (st .after) (step-keeps s book hs g (row-passes _ _ p .0) e)
+      go none p e =
+          let ok = move-tested digest book reply p .was-sound in
+          encoded digest n books names P′ s (st .after) (step-keeps s book hs g ok e)
       go (some number) p e = unchanged s (decode book) g (λ z. e)

@@ -10,8 +10,8 @@ use lib.Dec.{eqb}
 use Rattle.protocol.specs.Bytes.{Bytes}
 use Rattle.protocol.specs.Certificates.{certificateFrame}
 use Rattle.protocol.specs.Fetch.{fetchCall, fetchRows, unlessFetchRefused}
-use Rattle.protocol.specs.Laws.RowLaws.{in-range, row-passes}
-use Rattle.protocol.specs.State.{Height, State, at, decode, last, noHeight}
+use Rattle.protocol.specs.Laws.FetchLaws.{fetch-tested}
+use Rattle.protocol.specs.State.{Height, State, at, decode, noHeight}
 use Rattle.protocol.specs.Tests.{firstRefusal}
 use Rattle.protocol.specs.Laws.TestsLaws.{cond-elim}
 use Rattle.agreement.specs.Laws.BackingLaws.{Backed}
@@ -70,7 +70,7 @@ module _ (digest : Bytes → Bytes) (n : ℕ) (books names : ℕ → Type 0) (P 
 
   -- a replica that fetches stays as good as it was
   pub fetch-good : writes digest m ≡ fetchCall digest book k h reply .frames → Good digest n books names P′ s b
-  unfolding fetchCall unlessFetchRefused fetchRows
+  unfolding fetchCall unlessFetchRefused
   fetch-good = go (firstRefusal (fetchRows digest book k h reply)) refl
     where
       go : (r : Option ℕ) → firstRefusal (fetchRows digest book k h reply) ≡ r →
@@ -78,9 +78,7 @@ module _ (digest : Bytes → Bytes) (n : ℕ) (books names : ℕ → Type 0) (P 
           Good digest n books names P′ s b
       go (some number) p e = unchanged digest n books names P m s b g (λ z. e)
       go none p e =
-          let r4 = row-passes _ _ (row-passes _ _ p .1) in
-          let r6 = row-passes _ _ (r4 .1) in
-          let low = in-range 1 (last b) h (r6 .0) .0 in
+          let low = fetch-tested digest book k h reply p .gives .low in
           record {
             same-n = g .same-n;
             kept = record {

@@ -9,11 +9,10 @@ use mathlib.Core.List.{List, [], _∷_, List·Memᴰ, List·Memᴰ·eq-of-single
 use mathlib.Core.Option.{some}
 use lib.ListN.{getD}
 use lib.Dec.{eqb}
-use borrow.Author.Tests.{not-true}
 use Rattle.protocol.specs.Bytes.{Bytes, le16, word16, zeros}
 use Rattle.protocol.specs.Answer.{Certificate, certificateKind}
 use Rattle.protocol.specs.Certificates.{certificateFrame}
-use Rattle.protocol.specs.Laws.MoveLaws.{step-cases}
+use Rattle.protocol.specs.Laws.MoveLaws.{step-cases, dummy-vote-rows, propose-rows, block-vote-rows}
 use Rattle.protocol.specs.Laws.FlagLaws.{flag-set, flag-kept}
 use Rattle.protocol.specs.Frame.{blockCertificate, blockVote, dummyCertificate, dummyVote, finalize}
 use Rattle.protocol.specs.Frame.{finalizeCertificate, frameBlock, frameDigest, frameHeight, frameOf, kind, proposal}
@@ -21,7 +20,6 @@ use Rattle.protocol.specs.Frame.{signer, signerMask}
 use Rattle.protocol.specs.Mask.{inMask}
 use Rattle.protocol.specs.Move.{Step, blockVoteApplies, blockVoteStep, dummyVoteApplies, dummyVoteStep, idleStep}
 use Rattle.protocol.specs.Move.{outputStep, passesBy, passStep, proposeApplies, proposeStep, step}
-use Rattle.protocol.specs.Laws.RowLaws.{row}
 use Rattle.protocol.specs.Sound.{view}
 use Rattle.protocol.specs.State.{State, at, flag, noHeight, withHead}
 use Rattle.protocol.specs.Laws.BytesLaws.{word16-le16}
@@ -128,12 +126,13 @@ module _ (digest : Bytes → Bytes) (U : ℕ → Statement → Type 0) (U′ : S
   good-idle a = stated-nothing k (adds-none a) (λ e. e) (λ e. e)
 
   good-dummy : dummyVoteApplies b ≡ true → StepGood (dummyVoteStep b)
-  unfolding dummyVoteApplies dummyVoteStep withHead
+  unfolding dummyVoteStep withHead
   good-dummy e a =
       let new = adds-one (λ (t : Statement). t ≡ votesDummy c) (dummyVote (b .own) c)
       (dummyVote-says digest (b .own) c s) a in
-      let kept = flag-kept b c (b .finalized) 1 (not-true (flag 2 b) (row _ 2 e)) in
-      stated-dummy k new (row _ 1 e) (λ r. kept 0 (omega arith) ∙ r) (λ r. kept 2 (omega arith) ∙ r)
+      let votes = dummy-vote-rows b e in
+      let kept = flag-kept b c (b .finalized) 1 (votes .not-yet) in
+      stated-dummy k new (votes .fired) (λ r. kept 0 (omega arith) ∙ r) (λ r. kept 2 (omega arith) ∙ r)
 
   good-output : StepGood (outputStep digest b)
   unfolding outputStep withHead flag
@@ -178,19 +177,19 @@ module _ (digest : Bytes → Bytes) (U : ℕ → Statement → Type 0) (U′ : S
       sort t (inr u) = either t (List·Memᴰ·cases-cons (u .1)) (u .2)
 
   good-propose : proposeApplies digest b ≡ true → StepGood (proposeStep digest b)
-  unfolding proposeApplies proposeStep withHead
+  unfolding proposeStep withHead
   good-propose e a =
       let X : Statement → Type 0 = λ (t : Statement). (h : ℕ) × (p : Bytes) × (t ≡ proposes h p) in
       let new = adds-one X _ (λ t r. proposal-says digest (b .own) c s t _ r) a in
-      let kept = flag-kept b c (b .finalized) 3 (not-true (flag 8 b) (row _ 2 e)) in
+      let kept = flag-kept b c (b .finalized) 3 (propose-rows digest b e .not-yet) in
       stated-nothing k new (λ r. kept 0 (omega arith) ∙ r) (λ r. kept 2 (omega arith) ∙ r)
 
   good-block : blockVoteApplies digest b ≡ true → StepGood (blockVoteStep digest b)
-  unfolding blockVoteApplies blockVoteStep withHead
+  unfolding blockVoteStep withHead
   good-block e a =
       let d : Bytes = digest (at b c .proposal) in
       let vote : Bytes = blockVote (b .own) c d in
-      let unset = not-true (flag 4 b) (row _ 1 e) in
+      let unset = block-vote-rows digest b e .not-yet in
       let new = adds-one (λ (t : Statement). t ≡ votesBlock c (frameDigest vote)) vote
       (λ t r. blockVote-says digest (b .own) c s t d r) a in
       stated-block k (frameDigest vote) new unset (flag-set b c (b .finalized) 2 unset)

@@ -5,8 +5,7 @@ use mathlib.Core.Path.{_≡_, refl, sym, ap, _∙_}
 use mathlib.Core.Bool.{true, true≢false, false≢true}
 use mathlib.Core.List.{List, [], _∷_, _++_, map}
 use mathlib.Core.Option.{Option, some, none}
-use lib.ListN.{length, getD, length-append}
-use borrow.Author.Tests.{eqb-true, leb-true}
+use lib.ListN.{getD, length-append}
 use Rattle.protocol.specs.Every.{Every, none as no-more, one}
 use Rattle.protocol.specs.Answer.{Done, Outcome, accepted, done, isAccepted, unlessRefused}
 use Rattle.protocol.specs.Bytes.{Bytes, without, Sized}
@@ -16,7 +15,7 @@ use Rattle.protocol.specs.Mask.{inMask}
 use Rattle.protocol.specs.Laws.MaskLaws.{inMask-zero}
 use Rattle.protocol.specs.Laws.NewStateLaws.{new-shaped}
 use Rattle.protocol.specs.Open.{newHeight, newState, openCall, openRows}
-use Rattle.protocol.specs.Laws.RowLaws.{row-passes}
+use Rattle.protocol.specs.Laws.TestedLaws.{submit-tested}
 use Rattle.protocol.specs.Sound.{log}
 use Rattle.protocol.specs.State.{Height, State, decode, encode, flag, holdsProposal, isNotarized, noHeight, pending}
 use Rattle.protocol.specs.Laws.PiecesLaws.{pieces-sized}
@@ -33,7 +32,7 @@ use Rattle.agreement.specs.Laws.RunLaws.{Good, States, encoded}
 module _ (digest : Bytes → Bytes) (n : ℕ) (books names : ℕ → Type 0) (P : List Member) (m : Member) where
   pub submit-good : (s : ℕ) (book entry : Bytes) → Good digest n books names P s (decode book) → writes digest m ≡ [] →
       Good digest n books names (P ++ (m ∷ [])) s (decode (submitCall digest book entry .book))
-  unfolding submitCall submitRows stillPending withPending flag pending
+  unfolding submitCall stillPending withPending flag pending
   submit-good s book entry g silent =
       unless-refused-good digest n books names P m s (firstRefusal (submitRows digest book entry)) book _
       (unchanged digest n books names P m s b g (λ q. silent))
@@ -51,16 +50,13 @@ module _ (digest : Bytes → Bytes) (n : ℕ) (books names : ℕ → Type 0) (P 
       added : firstRefusal (submitRows digest book entry) ≡ none →
           Good digest n books names (P ++ (m ∷ [])) s (withPending b es)
       added r =
-          let r1 = row-passes _ _ r in
-          let r2 = row-passes _ _ (r1 .1) in
-          let r3 = row-passes _ _ (r2 .1) in
-          let r4 = row-passes _ _ (r3 .1) in
-          let w = grants digest book (r1 .0) .pends in
+          let tested = submit-tested digest book entry r in
+          let w = grants digest book (tested .was-sound) .pends in
           let ps = g .kept .shaped .pool-size in
           let full : Every (Sized 16) es = every-append
           (every-without (log b) (pieces-sized 16 (b .pendingCount) (b .pool) (omega arith)))
-          (one (eqb-true (length entry) 16 (r2 .0)) no-more) in
-          let room = leb-true (suc (length still)) 32 (r4 .0) in
+          (one (tested .size) no-more) in
+          let room = tested .room in
           quiet digest n books names P m s b (withPending b es) g (λ q. silent) refl refl (λ q. q) (λ q. q)
           (record {
             pool-size = pending-pool-size es full (rw length-append (omega arith));

@@ -9,7 +9,7 @@ use mathlib.Core.Option.{some}
 use Rattle.protocol.specs.Block.{newBlock}
 use Rattle.protocol.specs.Bytes.{Bytes, byteAt, join, le16, word16, zeros}
 use Rattle.protocol.specs.Frame.{dummyCertificate, frameBlock, frameHeight, frameOf, kind, proposal, signer}
-use Rattle.protocol.specs.Laws.RowLaws.{row}
+use Rattle.protocol.specs.Laws.RowLaws.{by-rows}
 use Rattle.protocol.specs.Tests.{allOf}
 use Rattle.agreement.specs.ListTests.{everyHonest, hearsAt, opensOnce, noCollision, notForged, readsAt, showsOnly}
 use Rattle.agreement.specs.ListTests.{someIn, writesAt}
@@ -39,9 +39,41 @@ tests l = allOf
     someIn (writesAt sample (dummyCertificate 1 7) 0) l ∷
     someIn (writesAt sample (dummyCertificate 1 7) 1) l ∷ [])
 
+-- what they say of a list, by name
+record Passes (l : List Member) : Type 0 where
+  opens : everyHonest dishonest (λ s. opensOnce sample 4 s false l) 4 ≡ true
+  unforged : notForged sample 4 dishonest [] l ≡ true
+  shows : showsOnly sample 4 dishonest blocks l ≡ true
+  no-collision : noCollision sample blocks ≡ true
+  reads-0 : someIn (readsAt sample entry 0) l ≡ true
+  reads-1 : someIn (readsAt sample entry 1) l ≡ true
+  hears-0 : someIn (hearsAt sample (proposal 3 1 oneBlock) 0) l ≡ true
+  hears-1 : someIn (hearsAt sample (proposal 3 1 otherBlock) 1) l ≡ true
+  writes-0 : someIn (writesAt sample (dummyCertificate 1 7) 0) l ≡ true
+  writes-1 : someIn (writesAt sample (dummyCertificate 1 7) 1) l ≡ true
+
+passes-rows : (l : List Member) → tests l ≡ true → Passes l
+unfolding tests
+passes-rows l e =
+    by-rows _ e λ opens unforged shows no-collision reads-0 reads-1 hears-0 hears-1 writes-0 writes-1. record {
+      opens = opens;
+      unforged = unforged;
+      shows = shows;
+      no-collision = no-collision;
+      reads-0 = reads-0;
+      reads-1 = reads-1;
+      hears-0 = hears-0;
+      hears-1 = hears-1;
+      writes-0 = writes-0;
+      writes-1 = writes-1;
+    }
+
 tested : tests list ≡ true
 unfolding everyTurn tests list sample oneBlock otherBlock split timeouts agreed
 tested = refl
+
+passes : Passes list
+passes = passes-rows list tested
 
 -- ---- from tests to facts
 proposal-says : (block : Bytes) → statementOf sample (proposal 3 1 block) 3 ≡ some (proposes 1 block)
@@ -54,28 +86,27 @@ unfolding oneBlock otherBlock newBlock le16 zeros join
 two-blocks e = let z : _≡_ {A = ℕ} 1 2 = ap (λ (b : Bytes). byteAt b 48) e in omega arith
 
 met : Met sample 4 dishonest list entry
-unfolding tests list
+unfolding list
 met = record {
   few = few;
-  keeps = keeps sample _ (row _ 0 tested);
-  unforged = forged-sound sample 4 dishonest list (row _ 1 tested);
-  collisionless = collision-sound sample 4 dishonest blocks list (row _ 2 tested) (row _ 3 tested);
+  keeps = keeps sample _ (passes .opens);
+  unforged = forged-sound sample 4 dishonest list (passes .unforged);
+  collisionless = collision-sound sample 4 dishonest blocks list (passes .shows) (passes .no-collision);
   honest-0 = honest-0;
   honest-1 = honest-1;
-  reads-0 = reads-found sample list entry 0 (row _ 4 tested);
-  reads-1 = reads-found sample list entry 1 (row _ 5 tested);
+  reads-0 = reads-found sample list entry 0 (passes .reads-0);
+  reads-1 = reads-found sample list entry 1 (passes .reads-1);
   not-empty = entry-not-empty;
 }
 
 pub witness : Witness
-unfolding tests
 witness = record {
   met = met;
-  one-proposal = hears-found sample list _ 0 3 _ (proposal-says oneBlock) (row _ 6 tested);
-  other-proposal = hears-found sample list _ 1 3 _ (proposal-says otherBlock) (row _ 7 tested);
+  one-proposal = hears-found sample list _ 0 3 _ (proposal-says oneBlock) (passes .hears-0);
+  other-proposal = hears-found sample list _ 1 3 _ (proposal-says otherBlock) (passes .hears-1);
   two-blocks = two-blocks;
-  dummy-0 = writes-found sample list _ 0 (row _ 8 tested);
-  dummy-1 = writes-found sample list _ 1 (row _ 9 tested);
+  dummy-0 = writes-found sample list _ 0 (passes .writes-0);
+  dummy-1 = writes-found sample list _ 1 (passes .writes-1);
 }
 
 -- agreement, applied to the list

@@ -10,7 +10,6 @@ use Rattle.sha256.specs.Digest.{sha256}
 use Rattle.protocol.specs.Bytes.{Bytes, zeros, join, overFront}
 use Rattle.protocol.specs.Tests.{firstRefusal}
 use Rattle.protocol.specs.Laws.TestsLaws.{and-both}
-use Rattle.protocol.specs.Laws.RowLaws.{row}
 use Rattle.protocol.specs.State.{State, decode, encode}
 use Rattle.protocol.specs.Sound.{sound}
 use Rattle.protocol.specs.Answer.{accepted}
@@ -60,14 +59,6 @@ module _ (s : State) where
   pub pass-running : passApplies sha256 s ≡ true → isRunning s ≡ true
   unfolding passApplies
   pass-running e = and-both _ _ e .0
-
-  pub propose-running : proposeApplies sha256 s ≡ true → isRunning s ≡ true
-  unfolding proposeApplies
-  propose-running e = row _ 0 e
-
-  pub vote-running : blockVoteApplies sha256 s ≡ true → isRunning s ≡ true
-  unfolding blockVoteApplies
-  vote-running e = row _ 0 e
 
   module _ (g settled : ℕ) (g-is : g ≡ newFinalized sha256 s) (settled-is : settled ≡ s .finalized) where
     pub outputs : settled < g → outputApplies sha256 s ≡ true

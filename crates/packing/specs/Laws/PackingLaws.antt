@@ -11,12 +11,12 @@ use Rattle.protocol.specs.Tests.{firstRefusal}
 use Rattle.protocol.specs.State.{State, last, decode}
 use Rattle.protocol.specs.Sound.{view, sound}
 use Rattle.protocol.specs.Answer.{Answer, moveHeight}
-use Rattle.protocol.specs.Move.{Step, firstStep, step, isRunning, newFinalized, dummyVoteApplies, dummyVoteStep}
-use Rattle.protocol.specs.Move.{outputApplies, outputStep, passApplies, passStep, proposeApplies, proposeStep}
-use Rattle.protocol.specs.Move.{blockVoteApplies, blockVoteStep, idleStep, moved, unlessMoveRefused, moveRows, moveCall}
+use Rattle.protocol.specs.Move.{Step, step, isRunning, newFinalized, dummyVoteStep, outputStep, passApplies, passStep}
+use Rattle.protocol.specs.Move.{proposeStep, blockVoteStep, idleStep, moved, unlessMoveRefused, moveRows, moveCall}
 use Rattle.protocol.specs.Read.{logSize, sizeCall}
 use Rattle.protocol.specs.Laws.TestsLaws.{and-both, cond-elim}
-use Rattle.protocol.specs.Laws.RowLaws.{row, row-passes}
+use Rattle.protocol.specs.Laws.TestedLaws.{move-tested}
+use Rattle.protocol.specs.Laws.MoveLaws.{step-cases, dummy-vote-rows, propose-rows, block-vote-rows}
 use Rattle.protocol.specs.Laws.ParentLaws.{largestFinalized-is}
 use Rattle.protocol.specs.Laws.SoundLaws.{sound-decode}
 use Rattle.protocol.specs.Laws.LogLaws.{log-few}
@@ -38,21 +38,21 @@ module _ (digest : Bytes → Bytes) where
     output-within = largestFinalized-is digest (view s) (last s) .within
 
     step-within : Within (step digest s)
-    unfolding step firstStep moveHeight dummyVoteApplies dummyVoteStep outputStep passApplies passStep proposeApplies
-        proposeStep blockVoteApplies blockVoteStep idleStep
-    step-within =
-        cond-elim Within (dummyVoteApplies s) (λ e. running (row _ 0 e)) λ _.
-        cond-elim Within (outputApplies digest s) (λ _. output-within) λ _.
-        cond-elim Within (passApplies digest s) (λ e. running (and-both _ _ e .0)) λ _.
-        cond-elim Within (proposeApplies digest s) (λ e. running (row _ 0 e)) λ _.
-        cond-elim Within (blockVoteApplies digest s) (λ e. running (row _ 0 e)) λ _. omega arith
+    unfolding moveHeight dummyVoteStep outputStep passApplies passStep proposeStep blockVoteStep idleStep
+    step-within = step-cases digest s Within
+        (λ e. running (dummy-vote-rows s e .running))
+        (λ _ _. output-within)
+        (λ _ _ e. running (and-both _ _ e .0))
+        (λ _ _ _ e. running (propose-rows digest s e .running))
+        (λ _ _ _ _ e. running (block-vote-rows digest s e .running))
+        (λ _ _ _ _ _. omega arith)
 
   pub move-height-low : (book reply : Bytes) → answeredHeight (moveCall digest book reply .answer) ≤ maximumHeights
   unfolding moveCall
   move-height-low book reply = go (firstRefusal (moveRows digest book reply)) is-sound
     where
       is-sound : firstRefusal (moveRows digest book reply) ≡ none → sound digest book ≡ true
-      is-sound passes = unfold moveRows in row-passes _ _ passes .0
+      is-sound passes = move-tested digest book reply passes .was-sound
 
       go : (r : Option ℕ) → (r ≡ none → sound digest book ≡ true) →
           answeredHeight (unlessMoveRefused r book reply (step digest (decode book)) .answer) ≤ maximumHeights

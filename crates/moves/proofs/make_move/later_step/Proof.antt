@@ -2,10 +2,11 @@
 use mathlib.Core.Path.{sym, subst, _∙_}
 use Rattle.sha256.specs.Digest.{sha256}
 use Rattle.protocol.specs.State.{decode}
+use Rattle.protocol.specs.Laws.MoveLaws.{propose-rows, block-vote-rows}
 use Rattle.fields.specs.Laws.HeadLaws.{running-high}
 use Rattle.applies.specs.Found.{PassFound, ProposeFound}
 use Rattle.moves.specs.Laws.OrderLaws.{later-pass, later-propose, later-vote, later-idle, pass-running}
-use Rattle.moves.specs.Laws.OrderLaws.{propose-running, vote-running, took-as, took-idle}
+use Rattle.moves.specs.Laws.OrderLaws.{took-as, took-idle}
 use borrow.Author.Needs.{needs}
 use Rattle.moves.proofs.make_move.later_step.Statement.{statement}
 use Rattle.moves.proofs.make_move.later_step.Tie as tie
@@ -45,7 +46,7 @@ propose-requires c κs =
       start .pre .0,
       (
         propose-test .propose-applies .ensures .1,
-        (running-high book (propose-running (decode book) (found .0)), (found .1, start .pre .1 .1)),
+        (running-high book (propose-rows sha256 (decode book) (found .0) .running), (found .1, start .pre .1 .1)),
       ),
     )
 
@@ -73,8 +74,8 @@ cast-block-vote-requires c κs =
     let book = start .args .book .now in (
       start .pre .0,
       (
-        running-high book (vote-running (decode book)
-            (sym (vote-test .block-vote-applies .ensures .0) ∙ branch .if1 .taken)),
+        running-high book (block-vote-rows sha256 (decode book)
+            (sym (vote-test .block-vote-applies .ensures .0) ∙ branch .if1 .taken) .running),
         start .pre .1 .1,
       ),
     )

@@ -5,17 +5,18 @@ use mathlib.Core.Path.{_≡_, sym, _∙_}
 use lib.ListN.{length}
 use Rattle.answers.specs.Laws.AnswerLaws.{outcome-done, outcome-refused}
 use Rattle.answers.specs.Laws.CallLaws.{open-unfit, open-short, open-done}
-use Rattle.field_calls.proofs.Numbers.{fitting, long-enough, not-long-enough}
+use Rattle.field_calls.proofs.Numbers.{long-enough, not-long-enough}
 use borrow.Author.Needs.{needs}
 use Rattle.replica.proofs.open.open.Statement.{statement}
 use Rattle.replica.proofs.open.open.Tie as tie
 use Rattle.protocol.specs.Block.{maximumHeights}
+use Rattle.protocol.specs.Laws.TestedLaws.{open-ranges}
 
 mul-if2 : tie.Need-mul-if2
 mul-if2 c =
     let after-numbers-fit = c .before in
     let z = after-numbers-fit .before .before .before in
-    let fits = fitting (z .args .n) (z .args .own) (z .args .heights) (z .args .leaders .now)
+    let fits = open-ranges (z .args .n) (z .args .own) (z .args .heights) (z .args .leaders .now)
     (sym (after-numbers-fit .numbers-fit .ensures) ∙ c .if1 .taken) in
     omega arith
 
@@ -23,7 +24,7 @@ add-if2 : tie.Need-add-if2
 add-if2 c =
     let after-numbers-fit = c .before in
     let z = after-numbers-fit .before .before .before in
-    let fits = fitting (z .args .n) (z .args .own) (z .args .heights) (z .args .leaders .now)
+    let fits = open-ranges (z .args .n) (z .args .own) (z .args .heights) (z .args .leaders .now)
     (sym (after-numbers-fit .numbers-fit .ensures) ∙ c .if1 .taken) in
     omega arith
 
@@ -32,7 +33,7 @@ new-book-requires c κs =
     let after-if1 = c .before .before in
     let after-numbers-fit = after-if1 .before in
     let z = after-numbers-fit .before .before .before in
-    let fits = fitting (z .args .n) (z .args .own) (z .args .heights) (z .args .leaders .now)
+    let fits = open-ranges (z .args .n) (z .args .own) (z .args .heights) (z .args .leaders .now)
     (sym (after-numbers-fit .numbers-fit .ensures) ∙ after-if1 .if1 .taken) in
     let size : length (z .args .book .now) ≡ 576 + 880 * length (z .args .leaders .now) = omega arith in
     let few : length (z .args .leaders .now) ≤ maximumHeights = omega arith in
