@@ -1,1 +1,3 @@
+mod Words
+mod Runs
 pub mod Stores

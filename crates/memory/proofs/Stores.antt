@@ -1,55 +1,20 @@
--- What a store to a memory leaves known, and the start of a run of dummies.
-use Prim.Native.Nat.{ℕ, zero, suc, _+_, _-_, _*_, _/_, _%_, _≤_, _<_}
+-- What a store to a memory leaves known.
+use Prim.Native.Nat.{ℕ, _+_, _*_, _≤_, _<_}
 use native.Mathlib.Omega.{arith}
 use mathlib.Core.Path.{_≡_, refl, sym, ap, subst, _∙_}
 use mathlib.Core.Logic.{_⊎_, inl, inr, ⊎-elim}
-use mathlib.Core.Bool.{Bool, true, false, _&&_, cond, and-true, and-false}
+use mathlib.Core.Bool.{Bool, true, false}
 use lib.ListN.{length, set, length-set}
-use lib.Dec.{eqb, leb}
-use lib.Seq.{getD-set-same, getD-set-other, ext-getD}
-use borrow.Author.Tests.{eqb-false, eqb-true, le-leb, lt-leb}
+use lib.Dec.{eqb}
+use lib.Seq.{getD-set-same, getD-set-other}
+use borrow.Author.Tests.{eqb-false, eqb-true}
 use Rattle.protocol.specs.Bytes.{Bytes, byteAt, word16, le16, part, put}
-use Rattle.protocol.specs.Laws.BytesLaws.{length-put, length-part, byte-part, put-other, put-there, put-word}
-use Rattle.protocol.specs.Laws.BytesLaws.{word16-le16}
-use Rattle.protocol.specs.View.{View, linked, isDummy, dummyRun}
+use Rattle.protocol.specs.Laws.BytesLaws.{length-put, put-other, put-there}
+use Rattle.protocol.specs.View.{View, linked}
 use Rattle.protocol.specs.Laws.TestsLaws.{le-or-lt}
 use Rattle.sha256.specs.Digest.{sha256}
 use Rattle.memory.specs.Memo.{Known, KnownAt, runStart}
-
--- two parts have the same bytes
-parts-same : (a b : Bytes) (i j k : ℕ) → i + k ≤ length a → j + k ≤ length b →
-    ((m : ℕ) → m < k → byteAt a (i + m) ≡ byteAt b (j + m)) → part a i k ≡ part b j k
-parts-same a b i j k p q each =
-    ext-getD 0 (part a i k) (part b j k) (length-part a i k p ∙ sym (length-part b j k q))
-    (λ m l. let inside : m < k = rw (length-part a i k p) at l in
-    byte-part a i k m inside ∙ each m inside ∙ sym (byte-part b j k m inside))
-
--- two numbers have the same bytes
-words-same : (a b : Bytes) (i : ℕ) → byteAt a i ≡ byteAt b i → byteAt a (i + 1) ≡ byteAt b (i + 1) →
-    word16 a i ≡ word16 b i
-unfolding word16
-words-same a b i low high = rw (low, high)
-
-word-of : (b : Bytes) (i value : ℕ) → byteAt b i ≡ value % 256 → byteAt b (i + 1) ≡ value / 256 → word16 b i ≡ value
-unfolding word16
-word-of b i value low high = rw (low, high) (word16-le16 value)
-
-word-size : (value : ℕ) → length (le16 value) ≡ 2
-unfolding le16
-word-size value = refl
-
--- a number that is stored is read back
-word-put : (known : Bytes) (i value : ℕ) → i + 1 < length known → word16 (put known i (le16 value)) i ≡ value
-word-put known i value fits =
-    let once = set known i (value % 256) in
-    let size = length-set known i (value % 256) in
-    let low : byteAt (set once (i + 1) (value / 256)) i ≡ value % 256 =
-    getD-set-other once (i + 1) i (value / 256) 0 (λ e. omega arith)
-    ∙ getD-set-same known i (value % 256) 0 (omega arith) in
-    let high : byteAt (set once (i + 1) (value / 256)) (i + 1) ≡ value / 256 =
-    getD-set-same once (i + 1) (value / 256) 0 (omega arith) in
-    ap (λ (b : Bytes). word16 b i) (put-word known i value fits)
-    ∙ word-of (set once (i + 1) (value / 256)) i value low high
+use Rattle.memory.proofs.Words.{parts-same, words-same, word-size, word-put}
 
 -- ---- a store within the 36 bytes of a height
 module _ {heights : ℕ} (v : View) (known after : Bytes) (memo : Known heights v known) (h : ℕ)
@@ -227,48 +192,3 @@ module _ {heights : ℕ} (v : View) (known : Bytes) (memo : Known heights v know
   stored stores e =
       subst (λ (s : Bytes). (part (set s (36 * j + 1) 1) (36 * j + 4) 32 ≡ sha256 (v .block j)) × Known heights v
       (set s (36 * j + 1) 1)) (sym e) digest-stored
-
--- ---- runs of dummies
-module _ (v : View) where
-  pub start-within : (h : ℕ) → runStart v h ≤ h
-  unfolding runStart
-  start-within zero = omega arith
-  start-within (suc h) = go (isDummy v (suc h)) (start-within h)
-    where
-      go : (b : Bool) → runStart v h ≤ h → cond b (runStart v h) (suc h) ≤ suc h
-      go true e = omega arith
-      go false e = omega arith
-
-  pub start-zero : (h : ℕ) → h ≡ 0 → 0 ≡ runStart v h
-  unfolding runStart
-  start-zero zero e = refl
-  start-zero (suc h) e = absurd (omega arith)
-
-  pub start-back : (h : ℕ) → 1 ≤ h → isDummy v h ≡ true → runStart v (h - 1) ≡ runStart v h
-  unfolding runStart
-  start-back zero low e = absurd (omega arith)
-  start-back (suc h) low e = let back : suc h - 1 ≡ h = omega arith in rw (back, e)
-
-  pub start-here : (h : ℕ) → 1 ≤ h → isDummy v h ≡ false → h ≡ runStart v h
-  unfolding runStart
-  start-here zero low e = absurd (omega arith)
-  start-here (suc h) low e = rw e
-
-  run-by-start : (j count : ℕ) → dummyRun v j count ≡ leb (runStart v (j + count)) j
-  unfolding dummyRun runStart
-  run-by-start j zero = let e : j + 0 ≡ j = omega arith in rw e (sym (le-leb (runStart v j) j (start-within j)))
-  run-by-start j (suc count) = let e : j + suc count ≡ suc (j + count) = omega arith in
-      rw e (go (isDummy v (suc (j + count))) (run-by-start j count))
-    where
-      go : (b : Bool) → dummyRun v j count ≡ leb (runStart v (j + count)) j →
-          (dummyRun v j count && b) ≡ leb (cond b (runStart v (j + count)) (suc (j + count))) j
-      go true so-far = and-true (dummyRun v j count) ∙ so-far
-      go false so-far = and-false (dummyRun v j count) ∙ sym (lt-leb (suc (j + count)) j (omega arith))
-
-  pub run-none : (j top : ℕ) → j ≡ top → true ≡ dummyRun v j (top - j)
-  unfolding dummyRun
-  run-none j top e = let none : top - j ≡ 0 = omega arith in rw none
-
-  pub run-is : (j top : ℕ) → j ≤ top → leb (runStart v top) j ≡ dummyRun v j (top - j)
-  run-is j top high = let e : j + (top - j) ≡ top = omega arith in
-      sym (run-by-start j (top - j) ∙ ap (λ (h : ℕ). leb (runStart v h) j) e)

@@ -1,45 +1,19 @@
 -- `run_start` meets its contract: a height that is no dummy starts a run itself, and any other goes on with the run
 -- below. The measure is the height.
+mod Claims
 use native.Mathlib.Omega.{arith}
 use borrow.Author.Needs.{needs}
 use mathlib.Core.Path.{_≡_, sym, _∙_}
 use Rattle.protocol.specs.Bytes.{word16}
 use Rattle.fields.specs.Book.{viewOf}
-use Rattle.memory.proofs.Stores.{start-zero, start-within, start-back, start-here, remember-run}
-use Prim.Native.Nat.{ℕ, _+_, _*_, _<_}
-use borrow.Fn.Kinds.{In}
-use borrow.Fn.PlainCycle.{Measures, is, falls, and}
+use Rattle.memory.proofs.Runs.{start-zero, start-within, start-back, start-here}
+use Rattle.memory.proofs.Stores.{remember-run}
+use Prim.Native.Nat.{ℕ, _+_, _*_}
 use Rattle.memory.proofs.run_start.Reads as run-start
-use Rattle.memory.proofs.run_start.Kinds as run-start-kinds
 use Rattle.memory.proofs.+run_start.Lts-run_start as run-start-lts
-use Rattle.fields.proofs.kind.is_dummy.Reads as is-dummy-reads
-use Rattle.wire.proofs.bytes.put_word.Reads as put-word-reads
-use Rattle.wire.proofs.bytes.word.Reads as word-reads
 use Rattle.memory.proofs.+run_start.{statement}
 use Rattle.memory.proofs.+run_start.Tie.{close}
-
-abbrev μ-run-start : Measures 2 run-start-kinds.ps ℕ
-μ-run-start κs a = a .1 .1 .0
-
-abbrev run-start-at : ℕ → In 2 run-start-kinds.ps
-run-start-at t = and 2 run-start-kinds.ps (is 2 run-start-kinds.ps μ-run-start t) run-start.Pre
-
-abbrev run-start-below : ℕ → In 2 run-start-kinds.ps
-run-start-below t =
-    and 2 run-start-kinds.ps (falls 2 run-start-kinds.ps _<_ μ-run-start t) run-start.Pre
-
--- What the callees are asked for and give back, `run_start` itself at a lower height.
-abbrev run-start-claims : ℕ → run-start-lts.Claims
-run-start-claims t = (
-  word-reads.Asked,
-  word-reads.Learnt,
-  is-dummy-reads.Asked,
-  is-dummy-reads.Learnt,
-  run-start-below t,
-  run-start.Post,
-  put-word-reads.Asked,
-  put-word-reads.Learnt,
-)
+use Rattle.memory.proofs.+run_start.Proof.Claims.{μ-run-start, run-start-at, run-start-claims}
 
 module _ (t : ℕ) where
   returns : run-start-lts.Need-returns (run-start-claims t) (run-start-at t) run-start.Post
@@ -61,9 +35,6 @@ module _ (t : ℕ) where
   word-requires c κs = let z = c .before .before .before .before in
       omega (arith, z .pre .1 .1 .1, z .pre .1 .0 .heights, z .pre .1 .1 .0 .room)
 
-  sub-result : run-start-lts.Need-sub-result (run-start-claims t) (run-start-at t) run-start.Post
-  sub-result c = omega arith
-
   returns-2 : run-start-lts.Need-returns-2 (run-start-claims t) (run-start-at t) run-start.Post
   returns-2 c =
       let z = c .before .before .before .before .before .before in
@@ -78,9 +49,6 @@ module _ (t : ℕ) where
   is-dummy-requires c κs =
       let z = c .before .before .before .before .before .before in
       (z .pre .1 .0, record { low = omega arith; high = z .pre .1 .1 .1 })
-
-  sub-run-start : run-start-lts.Need-sub-run-start (run-start-claims t) (run-start-at t) run-start.Post
-  sub-run-start c = omega arith
 
   run-start-requires : run-start-lts.Need-run-start-requires (run-start-claims t) (run-start-at t) run-start.Post
   run-start-requires c κs =
@@ -174,11 +142,11 @@ pub +run-start-spec : {M : Type 1} → statement M
     (mul-word t)
     (add-word t)
     (word-requires t)
-    (sub-result t)
+    (λ c. omega arith)
     (λ c. search needs)
     (returns-2 t)
     (is-dummy-requires t)
-    (sub-run-start t)
+    (λ c. omega arith)
     (run-start-requires t)
     (mul-put-word t)
     (add-put-word t)

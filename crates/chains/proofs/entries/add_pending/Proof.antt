@@ -1,64 +1,23 @@
 -- `add_pending` meets its contract: after `k` places, those of their entries that the log lacks are in front of the
 -- pool.
-use Prim.Native.Nat.{_*_, _≤_, _<_, _-_}
+mod Loop
+use Prim.Native.Nat.{_≤_, _<_}
 use native.Mathlib.Omega.{arith}
-use mathlib.Core.Path.{_≡_, refl, sym, ap, _∙_}
-use mathlib.Core.Bool.{Bool}
+use mathlib.Core.Path.{refl, sym, ap, _∙_}
 use mathlib.Core.List.{List, [], _∷_, _++_}
 use lib.ListN.{length}
-use Rattle.protocol.specs.Bytes.{Bytes, part, holds, without}
-use Rattle.protocol.specs.State.{State, decode, encode, maximumPending}
-use Rattle.protocol.specs.Sound.{view, log}
-use Rattle.protocol.specs.View.{logAt}
+use Rattle.protocol.specs.Bytes.{Bytes, without}
+use Rattle.protocol.specs.State.{decode, encode, maximumPending}
+use Rattle.protocol.specs.Sound.{log}
 use Rattle.protocol.specs.Laws.PoolLaws.{moved, moved-none}
 use Rattle.protocol.specs.Laws.EntriesLaws.{place-leaves, place-stays}
-use Rattle.fields.specs.Book.{Ready}
 use Rattle.chains.proofs.Pending.{walk-at, one-more}
-use Rattle.chains.proofs.Closing.{staying, staying-few, staying-all, closed-ready, closed-walk, closed-log}
-use Rattle.chains.proofs.Closing.{closed-place, closed-length, closed-more, closed-end}
+use Rattle.chains.proofs.Closing.{staying, staying-few, staying-all, closed-walk}
+use Rattle.chains.proofs.Closing.{closed-length, closed-more, closed-end}
 use Rattle.chains.proofs.entries.add_pending.Statement.{statement}
 use Rattle.chains.proofs.entries.add_pending.Tie as tie
-
-abbrev Inv-loop : tie.InvT-loop
-Inv-loop book₀ entry finalized count left₀ k₀ book left k =
-    (k ≤ count) × (left ≡ length (staying (decode book₀) k)) ×
-    (book ≡ encode (moved (decode book₀) (staying (decode book₀) k)))
-
-abbrev μ-loop : tie.MeasureT-loop
-μ-loop book₀ entry finalized count left₀ k₀ book left k = count - k
-
--- what is known whenever the loop's test is reached
-module _ (at : tie.At-loop Inv-loop μ-loop) where
-  abbrev start : tie.Start Inv-loop μ-loop
-  start = at .before .before .before .before .before .before .before
-
-  abbrev book : Bytes
-  book = start .args .book .now
-
-  abbrev s : State
-  s = decode book
-
-  few : s .pendingCount ≤ maximumPending
-  few = start .pre .1 .1 .0 .0
-
-  within : at .loop .k ≤ maximumPending
-  within = let most = few in omega arith
-
-  ready-now : Ready (at .loop .book)
-  ready-now = closed-ready book (start .pre .0) few (at .loop .k) within (at .loop .book) (at .loop .inv .2)
-
-  -- the entry at place `k` is that of the book as it was, and so is the log that it is looked for in
-  entry-now : {entry : Bytes} → entry ≡ part (decode (at .loop .book) .pool) (16 * at .loop .k) 16 →
-      entry ≡ part (s .pool) (16 * at .loop .k) 16
-  entry-now e = e ∙ closed-place book (start .pre .0) few (at .loop .k) within (at .loop .book) (at .loop .inv .2)
-
-  found-now : (entry : Bytes) {found : Bool} → found ≡ holds entry
-      (logAt (view (decode (at .loop .book))) (at .before .before .before .finalized .result)) →
-      found ≡ holds entry (log s)
-  found-now entry e =
-      let finalized = at .before .before .before .finalized in
-      e ∙ ap (holds entry) (closed-log book (start .pre .0) few (at .loop .k) within (at .loop .book) (at .loop .inv .2)
-      (finalized .result) (finalized .ensures .0))
+use Rattle.chains.proofs.entries.add_pending.Proof.Loop.{Inv-loop, μ-loop, start, book, s, few, within}
+use Rattle.chains.proofs.entries.add_pending.Proof.Loop.{ready-now, entry-now, found-now}
 
 finalized-requires : tie.Need-finalized-requires Inv-loop μ-loop
 finalized-requires c κs =
