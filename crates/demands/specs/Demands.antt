@@ -2,13 +2,17 @@
 --
 -- Demand 1 is the contracts: each function answers, and leaves in every byte lent to it, what its definition says.
 --
--- call            definition, in protocol                    function, in replica Open            Open.openCall
---                      open::open Deliver         Deliver.deliverCall sha256                 deliver::deliver Move
---       Move.moveCall sha256                       make_move::make_move Signal          Signal.signalCall sha256
---            signal::signal Submit          Submit.submitCall sha256                   submit::submit Register size
--- Read.sizeCall sha256                       read::size Read            Read.readPart sha256, the part returned
--- read::read Read.readBuffer sha256, every byte         read::read_into Fetch           Fetch.fetchCall sha256
---            fetch::fetch
+-- The calls, each with its definition in `protocol` and its function in `replica`:
+--
+-- - Open: `Open.openCall`; `open::open`
+-- - Deliver: `Deliver.deliverCall sha256`; `deliver::deliver`
+-- - Move: `Move.moveCall sha256`; `make_move::make_move`
+-- - Signal: `Signal.signalCall sha256`; `signal::signal`
+-- - Submit: `Submit.submitCall sha256`; `submit::submit`
+-- - Register size: `Read.sizeCall sha256`; `read::size`
+-- - Read, the part returned: `Read.readPart sha256`; `read::read`
+-- - Read, every byte: `Read.readBuffer sha256`; `read::read_into`
+-- - Fetch: `Fetch.fetchCall sha256`; `fetch::fetch`
 --
 -- What these definitions say follows, demand by demand. A premise `AreBytes book` says that each number of the book is
 -- below 256, as in a byte slice.
@@ -47,7 +51,7 @@ use Rattle.call_laws.specs.Laws.BookBytesLaws.{open-bytes, signal-bytes, submit
 use Rattle.call_laws.specs.Keeping.{Keeps, AllTallied}
 use Rattle.call_laws.specs.Laws.KeepingLaws.{deliver-keeps}
 use Rattle.call_laws.specs.Laws.KeepsExactLaws.{keeps-exact}
-use Rattle.call_laws.specs.Laws.SoundStays.{sound-stays, sound-opened}
+use Rattle.call_laws.specs.Laws.SoundStays.{sound-stays as stays-sound, sound-opened}
 use Rattle.call_laws.specs.Laws.Tallying.{tallied-stays-all, tallied-opened}
 use Rattle.call_laws.specs.Readable.{SameSetting}
 use Rattle.call_laws.specs.WrittenRead.{MoveWritten, FetchWritten}
@@ -121,7 +125,7 @@ move-writes = move-bytes sha256
 -- every call leaves a sound book sound, and Open makes a sound one of any bytes
 pub sound-stays : (book : Bytes) (call : Call) → sound sha256 book ≡ true →
     sound sha256 (bookAfter sha256 book call) ≡ true
-sound-stays = sound-stays sha256
+sound-stays = stays-sound sha256
 
 pub open-makes-sound : (book : Bytes) (n own heights : ℕ) (leaders : Bytes) →
     openCall book n own heights leaders .answer ≡ accepted done →
