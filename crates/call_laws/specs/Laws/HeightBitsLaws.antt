@@ -46,7 +46,8 @@ new-bit m s t free = go (ℕ-discrete t s)
         distinct false f = f
 
 -- ---- statuses
-pub holds-notarized : (x : Height) (mask : ℕ) (block : Bytes) → holdsProposal (withNotarized x mask block) ≡ holdsProposal x
+pub holds-notarized : (x : Height) (mask : ℕ) (block : Bytes) →
+    holdsProposal (withNotarized x mask block) ≡ holdsProposal x
 unfolding holdsProposal withNotarized
 holds-notarized x mask block = let even : (x .status + 2) % 2 ≡ x .status % 2 = omega arith in
     ap (λ (r : ℕ). eqb r 1) even

@@ -100,7 +100,8 @@ module _ (digest : Bytes → Bytes) (v : View) (frame : Bytes) (x : Height) wher
       odd : x .status % 2 ≢ 1
       odd = eqb-false _ _ free
 
-  pub proposal-keeps : (holdsProposal x ≡ true → x .proposal ≡ frameBlock frame) → Kept 1 (keepProposal digest v x frame)
+  pub proposal-keeps : (holdsProposal x ≡ true → x .proposal ≡ frameBlock frame) →
+      Kept 1 (keepProposal digest v x frame)
   unfolding keepProposal left says
   proposal-keeps agrees =
       cond-elim (Kept 1) (holdsProposal x)
@@ -218,7 +219,8 @@ module _ (digest : Bytes → Bytes) (v : View) (frame : Bytes) (x : Height) wher
       (λ t l. union-bit (v .n) (x .finalizeMask) (signerMask frame) t l))
 
   -- ---- kind 5
-  pub certificate-keeps : (isNotarized x ≡ true → x .notarized ≡ frameBlock frame) → Kept 5 (keepBlockCertificate x frame)
+  pub certificate-keeps : (isNotarized x ≡ true → x .notarized ≡ frameBlock frame) →
+      Kept 5 (keepBlockCertificate x frame)
   unfolding keepBlockCertificate left says Tallied
   certificate-keeps agrees =
       cond-elim (Kept 5) (isNotarized x)

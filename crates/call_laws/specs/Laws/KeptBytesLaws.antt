@@ -38,7 +38,8 @@ module _ {s : State} {h : ℕ} (place : Place s h) where
     -- what a kind may write, and what the height that it leaves may notarize
     abbrev Writes : List Part → Height → Type 0
     Writes parts y =
-        SameOutside (parts ++ cond (newlyNotarized x y) (notarizedParts (last s) h) []) (placed place x) (placed place y)
+        SameOutside (parts ++ cond (newlyNotarized x y) (notarizedParts (last s) h) [])
+        (placed place x) (placed place y)
 
     abbrev Only : ℕ → Option Height → Type 0
     Only k o = OnSome (Writes (keptParts (last s) h k (signer frame))) o
@@ -49,8 +50,8 @@ module _ {s : State} {h : ℕ} (place : Place s h) where
     newly y mask block free = rw (free, is-notarized y mask block)
 
     -- a block is notarized after a change that left `z`
-    then-notarized : (parts : List Part) (z : Height) → ShapedHeight z → SameOutside parts (placed place x) (placed place z) →
-        isNotarized x ≡ false →
+    then-notarized : (parts : List Part) (z : Height) → ShapedHeight z →
+        SameOutside parts (placed place x) (placed place z) → isNotarized x ≡ false →
         (mask : ℕ) (block : Bytes) → length block ≡ 176 → Writes parts (withNotarized z mask block)
     then-notarized parts z shape same free mask block size =
         rw (newly z mask block free) (both-outside same (notarized-outside place z shape mask block size))

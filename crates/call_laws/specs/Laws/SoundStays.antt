@@ -32,7 +32,8 @@ module _ (digest : Bytes → Bytes) where
       sound digest (bookAfterAll digest book calls) ≡ true
   unfolding bookAfterAll
   sound-stays-all book [] was = was
-  sound-stays-all book (call ∷ calls) was = sound-stays-all (bookAfter digest book call) calls (sound-stays book call was)
+  sound-stays-all book (call ∷ calls) was =
+      sound-stays-all (bookAfter digest book call) calls (sound-stays book call was)
 
   -- Open that is not refused leaves a sound book, whatever bytes were there
   pub sound-opened : (book : Bytes) (n own heights : ℕ) (leaders : Bytes) →

@@ -143,7 +143,8 @@ module _ (digest : Bytes → Bytes) where
       go : (n p : Bool) → isRunning after ≡ n → passApplies digest after ≡ p →
           measure digest after < weight true false false true (proposeApplies digest s) (blockVoteApplies digest s)
           (last s - s .current)
-      go false p e e′ = rw (measure-is digest after e dummy out e′ refl refl) (unfold weight atHeight bit in omega arith)
+      go false p e e′ =
+          rw (measure-is digest after e dummy out e′ refl refl) (unfold weight atHeight bit in omega arith)
       go true p e e′ =
           rw (measure-is digest after e dummy out e′ refl refl, left)
           (less-pass p (proposeApplies digest after) (blockVoteApplies digest after) (proposeApplies digest s)

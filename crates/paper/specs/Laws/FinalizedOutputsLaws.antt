@@ -47,7 +47,8 @@ module _ (digest : Bytes → Bytes) (s : State) (sound : SoundState digest s) (t
   not-above : (h : ℕ) → 1 ≤ h → h ≤ last s → SeenWithBlock digest (view s) h → Finalization (view s) h →
       h ≤ newFinalized digest s
   not-above h low high seen final =
-      largest .most h low high (finalized-sound digest (view s) h (finalized-seen digest s terms h low .1 (seen, final)))
+      let is-finalized = finalized-seen digest s terms h low .1 (seen, final) in
+      largest .most h low high (finalized-sound digest (view s) h is-finalized)
 
   pub output-when : outputApplies digest s ≡ true → MayOutput digest s
   output-when e = let q = output-seen e in (newFinalized digest s, q .0, largest .within, q .1, q .2)

@@ -97,4 +97,7 @@ module _ (digest : Bytes → Bytes) where
 
   pub moves-end : (s : State) → MovesEnd digest s
   unfolding MovesEnd
-  moves-end s = ((λ le. ends (last s + 4 - s .current) s (measure-most digest s le)), (λ le. ends 1 s (measure-full digest s le)))
+  moves-end s = (
+    (λ le. ends (last s + 4 - s .current) s (measure-most digest s le)),
+    λ le. ends 1 s (measure-full digest s le),
+  )

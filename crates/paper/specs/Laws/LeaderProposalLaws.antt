@@ -32,7 +32,8 @@ module _ (digest : Bytes → Bytes) (s : State) (sound : SoundState digest s) (t
   pub propose-when : proposeApplies digest s ≡ true → MayPropose digest s
   propose-when e =
       let rows = propose-rows digest s e in
-      (running digest s (rows .running), rows .leads, rows .not-yet, parent-seen digest s terms (s .current - 1) .0 (rows .has-parent))
+      let parent = parent-seen digest s terms (s .current - 1) .0 (rows .has-parent) in
+      (running digest s (rows .running), rows .leads, rows .not-yet, parent)
 
   pub propose-applies : MayPropose digest s → proposeApplies digest s ≡ true
   unfolding proposeApplies
@@ -113,7 +114,9 @@ module _ (digest : Bytes → Bytes) (s : State) (sound : SoundState digest s) (t
     unfolding LeaderProposal proposeStep
     leader-proposal e1 e2 e3 = (
       ((λ e. propose-when (took e .0)), λ q. answers digest s (step-propose e1 e2 e3 (propose-applies q))),
-      λ e. (proposedBlock digest s (someOr 0 (parentBelow digest s)), proposed (took e .0), makes digest s e (took e .1)),
+      λ e.
+          let block = proposedBlock digest s (someOr 0 (parentBelow digest s)) in
+          (block, proposed (took e .0), makes digest s e (took e .1)),
     )
       where
         took : step digest s .move ≡ propose (s .current) →

@@ -44,12 +44,13 @@ unfolding weight atHeight bit
 less-pass true q r q′ r′ last c le = omega arith
 less-pass false q r q′ r′ last c le = let a = bit-small q in let b = bit-small r in omega arith
 
-pub less-propose : (r : Bool) (left : ℕ) → weight true false false false false r left < weight true false false false true r
-    left
+pub less-propose : (r : Bool) (left : ℕ) →
+    weight true false false false false r left < weight true false false false true r left
 unfolding weight atHeight bit
 less-propose r left = omega arith
 
-pub less-vote : (left : ℕ) → weight true false false false false false left < weight true false false false false true left
+pub less-vote : (left : ℕ) →
+    weight true false false false false false left < weight true false false false false true left
 unfolding weight atHeight bit
 less-vote left = omega arith
 

@@ -39,9 +39,9 @@ module _ (digest : Bytes → Bytes) (s : State) (sound : SoundState digest s) (t
       go (inr d) =
           let both = and-both (isDummy (view s) (s .current)) (isSome (parentBelow digest s)) d in
           let below = parent-seen digest s terms (s .current - 1) .0 (both .1) in
-          subst (λ (c : ℕ). SeenOfHeight digest (view s) c) (before digest s sound)
-          (with-dummy digest s (s .current - 1) (subst (λ (c : ℕ). isDummy (view s) c ≡ true) (sym (before digest s sound)) (both .0))
-          below)
+          let here = before digest s sound in
+          let dummy = subst (λ (c : ℕ). isDummy (view s) c ≡ true) (sym here) (both .0) in
+          subst (λ (c : ℕ). SeenOfHeight digest (view s) c) here (with-dummy digest s (s .current - 1) dummy below)
 
   pub pass-applies : Running digest s → SeenOfHeight digest (view s) (s .current) → passApplies digest s ≡ true
   unfolding passApplies height isDummy
@@ -51,8 +51,8 @@ module _ (digest : Bytes → Bytes) (s : State) (sound : SoundState digest s) (t
           suc (height c) ≡ s .current →
           passesAt digest (view s) (s .current) ≡ true
       on-dummy {c} n d e =
-          let some-below : isSome (parentBelow digest s) ≡ true =
-          parent-seen digest s terms (s .current - 1) .1 (record { sequence = c; notarized = n; its-height = omega arith }) in
+          let some-below : isSome (parentBelow digest s) ≡ true = parent-seen digest s terms (s .current - 1) .1
+          (record { sequence = c; notarized = n; its-height = omega arith }) in
           or-right (linked digest (view s) (s .current))
           (true-and _ _ (subst (λ (h : ℕ). isDummy (view s) h ≡ true) e d) some-below)
 
@@ -102,7 +102,9 @@ module _ (digest : Bytes → Bytes) (s : State) (sound : SoundState digest s) (t
       (λ q. pass-when (taken digest s (pass (s .current) (q .0) (q .1)) (q .2) .0)),
       λ q. (_, _, answers digest s (passing (q .0) (q .1))),
     ),
-    (λ r seen. pass-made (passing r (with-block digest s seen)) true (linked-seen digest s terms (s .current) (sound .current-low) .1 seen)),
+    (λ r seen.
+        let has-block = linked-seen digest s terms (s .current) (sound .current-low) .1 seen in
+        pass-made (passing r (with-block digest s seen)) true has-block),
     λ r seen never. pass-made (passing r seen) false (not-linked never),
   )
     where
