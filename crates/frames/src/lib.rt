@@ -15,7 +15,6 @@ pub use parts::is_statement;
 pub use well_formed::frame_well_formed;
 pub use write::write_block_certificate;
 pub use write::write_block_vote;
-pub use write::write_dummy_certificate;
 pub use write::write_dummy_vote;
 pub use write::write_finalize;
 pub use write::write_plain;

@@ -7,7 +7,7 @@ ghost use mathlib.Core.Path.{_≡_};
 ghost use Prim.Native.Nat.{_<_, _≤_};
 ghost use lib.ListN.{length};
 ghost use Rattle.protocol.specs.Bytes.{zeros, overFront};
-ghost use Rattle.protocol.specs.Frame.{frameOf, blockVote, dummyVote, finalize, blockCertificate, dummyCertificate};
+ghost use Rattle.protocol.specs.Frame.{frameOf, blockVote, dummyVote, finalize, blockCertificate};
 ghost use Rattle.frames.specs.Parts.{frameHead};
 
 // Writes the first 16 bytes of a frame. Costs 16 stores.
@@ -63,15 +63,6 @@ pub fn write_finalize(out: &mut [u8], signer: usize, h: usize)
     ensures { λ _. ⌜ now (out .exit) ≡ overFront (finalize signer h) (now (out .entry)) ⌝ }
 {
     write_plain(out, 4, signer, h, 0);
-}
-
-// Writes a notarization of the dummy block: 224 stores.
-pub fn write_dummy_certificate(out: &mut [u8], h: usize, mask: usize)
-    requires { ⌜ 224 ≤ length (now out) ⌝ }
-    requires { ⌜ (h < 65536) × (mask < 65536) ⌝ }
-    ensures { λ _. ⌜ now (out .exit) ≡ overFront (dummyCertificate h mask) (now (out .entry)) ⌝ }
-{
-    write_plain(out, 6, 0, h, mask);
 }
 
 // Writes a vote for a block, which names it by its digest: 224 stores.

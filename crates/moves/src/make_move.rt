@@ -10,8 +10,8 @@ use linking::links::Parent;
 use passing::pass;
 use steps::cast_block_vote;
 use steps::cast_dummy_vote;
+use steps::output;
 use steps::propose;
-use steps::settle;
 ghost use mathlib.Core.Path.{_≡_};
 ghost use Prim.Native.Nat.{_≤_};
 ghost use lib.ListN.{length};
@@ -57,7 +57,7 @@ fn step(book: &mut [u8], reply: &mut [u8], known: &mut [u8]) -> Moved
     }
     let g = new_finalized(book, known);
     if fields::head::finalized(book) < g {
-        return settle(book, g);
+        return output(book, g);
     }
     later_step(book, reply, known)
 }

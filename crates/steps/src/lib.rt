@@ -35,7 +35,7 @@ pub fn cast_dummy_vote(book: &mut [u8], reply: &mut [u8]) -> Moved
 }
 
 // Move 2: makes `g` the finalized height. It writes no frame. Costs one store.
-pub fn settle(book: &mut [u8], g: usize) -> Moved
+pub fn output(book: &mut [u8], g: usize) -> Moved
     requires { ⌜ SoundBook sha (now book) ⌝ }
     requires { ⌜ g ≡ newFinalized sha (decode (now book)) ⌝ }
     requires { ⌜ g ≤ maximumHeights ⌝ }

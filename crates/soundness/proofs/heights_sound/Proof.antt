@@ -22,15 +22,6 @@ loop-holds : tie.Need-loop-holds Inv-loop μ-loop
 unfolding everyHeight
 loop-holds c = (omega arith, refl)
 
-add-height-sound : tie.Need-add-height-sound Inv-loop μ-loop
-add-height-sound c = omega arith
-
-add-h : tie.Need-add-h Inv-loop μ-loop
-add-h c = omega arith
-
-loop-less : tie.Need-loop-less Inv-loop μ-loop
-loop-less c = omega arith
-
 loop-again : tie.Need-loop-again Inv-loop μ-loop
 loop-again c =
     let after-height-sound = c .before in
@@ -68,10 +59,10 @@ heights-sound-spec =
     μ-loop
     (λ c κs. search needs)
     loop-holds
-    add-height-sound
+    (λ c. omega arith)
     (λ c κs. search needs)
-    add-h
-    loop-less
+    (λ c. omega arith)
+    (λ c. omega arith)
     loop-again
     returns
     returns-2)

@@ -34,12 +34,6 @@ mul-bit c =
     let small = power-small (at .loop .s) (omega arith) in
     omega arith
 
-add-s : tie.Need-add-s Inv-loop μ-loop
-add-s c = omega arith
-
-loop-less : tie.Need-loop-less Inv-loop μ-loop
-loop-less c = omega arith
-
 loop-again : tie.Need-loop-again Inv-loop μ-loop
 loop-again c =
     let after-votes-for = c .before in
@@ -59,12 +53,6 @@ mul-bit-2 c =
     let at = c .before .before .before in
     let small = power-small (at .loop .s) (omega arith) in
     omega arith
-
-add-s-2 : tie.Need-add-s-2 Inv-loop μ-loop
-add-s-2 c = omega arith
-
-loop-less-2 : tie.Need-loop-less-2 Inv-loop μ-loop
-loop-less-2 c = omega arith
 
 loop-again-2 : tie.Need-loop-again-2 Inv-loop μ-loop
 loop-again-2 c =
@@ -104,11 +92,11 @@ voters-for-spec =
     (λ c κs. search needs)
     add-mask
     mul-bit
-    add-s
-    loop-less
+    (λ c. omega arith)
+    (λ c. omega arith)
     loop-again
     mul-bit-2
-    add-s-2
-    loop-less-2
+    (λ c. omega arith)
+    (λ c. omega arith)
     loop-again-2
     returns)

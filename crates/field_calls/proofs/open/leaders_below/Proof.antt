@@ -16,17 +16,8 @@ abbrev μ-loop : tie.MeasureT-loop
 loop-holds : tie.Need-loop-holds Inv-loop μ-loop
 loop-holds c = (omega arith, λ k h. absurd (omega arith))
 
-shared-slice-read-leader : tie.Need-shared-slice-read-leader Inv-loop μ-loop
-shared-slice-read-leader c = omega arith
-
 cast-leader : tie.Need-cast-leader Inv-loop μ-loop
 cast-leader c = omega (arith, c .shared-slice-known .given (c .before .before .loop .i))
-
-add-i : tie.Need-add-i Inv-loop μ-loop
-add-i c = omega arith
-
-loop-less : tie.Need-loop-less Inv-loop μ-loop
-loop-less c = omega arith
 
 loop-again : tie.Need-loop-again Inv-loop μ-loop
 loop-again c =
@@ -51,10 +42,10 @@ leaders-below-spec =
     Inv-loop
     μ-loop
     loop-holds
-    shared-slice-read-leader
+    (λ c. omega arith)
     cast-leader
-    add-i
-    loop-less
+    (λ c. omega arith)
+    (λ c. omega arith)
     loop-again
     returns
     returns-2)

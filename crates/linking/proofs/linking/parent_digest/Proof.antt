@@ -21,9 +21,6 @@ remember-digest-requires c κs =
     let z = c .before .before .before .before in
     (z .pre .0, (z .pre .1 .0, record { low = omega arith; high = z .pre .1 .1 }))
 
-copy-to-requires : tie.Need-copy-to-requires
-copy-to-requires c κs = omega arith
-
 returns-2 : tie.Need-returns-2
 unfolding zeros
 returns-2 c =
@@ -52,6 +49,6 @@ parent-digest-spec =
     (λ c. search needs)
     (λ c. search needs)
     (λ c. search needs)
-    copy-to-requires
+    (λ c κs. omega arith)
     (λ c. search needs)
     returns-2)

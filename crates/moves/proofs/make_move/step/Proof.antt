@@ -19,8 +19,8 @@ returns c =
 
 returns-2 : tie.Need-returns-2
 returns-2 c =
-    let after-settle = c .before .before in
-    let after-if2 = after-settle .before .before in
+    let after-output = c .before .before in
+    let after-if2 = after-output .before .before in
     let after-finalized = after-if2 .before in
     let after-new-finalized = after-finalized .before .before .before .before in
     let after-if1 = after-new-finalized .before .before .before in
@@ -29,7 +29,7 @@ returns-2 c =
     let s = decode (start .args .book .now) in
     let newest = after-new-finalized .new-finalized in
     let settled = after-finalized .finalized in
-    let taken = after-settle .settle in
+    let taken = after-output .output in
     took-as
     (step-output s (sym (after-dummy-vote-applies .dummy-vote-applies .ensures) ∙ after-if1 .if1 .left)
     (outputs s (newest .result) (settled .result) (newest .ensures .0) (settled .ensures .0)

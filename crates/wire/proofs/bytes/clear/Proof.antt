@@ -21,18 +21,6 @@ abbrev μ-loop : tie.MeasureT-loop
 loop-holds : tie.Need-loop-holds Inv-loop μ-loop
 loop-holds c = (omega arith, paste-zero (c .args .target .now) (c .args .at) (zeros (c .args .count)), refl)
 
-add-target : tie.Need-add-target Inv-loop μ-loop
-add-target c = omega arith
-
-slice-write-target : tie.Need-slice-write-target Inv-loop μ-loop
-slice-write-target c = omega arith
-
-add-i : tie.Need-add-i Inv-loop μ-loop
-add-i c = omega arith
-
-loop-less : tie.Need-loop-less Inv-loop μ-loop
-loop-less c = omega arith
-
 loop-again : tie.Need-loop-again Inv-loop μ-loop
 loop-again c =
     let at = c .before .loop in
@@ -60,10 +48,10 @@ clear-spec =
     Inv-loop
     μ-loop
     loop-holds
-    add-target
-    slice-write-target
-    add-i
-    loop-less
+    (λ c. omega arith)
+    (λ c. omega arith)
+    (λ c. omega arith)
+    (λ c. omega arith)
     loop-again
     same-length
     returns)

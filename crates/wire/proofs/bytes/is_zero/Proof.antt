@@ -20,15 +20,6 @@ abbrev μ-loop : tie.MeasureT-loop
 loop-holds : tie.Need-loop-holds Inv-loop μ-loop
 loop-holds c = (omega arith, scan-none)
 
-shared-slice-read-seen : tie.Need-shared-slice-read-seen Inv-loop μ-loop
-shared-slice-read-seen c = omega arith
-
-add-i : tie.Need-add-i Inv-loop μ-loop
-add-i c = omega arith
-
-loop-less : tie.Need-loop-less Inv-loop μ-loop
-loop-less c = omega arith
-
 loop-again : tie.Need-loop-again Inv-loop μ-loop
 loop-again c =
     let after-loop = c .before .before in
@@ -45,4 +36,4 @@ returns c =
 pub is-zero-spec : {M : Type 1} → statement M
 is-zero-spec =
     tie.close
-    (tie.spec Inv-loop μ-loop loop-holds shared-slice-read-seen add-i loop-less loop-again returns)
+    (tie.spec Inv-loop μ-loop loop-holds (λ c. omega arith) (λ c. omega arith) (λ c. omega arith) loop-again returns)

@@ -1,9 +1,9 @@
--- `settle` meets its contract: it writes the finalized height of the state after move 2.
+-- `output` meets its contract: it writes the finalized height of the state after move 2.
 use Rattle.protocol.specs.State.{decode}
 use Rattle.steps.specs.Laws.StepsLaws.{settled-answer, settled-book}
 use borrow.Author.Needs.{needs}
-use Rattle.steps.proofs.settle.Statement.{statement}
-use Rattle.steps.proofs.settle.Tie as tie
+use Rattle.steps.proofs.output.Statement.{statement}
+use Rattle.steps.proofs.output.Tie as tie
 
 returns : tie.Need-returns
 returns c =
@@ -15,5 +15,5 @@ returns c =
           (after-set-finalized .set-finalized .ensures),
     )
 
-pub settle-spec : {M : Type 1} → statement M
-settle-spec = tie.close (tie.spec (λ c κs. search needs) (λ c. search needs) returns)
+pub output-spec : {M : Type 1} → statement M
+output-spec = tie.close (tie.spec (λ c κs. search needs) (λ c. search needs) returns)
