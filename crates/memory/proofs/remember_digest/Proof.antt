@@ -1,5 +1,5 @@
--- `remember_digest` meets its contract: a digest that is known is the right one, and else it is stored before it is said
--- to be known.
+-- `remember_digest` meets its contract: a digest that is known is the right one, and else it is stored before it is
+-- said to be known.
 use native.Mathlib.Omega.{arith}
 use mathlib.Core.Path.{_≡_, ap, _∙_}
 use lib.ListN.{length}
