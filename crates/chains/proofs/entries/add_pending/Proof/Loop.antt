@@ -1,4 +1,4 @@
--- The loop of `add_pending`: after `k` places the first places of the pool are those that stay, and what follows from it.
+-- The loop of `add_pending`: after `k` places the pool begins with those of them that stay, and what follows from it.
 use Prim.Native.Nat.{_*_, _≤_, _-_}
 use native.Mathlib.Omega.{arith}
 use mathlib.Core.Path.{_≡_, ap, _∙_}

@@ -8,27 +8,29 @@ use Rattle.linking.proofs.Walk.{extends-by-digest, extends-not-run, ext
 use Rattle.linking.proofs.linking.extends.Reads as extends
 use Rattle.linking.proofs.linking.+extends+linked+links_back.Lts-extends as extends-lts
 use Rattle.linking.proofs.linking.linked.Reads as linked
-use Rattle.linking.proofs.linking.+extends+linked+links_back.Proof.Cycle.{extends-at, extends-claims}
+use Rattle.linking.proofs.linking.+extends+linked+links_back.Proof.Cycle as cycle
 
 module _ (t : ℕ) where
-  pub extends-linked-requires : extends-lts.Need-linked-requires (extends-claims t) (extends-at t) extends.Post
+  pub extends-linked-requires :
+      extends-lts.Need-linked-requires (cycle.extends-claims t) (cycle.extends-at t) extends.Post
   extends-linked-requires c κs =
       let z = c .before .before .before .before .before .before in
       (omega arith, (z .pre .1 .0, (z .pre .1 .1 .0, omega arith)))
 
   pub extends-dummies-after-requires :
-      extends-lts.Need-dummies-after-requires (extends-claims t) (extends-at t) extends.Post
+      extends-lts.Need-dummies-after-requires (cycle.extends-claims t) (cycle.extends-at t) extends.Post
   extends-dummies-after-requires c κs =
       let z = c .before .before .before .before .before .before .before .before .before .before .before in
       (z .pre .1 .0, (c .before .before .before .before .linked .ensures .1, (omega arith, omega arith)))
 
-  pub extends-names-parent-requires : extends-lts.Need-names-parent-requires (extends-claims t) (extends-at t) extends.Post
+  pub extends-names-parent-requires :
+      extends-lts.Need-names-parent-requires (cycle.extends-claims t) (cycle.extends-at t) extends.Post
   extends-names-parent-requires c κs =
       let z = c .before .before .before .before .before .before .before .before .before .before .before .before .before
       .before .before .before in
       (z .pre .1 .0, (c .before .before .before .before .dummies-after .ensures .1, (z .pre .1 .1 .1 .1, omega arith)))
 
-  pub extends-returns : extends-lts.Need-returns (extends-claims t) (extends-at t) extends.Post
+  pub extends-returns : extends-lts.Need-returns (cycle.extends-claims t) (cycle.extends-at t) extends.Post
   extends-returns c =
       let called = c .before .before in
       let third = called .before .before in
@@ -48,7 +50,7 @@ module _ (t : ℕ) where
         named .ensures .1,
       )
 
-  pub extends-returns-2 : extends-lts.Need-returns-2 (extends-claims t) (extends-at t) extends.Post
+  pub extends-returns-2 : extends-lts.Need-returns-2 (cycle.extends-claims t) (cycle.extends-at t) extends.Post
   extends-returns-2 c =
       let read = c .before .before .before .before .before .before .before .before .before .before .before in
       let z = read .before .before .before .before in
@@ -60,7 +62,7 @@ module _ (t : ℕ) where
         run .ensures .1,
       )
 
-  pub extends-returns-3 : extends-lts.Need-returns-3 (extends-claims t) (extends-at t) extends.Post
+  pub extends-returns-3 : extends-lts.Need-returns-3 (cycle.extends-claims t) (cycle.extends-at t) extends.Post
   extends-returns-3 c =
       let read = c .before .before .before .before .before .before in
       let z = read .before .before .before .before in
@@ -71,7 +73,7 @@ module _ (t : ℕ) where
         c .before .before .before .linked .ensures .1,
       )
 
-  pub extends-returns-4 : extends-lts.Need-returns-4 (extends-claims t) (extends-at t) extends.Post
+  pub extends-returns-4 : extends-lts.Need-returns-4 (cycle.extends-claims t) (cycle.extends-at t) extends.Post
   extends-returns-4 c =
       let read = c .before in
       let z = read .before .before .before .before in

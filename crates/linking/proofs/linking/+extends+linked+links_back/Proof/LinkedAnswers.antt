@@ -13,30 +13,31 @@ use Rattle.linking.proofs.linking.linked.Reads as linked
 use Rattle.linking.proofs.linking.+extends+linked+links_back.Lts-linked as linked-lts
 use Rattle.linking.proofs.linking.links_back.Reads as links-back
 use Rattle.linking.proofs.linking.+extends+linked+links_back.Lts-links_back as links-back-lts
-use Rattle.linking.proofs.linking.+extends+linked+links_back.Proof.Cycle.{linked-at, links-back-at, linked-claims, links-back-claims}
+use Rattle.linking.proofs.linking.+extends+linked+links_back.Proof.Cycle as cycle
 
 module _ (t : ℕ) where
-  pub linked-returns : linked-lts.Need-returns (linked-claims t) (linked-at t) linked.Post
+  pub linked-returns : linked-lts.Need-returns (cycle.linked-claims t) (cycle.linked-at t) linked.Post
   linked-returns c =
       let z = c .before .before .before in
       (sym (linked-start (viewOf (z .args .kind) (z .args .book .now)) (z .args .h) (c .if1 .taken)), z .pre .1 .1 .0)
 
-  pub linked-returns-2 : linked-lts.Need-returns-2 (linked-claims t) (linked-at t) linked.Post
+  pub linked-returns-2 : linked-lts.Need-returns-2 (cycle.linked-claims t) (cycle.linked-at t) linked.Post
   linked-returns-2 c =
       let z = c .before .before .before .before .before in
       (sym (z .pre .1 .1 .0 .each (z .args .h) (omega arith) .is-linked (c .if2 .taken)), z .pre .1 .1 .0)
 
-  pub linked-returns-3 : linked-lts.Need-returns-3 (linked-claims t) (linked-at t) linked.Post
+  pub linked-returns-3 : linked-lts.Need-returns-3 (cycle.linked-claims t) (cycle.linked-at t) linked.Post
   linked-returns-3 c =
       let z = c .before .before .before .before .before .before in
       (sym (z .pre .1 .1 .0 .each (z .args .h) (omega arith) .not-linked (c .if3 .taken)), z .pre .1 .1 .0)
 
-  pub linked-links-back-requires : linked-lts.Need-links-back-requires (linked-claims t) (linked-at t) linked.Post
+  pub linked-links-back-requires :
+      linked-lts.Need-links-back-requires (cycle.linked-claims t) (cycle.linked-at t) linked.Post
   linked-links-back-requires c κs =
       let z = c .before .before .before .before .before .before .before in
       (omega arith, (z .pre .1 .0, (z .pre .1 .1 .0, record { low = omega arith; high = z .pre .1 .1 .1 })))
 
-  pub linked-returns-4 : linked-lts.Need-returns-4 (linked-claims t) (linked-at t) linked.Post
+  pub linked-returns-4 : linked-lts.Need-returns-4 (cycle.linked-claims t) (cycle.linked-at t) linked.Post
   linked-returns-4 c =
       let z = c .before .before .before .before .before .before .before .before .before .before .before in
       let back = c .before .before .before .links-back in (
@@ -45,7 +46,7 @@ module _ (t : ℕ) where
             (back .ensures .1) (z .args .h) (omega arith) (sym (back .ensures .0) ∙ c .if4 .taken),
       )
 
-  pub linked-returns-5 : linked-lts.Need-returns-5 (linked-claims t) (linked-at t) linked.Post
+  pub linked-returns-5 : linked-lts.Need-returns-5 (cycle.linked-claims t) (cycle.linked-at t) linked.Post
   linked-returns-5 c =
       let z = c .before .before .before .before .before .before .before .before .before .before .before in
       let back = c .before .before .before .links-back in (
@@ -55,12 +56,13 @@ module _ (t : ℕ) where
       )
 
   pub links-back-extends-requires :
-      links-back-lts.Need-extends-requires (links-back-claims t) (links-back-at t) links-back.Post
+      links-back-lts.Need-extends-requires (cycle.links-back-claims t) (cycle.links-back-at t) links-back.Post
   links-back-extends-requires c κs =
       let z = c .before .before .before .before .before .before in
       (omega arith, (z .pre .1 .0, (z .pre .1 .1 .0, (z .pre .1 .1 .1, c .before .block .ensures .1))))
 
-  pub links-back-returns : links-back-lts.Need-returns (links-back-claims t) (links-back-at t) links-back.Post
+  pub links-back-returns :
+      links-back-lts.Need-returns (cycle.links-back-claims t) (cycle.links-back-at t) links-back.Post
   links-back-returns c =
       let z = c .before .before .before .before .before .before .before .before .before in
       let v = viewOf (z .args .kind) (z .args .book .now) in
@@ -73,7 +75,8 @@ module _ (t : ℕ) where
         c .before .before .extends .ensures .1,
       )
 
-  pub links-back-returns-2 : links-back-lts.Need-returns-2 (links-back-claims t) (links-back-at t) links-back.Post
+  pub links-back-returns-2 :
+      links-back-lts.Need-returns-2 (cycle.links-back-claims t) (cycle.links-back-at t) links-back.Post
   links-back-returns-2 c =
       let z = c .before .before .before .before in (
         sym (not-linked-without (viewOf (z .args .kind) (z .args .book .now)) (z .args .h) (z .pre .1 .1 .1 .low)
