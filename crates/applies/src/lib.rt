@@ -2,12 +2,12 @@
 // so that the step need not look for it again.
 pub mod found;
 
-use crate::found::Passing;
 use answers::answer::Certificate;
-use fields::head::current;
-use fields::head::flag;
-use fields::head::heights;
-use fields::head::is_running;
+use book_fields::head::current;
+use book_fields::head::flag;
+use book_fields::head::heights;
+use book_fields::head::is_running;
+use crate::found::Passing;
 use linking::links::Parent;
 ghost use mathlib.Core.Path.{_≡_};
 ghost use Prim.Native.Nat.{_≤_};
@@ -15,7 +15,7 @@ ghost use Rattle.sha256.specs.Digest.{sha256 as sha};
 ghost use Rattle.protocol.specs.State.{decode, bookHeights};
 ghost use Rattle.protocol.specs.Move.{parentBelow, newFinalized, dummyVoteApplies, blockVoteApplies};
 ghost use Rattle.protocol.specs.Block.{maximumHeights};
-ghost use Rattle.fields.specs.Book.{Readable, SoundBook};
+ghost use Rattle.book_fields.specs.Book.{Readable, SoundBook};
 ghost use Rattle.memory.specs.Memo.{Memo};
 ghost use Rattle.linking.specs.Parent.{parentOption};
 ghost use Rattle.applies.specs.Held.{heldExtends};
@@ -72,7 +72,7 @@ pub fn pass_applies(book: &[u8], known: &mut [u8]) -> Passing
         let c = current(book);
         if linking::links::linked(book, c, known) {
             Passing::By(Certificate::Page)
-        } else if fields::quorum::is_dummy(book, c) {
+        } else if book_fields::quorum::is_dummy(book, c) {
             match chain_below(book, known) {
                 Parent::At(_) => Passing::By(Certificate::Blank),
                 Parent::Nothing => Passing::Not,
@@ -94,7 +94,7 @@ pub fn propose_applies(book: &[u8], known: &mut [u8]) -> Parent
     ensures memo { λ _. ⌜ Memo (now (book .entry)) (now (known .exit)) ⌝ }
 {
     if is_running(book) {
-        if fields::height::leader(book, current(book)) == fields::head::own(book) {
+        if book_fields::height::leader(book, current(book)) == book_fields::head::own(book) {
             if flag(book, 8) {
                 Parent::Nothing
             } else {
@@ -135,8 +135,8 @@ fn proposal_extends(book: &[u8], known: &mut [u8]) -> bool
     ensures memo { λ _. ⌜ Memo (now (book .entry)) (now (known .exit)) ⌝ }
 {
     let c = current(book);
-    if fields::height::holds_proposal(book, c) {
-        linking::links::extends(book, c, fields::height::proposal(book, c), known)
+    if book_fields::height::holds_proposal(book, c) {
+        linking::links::extends(book, c, book_fields::height::proposal(book, c), known)
     } else {
         false
     }

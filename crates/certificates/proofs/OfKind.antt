@@ -11,7 +11,7 @@ use Rattle.protocol.specs.Frame.{frameOf, blockCertificate, dummyCertificate, f
 use Rattle.protocol.specs.Fetch.{hasCertificate}
 use Rattle.protocol.specs.Certificates.{certificateFrame}
 use Rattle.protocol.specs.Laws.TestsLaws.{le-or-lt}
-use Rattle.fields.specs.Numbered.{maskAt}
+use Rattle.book_fields.specs.Numbered.{maskAt}
 
 six-or-seven : (k : ℕ) → 6 ≤ k → k ≤ 7 → (k ≡ 6) ⊎ (k ≡ 7)
 six-or-seven k low high = ⊎-elim (λ l. inl (omega arith)) (λ l. inr (omega arith)) (le-or-lt k 6)

@@ -6,7 +6,7 @@ ghost use Rattle.protocol.specs.Bytes.{overFront};
 ghost use Rattle.protocol.specs.State.{decode};
 ghost use Rattle.protocol.specs.Fetch.{hasCertificate};
 ghost use Rattle.protocol.specs.Certificates.{certificateFrame};
-ghost use Rattle.fields.specs.Book.{Within, Readable};
+ghost use Rattle.book_fields.specs.Book.{Within, Readable};
 
 // Whether the book has the certificate of that kind and height. The masks of kinds 5 to 7 are the first three of a
 // height.
@@ -17,9 +17,9 @@ pub fn has_certificate(book: &[u8], kind: usize, height: usize) -> bool
     ensures { λ r. ⌜ r ≡ hasCertificate (decode (now (book .entry))) kind height ⌝ }
 {
     if kind == 5 {
-        fields::height::is_notarized(book, height)
+        book_fields::height::is_notarized(book, height)
     } else {
-        fields::quorum::quorum(book, fields::height::mask_at(book, height, kind - 5))
+        book_fields::quorum::quorum(book, book_fields::height::mask_at(book, height, kind - 5))
     }
 }
 
@@ -32,9 +32,9 @@ pub fn write_certificate(book: &[u8], kind: usize, height: usize, reply: &mut [u
     ensures { λ _. ⌜ now (reply .exit) ≡
         overFront (certificateFrame (decode (now (book .entry))) kind height) (now (reply .entry)) ⌝ }
 {
-    let mask = fields::height::mask_at(book, height, kind - 5);
+    let mask = book_fields::height::mask_at(book, height, kind - 5);
     if kind == 5 {
-        let block = fields::height::notarized(book, height);
+        let block = book_fields::height::notarized(book, height);
         frames::write_block_certificate(reply, height, mask, block);
     } else {
         frames::write_plain(reply, kind, 0, height, mask);

@@ -16,11 +16,11 @@ use Rattle.protocol.specs.Laws.FormedLaws.{Formed, formed}
 use Rattle.protocol.specs.Laws.LinkedLaws.{linked-parent}
 use Rattle.protocol.specs.Laws.ChainLaws.{log-suc, log-length, log-bound}
 use Rattle.protocol.specs.Laws.PiecesLaws.{join-append}
-use Rattle.fields.proofs.Places.{cut-part}
+use Rattle.book_fields.proofs.Places.{cut-part}
 use Rattle.sha256.specs.Digest.{sha256}
 use Rattle.chains.specs.Walkable.{WalkableAs}
-use Rattle.fields.specs.Book.{viewOf}
-use Rattle.fields.specs.declared.kind.Kind.{Kind}
+use Rattle.book_fields.specs.Book.{viewOf}
+use Rattle.book_fields.specs.declared.kind.Kind.{Kind}
 use Rattle.protocol.specs.Laws.EntriesLaws.{log-start, entries-next, entries-done, entries-length, join-entries}
 use Rattle.protocol.specs.Laws.EntriesLaws.{holds-first, holds-next, holds-none, holds-back, holds-front}
 use Rattle.protocol.specs.Laws.FrontLaws.{front-join, front-none}

@@ -17,8 +17,8 @@ use Rattle.protocol.specs.Laws.StateLaws.{decode-encode}
 use Rattle.protocol.specs.Laws.PoolLaws.{moved, moved-view, moved-last, moved-pending, moved-pieces, moved-shaped}
 use Rattle.protocol.specs.Laws.PoolLaws.{moved-entry, moved-more, without-short}
 use Rattle.protocol.specs.Laws.EntriesLaws.{lacked-sized, pending-all}
-use Rattle.fields.specs.Book.{Ready}
-use Rattle.fields.specs.Laws.BookLaws.{ready-state, ready-moved}
+use Rattle.book_fields.specs.Book.{Ready}
+use Rattle.book_fields.specs.Laws.BookLaws.{ready-state, ready-moved}
 use Rattle.sha256.specs.Digest.{sha256}
 use Rattle.chains.specs.Walkable.{Walkable}
 

@@ -6,9 +6,9 @@ use Rattle.protocol.specs.Bytes.{Bytes}
 use Rattle.protocol.specs.Block.{blockWellFormed}
 use Rattle.protocol.specs.State.{bookHeights}
 use Rattle.protocol.specs.View.{linked}
-use Rattle.fields.specs.Book.{Shown, viewOf}
-use Rattle.fields.specs.declared.kind.Kind.{Kind}
-use Rattle.fields.specs.declared.kind.Kind.the-variants.{Replica}
+use Rattle.book_fields.specs.Book.{Shown, viewOf}
+use Rattle.book_fields.specs.declared.kind.Kind.{Kind}
+use Rattle.book_fields.specs.declared.kind.Kind.the-variants.{Replica}
 use Rattle.sha256.specs.Digest.{sha256}
 
 -- a linked height of a book whose notarized blocks are all well formed

@@ -1,6 +1,6 @@
 // The entries of a chain of any kind of book: counting them, looking for one, and copying them out. Each walks back
 // through parent heights once and computes no digest.
-use fields::kind::Kind;
+use book_fields::kind::Kind;
 ghost use mathlib.Core.Path.{_≡_};
 ghost use Prim.Native.Nat.{_*_, _≤_};
 ghost use lib.ListN.{length};
@@ -8,7 +8,7 @@ ghost use Rattle.protocol.specs.Bytes.{join, holds, overFront};
 ghost use Rattle.protocol.specs.Block.{entryCount, entries};
 ghost use Rattle.protocol.specs.View.{logAt};
 ghost use Rattle.protocol.specs.State.{maximumEntries};
-ghost use Rattle.fields.specs.Book.{viewOf};
+ghost use Rattle.book_fields.specs.Book.{viewOf};
 ghost use Rattle.chains.specs.Walkable.{WalkableAs};
 
 // How many entries the chain that ends in height `h` has. Reads three bytes of each of its blocks, 63 at most.
@@ -19,7 +19,7 @@ pub fn chain_entries(kind: Kind, book: &[u8], h: usize) -> usize
     let mut sum = 0;
     let mut at = h;
     while 0 < at {
-        let block = fields::kind::block(kind, book, at);
+        let block = book_fields::kind::block(kind, book, at);
         sum += wire::block::entry_count(block);
         at = wire::block::parent_height(block);
     }
@@ -51,7 +51,7 @@ pub fn chain_holds(kind: Kind, book: &[u8], h: usize, entry: &[u8]) -> bool
 {
     let mut at = h;
     while 0 < at {
-        let block = fields::kind::block(kind, book, at);
+        let block = book_fields::kind::block(kind, book, at);
         if block_holds(block, entry) {
             return true;
         } else {
@@ -73,7 +73,7 @@ pub fn copy_chain(kind: Kind, book: &[u8], h: usize, count: usize, buffer: &mut 
     let mut end = count;
     let mut at = h;
     while 0 < at {
-        let block = fields::kind::block(kind, book, at);
+        let block = book_fields::kind::block(kind, book, at);
         let size = wire::block::entry_count(block);
         end -= size;
         wire::bytes::copy_to(buffer, 16 * end, &block[48..48 + 16 * size]);

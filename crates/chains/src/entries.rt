@@ -1,5 +1,5 @@
 // The entries of a replica's book: those of its chains, and its pending ones, in what a chain lacks.
-use fields::kind::Kind;
+use book_fields::kind::Kind;
 ghost use mathlib.Core.Path.{_≡_};
 ghost use mathlib.Core.List.{[], _∷_, _++_};
 ghost use Prim.Native.Nat.{_*_, _<_, _≤_};
@@ -10,7 +10,7 @@ ghost use Rattle.protocol.specs.State.{decode, pending, maximumPending, maximum
 ghost use Rattle.protocol.specs.View.{logAt};
 ghost use Rattle.protocol.specs.Move.{offered};
 ghost use Rattle.protocol.specs.Submit.{stillPending, withPending};
-ghost use Rattle.fields.specs.Book.{Readable, Ready, bookView, recoded};
+ghost use Rattle.book_fields.specs.Book.{Readable, Ready, bookView, recoded};
 ghost use Rattle.chains.specs.Walkable.{Walkable};
 
 // How many entries the chain that ends in height `h` has.
@@ -50,11 +50,11 @@ pub fn offer(book: &[u8], c: usize, j: usize, digest: &[u8], block: &mut [u8])
         overFront (newBlock c j (now (digest .entry)) (offered (decode (now (book .entry))) j)) (now (block .entry)) ⌝ }
 {
     wire::block::start_block(block, c, j, digest);
-    let count = fields::head::pending_count(book);
+    let count = book_fields::head::pending_count(book);
     let mut taken = 0;
     let mut k = 0;
     while k < count {
-        let entry = fields::pool::pending_entry(book, k);
+        let entry = book_fields::pool::pending_entry(book, k);
         if taken == 8 {
             return;
         } else if chain_holds(book, j, entry) {
@@ -73,12 +73,12 @@ pub fn unlogged_count(book: &[u8]) -> usize
     requires { ⌜ decode (now book) .pendingCount ≤ maximumPending ⌝ }
     ensures { λ r. ⌜ (r ≡ length (stillPending (decode (now (book .entry))))) × (r ≤ maximumPending) ⌝ }
 {
-    let finalized = fields::head::finalized(book);
-    let count = fields::head::pending_count(book);
+    let finalized = book_fields::head::finalized(book);
+    let count = book_fields::head::pending_count(book);
     let mut left = 0;
     let mut k = 0;
     while k < count {
-        if chain_holds(book, finalized, fields::pool::pending_entry(book, k)) {
+        if chain_holds(book, finalized, book_fields::pool::pending_entry(book, k)) {
             k += 1;
         } else {
             left += 1;
@@ -94,10 +94,10 @@ pub fn is_pending(book: &[u8], entry: &[u8]) -> bool
     requires { ⌜ decode (now book) .pendingCount ≤ maximumPending ⌝ }
     ensures { λ r. ⌜ r ≡ holds (now (entry .entry)) (pending (decode (now (book .entry)))) ⌝ }
 {
-    let count = fields::head::pending_count(book);
+    let count = book_fields::head::pending_count(book);
     let mut k = 0;
     while k < count {
-        if wire::bytes::same_bytes(entry, fields::pool::pending_entry(book, k)) {
+        if wire::bytes::same_bytes(entry, book_fields::pool::pending_entry(book, k)) {
             return true;
         } else {
             k += 1;
@@ -117,18 +117,18 @@ pub fn add_pending(book: &mut [u8], entry: &[u8])
     ensures { λ _. ⌜ now (book .exit) ≡ recoded (now (book .entry)) (λ s.
         withPending s (stillPending s ++ (now (entry .entry) ∷ []))) ⌝ }
 {
-    let log_height = fields::head::finalized(book);
-    let count = fields::head::pending_count(book);
+    let log_height = book_fields::head::finalized(book);
+    let count = book_fields::head::pending_count(book);
     let mut left = 0;
     let mut k = 0;
     while k < count {
-        if chain_holds(book, log_height, fields::pool::pending_entry(book, k)) {
+        if chain_holds(book, log_height, book_fields::pool::pending_entry(book, k)) {
             k += 1;
         } else {
-            changes::pool::move_entry(book, k, left);
+            book_changes::pool::move_entry(book, k, left);
             left += 1;
             k += 1;
         }
     }
-    changes::pool::finish_pool(book, left, entry);
+    book_changes::pool::finish_pool(book, left, entry);
 }

@@ -9,7 +9,7 @@ use Rattle.protocol.specs.Tests.{firstRefusal}
 use Rattle.protocol.specs.State.{Height, withHeight, encode, decode}
 use Rattle.protocol.specs.Answer.{Outcome, Delivery, unlessRefused}
 use Rattle.protocol.specs.Deliver.{clashRows, keep, kept}
-use Rattle.fields.specs.Numbered.{maskAt, withMaskAt}
+use Rattle.book_fields.specs.Numbered.{maskAt, withMaskAt}
 
 -- signers join mask `k` of a height, 1 of the dummy votes or 2 of the finalize statements, unless it holds them all
 unfoldable pub joinSigners : ℕ → Height → ℕ → Option Height

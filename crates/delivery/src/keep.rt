@@ -1,13 +1,13 @@
 // What each kind of frame changes at its height. Each function answers whether the book changed.
+use book_changes::height::set_mask;
+use book_changes::height::set_notarized;
+use book_changes::height::set_vote;
+use book_fields::height::holds_proposal;
+use book_fields::height::is_notarized;
+use book_fields::height::mask_at;
+use book_fields::height::voter_mask;
 use crate::notarize::notarize;
 use crate::notarize::notarize_with;
-use changes::height::set_mask;
-use changes::height::set_notarized;
-use changes::height::set_vote;
-use fields::height::holds_proposal;
-use fields::height::is_notarized;
-use fields::height::mask_at;
-use fields::height::voter_mask;
 use frames::frame_block;
 use frames::frame_block_digest;
 use frames::frame_digest;
@@ -25,7 +25,7 @@ ghost use Rattle.protocol.specs.Deliver.{keepProposal, keepBlockVote, keepBlock
 ghost use Rattle.protocol.specs.Mask.{maskLimit};
 ghost use Rattle.delivery.specs.Kept.{isKept, keptBook, joinSigners};
 ghost use Rattle.frame_refusals.specs.Given.{Spot, Read};
-ghost use Rattle.fields.specs.Book.{heightIn, bookView};
+ghost use Rattle.book_fields.specs.Book.{heightIn, bookView};
 
 // Keeps a proposal where none is held, and notarizes it if its votes are a quorum.
 fn keep_proposal(book: &mut [u8], h: usize, frame: &[u8]) -> bool
@@ -39,7 +39,7 @@ fn keep_proposal(book: &mut [u8], h: usize, frame: &[u8]) -> bool
         false
     } else {
         let digest = frame_block_digest(frame);
-        changes::height::set_proposal(book, h, frame_block(frame));
+        book_changes::height::set_proposal(book, h, frame_block(frame));
         notarize_with(book, h, &digest);
         true
     }

@@ -1,9 +1,9 @@
 // A held proposal with a quorum of kept votes becomes the notarized block of its height.
-use changes::height::notarize_held;
-use fields::height::holds_proposal;
-use fields::height::is_notarized;
-use fields::height::proposal;
-use fields::quorum::quorum;
+use book_changes::height::notarize_held;
+use book_fields::height::holds_proposal;
+use book_fields::height::is_notarized;
+use book_fields::height::proposal;
+use book_fields::quorum::quorum;
 use tally::voters_for;
 ghost use mathlib.Core.Path.{_≡_};
 ghost use mathlib.Core.Bool.{_&&_, not};
@@ -11,7 +11,7 @@ ghost use Rattle.sha256.specs.Digest.{sha256 as sha};
 ghost use Rattle.protocol.specs.State.{holdsProposal, isNotarized};
 ghost use Rattle.protocol.specs.Deliver.{notarize as notarized};
 ghost use Rattle.frame_refusals.specs.Given.{Spot};
-ghost use Rattle.fields.specs.Book.{heightIn, bookView, changed};
+ghost use Rattle.book_fields.specs.Book.{heightIn, bookView, changed};
 
 // Whether height `h` holds a proposal and has no notarized block yet.
 fn awaits_votes(book: &[u8], h: usize) -> bool

@@ -1,14 +1,14 @@
 // Fetch: the certificate of a kind and a height, for sending.
 use answers::answer::Answer;
+use book_fields::head::in_book;
 use certificates::has_certificate;
 use certificates::write_certificate;
-use fields::head::in_book;
 ghost use mathlib.Core.Path.{_≡_};
 ghost use mathlib.Core.Bool.{true};
 ghost use Rattle.sha256.specs.Digest.{sha256 as sha};
 ghost use Rattle.protocol.specs.Frame.{isCertificate};
 ghost use Rattle.protocol.specs.Fetch.{fetchCall};
-ghost use Rattle.fields.specs.Book.{Within, SoundBook};
+ghost use Rattle.book_fields.specs.Book.{Within, SoundBook};
 ghost use Rattle.answers.specs.Answers.{doneAnswer};
 
 // Whether a kind is a certificate's.

@@ -1,6 +1,6 @@
 // Open: a new book for `n` replicas, the replica's own number, and the leader of each height.
-use fields::bounds::MAXIMUM_HEIGHTS;
-use fields::bounds::MAXIMUM_REPLICAS;
+use book_fields::bounds::MAXIMUM_HEIGHTS;
+use book_fields::bounds::MAXIMUM_REPLICAS;
 ghost use mathlib.Core.Path.{_≡_};
 ghost use lib.Dec.{ltb};
 ghost use Rattle.protocol.specs.Bytes.{all};

@@ -1,14 +1,14 @@
 // Signal: the timer of the current height has fired.
 use answers::answer::Answer;
-use fields::head::flag;
-use fields::head::in_book;
+use book_fields::head::flag;
+use book_fields::head::in_book;
 ghost use mathlib.Core.Path.{_≡_};
 ghost use mathlib.Core.Bool.{_&&_, not};
 ghost use lib.Dec.{eqb};
 ghost use Rattle.sha256.specs.Digest.{sha256 as sha};
 ghost use Rattle.protocol.specs.State.{decode, flag as isFlagged, withTimerFired};
 ghost use Rattle.protocol.specs.Signal.{signalCall};
-ghost use Rattle.fields.specs.Book.{Readable, SoundBook, recoded};
+ghost use Rattle.book_fields.specs.Book.{Readable, SoundBook, recoded};
 ghost use Rattle.answers.specs.Answers.{doneAnswer};
 
 // Whether the height is the current one and its timer has not fired yet.
@@ -17,7 +17,7 @@ fn timer_runs(book: &[u8], height: usize) -> bool
     ensures { λ r. ⌜ r ≡
         (eqb height (decode (now (book .entry)) .current) && not (isFlagged 1 (decode (now (book .entry))))) ⌝ }
 {
-    let current = fields::head::current(book);
+    let current = book_fields::head::current(book);
     let fired = flag(book, 1);
     (height == current) & !fired
 }
@@ -27,7 +27,7 @@ fn fire(book: &mut [u8])
     requires { ⌜ SoundBook sha (now book) ⌝ }
     ensures { λ _. ⌜ now (book .exit) ≡ recoded (now (book .entry)) withTimerFired ⌝ }
 {
-    fields::head::set_flag(book, 1);
+    book_fields::head::set_flag(book, 1);
 }
 
 // The signal to a sound book.

@@ -6,7 +6,7 @@ use Rattle.protocol.specs.SoundState.{HeightRange}
 use Rattle.protocol.specs.Bytes.{Bytes}
 use Rattle.protocol.specs.Frame.{frameHeight}
 use Rattle.protocol.specs.State.{decode, at}
-use Rattle.fields.specs.Book.{Ready, Within}
+use Rattle.book_fields.specs.Book.{Ready, Within}
 
 -- a height of a book that can be read and written
 pub record Spot (book : Bytes) (h : ℕ) : Type 0 where

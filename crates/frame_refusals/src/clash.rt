@@ -1,11 +1,11 @@
 // Whether a frame that is read contradicts what its height keeps: refusals 8 and 10.
+use book_fields::height::holds_proposal;
+use book_fields::height::is_notarized;
+use book_fields::height::notarized;
+use book_fields::height::proposal;
+use book_fields::height::vote_digest;
+use book_fields::height::voter_mask;
 use crate::first::first_refusal;
-use fields::height::holds_proposal;
-use fields::height::is_notarized;
-use fields::height::notarized;
-use fields::height::proposal;
-use fields::height::vote_digest;
-use fields::height::voter_mask;
 use frames::frame_block;
 use frames::frame_digest;
 use frames::frame_kind;
@@ -19,7 +19,7 @@ ghost use Rattle.protocol.specs.State.{decode};
 ghost use Rattle.protocol.specs.Deliver.{clashRows};
 ghost use Rattle.frame_refusals.specs.Refusal.{refusalOf, voteAgrees};
 ghost use Rattle.frame_refusals.specs.Given.{Read};
-ghost use Rattle.fields.specs.Book.{heightIn};
+ghost use Rattle.book_fields.specs.Book.{heightIn};
 
 // Whether what a frame carries is what is kept, where that is to be asked.
 fn agrees(asked: bool, kept: &[u8], carried: &[u8]) -> bool

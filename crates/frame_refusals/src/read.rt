@@ -1,9 +1,9 @@
 // Whether a frame can be read over a book: refusals 4, 6, 5, 7 and 9, in document 01's order.
+use book_fields::head::heights;
+use book_fields::head::replicas;
+use book_fields::height::leader;
+use book_fields::quorum::quorum;
 use crate::first::first_refusal;
-use fields::head::heights;
-use fields::head::replicas;
-use fields::height::leader;
-use fields::quorum::quorum;
 use frames::frame_height;
 use frames::frame_kind;
 use frames::frame_mask;
@@ -16,7 +16,7 @@ ghost use lib.ListN.{length};
 ghost use Rattle.protocol.specs.Tests.{firstRefusal};
 ghost use Rattle.protocol.specs.State.{decode};
 ghost use Rattle.protocol.specs.Deliver.{readRows};
-ghost use Rattle.fields.specs.Book.{Within, Readable};
+ghost use Rattle.book_fields.specs.Book.{Within, Readable};
 ghost use Rattle.frame_refusals.specs.Refusal.{refusalOf, membersFit, leaderSigned, signersEnough, memberRows};
 
 // Whether the signer, or each signer of a certificate, is one of the book's replicas.

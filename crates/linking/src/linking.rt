@@ -1,8 +1,8 @@
 // Linked heights: a recursive walk over parent heights. A lent memory keeps what is known, so that in one call each
 // height is looked at once, each run of dummy blocks is counted once, and each block is digested once, however many
 // others name it.
+use book_fields::kind::Kind;
 use crate::links::Parent;
-use fields::kind::Kind;
 ghost use mathlib.Core.Path.{_≡_};
 ghost use Prim.Native.Nat.{_≤_};
 ghost use lib.ListN.{length};
@@ -12,7 +12,7 @@ ghost use Rattle.protocol.specs.Block.{parentDigest};
 ghost use Rattle.protocol.specs.State.{bookHeights};
 ghost use Rattle.protocol.specs.View.{digestAt, linked as isLinked, extends as doesExtend, isFinalized};
 ghost use Rattle.protocol.specs.View.{largestFinalized, parentOf};
-ghost use Rattle.fields.specs.Book.{Within, Shown, viewOf};
+ghost use Rattle.book_fields.specs.Book.{Within, Shown, viewOf};
 ghost use Rattle.memory.specs.Memo.{MemoAs};
 ghost use Rattle.linking.specs.Parent.{parentOption};
 
@@ -83,8 +83,14 @@ fn links_back(kind: Kind, book: &[u8], h: usize, known: &mut [u8]) -> bool
     ensures answer { λ r. ⌜ r ≡ isLinked sha (viewOf kind (now (book .entry))) h ⌝ }
     ensures memo { λ _. ⌜ MemoAs kind (now (book .entry)) (now (known .exit)) ⌝ }
 {
-    if fields::kind::has_block(kind, book, h) {
-        extends(kind, book, h, fields::kind::block(kind, book, h), known)
+    if book_fields::kind::has_block(kind, book, h) {
+        extends(
+            kind,
+            book,
+            h,
+            book_fields::kind::block(kind, book, h),
+            known,
+        )
     } else {
         false
     }
@@ -118,7 +124,7 @@ pub fn is_finalized(kind: Kind, book: &[u8], h: usize, known: &mut [u8]) -> bool
     ensures answer { λ r. ⌜ r ≡ isFinalized sha (viewOf kind (now (book .entry))) h ⌝ }
     ensures memo { λ _. ⌜ MemoAs kind (now (book .entry)) (now (known .exit)) ⌝ }
 {
-    if fields::kind::quorum(kind, book, fields::kind::finalize_mask(kind, book, h)) {
+    if book_fields::kind::quorum(kind, book, book_fields::kind::finalize_mask(kind, book, h)) {
         linked(kind, book, h, known)
     } else {
         false
@@ -158,7 +164,7 @@ pub fn parent_of(kind: Kind, book: &[u8], top: usize, known: &mut [u8]) -> Paren
         if linked(kind, book, h, known) {
             return Parent::At(h);
         }
-        if fields::kind::is_dummy(kind, book, h) {
+        if book_fields::kind::is_dummy(kind, book, h) {
             h -= 1;
         } else {
             return Parent::Nothing;

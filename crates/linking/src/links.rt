@@ -1,5 +1,5 @@
 // Linked heights of a replica's book: the walk at that kind of book.
-use fields::kind::Kind;
+use book_fields::kind::Kind;
 ghost use mathlib.Core.Path.{_≡_};
 ghost use Prim.Native.Nat.{_≤_};
 ghost use lib.ListN.{length};
@@ -7,7 +7,7 @@ ghost use Rattle.sha256.specs.Digest.{sha256 as sha};
 ghost use Rattle.protocol.specs.State.{bookHeights};
 ghost use Rattle.protocol.specs.View.{digestAt, linked as isLinked, extends as doesExtend, isFinalized};
 ghost use Rattle.protocol.specs.View.{largestFinalized, parentOf};
-ghost use Rattle.fields.specs.Book.{Within, Readable, bookView};
+ghost use Rattle.book_fields.specs.Book.{Within, Readable, bookView};
 ghost use Rattle.memory.specs.Memo.{Memo};
 ghost use Rattle.linking.specs.Parent.{parentOption};
 

@@ -6,14 +6,14 @@ ghost use Rattle.sha256.specs.Digest.{sha256 as sha};
 ghost use Rattle.protocol.specs.State.{decode, maximumEntries};
 ghost use Rattle.protocol.specs.Sound.{log};
 ghost use Rattle.protocol.specs.Read.{readPart, readBuffer};
-ghost use Rattle.fields.specs.Book.{SoundBook};
+ghost use Rattle.book_fields.specs.Book.{SoundBook};
 
 // How many entries the log of a sound book has. Reads two bytes of each of its blocks, 63 at most.
 pub fn log_count(book: &[u8]) -> usize
     requires { ⌜ SoundBook sha (now book) ⌝ }
     ensures { λ r. ⌜ (r ≡ length (log (decode (now (book .entry))))) × (r ≤ maximumEntries) ⌝ }
 {
-    let finalized = fields::head::finalized(book);
+    let finalized = book_fields::head::finalized(book);
     chains::entries::chain_entries(book, finalized)
 }
 
@@ -24,7 +24,7 @@ pub fn read_sound(book: &[u8], buffer: &mut [u8]) -> usize
     ensures length { λ r. ⌜ r ≡ length (readPart sha (now (book .entry)) (now (buffer .entry))) ⌝ }
     ensures buffer { λ _. ⌜ now (buffer .exit) ≡ readBuffer sha (now (book .entry)) (now (buffer .entry)) ⌝ }
 {
-    let finalized = fields::head::finalized(book);
+    let finalized = book_fields::head::finalized(book);
     let count = log_count(book);
     if 16 * count <= buffer.len() {
         chains::entries::copy_chain(book, finalized, count, buffer);

@@ -1,6 +1,6 @@
 // Submit: one more pending entry, after those that the log holds are dropped.
 use answers::answer::Answer;
-use fields::bounds::MAXIMUM_PENDING;
+use book_fields::bounds::MAXIMUM_PENDING;
 ghost use mathlib.Core.Path.{_≡_};
 ghost use mathlib.Core.Bool.{false};
 ghost use lib.ListN.{length};
@@ -10,7 +10,7 @@ ghost use Rattle.sha256.specs.Digest.{sha256 as sha};
 ghost use Rattle.protocol.specs.State.{decode, maximumPending};
 ghost use Rattle.protocol.specs.Submit.{stillPending, submitCall};
 ghost use Rattle.answers.specs.Answers.{doneAnswer};
-ghost use Rattle.fields.specs.Book.{SoundBook};
+ghost use Rattle.book_fields.specs.Book.{SoundBook};
 
 // Whether an entry is pending or in the log. Compares it with those pending, 32 at most, and with the log.
 fn is_known(book: &[u8], entry: &[u8]) -> bool
@@ -20,7 +20,7 @@ fn is_known(book: &[u8], entry: &[u8]) -> bool
     if chains::entries::is_pending(book, entry) {
         true
     } else {
-        let finalized = fields::head::finalized(book);
+        let finalized = book_fields::head::finalized(book);
         chains::entries::chain_holds(book, finalized, entry)
     }
 }
@@ -31,7 +31,7 @@ fn leaves_room(book: &[u8]) -> bool
     requires { ⌜ SoundBook sha (now book) ⌝ }
     ensures { λ r. ⌜ r ≡ ltb (length (stillPending (decode (now (book .entry))))) maximumPending ⌝ }
 {
-    let count = fields::head::pending_count(book);
+    let count = book_fields::head::pending_count(book);
     if count < MAXIMUM_PENDING {
         true
     } else {

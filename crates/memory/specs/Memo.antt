@@ -8,8 +8,8 @@ use Rattle.protocol.specs.Block.{maximumHeights}
 use Rattle.protocol.specs.State.{decode, bookHeights}
 use Rattle.protocol.specs.View.{View, linked, isDummy}
 use Rattle.protocol.specs.Sound.{view}
-use Rattle.fields.specs.Book.{viewOf}
-use Rattle.fields.specs.declared.kind.Kind.{Kind}
+use Rattle.book_fields.specs.Book.{viewOf}
+use Rattle.book_fields.specs.declared.kind.Kind.{Kind}
 use Rattle.sha256.specs.Digest.{sha256}
 
 -- the height below the run of dummies that ends at `h`: the dummy blocks of the heights after it up to `h` are

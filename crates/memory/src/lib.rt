@@ -1,14 +1,14 @@
 // What a call remembers of a book while it walks it, so that it looks at each height, counts each mask and computes
 // each digest once. A memory has 36 bytes a height: whether it is linked, whether its digest is known, where its run of
 // dummies starts (two bytes), and the digest.
-use fields::kind::Kind;
+use book_fields::kind::Kind;
 ghost use mathlib.Core.Path.{_≡_};
 ghost use Prim.Native.Nat.{_+_, _*_, _-_, _≤_};
 ghost use Rattle.sha256.specs.Digest.{sha256 as sha};
 ghost use Rattle.protocol.specs.Bytes.{part};
 ghost use Rattle.protocol.specs.State.{bookHeights};
 ghost use Rattle.protocol.specs.View.{dummyRun};
-ghost use Rattle.fields.specs.Book.{Within, Shown, viewOf};
+ghost use Rattle.book_fields.specs.Book.{Within, Shown, viewOf};
 ghost use Rattle.memory.specs.Memo.{MemoAs, runStart};
 
 // The size of a memory of the largest book.
@@ -27,7 +27,7 @@ pub fn remember_digest(kind: Kind, book: &[u8], j: usize, known: &mut [u8])
     if seen == 1 {
         return;
     }
-    let digest = sha256::sha256(fields::kind::block(kind, book, j));
+    let digest = sha256::sha256(book_fields::kind::block(kind, book, j));
     wire::bytes::copy_to(known, 36 * j + 4, &digest);
     known[36 * j + 1] = 1;
 }
@@ -49,7 +49,7 @@ fn run_start(kind: Kind, book: &[u8], h: usize, known: &mut [u8]) -> usize
     if 0 < seen {
         return seen - 1;
     }
-    if fields::kind::is_dummy(kind, book, h) {
+    if book_fields::kind::is_dummy(kind, book, h) {
         let start = run_start(kind, book, h - 1, known);
         wire::bytes::put_word(known, 36 * h + 2, start + 1);
         start

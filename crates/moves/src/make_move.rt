@@ -22,7 +22,7 @@ ghost use Rattle.memory.specs.Memo.{Memo};
 ghost use Rattle.answers.specs.Answers.{movedAnswer};
 ghost use Rattle.applies.specs.Took.{Took};
 ghost use Rattle.moves.specs.Later.{laterStep};
-ghost use Rattle.fields.specs.Book.{SoundBook};
+ghost use Rattle.book_fields.specs.Book.{SoundBook};
 
 // Moves 3, 4 and 5: the first that applies, and else none.
 fn later_step(book: &mut [u8], reply: &mut [u8], known: &mut [u8]) -> Moved
@@ -56,7 +56,7 @@ fn step(book: &mut [u8], reply: &mut [u8], known: &mut [u8]) -> Moved
         return cast_dummy_vote(book, reply);
     }
     let g = new_finalized(book, known);
-    if fields::head::finalized(book) < g {
+    if book_fields::head::finalized(book) < g {
         return output(book, g);
     }
     later_step(book, reply, known)

@@ -1,7 +1,7 @@
 // The step that move 3 takes: a pass to the next height, by the certificate that the move's test has found.
 use answers::answer::Certificate;
 use answers::answer::Moved;
-use fields::head::current;
+use book_fields::head::current;
 ghost use mathlib.Core.Path.{_≡_};
 ghost use mathlib.Core.Bool.{not};
 ghost use Prim.Native.Nat.{_≤_};
@@ -14,7 +14,7 @@ ghost use Rattle.protocol.specs.Move.{passStep, passesBy};
 ghost use Rattle.answers.specs.Answers.{certificateOf};
 ghost use Rattle.applies.specs.Took.{Took};
 ghost use Rattle.passing.specs.Second.{finalizeOn};
-ghost use Rattle.fields.specs.Book.{SoundBook, Readable};
+ghost use Rattle.book_fields.specs.Book.{SoundBook, Readable};
 
 // The kind of a certificate's frame.
 fn kind_of(by: Certificate) -> usize
@@ -31,7 +31,7 @@ fn in_time(book: &[u8]) -> bool
     requires { ⌜ Readable (now book) ⌝ }
     ensures { λ r. ⌜ r ≡ not (isFlagged 1 (decode (now (book .entry)))) ⌝ }
 {
-    !fields::head::flag(book, 1)
+    !book_fields::head::flag(book, 1)
 }
 
 // Writes a pass's second frame, from byte 224 on: a finalize statement, or zero bytes. Costs 224 stores.
@@ -43,7 +43,7 @@ fn write_pass_finalize(book: &[u8], reply: &mut [u8], finalizes: bool)
 {
     if finalizes {
         let c = current(book);
-        let signer = fields::head::own(book);
+        let signer = book_fields::head::own(book);
         frames::write_finalize(&mut reply[224..], signer, c);
     } else {
         wire::bytes::clear(reply, 224, 224);
@@ -65,6 +65,6 @@ pub fn pass(book: &mut [u8], reply: &mut [u8], by: Certificate) -> Moved
     let finalizes = in_time(book);
     certificates::write_certificate(book, kind, c, reply);
     write_pass_finalize(book, reply, finalizes);
-    fields::head::enter(book, c + 1);
+    book_fields::head::enter(book, c + 1);
     Moved::Pass(c, by, finalizes)
 }

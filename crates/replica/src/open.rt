@@ -11,7 +11,7 @@ pub fn open(book: &mut [u8], n: usize, own: usize, heights: usize, leaders: &[u8
 {
     if field_calls::open::numbers_fit(n, own, heights, leaders) {
         if book.len() == 576 + 880 * heights {
-            changes::fresh::new_book(book, n, own, leaders);
+            book_changes::fresh::new_book(book, n, own, leaders);
             Answer::Done
         } else {
             Answer::Refused(1)

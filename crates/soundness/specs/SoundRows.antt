@@ -11,7 +11,7 @@ use Rattle.protocol.specs.Block.{maximumHeights}
 use Rattle.protocol.specs.State.{decode, bookSize, isNotarized, bookHeights, maximumReplicas, maximumPending}
 use Rattle.protocol.specs.View.{quorum, isFinalized}
 use Rattle.protocol.specs.Sound.{masksBelow, blocksWellFormed, contentZeros}
-use Rattle.fields.specs.Book.{heightIn, bookView}
+use Rattle.book_fields.specs.Book.{heightIn, bookView}
 
 -- what the numbers of the head must be
 unfoldable pub numberRows : Bytes → List Bool

@@ -1,11 +1,11 @@
 // Soundness of a book: one pass over its bytes, and one digest for each block of the finalized chain.
-use fields::bounds::MAXIMUM_HEIGHTS;
-use fields::bounds::MAXIMUM_PENDING;
-use fields::bounds::MAXIMUM_REPLICAS;
-use fields::height::holds_proposal;
-use fields::height::is_notarized;
-use fields::height::notarized;
-use fields::height::proposal;
+use book_fields::bounds::MAXIMUM_HEIGHTS;
+use book_fields::bounds::MAXIMUM_PENDING;
+use book_fields::bounds::MAXIMUM_REPLICAS;
+use book_fields::height::holds_proposal;
+use book_fields::height::is_notarized;
+use book_fields::height::notarized;
+use book_fields::height::proposal;
 use memory::SIZE;
 use wire::bytes::byte;
 use wire::bytes::is_zero;
@@ -21,7 +21,7 @@ ghost use Rattle.protocol.specs.Block.{blockWellFormed};
 ghost use Rattle.protocol.specs.State.{decode, at, bookHeights};
 ghost use Rattle.protocol.specs.View.{quorum};
 ghost use Rattle.protocol.specs.Sound.{masksBelow, contentZeros, sound as isSound};
-ghost use Rattle.fields.specs.Book.{Within, Readable, heightIn};
+ghost use Rattle.book_fields.specs.Book.{Within, Readable, heightIn};
 ghost use Rattle.memory.specs.Memo.{Memo, memorySize};
 ghost use Rattle.soundness.specs.SoundRows.{numberRows, headRows, certificateRow, heightRows, bookRows, finalRow};
 
@@ -65,11 +65,11 @@ fn masks_sound(book: &[u8], h: usize) -> bool
     requires { ⌜ Within (now book) h ⌝ }
     ensures { λ r. ⌜ r ≡ masksBelow (decode (now (book .entry)) .n) (heightIn (now (book .entry)) h) ⌝ }
 {
-    let n = fields::head::replicas(book);
-    let certificate = below(n, fields::height::certificate_mask(book, h));
-    let dummy = below(n, fields::height::dummy_mask(book, h));
-    let finalize = below(n, fields::height::finalize_mask(book, h));
-    let voters = below(n, fields::height::voter_mask(book, h));
+    let n = book_fields::head::replicas(book);
+    let certificate = below(n, book_fields::height::certificate_mask(book, h));
+    let dummy = below(n, book_fields::height::dummy_mask(book, h));
+    let finalize = below(n, book_fields::height::finalize_mask(book, h));
+    let voters = below(n, book_fields::height::voter_mask(book, h));
     certificate & (dummy & (finalize & voters))
 }
 
@@ -91,7 +91,7 @@ fn certificate_sound(book: &[u8], h: usize) -> bool
     ensures { λ r. ⌜ r ≡ certificateRow (now (book .entry)) h ⌝ }
 {
     if is_notarized(book, h) {
-        fields::quorum::quorum(book, fields::height::certificate_mask(book, h))
+        book_fields::quorum::quorum(book, book_fields::height::certificate_mask(book, h))
     } else {
         true
     }
@@ -103,7 +103,7 @@ fn unused_sound(book: &[u8], h: usize) -> bool
     requires { ⌜ Within (now book) h ⌝ }
     ensures { λ r. ⌜ r ≡ isZero (contentZeros (now (book .entry)) h) ⌝ }
 {
-    let from = fields::height::content_at(h) + 10;
+    let from = book_fields::height::content_at(h) + 10;
     is_zero(&book[from..from + 6])
 }
 
@@ -113,9 +113,9 @@ fn height_sound(book: &[u8], h: usize) -> bool
     requires { ⌜ Within (now book) h ⌝ }
     ensures { λ r. ⌜ r ≡ allOf (heightRows (now (book .entry)) h) ⌝ }
 {
-    let leader = fields::height::leader(book, h) < fields::head::replicas(book);
+    let leader = book_fields::height::leader(book, h) < book_fields::head::replicas(book);
     let masks = masks_sound(book, h);
-    let status = fields::height::status(book, h) <= 3;
+    let status = book_fields::height::status(book, h) <= 3;
     let proposal = block_sound(holds_proposal(book, h), proposal(book, h), h);
     let notarized = block_sound(is_notarized(book, h), notarized(book, h), h);
     let certificate = certificate_sound(book, h);
@@ -129,7 +129,7 @@ fn heights_sound(book: &[u8]) -> bool
     ensures { λ r. ⌜ r ≡
         everyHeight (λ h. allOf (heightRows (now (book .entry)) h)) (bookHeights (now (book .entry))) ⌝ }
 {
-    let last = fields::head::heights(book);
+    let last = book_fields::head::heights(book);
     let mut h = 0;
     while h < last {
         if height_sound(book, h + 1) {
@@ -148,11 +148,11 @@ fn finalized_sound(book: &[u8], known: &mut [u8]) -> bool
     ensures answer { λ r. ⌜ r ≡ finalRow sha (now (book .entry)) ⌝ }
     ensures memo { λ _. ⌜ Memo (now (book .entry)) (now (known .exit)) ⌝ }
 {
-    let g = fields::head::finalized(book);
+    let g = book_fields::head::finalized(book);
     if g == 0 {
         true
     } else {
-        if g <= fields::head::heights(book) {
+        if g <= book_fields::head::heights(book) {
             linking::links::is_finalized(book, g, known)
         } else {
             false
@@ -165,7 +165,7 @@ fn finalized_alone(book: &[u8]) -> bool
     requires { ⌜ Readable (now book) ⌝ }
     ensures { λ r. ⌜ r ≡ finalRow sha (now (book .entry)) ⌝ }
 {
-    if fields::head::finalized(book) == 0 {
+    if book_fields::head::finalized(book) == 0 {
         return true;
     }
     let mut known = [0u8; SIZE];

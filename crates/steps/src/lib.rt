@@ -1,8 +1,8 @@
 // The steps of moves 1, 2, 4 and 5: each writes its frame to the front of the reply and what it changes to the book.
 use answers::answer::Moved;
-use fields::head::current;
-use fields::head::own;
-use fields::head::set_flag;
+use book_fields::head::current;
+use book_fields::head::own;
+use book_fields::head::set_flag;
 ghost use mathlib.Core.Path.{_≡_};
 ghost use mathlib.Core.Option.{some};
 ghost use Prim.Native.Nat.{_≤_};
@@ -19,7 +19,7 @@ ghost use Rattle.chains.specs.Walkable.{Walkable};
 ghost use Rattle.answers.specs.Answers.{movedAnswer};
 ghost use Rattle.applies.specs.Took.{Took};
 ghost use Rattle.steps.specs.Proposal.{proposalOn};
-ghost use Rattle.fields.specs.Book.{SoundBook};
+ghost use Rattle.book_fields.specs.Book.{SoundBook};
 
 // Move 1: casts the dummy vote. Costs 224 stores to the reply and one to the book.
 pub fn cast_dummy_vote(book: &mut [u8], reply: &mut [u8]) -> Moved
@@ -42,7 +42,7 @@ pub fn output(book: &mut [u8], g: usize) -> Moved
     ensures answer { λ r. ⌜ movedAnswer r ≡ accepted (outputStep sha (decode (now (book .entry))) .move) ⌝ }
     ensures book { λ _. ⌜ now (book .exit) ≡ encode (outputStep sha (decode (now (book .entry))) .after) ⌝ }
 {
-    fields::head::set_finalized(book, g);
+    book_fields::head::set_finalized(book, g);
     Moved::Final(g)
 }
 
@@ -90,7 +90,7 @@ pub fn cast_block_vote(book: &mut [u8], reply: &mut [u8]) -> Moved
 {
     let c = current(book);
     let signer = own(book);
-    let digest = sha256::sha256(fields::height::proposal(book, c));
+    let digest = sha256::sha256(book_fields::height::proposal(book, c));
     frames::write_block_vote(reply, signer, c, &digest);
     set_flag(book, 4);
     Moved::Vote(c)

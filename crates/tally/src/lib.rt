@@ -6,7 +6,7 @@ ghost use Rattle.protocol.specs.Bytes.{same};
 ghost use Rattle.protocol.specs.Mask.{inMask, maskLimit};
 ghost use Rattle.protocol.specs.State.{decode, at, voteOf, maximumReplicas};
 ghost use Rattle.protocol.specs.Deliver.{votersFor};
-ghost use Rattle.fields.specs.Book.{Readable, Within, heightIn};
+ghost use Rattle.book_fields.specs.Book.{Readable, Within, heightIn};
 
 // Whether replica `s` is one of the voters and its kept vote is for this digest. Compares at most 32 bytes.
 fn votes_for(book: &[u8], h: usize, s: usize, voters: usize, digest: &[u8]) -> bool
@@ -17,7 +17,7 @@ fn votes_for(book: &[u8], h: usize, s: usize, voters: usize, digest: &[u8]) -> b
         (inMask voters s && same (voteOf (heightIn (now (book .entry)) h) s) (now (digest .entry))) ⌝ }
 {
     if wire::mask::in_mask(voters, s) {
-        wire::bytes::same_bytes(fields::height::vote_digest(book, h, s), digest)
+        wire::bytes::same_bytes(book_fields::height::vote_digest(book, h, s), digest)
     } else {
         false
     }
@@ -31,8 +31,8 @@ pub fn voters_for(book: &[u8], h: usize, digest: &[u8]) -> usize
         votersFor (heightIn (now (book .entry)) h) (now (digest .entry)) (decode (now (book .entry)) .n) ⌝ }
     ensures small { λ r. ⌜ r < maskLimit ⌝ }
 {
-    let n = fields::head::replicas(book);
-    let voters = fields::height::voter_mask(book, h);
+    let n = book_fields::head::replicas(book);
+    let voters = book_fields::height::voter_mask(book, h);
     let mut mask = 0;
     let mut bit = 1;
     let mut s = 0;

@@ -2,7 +2,7 @@
 use mathlib.Core.Path.{sym, subst, _∙_}
 use Rattle.sha256.specs.Digest.{sha256}
 use Rattle.protocol.specs.State.{decode}
-use Rattle.fields.specs.Laws.HeadLaws.{current-high, current-within}
+use Rattle.book_fields.specs.Laws.HeadLaws.{current-high, current-within}
 use Rattle.linking.specs.declared.links.Parent.{Parent}
 use Rattle.applies.specs.Found.{PassFound}
 use Rattle.applies.specs.Laws.AppliesLaws.{pass-stopped, pass-page, onChain, pass-chain, pass-neither}

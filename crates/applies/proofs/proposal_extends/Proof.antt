@@ -3,9 +3,9 @@ use mathlib.Core.Path.{sym, ap, _∙_}
 use lib.ListN.{length}
 use Rattle.sha256.specs.Digest.{sha256}
 use Rattle.protocol.specs.State.{decode}
-use Rattle.fields.specs.Book.{Within}
-use Rattle.fields.specs.Laws.HeadLaws.{within-current}
-use Rattle.fields.proofs.Places.{height-shaped}
+use Rattle.book_fields.specs.Book.{Within}
+use Rattle.book_fields.specs.Laws.HeadLaws.{within-current}
+use Rattle.book_fields.proofs.Places.{height-shaped}
 use Rattle.applies.specs.Laws.AppliesLaws.{held-extends, held-none}
 use borrow.Author.Needs.{needs}
 use Rattle.applies.proofs.proposal_extends.Statement.{statement}

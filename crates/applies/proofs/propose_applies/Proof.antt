@@ -4,7 +4,7 @@ use Rattle.sha256.specs.Digest.{sha256}
 use Rattle.protocol.specs.State.{decode}
 use Rattle.applies.specs.Laws.AppliesLaws.{leads, leads-not, propose-stopped, propose-follows, propose-done}
 use Rattle.applies.specs.Laws.AppliesLaws.{propose-chain}
-use Rattle.fields.specs.Laws.HeadLaws.{current-within}
+use Rattle.book_fields.specs.Laws.HeadLaws.{current-within}
 use borrow.Author.Needs.{needs}
 use Rattle.applies.proofs.propose_applies.Statement.{statement}
 use Rattle.applies.proofs.propose_applies.Tie as tie

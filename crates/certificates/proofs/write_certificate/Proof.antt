@@ -5,7 +5,7 @@ use mathlib.Core.Path.{ap, _∙_}
 use lib.ListN.{length}
 use Rattle.protocol.specs.Bytes.{Bytes, overFront}
 use Rattle.protocol.specs.State.{decode}
-use Rattle.fields.proofs.Places.{notarized-size}
+use Rattle.book_fields.proofs.Places.{notarized-size}
 use Rattle.certificates.proofs.OfKind.{frame-block, frame-signers}
 use borrow.Author.Needs.{needs}
 use Rattle.certificates.proofs.write_certificate.Statement.{statement}

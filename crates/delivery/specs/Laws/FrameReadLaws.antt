@@ -16,8 +16,8 @@ use Rattle.protocol.specs.Laws.CodecLaws.{last-decode}
 use Rattle.protocol.specs.Laws.DeliverLaws.{read-facts}
 use Rattle.protocol.specs.Laws.GrantedLaws.{height-range}
 use Rattle.protocol.specs.Deliver.{readRows}
-use Rattle.fields.specs.Book.{Readable, SoundBook}
-use Rattle.fields.specs.Laws.BookLaws.{sound-book}
+use Rattle.book_fields.specs.Book.{Readable, SoundBook}
+use Rattle.book_fields.specs.Laws.BookLaws.{sound-book}
 use Rattle.frame_refusals.specs.Given.{Read}
 
 -- a sound book is readable

@@ -17,7 +17,7 @@ use Rattle.protocol.specs.Laws.CodecLaws.{last-decode}
 use Rattle.protocol.specs.Laws.PlaceLaws.{with-with, at-with, shaped-at, shaped-with}
 use Rattle.protocol.specs.Laws.ChangeLaws.{named-height}
 use Rattle.protocol.specs.Deliver.{withProposal, withVote, notarize}
-use Rattle.fields.specs.Laws.BookLaws.{ready-state, ready-height, same-heights, last-with-height}
+use Rattle.book_fields.specs.Laws.BookLaws.{ready-state, ready-height, same-heights, last-with-height}
 use Rattle.delivery.specs.Kept.{isKept, keptBook}
 use Rattle.frame_refusals.specs.Given.{Spot}
 

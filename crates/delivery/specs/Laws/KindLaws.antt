@@ -18,7 +18,7 @@ use Rattle.protocol.specs.Deliver.{keepDummyCertificate, keepFinalizeCertificat
 use Rattle.protocol.specs.Laws.DeliverLaws.{statement-kind, certificate-kind, keep-proposal, keep-block-vote}
 use Rattle.protocol.specs.Laws.DeliverLaws.{keep-dummy-vote, keep-finalize, keep-block-certificate}
 use Rattle.protocol.specs.Laws.DeliverLaws.{keep-dummy-certificate, keep-finalize-certificate}
-use Rattle.fields.specs.Numbered.{maskAt, withMaskAt}
+use Rattle.book_fields.specs.Numbered.{maskAt, withMaskAt}
 use Rattle.frames.specs.Parts.{signersOf}
 use Rattle.frames.specs.Laws.PartLaws.{one-signed, many-signed}
 use Rattle.delivery.specs.Kept.{joinSigners}

@@ -18,7 +18,7 @@ use Rattle.protocol.specs.Read.{logSize, sizeCall, readPart, readBuffer}
 use Rattle.chains.specs.Walkable.{Walkable}
 use Rattle.answers.specs.declared.answer.Size.the-variants as Size
 use Rattle.answers.specs.Answers.{sizeAnswer}
-use Rattle.fields.specs.Book.{SoundBook}
+use Rattle.book_fields.specs.Book.{SoundBook}
 
 -- ---- the log's chain
 pub walkable : (book : Bytes) (g : ℕ) → SoundBook sha256 book → g ≡ decode book .finalized → Walkable book g

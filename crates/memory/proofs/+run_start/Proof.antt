@@ -5,7 +5,7 @@ use native.Mathlib.Omega.{arith}
 use borrow.Author.Needs.{needs}
 use mathlib.Core.Path.{_≡_, sym, _∙_}
 use Rattle.protocol.specs.Bytes.{word16}
-use Rattle.fields.specs.Book.{viewOf}
+use Rattle.book_fields.specs.Book.{viewOf}
 use Rattle.memory.proofs.Runs.{start-zero, start-within, start-back, start-here}
 use Rattle.memory.proofs.Stores.{remember-run}
 use Prim.Native.Nat.{ℕ, _+_, _*_}

@@ -3,7 +3,7 @@
 use Prim.Native.Nat.{ℕ}
 use mathlib.Core.Path.{ap, _∙_}
 use lib.Dec.{leb}
-use Rattle.fields.specs.Book.{viewOf}
+use Rattle.book_fields.specs.Book.{viewOf}
 use Rattle.memory.proofs.Runs.{run-none, run-is}
 use borrow.Author.Needs.{needs}
 use Rattle.memory.proofs.dummies_after.Statement.{statement}

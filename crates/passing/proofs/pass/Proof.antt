@@ -1,8 +1,8 @@
 -- `pass` meets its contract: the second frame follows the first, and the head is that of the next height.
 use mathlib.Core.Path.{refl}
 use Rattle.protocol.specs.State.{decode}
-use Rattle.fields.specs.Laws.HeadLaws.{within-current}
-use Rattle.fields.proofs.Places.{notarized-size}
+use Rattle.book_fields.specs.Laws.HeadLaws.{within-current}
+use Rattle.book_fields.proofs.Places.{notarized-size}
 use Rattle.passing.specs.Laws.PassLaws.{took-pass}
 use borrow.Author.Needs.{needs}
 use Rattle.passing.proofs.pass.Statement.{statement}

@@ -16,8 +16,8 @@ use Rattle.protocol.specs.Laws.TestsLaws.{and-both, both-ways}
 use Rattle.protocol.specs.Laws.RowLaws.{row, by-rows, all-of, true-and, every-height-at, every-height, in-range}
 use Rattle.protocol.specs.Laws.RowLaws.{is-zero-byte, zeros-is-zero}
 use Rattle.protocol.specs.Laws.BytesLaws.{length-zeros}
-use Rattle.fields.specs.Laws.BookLaws.{readable as make-readable}
-use Rattle.fields.specs.Book.{Readable, heightIn}
+use Rattle.book_fields.specs.Laws.BookLaws.{readable as make-readable}
+use Rattle.book_fields.specs.Book.{Readable, heightIn}
 use Rattle.memory.specs.Memo.{Memo, memorySize}
 use Rattle.soundness.specs.SoundRows.{numberRows, headRows, heightRows, certificateRow, finalRow}
 use Rattle.protocol.specs.Laws.SoundRowNames.{lengthRow, replicasRow, ownRow, heightsRow, editionRow, currentRow}

@@ -7,7 +7,7 @@ use Rattle.protocol.specs.Tests.{inRange}
 use Rattle.protocol.specs.State.{decode, last}
 use Rattle.protocol.specs.Laws.CodecLaws.{last-decode}
 use Rattle.protocol.specs.Laws.RowLaws.{in-range, range-in}
-use Rattle.fields.specs.Book.{Within}
+use Rattle.book_fields.specs.Book.{Within}
 
 -- a height that the book has
 pub within : (book : Bytes) (h : ℕ) → inRange 1 (last (decode book)) h ≡ true → Within book h

@@ -23,8 +23,8 @@ use Rattle.protocol.specs.Laws.LinkedLaws.{linked-complete}
 use Rattle.protocol.specs.Laws.ParentLaws.{parent-some}
 use Rattle.protocol.specs.Move.{parentBelow, offered, proposedBlock}
 use Rattle.protocol.specs.Laws.LogLaws.{view-formed}
-use Rattle.fields.specs.Laws.BookLaws.{ready-state}
-use Rattle.fields.specs.Book.{SoundBook}
+use Rattle.book_fields.specs.Laws.BookLaws.{ready-state}
+use Rattle.book_fields.specs.Book.{SoundBook}
 use Rattle.chains.specs.Walkable.{Walkable}
 
 module _ (book : Bytes) (m : SoundBook sha256 book) where

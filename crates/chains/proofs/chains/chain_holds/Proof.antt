@@ -7,7 +7,7 @@ use Rattle.protocol.specs.State.{decode}
 use Rattle.protocol.specs.Sound.{view}
 use Rattle.protocol.specs.View.{logAt}
 use Rattle.chains.specs.Walkable.{WalkableAs}
-use Rattle.fields.specs.Book.{viewOf}
+use Rattle.book_fields.specs.Book.{viewOf}
 use Rattle.protocol.specs.Laws.EntriesLaws.{log-start, holds-none}
 use Rattle.chains.proofs.ChainWalk.{walk-step, walk-parent, walk-found, walk-on}
 use Rattle.chains.proofs.chains.chain_holds.Statement.{statement}

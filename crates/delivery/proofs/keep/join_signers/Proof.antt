@@ -4,7 +4,7 @@ use mathlib.Core.Path.{sym, ap, _∙_}
 use lib.Bits.{bitOr, or-lt}
 use borrow.Author.Tests.{eq-eqb, ne-eqb}
 use Rattle.protocol.specs.State.{decode, encode, at, withHeight}
-use Rattle.fields.specs.Numbered.{withMaskAt}
+use Rattle.book_fields.specs.Numbered.{withMaskAt}
 use Rattle.delivery.specs.Kept.{joinSigners}
 use Rattle.delivery.specs.Laws.KeepLaws.{known-frame, new-frame}
 use borrow.Author.Needs.{needs}

@@ -12,7 +12,7 @@ use Rattle.delivery.specs.Laws.KindLaws.{kind-one, kind-two, kind-five, 
 use borrow.Author.Needs.{needs}
 use Rattle.delivery.proofs.keep.keep.Statement.{statement}
 use Rattle.delivery.proofs.keep.keep.Tie as tie
-use Rattle.fields.specs.Laws.BookLaws.{few-replicas}
+use Rattle.book_fields.specs.Laws.BookLaws.{few-replicas}
 
 returns : tie.Need-returns
 returns c =

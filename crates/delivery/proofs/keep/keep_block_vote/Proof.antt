@@ -15,7 +15,7 @@ use Rattle.delivery.specs.Laws.KeepLaws.{spot-after, notarized-after}
 use borrow.Author.Needs.{needs}
 use Rattle.delivery.proofs.keep.keep_block_vote.Statement.{statement}
 use Rattle.delivery.proofs.keep.keep_block_vote.Tie as tie
-use Rattle.fields.specs.Laws.BookLaws.{few-replicas}
+use Rattle.book_fields.specs.Laws.BookLaws.{few-replicas}
 
 in-mask-requires : tie.Need-in-mask-requires
 in-mask-requires c κs =

@@ -12,7 +12,7 @@ use Rattle.frame_refusals.specs.Refusal.{voteAgrees}
 use borrow.Author.Needs.{needs}
 use Rattle.frame_refusals.proofs.clash.vote_agrees.Statement.{statement}
 use Rattle.frame_refusals.proofs.clash.vote_agrees.Tie as tie
-use Rattle.fields.specs.Laws.BookLaws.{few-replicas}
+use Rattle.book_fields.specs.Laws.BookLaws.{few-replicas}
 
 in-mask-requires : tie.Need-in-mask-requires
 in-mask-requires c κs =

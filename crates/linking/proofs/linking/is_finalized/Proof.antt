@@ -2,7 +2,7 @@
 -- else it is not.
 use Prim.Native.Nat.{ℕ}
 use mathlib.Core.Path.{sym, ap, _∙_}
-use Rattle.fields.specs.Book.{viewOf}
+use Rattle.book_fields.specs.Book.{viewOf}
 use Rattle.protocol.specs.View.{quorum}
 use Rattle.linking.proofs.Walk.{finalized-by-link, not-finalized-without}
 use borrow.Author.Needs.{needs}

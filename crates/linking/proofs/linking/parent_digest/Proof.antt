@@ -4,7 +4,7 @@ use native.Mathlib.Omega.{arith}
 use mathlib.Core.Path.{_∙_}
 use Rattle.protocol.specs.Bytes.{zeros}
 use Rattle.protocol.specs.Laws.BytesLaws.{length-zeros}
-use Rattle.fields.specs.Book.{viewOf}
+use Rattle.book_fields.specs.Book.{viewOf}
 use Rattle.linking.proofs.Walk.{digest-start, digest-copied}
 use borrow.Author.Needs.{needs}
 use Rattle.linking.proofs.linking.parent_digest.Statement.{statement}

@@ -5,7 +5,7 @@ use borrow.Fn.PlainCycle.{Measures, is, falls, and}
 use Rattle.memory.proofs.run_start.Reads as run-start
 use Rattle.memory.proofs.run_start.Kinds as run-start-kinds
 use Rattle.memory.proofs.+run_start.Lts-run_start as run-start-lts
-use Rattle.fields.proofs.kind.is_dummy.Reads as is-dummy-reads
+use Rattle.book_fields.proofs.kind.is_dummy.Reads as is-dummy-reads
 use Rattle.wire.proofs.bytes.put_word.Reads as put-word-reads
 use Rattle.wire.proofs.bytes.word.Reads as word-reads
 

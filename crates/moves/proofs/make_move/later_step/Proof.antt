@@ -3,7 +3,7 @@ use mathlib.Core.Path.{sym, subst, _∙_}
 use Rattle.sha256.specs.Digest.{sha256}
 use Rattle.protocol.specs.State.{decode}
 use Rattle.protocol.specs.Laws.MoveLaws.{propose-rows, block-vote-rows}
-use Rattle.fields.specs.Laws.HeadLaws.{running-high}
+use Rattle.book_fields.specs.Laws.HeadLaws.{running-high}
 use Rattle.applies.specs.Found.{PassFound, ProposeFound}
 use Rattle.moves.specs.Laws.OrderLaws.{later-pass, later-propose, later-vote, later-idle, pass-running}
 use Rattle.moves.specs.Laws.OrderLaws.{took-as, took-idle}

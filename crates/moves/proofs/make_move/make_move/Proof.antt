@@ -5,7 +5,7 @@ use lib.ListN.{length}
 use borrow.Author.Tests.{le-leb, lt-leb}
 use Rattle.protocol.specs.Bytes.{zeros}
 use Rattle.sha256.specs.Digest.{sha256}
-use Rattle.fields.specs.Laws.BookLaws.{sound-book}
+use Rattle.book_fields.specs.Laws.BookLaws.{sound-book}
 use Rattle.moves.specs.Laws.OrderLaws.{called, called-short, called-unsound}
 use borrow.Author.Needs.{needs}
 use Rattle.moves.proofs.make_move.make_move.Statement.{statement}

@@ -9,7 +9,7 @@ use Rattle.protocol.specs.State.{State, decode, encode, maximumPending}
 use Rattle.protocol.specs.Sound.{view, log}
 use Rattle.protocol.specs.View.{logAt}
 use Rattle.protocol.specs.Laws.PoolLaws.{moved}
-use Rattle.fields.specs.Book.{Ready}
+use Rattle.book_fields.specs.Book.{Ready}
 use Rattle.chains.proofs.Closing.{staying, closed-ready, closed-log}
 use Rattle.chains.proofs.Closing.{closed-place}
 use Rattle.chains.proofs.entries.add_pending.Tie as tie

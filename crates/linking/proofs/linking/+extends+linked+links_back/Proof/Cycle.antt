@@ -13,8 +13,8 @@ use Rattle.linking.proofs.linking.links_back.Reads as links-back
 use Rattle.linking.proofs.linking.links_back.Kinds as links-back-kinds
 use Rattle.linking.proofs.linking.+extends+linked+links_back.Lts-links_back as links-back-lts
 use Rattle.wire.proofs.block.parent_height.Reads as parent-height-reads
-use Rattle.fields.proofs.kind.has_block.Reads as has-block-reads
-use Rattle.fields.proofs.kind.block.Reads as block-reads
+use Rattle.book_fields.proofs.kind.has_block.Reads as has-block-reads
+use Rattle.book_fields.proofs.kind.block.Reads as block-reads
 use Rattle.memory.proofs.dummies_after.Reads as dummies-after-reads
 use Rattle.linking.proofs.linking.names_parent.Reads as names-parent-reads
 

@@ -3,7 +3,7 @@ use Prim.Native.Nat.{ℕ}
 use native.Mathlib.Omega.{arith}
 use mathlib.Core.Path.{sym, _∙_}
 use borrow.Author.Tests.{lt-ltb, le-ltb}
-use Rattle.fields.specs.Book.{viewOf}
+use Rattle.book_fields.specs.Book.{viewOf}
 use Rattle.linking.proofs.Walk.{extends-by-digest, extends-not-run, extends-not-linked, extends-not-below}
 use Rattle.linking.proofs.linking.extends.Reads as extends
 use Rattle.linking.proofs.linking.+extends+linked+links_back.Lts-extends as extends-lts

@@ -5,7 +5,7 @@ use mathlib.Core.Path.{sym, ap, _∙_}
 use Rattle.sha256.specs.Digest.{sha256}
 use Rattle.protocol.specs.Bytes.{Bytes}
 use Rattle.protocol.specs.View.{extends as extends-test}
-use Rattle.fields.specs.Book.{viewOf}
+use Rattle.book_fields.specs.Book.{viewOf}
 use Rattle.linking.proofs.Walk.{linked-start, linked-by-block, not-linked-without}
 use Rattle.memory.proofs.Stores.{remember-linked, remember-unlinked}
 use Rattle.linking.proofs.linking.extends.Reads as extends

@@ -1,0 +1,78 @@
+-- What is asked of a book: that it can be read, written, is sound. Each of these rungs has the one before it.
+use Prim.Native.Nat.{ℕ, _+_, _*_, _≤_}
+use mathlib.Core.Path.{_≡_}
+use mathlib.Core.Bool.{true}
+use lib.ListN.{length}
+use Rattle.protocol.specs.SoundState.{SoundState}
+use Rattle.protocol.specs.Bytes.{Bytes, byteAt}
+use Rattle.protocol.specs.Block.{maximumHeights}
+use Rattle.protocol.specs.State.{State, Height, at, last, decode, encode, withHeight, bookHeights, maximumReplicas}
+use Rattle.protocol.specs.View.{View}
+use Rattle.protocol.specs.Sound.{view, sound}
+use Rattle.book_fields.specs.declared.kind.Kind.{Kind}
+use Rattle.book_fields.specs.declared.kind.Kind.the-variants.{Replica}
+
+-- ---- short names for what contracts speak of
+-- what a book keeps of height `h`
+abbrev pub heightIn : Bytes → ℕ → Height
+heightIn book h = at (decode book) h
+
+-- the view that it gives
+abbrev pub bookView : Bytes → View
+bookView book = view (decode book)
+
+-- the book of a changed state
+abbrev pub recoded : Bytes → (State → State) → Bytes
+recoded book change = encode (change (decode book))
+
+-- the book with height `h` changed
+abbrev pub changed : Bytes → ℕ → (Height → Height) → Bytes
+changed book h change = encode (withHeight (decode book) h (change (heightIn book h)))
+
+-- ---- the kinds of books
+-- the view that a book of this kind gives
+abbrev pub viewOf : Kind → Bytes → View
+viewOf Replica book = bookView book
+
+-- the length is that of the H heights that the head says
+pub record Sized (book : Bytes) : Type 0 where
+  pub size : length book ≡ 576 + 880 * bookHeights book
+  -- these follow from the definition of `decode`, and stand here for the search to find
+  pub count : last (decode book) ≡ bookHeights book
+  pub n-byte : byteAt book 0 ≡ decode book .n
+  pub own-byte : byteAt book 1 ≡ decode book .own
+  pub flags-byte : byteAt book 3 ≡ decode book .flags
+  pub current-byte : byteAt book 4 ≡ decode book .current
+  pub finalized-byte : byteAt book 5 ≡ decode book .finalized
+  pub pending-byte : byteAt book 6 ≡ decode book .pendingCount
+
+-- the same of each kind
+abbrev pub SizedAs : Kind → Bytes → Type 0
+SizedAs Replica book = Sized book
+
+-- ---- the first rung: all that reading asks
+pub record Shown (kind : Kind) (book : Bytes) : Type 0 where
+  pub sized : SizedAs kind book
+  pub replicas : byteAt book 0 ≤ maximumReplicas
+  pub heights : bookHeights book ≤ maximumHeights
+
+-- of a replica's book
+abbrev pub Readable : Bytes → Type 0
+Readable book = Shown Replica book
+
+-- ---- the second rung: the bytes are those of the state that they say, which writing asks besides
+pub record Ready (book : Bytes) : Type 0 where
+  pub readable : Readable book
+  pub whole : encode (decode book) ≡ book
+
+-- ---- the third rung: what a call has found, with what soundness says of the state
+pub record SoundBook (digest : Bytes → Bytes) (book : Bytes) : Type 0 where
+  pub is-sound : sound digest book ≡ true
+  pub ready : Ready book
+  pub state : SoundState digest (decode book)
+  pub finalized-high : decode book .finalized ≤ bookHeights book
+
+-- ---- height `h` is one of the book's
+pub record Within (book : Bytes) (h : ℕ) : Type 0 where
+  pub low : 1 ≤ h
+  pub high : h ≤ bookHeights book

@@ -1,0 +1,75 @@
+// The kinds of books, and what the view of a book shows, read where it lies. What walks over heights asks these readers
+// alone, so that a kind with other places is one more arm here.
+ghost use mathlib.Core.Path.{_≡_};
+ghost use Prim.Native.Nat.{_<_};
+ghost use lib.ListN.{length};
+ghost use Rattle.protocol.specs.View.{quorum as isQuorum, isDummy};
+ghost use Rattle.protocol.specs.Mask.{maskLimit};
+ghost use Rattle.book_fields.specs.Book.{Within, Shown, viewOf};
+
+pub enum Kind {
+    Replica,
+}
+
+// Whether a block is notarized at height `h`.
+pub fn has_block(kind: Kind, book: &[u8], h: usize) -> bool
+    requires { ⌜ Shown kind (now book) ⌝ }
+    requires { ⌜ Within (now book) h ⌝ }
+    ensures { λ r. ⌜ r ≡ viewOf kind (now (book .entry)) .hasBlock h ⌝ }
+{
+    match kind {
+        Kind::Replica => crate::height::is_notarized(book, h),
+    }
+}
+
+// The place of the notarized block of height `h`, 176 bytes.
+pub fn block(kind: Kind, book: &[u8], h: usize) -> &[u8]
+    requires { ⌜ Shown kind (now book) ⌝ }
+    requires { ⌜ Within (now book) h ⌝ }
+    ensures block { λ r. ⌜ now r ≡ viewOf kind (now (book .entry)) .block h ⌝ }
+    ensures whole { λ r. ⌜ length (now r) ≡ 176 ⌝ }
+{
+    match kind {
+        Kind::Replica => crate::height::notarized(book, h),
+    }
+}
+
+pub fn dummy_mask(kind: Kind, book: &[u8], h: usize) -> usize
+    requires { ⌜ Shown kind (now book) ⌝ }
+    requires { ⌜ Within (now book) h ⌝ }
+    ensures { λ r. ⌜ (r ≡ viewOf kind (now (book .entry)) .dummyMask h) × (r < maskLimit) ⌝ }
+{
+    match kind {
+        Kind::Replica => crate::height::dummy_mask(book, h),
+    }
+}
+
+pub fn finalize_mask(kind: Kind, book: &[u8], h: usize) -> usize
+    requires { ⌜ Shown kind (now book) ⌝ }
+    requires { ⌜ Within (now book) h ⌝ }
+    ensures { λ r. ⌜ (r ≡ viewOf kind (now (book .entry)) .finalizeMask h) × (r < maskLimit) ⌝ }
+{
+    match kind {
+        Kind::Replica => crate::height::finalize_mask(book, h),
+    }
+}
+
+// Whether a mask holds two thirds of the book's replicas.
+pub fn quorum(kind: Kind, book: &[u8], mask: usize) -> bool
+    requires { ⌜ Shown kind (now book) ⌝ }
+    requires { ⌜ mask < maskLimit ⌝ }
+    ensures { λ r. ⌜ r ≡ isQuorum (viewOf kind (now (book .entry))) mask ⌝ }
+{
+    match kind {
+        Kind::Replica => crate::quorum::quorum(book, mask),
+    }
+}
+
+// Whether the dummy block of height `h` is notarized.
+pub fn is_dummy(kind: Kind, book: &[u8], h: usize) -> bool
+    requires { ⌜ Shown kind (now book) ⌝ }
+    requires { ⌜ Within (now book) h ⌝ }
+    ensures { λ r. ⌜ r ≡ isDummy (viewOf kind (now (book .entry))) h ⌝ }
+{
+    quorum(kind, book, dummy_mask(kind, book, h))
+}
