@@ -2,12 +2,12 @@
 // so that the step need not look for it again.
 pub mod found;
 
+use crate::found::Passing;
 use answers::answer::Certificate;
 use book_fields::head::current;
 use book_fields::head::flag;
 use book_fields::head::heights;
 use book_fields::head::is_running;
-use crate::found::Passing;
 use linking::links::Parent;
 ghost use mathlib.Core.Path.{_≡_};
 ghost use Prim.Native.Nat.{_≤_};

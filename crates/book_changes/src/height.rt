@@ -1,9 +1,9 @@
 // Changes of one height, in place: each is two or three writes that together make the changed state's bytes.
+use crate::inside::copy_inside;
 use book_fields::height::body_at;
 use book_fields::height::content_at;
 use book_fields::height::status;
 use book_fields::height::voter_mask;
-use crate::inside::copy_inside;
 use wire::bytes::copy_to;
 use wire::bytes::put_word;
 use wire::mask::bit;

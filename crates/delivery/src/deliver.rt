@@ -1,6 +1,6 @@
 // Deliver: reads a frame over the book, and keeps what it states.
-use answers::answer::Delivered;
 use crate::keep::keep;
+use answers::answer::Delivered;
 use frame_refusals::clash_refusal;
 use frame_refusals::read_refusal;
 use frames::frame_height;

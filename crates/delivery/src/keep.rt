@@ -1,4 +1,6 @@
 // What each kind of frame changes at its height. Each function answers whether the book changed.
+use crate::notarize::notarize;
+use crate::notarize::notarize_with;
 use book_changes::height::set_mask;
 use book_changes::height::set_notarized;
 use book_changes::height::set_vote;
@@ -6,8 +8,6 @@ use book_fields::height::holds_proposal;
 use book_fields::height::is_notarized;
 use book_fields::height::mask_at;
 use book_fields::height::voter_mask;
-use crate::notarize::notarize;
-use crate::notarize::notarize_with;
 use frames::frame_block;
 use frames::frame_block_digest;
 use frames::frame_digest;

@@ -1,11 +1,11 @@
 // Whether a frame that is read contradicts what its height keeps: refusals 8 and 10.
+use crate::first::first_refusal;
 use book_fields::height::holds_proposal;
 use book_fields::height::is_notarized;
 use book_fields::height::notarized;
 use book_fields::height::proposal;
 use book_fields::height::vote_digest;
 use book_fields::height::voter_mask;
-use crate::first::first_refusal;
 use frames::frame_block;
 use frames::frame_digest;
 use frames::frame_kind;

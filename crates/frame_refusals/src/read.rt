@@ -1,9 +1,9 @@
 // Whether a frame can be read over a book: refusals 4, 6, 5, 7 and 9, in document 01's order.
+use crate::first::first_refusal;
 use book_fields::head::heights;
 use book_fields::head::replicas;
 use book_fields::height::leader;
 use book_fields::quorum::quorum;
-use crate::first::first_refusal;
 use frames::frame_height;
 use frames::frame_kind;
 use frames::frame_mask;

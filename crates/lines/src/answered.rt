@@ -1,11 +1,11 @@
 // What a call answered, in the words of an exchange list.
+use crate::print::text;
+use crate::print::word;
 use answers::answer::Answer;
 use answers::answer::Certificate;
 use answers::answer::Delivered;
 use answers::answer::Moved;
 use answers::answer::Size;
-use crate::print::text;
-use crate::print::word;
 
 pub fn done(answer: Answer) {
     match answer {

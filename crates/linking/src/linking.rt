@@ -1,8 +1,8 @@
 // Linked heights: a recursive walk over parent heights. A lent memory keeps what is known, so that in one call each
 // height is looked at once, each run of dummy blocks is counted once, and each block is digested once, however many
 // others name it.
-use book_fields::kind::Kind;
 use crate::links::Parent;
+use book_fields::kind::Kind;
 ghost use mathlib.Core.Path.{_≡_};
 ghost use Prim.Native.Nat.{_≤_};
 ghost use lib.ListN.{length};
