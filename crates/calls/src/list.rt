@@ -5,6 +5,7 @@ use exchange_list::buffers::keep;
 use exchange_list::buffers::load;
 use exchange_list::line::call_text;
 use exchange_list::line::is_remark;
+use exchange_list::line::misfit;
 use exchange_list::operands::Operands;
 use exchange_list::operands::kept;
 use exchange_list::operands::read;
@@ -51,13 +52,6 @@ fn make(line: &[u8], memory: &mut [u8], table: &mut [usize; 32]) -> usize {
     };
     lend_front(line, size, &mut room, memory, table);
     0
-}
-
-// Names a line and the word in it that does not fit.
-fn misfit(line: usize, word: usize) {
-    lines::print::word(b"\nline", line);
-    lines::print::word(b", word", word);
-    text(b": it does not fit here");
 }
 
 // Prints a line, makes its call, and prints what comes of it.

@@ -1,5 +1,6 @@
-// Whether a line makes a call, and the part of it that says which.
+// Whether a line makes a call, the part of it that says which, and what is printed of one that does not fit.
 use crate::words::find;
+use lines::print::text;
 
 // Whether a line makes no call: it is empty, a remark or the heading.
 pub fn is_remark(line: &[u8]) -> bool {
@@ -20,4 +21,11 @@ pub fn call_text(line: &[u8]) -> &[u8] {
     }
     let end = sign - 1;
     &line[0..end]
+}
+
+// Names a line and the word in it that does not fit.
+pub fn misfit(line: usize, word: usize) {
+    lines::print::word(b"\nline", line);
+    lines::print::word(b", word", word);
+    text(b": it does not fit here");
 }
