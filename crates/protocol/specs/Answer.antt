@@ -21,6 +21,12 @@ pub data Delivery : Type 0 where
   known : Delivery
   fresh : Delivery
 
+-- the answer of a packet: how many of its frames were fresh, known and refused
+pub record Counts : Type 0 where
+  pub freshFrames : ℕ
+  pub knownFrames : ℕ
+  pub refusedFrames : ℕ
+
 -- which certificate a pass goes by
 pub data Certificate : Type 0 where
   onBlock : Certificate

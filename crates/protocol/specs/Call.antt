@@ -1,13 +1,14 @@
--- The eight calls as data, and what each one does: the book that it leaves, whether it is refused, the book that it
+-- The nine calls as data, and what each one does: the book that it leaves, whether it is refused, the book that it
 -- opens, the frames that it delivers and writes, and the part that it reads.
 use Prim.Native.Nat.{ℕ}
 use mathlib.Core.Bool.{Bool, true, cond}
 use mathlib.Core.List.{List, [], _∷_}
 use mathlib.Core.Option.{Option, some, none}
 use Rattle.protocol.specs.Bytes.{Bytes}
-use Rattle.protocol.specs.Answer.{Done, Delivery, Outcome, isAccepted}
+use Rattle.protocol.specs.Answer.{Done, Delivery, Counts, Outcome, isAccepted}
 use Rattle.protocol.specs.Open.{openCall}
 use Rattle.protocol.specs.Deliver.{deliverCall}
+use Rattle.protocol.specs.Packet.{packetFrames, acceptedOf, packetCall}
 use Rattle.protocol.specs.Move.{MoveOutcome, moveCall}
 use Rattle.protocol.specs.Signal.{signalCall}
 use Rattle.protocol.specs.Submit.{submitCall}
@@ -18,6 +19,7 @@ use Rattle.protocol.specs.Fetch.{FetchOutcome, fetchCall}
 pub data Call : Type 0 where
   opening : (n own heights : ℕ) (leaders : Bytes) → Call
   delivery : (frame : Bytes) → Call
+  packetDelivery : (packet : Bytes) → Call
   moving : (reply : Bytes) → Call
   signalling : (h : ℕ) → Call
   submitting : (entry : Bytes) → Call
@@ -38,7 +40,8 @@ pub record Effect : Type 0 where
   pub accepted : Bool
   -- of an opening that is not refused, what it opens
   pub opens : Option Opened
-  -- the frames that it delivers: that of a delivery that is not refused
+  -- the frames that it delivers: that of a delivery that is not refused; of a packet those that are not refused at
+  -- their turn, and of a refused packet none
   pub delivers : List Bytes
   -- the frames that it writes, by its answer: what lay in the lent reply was not written
   pub writes : List Bytes
@@ -66,6 +69,12 @@ ofDelivery frame o =
     let delivers : List Bytes = cond unrefused (frame ∷ []) [] in
     record { book = o .book; accepted = unrefused; opens = none; delivers = delivers; writes = []; reads = none }
 
+abbrev pub ofPacket : List Bytes → Outcome Counts → Effect
+ofPacket frames o =
+    let unrefused : Bool = isAccepted (o .answer) in
+    let delivers : List Bytes = cond unrefused frames [] in
+    record { book = o .book; accepted = unrefused; opens = none; delivers = delivers; writes = []; reads = none }
+
 abbrev pub ofMove : MoveOutcome → Effect
 ofMove o =
     let unrefused : Bool = isAccepted (o .answer) in
@@ -86,6 +95,8 @@ module _ (digest : Bytes → Bytes) where
   effect book (opening n own heights leaders) =
       ofOpening (record { n = n; own = own }) (openCall book n own heights leaders)
   effect book (delivery frame) = ofDelivery frame (deliverCall digest book frame)
+  effect book (packetDelivery packet) =
+      ofPacket (acceptedOf digest book (packetFrames packet)) (packetCall digest book packet)
   effect book (moving reply) = ofMove (moveCall digest book reply)
   effect book (signalling h) = ofOutcome (signalCall digest book h)
   effect book (submitting entry) = ofOutcome (submitCall digest book entry)

@@ -7,6 +7,7 @@ pub mod QuorumLaws
 pub mod FlagLaws
 pub mod MoveLaws
 pub mod DeliverLaws
+pub mod PacketLaws
 pub mod FetchLaws
 pub mod TestedLaws
 pub mod RowLaws

@@ -10,6 +10,7 @@ pub mod Sound
 pub mod Answer
 pub mod Open
 pub mod Deliver
+pub mod Packet
 pub mod Certificates
 pub mod Move
 pub mod Signal

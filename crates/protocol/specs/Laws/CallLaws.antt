@@ -10,15 +10,16 @@ use Rattle.protocol.specs.State.{Height, decode}
 use Rattle.protocol.specs.Answer.{Outcome, refused, isAccepted, unlessRefused}
 use Rattle.protocol.specs.Open.{openCall, openRows}
 use Rattle.protocol.specs.Deliver.{deliverCall, deliverRows, keep, kept}
+use Rattle.protocol.specs.Packet.{acceptedOf, packetCall, packetFrames, packetRows}
 use Rattle.protocol.specs.Move.{moveCall, moveRows, moved, step, unlessMoveRefused}
 use Rattle.protocol.specs.Signal.{signalCall, signalRows}
 use Rattle.protocol.specs.Submit.{submitCall, submitRows}
 use Rattle.protocol.specs.Read.{readPart}
 use Rattle.protocol.specs.Certificates.{certificateFrame}
 use Rattle.protocol.specs.Fetch.{fetchCall, fetchRows, unlessFetchRefused}
-use Rattle.protocol.specs.Call.{Call, Effect, Opened, opening, delivery, moving, signalling, submitting, sizing}
-use Rattle.protocol.specs.Call.{reading, fetching, effect, leaves, ofDelivery, ofFetch, ofMove, ofOpening}
-use Rattle.protocol.specs.Call.{ofOutcome}
+use Rattle.protocol.specs.Call.{Call, Effect, Opened, opening, delivery, packetDelivery, moving, signalling}
+use Rattle.protocol.specs.Call.{submitting, sizing, reading, fetching, effect, leaves, ofDelivery, ofFetch}
+use Rattle.protocol.specs.Call.{ofMove, ofOpening, ofOutcome, ofPacket}
 
 module _ (digest : Bytes → Bytes) (book : Bytes) where
   -- an effect that is nothing, if the call was refused
@@ -42,13 +43,16 @@ module _ (digest : Bytes → Bytes) (book : Bytes) where
   -- a refused call leaves the book as it was, opens none, delivers and writes no frame and reads nothing
   pub refused-does-nothing : (call : Call) → effect digest book call .accepted ≡ false →
       effect digest book call ≡ leaves book false
-  unfolding effect isAccepted openCall deliverCall signalCall submitCall
+  unfolding effect isAccepted openCall deliverCall packetCall signalCall submitCall
   refused-does-nothing (opening n own heights leaders) =
       unless-refused (ofOpening (record { n = n; own = own })) (λ number. refl) _ refl
       (firstRefusal (openRows book n own heights leaders))
   refused-does-nothing (delivery frame) =
       unless-refused (ofDelivery frame) (λ number. refl) _ (kept-accepted frame (keep digest (decode book) frame))
       (firstRefusal (deliverRows digest book frame))
+  refused-does-nothing (packetDelivery packet) =
+      unless-refused (ofPacket (acceptedOf digest book (packetFrames packet))) (λ number. refl) _ refl
+      (firstRefusal (packetRows digest book packet))
   refused-does-nothing (moving reply) = unfold moveCall in go (firstRefusal (moveRows digest book reply))
     where
       go : (r : Option ℕ) → NothingIfRefused (ofMove (unlessMoveRefused r book reply (step digest (decode book))))
@@ -103,6 +107,7 @@ module _ (digest : Bytes → Bytes) (book : Bytes) where
       let (unrefused-is, same) = accepts unrefused (record { n = n; own = own }) opened e in
       rw (← same) (heights, leaders, refl, unrefused-is)
   only-opening (delivery frame) opened e = nothing e
+  only-opening (packetDelivery packet) opened e = nothing e
   only-opening (moving reply) opened e = nothing e
   only-opening (signalling h) opened e = nothing e
   only-opening (submitting entry) opened e = nothing e
@@ -114,6 +119,7 @@ module _ (digest : Bytes → Bytes) (book : Bytes) where
   unfolding effect
   only-reading (opening n own heights leaders) part e = nothing e
   only-reading (delivery frame) part e = nothing e
+  only-reading (packetDelivery packet) part e = nothing e
   only-reading (moving reply) part e = nothing e
   only-reading (signalling h) part e = nothing e
   only-reading (submitting entry) part e = nothing e

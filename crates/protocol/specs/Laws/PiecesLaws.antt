@@ -65,6 +65,15 @@ pieces-next size count bytes k h =
 pub pieces-done : (size count : ℕ) (bytes : Bytes) (k : ℕ) → count ≤ k → drop k (pieces size count bytes) ≡ []
 pieces-done size count bytes k h = drop-of-length-le (pieces size count bytes) {i = k} (rw length-pieces h)
 
+-- one piece more, at the end
+pub pieces-more : (size count : ℕ) (bytes : Bytes) →
+    pieces size (suc count) bytes ≡ pieces size count bytes ++ (part bytes (size * count) size ∷ [])
+unfolding pieces part
+pieces-more size zero bytes = rw mul-zero
+pieces-more size (suc count) bytes =
+    let e : size + size * count ≡ size * suc count = omega arith in
+    ap (λ (l : List Bytes). take size bytes ∷ l) (pieces-more size count (drop size bytes)) ∙ rw (drop-drop, e)
+
 -- ---- cut and joined
 -- pieces of a joined list
 pub pieces-join : (k : ℕ) (xs : List Bytes) (rest : Bytes) → Every (Sized k) xs →

@@ -1,0 +1,100 @@
+-- Packets: the counts sum to the frames, the book is that of the deliveries, and what one frame more changes.
+use Prim.Native.Nat.{ℕ, suc, _+_, _/_, _%_}
+use native.Mathlib.Omega.{arith}
+use mathlib.Core.Path.{_≡_, refl, sym, ap, _∙_}
+use mathlib.Core.Bool.{true, false}
+use mathlib.Core.List.{List, [], _∷_, _++_, map}
+use lib.ListN.{length}
+use lib.Dec.{eqb}
+use Rattle.protocol.specs.Bytes.{Bytes}
+use Rattle.protocol.specs.Tests.{firstRefusal}
+use Rattle.protocol.specs.Frame.{frameSize}
+use Rattle.protocol.specs.Sound.{sound}
+use Rattle.protocol.specs.Answer.{Answer, Counts, Delivery, Outcome, refused, accepted, known, fresh}
+use Rattle.protocol.specs.Answer.{unlessRefused}
+use Rattle.protocol.specs.Deliver.{deliverCall, deliverAll}
+use Rattle.protocol.specs.Packet.{packetFrames, noFrames, countedIn, countAll, packetRows, packetCall}
+use Rattle.protocol.specs.Call.{delivery, effect, bookAfterAll}
+use Rattle.protocol.specs.Laws.PiecesLaws.{length-pieces}
+
+-- ---- counts
+-- all frames that are counted
+abbrev pub counted : Counts → ℕ
+counted c = c .freshFrames + c .knownFrames + c .refusedFrames
+
+one-more : (a : Answer Delivery) (c : Counts) → counted (countedIn a c) ≡ suc (counted c)
+unfolding countedIn
+one-more (accepted fresh) c = omega arith
+one-more (accepted known) c = omega arith
+one-more (refused number) c = omega arith
+
+-- in whichever order two frames are counted
+swapped : (a b : Answer Delivery) (c : Counts) → countedIn a (countedIn b c) ≡ countedIn b (countedIn a c)
+unfolding countedIn
+swapped (accepted fresh) (accepted fresh) c = refl
+swapped (accepted fresh) (accepted known) c = refl
+swapped (accepted fresh) (refused number) c = refl
+swapped (accepted known) (accepted fresh) c = refl
+swapped (accepted known) (accepted known) c = refl
+swapped (accepted known) (refused number) c = refl
+swapped (refused number) (accepted fresh) c = refl
+swapped (refused number) (accepted known) c = refl
+swapped (refused number) (refused other) c = refl
+
+module _ (digest : Bytes → Bytes) where
+  -- the three counts sum to the frames
+  pub counts-sum : (book : Bytes) (frames : List Bytes) → counted (countAll digest book frames) ≡ length frames
+  unfolding countAll noFrames
+  counts-sum book [] = refl
+  counts-sum book (frame ∷ frames) =
+      let o : Outcome Delivery = deliverCall digest book frame in
+      one-more (o .answer) (countAll digest (o .book) frames) ∙ ap suc (counts-sum (o .book) frames)
+
+  -- ---- one frame more, at the end
+  pub deliver-more : (book : Bytes) (frames : List Bytes) (frame : Bytes) →
+      deliverAll digest book (frames ++ (frame ∷ [])) ≡ deliverCall digest (deliverAll digest book frames) frame .book
+  unfolding deliverAll
+  deliver-more book [] frame = refl
+  deliver-more book (f ∷ frames) frame = deliver-more (deliverCall digest book f .book) frames frame
+
+  pub count-more : (book : Bytes) (frames : List Bytes) (frame : Bytes) →
+      countAll digest book (frames ++ (frame ∷ [])) ≡
+      countedIn (deliverCall digest (deliverAll digest book frames) frame .answer) (countAll digest book frames)
+  unfolding countAll deliverAll
+  count-more book [] frame = refl
+  count-more book (f ∷ frames) frame =
+      let o : Outcome Delivery = deliverCall digest book f in
+      ap (countedIn (o .answer)) (count-more (o .book) frames frame)
+      ∙ swapped (o .answer) _ (countAll digest (o .book) frames)
+
+  -- ---- the book is that of delivering each frame by itself
+  pub deliver-calls : (book : Bytes) (frames : List Bytes) →
+      deliverAll digest book frames ≡ bookAfterAll digest book (map delivery frames)
+  unfolding deliverAll bookAfterAll effect
+  deliver-calls book [] = refl
+  deliver-calls book (frame ∷ frames) = deliver-calls (deliverCall digest book frame .book) frames
+
+  -- ---- the call, by its rows
+  module _ (book packet : Bytes) where
+    pub packet-unsound : sound digest book ≡ false →
+        packetCall digest book packet ≡ record { answer = refused 1; book = book }
+    unfolding packetCall packetRows firstRefusal unlessRefused
+    packet-unsound damaged = rw damaged
+
+    pub packet-uneven : sound digest book ≡ true → eqb (length packet % frameSize) 0 ≡ false →
+        packetCall digest book packet ≡ record { answer = refused 15; book = book }
+    unfolding packetCall packetRows firstRefusal unlessRefused
+    packet-uneven ok odd = rw (ok, odd)
+
+    pub packet-delivers : sound digest book ≡ true → eqb (length packet % frameSize) 0 ≡ true →
+        packetCall digest book packet ≡ record {
+          answer = accepted (countAll digest book (packetFrames packet));
+          book = deliverAll digest book (packetFrames packet);
+        }
+    unfolding packetCall packetRows firstRefusal unlessRefused
+    packet-delivers ok whole = rw (ok, whole)
+
+    -- the counts of a packet sum to its frames
+    pub packet-sums : counted (countAll digest book (packetFrames packet)) ≡ length packet / frameSize
+    unfolding packetFrames
+    packet-sums = counts-sum book _ ∙ length-pieces frameSize (length packet / frameSize) packet
