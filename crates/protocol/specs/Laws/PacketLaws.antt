@@ -1,9 +1,10 @@
 -- Packets: the counts sum to the frames, the book is that of the deliveries, and what one frame more changes.
 use Prim.Native.Nat.{ℕ, suc, _+_, _/_, _%_}
 use native.Mathlib.Omega.{arith}
-use mathlib.Core.Path.{_≡_, refl, sym, ap, _∙_}
-use mathlib.Core.Bool.{true, false}
+use mathlib.Core.Path.{_≡_, refl, ap, _∙_}
+use mathlib.Core.Bool.{Bool, true, false}
 use mathlib.Core.List.{List, [], _∷_, _++_, map}
+use mathlib.Core.Option.{Option, some, none}
 use lib.ListN.{length}
 use lib.Dec.{eqb}
 use Rattle.protocol.specs.Bytes.{Bytes}
@@ -11,7 +12,7 @@ use Rattle.protocol.specs.Tests.{firstRefusal}
 use Rattle.protocol.specs.Frame.{frameSize}
 use Rattle.protocol.specs.Sound.{sound}
 use Rattle.protocol.specs.Answer.{Answer, Counts, Delivery, Outcome, refused, accepted, known, fresh}
-use Rattle.protocol.specs.Answer.{unlessRefused}
+use Rattle.protocol.specs.Answer.{isAccepted, unlessRefused}
 use Rattle.protocol.specs.Deliver.{deliverCall, deliverAll}
 use Rattle.protocol.specs.Packet.{packetFrames, noFrames, countedIn, countAll, packetRows, packetCall}
 use Rattle.protocol.specs.Call.{delivery, effect, bookAfterAll}
@@ -93,6 +94,23 @@ module _ (digest : Bytes → Bytes) where
         }
     unfolding packetCall packetRows firstRefusal unlessRefused
     packet-delivers ok whole = rw (ok, whole)
+
+    -- a packet is refused and leaves the book, or is not and delivers its frames
+    pub packet-cases : (P : Bool → Bytes → Type 0) → P false book → P true (deliverAll digest book (packetFrames packet)) →
+        P (isAccepted (packetCall digest book packet .answer)) (packetCall digest book packet .book)
+    unfolding packetCall unlessRefused isAccepted
+    packet-cases P refuses delivers = go (firstRefusal (packetRows digest book packet))
+      where
+        delivered : Outcome Counts
+        delivered = record {
+          answer = accepted (countAll digest book (packetFrames packet));
+          book = deliverAll digest book (packetFrames packet);
+        }
+
+        go : (r : Option ℕ) →
+            P (isAccepted (unlessRefused r book delivered .answer)) (unlessRefused r book delivered .book)
+        go none = delivers
+        go (some number) = refuses
 
     -- the counts of a packet sum to its frames
     pub packet-sums : counted (countAll digest book (packetFrames packet)) ≡ length packet / frameSize
