@@ -1,5 +1,5 @@
 -- Packets: one call delivers frames that stand one after the other, in order, and counts what became of them.
-use Prim.Native.Nat.{_+_, _/_, _%_}
+use Prim.Native.Nat.{ℕ, _+_, _/_, _%_}
 use mathlib.Core.Bool.{cond}
 use mathlib.Core.List.{List, [], _∷_, _++_}
 use lib.ListN.{length}
@@ -19,6 +19,10 @@ packetFrames packet = pieces frameSize (length packet / frameSize) packet
 -- ---- counts
 unfoldable pub noFrames : Counts
 noFrames = record { freshFrames = 0; knownFrames = 0; refusedFrames = 0 }
+
+-- all frames that are counted
+abbrev pub counted : Counts → ℕ
+counted c = c .freshFrames + c .knownFrames + c .refusedFrames
 
 -- one frame more, by what its own delivery answers
 unfoldable pub countedIn : Answer Delivery → Counts → Counts
