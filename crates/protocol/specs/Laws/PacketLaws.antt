@@ -1,8 +1,8 @@
 -- Packets: the counts sum to the frames, the book is that of the deliveries, and what one frame more changes.
-use Prim.Native.Nat.{ℕ, suc, _*_, _/_, _%_}
+use Prim.Native.Nat.{ℕ, suc, _+_, _*_, _/_, _%_}
 use native.Mathlib.Omega.{arith}
 use mathlib.Core.Path.{_≡_, refl, sym, ap, _∙_}
-use mathlib.Core.Bool.{Bool, true, false, true≢false}
+use mathlib.Core.Bool.{Bool, true, false, cond, true≢false}
 use mathlib.Core.List.{List, [], _∷_, _++_, map}
 use mathlib.Core.Option.{Option, some, none}
 use lib.ListN.{length}
@@ -15,8 +15,8 @@ use Rattle.protocol.specs.Sound.{sound}
 use Rattle.protocol.specs.Answer.{Answer, Counts, Delivery, Outcome, refused, accepted, known, fresh}
 use Rattle.protocol.specs.Answer.{isAccepted, unlessRefused}
 use Rattle.protocol.specs.Deliver.{deliverCall, deliverAll}
-use Rattle.protocol.specs.Packet.{packetFrames, noFrames, counted, countedIn, countAll, packetRows}
-use Rattle.protocol.specs.Packet.{packetCall}
+use Rattle.protocol.specs.Packet.{packetFrames, noFrames, counted, countedIn, countAll, acceptedOf}
+use Rattle.protocol.specs.Packet.{packetRows, packetCall}
 use Rattle.protocol.specs.Call.{delivery, effect, bookAfterAll}
 use Rattle.protocol.specs.Laws.PiecesLaws.{length-pieces}
 use Rattle.protocol.specs.Laws.RowLaws.{by-tested}
@@ -49,6 +49,28 @@ module _ (digest : Bytes → Bytes) where
   counts-sum book (frame ∷ frames) =
       let o : Outcome Delivery = deliverCall digest book frame in
       one-more (o .answer) (countAll digest (o .book) frames) ∙ ap suc (counts-sum (o .book) frames)
+
+  -- those that are not refused at their turn are the fresh and the known ones
+  told : Answer Delivery → Bytes → List Bytes
+  told a frame = cond (isAccepted a) (frame ∷ []) []
+
+  one-told : (a : Answer Delivery) (frame : Bytes) (later : List Bytes) (c : Counts) →
+      length later ≡ c .freshFrames + c .knownFrames →
+      length (told a frame ++ later) ≡ countedIn a c .freshFrames + countedIn a c .knownFrames
+  unfolding countedIn told isAccepted
+  one-told (accepted fresh) frame later c e = omega arith
+  one-told (accepted known) frame later c e = omega arith
+  one-told (refused number) frame later c e = omega arith
+
+  pub accepted-counted : (book : Bytes) (frames : List Bytes) →
+      length (acceptedOf digest book frames) ≡
+      countAll digest book frames .freshFrames + countAll digest book frames .knownFrames
+  unfolding acceptedOf countAll noFrames told
+  accepted-counted book [] = refl
+  accepted-counted book (frame ∷ frames) =
+      let o : Outcome Delivery = deliverCall digest book frame in
+      one-told (o .answer) frame (acceptedOf digest (o .book) frames) (countAll digest (o .book) frames)
+      (accepted-counted (o .book) frames)
 
   -- ---- one frame more, at the end
   pub deliver-more : (book : Bytes) (frames : List Bytes) (frame : Bytes) →
