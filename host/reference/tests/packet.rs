@@ -39,6 +39,14 @@ fn as_one_by_one(book: &mut [u8], frames: &[FrameBytes]) -> Result<Counts, u8> {
     answer
 }
 
+/// Delivers the frames of a packet singly after it: those that it took are known, the others refused again.
+#[track_caller]
+fn singly_afterwards(book: &mut [u8], frames: &[FrameBytes], counted: Counts) {
+    let Counts { fresh, known, refused } = counted;
+    let again = Counts { fresh: 0, known: fresh + known, refused };
+    assert_eq!(one_by_one(book, frames), again);
+}
+
 /// A packet that must be refused, and change nothing.
 #[track_caller]
 fn refused(book: &[u8], packet: &[u8]) -> u8 {
@@ -139,6 +147,7 @@ fn random_packets_on_random_books() {
             frames.extend_from_within(..frames.len() / 2);
         }
         let counted = as_one_by_one(&mut book, &frames).unwrap();
+        singly_afterwards(&mut book, &frames, counted);
         sum.fresh += counted.fresh;
         sum.known += counted.known;
         sum.refused += counted.refused;
