@@ -29,7 +29,7 @@ fn blank(signer: u8) -> [u8; FRAME] {
 }
 
 fn refused_frames<C: Calls>(to: &mut Recorder<C>) {
-    to.part("A refused frame of a packet is counted, and the rest goes on: the first one, one amid good ones, the last");
+    to.part("A refused frame of a packet is counted and the rest goes on: the first, one amid good ones, the last");
     to.open(BOOK, 4, 2, &[0]);
     to.packet(BOOK, &[MALFORMED, blank(0)]);
     to.packet(BOOK, &[blank(1), blank(4), blank(3)]);
@@ -58,7 +58,7 @@ fn frames_that_meet<C: Calls>(to: &mut Recorder<C>) {
 }
 
 fn completed_page<C: Calls>(to: &mut Recorder<C>) {
-    to.part("A packet with a page's votes and, behind them, its proposal notarises the page; only Move passes the height");
+    to.part("A packet with a page's votes and then its proposal notarises the page; only Move passes the height");
     to.open(BOOK, 4, 2, &[0]);
     let block = first(1, &[entry("swap A1 B2")]);
     let mut frames: Vec<Frame> = [3, 0, 1].map(|signer| vote(signer, &block)).to_vec();
