@@ -1,0 +1,2 @@
+-- What the contracts of packets speak of, and laws about it.
+pub mod Frames
