@@ -30,6 +30,7 @@ pub mod ReadLaws
 pub mod ReplyLaws
 pub mod WrittenReadLaws
 pub mod CallWrittenLaws
+pub mod PacketKeepingLaws
 pub mod SoundStays
 pub mod Tallying
 pub mod WrongDeliveries

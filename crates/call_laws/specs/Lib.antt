@@ -2,6 +2,7 @@
 pub mod WrittenRead
 pub mod Keeping
 pub mod KeptBytes
+pub mod PacketKeeping
 pub mod Refusals
 pub mod BookBytes
 pub mod Fields

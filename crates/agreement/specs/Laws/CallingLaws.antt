@@ -1,4 +1,4 @@
--- One call more in the list: what a delivery, a refused opening, a signal and a move leave of a good book.
+-- One call more in the list: what a delivery, a packet, a refused opening, a signal and a move leave of a good book.
 use Prim.Native.Nat.{ℕ, suc, _+_}
 use native.Mathlib.Omega.{arith}
 use mathlib.Core.Path.{_≡_, refl, sym, subst, _∙_}
@@ -9,9 +9,10 @@ use mathlib.Core.List.{Memᴰ·append-right}
 use mathlib.Core.Option.{Option, some, none}
 use lib.ListN.{getD}
 use Rattle.protocol.specs.SoundState.{Shaped}
-use Rattle.protocol.specs.Answer.{Done, Outcome, accepted, done, isAccepted, unlessRefused}
+use Rattle.protocol.specs.Answer.{Counts, Done, Outcome, accepted, done, isAccepted, unlessRefused}
 use Rattle.protocol.specs.Bytes.{Bytes}
-use Rattle.protocol.specs.Deliver.{deliverCall}
+use Rattle.protocol.specs.Deliver.{deliverAll, deliverCall}
+use Rattle.protocol.specs.Packet.{acceptedOf, countAll, packetCall, packetFrames, packetRows}
 use Rattle.protocol.specs.Laws.FlagLaws.{flag-set, flag-kept}
 use Rattle.protocol.specs.Laws.MoveLaws.{step-body}
 use Rattle.protocol.specs.Move.{Step, moveCall, moveRows, moved, step, unlessMoveRefused}
@@ -26,7 +27,8 @@ use Rattle.agreement.specs.Laws.GrantsLaws.{grants}
 use Rattle.agreement.specs.Lists.{Member, Statement, Wrote, delivers, statementOf, writes}
 use Rattle.agreement.specs.Laws.MovingLaws.{step-good}
 use Rattle.agreement.specs.Laws.StatementsLaws.{Consistent, stated-nothing}
-use Rattle.agreement.specs.Laws.RunLaws.{BackedBy, Good, Seen, States, encoded, frame-good}
+use Rattle.agreement.specs.Laws.RunLaws.{AllDelivered, BackedBy, Good, Seen, States, encoded, frame-good}
+use Rattle.agreement.specs.Laws.RunLaws.{frames-good}
 use Rattle.agreement.specs.Laws.ListsLaws.{wrote-last, wrote-more}
 
 module _ (digest : Bytes → Bytes) (n : ℕ) (books names : ℕ → Type 0) (P : List Member) (m : Member) where
@@ -82,6 +84,9 @@ module _ (digest : Bytes → Bytes) (n : ℕ) (books names : ℕ → Type 0) (P 
       quiet s b b g e refl refl (λ q. q) (λ q. q) (g .kept .shaped) (λ i. backed-more (g .kept .backed i))
 
   -- ---- a delivery
+  among : List·Memᴰ m P′
+  among = Memᴰ·append-right P (List·Memᴰ·head refl)
+
   pub delivery-good : (s : ℕ) (book f : Bytes) → GoodIn P s (decode book) → writes digest m ≡ [] →
       books (m .replica) →
       delivers digest m ≡ cond (isAccepted (deliverCall digest book f .answer)) (f ∷ []) [] →
@@ -89,9 +94,47 @@ module _ (digest : Bytes → Bytes) (n : ℕ) (books names : ℕ → Type 0) (P 
       StatesIn P t st) →
       GoodIn P′ s (decode (deliverCall digest book f .book))
   delivery-good s book f g silent ours e said =
-      frame-good digest n books names P′ m (Memᴰ·append-right P (List·Memᴰ·head refl)) ours s book f
+      frame-good digest n books names P′ m among ours s book f
       (unchanged s (decode book) g (λ z. silent)) (λ ok. rw (e, ok) (List·Memᴰ·head refl))
       (λ d t st q. states-more t st (said d t st q))
+
+  -- ---- a packet: each frame over the book that those before it left
+  all-delivered : (ours : books (m .replica)) (book : Bytes) (frames : List Bytes) →
+      ((f : Bytes) → List·Memᴰ f (acceptedOf digest book frames) → List·Memᴰ f (delivers digest m)) →
+      AllDelivered digest n books names P′ m among ours book frames
+  unfolding AllDelivered acceptedOf
+  all-delivered ours book [] each = tt
+  all-delivered ours book (f ∷ frames) each = (
+    λ ok. each f (rw ok (List·Memᴰ·head refl)),
+    all-delivered ours (deliverCall digest book f .book) frames (λ g i. each g
+        (Memᴰ·append-right (cond (isAccepted (deliverCall digest book f .answer)) (f ∷ []) []) i)),
+  )
+
+  pub packet-good : (s : ℕ) (book packet : Bytes) → GoodIn P s (decode book) → writes digest m ≡ [] →
+      books (m .replica) →
+      delivers digest m ≡ cond (isAccepted (packetCall digest book packet .answer))
+      (acceptedOf digest book (packetFrames packet)) [] →
+      ((f : Bytes) → List·Memᴰ f (delivers digest m) → (t : ℕ) (st : Statement) → statementOf digest f t ≡ some st →
+      StatesIn P t st) →
+      GoodIn P′ s (decode (packetCall digest book packet .book))
+  unfolding packetCall unlessRefused isAccepted
+  packet-good s book packet g silent ours e said = go (firstRefusal (packetRows digest book packet)) e
+    where
+      frames : List Bytes
+      frames = packetFrames packet
+
+      still : GoodIn P′ s (decode book)
+      still = unchanged s (decode book) g (λ z. silent)
+
+      delivered : Outcome Counts
+      delivered = record { answer = accepted (countAll digest book frames); book = deliverAll digest book frames }
+
+      go : (o : Option ℕ) →
+          delivers digest m ≡ cond (isAccepted (unlessRefused o book delivered .answer)) (acceptedOf digest book frames)
+          [] → GoodIn P′ s (decode (unlessRefused o book delivered .book))
+      go none q = frames-good digest n books names P′ m among ours s book frames
+          (λ f d t st r. states-more t st (said f d t st r)) still (all-delivered ours book frames (λ f i. rw q i))
+      go (some number) q = still
 
   -- ---- a call that changes the book unless it is refused
   pub unless-refused-good : {A : Type 0} (s : ℕ) (o : Option ℕ) (book : Bytes) (outcome : Outcome A) →

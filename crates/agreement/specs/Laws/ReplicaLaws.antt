@@ -10,15 +10,15 @@ use lib.Dec.{eqb}
 use borrow.Author.Tests.{eqb-true, eqb-false}
 use Rattle.protocol.specs.Bytes.{Bytes}
 use Rattle.protocol.specs.State.{decode}
-use Rattle.protocol.specs.Call.{Call, opening, delivery, moving, signalling, submitting, sizing, reading, fetching}
-use Rattle.protocol.specs.Call.{effect}
+use Rattle.protocol.specs.Call.{Call, opening, delivery, packetDelivery, moving, signalling, submitting, sizing}
+use Rattle.protocol.specs.Call.{reading, fetching, effect}
 use Rattle.protocol.specs.Laws.CallLaws.{only-opening, opens-nothing}
 use Rattle.agreement.specs.Lists.{Continues, Follows, KeepsOneBook, Member, NotForged, Opens, Wrote, does}
 use Rattle.agreement.specs.Lists.{lastLeft, leftBy, orElse}
 use Rattle.agreement.specs.Laws.FetchingLaws.{fetch-good}
 use Rattle.agreement.specs.Laws.OpeningLaws.{opening-good, submit-good}
-use Rattle.agreement.specs.Laws.CallingLaws.{delivery-good, move-good, nothing-new, reopening-good, signal-good}
-use Rattle.agreement.specs.Laws.CallingLaws.{unchanged}
+use Rattle.agreement.specs.Laws.CallingLaws.{delivery-good, move-good, nothing-new, packet-good, reopening-good}
+use Rattle.agreement.specs.Laws.CallingLaws.{signal-good, unchanged}
 use Rattle.agreement.specs.Laws.ListsLaws.{last-left-snoc}
 use Rattle.agreement.specs.Laws.RunLaws.{Good, GoodBytes}
 
@@ -42,6 +42,9 @@ module _ (digest : Bytes → Bytes) (n : ℕ) (books names : ℕ → Type 0) (l 
     call-good book (got, fixed) (delivery f) e g =
         delivery-good digest n books names P m s book f g (rw e) hm (rw (e, got))
         (λ q t st r ht. unforged P m after f t st here hm ht q r)
+    call-good book (got, fixed) (packetDelivery packet) e g =
+        packet-good digest n books names P m s book packet g (rw e) hm (rw (e, got))
+        (λ f q t st r ht. unforged P m after f t st here hm ht q r)
     call-good book (got, fixed) (moving reply) e g = move-good digest n books names P m s book reply hs g (rw (e, got))
     call-good book (got, fixed) (signalling h) e g = signal-good digest n books names P m s book h g (rw e)
     call-good book (got, fixed) (submitting x) e g = submit-good digest n books names P m s book x g (rw e)

@@ -6,11 +6,12 @@ use mathlib.Core.List.{List, [], _∷_}
 use mathlib.Core.Option.{Option, some, none}
 use Rattle.protocol.specs.Bytes.{Bytes}
 use Rattle.protocol.specs.Tests.{Row, firstRefusal}
-use Rattle.protocol.specs.Answer.{Answer, Outcome, Done, Delivery, Move, refused, accepted, unlessRefused}
+use Rattle.protocol.specs.Answer.{Answer, Outcome, Done, Delivery, Counts, Move, refused, accepted, unlessRefused}
 use Rattle.protocol.specs.State.{Height, decode}
 use Rattle.protocol.specs.Sound.{sound}
 use Rattle.protocol.specs.Open.{openRows, openCall}
 use Rattle.protocol.specs.Deliver.{keep, kept, deliverRows, deliverCall}
+use Rattle.protocol.specs.Packet.{packetRows, packetCall}
 use Rattle.protocol.specs.Move.{MoveOutcome, moved, step, unlessMoveRefused, moveRows, moveCall}
 use Rattle.protocol.specs.Signal.{signalRows, signalCall}
 use Rattle.protocol.specs.Submit.{submitRows, submitCall}
@@ -80,6 +81,12 @@ module _ (digest : Bytes → Bytes) (book : Bytes) where
       go : (o : Option Height) → Refused o
       go none = unfold kept in outcome-refuses rows book (kept digest book frame none) _ refl
       go (some y) = unfold kept in outcome-refuses rows book (kept digest book frame (some y)) _ refl
+
+  pub packet-refuses : (packet : Bytes) →
+      Refuses Counts (packetRows digest book packet) (packetCall digest book packet .answer) (book ∷ [])
+      (packetCall digest book packet .book ∷ [])
+  unfolding packetCall
+  packet-refuses packet = outcome-refuses (packetRows digest book packet) book _ _ refl
 
   pub move-refuses : (reply : Bytes) →
       Refuses Move (moveRows digest book reply) (moveCall digest book reply .answer) (book ∷ reply ∷ [])

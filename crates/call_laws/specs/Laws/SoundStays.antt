@@ -8,10 +8,10 @@ use Rattle.protocol.specs.Bytes.{Bytes}
 use Rattle.protocol.specs.Sound.{sound}
 use Rattle.protocol.specs.Answer.{accepted, done}
 use Rattle.protocol.specs.Open.{openCall}
-use Rattle.protocol.specs.Call.{Call, opening, delivery, moving, signalling, submitting, sizing, reading, fetching}
-use Rattle.protocol.specs.Call.{effect, bookAfter, bookAfterAll}
+use Rattle.protocol.specs.Call.{Call, opening, delivery, packetDelivery, moving, signalling, submitting, sizing}
+use Rattle.protocol.specs.Call.{reading, fetching, effect, bookAfter, bookAfterAll}
 use Rattle.call_laws.specs.Laws.SoundStaysLaws.{open-stays, open-made, deliver-stays, move-stays, signal-stays}
-use Rattle.call_laws.specs.Laws.SoundStaysLaws.{submit-stays}
+use Rattle.call_laws.specs.Laws.SoundStaysLaws.{submit-stays, packet-stays}
 
 module _ (digest : Bytes → Bytes) where
   -- each call on a sound book leaves a sound book
@@ -20,6 +20,7 @@ module _ (digest : Bytes → Bytes) where
   unfolding effect
   sound-stays book (opening n own heights leaders) was = open-stays digest book n own heights leaders was
   sound-stays book (delivery frame) was = deliver-stays digest book was frame
+  sound-stays book (packetDelivery packet) was = packet-stays digest book was packet
   sound-stays book (moving reply) was = move-stays digest book was reply
   sound-stays book (signalling h) was = signal-stays digest book was h
   sound-stays book (submitting entry) was = submit-stays digest book was entry

@@ -13,7 +13,8 @@ use Rattle.protocol.specs.State.{State, encode, decode, withHeight, withTimerFi
 use Rattle.protocol.specs.Sound.{sound}
 use Rattle.protocol.specs.Answer.{Answer, refused, accepted, Outcome, Delivery, Done, done, unlessRefused}
 use Rattle.protocol.specs.Open.{newState, openRows, openCall}
-use Rattle.protocol.specs.Deliver.{deliverCall}
+use Rattle.protocol.specs.Deliver.{deliverCall, deliverAll}
+use Rattle.protocol.specs.Packet.{packetFrames, packetRows, packetCall, countAll}
 use Rattle.protocol.specs.Move.{step, moved, unlessMoveRefused, moveRows, moveCall}
 use Rattle.protocol.specs.Signal.{signalRows, signalCall}
 use Rattle.protocol.specs.Submit.{withPending, stillPending, submitRows, submitCall}
@@ -82,6 +83,18 @@ module _ (digest : Bytes → Bytes) where
     unfolding submitCall
     submit-stays entry = unless-refused Sound (submitRows digest book entry) book
         (record { answer = accepted done; book = submitted entry }) was (appended entry)
+
+  -- ---- a packet: frame by frame
+  frames-stay : (book : Bytes) → Sound book → (frames : List Bytes) → Sound (deliverAll digest book frames)
+  unfolding deliverAll
+  frames-stay book was [] = was
+  frames-stay book was (frame ∷ frames) =
+      frames-stay (deliverCall digest book frame .book) (deliver-stays book was frame) frames
+
+  pub packet-stays : (book : Bytes) → Sound book → (packet : Bytes) → Sound (packetCall digest book packet .book)
+  unfolding packetCall
+  packet-stays book was packet = unless-refused Sound (packetRows digest book packet) book _ was
+      (λ _. frames-stay book was (packetFrames packet))
 
   -- ---- Open, over any bytes
   module _ (book : Bytes) (n own heights : ℕ) (leaders : Bytes) where

@@ -9,12 +9,12 @@ use Rattle.protocol.specs.Sound.{sound}
 use Rattle.protocol.specs.State.{decode}
 use Rattle.protocol.specs.Answer.{accepted, done}
 use Rattle.protocol.specs.Open.{openCall}
-use Rattle.protocol.specs.Call.{Call, opening, delivery, moving, signalling, submitting, sizing, reading, fetching}
-use Rattle.protocol.specs.Call.{effect, bookAfter, bookAfterAll}
+use Rattle.protocol.specs.Call.{Call, opening, delivery, packetDelivery, moving, signalling, submitting, sizing}
+use Rattle.protocol.specs.Call.{reading, fetching, effect, bookAfter, bookAfterAll}
 use Rattle.call_laws.specs.Keeping.{AllTallied}
 use Rattle.call_laws.specs.Laws.SoundStays.{sound-stays}
 use Rattle.call_laws.specs.Laws.TallyingLaws.{open-tallied, open-keeps, deliver-keeps-tallies, move-keeps}
-use Rattle.call_laws.specs.Laws.TallyingLaws.{signal-keeps, submit-keeps}
+use Rattle.call_laws.specs.Laws.TallyingLaws.{signal-keeps, submit-keeps, packet-keeps-tallies}
 
 module _ (digest : Bytes → Bytes) where
   -- each call on a sound book keeps that all its heights are tallied
@@ -23,6 +23,7 @@ module _ (digest : Bytes → Bytes) where
   unfolding effect
   tallied-stays book (opening n own heights leaders) was all = open-keeps digest book n own heights leaders all
   tallied-stays book (delivery frame) was all = deliver-keeps-tallies digest book was all frame
+  tallied-stays book (packetDelivery packet) was all = packet-keeps-tallies digest book was all packet
   tallied-stays book (moving reply) was all = move-keeps digest book was all reply
   tallied-stays book (signalling h) was all = signal-keeps digest book was all h
   tallied-stays book (submitting entry) was all = submit-keeps digest book was all entry

@@ -3,7 +3,7 @@ use Prim.Native.Nat.{ℕ, zero, suc, _≤_}
 use native.Mathlib.Omega.{arith}
 use mathlib.Core.Path.{_≡_, refl, sym, ap, subst, _∙_}
 use mathlib.Core.Bool.{true, false, true≢false}
-use mathlib.Core.List.{[], _∷_, _++_, map}
+use mathlib.Core.List.{List, [], _∷_, _++_, map}
 use mathlib.Core.Option.{Option, some, none}
 use lib.ListN.{getD}
 use Rattle.protocol.specs.SoundState.{Shaped, SoundState}
@@ -16,7 +16,8 @@ use Rattle.protocol.specs.View.{View, quorum}
 use Rattle.protocol.specs.Sound.{view, sound}
 use Rattle.protocol.specs.Answer.{Outcome, accepted, Delivery, Done, done, unlessRefused}
 use Rattle.protocol.specs.Open.{newHeight, newState, openRows, openCall}
-use Rattle.protocol.specs.Deliver.{votersFor, deliverCall}
+use Rattle.protocol.specs.Deliver.{votersFor, deliverCall, deliverAll}
+use Rattle.protocol.specs.Packet.{packetFrames, packetRows, packetCall}
 use Rattle.protocol.specs.Move.{step, moved, unlessMoveRefused, moveRows, moveCall}
 use Rattle.protocol.specs.Signal.{signalRows, signalCall}
 use Rattle.protocol.specs.Submit.{withPending, stillPending, submitRows, submitCall}
@@ -27,7 +28,7 @@ use Rattle.protocol.specs.Laws.NewStateLaws.{new-shaped}
 use Rattle.protocol.specs.Laws.MoveLaws.{HeadOnly, head-only}
 use Rattle.protocol.specs.Laws.DeliverLaws.{deliver-cases}
 use Rattle.protocol.specs.Laws.SoundLaws.{sound-decode}
-use Rattle.call_laws.specs.Laws.SoundStaysLaws.{unless-refused}
+use Rattle.call_laws.specs.Laws.SoundStaysLaws.{unless-refused, deliver-stays}
 use Rattle.call_laws.specs.Laws.MoveSoundLaws.{step-sound}
 use Rattle.call_laws.specs.Laws.SubmitSoundLaws.{submit-sound}
 use Rattle.call_laws.specs.Laws.GrowsLaws.{same-quorum, views-alike}
@@ -168,3 +169,19 @@ module _ (digest : Bytes → Bytes) where
         (λ _ _. all) (λ _ _. all)
         (λ y accepts e. delivered frame _ (fresh-keeps digest book frame accepts y e) (accepts .read .low)
         (accepts .read .high))
+
+  -- ---- a packet: frame by frame
+  frames-keep-tallies : (book : Bytes) → sound digest book ≡ true → AllTallied digest (decode book) →
+      (frames : List Bytes) → AllTallied digest (decode (deliverAll digest book frames))
+  unfolding deliverAll
+  frames-keep-tallies book was all [] = all
+  frames-keep-tallies book was all (frame ∷ frames) =
+      frames-keep-tallies (deliverCall digest book frame .book) (deliver-stays digest book was frame)
+      (deliver-keeps-tallies book was all frame) frames
+
+  pub packet-keeps-tallies : (book : Bytes) → sound digest book ≡ true → AllTallied digest (decode book) →
+      (packet : Bytes) → AllTallied digest (decode (packetCall digest book packet .book))
+  unfolding packetCall
+  packet-keeps-tallies book was all packet =
+      unless-refused (λ (b : Bytes). AllTallied digest (decode b)) (packetRows digest book packet) book _ all
+      (λ _. frames-keep-tallies book was all (packetFrames packet))
