@@ -13,6 +13,12 @@ pub enum Delivered {
     Refused(usize),
 }
 
+// Deliver of a packet: how many frames were fresh, known and refused, in that order.
+pub enum Counted {
+    Frames(usize, usize, usize),
+    Refused(usize),
+}
+
 // The certificate that a pass goes by.
 pub enum Certificate {
     Page,

@@ -1,9 +1,10 @@
 -- An answer as one number for C: its low byte is the refusal's number, 0 where the call is not refused; the values
 -- stand in the bytes above.
 use Prim.Native.Nat.{ℕ, _+_, _*_}
-use Rattle.protocol.specs.Answer.{Answer, refused, accepted, Done, Delivery, known, fresh, Move, idle, voteDummy}
-use Rattle.protocol.specs.Answer.{output, pass, propose, voteBlock, certificateKind, finalizeKind, moveNumber}
-use Rattle.protocol.specs.Answer.{moveHeight}
+use mathlib.Core.List.{List, [], _∷_}
+use Rattle.protocol.specs.Answer.{Answer, refused, accepted, Done, Delivery, known, fresh, Counts, Move, idle}
+use Rattle.protocol.specs.Answer.{voteDummy, output, pass, propose, voteBlock, certificateKind, finalizeKind}
+use Rattle.protocol.specs.Answer.{moveNumber, moveHeight}
 
 -- Open, Signal, Submit, Fetch: 0 where the call is done
 unfoldable pub packedDone : Answer Done → ℕ
@@ -15,6 +16,17 @@ unfoldable pub packedDelivery : Answer Delivery → ℕ
 packedDelivery (refused number) = number
 packedDelivery (accepted known) = 0
 packedDelivery (accepted fresh) = 256
+
+-- Deliver of a packet: 0 where it is not refused
+unfoldable pub packedPacket : Answer Counts → ℕ
+packedPacket (refused number) = number
+packedPacket (accepted counts) = 0
+
+-- the three lent numbers afterwards: how many frames were fresh, known and refused, in that order; a refused packet
+-- leaves them as they were
+unfoldable pub countsAfter : Answer Counts → List ℕ → List ℕ
+countsAfter (refused number) before = before
+countsAfter (accepted counts) before = counts .freshFrames ∷ counts .knownFrames ∷ counts .refusedFrames ∷ []
 
 -- the certificate's kind and the finalize's kind of a pass, and 0 for other moves
 unfoldable pub passKinds : Move → ℕ

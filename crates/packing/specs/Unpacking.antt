@@ -8,7 +8,8 @@ use mathlib.Core.Path.{_≡_}
 use mathlib.Core.Bool.{_||_, cond}
 use lib.Bits.{bitAnd}
 use lib.Dec.{eqb}
-use Rattle.protocol.specs.Answer.{Answer, refused, accepted, Done, Delivery, known, fresh, Move, refusalNumber}
+use Rattle.protocol.specs.Answer.{Answer, refused, accepted, Done, Delivery, known, fresh, Counts, Move}
+use Rattle.protocol.specs.Answer.{refusalNumber}
 use Rattle.answers.specs.MoveNumbers.{answerNumbers}
 use Rattle.packing.specs.Packing.{answeredSize}
 
@@ -54,9 +55,13 @@ answeredFresh (accepted known) = 0
 answeredFresh (accepted fresh) = 1
 
 -- ---- what they are to give of the number that a call returned, for what the call answers
--- a refusal has one of document 01's numbers: it fits the lowest byte, and it is not 0
+-- the last number of a refusal: document 01 has 1 to 14, and request 2.1 adds 15
+abbrev pub lastRefusal : ℕ
+lastRefusal = 15
+
+-- a refusal has one of these numbers: it fits the lowest byte, and it is not 0
 abbrev pub Numbered : {A : Type 0} → Answer A → Type 0
-Numbered a = (number : ℕ) → a ≡ refused number → (1 ≤ number) × (number ≤ 14)
+Numbered a = (number : ℕ) → a ≡ refused number → (1 ≤ number) × (number ≤ lastRefusal)
 
 -- Open, Signal, Submit, Fetch
 pub record DoneRead (returned : ℕ) (a : Answer Done) : Type 0 where
@@ -68,6 +73,11 @@ pub record DeliveryRead (returned : ℕ) (a : Answer Delivery) : Type 0 where
   pub numbered : Numbered a
   pub refusal : unpackedRefusal returned ≡ refusalNumber a
   pub freshness : unpackedFresh returned ≡ answeredFresh a
+
+-- Deliver of a packet
+pub record PacketRead (returned : ℕ) (a : Answer Counts) : Type 0 where
+  pub numbered : Numbered a
+  pub refusal : unpackedRefusal returned ≡ refusalNumber a
 
 -- Move: the numbers that its contract gives
 pub record MoveRead (returned : ℕ) (a : Answer Move) : Type 0 where

@@ -2,6 +2,7 @@
 // specs/Packing says what stands above, and specs/Unpacking what the header's functions read out of it again.
 use answers::answer::Answer;
 use answers::answer::Certificate;
+use answers::answer::Counted;
 use answers::answer::Delivered;
 use answers::answer::Moved;
 use answers::answer::Size;
@@ -9,9 +10,10 @@ ghost use mathlib.Core.Path.{_≡_};
 ghost use Prim.Native.Nat.{_+_, _*_, _<_, _≤_};
 ghost use Rattle.protocol.specs.Answer.{certificateKind, finalizeKind};
 ghost use Rattle.protocol.specs.Block.{maximumHeights};
-ghost use Rattle.answers.specs.Answers.{doneAnswer, deliveredAnswer, certificateOf, movedAnswer, sizeAnswer};
-ghost use Rattle.packing.specs.Packing.{packedDone, packedDelivery, packedMove, packedSize, answeredHeight};
-ghost use Rattle.packing.specs.Packing.{answeredSize};
+ghost use Rattle.answers.specs.Answers.{doneAnswer, deliveredAnswer, countedAnswer, certificateOf, movedAnswer};
+ghost use Rattle.answers.specs.Answers.{sizeAnswer};
+ghost use Rattle.packing.specs.Packing.{packedDone, packedDelivery, packedPacket, countsAfter, packedMove};
+ghost use Rattle.packing.specs.Packing.{packedSize, answeredHeight, answeredSize};
 
 // The number for an answer that says no more than done or refused.
 pub fn done_number(answer: Answer) -> usize
@@ -31,6 +33,25 @@ pub fn delivered_number(answer: Delivered) -> usize
         Delivered::Fresh => 256,
         Delivered::Known => 0,
         Delivered::Refused(number) => number,
+    }
+}
+
+// The number for the answer of a packet.
+pub fn counted_number(answer: Counted) -> usize
+    ensures { λ r. ⌜ r ≡ packedPacket (countedAnswer answer) ⌝ }
+{
+    match answer {
+        Counted::Frames(_, _, _) => 0,
+        Counted::Refused(number) => number,
+    }
+}
+
+// Writes the counts of a packet's frames, unless it is refused.
+pub fn write_counts(answer: Counted, counts: &mut [usize; 3])
+    ensures { λ _. ⌜ now (counts .exit) ≡ countsAfter (countedAnswer answer) (now (counts .entry)) ⌝ }
+{
+    if let Counted::Frames(fresh, known, refused) = answer {
+        *counts = [fresh, known, refused];
     }
 }
 

@@ -3,6 +3,7 @@ pub mod deliver;
 pub mod fetch;
 pub mod make_move;
 pub mod open;
+pub mod packet;
 pub mod read;
 pub mod signal;
 pub mod submit;

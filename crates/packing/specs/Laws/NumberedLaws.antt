@@ -1,4 +1,4 @@
--- A refusal of any call has one of document 01's numbers, so that it fits the lowest byte and is not 0.
+-- A refusal of any call has one of the documents' numbers, so that it fits the lowest byte and is not 0.
 use Prim.Native.Nat.{ℕ, _≤_}
 use native.Mathlib.Omega.{arith}
 use mathlib.Core.Path.{_≡_, refl}
@@ -14,35 +14,37 @@ use Rattle.protocol.specs.Sound.{sound}
 use Rattle.protocol.specs.Answer.{refused, accepted, Outcome, unlessRefused, known, fresh}
 use Rattle.protocol.specs.Open.{openRows, openCall}
 use Rattle.protocol.specs.Deliver.{readRows, clashRows, deliverRows, kept, deliverCall}
+use Rattle.protocol.specs.Packet.{packetRows, packetCall}
 use Rattle.protocol.specs.Signal.{signalRows, signalCall}
 use Rattle.protocol.specs.Submit.{submitRows, submitCall}
 use Rattle.protocol.specs.Fetch.{unlessFetchRefused, fetchRows, fetchCall}
 use Rattle.protocol.specs.Read.{sizeCall}
 use Rattle.protocol.specs.Move.{Step, moved, unlessMoveRefused, moveRows, moveCall}
-use Rattle.packing.specs.Unpacking.{Numbered}
+use Rattle.packing.specs.Unpacking.{lastRefusal, Numbered}
 
 -- ---- rows of refusals
--- the number of every row is one of document 01's
+-- the number of every row is one of the documents'
 allNumbered : List Row → Bool
 allNumbered [] = true
-allNumbered (row ∷ rows) = inRange 1 14 (row .0) && allNumbered rows
+allNumbered (row ∷ rows) = inRange 1 lastRefusal (row .0) && allNumbered rows
 
 abbrev NumberedRows : Option ℕ → Type 0
-NumberedRows r = (number : ℕ) → r ≡ some number → (1 ≤ number) × (number ≤ 14)
+NumberedRows r = (number : ℕ) → r ≡ some number → (1 ≤ number) × (number ≤ lastRefusal)
 
 first-numbered : (rows : List Row) → allNumbered rows ≡ true → NumberedRows (firstRefusal rows)
 unfolding firstRefusal allNumbered
 first-numbered [] e = λ number f. let z : _≡_ {A = ℕ} 0 1 = cc in absurd (omega arith)
 first-numbered (row ∷ rows) e =
-    let t = and-both (inRange 1 14 (row .0)) (allNumbered rows) e in
+    let t = and-both (inRange 1 lastRefusal (row .0)) (allNumbered rows) e in
     cond-elim NumberedRows (row .1)
     (λ _. first-numbered rows (t .1))
-    (λ _ number f. let same : row .0 ≡ number = cc in rw same at (in-range 1 14 (row .0) (t .0)))
+    (λ _ number f. let same : row .0 ≡ number = cc in rw same at (in-range 1 lastRefusal (row .0) (t .0)))
 
 accepted-numbered : {A : Type 0} (x : A) → Numbered (accepted x)
 accepted-numbered x number e = let z : _≡_ {A = ℕ} 0 1 = cc in absurd (omega arith)
 
-refused-numbered : {A : Type 0} (number : ℕ) → (1 ≤ number) × (number ≤ 14) → Numbered {A = A} (refused number)
+refused-numbered : {A : Type 0} (number : ℕ) → (1 ≤ number) × (number ≤ lastRefusal) →
+    Numbered {A = A} (refused number)
 refused-numbered number low other e = let same : number ≡ other = cc in rw same at low
 
 outcome-numbered : {A : Type 0} (rows : List Row) → allNumbered rows ≡ true → (book : Bytes) (o : Outcome A) →
@@ -67,6 +69,10 @@ module _ (digest : Bytes → Bytes) (book : Bytes) where
       kept-numbered : (x : Option Height) → Numbered (kept digest book frame x .answer)
       kept-numbered none = unfold kept in accepted-numbered known
       kept-numbered (some x) = unfold kept in accepted-numbered fresh
+
+  pub packet-numbered : (packet : Bytes) → Numbered (packetCall digest book packet .answer)
+  unfolding packetCall packetRows allNumbered inRange
+  packet-numbered packet = outcome-numbered _ refl book _ (accepted-numbered _)
 
   pub signal-numbered : (h : ℕ) → Numbered (signalCall digest book h .answer)
   unfolding signalCall signalRows allNumbered inRange

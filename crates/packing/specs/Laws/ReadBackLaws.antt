@@ -5,17 +5,17 @@ use native.Mathlib.Omega.{arith}
 use mathlib.Core.Path.{_≡_, refl, _∙_}
 use mathlib.Core.Bool.{Bool, true, false}
 use lib.Bits.{bitAnd, and-mask}
-use Rattle.protocol.specs.Answer.{Answer, refused, accepted, Done, refusalNumber}
+use Rattle.protocol.specs.Answer.{Answer, refused, accepted, Done, Counts, refusalNumber}
 use Rattle.protocol.specs.Answer.{Delivery, known, fresh, Certificate, onBlock, onDummy, certificateKind, finalizeKind}
 use Rattle.protocol.specs.Answer.{Move, idle, voteDummy, output, pass, propose, voteBlock, moveNumber, moveHeight}
 use Rattle.protocol.specs.Block.{maximumHeights}
 use Rattle.answers.specs.MoveNumbers.{answerNumbers, moveCertificate, moveFinalize}
-use Rattle.packing.specs.Packing.{packedDone, packedDelivery, packedMove, packedSize}
+use Rattle.packing.specs.Packing.{packedDone, packedDelivery, packedPacket, packedMove, packedSize}
 use Rattle.packing.specs.Packing.{passKinds, answeredHeight, answeredSize}
 use Rattle.packing.specs.Unpacking.{unpackedRefusal, unpackedFresh, unpackedMove, unpackedHeight}
 use Rattle.packing.specs.Unpacking.{unpackedCertificate, unpackedFinalize, unpackedSize}
 use Rattle.packing.specs.Unpacking.{answeredFresh}
-use Rattle.packing.specs.Unpacking.{Numbered, DoneRead, DeliveryRead, MoveRead, SizeRead}
+use Rattle.packing.specs.Unpacking.{lastRefusal, Numbered, DoneRead, DeliveryRead, PacketRead, MoveRead, SizeRead}
 
 -- ---- bytes of a number
 byte : (n : ℕ) → bitAnd n 255 ≡ n % 256
@@ -25,11 +25,11 @@ two-bytes : (n : ℕ) → bitAnd n 65535 ≡ n % 65536
 two-bytes n = and-mask n 16
 
 -- a refusal's number is in the lowest byte, and the bytes above it are 0
-module _ (number : ℕ) (low : number ≤ 14) where
+module _ (number : ℕ) (low : number ≤ lastRefusal) where
   refusal-low : bitAnd number 255 ≡ number
   refusal-low = byte number ∙ omega arith
 
-  refusal-above : (place : ℕ) → 15 ≤ place → bitAnd (number / place) 255 ≡ 0
+  refusal-above : (place : ℕ) → lastRefusal < place → bitAnd (number / place) 255 ≡ 0
   refusal-above place high =
       let none-left : number / place ≡ 0 = div-eq-of-lt (omega arith) in
       rw none-left (byte 0)
@@ -54,6 +54,11 @@ delivery-read-back (refused number) ok = record {
 }
 delivery-read-back (accepted known) ok = record { numbered = ok; refusal = byte 0; freshness = byte 0 }
 delivery-read-back (accepted fresh) ok = record { numbered = ok; refusal = byte 256; freshness = byte 1 }
+
+pub packet-read-back : (a : Answer Counts) → Numbered a → PacketRead (packedPacket a) a
+unfolding packedPacket unpackedRefusal refusalNumber
+packet-read-back (refused number) ok = record { numbered = ok; refusal = refusal-low number (ok number refl .1) }
+packet-read-back (accepted counts) ok = record { numbered = ok; refusal = byte 0 }
 
 pub size-read-back : (a : Answer ℕ) → Numbered a → SizeRead (packedSize a) a
 unfolding packedSize unpackedRefusal unpackedSize refusalNumber answeredSize
@@ -101,7 +106,7 @@ pub move-read-back : (a : Answer Move) → Numbered a → answeredHeight a ≤ m
 unfolding packedMove answeredHeight answerNumbers
 move-read-back (refused number) ok low =
     unfold unpackedRefusal unpackedMove unpackedHeight unpackedCertificate unpackedFinalize in
-    let fits : number ≤ 14 = ok number refl .1 in
+    let fits : number ≤ lastRefusal = ok number refl .1 in
     record {
       numbered = ok;
       refusal = refusal-low number fits;

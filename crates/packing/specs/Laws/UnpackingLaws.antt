@@ -5,18 +5,20 @@ use lib.ListN.{length}
 use Rattle.protocol.specs.Bytes.{Bytes}
 use Rattle.protocol.specs.Open.{openCall}
 use Rattle.protocol.specs.Deliver.{deliverCall}
+use Rattle.protocol.specs.Packet.{packetCall}
 use Rattle.protocol.specs.Signal.{signalCall}
 use Rattle.protocol.specs.Submit.{submitCall}
 use Rattle.protocol.specs.Fetch.{fetchCall}
 use Rattle.protocol.specs.Read.{sizeCall}
 use Rattle.protocol.specs.Move.{moveCall}
-use Rattle.packing.specs.Packing.{packedDone, packedDelivery, packedMove, packedSize}
+use Rattle.packing.specs.Packing.{packedDone, packedDelivery, packedPacket, packedMove, packedSize}
 use Rattle.packing.specs.Unpacking.{unpackedFrames}
-use Rattle.packing.specs.Unpacking.{DoneRead, DeliveryRead, MoveRead, SizeRead}
+use Rattle.packing.specs.Unpacking.{DoneRead, DeliveryRead, PacketRead, MoveRead, SizeRead}
 use Rattle.packing.specs.Laws.PackingLaws.{move-height-low}
-use Rattle.packing.specs.Laws.NumberedLaws.{open-numbered, deliver-numbered, signal-numbered, submit-numbered}
-use Rattle.packing.specs.Laws.NumberedLaws.{fetch-numbered, size-numbered, move-numbered}
-use Rattle.packing.specs.Laws.ReadBackLaws.{done-read-back, delivery-read-back, move-read-back, size-read-back}
+use Rattle.packing.specs.Laws.NumberedLaws.{open-numbered, deliver-numbered, packet-numbered, signal-numbered}
+use Rattle.packing.specs.Laws.NumberedLaws.{submit-numbered, fetch-numbered, size-numbered, move-numbered}
+use Rattle.packing.specs.Laws.ReadBackLaws.{done-read-back, delivery-read-back, packet-read-back}
+use Rattle.packing.specs.Laws.ReadBackLaws.{move-read-back, size-read-back}
 use Rattle.packing.specs.Laws.FrameCountLaws.{move-counted}
 
 -- ---- each call
@@ -28,6 +30,10 @@ module _ (digest : Bytes → Bytes) (book : Bytes) where
   pub deliver-read : (frame : Bytes) →
       DeliveryRead (packedDelivery (deliverCall digest book frame .answer)) (deliverCall digest book frame .answer)
   deliver-read frame = delivery-read-back _ (deliver-numbered digest book frame)
+
+  pub packet-read : (packet : Bytes) →
+      PacketRead (packedPacket (packetCall digest book packet .answer)) (packetCall digest book packet .answer)
+  packet-read packet = packet-read-back _ (packet-numbered digest book packet)
 
   pub signal-read : (h : ℕ) →
       DoneRead (packedDone (signalCall digest book h .answer)) (signalCall digest book h .answer)

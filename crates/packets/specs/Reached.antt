@@ -1,0 +1,24 @@
+-- How far a packet is delivered: what the book and the counts are after the first frames of it.
+use Prim.Native.Nat.{_/_, _≤_}
+use mathlib.Core.Path.{_≡_}
+use mathlib.Core.Bool.{true}
+use lib.ListN.{length}
+use Rattle.sha256.specs.Digest.{sha256}
+use Rattle.protocol.specs.Bytes.{Bytes, pieces}
+use Rattle.protocol.specs.Frame.{frameSize}
+use Rattle.protocol.specs.Sound.{sound}
+use Rattle.protocol.specs.Answer.{Counts}
+use Rattle.protocol.specs.Deliver.{deliverAll}
+use Rattle.protocol.specs.Packet.{countAll}
+use Rattle.packets.specs.declared.progress.Progress.{Progress}
+
+-- the counts, as the protocol has them
+abbrev pub countsOf : Progress → Counts
+countsOf p = record { freshFrames = p .fresh; knownFrames = p .known; refusedFrames = p .refused }
+
+-- the book and the counts after the frames before the next one, each delivered by itself
+pub record Reached (before packet book : Bytes) (p : Progress) : Type 0 where
+  pub within : p .next ≤ length packet / frameSize
+  pub is-sound : sound sha256 book ≡ true
+  pub left : book ≡ deliverAll sha256 before (pieces frameSize (p .next) packet)
+  pub counts : countsOf p ≡ countAll sha256 before (pieces frameSize (p .next) packet)
