@@ -8,6 +8,8 @@
  *   - So many bytes are there, readable, and writable too where the pointer is not const. No alignment is needed.
  *   - Nobody else writes them during the call, and bytes that the call may write overlap with no others lent to it.
  * With a length of 0 nothing is read or written through the pointer, so it may be null, as that of an empty vector is.
+ * One pointer has no length behind it, that of the counts of a packet: it points to a mavunilai_counts, aligned as its
+ * type is, and is never null.
  * All else is checked: bytes, lengths and numbers may have any value. Bytes behind a const pointer never change.
  *
  * This header is for C99 or later and for C++. The library is for x86-64 Linux, where size_t and uint64_t are the same,
@@ -36,8 +38,9 @@
 extern "C" {
 #endif
 
-/* The number of the interface that this header declares. It goes up whenever a call's arguments or answers change. */
-#define MAVUNILAI_INTERFACE 1u
+/* The number of the interface that this header declares. It goes up with each call that is added, and with each change
+ * to a call's arguments or to what it may answer. */
+#define MAVUNILAI_INTERFACE 2u
 
 /* The number of the interface that the library has. */
 uint64_t mavunilai_interface(void);
@@ -82,6 +85,7 @@ static inline int mavunilai_fits(void) {
 #define MAVUNILAI_REFUSED_PENDING_FULL 12u    /* 32 entries are pending, none in the register */
 #define MAVUNILAI_REFUSED_ENTRY_KNOWN 13u     /* the entry is pending or in the register */
 #define MAVUNILAI_REFUSED_NOT_DUE 14u         /* signal not for the current height, or repeated */
+#define MAVUNILAI_REFUSED_UNEVEN_PACKET 15u   /* the packet's length is not a multiple of 224 */
 
 /* What a refusal means, for people: one sentence without the full stop. */
 static inline const char *mavunilai_refusal_text(unsigned refusal) {
@@ -101,6 +105,7 @@ static inline const char *mavunilai_refusal_text(unsigned refusal) {
     case MAVUNILAI_REFUSED_PENDING_FULL: return "all 32 pending places are taken";
     case MAVUNILAI_REFUSED_ENTRY_KNOWN: return "the entry is pending or in the register already";
     case MAVUNILAI_REFUSED_NOT_DUE: return "the signal is not for the current height, or came before";
+    case MAVUNILAI_REFUSED_UNEVEN_PACKET: return "the packet's length is not a multiple of 224";
     default: return "this is no number of the table of refusals";
     }
 }
@@ -184,6 +189,11 @@ static inline unsigned mavunilai_fresh(mavunilai_answer answer) {
     return (unsigned)(answer.packed >> 8 & 255u);
 }
 
+/* Packet: what became of its frames. The three sum to the number of frames. */
+typedef struct mavunilai_counts {
+    uint64_t fresh, known, refused;
+} mavunilai_counts;
+
 /* Move: which move it was. */
 static inline unsigned mavunilai_made(mavunilai_answer answer) {
     return (unsigned)(answer.packed >> 8 & 255u);
@@ -239,6 +249,14 @@ mavunilai_answer mavunilai_open(uint8_t *book, size_t book_len, uint64_t n, uint
  * now holds what it states; 0 if it was known: the book is as before. Of the book only the frame's height changes: its
  * row of the contents and its body. */
 mavunilai_answer mavunilai_deliver(uint8_t *book, size_t book_len, const uint8_t *frame, size_t frame_len);
+
+/* Takes a packet: frames of 224 bytes one behind the other, whose signatures you have checked, each one's. They are
+ * delivered in order, each over the book that those before it left, as that many calls of mavunilai_deliver would.
+ * Refusals: 1, 15, before any frame; then `*counts` too is as it was. Else the answer is 0, and `*counts` says how many
+ * frames were fresh, known and refused. A refused frame changes nothing, and those after it are delivered all the same:
+ * the packet is not refused for it. A packet of 0 bytes has no frames, and all three counts are 0. */
+mavunilai_answer mavunilai_packet(uint8_t *book, size_t book_len, const uint8_t *packet, size_t packet_len,
+                                  mavunilai_counts *counts);
 
 /* Makes the first move that applies; call it until it is idle. The reply needs 448 bytes or more.
  * Refusals: 1, 3. Else the answer's bytes are

@@ -15,6 +15,12 @@ pub mod AgreementLaws
 pub mod MetLaws
 pub mod ListTestsLaws
 pub mod NotForgedLaws
+pub mod AlongLaws
+pub mod StandsForLaws
+pub mod UnpackedLaws
+pub mod UnpackedBooksLaws
+pub mod UnpackedGrantsLaws
+pub mod UnpacksLaws
 pub mod OneBookLaws
 pub mod TurnsLaws
 pub mod WitnessLaws

@@ -16,7 +16,8 @@ use Rattle.protocol.specs.Call.{Call, Effect, effect}
 
 -- ---- members of a list
 -- whose call it is, the book that it gets, and the call with its arguments; a refused call is a member too. Document
--- 01 has six calls in its lists: here Register size and Fetch may stand in them as well.
+-- 01 has six calls in its lists: here Register size and Fetch may stand in them as well, and packets, which stand for
+-- the deliveries of their frames (`Unpacked`).
 pub record Member : Type 0 where
   pub replica : ℕ
   pub book : Bytes

@@ -3,11 +3,14 @@
 use Prim.Native.Nat.{ℕ}
 use mathlib.Core.Path.{_≡_}
 use mathlib.Core.Logic.{_≢_}
+use mathlib.Core.Bool.{true}
 use mathlib.Core.List.{List, [], List·Memᴰ}
 use mathlib.Core.Option.{some}
 use Rattle.protocol.specs.Bytes.{Bytes}
+use Rattle.protocol.specs.Move.{isSome}
 use Rattle.agreement.specs.Lists.{Member, Statement, statementOf, delivers, HonestIn, FewDishonest, KeepsOneBook}
 use Rattle.agreement.specs.Lists.{NotForged, NoCollision, Reads}
+use Rattle.agreement.specs.Unpacked.{packetIn}
 
 -- a member of the list, of this replica, with a property
 abbrev pub MemberOf : List Member → ℕ → (Member → Type 0) → Type 0
@@ -18,6 +21,10 @@ module _ (digest : Bytes → Bytes) where
   abbrev pub Hears : ℕ → Statement → Member → Type 0
   Hears s statement m =
       (frame : Bytes) × List·Memᴰ frame (delivers digest m) × (statementOf digest frame s ≡ some statement)
+
+  -- .. in a packet
+  abbrev pub HearsPacket : ℕ → Statement → Member → Type 0
+  HearsPacket s statement m = (isSome (packetIn (m .call)) ≡ true) × Hears s statement m
 
   -- demand 3 with any other conclusion about the two parts that are read; with its own it is `Agreement` (MetLaws)
   unfoldable pub Claim : (Bytes → Bytes → Type 0) → Type 0

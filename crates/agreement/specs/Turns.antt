@@ -3,15 +3,17 @@
 use Prim.Native.Nat.{ℕ}
 use mathlib.Core.List.{List, [], _∷_}
 use lib.ListN.{getD, set, replicate}
-use Rattle.protocol.specs.Bytes.{Bytes, zeros}
+use Rattle.protocol.specs.Bytes.{Bytes, join, zeros}
 use Rattle.protocol.specs.Block.{newBlock}
-use Rattle.protocol.specs.Call.{Call, opening, delivery, moving, submitting, sizing, reading, fetching, bookAfter}
+use Rattle.protocol.specs.Call.{Call, opening, delivery, packetDelivery, moving, submitting, sizing, reading, fetching}
+use Rattle.protocol.specs.Call.{bookAfter}
 use Rattle.protocol.specs.Computing.{everything}
 use Rattle.agreement.specs.ListTests.{everyIn, someIn, everyHonest, isHonest, statementBytes, opensFor, isAmong}
 use Rattle.agreement.specs.ListTests.{opensInTurn, opensOnce, signed, signedIn, isBacked, deliversBacked}
 use Rattle.agreement.specs.ListTests.{notForged, shows, showsOnly, noCollision, readsPart, readsAt, hearsAt}
-use Rattle.agreement.specs.ListTests.{writesAt}
+use Rattle.agreement.specs.ListTests.{hearsPacketAt, writesAt}
 use Rattle.agreement.specs.Lists.{Member, when, blockIn, statementOf}
+use Rattle.agreement.specs.Unpacked.{packetIn}
 
 -- a turn: whose call, and the call
 abbrev pub Turn : Type 0
@@ -22,6 +24,10 @@ move s = (s, moving (zeros 448))
 
 unfoldable pub hear : ℕ → Bytes → Turn
 hear s frame = (s, delivery frame)
+
+-- frames in one packet
+unfoldable pub hearPacket : ℕ → List Bytes → Turn
+hearPacket s frames = (s, packetDelivery (join frames))
 
 unfoldable pub build : (Bytes → Bytes) → List Bytes → List Turn → List Member
 build digest books [] = []
@@ -64,6 +70,6 @@ dishonest = 8
 -- one name that opens every definition of these lists and their tests
 unfoldable pub everyTurn : Unit {0}
 unfolding everything everyHonest isHonest opensInTurn opensOnce deliversBacked notForged shows showsOnly noCollision
-    someIn everyIn signed signedIn isBacked statementBytes opensFor isAmong readsPart readsAt hearsAt writesAt when
-    blockIn statementOf entry nextBlock move hear openings readings build anything
+    someIn everyIn signed signedIn isBacked statementBytes opensFor isAmong readsPart readsAt hearsAt hearsPacketAt
+    writesAt packetIn when blockIn statementOf entry nextBlock move hear hearPacket openings readings build anything
 everyTurn = tt

@@ -1,6 +1,6 @@
 -- A list of calls that meets every premise of demand 3 over a stand-in digest, so that the claim is not vacuous: four
 -- replicas, of which replica 3 is dishonest and proposes two blocks at one height; height 1 passes on its dummy block,
--- height 2 is notarized by votes that are tallied, and two honest replicas read an entry. The digest must compute
+-- height 2 is notarized by votes that come in one packet and are tallied, and two honest replicas read an entry. The digest must compute
 -- here, and SHA-256 does not in the prover; a list for SHA-256 is in AnyDigest.antt.
 use mathlib.Core.Logic.{_≢_}
 use mathlib.Core.List.{List, [], _∷_, _++_, List·Memᴰ}
@@ -9,11 +9,11 @@ use Rattle.protocol.specs.Bytes.{Bytes, byteAt, part, zeros}
 use Rattle.protocol.specs.Block.{newBlock}
 use Rattle.protocol.specs.Frame.{proposal, blockVote, dummyVote, finalize, blockCertificate, dummyCertificate}
 use Rattle.protocol.specs.Frame.{finalizeCertificate}
-use Rattle.protocol.specs.Call.{signalling}
-use Rattle.agreement.specs.Lists.{Member, proposes, writes}
-use Rattle.agreement.specs.Met.{Hears, MemberOf, Met}
-use Rattle.agreement.specs.Turns.{Turn, anything, build, dishonest, entry, hear, move, nextBlock, openings}
-use Rattle.agreement.specs.Turns.{readings}
+use Rattle.protocol.specs.Call.{packetDelivery, signalling}
+use Rattle.agreement.specs.Lists.{Member, proposes, votesBlock, writes}
+use Rattle.agreement.specs.Met.{Hears, HearsPacket, MemberOf, Met}
+use Rattle.agreement.specs.Turns.{Turn, anything, build, dishonest, entry, hear, hearPacket, move, nextBlock}
+use Rattle.agreement.specs.Turns.{openings, readings}
 
 -- the stand-in: a digest that computes, and tells the blocks of the list apart, by the height, then the first entry
 -- and a half
@@ -46,13 +46,19 @@ timeouts =
     hear 0 (dummyVote 0 1) ∷ hear 0 (dummyVote 1 1) ∷ hear 0 (dummyVote 2 1) ∷ move 0 ∷
     hear 1 (dummyCertificate 1 7) ∷ hear 2 (dummyCertificate 1 7) ∷ move 1 ∷ move 2 ∷ []
 
--- height 2: replica 0 proposes, all honest replicas vote, pass and finalize
+-- the votes for the block of height 2, with one amid them that replica 1 never cast, at a height that there is not
+unfoldable pub votes : List Bytes
+votes =
+    blockVote 0 2 (sample nextBlock) ∷ dummyVote 1 9 ∷
+    blockVote 1 2 (sample nextBlock) ∷ blockVote 2 2 (sample nextBlock) ∷ []
+
+-- height 2: replica 0 proposes, all honest replicas vote, pass and finalize; replica 0 gets the votes in one packet,
+-- and a packet with a byte too many is refused
 unfoldable pub agreed : List Turn
 agreed =
     move 0 ∷ hear 0 (proposal 0 2 nextBlock) ∷ hear 1 (proposal 0 2 nextBlock) ∷ hear 2 (proposal 0 2 nextBlock) ∷
     move 0 ∷ move 1 ∷ move 2 ∷
-    hear 0 (blockVote 0 2 (sample nextBlock)) ∷ hear 0 (blockVote 1 2 (sample nextBlock)) ∷
-    hear 0 (blockVote 2 2 (sample nextBlock)) ∷ move 0 ∷
+    hearPacket 0 votes ∷ (1, packetDelivery (dummyVote 0 1 ++ (0 ∷ []))) ∷ move 0 ∷
     hear 1 (blockCertificate 2 7 nextBlock) ∷ hear 2 (blockCertificate 2 7 nextBlock) ∷ move 1 ∷ move 2 ∷
     hear 0 (finalize 0 2) ∷ hear 0 (finalize 1 2) ∷ hear 0 (finalize 2 2) ∷ move 0 ∷
     hear 1 (finalizeCertificate 2 7) ∷ move 1 ∷ []
@@ -70,3 +76,5 @@ pub record Witness : Type 0 where
   -- replicas 0 and 1 pass height 1 with the certificate of its dummy block
   pub dummy-0 : MemberOf list 0 (λ m. List·Memᴰ (dummyCertificate 1 7) (writes sample m))
   pub dummy-1 : MemberOf list 1 (λ m. List·Memᴰ (dummyCertificate 1 7) (writes sample m))
+  -- replica 0 gets the votes for height 2 in a packet
+  pub packet-0 : MemberOf list 0 (HearsPacket sample 2 (votesBlock 2 (sample nextBlock)))

@@ -1,6 +1,5 @@
 -- What a packet that is not refused leaves: what its frames leave, each delivered by itself over the book that those
 -- before it left. A refused frame changes nothing and is counted, and the frames after it are delivered all the same.
-use Prim.Native.Nat.{ℕ}
 use mathlib.Core.Path.{_≡_}
 use mathlib.Core.List.{List, [], _∷_}
 use mathlib.Core.Option.{some, none}

@@ -6,6 +6,7 @@
 --
 -- - Open: `Open.openCall`; `open::open`
 -- - Deliver: `Deliver.deliverCall sha256`; `deliver::deliver`
+-- - Packet: `Packet.packetCall sha256`; `packet::deliver_packet`
 -- - Move: `Move.moveCall sha256`; `make_move::make_move`
 -- - Signal: `Signal.signalCall sha256`; `signal::signal`
 -- - Submit: `Submit.submitCall sha256`; `submit::submit`
@@ -16,41 +17,48 @@
 --
 -- What these definitions say follows, demand by demand. A premise `AreBytes book` says that each number of the book is
 -- below 256, as in a byte slice.
-use Prim.Native.Nat.{ℕ, _≤_}
+use Prim.Native.Nat.{ℕ, _*_, _≤_}
 use mathlib.Core.Path.{_≡_}
 use mathlib.Core.Bool.{true}
-use mathlib.Core.List.{List, [], _∷_}
+use mathlib.Core.List.{List, [], _∷_, map}
 use lib.ListN.{length}
 use borrow.Author.Tests.{le-leb}
 use Rattle.sha256.specs.Digest.{sha256}
 use Rattle.sha256.specs.Laws.DigestLaws.{sha256-length}
 use Rattle.protocol.specs.Bytes.{Bytes, AreBytes}
 use Rattle.protocol.specs.Tests.{firstRefusal}
+use Rattle.protocol.specs.Frame.{frameSize}
 use Rattle.protocol.specs.State.{decode}
 use Rattle.protocol.specs.Sound.{sound}
 use Rattle.protocol.specs.Laws.SoundLaws.{sound-decode}
-use Rattle.protocol.specs.Answer.{Done, Delivery, Move, accepted, done}
+use Rattle.protocol.specs.Answer.{Done, Delivery, Counts, Move, accepted, done}
 use Rattle.protocol.specs.Open.{openRows, openCall}
 use Rattle.protocol.specs.Deliver.{deliverRows, deliverCall}
+use Rattle.protocol.specs.Packet.{packetFrames, counted, packetRows, packetCall}
+use Rattle.protocol.specs.Laws.PacketLaws.{packet-delivered, packet-sums}
 use Rattle.protocol.specs.Move.{step, moved, moveRows, moveCall, unlessMoveRefused}
 use Rattle.protocol.specs.Signal.{signalRows, signalCall}
 use Rattle.protocol.specs.Submit.{submitRows, submitCall}
 use Rattle.protocol.specs.Read.{sizeCall, readPart, readBuffer}
 use Rattle.protocol.specs.Fetch.{fetchRows, fetchCall}
-use Rattle.protocol.specs.Call.{Call, bookAfter, bookAfterAll}
-use Rattle.agreement.specs.Lists.{Agreement}
+use Rattle.protocol.specs.Call.{Call, delivery, bookAfter, bookAfterAll}
+use Rattle.agreement.specs.Lists.{Agreement, Member}
 use Rattle.agreement.specs.Laws.AgreementLaws.{agreement}
 use Rattle.agreement.specs.AnyDigest.{AnyDigest}
 use Rattle.agreement.specs.Laws.AnyDigestLaws.{any-digest}
 use Rattle.agreement.specs.Turns.{nextBlock}
+use Rattle.agreement.specs.Unpacked.{AgreementOn, Unpacks, unpacked}
+use Rattle.agreement.specs.Laws.UnpacksLaws.{deliveries-alone, unpacks}
 use Rattle.call_laws.specs.Refusals.{Refuses}
-use Rattle.call_laws.specs.Laws.RefusalsLaws.{open-refuses, deliver-refuses, move-refuses, signal-refuses}
-use Rattle.call_laws.specs.Laws.RefusalsLaws.{submit-refuses, size-refuses, fetch-refuses}
+use Rattle.call_laws.specs.Laws.RefusalsLaws.{open-refuses, deliver-refuses, packet-refuses, move-refuses}
+use Rattle.call_laws.specs.Laws.RefusalsLaws.{signal-refuses, submit-refuses, size-refuses, fetch-refuses}
 use Rattle.call_laws.specs.BookBytes.{openedBook, Signals, Submits, headOf}
 use Rattle.call_laws.specs.Laws.BookBytesLaws.{open-bytes, signal-bytes, submit-bytes, move-bytes}
 use Rattle.call_laws.specs.Keeping.{Keeps, AllTallied}
 use Rattle.call_laws.specs.Laws.KeepingLaws.{deliver-keeps}
 use Rattle.call_laws.specs.Laws.KeepsExactLaws.{keeps-exact}
+use Rattle.call_laws.specs.PacketKeeping.{KeepsAll}
+use Rattle.call_laws.specs.Laws.PacketKeepingLaws.{packet-keeps}
 use Rattle.call_laws.specs.Laws.SoundStays.{sound-stays as stays-sound, sound-opened}
 use Rattle.call_laws.specs.Laws.Tallying.{tallied-stays-all, tallied-opened}
 use Rattle.call_laws.specs.Readable.{SameSetting}
@@ -74,6 +82,11 @@ pub deliver-refused : (book frame : Bytes) →
     Refuses Delivery (deliverRows sha256 book frame) (deliverCall sha256 book frame .answer)
     (book ∷ []) (deliverCall sha256 book frame .book ∷ [])
 deliver-refused = deliver-refuses sha256
+
+pub packet-refused : (book packet : Bytes) →
+    Refuses Counts (packetRows sha256 book packet) (packetCall sha256 book packet .answer)
+    (book ∷ []) (packetCall sha256 book packet .book ∷ [])
+packet-refused = packet-refuses sha256
 
 pub move-refused : (book reply : Bytes) →
     Refuses Move (moveRows sha256 book reply) (moveCall sha256 book reply .answer)
@@ -165,6 +178,22 @@ pub nothing-else-keeps : (book frame : Bytes) (news : Delivery) →
     (news′ ≡ news) × (after ≡ deliverCall sha256 book frame .book)
 nothing-else-keeps = keeps-exact sha256
 
+-- a packet that is not refused keeps what its frames keep, one after the other ..
+pub packets-keep : (book packet : Bytes) (counts : Counts) → packetCall sha256 book packet .answer ≡ accepted counts →
+    KeepsAll sha256 book (packetFrames packet) counts (packetCall sha256 book packet .book)
+packets-keep = packet-keeps sha256
+
+-- .. leaves the book that delivering each of them by itself leaves ..
+pub packets-deliver : (book packet : Bytes) (counts : Counts) →
+    packetCall sha256 book packet .answer ≡ accepted counts →
+    packetCall sha256 book packet .book ≡ bookAfterAll sha256 book (map delivery (packetFrames packet))
+packets-deliver = packet-delivered sha256
+
+-- .. and counts all its bytes: fresh, known and refused frames sum to the frames of the packet
+pub packets-count : (book packet : Bytes) (counts : Counts) → packetCall sha256 book packet .answer ≡ accepted counts →
+    frameSize * counted counts ≡ length packet
+packets-count = packet-sums sha256
+
 -- on every book that calls make from an opened one, a proposal held with a quorum of kept votes is notarized
 pub votes-are-tallied : (book : Bytes) (n own heights : ℕ) (leaders : Bytes) (calls : List Call) →
     openCall book n own heights leaders .answer ≡ accepted done →
@@ -195,3 +224,12 @@ no-fork = agreement sha256
 -- .. and a list of calls with a dishonest replica meets every premise of it, and reads an entry at two honest replicas
 pub no-fork-is-met : AnyDigest sha256
 no-fork-is-met = any-digest sha256 (sha256-length nextBlock)
+
+-- a packet stands for the deliveries of its frames: with them in its place a list has the same books, and the same is
+-- granted, delivered, written and read ..
+pub packets-are-deliveries : (list : List Member) → Unpacks sha256 list
+packets-are-deliveries = unpacks sha256
+
+-- .. and no fork follows from what is granted of the deliveries alone
+pub no-fork-by-deliveries : (list : List Member) → AgreementOn sha256 (unpacked sha256 list) list
+no-fork-by-deliveries list = deliveries-alone sha256 list (agreement sha256)

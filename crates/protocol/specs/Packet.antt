@@ -20,6 +20,10 @@ packetFrames packet = pieces frameSize (length packet / frameSize) packet
 unfoldable pub noFrames : Counts
 noFrames = record { freshFrames = 0; knownFrames = 0; refusedFrames = 0 }
 
+-- all frames that are counted
+abbrev pub counted : Counts → ℕ
+counted c = c .freshFrames + c .knownFrames + c .refusedFrames
+
 -- one frame more, by what its own delivery answers
 unfoldable pub countedIn : Answer Delivery → Counts → Counts
 countedIn (accepted fresh) c =

@@ -4,18 +4,19 @@ use mathlib.Core.Bool.{Bool, _&&_, cond}
 use mathlib.Core.List.{List, [], _∷_, _++_}
 use lib.ListN.{length, take, drop}
 use Rattle.protocol.specs.Bytes.{Bytes, same}
-use Rattle.protocol.specs.Answer.{Answer, refused, accepted, Done, Delivery, known, fresh, Move, idle, voteDummy}
-use Rattle.protocol.specs.Answer.{output, pass, propose, voteBlock, certificateKind, finalizeKind, moveNumber}
-use Rattle.protocol.specs.Answer.{moveHeight}
+use Rattle.protocol.specs.Answer.{Answer, refused, accepted, Done, Delivery, known, fresh, Counts, Move, idle}
+use Rattle.protocol.specs.Answer.{voteDummy, output, pass, propose, voteBlock, certificateKind, finalizeKind}
+use Rattle.protocol.specs.Answer.{moveNumber, moveHeight}
 use Rattle.protocol.specs.Open.{openCall}
 use Rattle.protocol.specs.Deliver.{deliverCall}
+use Rattle.protocol.specs.Packet.{packetCall}
 use Rattle.protocol.specs.Move.{moveCall}
 use Rattle.protocol.specs.Signal.{signalCall}
 use Rattle.protocol.specs.Submit.{submitCall}
 use Rattle.protocol.specs.Read.{sizeCall, readPart, readBuffer}
 use Rattle.protocol.specs.Fetch.{fetchCall}
-use Rattle.protocol.specs.Call.{Call, opening, delivery, moving, signalling, submitting, sizing, reading, fetching}
-use Rattle.protocol.specs.Call.{bookAfter, bookAfterAll}
+use Rattle.protocol.specs.Call.{Call, opening, delivery, packetDelivery, moving, signalling, submitting, sizing}
+use Rattle.protocol.specs.Call.{reading, fetching, bookAfter, bookAfterAll}
 use Rattle.protocol.specs.Computing.{everything}
 
 -- ---- a stand-in for SHA-256: byte i is the sum of each byte times its place counted from 1, plus i, modulo 251
@@ -43,6 +44,9 @@ unfoldable pub deliveryNumbers : Delivery → List ℕ
 deliveryNumbers known = 0 ∷ []
 deliveryNumbers fresh = 1 ∷ []
 
+unfoldable pub countNumbers : Counts → List ℕ
+countNumbers c = c .freshFrames ∷ c .knownFrames ∷ c .refusedFrames ∷ []
+
 -- what a pass says besides its height
 unfoldable pub passNumbers : Move → List ℕ
 passNumbers idle = []
@@ -59,6 +63,7 @@ moveNumbers move = moveNumber move ∷ moveHeight move ∷ passNumbers move
 unfoldable pub answerOf : Bytes → Call → List ℕ
 answerOf book (opening n own heights leaders) = numbersOf doneNumbers (openCall book n own heights leaders .answer)
 answerOf book (delivery frame) = numbersOf deliveryNumbers (deliverCall standIn book frame .answer)
+answerOf book (packetDelivery packet) = numbersOf countNumbers (packetCall standIn book packet .answer)
 answerOf book (moving reply) = numbersOf moveNumbers (moveCall standIn book reply .answer)
 answerOf book (signalling h) = numbersOf doneNumbers (signalCall standIn book h .answer)
 answerOf book (submitting entry) = numbersOf doneNumbers (submitCall standIn book entry .answer)
@@ -70,6 +75,7 @@ answerOf book (fetching k h reply) = numbersOf doneNumbers (fetchCall standIn bo
 unfoldable pub lent : Call → Bytes
 lent (opening n own heights leaders) = []
 lent (delivery frame) = []
+lent (packetDelivery packet) = []
 lent (moving reply) = reply
 lent (signalling h) = []
 lent (submitting entry) = []
@@ -80,6 +86,7 @@ lent (fetching k h reply) = reply
 unfoldable pub lentAfter : Bytes → Call → Bytes
 lentAfter book (opening n own heights leaders) = []
 lentAfter book (delivery frame) = []
+lentAfter book (packetDelivery packet) = []
 lentAfter book (moving reply) = moveCall standIn book reply .reply
 lentAfter book (signalling h) = []
 lentAfter book (submitting entry) = []
@@ -148,6 +155,6 @@ disagreement i book (x ∷ xs) =
 
 -- opens every definition and these tools
 unfoldable pub tools : Unit {0}
-unfolding everything standIn placeSum countUp numbersOf doneNumbers deliveryNumbers passNumbers moveNumbers answerOf
-    lent lentAfter perform answers refuses splice expect changed agrees disagreement
+unfolding everything standIn placeSum countUp numbersOf doneNumbers deliveryNumbers countNumbers passNumbers moveNumbers
+    answerOf lent lentAfter perform answers refuses splice expect changed agrees disagreement
 tools = tt

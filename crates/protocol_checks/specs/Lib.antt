@@ -12,6 +12,7 @@ pub mod ViewChecks
 pub mod OpenChecks
 pub mod DeliverChecks
 pub mod KeepChecks
+pub mod PacketChecks
 pub mod MoveChecks
 pub mod MoveFrameChecks
 pub mod CallChecks

@@ -1,4 +1,5 @@
-//! Measures two replicas side by side: every call, on empty and on full books, at few and at many heights.
+//! Measures two replicas side by side: every call, on empty and on full books, at few and at many heights, and packets
+//! beside single deliveries.
 //!
 //! Both replicas make the same call on copies of the same book, in rounds that alternate. What counts is the ratio of the
 //! medians, so that a busy machine disturbs both alike.
@@ -9,6 +10,8 @@ mod case;
 mod cases;
 mod measure;
 mod median;
+mod packet_case;
+mod packet_table;
 mod run;
 mod station;
 mod table;
@@ -16,5 +19,7 @@ mod table;
 pub use case::Case;
 pub use cases::cases;
 pub use measure::{measure, Measured};
+pub use packet_case::{packet_cases, PacketCase};
+pub use packet_table::{measure_packet, PacketMeasured, LENGTHS};
 pub use run::{run, Options};
 pub use station::{Fill, Size};

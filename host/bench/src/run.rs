@@ -1,5 +1,6 @@
 //! The whole measurement, printed as tables for docs/PERFORMANCE.md.
 
+use crate::packet_table::packet_table;
 use crate::table::markdown;
 use crate::{cases, measure, Case, Fill, Measured, Size};
 use types::{Calls, Height, MOST_HEIGHTS, MOST_REPLICAS};
@@ -14,6 +15,9 @@ const REPLICAS: [u8; 2] = [4, MOST_REPLICAS];
 const HEADING: [&str; 7] =
     ["call", "empty, H 8", "empty, H 63", "growth", "full, H 8", "full, H 63", "growth"];
 
+/// Packets take long, so that one round in so many is enough for them.
+const SHARE: usize = 10;
+
 /// What to measure, and how long.
 #[derive(Clone, Debug)]
 pub struct Options {
@@ -23,14 +27,20 @@ pub struct Options {
     pub only: String,
 }
 
-/// Measures all cases that the options name and prints a table for each number of replicas.
+/// Measures all cases that the options name and prints a table for each number of replicas, and one of packets.
 pub fn run<A: Calls, B: Calls>(ours: &A, reference: &B, options: &Options) -> Result<(), String> {
     for n in REPLICAS {
         let empty = half(ours, reference, options, n, Fill::Empty)?;
         let full = half(ours, reference, options, n, Fill::Full)?;
         let rows: Vec<_> = empty.into_iter().zip(full).map(joined).collect();
-        println!("n {n}:\n\n{}", markdown(&HEADING, &rows));
+        if !rows.is_empty() {
+            println!("n {n}:\n\n{}", markdown(&HEADING, &rows));
+        }
     }
+    let sizes = REPLICAS.map(|n| Size { n, heights: MOST_HEIGHTS });
+    let rounds = options.rounds.div_ceil(SHARE);
+    let packets = packet_table(ours, reference, &sizes, rounds, &options.only)?;
+    packets.iter().for_each(|table| println!("packets:\n\n{table}"));
     Ok(())
 }
 

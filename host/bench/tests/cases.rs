@@ -1,6 +1,6 @@
 //! The cases do what their names say, by the reference's answers.
 
-use bench::{cases, measure, Case, Fill, Size};
+use bench::{cases, measure, measure_packet, packet_cases, Case, Fill, Size, LENGTHS};
 use reference::Rules;
 
 /// All cases of the measured sizes.
@@ -35,4 +35,26 @@ fn figures_are_of_both_sizes() {
     let measured = measure(&Rules::SHA256, &Rules::SHA256, &[case(1), case(63)], 9).unwrap();
     assert!(measured.times[0] > 0.0 && measured.times[1] > measured.times[0], "{measured:?}");
     assert!(measured.growth.into_iter().all(|growth| growth > 1.0), "{measured:?}");
+}
+
+#[test]
+fn packets_have_known_fresh_and_refused_frames() {
+    for n in [4, 16] {
+        let cases = packet_cases(Size { n, heights: 63 }, &LENGTHS).unwrap();
+        for (case, length) in cases.iter().zip(LENGTHS) {
+            case.check(&Rules::SHA256, &Rules::SHA256).unwrap();
+            assert_eq!(case.packet.len(), 224 * length);
+        }
+        let counts = cases[3].counts;
+        assert!(counts.known > counts.fresh && counts.fresh > 100, "{counts}");
+        assert!((1..20).contains(&counts.refused), "{counts}");
+    }
+}
+
+#[test]
+fn a_packet_that_comes_out_otherwise_is_not_measured() {
+    let mut case = packet_cases(Size { n: 4, heights: 8 }, &[20]).unwrap().remove(0);
+    assert!(measure_packet(&Rules::SHA256, &Rules::SHA256, &case, 3).unwrap().packet > 0.0);
+    case.counts.known += 1;
+    assert!(measure_packet(&Rules::SHA256, &Rules::SHA256, &case, 3).is_err());
 }

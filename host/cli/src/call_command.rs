@@ -12,6 +12,8 @@ use types::{Calls, ENTRY, FRAME};
 enum Request {
     /// Frames to deliver one by one, as they are given: one, or whole ones.
     Deliver(Vec<Vec<u8>>),
+    /// Frames to deliver as one packet.
+    Packet(Vec<u8>),
     /// Another call.
     One(Call),
     /// An entry to add.
@@ -29,6 +31,7 @@ pub fn run(words: &[String], output: &mut Vec<u8>) -> Result<(), Problem> {
     let out = arguments.value("out")?;
     match (request(name, rest)?, out) {
         (Request::Deliver(frames), _) => station::open(file, out)?.deliver(&frames),
+        (Request::Packet(packet), _) => station::open(file, out)?.packet(&packet),
         (Request::Run, _) => station::open(file, out)?.run(),
         (Request::One(Call::Move), _) => station::open(file, out)?.make_move(),
         (Request::One(Call::Signal { height }), _) => station::open(file, out)?.signal(height),
@@ -44,6 +47,7 @@ fn request(name: &str, rest: &[String]) -> Result<Request, Problem> {
         ("run", []) => return Ok(Request::Run),
         ("submit", [text]) => return Ok(Request::Submit(entry(text)?)),
         ("deliver", [file]) => return Ok(Request::Deliver(frames(files::read_bytes(file)?))),
+        ("packet", [file]) => return Ok(Request::Packet(files::read_bytes(file)?)),
         ("move", []) => Call::Move,
         ("signal", [height]) => Call::Signal { height: number(height)? },
         ("size", []) => Call::Size,

@@ -106,6 +106,7 @@ Example: mavunilai open book --n 4 --own 2 --roll 0,1,2
 
 const CALL: &str = "\
 mavunilai call BOOK deliver FRAMES [--out FILE]
+mavunilai call BOOK packet FRAMES [--out FILE]
 mavunilai call BOOK signal HEIGHT [--out FILE]
 mavunilai call BOOK submit ENTRY [--out FILE]
 mavunilai call BOOK move [--out FILE]
@@ -119,10 +120,14 @@ Makes a call on the book in the file BOOK, prints the answer in the words of a l
 and fetch write follow as hexadecimal digits, one to a line; read prints the entries.
 run moves until idle, and delivers what it writes to the book itself.
 FRAMES is a file, or - for standard input, with the bytes or the digits of a frame, or
-of several, which are delivered in order; ENTRY is as for `frame`: 32 hexadecimal
-digits, or text of 1 to 16 bytes, which is filled up with blanks. A call that is
-refused changes nothing, says the number and ends with status 3; of several frames each
-has its line, and `deny` and a number if refused.
+of several one behind the other (`cat` puts them so), which are delivered in order;
+ENTRY is as for `frame`: 32 hexadecimal digits, or text of 1 to 16 bytes, which is
+filled up with blanks. A call that is refused changes nothing, says the number and ends
+with status 3. deliver keeps the book after each frame; of several each has its line,
+with `deny` and a number if refused. packet takes all frames in one call and keeps the
+book once; it prints `counts` and how many frames were fresh, known and refused. For
+refused frames its status is still 0: the packet itself is refused only if its length
+is not a multiple of 224, or the book is not sound.
 
 --out adds the frames to FILE, a line for each, in place of printing them. FILE is
 synced and replaced as a whole, and holds nothing but such lines. Who sends them moves
@@ -131,10 +136,10 @@ FILE away first. Neither BOOK nor FILE may end in .lock, .new or .frames.
 A process may end at any time, and others may call at the same time. The book is locked
 (BOOK.lock, which stays) from reading to writing, after all input is there; a call waits
 while another program has it. Frames wait in BOOK.frames from before the book is
-replaced until they are printed or in FILE. If that fails the next deliver, signal,
-submit, move or run begins with the line `unsent` and these frames; size, read and fetch
-leave them alone. Frames may go out twice, which is harmless. A pipe has them once it
-takes them, read or not: --out is safer.
+replaced until they are printed or in FILE. If that fails the next deliver, packet,
+signal, submit, move or run begins with the line `unsent` and these frames; size, read
+and fetch leave them alone. Frames may go out twice, which is harmless. A pipe has them
+once it takes them, read or not: --out is safer.
 
 Example: mavunilai frame blank-vote --signer 0 --height 1 | mavunilai call book deliver -
 ";

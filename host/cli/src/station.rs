@@ -55,6 +55,12 @@ impl<C: Calls + Clone> Station<'_, C> {
         }
     }
 
+    /// Delivers frames as one packet, in one commit; those that are refused are counted like the others.
+    pub fn packet(&mut self, packet: &[u8]) -> Result<(), Problem> {
+        let counts = self.book.deliver_packet(packet)?;
+        print(&format!("{counts}\n"))
+    }
+
     /// Tells that the timer of a height fired.
     pub fn signal(&mut self, height: u64) -> Result<(), Problem> {
         self.book.signal(height)?;

@@ -3,18 +3,53 @@
 use crate::{show_frame, words};
 use exchange::fields::{differences, Change, Shape};
 use exchange::Call;
+use types::FRAME;
 
-/// The most fields that are told one by one.
+/// The most fields, or frames of a packet, that are told one by one.
 const MOST: usize = 30;
 
-/// The lines about a call on buffers of these names: as a list has it, and its frame in words.
+/// The lines about a call on buffers of these names: as a list has it, and its frame or frames in words.
 pub fn call(call: &Call, book: &str, buffer: &str) -> Vec<String> {
     let mut lines = vec![format!("the call: {}", call.words(book, buffer))];
-    if let Call::Deliver { frame } = call {
-        let text = show_frame::text(frame).unwrap_or_else(|problem| problem.sentence);
-        lines.push(format!("its frame: {}", text.trim_end().replace('\n', ", ")));
+    match call {
+        Call::Deliver { frame } => lines.push(format!("its frame: {}", one_line(frame))),
+        Call::Packet { packet } => lines.extend(frames(packet)),
+        _ => {}
     }
     lines
+}
+
+/// A frame in words, on one line.
+fn one_line(frame: &[u8]) -> String {
+    let text = show_frame::text(frame).unwrap_or_else(|problem| problem.sentence);
+    text.trim_end().replace('\n', ", ")
+}
+
+/// The frames of a packet, one to a line.
+fn frames(packet: &[u8]) -> Vec<String> {
+    let (frames, stray) = packet.as_chunks::<FRAME>();
+    let count = words::count(frames.len(), "frame", "frames");
+    let behind = match stray.len() {
+        0 => String::new(),
+        more => format!(" and {} behind", words::count(more, "byte", "bytes")),
+    };
+    let mut lines = vec![format!("its packet: {count}{behind}")];
+    let numbered = frames.iter().enumerate();
+    lines.extend(few(numbered.map(|(before, frame)| {
+        let number = before.saturating_add(1);
+        format!("  {number}: {}", one_line(frame))
+    })));
+    lines
+}
+
+/// The first of these lines, and how many more there are.
+fn few(lines: impl ExactSizeIterator<Item = String>) -> Vec<String> {
+    let more = lines.len().saturating_sub(MOST);
+    let mut few: Vec<String> = lines.take(MOST).collect();
+    if more > 0 {
+        few.push(format!("  and {more} more"));
+    }
+    few
 }
 
 /// The fields in which two books differ, one to a line, with the names of the two.
@@ -40,12 +75,9 @@ fn lines(what: &str, [one, two]: [&str; 2], changes: &[Change]) -> Vec<String> {
     }
     let count = words::count(changes.len(), "field", "fields");
     let mut lines = vec![format!("{what}: {count} of {one} and {two} differ")];
-    lines.extend(changes.iter().take(MOST).map(|change| {
+    lines.extend(few(changes.iter().map(|change| {
         let Change { place, byte, one: first, two: second } = change;
         format!("  {place} (byte {byte}): {one} {first}, {two} {second}")
-    }));
-    if let Some(more) = changes.len().checked_sub(MOST).filter(|more| *more > 0) {
-        lines.push(format!("  and {more} more"));
-    }
+    })));
     lines
 }

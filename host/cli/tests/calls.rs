@@ -101,6 +101,40 @@ fn several_frames_are_delivered_in_order() {
 }
 
 #[test]
+fn a_packet_is_counted() {
+    let book = book("packet", 4);
+    let vote = |signer| Frame::DummyVote { signer, height: 1 }.bytes();
+    let frames = [vote(1), vote(9), vote(1), vote(2)].concat();
+    let call = format!("call {book} packet -");
+    assert_eq!(lines(&call, &frames), ["counts 2 1 1"]);
+    let kept = std::fs::read(&book).unwrap();
+    assert_eq!(lines(&call, &frames), ["counts 0 3 1"]);
+    assert_eq!(lines(&call, &[]), ["counts 0 0 0"]);
+    for length in [1, 223, 225, 895] {
+        denied(&call, &frames[..length], "refused with 15: the packet's length is not a multiple");
+    }
+    assert_eq!(std::fs::read(&book).unwrap(), kept);
+    refused(&format!("call {book} packet"), &[], "'packet' with so many words is no call");
+    let spoilt = folder("calls").join("spoilt packet");
+    std::fs::write(&spoilt, [0; 1456]).unwrap();
+    let ended = run_words(&["call", spoilt.to_str().unwrap(), "packet", "-"], &frames[..225]);
+    assert_eq!((ended.status, ended.text().as_str()), (3, ""));
+    assert!(ended.complaint.contains("refused with 1:"), "{}", ended.complaint);
+}
+
+#[test]
+fn what_one_station_wrote_is_a_packet_for_another() {
+    let (one, two) = (book("wrote", 1), book("reads", 1));
+    let frames = format!("{one}.pile");
+    _ = std::fs::remove_file(&frames);
+    lines(&format!("call {one} run --out {frames}"), &[]);
+    assert_eq!(lines(&format!("call {two} packet {frames}"), &[]), ["counts 6 2 0"]);
+    let bodies = types::Layout::new(2).area(1, types::Area::Row).start..;
+    let [one, two] = [one, two].map(|book| std::fs::read(book).unwrap()[bodies.clone()].to_vec());
+    assert_eq!(one, two);
+}
+
+#[test]
 fn a_run_delivers_what_it_writes_to_itself() {
     let (one, two) = (book("printed", 1), book("handed", 1));
     let printed = lines(&format!("call {one} run"), &[]);

@@ -34,7 +34,7 @@ fn a_wrong_answer_is_told_with_the_call_and_can_be_replayed() {
     let ended = tried("--seed 1 --count 300", "M answer | sed -u 's/^known /fresh /'");
     assert_eq!(ended.status, 1);
     let expected = format!("\
-mavunilai: sh, call 11 (case \"seed 1, part 1, a sound book that no run makes\"): it differs from {NAME}
+mavunilai: sh, call 10 (case \"seed 1, part 1, a sound book that no run makes\"): it differs from {NAME}
 the call: deliver book 040004+00*221
 its frame: finalise (kind 4), signer 0, height 4
 answers: ours 'known', theirs 'fresh'
@@ -48,6 +48,22 @@ books: the same
     assert!(shown.contains("\ndeliver book 040004+00*221 == known 01"), "{shown}");
     let replayed = run("replay -", shown.as_bytes());
     assert_eq!(replayed.text(), format!("-: 1 call on {NAME}, all as expected\n"));
+}
+
+#[test]
+fn a_packet_is_told_with_its_frames() {
+    let swapped = "s/^counts \\([0-9]*\\) \\([0-9]*\\)/counts \\2 \\1/";
+    let ended = tried("--count 300", &format!("M answer | sed -u '{swapped}'"));
+    assert_eq!(ended.status, 1);
+    let told = ended.complaint;
+    assert!(
+        told.contains("\nthe call: packet book 01") && told.contains("\nits packet: 2 frames\n")
+    );
+    assert!(
+        told.contains("\n  1: proposal (kind 1), ") && told.contains("\n  2: page vote (kind 2), ")
+    );
+    let answers = "\nanswers: ours 'counts 1 0 1', theirs 'counts 0 1 1'\nbooks: the same\n";
+    assert!(told.ends_with(answers), "{told}");
 }
 
 #[test]

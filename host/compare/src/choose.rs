@@ -2,6 +2,7 @@
 
 use crate::books::any_arguments;
 use crate::frames::{any_entry, any_frame_bytes, any_height};
+use crate::packets::any_packet;
 use crate::Random;
 use exchange::Call;
 use reference::Rules;
@@ -24,7 +25,8 @@ pub struct Recent {
 /// A call and the length of its reply or buffer.
 pub fn any_call(random: &mut Random, book: &[u8], recent: &mut Recent) -> (Call, usize) {
     match random.below(32) {
-        0..=15 => (Call::Deliver { frame: frame(random, book, recent) }, 0),
+        0..=13 => (Call::Deliver { frame: frame(random, book, recent) }, 0),
+        14 | 15 => (Call::Packet { packet: any_packet(random, book) }, 0),
         16..=23 => (Call::Move, limited(random, 448)),
         24 | 25 => (Call::Signal { height: signal_height(random, book) }, 0),
         26 | 27 => (Call::Submit { entry: entry(random) }, 0),

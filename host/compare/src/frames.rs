@@ -69,7 +69,7 @@ pub fn any_block(random: &mut Random, book: &[u8], height: Height) -> Block {
 }
 
 /// A block for a height: the held one, the notarized one or another.
-fn likely_block(random: &mut Random, book: &[u8], height: Height) -> Block {
+pub fn likely_block(random: &mut Random, book: &[u8], height: Height) -> Block {
     let state = area(book, height, Area::Row).get(1).copied().unwrap_or(0);
     let known = match random.below(4) {
         0 | 1 if state & 1 != 0 => area(book, height, Area::Held).first_chunk::<BLOCK>(),

@@ -1,5 +1,6 @@
 //! The kinds of input and of answers that a large comparison must have had, and how often each occurred.
 
+use crate::packet_kinds;
 use crate::traits::{read_length, reply_length};
 use exchange::{Answer, Call};
 use std::collections::{BTreeMap, BTreeSet};
@@ -7,9 +8,10 @@ use std::fmt;
 use types::{field, head_height, Delivered, MOST_HEIGHTS, MOST_REPLICAS};
 
 /// The refusals of each call that has some.
-const REFUSALS: [(&str, &[u8]); 7] = [
+const REFUSALS: [(&str, &[u8]); 8] = [
     ("open", &[1, 2]),
     ("deliver", &[1, 4, 5, 6, 7, 8, 9, 10]),
+    ("packet", &[1, 15]),
     ("move", &[1, 3]),
     ("signal", &[1, 6, 14]),
     ("submit", &[1, 4, 12, 13]),
@@ -18,7 +20,7 @@ const REFUSALS: [(&str, &[u8]); 7] = [
 ];
 
 /// The kinds that the generators name, or that are seen by looking at a book.
-const NAMED: [&str; 24] = [
+const NAMED: [&str; 25] = [
     "book: new, opened over junk",
     "book: sound, that no run makes",
     "book: with a free byte set",
@@ -35,6 +37,7 @@ const NAMED: [&str; 24] = [
     "network: with dishonest stations",
     "network: frame lost",
     "network: frame comes again",
+    "network: frames come in a packet",
     "network: two proposals for one height",
     "network: a dishonest vote for each page of a height",
     "network: a dishonest blank vote",
@@ -74,7 +77,7 @@ fn expected() -> Vec<String> {
     let lengths = ["reply of move", "reply of fetch", "buffer of read"];
     let lengths = lengths.into_iter().flat_map(|of| LENGTHS.map(|place| length(of, place)));
     let timers = (0..16).step_by(2).map(timer);
-    let named = NAMED.map(str::to_string);
+    let named = NAMED.into_iter().chain(packet_kinds::NAMES).map(str::to_string);
     let mut all: Vec<String> = REFUSALS.into_iter().flat_map(refused).collect();
     all.extend(done.into_iter().chain(kinds).chain(lengths).chain(timers).chain(named));
     all
@@ -113,6 +116,10 @@ impl Kinds {
     pub fn see(&mut self, call: &Call, book: &[u8], lent: usize, answer: Answer) {
         self.see_answer(call, answer);
         self.see_length(call, book, lent, answer);
+        if let Call::Packet { packet } = call {
+            let names = packet_kinds::kinds(book, packet, answer);
+            names.into_iter().for_each(|name| self.saw(name));
+        }
         let flags = book.get(field::FLAGS).copied().unwrap_or(0);
         if let (Call::Signal { .. }, Answer::Done) = (call, answer) {
             self.saw(&timer(flags));

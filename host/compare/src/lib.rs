@@ -14,6 +14,8 @@ mod guarded;
 mod kinds;
 mod mischief;
 mod network;
+mod packet_kinds;
+mod packets;
 mod pair;
 mod random;
 mod report;

@@ -5,7 +5,8 @@ use crate::frames::any_entry;
 use crate::Random;
 use crate::{Halt, Pair, Second};
 use exchange::{Answer, Call};
-use types::{book_length, field, head_height, Block, Calls, Delivered, Frame, Height, Move};
+use types::{book_length, field, head_height};
+use types::{Block, Calls, Counts, Delivered, Frame, Height, Move};
 use types::{BLOCK, FRAME, MOST_LOG};
 
 /// The replicas and what is under way between them. The last few replicas are dishonest and have no book here.
@@ -92,8 +93,12 @@ impl<'a, A: Calls, B: Second> Network<'a, A, B> {
             return Ok(Answer::Done);
         };
         let answer = self.pair.make(call, book, buffer)?;
-        if matches!(answer, Answer::Delivered(Delivered::Fresh) | Answer::Done | Answer::Moved(_)) {
-            self.idle[replica] = answer == Answer::Moved(Move::Idle);
+        match answer {
+            Answer::Delivered(Delivered::Known) | Answer::Counted(Counts { fresh: 0, .. }) => {}
+            Answer::Delivered(_) | Answer::Counted(_) | Answer::Done | Answer::Moved(_) => {
+                self.idle[replica] = answer == Answer::Moved(Move::Idle);
+            }
+            _ => {}
         }
         Ok(answer)
     }
@@ -102,6 +107,7 @@ impl<'a, A: Calls, B: Second> Network<'a, A, B> {
     pub fn event(&mut self) -> Outcome {
         let replica = self.random.index(self.books.len());
         match self.random.below(20) {
+            0 if self.random.one_in(4) => self.arrive_together(replica),
             0..=10 => self.arrive(),
             11..=16 if self.idle[replica] && !self.random.one_in(6) => Ok(()),
             11..=16 => self.step(replica),
@@ -147,6 +153,22 @@ impl<'a, A: Calls, B: Second> Network<'a, A, B> {
             return Ok(());
         }
         self.call(replica, &Call::Deliver { frame: frame.to_vec() }, &mut []).map(|_| ())
+    }
+
+    /// Frames for a replica arrive as one packet, as where it was off the line.
+    fn arrive_together(&mut self, replica: usize) -> Outcome {
+        let most = self.random.index(40).saturating_add(1).saturating_mul(FRAME);
+        let mut packet = Vec::new();
+        self.wire.retain(|(to, frame)| {
+            let taken = *to == replica && packet.len() < most;
+            packet.extend(frame.iter().filter(|_| taken));
+            !taken
+        });
+        if packet.is_empty() {
+            return Ok(());
+        }
+        self.saw("frames come in a packet");
+        self.call(replica, &Call::Packet { packet }, &mut []).map(|_| ())
     }
 
     /// A replica moves, and its host sends what it wrote.

@@ -2,7 +2,7 @@
 
 use compare::run;
 use reference::Rules;
-use types::{field, Calls, Delivered, Move};
+use types::{field, Calls, Counts, Delivered, Move, FRAME};
 
 /// What a faulty replica does wrong.
 #[derive(Clone, Copy, Debug, PartialEq, Eq)]
@@ -25,6 +25,11 @@ enum Fault {
     SignalTwice,
     OpenLeavesJunk,
     OwnLog,
+    PacketEndsAtRefusal,
+    PacketTakesUneven,
+    PacketByFirstBook,
+    PacketCutsCounts,
+    PacketForgetsRefused,
 }
 
 /// The reference with a fault.
@@ -66,6 +71,35 @@ impl Calls for Faulty {
                 answer
             }
             _ => answer,
+        }
+    }
+
+    fn packet(&self, book: &mut [u8], packet: &[u8]) -> Result<Counts, u8> {
+        let (frames, stray) = packet.as_chunks::<FRAME>();
+        if self.is(Fault::PacketTakesUneven) {
+            return Calls::packet(&RULES, book, frames.as_flattened());
+        }
+        let before = book.to_vec();
+        let counts = Calls::packet(&RULES, book, packet)?;
+        assert!(stray.is_empty());
+        let alone = |frame: &&[u8; FRAME]| Calls::deliver(&RULES, &mut before.clone(), *frame);
+        match self.0 {
+            Fault::PacketEndsAtRefusal => {
+                book.copy_from_slice(&before);
+                _ = frames.iter().try_for_each(|f| Calls::deliver(&RULES, book, f).map(|_| ()));
+                Ok(counts)
+            }
+            Fault::PacketByFirstBook => {
+                let refused = frames.iter().filter(|frame| alone(frame).is_err()).count() as u64;
+                Ok(Counts { refused, ..counts })
+            }
+            Fault::PacketCutsCounts => {
+                let [fresh, known, refused] =
+                    [counts.fresh, counts.known, counts.refused].map(|count| count % 256);
+                Ok(Counts { fresh, known, refused })
+            }
+            Fault::PacketForgetsRefused => Ok(Counts { refused: 0, ..counts }),
+            _ => Ok(counts),
         }
     }
 
@@ -161,6 +195,11 @@ fn each_fault_is_found() {
         Fault::SignalTwice,
         Fault::OpenLeavesJunk,
         Fault::OwnLog,
+        Fault::PacketEndsAtRefusal,
+        Fault::PacketTakesUneven,
+        Fault::PacketByFirstBook,
+        Fault::PacketCutsCounts,
+        Fault::PacketForgetsRefused,
     ] {
         let found = run(RULES, Faulty(fault), 3, CALLS);
         let sentence = found.err().unwrap_or_else(|| panic!("{fault:?} was not found"));

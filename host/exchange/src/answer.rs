@@ -1,7 +1,7 @@
 //! What a call answered, whichever call it was, and its words in a list.
 
 use std::fmt;
-use types::{Certificate, Delivered, Height, Move};
+use types::{Certificate, Counts, Delivered, Height, Move};
 
 /// The answer of any call.
 #[derive(Clone, Copy, Debug, PartialEq, Eq)]
@@ -10,6 +10,8 @@ pub enum Answer {
     Done,
     /// What deliver says of a frame.
     Delivered(Delivered),
+    /// How many frames of a packet were fresh, known and refused.
+    Counted(Counts),
     /// What move did.
     Moved(Move),
     /// The size of the log.
@@ -26,6 +28,7 @@ impl fmt::Display for Answer {
             Answer::Done => write!(to, "done"),
             Answer::Delivered(Delivered::Fresh) => write!(to, "fresh"),
             Answer::Delivered(Delivered::Known) => write!(to, "known"),
+            Answer::Counted(counts) => write!(to, "{counts}"),
             Answer::Moved(made) => write!(to, "{made}"),
             Answer::Size(size) => write!(to, "size {size}"),
             Answer::Part(length) => write!(to, "part {length}"),
@@ -42,6 +45,11 @@ impl Answer {
             ["done"] => Answer::Done,
             ["fresh"] => Answer::Delivered(Delivered::Fresh),
             ["known"] => Answer::Delivered(Delivered::Known),
+            ["counts", fresh, known, refused] => Answer::Counted(Counts {
+                fresh: fresh.parse().ok()?,
+                known: known.parse().ok()?,
+                refused: refused.parse().ok()?,
+            }),
             ["idle"] => Answer::Moved(Move::Idle),
             ["dummy", height] => Answer::Moved(Move::Dummy { height: number(height)? }),
             ["final", height] => Answer::Moved(Move::Final { height: number(height)? }),

@@ -12,6 +12,8 @@ pub enum Call {
     Open { n: u64, own: u64, heights: u64, leaders: Vec<u8> },
     /// Takes a frame.
     Deliver { frame: Vec<u8> },
+    /// Takes the frames of a packet.
+    Packet { packet: Vec<u8> },
     /// Makes a move.
     Move,
     /// The timer of a height fired.
@@ -31,16 +33,16 @@ impl Call {
     pub fn lends(&self) -> bool {
         match self {
             Call::Move | Call::Read | Call::Fetch { .. } => true,
-            Call::Open { .. } | Call::Deliver { .. } | Call::Signal { .. } => false,
-            Call::Submit { .. } | Call::Size => false,
+            Call::Open { .. } | Call::Deliver { .. } | Call::Packet { .. } => false,
+            Call::Signal { .. } | Call::Submit { .. } | Call::Size => false,
         }
     }
 
     /// Whether the call may write to the book.
     pub fn writes(&self) -> bool {
         match self {
-            Call::Open { .. } | Call::Deliver { .. } | Call::Move => true,
-            Call::Signal { .. } | Call::Submit { .. } => true,
+            Call::Open { .. } | Call::Deliver { .. } | Call::Packet { .. } => true,
+            Call::Move | Call::Signal { .. } | Call::Submit { .. } => true,
             Call::Size | Call::Read | Call::Fetch { .. } => false,
         }
     }
@@ -54,6 +56,9 @@ impl Call {
             }
             Call::Deliver { frame } => {
                 calls.deliver(book, frame).map_or_else(Answer::Deny, Answer::Delivered)
+            }
+            Call::Packet { packet } => {
+                calls.packet(book, packet).map_or_else(Answer::Deny, Answer::Counted)
             }
             Call::Move => calls.make_move(book, buffer).map_or_else(Answer::Deny, Answer::Moved),
             Call::Signal { height } => done(calls.signal(book, *height)),
@@ -71,6 +76,7 @@ impl Call {
                 format!("open {book} {n} {own} {heights} {}", bytes::print(leaders))
             }
             Call::Deliver { frame } => format!("deliver {book} {}", bytes::print(frame)),
+            Call::Packet { packet } => format!("packet {book} {}", bytes::print(packet)),
             Call::Move => format!("move {book} {buffer}"),
             Call::Signal { height } => format!("signal {book} {height}"),
             Call::Submit { entry } => format!("submit {book} {}", bytes::print(entry)),
@@ -89,6 +95,7 @@ impl Call {
                 (Call::Open { n, own, heights, leaders: bytes::parse(leaders)? }, book)
             }
             ["deliver", book, frame] => (Call::Deliver { frame: bytes::parse(frame)? }, book),
+            ["packet", book, packet] => (Call::Packet { packet: bytes::parse(packet)? }, book),
             ["move", book, buffer] => {
                 second = buffer;
                 (Call::Move, book)

@@ -67,6 +67,12 @@ impl<C: Calls> Recorder<C> {
         self.make(Call::Deliver { frame: frame.to_vec() }, book, "")
     }
 
+    /// Delivers frames as one packet.
+    pub fn packet<F: AsRef<[u8]>>(&mut self, book: &str, frames: &[F]) -> Option<Answer> {
+        let packet = frames.iter().flat_map(|frame| frame.as_ref()).copied().collect();
+        self.make(Call::Packet { packet }, book, "")
+    }
+
     /// Makes a move and returns it with the frames that it wrote.
     pub fn make_move(&mut self, book: &str, reply: &str) -> (Option<Move>, Vec<Vec<u8>>) {
         match self.make(Call::Move, book, reply) {

@@ -49,13 +49,15 @@ pub fn parse_answer(call: &Call, text: &str) -> Result<Expected, String> {
 #[allow(clippy::unwrap_used, clippy::panic)]
 mod tests {
     use super::*;
-    use types::Move;
+    use types::{Counts, Move};
 
     #[test]
     fn a_call_and_its_answer_come_back() {
         let calls = [
             Call::Open { n: 4, own: 2, heights: 1, leaders: vec![] },
             Call::Deliver { frame: vec![3; 224] },
+            Call::Packet { packet: vec![] },
+            Call::Packet { packet: vec![3; 448] },
             Call::Move,
             Call::Read,
             Call::Fetch { kind: 5, height: u64::MAX },
@@ -70,6 +72,18 @@ mod tests {
         assert_eq!(line, "idle 07*9 -");
         let expected = Expected::in_full(answer, vec![vec![7; 9], vec![]]);
         assert_eq!(parse_answer(&Call::Move, &line), Ok(expected));
+    }
+
+    #[test]
+    fn the_counts_of_a_packet_come_back() {
+        let call = Call::Packet { packet: vec![] };
+        let answer = Answer::Counted(Counts { fresh: 300, known: 0, refused: u64::MAX });
+        let line = print_answer(&call, answer, &[7; 9], &[]);
+        assert_eq!(line, "counts 300 0 18446744073709551615 07*9");
+        assert_eq!(parse_answer(&call, &line), Ok(Expected::in_full(answer, vec![vec![7; 9]])));
+        for line in ["counts 1 2 07*9", "counts 1 2 3 4 07*9", "counts 1 2 -3 07*9"] {
+            assert!(parse_answer(&call, line).is_err(), "{line}");
+        }
     }
 
     #[test]

@@ -1,8 +1,9 @@
 //! The folder `exchange/`: its files are what the reference records, they replay, and together they cover all.
 
-use exchange::{record, replay, scenarios, Answer, Line, List, Tally};
+use exchange::{record, replay, scenarios, Answer, Call, Line, List, Tally};
 use reference::Rules;
 use std::path::PathBuf;
+use types::{Counts, FRAME};
 
 /// The file of a list.
 fn file(name: &str) -> PathBuf {
@@ -42,6 +43,53 @@ fn all_refusals_moves_and_passes_occur() {
         tally.add(&replay(&list(name), &Rules::SHA256).unwrap().tally);
     }
     assert_eq!(tally.missing(), Vec::<String>::new(), "{tally}");
+}
+
+/// All packets of the folder, with what they must answer.
+fn packets() -> Vec<(Vec<u8>, Answer)> {
+    let lines = scenarios::NAMES.into_iter().flat_map(|name| list(name).lines);
+    let packet = |line: Line| match line {
+        Line::Call { call: Call::Packet { packet }, expected, .. } => {
+            Some((packet, expected?.answer))
+        }
+        _ => None,
+    };
+    lines.filter_map(packet).collect()
+}
+
+#[test]
+fn packets_of_every_kind_occur() {
+    let packets = packets();
+    let refused = |number, wanted: fn(usize) -> bool| {
+        let is = |(packet, answer): &(Vec<u8>, Answer)| {
+            *answer == Answer::Deny(number) && wanted(packet.len())
+        };
+        packets.iter().any(is)
+    };
+    assert!(refused(1, |length| length == 0) && refused(1, |length| length % FRAME != 0));
+    assert!(refused(1, |length| length == FRAME));
+    for wanted in [|length| length == FRAME - 1, |length| length == FRAME + 1, |length| length == 1]
+    {
+        assert!(refused(15, wanted));
+    }
+    let counts: Vec<Counts> = packets
+        .iter()
+        .filter_map(|(packet, answer)| match answer {
+            Answer::Counted(counts) => {
+                let sum = counts.fresh + counts.known + counts.refused;
+                assert_eq!(sum * FRAME as u64, packet.len() as u64);
+                Some(*counts)
+            }
+            _ => None,
+        })
+        .collect();
+    let counted = |wanted: fn(&Counts) -> bool| assert!(counts.iter().any(wanted));
+    counted(|counts| *counts == Counts::default());
+    counted(|counts| counts.fresh > 255);
+    counted(|counts| counts.known > 255);
+    counted(|counts| counts.refused > 255);
+    counted(|counts| counts.fresh > 0 && counts.known > 0 && counts.refused > 0);
+    counted(|counts| counts.fresh + counts.known == 0 && counts.refused > 1);
 }
 
 #[test]
@@ -107,9 +155,7 @@ fn the_season_goes_as_told() {
 #[test]
 fn the_four_registers_are_the_same() {
     let mut registers = list("season").lines.into_iter().filter_map(|line| match line {
-        Line::Call { call: exchange::Call::Read, expected, .. } => {
-            expected?.digests.get(1).copied()
-        }
+        Line::Call { call: Call::Read, expected, .. } => expected?.digests.get(1).copied(),
         _ => None,
     });
     let first = registers.next().unwrap();

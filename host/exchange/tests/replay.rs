@@ -123,6 +123,7 @@ fn bad_lists_get_a_sentence() {
     assert!(problem("mavunilai exchange 2\n").is_some());
     let zeros = "0".repeat(64);
     let with_two = format!("size book = size 0 {zeros} {zeros}");
+    let without_third = format!("packet book - = counts 0 0 {zeros}");
     for line in [
         "opne book 4 2 1 00",
         "open book 4 2 1",
@@ -130,6 +131,9 @@ fn bad_lists_get_a_sentence() {
         "signal book -1",
         "signal book 18446744073709551616",
         "deliver book 0",
+        "packet book",
+        "packet book 0",
+        "packet book 00 00",
         "move book book",
         "move book",
         "give book",
@@ -143,6 +147,7 @@ fn bad_lists_get_a_sentence() {
         "size missing",
         "move book missing",
         &with_two,
+        &without_third,
     ] {
         let text = format!("{HEADING}\ngive book 00*576\n{line}\n");
         let found = problem(&text);

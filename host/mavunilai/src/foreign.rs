@@ -2,7 +2,7 @@
 #![allow(unsafe_code)] // the one place that calls into the static library
 
 use types::packing::{unpack_delivered, unpack_done, unpack_move, unpack_size, UNKNOWN};
-use types::{Calls, Delivered, Move};
+use types::{Calls, Counts, Delivered, Move};
 
 // As host/include/mavunilai.h declares them.
 unsafe extern "C" {
@@ -18,6 +18,13 @@ unsafe extern "C" {
     ) -> u64;
     fn mavunilai_deliver(book: *mut u8, book_len: usize, frame: *const u8, frame_len: usize)
         -> u64;
+    fn mavunilai_packet(
+        book: *mut u8,
+        book_len: usize,
+        packet: *const u8,
+        packet_len: usize,
+        counts: *mut Counts,
+    ) -> u64;
     fn mavunilai_move(book: *mut u8, book_len: usize, reply: *mut u8, reply_len: usize) -> u64;
     fn mavunilai_signal(book: *mut u8, book_len: usize, height: u64) -> u64;
     fn mavunilai_submit(book: *mut u8, book_len: usize, entry: *const u8, entry_len: usize) -> u64;
@@ -34,7 +41,7 @@ unsafe extern "C" {
 }
 
 /// The number of the interface that this crate knows, as MAVUNILAI_INTERFACE of the header.
-pub const INTERFACE: u64 = 1;
+pub const INTERFACE: u64 = 2;
 
 /// Whether the library is of that interface. Each call of [`Proved`] asks this first.
 pub fn fits() -> bool {
@@ -52,7 +59,8 @@ fn fitting(call: impl FnOnce() -> u64) -> u64 {
 /// The proved replica behind the C interface.
 ///
 /// Every call lends slices for its duration: the pointers are valid for their lengths, those written through come
-/// from exclusive borrows, and the library keeps none of them. A library of another interface is not called; its
+/// from exclusive borrows, and the library keeps none of them. The counts of a packet are a value of the wrapper, laid
+/// out as in C. A library of another interface is not called; its
 /// calls, and an answer that the packing does not know, become the error [`types::packing::UNKNOWN`], and what is read
 /// from it is empty.
 #[derive(Clone, Copy, Debug, Default)]
@@ -79,6 +87,16 @@ impl Calls for Proved {
         unpack_delivered(fitting(|| unsafe {
             mavunilai_deliver(book.as_mut_ptr(), book.len(), frame.as_ptr(), frame.len())
         }))
+    }
+
+    fn packet(&self, book: &mut [u8], packet: &[u8]) -> Result<Counts, u8> {
+        let mut counts = Counts::default();
+        let (at, length) = (packet.as_ptr(), packet.len());
+        // SAFETY: see Proved.
+        unpack_done(fitting(|| unsafe {
+            mavunilai_packet(book.as_mut_ptr(), book.len(), at, length, &mut counts)
+        }))?;
+        Ok(counts)
     }
 
     fn make_move(&self, book: &mut [u8], reply: &mut [u8]) -> Result<Move, u8> {

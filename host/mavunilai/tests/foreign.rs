@@ -11,7 +11,7 @@ mod foreign;
 use foreign::{fits, Proved, INTERFACE};
 #[cfg(feature = "proved")]
 use mavunilai::{fits, Proved};
-use types::{Book, Calls, Certificate, Delivered, Frame, Move, Refusal};
+use types::{Book, Calls, Certificate, Counts, Delivered, Frame, Move, Refusal};
 
 /// Replica 2 of 4 with three heights.
 fn book() -> Book<Proved> {
@@ -36,6 +36,21 @@ fn a_pass_on_dummy_votes() {
     assert_eq!(book.fetch(6, 1), Ok(frames[0]));
     assert_eq!(book.certificates(), vec![frames[0]]);
     assert_eq!((book.current(), book.finalized()), (2, 0));
+}
+
+#[test]
+fn a_packet_is_counted() {
+    let mut book = book();
+    let votes = [0, 9, 1, 0, 2].map(|signer| Frame::DummyVote { signer, height: 1 }.bytes());
+    let counted = Counts { fresh: 3, known: 1, refused: 1 };
+    assert_eq!(book.deliver_packet(votes.as_flattened()), Ok(counted));
+    let before = book.bytes().to_vec();
+    assert_eq!(book.deliver_packet(&[]), Ok(Counts::default()));
+    assert_eq!(book.deliver_packet(&votes[4]), Ok(Counts { known: 1, ..Counts::default() }));
+    let uneven = &votes.as_flattened()[..225];
+    assert_eq!(book.deliver_packet(uneven), Err(Refusal::UnevenPacket));
+    assert_eq!(book.bytes(), before);
+    assert_eq!(Proved.packet(&mut [], uneven), Err(1));
 }
 
 /// The book of a replica alone, after all its moves on one entry.
@@ -116,6 +131,7 @@ fn a_library_of_another_interface_is_not_called() {
     assert_eq!(Book::open(Proved, 4, 2, &[0]).err(), Some(Refusal::OtherInterface));
     let vote = Frame::DummyVote { signer: 0, height: 1 }.bytes();
     assert_eq!(book.deliver(&vote), Err(Refusal::OtherInterface));
+    assert_eq!(book.deliver_packet(&vote), Err(Refusal::OtherInterface));
     assert_eq!(book.make_move(), Err(Refusal::OtherInterface));
     assert_eq!(book.signal(1), Err(Refusal::OtherInterface));
     assert_eq!(book.submit(&[3; 16]), Err(Refusal::OtherInterface));

@@ -55,7 +55,7 @@ fn read_is_told_apart() {
 fn texts_are_those_of_the_types() {
     let files = [word("mavunilai/tests/c/texts.c")];
     if let Some((text, _)) = prints(LANGUAGES[0], "texts", &[&files[0]]) {
-        assert!(text.lines().eq((1..=15).map(meaning)), "{text}");
+        assert!(text.lines().eq((1..=types::LAST_REFUSAL + 1).map(meaning)), "{text}");
     }
 }
 

@@ -1,6 +1,6 @@
 //! The reference as one of the implementations that share a trait.
 
-use crate::{Delivered, Move, Rules};
+use crate::{Counts, Delivered, Move, Rules};
 use types::Calls;
 
 impl Calls for Rules {
@@ -17,6 +17,10 @@ impl Calls for Rules {
 
     fn deliver(&self, book: &mut [u8], frame: &[u8]) -> Result<Delivered, u8> {
         Rules::deliver(self, book, frame)
+    }
+
+    fn packet(&self, book: &mut [u8], packet: &[u8]) -> Result<Counts, u8> {
+        Rules::packet(self, book, packet)
     }
 
     fn make_move(&self, book: &mut [u8], reply: &mut [u8]) -> Result<Move, u8> {

@@ -1,4 +1,5 @@
-//! The reference replica: the rules of document 01 in plain Rust, apart from the proved replica.
+//! The reference replica: the rules of document 01, and of request 2.1 of document 02, in plain Rust, apart from the
+//! proved replica.
 //!
 //! Every call takes the bytes that it may read or write and answers with a value or with the number
 //! of a refusal. A refused call leaves all lent bytes as they were. No input makes a call panic.
@@ -25,6 +26,7 @@ pub mod inspect;
 mod log;
 mod make_move;
 mod open;
+mod packet;
 mod quorum;
 pub mod refusal;
 pub mod rehearsal;
@@ -40,4 +42,4 @@ pub use quorum::is_quorum;
 pub use rules::{Digest, Rules};
 pub use sha256;
 pub use state::book_length;
-pub use types::{Certificate, Delivered, Height, Move};
+pub use types::{Certificate, Counts, Delivered, Height, Move};

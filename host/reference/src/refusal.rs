@@ -1,4 +1,4 @@
-//! The fourteen refusals by number, as the calls return them.
+//! The fifteen refusals by number, as the calls return them.
 
 /// The book is not sound, or at open its length does not fit the number of heights.
 pub const UNSOUND: u8 = 1;
@@ -28,3 +28,5 @@ pub const FULL: u8 = 12;
 pub const REPEATED: u8 = 13;
 /// The signal is not for the current height, or it came before.
 pub const STALE_SIGNAL: u8 = 14;
+/// The length of a packet is no multiple of a frame's.
+pub const UNEVEN_PACKET: u8 = 15;

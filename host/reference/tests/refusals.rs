@@ -1,4 +1,4 @@
-//! The fourteen refusals by their examples; each leaves the book and the reply as they were.
+//! The fifteen refusals by their examples; each leaves the book and the reply as they were.
 
 mod common;
 

@@ -51,7 +51,7 @@ fn any_frame(random: &mut Random, book: &[u8]) -> Vec<u8> {
 
 /// The kinds of call with their buffers; returns whether the call was refused.
 fn any_call(random: &mut Random, book: &mut [u8], reply: &mut [u8]) -> bool {
-    match random.below(8) {
+    match random.below(9) {
         0 => {
             let heights = any_number(random);
             let length = if random.one_in(2) { heights % 70 } else { 3 };
@@ -73,6 +73,11 @@ fn any_call(random: &mut Random, book: &mut [u8], reply: &mut [u8]) -> bool {
             let entry =
                 if random.one_in(9) { random.bytes(17) } else { random_entry(random).to_vec() };
             RULES.submit(book, &entry).is_err()
+        }
+        7 => {
+            let count = random.below(4);
+            let frames: Vec<_> = (0..count).map(|_| any_frame(random, book)).collect();
+            RULES.packet(book, &frames.concat()).is_err()
         }
         _ => RULES.fetch(book, any_number(random), any_number(random), reply).is_err(),
     }

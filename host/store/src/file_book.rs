@@ -4,7 +4,9 @@ use crate::outbox::Outbox;
 use crate::place::Place;
 use crate::{pile, Disk, Error, Files};
 use std::path::Path;
-use types::{book_length, Book, Calls, Delivered, Move, Written, ENTRY, FRAME, MOST_HEIGHTS};
+use types::{
+    book_length, Book, Calls, Counts, Delivered, Move, Written, ENTRY, FRAME, MOST_HEIGHTS,
+};
 
 /// The ending of the file of the frames that wait.
 const FRAMES: &str = ".frames";
@@ -132,6 +134,12 @@ impl<C: Calls + Clone, F: Files> FileBook<C, F> {
     /// Takes a frame whose signatures hold.
     pub fn deliver(&mut self, frame: &[u8]) -> Result<Delivered, Error> {
         self.change(|book| Ok((book.deliver(frame)?, Vec::new())))
+    }
+
+    /// Takes a packet of frames whose signatures hold, in order and in one commit: who opens the book after the process
+    /// or the machine has ended finds it as it was before the packet or after it, never between two frames.
+    pub fn deliver_packet(&mut self, packet: &[u8]) -> Result<Counts, Error> {
+        self.change(|book| Ok((book.deliver_packet(packet)?, Vec::new())))
     }
 
     /// Tells that the timer of a height fired.

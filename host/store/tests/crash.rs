@@ -8,7 +8,7 @@ use common::random::Random;
 use common::script::{script, Input};
 use reference::Rules;
 use store::{Error, FileBook};
-use types::{Book, Refusal, FRAME};
+use types::{Book, Counts, Frame, Refusal, FRAME};
 
 /// The ways in which a station can move and send.
 const WAYS: [Way; 3] = [Way::Takes, Way::Bare, Way::Hands];
@@ -43,6 +43,14 @@ fn broken_by(
     let other = || (!same).then(|| "the book is another".to_string());
     let lost = || (station.said != expected.said).then(|| "other frames were sent".to_string());
     station.broken.clone().or_else(other).or_else(lost)
+}
+
+#[test]
+fn the_scripts_have_packets_and_single_frames() {
+    let inputs: Vec<Input> = (0..8).flat_map(script).collect();
+    let packets = inputs.iter().filter(|input| matches!(input, Input::Packet(_))).count();
+    let singles = inputs.iter().filter(|input| matches!(input, Input::Deliver(_))).count();
+    assert!(packets > 5 && singles > 50, "{packets} packets, {singles} single frames");
 }
 
 #[test]
@@ -117,6 +125,59 @@ fn a_failed_commit_is_not_gone_over() {
     drop(book);
     let mut again = FileBook::open_in(files, Rules::SHA256, BOOK.as_ref()).unwrap();
     assert!(matches!(again.signal(1), Err(Error::Refused(Refusal::NotDue))));
+}
+
+/// Blank votes of these signers at height 1, one behind the other.
+fn packet(signers: &[u8]) -> Vec<u8> {
+    signers.iter().flat_map(|&signer| Frame::DummyVote { signer, height: 1 }.bytes()).collect()
+}
+
+/// Whenever the process or the machine ends, the book is that before the packet or that after it, never one between two
+/// of its frames.
+#[test]
+fn a_packet_is_taken_whole_or_not_at_all() {
+    let (new, packet) = (Book::open(Rules::SHA256, 4, 2, &[0]).unwrap(), packet(&[0, 9, 1, 0, 3]));
+    let mut whole = new.clone();
+    let counted = Counts { fresh: 3, known: 1, refused: 1 };
+    assert_eq!(whole.deliver_packet(&packet), Ok(counted));
+    let mut seen = [0, 0];
+    for fault in [Fault::Process, Fault::Machine, Fault::Refusal] {
+        for (steps, seed) in (0..10).flat_map(|steps| (0..30).map(move |seed| (steps, seed))) {
+            let files = Fake::default();
+            let mut book = FileBook::create_in(files.clone(), new.clone(), BOOK.as_ref()).unwrap();
+            files.fault(steps, fault);
+            let taken = book.deliver_packet(&packet);
+            drop(book);
+            files.revive(&mut Random::new(seed));
+            let found = store::read_in(files, BOOK.as_ref()).unwrap();
+            let at = usize::from(found != new.bytes());
+            assert!(at == 0 || found == whole.bytes(), "{fault:?} at step {steps}, seed {seed}");
+            assert!(taken.is_err() || at == 1, "{fault:?} at step {steps}, seed {seed}");
+            seen[at] += 1;
+        }
+    }
+    assert!(seen.iter().all(|count| *count > 100), "{seen:?}");
+}
+
+/// The steps that a call takes on a new book: as many as must go well for it to succeed.
+fn steps(call: impl Fn(&mut FileBook<Rules, Fake>) -> Result<(), Error>) -> usize {
+    let succeeds = |steps: &usize| {
+        let new = Book::open(Rules::SHA256, 4, 2, &[0]).unwrap();
+        let files = Fake::default();
+        let mut book = FileBook::create_in(files.clone(), new, BOOK.as_ref()).unwrap();
+        files.fault(*steps, Fault::Process);
+        !matches!(call(&mut book), Err(Error::Files { .. }))
+    };
+    (0..).find(succeeds).unwrap()
+}
+
+#[test]
+fn a_packet_is_one_commit() {
+    let one = steps(|book| book.deliver(&packet(&[0])).map(|_| ()));
+    assert!(one > 0);
+    assert_eq!(steps(|book| book.deliver_packet(&packet(&[0, 9, 1, 0, 3])).map(|_| ())), one);
+    assert_eq!(steps(|book| book.deliver_packet(&packet(&[9, 9])).map(|_| ())), 0);
+    assert_eq!(steps(|book| book.deliver_packet(&packet(&[0, 1])[..225]).map(|_| ())), 0);
 }
 
 /// Who only looks may come between renaming and syncing, and what is answered then must not be lost either.

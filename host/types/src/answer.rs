@@ -1,4 +1,4 @@
-//! The answers of deliver and move.
+//! The answers of deliver, packet and move.
 
 use crate::Height;
 use std::fmt;
@@ -10,6 +10,25 @@ pub enum Delivered {
     Fresh,
     /// The book held all of it already.
     Known,
+}
+
+/// What became of the frames of a packet; the three sum to their number. In C this is `mavunilai_counts`.
+#[derive(Clone, Copy, Debug, Default, PartialEq, Eq)]
+#[repr(C)]
+pub struct Counts {
+    /// Frames that changed the book.
+    pub fresh: u64,
+    /// Frames that the book held already.
+    pub known: u64,
+    /// Frames that were refused, each at its turn.
+    pub refused: u64,
+}
+
+impl fmt::Display for Counts {
+    /// The words of the answer in an exchange file.
+    fn fmt(&self, to: &mut fmt::Formatter<'_>) -> fmt::Result {
+        write!(to, "counts {} {} {}", self.fresh, self.known, self.refused)
+    }
 }
 
 /// The certificate that lets a replica pass a height.

@@ -2,7 +2,8 @@
 
 use crate::refusal::Refusal;
 use crate::{
-    book_length, field, head_height, Area, Calls, Delivered, Height, Layout, Move, ENTRY, FRAME,
+    book_length, field, head_height, Area, Calls, Counts, Delivered, Height, Layout, Move, ENTRY,
+    FRAME,
 };
 
 /// The bytes of a book together with the replica that works on them.
@@ -82,6 +83,12 @@ impl<C: Calls> Book<C> {
     /// Takes a frame whose signatures hold.
     pub fn deliver(&mut self, frame: &[u8]) -> Result<Delivered, Refusal> {
         self.calls.deliver(&mut self.bytes, frame).map_err(Refusal::of)
+    }
+
+    /// Takes a packet of frames whose signatures hold, one behind the other, in order. A frame that is refused at its
+    /// turn is counted, and the rest goes on.
+    pub fn deliver_packet(&mut self, packet: &[u8]) -> Result<Counts, Refusal> {
+        self.calls.packet(&mut self.bytes, packet).map_err(Refusal::of)
     }
 
     /// Makes the first move that applies; the frames are to be sent, and delivered here as well.

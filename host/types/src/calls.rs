@@ -1,6 +1,6 @@
 //! The calls of a replica over byte slices, as one trait that each implementation fulfils.
 
-use crate::{Delivered, Move};
+use crate::{Counts, Delivered, Move};
 
 /// A replica's calls. An error is the number of a refusal; a refused call changes no byte.
 pub trait Calls {
@@ -16,6 +16,9 @@ pub trait Calls {
 
     /// Takes a frame into the book: 1, 4, 6, 5, 7, 9, 8, 10.
     fn deliver(&self, book: &mut [u8], frame: &[u8]) -> Result<Delivered, u8>;
+
+    /// Takes the frames of a packet in order, each by itself, and counts what became of them: 1, 15.
+    fn packet(&self, book: &mut [u8], packet: &[u8]) -> Result<Counts, u8>;
 
     /// Makes the first move that applies and writes its frames to the reply's front: 1, 3.
     fn make_move(&self, book: &mut [u8], reply: &mut [u8]) -> Result<Move, u8>;

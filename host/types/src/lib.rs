@@ -17,7 +17,7 @@ mod layout;
 pub mod packing;
 pub mod refusal;
 
-pub use answer::{Certificate, Delivered, Move};
+pub use answer::{Certificate, Counts, Delivered, Move};
 pub use block::{Block, BLOCK, BLOCK_HEIGHT, BLOCK_PARENT};
 pub use book::{Book, Written};
 pub use bounds::*;

@@ -7,7 +7,7 @@ use crate::{height_at, height_bytes, Certificate, Delivered, Move, LAST_REFUSAL}
 /// Stands for a number that no replica answers with; it is no refusal of the table.
 pub const UNKNOWN: u8 = 255;
 
-/// The answer of a call that says nothing else.
+/// The answer of a call that says nothing else; packet says its counts in a struct that it is lent.
 pub fn pack_done(answer: Result<(), u8>) -> u64 {
     answer.map_or_else(u64::from, |()| 0)
 }

@@ -39,6 +39,8 @@ pub enum Refusal {
     EntryKnown = 13,
     /// The signal is not for the current height, or came before. A late timer is no fault.
     NotDue = 14,
+    /// The length of a packet is not a multiple of 224, so that it is not whole frames.
+    UnevenPacket = 15,
     /// No refusal of the table: the library has another interface number, or its answer is none that this one knows.
     OtherInterface = crate::packing::UNKNOWN,
 }
@@ -59,6 +61,7 @@ const TABLE: [Refusal; LAST_REFUSAL as usize] = [
     Refusal::PendingFull,
     Refusal::EntryKnown,
     Refusal::NotDue,
+    Refusal::UnevenPacket,
 ];
 
 impl Refusal {
@@ -109,6 +112,7 @@ pub fn meaning(number: u8) -> &'static str {
         12 => "all 32 pending places are taken",
         13 => "the entry is pending or in the register already",
         14 => "the signal is not for the current height, or came before",
+        15 => "the packet's length is not a multiple of 224",
         _ => "this is no number of the table of refusals",
     }
 }

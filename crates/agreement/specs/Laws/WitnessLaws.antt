@@ -8,19 +8,20 @@ use mathlib.Core.List.{List, [], _∷_}
 use mathlib.Core.Option.{some}
 use Rattle.protocol.specs.Block.{newBlock}
 use Rattle.protocol.specs.Bytes.{Bytes, byteAt, join, le16, word16, zeros}
-use Rattle.protocol.specs.Frame.{dummyCertificate, frameBlock, frameHeight, frameOf, kind, proposal, signer}
+use Rattle.protocol.specs.Frame.{blockVote, dummyCertificate, frameBlock, frameHeight, frameOf, kind, proposal, signer}
 use Rattle.protocol.specs.Laws.RowLaws.{by-rows}
 use Rattle.protocol.specs.Tests.{allOf}
 use Rattle.agreement.specs.ListTests.{everyHonest, hearsAt, opensOnce, noCollision, notForged, readsAt, showsOnly}
-use Rattle.agreement.specs.ListTests.{someIn, writesAt}
-use Rattle.agreement.specs.Laws.ListTestsLaws.{collision-sound, hears-found, reads-found, writes-found}
+use Rattle.agreement.specs.ListTests.{hearsPacketAt, someIn, writesAt}
+use Rattle.agreement.specs.Laws.ListTestsLaws.{collision-sound, hears-found, packet-found, reads-found}
+use Rattle.agreement.specs.Laws.ListTestsLaws.{writes-found}
 use Rattle.agreement.specs.Laws.NotForgedLaws.{forged-sound}
-use Rattle.agreement.specs.Lists.{Member, proposes, statementOf, when}
+use Rattle.agreement.specs.Lists.{Member, proposes, statementOf, votesBlock, when}
 use Rattle.agreement.specs.Met.{Met}
 use Rattle.agreement.specs.Laws.MetLaws.{OneBegins, applied}
 use Rattle.agreement.specs.Turns.{dishonest, entry, everyTurn, nextBlock}
 use Rattle.agreement.specs.Laws.TurnsLaws.{entry-not-empty, few, honest-0, honest-1, keeps}
-use Rattle.agreement.specs.Witness.{Witness, agreed, list, oneBlock, otherBlock, sample, split, timeouts}
+use Rattle.agreement.specs.Witness.{Witness, agreed, list, oneBlock, otherBlock, sample, split, timeouts, votes}
 
 abbrev blocks : List Bytes
 blocks = oneBlock ∷ otherBlock ∷ nextBlock ∷ []
@@ -37,7 +38,8 @@ tests l = allOf
     someIn (hearsAt sample (proposal 3 1 oneBlock) 0) l ∷
     someIn (hearsAt sample (proposal 3 1 otherBlock) 1) l ∷
     someIn (writesAt sample (dummyCertificate 1 7) 0) l ∷
-    someIn (writesAt sample (dummyCertificate 1 7) 1) l ∷ [])
+    someIn (writesAt sample (dummyCertificate 1 7) 1) l ∷
+    someIn (hearsPacketAt sample (blockVote 2 2 (sample nextBlock)) 0) l ∷ [])
 
 -- what they say of a list, by name
 record Passes (l : List Member) : Type 0 where
@@ -51,11 +53,12 @@ record Passes (l : List Member) : Type 0 where
   hears-1 : someIn (hearsAt sample (proposal 3 1 otherBlock) 1) l ≡ true
   writes-0 : someIn (writesAt sample (dummyCertificate 1 7) 0) l ≡ true
   writes-1 : someIn (writesAt sample (dummyCertificate 1 7) 1) l ≡ true
+  packet-0 : someIn (hearsPacketAt sample (blockVote 2 2 (sample nextBlock)) 0) l ≡ true
 
 passes-rows : (l : List Member) → tests l ≡ true → Passes l
 unfolding tests
 passes-rows l e =
-    by-rows _ e λ opens unforged shows no-collision reads-0 reads-1 hears-0 hears-1 writes-0 writes-1. record {
+    by-rows _ e λ opens unforged shows no-collision reads-0 reads-1 hears-0 hears-1 writes-0 writes-1 packet-0. record {
       opens = opens;
       unforged = unforged;
       shows = shows;
@@ -66,10 +69,11 @@ passes-rows l e =
       hears-1 = hears-1;
       writes-0 = writes-0;
       writes-1 = writes-1;
+      packet-0 = packet-0;
     }
 
 tested : tests list ≡ true
-unfolding everyTurn tests list sample oneBlock otherBlock split timeouts agreed
+unfolding everyTurn tests list sample oneBlock otherBlock split timeouts votes agreed
 tested = refl
 
 passes : Passes list
@@ -79,6 +83,10 @@ passes = passes-rows list tested
 proposal-says : (block : Bytes) → statementOf sample (proposal 3 1 block) 3 ≡ some (proposes 1 block)
 unfolding statementOf when proposal frameOf kind signer frameHeight frameBlock word16 le16 zeros
 proposal-says block = refl
+
+vote-says : statementOf sample (blockVote 2 2 (sample nextBlock)) 2 ≡ some (votesBlock 2 (sample nextBlock))
+unfolding everyTurn sample
+vote-says = refl
 
 -- the two blocks differ in their first entry
 two-blocks : oneBlock ≢ otherBlock
@@ -107,6 +115,7 @@ witness = record {
   two-blocks = two-blocks;
   dummy-0 = writes-found sample list _ 0 (passes .writes-0);
   dummy-1 = writes-found sample list _ 1 (passes .writes-1);
+  packet-0 = packet-found sample list _ 0 2 _ vote-says (passes .packet-0);
 }
 
 -- agreement, applied to the list

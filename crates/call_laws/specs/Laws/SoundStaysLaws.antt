@@ -14,7 +14,7 @@ use Rattle.protocol.specs.Sound.{sound}
 use Rattle.protocol.specs.Answer.{Answer, refused, accepted, Outcome, Delivery, Done, done, unlessRefused}
 use Rattle.protocol.specs.Open.{newState, openRows, openCall}
 use Rattle.protocol.specs.Deliver.{deliverCall, deliverAll}
-use Rattle.protocol.specs.Packet.{packetFrames, packetRows, packetCall, countAll}
+use Rattle.protocol.specs.Packet.{packetFrames, packetRows, packetCall}
 use Rattle.protocol.specs.Move.{step, moved, unlessMoveRefused, moveRows, moveCall}
 use Rattle.protocol.specs.Signal.{signalRows, signalCall}
 use Rattle.protocol.specs.Submit.{withPending, stillPending, submitRows, submitCall}

@@ -5,6 +5,7 @@ mod corners;
 mod edges;
 mod moves;
 mod orders;
+mod packets;
 mod parts;
 mod refusals;
 mod rehearsal;

@@ -16,6 +16,7 @@ pub fn run<C: Calls>(to: &mut Recorder<C>) {
     frames(to);
     fetches(to);
     other_calls(to);
+    packets(to);
     soundness(to);
 }
 
@@ -75,6 +76,27 @@ fn other_calls<C: Calls>(to: &mut Recorder<C>) {
     signal(to, "cut", 0);
     to.make(Call::Submit { entry: vec![0; 15] }, "cut", "");
     to.make(Call::Fetch { kind: 4, height: 0 }, "cut", "short");
+}
+
+fn packets<C: Calls>(to: &mut Recorder<C>) {
+    to.part("Packet: 1 before 15, also for no frames at all");
+    let good = Frame::DummyVote { signer: 0, height: 1 }.bytes();
+    let of = |length: usize| {
+        let packet = good.iter().cycle().take(length).copied().collect();
+        Call::Packet { packet }
+    };
+    to.open(BOOK, 4, 2, &[0]);
+    let sound = to.bytes(BOOK).to_vec();
+    let mut damaged = sound.clone();
+    damaged.iter_mut().skip(UNUSED).take(1).for_each(|byte| *byte = 1);
+    to.give(BOOK, damaged);
+    [225, 1, 0, 224].into_iter().for_each(|length| _ = to.make(of(length), BOOK, ""));
+    [225, 0].into_iter().for_each(|length| _ = to.make(of(length), "cut", ""));
+    to.part("Packet: 15 before any frame: a good one in front of a stray byte is not kept, nor is a bad one looked at");
+    to.give(BOOK, sound);
+    to.make(of(225), BOOK, "");
+    to.make(Call::Packet { packet: vec![8; 225] }, BOOK, "");
+    to.make(of(224), BOOK, "");
 }
 
 fn soundness<C: Calls>(to: &mut Recorder<C>) {

@@ -17,6 +17,7 @@ pub fn run<C: Calls>(to: &mut Recorder<C>) {
     certificates(to);
     fetching(to);
     entries(to);
+    packets(to);
     signals(to);
 }
 
@@ -144,6 +145,18 @@ fn entries<C: Calls>(to: &mut Recorder<C>) {
     submit(to, BOOK, numbered(7));
 }
 
+/// Packet: 15.
+fn packets<C: Calls>(to: &mut Recorder<C>) {
+    to.part("Packets: a length that is not a multiple of 224 is 15; no frames at all are a packet");
+    to.open(BOOK, 4, 2, &[0]);
+    let votes = [0, 1, 3].map(|signer| Frame::DummyVote { signer, height: 1 }.bytes());
+    let bytes = votes.as_flattened();
+    for length in [1, 223, 225, 447, 449, 671, 0, 224, 448, 672] {
+        let packet = bytes.get(..length).unwrap_or(&[]).to_vec();
+        to.make(Call::Packet { packet }, BOOK, "");
+    }
+}
+
 /// Signal: 6, 14.
 fn signals<C: Calls>(to: &mut Recorder<C>) {
     to.part("Signals: a height outside is 6, one that is not current or fired already 14");
@@ -156,7 +169,9 @@ fn signals<C: Calls>(to: &mut Recorder<C>) {
     damaged.iter_mut().skip(UNUSED).take(1).for_each(|byte| *byte = 1);
     to.give(BOOK, damaged);
     let digest = digest(&first(1, &[]));
-    deliver(to, BOOK, &[Frame::BlockVote { signer: 0, height: 1, digest }]);
+    let vote = Frame::BlockVote { signer: 0, height: 1, digest };
+    deliver(to, BOOK, std::slice::from_ref(&vote));
+    to.packet(BOOK, &[vote.bytes()]);
     to.make(Call::Move, BOOK, REPLY);
     signal(to, BOOK, 1);
     submit(to, BOOK, entry("entry"));

@@ -1,7 +1,7 @@
 //! The list of a season: four replicas through five heights, one of them dishonest, none of them in step.
 
 use super::parts::*;
-use crate::{Call, Recorder};
+use crate::{Answer, Call, Recorder};
 use types::{Block, Calls, Frame, BLOCK};
 
 /// The books, by replica.
@@ -53,6 +53,19 @@ fn hand_over<C: Calls>(to: &mut Recorder<C>, from: usize, into: usize, wanted: &
     }
 }
 
+/// Fetches all certificates of one book and delivers them to another as one packet.
+fn catch_up<C: Calls>(to: &mut Recorder<C>, from: usize, into: usize) {
+    let mut frames: Vec<Vec<u8>> = Vec::new();
+    for height in 1..=LEADERS.len() as u64 {
+        for kind in 5..=7 {
+            if to.make(Call::Fetch { kind, height }, book(from), REPLY) == Some(Answer::Done) {
+                frames.push(to.bytes(REPLY).iter().copied().take(types::FRAME).collect());
+            }
+        }
+    }
+    to.packet(book(into), &frames);
+}
+
 fn first_height<C: Calls>(to: &mut Recorder<C>) {
     to.part("Height 1: station 0 leads, station 3 hears nothing, the other three settle page 1");
     submit(to, book(0), entry("swap A12 to B40"));
@@ -84,8 +97,8 @@ fn second_height<C: Calls>(to: &mut Recorder<C>) {
 }
 
 fn catching_up<C: Calls>(to: &mut Recorder<C>) {
-    to.part("Station 3 is back and catches up with what fetch gives of station 0's book");
-    hand_over(to, 0, 3, &[(5, 1), (7, 1), (5, 2)]);
+    to.part("Station 3 is back and catches up: all that fetch gives of station 0's book comes as one packet");
+    catch_up(to, 0, 3);
     submit(to, book(3), entry("lot 9 to plot 5"));
 }
 
@@ -129,8 +142,8 @@ fn fourth_height<C: Calls>(to: &mut Recorder<C>, other: Frame) {
     let last = all_move(to, &[1], &[4]);
     send(to, &last, &[0, 1, 2]);
     all_move(to, &[0, 1, 2], &[]);
-    to.remark("Station 3 catches up again");
-    hand_over(to, 1, 3, &[(5, 4), (7, 4)]);
+    to.remark("Station 3 catches up again, from station 1: it knows most of the packet");
+    catch_up(to, 1, 3);
     all_move(to, &[3], &[]);
 }
 

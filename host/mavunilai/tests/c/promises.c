@@ -1,5 +1,6 @@
-/* What the header promises of the library, tried: the interface's number, null pointers with length 0, and that the
- * parts of an answer and of a book are read as they are told. Says what fails, and ends with the count of it. */
+/* What the header promises of the library, tried: the interface's number, null pointers with length 0, the counts of a
+ * packet, and that the parts of an answer and of a book are read as they are told. Says what fails, and ends with the
+ * count of it. */
 #include <stdio.h>
 #include <string.h>
 
@@ -46,14 +47,23 @@ static unsigned run(uint8_t *book) {
     }
 }
 
+/* Whether the counts are these. */
+static int are(const mavunilai_counts *counts, unsigned fresh, unsigned known, unsigned refused) {
+    return counts->fresh == fresh && counts->known == known && counts->refused == refused;
+}
+
 /* A book of no bytes behind a null pointer is refused as any book that is not sound. */
 static void no_book(void) {
     static const uint8_t leaders[1] = {0};
     uint8_t frame[MAVUNILAI_FRAME] = {MAVUNILAI_KIND_BLANK_VOTE, 0, 1}, reply[MAVUNILAI_MOVE_REPLY], buffer[16];
+    mavunilai_counts counts = {7, 8, 9};
     EXPECT(REFUSED(mavunilai_open(NULL, 0, 1, 0, 1, leaders, 1)) == MAVUNILAI_REFUSED_UNSOUND);
     EXPECT(REFUSED(mavunilai_open(NULL, 0, 1, 0, 0, NULL, 0)) == MAVUNILAI_REFUSED_OUT_OF_RANGE);
     EXPECT(REFUSED(mavunilai_deliver(NULL, 0, frame, sizeof frame)) == MAVUNILAI_REFUSED_UNSOUND);
     EXPECT(REFUSED(mavunilai_deliver(NULL, 0, NULL, 0)) == MAVUNILAI_REFUSED_UNSOUND);
+    EXPECT(REFUSED(mavunilai_packet(NULL, 0, frame, sizeof frame, &counts)) == MAVUNILAI_REFUSED_UNSOUND);
+    EXPECT(REFUSED(mavunilai_packet(NULL, 0, NULL, 0, &counts)) == MAVUNILAI_REFUSED_UNSOUND);
+    EXPECT(are(&counts, 7, 8, 9));
     EXPECT(REFUSED(mavunilai_move(NULL, 0, reply, sizeof reply)) == MAVUNILAI_REFUSED_UNSOUND);
     EXPECT(REFUSED(mavunilai_move(NULL, 0, NULL, 0)) == MAVUNILAI_REFUSED_UNSOUND);
     EXPECT(REFUSED(mavunilai_signal(NULL, 0, 1)) == MAVUNILAI_REFUSED_UNSOUND);
@@ -68,10 +78,12 @@ static void no_book(void) {
 
 /* With a sound book every other pointer may be null, and the book stays as it is. */
 static void null_beside(uint8_t *book, unsigned expected_read) {
+    mavunilai_counts counts = {7, 8, 9};
     uint8_t before[LENGTH];
     memcpy(before, book, LENGTH);
     EXPECT(REFUSED(mavunilai_open(book, LENGTH, 1, 0, HEIGHTS, NULL, 0)) == MAVUNILAI_REFUSED_OUT_OF_RANGE);
     EXPECT(REFUSED(mavunilai_deliver(book, LENGTH, NULL, 0)) == MAVUNILAI_REFUSED_MALFORMED);
+    EXPECT(REFUSED(mavunilai_packet(book, LENGTH, NULL, 0, &counts)) == 0 && are(&counts, 0, 0, 0));
     EXPECT(REFUSED(mavunilai_move(book, LENGTH, NULL, 0)) == MAVUNILAI_REFUSED_SHORT_REPLY);
     EXPECT(REFUSED(mavunilai_submit(book, LENGTH, NULL, 0)) == MAVUNILAI_REFUSED_MALFORMED);
     EXPECT(REFUSED(mavunilai_fetch(book, LENGTH, 5, 1, NULL, 0)) == MAVUNILAI_REFUSED_SHORT_REPLY);
@@ -98,6 +110,27 @@ static void flags(const uint8_t *opened) {
     EXPECT(book[MAVUNILAI_HEAD_FLAGS] == (MAVUNILAI_FLAG_TIMER | MAVUNILAI_FLAG_BLANK_VOTE));
 }
 
+/* A packet of four frames is counted and leaves what they leave one by one; a refused one leaves counts and book. */
+static void packets(const uint8_t *opened) {
+    uint8_t packet[4 * MAVUNILAI_FRAME + 1] = {MAVUNILAI_KIND_BLANK_VOTE, 0, 1}, book[LENGTH], other[LENGTH];
+    mavunilai_counts counts = {7, 8, 9};
+    unsigned at;
+    packet[MAVUNILAI_FRAME] = 8;
+    memcpy(packet + 2 * MAVUNILAI_FRAME, packet, MAVUNILAI_FRAME);
+    packet[3 * MAVUNILAI_FRAME] = MAVUNILAI_KIND_FINALISE;
+    packet[3 * MAVUNILAI_FRAME + MAVUNILAI_FRAME_HEIGHT] = HEIGHTS;
+    memcpy(book, opened, LENGTH);
+    memcpy(other, opened, LENGTH);
+    EXPECT(REFUSED(mavunilai_packet(book, LENGTH, packet, sizeof packet, &counts)) == MAVUNILAI_REFUSED_UNEVEN_PACKET);
+    EXPECT(REFUSED(mavunilai_packet(book, LENGTH - 1, packet, sizeof packet, &counts)) == MAVUNILAI_REFUSED_UNSOUND);
+    EXPECT(are(&counts, 7, 8, 9) && memcmp(book, opened, LENGTH) == 0);
+    EXPECT(mavunilai_packet(book, LENGTH, packet, sizeof packet - 1, &counts).packed == 0 && are(&counts, 2, 1, 1));
+    for (at = 0; at < 4; at++) {
+        mavunilai_deliver(other, LENGTH, packet + at * MAVUNILAI_FRAME, MAVUNILAI_FRAME);
+    }
+    EXPECT(memcmp(book, other, LENGTH) == 0 && memcmp(book, opened, LENGTH) != 0);
+}
+
 /* The parts of answers and books, through two heights of a station alone. */
 static void parts(uint8_t *book) {
     uint8_t buffer[MAVUNILAI_MOST_REGISTER];
@@ -110,6 +143,7 @@ static void parts(uint8_t *book) {
     EXPECT(memcmp(book + MAVUNILAI_PENDING_AT, "swap A12 to B40 ", MAVUNILAI_ENTRY) == 0);
 
     flags(book);
+    packets(book);
     EXPECT(run(book) == 8);
     EXPECT(mavunilai_current(book) == 3 && mavunilai_settled(book) == 2);
     null_beside(book, 16);

@@ -5,7 +5,7 @@ use reference::Rules;
 use std::cell::Cell;
 use std::slice::{from_raw_parts, from_raw_parts_mut};
 use types::packing::{pack_delivered, pack_done, pack_move, pack_size};
-use types::Calls;
+use types::{Calls, Counts};
 
 const RULES: Rules = Rules::SHA256;
 
@@ -40,6 +40,19 @@ unsafe extern "C" fn mavunilai_open(
 unsafe extern "C" fn mavunilai_deliver(b: *mut u8, bl: usize, f: *const u8, fl: usize) -> u64 {
     let (book, frame) = unsafe { (from_raw_parts_mut(b, bl), from_raw_parts(f, fl)) };
     pack_delivered(Calls::deliver(&RULES, book, frame))
+}
+
+#[unsafe(no_mangle)]
+unsafe extern "C" fn mavunilai_packet(
+    book: *mut u8,
+    length: usize,
+    packet: *const u8,
+    packet_length: usize,
+    counts: *mut Counts,
+) -> u64 {
+    let book = unsafe { from_raw_parts_mut(book, length) };
+    let packet = unsafe { from_raw_parts(packet, packet_length) };
+    pack_done(Calls::packet(&RULES, book, packet).map(|counted| unsafe { *counts = counted }))
 }
 
 #[unsafe(no_mangle)]

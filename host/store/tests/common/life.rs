@@ -59,6 +59,10 @@ impl Station {
         while let Some(input) = self.script.get(self.done).cloned() {
             let answer = match input {
                 Input::Deliver(frame) => book.deliver(&frame.bytes()).map(|_| ()),
+                Input::Packet(frames) => {
+                    let packet: Vec<u8> = frames.iter().flat_map(Frame::bytes).collect();
+                    book.deliver_packet(&packet).map(|_| ())
+                }
                 Input::Signal(height) => book.signal(height),
                 Input::Submit(entry) => book.submit(&entry),
             };

@@ -7,6 +7,7 @@ use types::{Block, Frame, Height};
 #[derive(Clone, Debug)]
 pub enum Input {
     Deliver(Frame),
+    Packet(Vec<Frame>),
     Signal(u64),
     Submit([u8; 16]),
 }
@@ -47,5 +48,24 @@ fn at_height(height: Height, leader: u8, block: &Block, random: &mut Random) -> 
     for at in (1..inputs.len()).rev() {
         inputs.swap(at, random.below(at + 1));
     }
+    if random.below(3) == 0 {
+        gather(&mut inputs, height, random);
+    }
     inputs
+}
+
+/// Makes one packet of the frames of a height: they come in the place of the last, with one that is refused amid them,
+/// and one of them twice.
+fn gather(inputs: &mut Vec<Input>, height: Height, random: &mut Random) {
+    let mut packet = Vec::new();
+    inputs.retain(|input| match input {
+        Input::Deliver(frame) => {
+            packet.push(frame.clone());
+            false
+        }
+        _ => true,
+    });
+    packet.insert(random.below(packet.len() + 1), Frame::DummyVote { signer: 9, height });
+    packet.push(packet[random.below(packet.len())].clone());
+    inputs.push(Input::Packet(packet));
 }
