@@ -9,13 +9,14 @@ ghost use lib.ListN.{length};
 ghost use Rattle.sha256.specs.Digest.{sha256};
 ghost use Rattle.protocol.specs.Open.{openCall};
 ghost use Rattle.protocol.specs.Deliver.{deliverCall};
+ghost use Rattle.protocol.specs.Packet.{packetCall};
 ghost use Rattle.protocol.specs.Move.{moveCall};
 ghost use Rattle.protocol.specs.Signal.{signalCall};
 ghost use Rattle.protocol.specs.Submit.{submitCall};
 ghost use Rattle.protocol.specs.Fetch.{fetchCall};
 ghost use Rattle.protocol.specs.Read.{readPart, readBuffer, sizeCall};
 ghost use Rattle.replica_c.specs.Interface.{interfaceNumber};
-ghost use Rattle.packing.specs.Packing.{packedDone, packedDelivery, packedMove, packedSize};
+ghost use Rattle.packing.specs.Packing.{packedDone, packedDelivery, packedPacket, countsAfter, packedMove, packedSize};
 
 // Open: makes a new book for replica `own` of `n`; byte h - 1 of `leaders` is the leader of height h. The book's old
 // bytes do not matter.
@@ -44,6 +45,22 @@ pub extern "C" fn mavunilai_deliver(book: &mut [u8], frame: &[u8]) -> usize
     ensures book { λ _. ⌜ now (book .exit) ≡ deliverCall sha256 (now (book .entry)) (now (frame .entry)) .book ⌝ }
 {
     packing::delivered_number(replica::deliver::deliver(book, frame))
+}
+
+// Deliver of a packet: delivers each of its frames, 224 bytes each, in order; a frame that is refused changes nothing,
+// and the next one follows.
+// Returns 0 and writes how many frames were fresh, known and refused to `counts`, in that order. Refusals: 1, 15
+// (`packetCall`); a refused packet leaves `counts` as they were.
+#[no_mangle]
+pub extern "C" fn mavunilai_packet(book: &mut [u8], packet: &[u8], counts: &mut [usize; 3]) -> usize
+    ensures answer { λ r. ⌜ r ≡ packedPacket (packetCall sha256 (now (book .entry)) (now (packet .entry)) .answer) ⌝ }
+    ensures book { λ _. ⌜ now (book .exit) ≡ packetCall sha256 (now (book .entry)) (now (packet .entry)) .book ⌝ }
+    ensures counts { λ _. ⌜ now (counts .exit) ≡
+        countsAfter (packetCall sha256 (now (book .entry)) (now (packet .entry)) .answer) (now (counts .entry)) ⌝ }
+{
+    let answer = replica::packet::deliver_packet(book, packet);
+    packing::write_counts(answer, counts);
+    packing::counted_number(answer)
 }
 
 // Signal: sets the timer flag of the current height, which the caller names.
@@ -121,5 +138,5 @@ pub extern "C" fn mavunilai_size(book: &[u8]) -> usize
 pub extern "C" fn mavunilai_interface() -> usize
     ensures { λ r. ⌜ r ≡ interfaceNumber ⌝ }
 {
-    1
+    2
 }
