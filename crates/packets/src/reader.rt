@@ -15,7 +15,8 @@ pub fn frame_at(packet: &[u8], k: usize) -> &[u8]
     requires { ⌜ 224 * k + 224 ≤ length (now packet) ⌝ }
     ensures { λ r. ⌜ now r ≡ frameAt (now (packet .entry)) k ⌝ }
 {
-    &packet[224 * k..224 * k + 224]
+    let start = 224 * k;
+    &packet[start..start + 224]
 }
 
 // The next frame of a reader.

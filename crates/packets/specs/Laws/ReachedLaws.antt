@@ -12,9 +12,9 @@ use Rattle.protocol.specs.Frame.{frameSize}
 use Rattle.protocol.specs.Sound.{sound}
 use Rattle.protocol.specs.Answer.{Answer, Delivery}
 use Rattle.protocol.specs.Deliver.{deliverCall, deliverAll}
-use Rattle.protocol.specs.Packet.{packetFrames, noFrames, countedIn, countAll}
+use Rattle.protocol.specs.Packet.{packetFrames, noFrames, counted, countedIn, countAll}
 use Rattle.protocol.specs.Laws.PiecesLaws.{length-pieces, pieces-more}
-use Rattle.protocol.specs.Laws.PacketLaws.{counted, counts-sum, deliver-more, count-more}
+use Rattle.protocol.specs.Laws.PacketLaws.{counts-sum, deliver-more, count-more}
 use Rattle.call_laws.specs.Laws.SoundStaysLaws.{deliver-stays}
 use Rattle.packets.specs.declared.progress.Progress.{Progress}
 use Rattle.packets.specs.Frames.{frameAt}
