@@ -35,6 +35,7 @@ fn answer(line: &[u8], book: &mut [u8], lent: &mut [u8]) {
     match named(line) {
         Call::Open => open(line, book, lent),
         Call::Deliver => answered::delivered(replica::deliver::deliver(book, lent)),
+        Call::Packet => answered::counted(replica::packet::deliver_packet(book, lent)),
         Call::Move => answered::moved(replica::make_move::make_move(book, lent)),
         Call::Signal => answered::done(replica::signal::signal(book, number(line, 2))),
         Call::Submit => answered::done(replica::submit::submit(book, lent)),

@@ -11,6 +11,7 @@ pub enum Call {
     Give,
     Open,
     Deliver,
+    Packet,
     Move,
     Signal,
     Submit,
@@ -27,11 +28,12 @@ pub fn named(line: &[u8]) -> Call {
         0x6769_7665 => Call::Give,
         0x6f70_656e => Call::Open,
         0x64_656c_6976_6572 => Call::Deliver,
-        // move, signal, submit
+        // packet, move, signal
+        0x7061_636b_6574 => Call::Packet,
         0x6d6f_7665 => Call::Move,
         0x7369_676e_616c => Call::Signal,
+        // submit, size, read, fetch
         0x7375_626d_6974 => Call::Submit,
-        // size, read, fetch
         0x7369_7a65 => Call::Size,
         0x7265_6164 => Call::Read,
         0x66_6574_6368 => Call::Fetch,
@@ -44,7 +46,7 @@ pub fn named(line: &[u8]) -> Call {
 fn shape(call: Call) -> usize {
     match call {
         Call::Open => 32221,
-        Call::Give | Call::Deliver | Call::Submit => 31,
+        Call::Give | Call::Deliver | Call::Packet | Call::Submit => 31,
         Call::Move | Call::Read => 11,
         Call::Signal => 21,
         Call::Size => 1,

@@ -3,6 +3,7 @@ use crate::print::text;
 use crate::print::word;
 use answers::answer::Answer;
 use answers::answer::Certificate;
+use answers::answer::Counted;
 use answers::answer::Delivered;
 use answers::answer::Moved;
 use answers::answer::Size;
@@ -19,6 +20,20 @@ pub fn delivered(answer: Delivered) {
         Delivered::Fresh => text(b"fresh"),
         Delivered::Known => text(b"known"),
         Delivered::Refused(refusal) => word(b"deny", refusal),
+    }
+}
+
+// A packet's frames: how many were fresh, known and refused.
+fn counts(fresh: usize, known: usize, refused: usize) {
+    word(b"counts", fresh);
+    word(b"", known);
+    word(b"", refused);
+}
+
+pub fn counted(answer: Counted) {
+    match answer {
+        Counted::Frames(fresh, known, refused) => counts(fresh, known, refused),
+        Counted::Refused(refusal) => word(b"deny", refusal),
     }
 }
 
