@@ -94,11 +94,11 @@ fn every_kind<C: Calls>(to: &mut Recorder<C>) {
 }
 
 fn large_counts<C: Calls>(to: &mut Recorder<C>) {
-    to.part("Counts do not fit a byte: 256 known frames, 300 refused ones, and 272 fresh ones of the largest book");
+    to.part("Counts do not fit a byte: 256 known frames, 290 refused ones, and 272 fresh ones of the largest book");
     to.open(BOOK, 4, 2, &[0]);
     to.packet(BOOK, &[blank(0)]);
     to.packet(BOOK, &[blank(0); 256]);
-    to.packet(BOOK, &[MALFORMED; 300]);
+    to.packet(BOOK, &[MALFORMED; 290]);
     to.open(BOOK, 16, 15, &[15; MOST_HEIGHTS as usize]);
     let heights = MOST_HEIGHTS.saturating_sub(16)..=MOST_HEIGHTS;
     let votes = heights.flat_map(|height| {
