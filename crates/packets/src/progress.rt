@@ -17,7 +17,8 @@ pub struct Progress {
 // What is reached: the next frame, and the counts of those before it.
 pub fn reached(next: usize, fresh: usize, known: usize, refused: usize) -> Progress
     ensures next { λ r. ⌜ r .next ≡ next ⌝ }
-    ensures counts { λ r. ⌜ countsOf r ≡ record { freshFrames = fresh; knownFrames = known; refusedFrames = refused } ⌝ }
+    ensures counts { λ r. ⌜ countsOf r ≡
+        record { freshFrames = fresh; knownFrames = known; refusedFrames = refused } ⌝ }
 {
     Progress {
         next: next,
