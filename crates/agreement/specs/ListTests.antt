@@ -104,8 +104,8 @@ module _ (digest : Bytes → Bytes) where
       everyIn (λ block. everyIn (λ other. implies (same (digest block) (digest other)) (same block other)) blocks)
       blocks
 
-  -- ---- members of replica `s`: one that reads this part, one to which this frame is delivered, so in a packet, one that
-  -- writes it
+  -- ---- members of replica `s`: one that reads this part, one to which this frame is delivered, the same in a packet,
+  -- one that writes it
   unfoldable pub readsAt : Bytes → ℕ → Member → Bool
   readsAt part s m = eqb (m .replica) s && readsPart part (does digest m .reads)
 

@@ -1,7 +1,7 @@
 -- A list of calls that meets every premise of demand 3 over a stand-in digest, so that the claim is not vacuous: four
 -- replicas, of which replica 3 is dishonest and proposes two blocks at one height; height 1 passes on its dummy block,
--- height 2 is notarized by votes that come in one packet and are tallied, and two honest replicas read an entry. The digest must compute
--- here, and SHA-256 does not in the prover; a list for SHA-256 is in AnyDigest.antt.
+-- height 2 is notarized by votes that come in one packet and are tallied, and two honest replicas read an entry. The
+-- digest must compute here, and SHA-256 does not in the prover; a list for SHA-256 is in AnyDigest.antt.
 use mathlib.Core.Logic.{_≢_}
 use mathlib.Core.List.{List, [], _∷_, _++_, List·Memᴰ}
 use lib.ListN.{replicate}

@@ -69,7 +69,8 @@ unfolding tools first book mixed calls
 delivers = refl
 
 writes : map (λ call. effect standIn book call .writes) calls ≡
-    [] ∷ [] ∷ [] ∷ [] ∷ [] ∷ [] ∷ [] ∷ [] ∷ (dummyCertificate 2 7 ∷ finalize 2 2 ∷ []) ∷ [] ∷ [] ∷ [] ∷ [] ∷ [] ∷ [] ∷ [] ∷ [] ∷
+    [] ∷ [] ∷ [] ∷ [] ∷ [] ∷ [] ∷ [] ∷ [] ∷
+    (dummyCertificate 2 7 ∷ finalize 2 2 ∷ []) ∷ [] ∷ [] ∷ [] ∷ [] ∷ [] ∷ [] ∷ [] ∷ [] ∷
     (finalizeCertificate 1 7 ∷ []) ∷ [] ∷ [] ∷ []
 unfolding tools first book mixed calls
 writes = refl

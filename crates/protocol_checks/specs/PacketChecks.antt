@@ -10,7 +10,8 @@ use Rattle.protocol.specs.Block.{newBlock}
 use Rattle.protocol.specs.Frame.{proposal, blockVote, dummyVote, finalize, dummyCertificate}
 use Rattle.protocol.specs.Packet.{counted, packetFrames}
 use Rattle.protocol.specs.Call.{opening, delivery, packetDelivery}
-use Rattle.protocol_checks.specs.CheckCalls.{standIn, after, perform, refuses, splice, expect, disagreement, tools}
+use Rattle.protocol_checks.specs.CheckCalls.{standIn, after, perform, refuses, splice, expect, disagreement}
+use Rattle.protocol_checks.specs.CheckCalls.{tools}
 
 -- ---- a book and frames
 first : Bytes

@@ -80,7 +80,8 @@ module _ (digest : Bytes → Bytes) where
         gathered digest part s (xs ++ ys) ≡ gathered digest part s xs ++ gathered digest part s ys
     unfolding gathered
     gathered-both [] ys = refl
-    gathered-both (x ∷ xs) ys = rw (gathered-both xs ys) (sym (append-assoc (cond (eqb (x .replica) s) (part x) []) _ _))
+    gathered-both (x ∷ xs) ys =
+        rw (gathered-both xs ys) (sym (append-assoc (cond (eqb (x .replica) s) (part x) []) _ _))
 
     gathered-none : (xs : List Member) → ((x : Member) → List·Memᴰ x xs → part x ≡ []) → gathered digest part s xs ≡ []
     unfolding gathered

@@ -36,7 +36,8 @@ module _ (digest : Bytes → Bytes) where
       go (refused number) e = unfold Delivers in
           let same : deliverCall digest book frame .book ∷ [] ≡ book ∷ [] = refuses .unchanged number e in
           (refuses .by-number number .0 e, cc)
-      go (accepted news) e = unfold Delivers in (passes news e (firstRefusal rows) refl, deliver-keeps digest book frame news e)
+      go (accepted news) e = unfold Delivers in
+          (passes news e (firstRefusal rows) refl, deliver-keeps digest book frame news e)
 
   pub frames-keep : (book : Bytes) (frames : List Bytes) →
       KeepsAll digest book frames (countAll digest book frames) (deliverAll digest book frames)
@@ -44,7 +45,8 @@ module _ (digest : Bytes → Bytes) where
   frames-keep book [] = (refl, refl)
   frames-keep book (frame ∷ frames) =
       let o : Outcome Delivery = deliverCall digest book frame in
-      (o .answer, o .book, countAll digest (o .book) frames, frame-delivers book frame, frames-keep (o .book) frames, refl)
+      let later : Counts = countAll digest (o .book) frames in
+      (o .answer, o .book, later, frame-delivers book frame, frames-keep (o .book) frames, refl)
 
   pub packet-keeps : (book packet : Bytes) (counts : Counts) → packetCall digest book packet .answer ≡ accepted counts →
       KeepsAll digest book (packetFrames packet) counts (packetCall digest book packet .book)

@@ -121,7 +121,8 @@ module _ (digest : Bytes → Bytes) where
     packet-delivers ok whole = rw (ok, whole)
 
     -- a packet is refused and leaves the book, or is not and delivers its frames
-    pub packet-cases : (P : Bool → Bytes → Type 0) → P false book → P true (deliverAll digest book (packetFrames packet)) →
+    pub packet-cases : (P : Bool → Bytes → Type 0) → P false book →
+        P true (deliverAll digest book (packetFrames packet)) →
         P (isAccepted (packetCall digest book packet .answer)) (packetCall digest book packet .book)
     unfolding packetCall unlessRefused isAccepted
     packet-cases P refuses delivers = go (firstRefusal (packetRows digest book packet))
@@ -151,7 +152,8 @@ module _ (digest : Bytes → Bytes) where
 
       same-counts : counts ≡ countAll digest book (packetFrames packet)
       same-counts =
-          let same : accepted counts ≡ delivered .answer = sym unrefused ∙ ap (λ (o : Outcome Counts). o .answer) is-delivered in
+          let same : accepted counts ≡ delivered .answer =
+          sym unrefused ∙ ap (λ (o : Outcome Counts). o .answer) is-delivered in
           cc
 
       -- the counts sum to its frames
