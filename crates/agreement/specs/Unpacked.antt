@@ -71,7 +71,7 @@ module _ (digest : Bytes → Bytes) where
     pub same-written : (s : ℕ) → gathered (writes digest) s (unpacked list) ≡ gathered (writes digest) s list
     pub same-read : (s : ℕ) → gathered readBy s (unpacked list) ≡ gathered readBy s list
     -- a replica that opens its book first and once, and whose calls alone write to it, does so in both, and both leave
-    -- the same book
+    -- the same book; not the other way round, since a refused packet before the opening is in the list alone
     pub same-keeping : (n s : ℕ) → KeepsOneBook digest n list s → KeepsOneBook digest n (unpacked list) s
     pub same-left : (n s : ℕ) → KeepsOneBook digest n list s →
         lastLeft digest s (unpacked list) ≡ lastLeft digest s list
