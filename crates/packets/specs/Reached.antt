@@ -14,11 +14,12 @@ use Rattle.packets.specs.declared.progress.Progress.{Progress}
 
 -- the counts, as the protocol has them
 abbrev pub countsOf : Progress → Counts
-countsOf p = record { freshFrames = p .fresh; knownFrames = p .known; refusedFrames = p .refused }
+countsOf progress =
+    record { freshFrames = progress .fresh; knownFrames = progress .known; refusedFrames = progress .refused }
 
 -- the book and the counts after the frames before the next one, each delivered by itself
-pub record Reached (before packet book : Bytes) (p : Progress) : Type 0 where
-  pub within : p .next ≤ length packet / frameSize
+pub record Reached (before packet book : Bytes) (progress : Progress) : Type 0 where
+  pub within : progress .next ≤ length packet / frameSize
   pub is-sound : sound sha256 book ≡ true
-  pub left : book ≡ deliverAll sha256 before (pieces frameSize (p .next) packet)
-  pub counts : countsOf p ≡ countAll sha256 before (pieces frameSize (p .next) packet)
+  pub left : book ≡ deliverAll sha256 before (pieces frameSize (progress .next) packet)
+  pub counts : countsOf progress ≡ countAll sha256 before (pieces frameSize (progress .next) packet)

@@ -23,13 +23,13 @@ fn deliver_frames(book: &mut [u8], packet: &[u8]) -> Counted
         deliverAll sha256 (now (book .entry)) (packetFrames (now (packet .entry))) ⌝ }
 {
     let count = packet.len() / 224;
-    let mut p = reached(0, 0, 0, 0);
-    while p.next < count {
-        let k = p.next;
+    let mut progress = reached(0, 0, 0, 0);
+    while progress.next < count {
+        let k = progress.next;
         let answer = deliver_sound(book, read_frame(packet, k));
-        p = counted(p, answer);
+        progress = counted(progress, answer);
     }
-    Counted::Frames(p.fresh, p.known, p.refused)
+    Counted::Frames(progress.fresh, progress.known, progress.refused)
 }
 
 // Delivers a packet. Refuses with 1 a book that is not sound, and with 15 a packet whose length is not a multiple of

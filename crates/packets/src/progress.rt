@@ -29,16 +29,21 @@ pub fn reached(next: usize, fresh: usize, known: usize, refused: usize) -> Progr
 }
 
 // One frame more, by what its delivery answered.
-pub fn counted(p: Progress, answer: Delivered) -> Progress
-    requires { ⌜ p .next + 1 < 2 ^ 64 ⌝ }
-    requires { ⌜ p .fresh + p .known + p .refused ≡ p .next ⌝ }
-    ensures next { λ r. ⌜ r .next ≡ p .next + 1 ⌝ }
-    ensures counts { λ r. ⌜ countsOf r ≡ countedIn (deliveredAnswer answer) (countsOf p) ⌝ }
+pub fn counted(progress: Progress, answer: Delivered) -> Progress
+    requires { ⌜ progress .next + 1 < 2 ^ 64 ⌝ }
+    requires { ⌜ progress .fresh + progress .known + progress .refused ≡ progress .next ⌝ }
+    ensures next { λ r. ⌜ r .next ≡ progress .next + 1 ⌝ }
+    ensures counts { λ r. ⌜ countsOf r ≡ countedIn (deliveredAnswer answer) (countsOf progress) ⌝ }
 {
-    let next = p.next + 1;
+    let next = progress.next + 1;
     match answer {
-        Delivered::Fresh => reached(next, p.fresh + 1, p.known, p.refused),
-        Delivered::Known => reached(next, p.fresh, p.known + 1, p.refused),
-        Delivered::Refused(_) => reached(next, p.fresh, p.known, p.refused + 1),
+        Delivered::Fresh => reached(next, progress.fresh + 1, progress.known, progress.refused),
+        Delivered::Known => reached(next, progress.fresh, progress.known + 1, progress.refused),
+        Delivered::Refused(_) => reached(
+            next,
+            progress.fresh,
+            progress.known,
+            progress.refused + 1,
+        ),
     }
 }

@@ -20,11 +20,11 @@ pub fn frame_at(packet: &[u8], k: usize) -> &[u8]
 }
 
 // The next frame of a reader.
-pub fn frame<'a>(r: Packet<'a>) -> &'a [u8]
-    requires { ⌜ 224 * (r .next) + 224 ≤ length (now (r .frames)) ⌝ }
-    ensures { λ f. ⌜ now f ≡ frameAt (now (r .entry .frames)) (r .entry .next) ⌝ }
+pub fn frame<'a>(reader: Packet<'a>) -> &'a [u8]
+    requires { ⌜ 224 * (reader .next) + 224 ≤ length (now (reader .frames)) ⌝ }
+    ensures { λ f. ⌜ now f ≡ frameAt (now (reader .entry .frames)) (reader .entry .next) ⌝ }
 {
-    frame_at(r.frames, r.next)
+    frame_at(reader.frames, reader.next)
 }
 
 // Frame `k` through a reader. Its parameters are plain, so that the proofs of its callers need not go by hand.

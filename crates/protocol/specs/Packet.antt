@@ -22,16 +22,25 @@ noFrames = record { freshFrames = 0; knownFrames = 0; refusedFrames = 0 }
 
 -- all frames that are counted
 abbrev pub counted : Counts → ℕ
-counted c = c .freshFrames + c .knownFrames + c .refusedFrames
+counted counts = counts .freshFrames + counts .knownFrames + counts .refusedFrames
 
 -- one frame more, by what its own delivery answers
 unfoldable pub countedIn : Answer Delivery → Counts → Counts
-countedIn (accepted fresh) c =
-    record { freshFrames = c .freshFrames + 1; knownFrames = c .knownFrames; refusedFrames = c .refusedFrames }
-countedIn (accepted known) c =
-    record { freshFrames = c .freshFrames; knownFrames = c .knownFrames + 1; refusedFrames = c .refusedFrames }
-countedIn (refused number) c =
-    record { freshFrames = c .freshFrames; knownFrames = c .knownFrames; refusedFrames = c .refusedFrames + 1 }
+countedIn (accepted fresh) counts = record {
+  freshFrames = counts .freshFrames + 1;
+  knownFrames = counts .knownFrames;
+  refusedFrames = counts .refusedFrames;
+}
+countedIn (accepted known) counts = record {
+  freshFrames = counts .freshFrames;
+  knownFrames = counts .knownFrames + 1;
+  refusedFrames = counts .refusedFrames;
+}
+countedIn (refused number) counts = record {
+  freshFrames = counts .freshFrames;
+  knownFrames = counts .knownFrames;
+  refusedFrames = counts .refusedFrames + 1;
+}
 
 module _ (digest : Bytes → Bytes) where
   -- how many of these frames are fresh, known and refused, each over the book that those before it left

@@ -12,10 +12,10 @@ use Rattle.packets.proofs.deliver.deliver_frames.Statement.{statement}
 use Rattle.packets.proofs.deliver.deliver_frames.Tie as tie
 
 abbrev Inv-loop : tie.InvT-loop
-Inv-loop book₀ packet count p₀ book p = Reached book₀ packet book p × (length book ≡ length book₀)
+Inv-loop book₀ packet count progress₀ book progress = Reached book₀ packet book progress × (length book ≡ length book₀)
 
 abbrev μ-loop : tie.MeasureT-loop
-μ-loop book₀ packet count p₀ book p = count - p .next
+μ-loop book₀ packet count progress₀ book progress = count - progress .next
 
 loop-holds : tie.Need-loop-holds Inv-loop μ-loop
 unfolding noFrames
@@ -34,7 +34,7 @@ counted-requires c κs =
     let at-loop = c .before .before .before .before .before .before .before in
     let start = at-loop .before .before .before .before in (
       search needs,
-      reached-sum (start .args .book .now) (start .args .packet .now) (at-loop .loop .book) (at-loop .loop .p)
+      reached-sum (start .args .book .now) (start .args .packet .now) (at-loop .loop .book) (at-loop .loop .progress)
           (at-loop .loop .inv .0),
     )
 
@@ -46,7 +46,7 @@ loop-again c =
     let at-loop = inside .before .before in
     let start = at-loop .before .before .before .before in
     let told = after-deliver-sound .deliver-sound in (
-      reached-more (start .args .book .now) (start .args .packet .now) (at-loop .loop .book) (at-loop .loop .p)
+      reached-more (start .args .book .now) (start .args .packet .now) (at-loop .loop .book) (at-loop .loop .progress)
           (at-loop .loop .inv .0) (inside .if1 .taken) _ (after-read-frame .read-frame .ensures)
           (deliveredAnswer (told .result)) (told .ensures .0) _ (told .ensures .1)
           (c .counted .result) (c .counted .ensures .0) (c .counted .ensures .1),
@@ -58,7 +58,7 @@ unfolding countedAnswer
 returns c =
     let at-loop = c .before .before in
     let start = at-loop .before .before .before .before in
-    let all = reached-all (start .args .book .now) (start .args .packet .now) (at-loop .loop .book) (at-loop .loop .p)
+    let all = reached-all (start .args .book .now) (start .args .packet .now) (at-loop .loop .book) (at-loop .loop .progress)
     (at-loop .loop .inv .0) (c .if1 .left) in
     (ap (λ (counts : Counts). accepted counts) (all .0), all .1)
 
