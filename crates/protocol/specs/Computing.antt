@@ -20,8 +20,9 @@ use Rattle.protocol.specs.Answer.{moveNumber, moveHeight}
 use Rattle.protocol.specs.Open.{newHeight, newState, openInRange, openRows, openCall}
 use Rattle.protocol.specs.Deliver.{withProposal, withNotarized, withMasks, withVote, votersFor, keepDummyVote}
 use Rattle.protocol.specs.Deliver.{keepFinalize, keepBlockCertificate, keepDummyCertificate}
-use Rattle.protocol.specs.Deliver.{keepFinalizeCertificate, readRows, clashRows, notarize, keepProposal}
-use Rattle.protocol.specs.Deliver.{keepBlockVote, keep, kept, deliverRows, deliverCall, deliverAll}
+use Rattle.protocol.specs.Deliver.{keepFinalizeCertificate, readRows, secondProposal, leaderEquivocates}
+use Rattle.protocol.specs.Deliver.{timerFires, clashRows, notarize, keepProposal, keepBlockVote, keep, kept}
+use Rattle.protocol.specs.Deliver.{deliverRows, heard, deliverCall, deliverAll}
 use Rattle.protocol.specs.Packet.{packetFrames, noFrames, countedIn, countAll, acceptedOf, packetRows, packetCall}
 use Rattle.protocol.specs.Certificates.{certificateFrame}
 use Rattle.protocol.specs.Move.{firstStep, isSome, someOr, isRunning, idleStep, dummyVoteApplies, dummyVoteStep}
@@ -46,12 +47,12 @@ unfolding word16 le16 part zeros overFront all isZero same pieces join holds wit
     isFinalized largestFinalized parentOf chainWithin chain logAt view log masksBelow blocksWellFormed contentZeros
     sound isAccepted unlessRefused refusalNumber certificateKind finalizeKind moveNumber moveHeight newHeight newState
     openInRange openRows openCall withProposal withNotarized withMasks withVote votersFor keepDummyVote keepFinalize
-    keepBlockCertificate keepDummyCertificate keepFinalizeCertificate readRows clashRows notarize keepProposal
-    keepBlockVote keep kept deliverRows deliverCall deliverAll packetFrames noFrames countedIn countAll acceptedOf
-    packetRows packetCall certificateFrame firstStep isSome someOr isRunning idleStep dummyVoteApplies dummyVoteStep
-    offered unused written moved unlessMoveRefused newFinalized outputApplies outputStep passApplies passStep
-    proposeApplies proposedBlock proposeStep blockVoteApplies blockVoteStep step afterMoves moveRows moveCall signalRows
-    signalCall withPending stillPending submitRows submitCall logSize sizeCall readPart readBuffer hasCertificate
-    certificateIf certificatesAt certificatesTo everyCertificate unlessFetchRefused fetchRows fetchCall effect
-    bookAfterAll
+    keepBlockCertificate keepDummyCertificate keepFinalizeCertificate readRows secondProposal leaderEquivocates
+    timerFires clashRows notarize keepProposal keepBlockVote keep kept deliverRows heard deliverCall deliverAll
+    packetFrames noFrames countedIn countAll acceptedOf packetRows packetCall certificateFrame firstStep isSome someOr
+    isRunning idleStep dummyVoteApplies dummyVoteStep offered unused written moved unlessMoveRefused newFinalized
+    outputApplies outputStep passApplies passStep proposeApplies proposedBlock proposeStep blockVoteApplies
+    blockVoteStep step afterMoves moveRows moveCall signalRows signalCall withPending stillPending submitRows submitCall
+    logSize sizeCall readPart readBuffer hasCertificate certificateIf certificatesAt certificatesTo everyCertificate
+    unlessFetchRefused fetchRows fetchCall effect bookAfterAll
 everything = tt

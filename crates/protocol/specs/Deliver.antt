@@ -1,4 +1,5 @@
--- Deliver: keeps what a frame states, and notarizes a held proposal that has a quorum of votes.
+-- Deliver: keeps what a frame states, and notarizes a held proposal that has a quorum of votes. A leader of the current
+-- height who proposes two blocks fires the timer.
 use Prim.Native.Nat.{ℕ, _+_, _*_, _^_}
 use mathlib.Core.Bool.{Bool, _&&_, _||_, not, cond}
 use mathlib.Core.List.{List, [], _∷_, _++_}
@@ -12,7 +13,7 @@ use Rattle.protocol.specs.Frame.{isStatement, isProposal, isBlockVote, i
 use Rattle.protocol.specs.Frame.{isBlockCertificate, isDummyCertificate}
 use Rattle.protocol.specs.Mask.{inMask, maskOf, union, belowBit}
 use Rattle.protocol.specs.State.{State, Height, at, last, withHeight, encode, decode, holdsProposal, isNotarized}
-use Rattle.protocol.specs.State.{voteOf}
+use Rattle.protocol.specs.State.{voteOf, flag, withTimerFired}
 use Rattle.protocol.specs.View.{View, quorum}
 use Rattle.protocol.specs.Sound.{view, sound}
 use Rattle.protocol.specs.Answer.{Outcome, Delivery, known, fresh, accepted, unlessRefused}
@@ -109,13 +110,30 @@ readRows s frame =
     (7, implies (isProposal k) (eqb (signer frame) (at s (frameHeight frame) .leader))) ∷
     (9, isStatement k || quorum (view s) (signerMask frame)) ∷ []
 
--- a frame that is read contradicts nothing kept if it passes these rows
+-- ---- a leader who proposes two blocks
+-- a proposal whose height holds another one
+unfoldable pub secondProposal : State → Bytes → Bool
+secondProposal s frame =
+    let x : Height = at s (frameHeight frame) in
+    allOf (isProposal (kind frame) ∷ holdsProposal x ∷ not (same (x .proposal) (frameBlock frame)) ∷ [])
+
+-- 004, footnote 10: the leader of the current height equivocates (that the leader signed, row 7 of `readRows` says)
+unfoldable pub leaderEquivocates : State → Bytes → Bool
+leaderEquivocates s frame = secondProposal s frame && eqb (frameHeight frame) (s .current)
+
+-- the timer fires, if it has not: known where it has, and nothing else changes
+unfoldable pub timerFires : Bytes → Outcome Delivery
+timerFires book =
+    cond (flag 1 (decode book)) (record { answer = accepted known; book = book })
+    (record { answer = accepted fresh; book = encode (withTimerFired (decode book)) })
+
+-- a frame that is read contradicts nothing kept if it passes these rows; at the current height a second proposal does
 unfoldable pub clashRows : State → Bytes → List Row
 clashRows s frame =
     let x : Height = at s (frameHeight frame) in
     let k : ℕ = kind frame in
     let voted : Bool = inMask (x .voterMask) (signer frame) in
-    (8, implies (isProposal k && holdsProposal x) (same (x .proposal) (frameBlock frame))) ∷
+    (8, implies (secondProposal s frame) (eqb (frameHeight frame) (s .current))) ∷
     (8, implies (isBlockVote k && voted) (same (voteOf x (signer frame)) (frameDigest frame))) ∷
     (10, implies (isBlockCertificate k && isNotarized x) (same (x .notarized) (frameBlock frame))) ∷ []
 
@@ -158,9 +176,13 @@ module _ (digest : Bytes → Bytes) where
   deliverRows book frame =
       (1, sound digest book) ∷ (readRows (decode book) frame ++ clashRows (decode book) frame)
 
+  -- what a frame that passes all rows leaves
+  unfoldable pub heard : Bytes → Bytes → Outcome Delivery
+  heard book frame =
+      cond (leaderEquivocates (decode book) frame) (timerFires book) (kept book frame (keep (decode book) frame))
+
   unfoldable pub deliverCall : Bytes → Bytes → Outcome Delivery
-  deliverCall book frame =
-      unlessRefused (firstRefusal (deliverRows book frame)) book (kept book frame (keep (decode book) frame))
+  deliverCall book frame = unlessRefused (firstRefusal (deliverRows book frame)) book (heard book frame)
 
   -- the book after frames were delivered in order
   unfoldable pub deliverAll : Bytes → List Bytes → Bytes

@@ -6,10 +6,10 @@ use mathlib.Core.Bool.{Bool, true, false, cond, true≢false}
 use mathlib.Core.Option.{Option, some, none}
 use Rattle.protocol.specs.Bytes.{Bytes}
 use Rattle.protocol.specs.Tests.{firstRefusal}
-use Rattle.protocol.specs.State.{Height, decode}
-use Rattle.protocol.specs.Answer.{Outcome, refused, isAccepted, unlessRefused}
+use Rattle.protocol.specs.State.{decode}
+use Rattle.protocol.specs.Answer.{Answer, Outcome, Delivery, refused, isAccepted, unlessRefused}
 use Rattle.protocol.specs.Open.{openCall, openRows}
-use Rattle.protocol.specs.Deliver.{deliverCall, deliverRows, keep, kept}
+use Rattle.protocol.specs.Deliver.{deliverCall, deliverRows}
 use Rattle.protocol.specs.Packet.{acceptedOf, packetCall, packetFrames, packetRows}
 use Rattle.protocol.specs.Move.{moveCall, moveRows, moved, step, unlessMoveRefused}
 use Rattle.protocol.specs.Signal.{signalCall, signalRows}
@@ -20,6 +20,7 @@ use Rattle.protocol.specs.Fetch.{fetchCall, fetchRows, unlessFetchRefuse
 use Rattle.protocol.specs.Call.{Call, Effect, Opened, opening, delivery, packetDelivery, moving, signalling}
 use Rattle.protocol.specs.Call.{submitting, sizing, reading, fetching, effect, leaves, ofDelivery, ofFetch}
 use Rattle.protocol.specs.Call.{ofMove, ofOpening, ofOutcome, ofPacket}
+use Rattle.protocol.specs.Laws.DeliverLaws.{heard-accepted}
 
 module _ (digest : Bytes → Bytes) (book : Bytes) where
   -- an effect that is nothing, if the call was refused
@@ -35,11 +36,6 @@ module _ (digest : Bytes → Bytes) (book : Bytes) where
   unless-refused effectOf idle outcome done none e = absurd (true≢false (sym done ∙ e))
   unless-refused effectOf idle outcome done (some number) e = idle number
 
-  kept-accepted : (frame : Bytes) (x : Option Height) → isAccepted (kept digest book frame x .answer) ≡ true
-  unfolding kept isAccepted
-  kept-accepted frame none = refl
-  kept-accepted frame (some x) = refl
-
   -- a refused call leaves the book as it was, opens none, delivers and writes no frame and reads nothing
   pub refused-does-nothing : (call : Call) → effect digest book call .accepted ≡ false →
       effect digest book call ≡ leaves book false
@@ -48,7 +44,8 @@ module _ (digest : Bytes → Bytes) (book : Bytes) where
       unless-refused (ofOpening (record { n = n; own = own })) (λ number. refl) _ refl
       (firstRefusal (openRows book n own heights leaders))
   refused-does-nothing (delivery frame) =
-      unless-refused (ofDelivery frame) (λ number. refl) _ (kept-accepted frame (keep digest (decode book) frame))
+      unless-refused (ofDelivery frame) (λ number. refl) _
+      (heard-accepted digest book frame (λ (a : Answer Delivery). isAccepted a ≡ true) (λ news. refl))
       (firstRefusal (deliverRows digest book frame))
   refused-does-nothing (packetDelivery packet) =
       unless-refused (ofPacket (acceptedOf digest book (packetFrames packet))) (λ number. refl) _ refl

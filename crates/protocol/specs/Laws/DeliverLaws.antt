@@ -1,35 +1,36 @@
--- Deliver: what is known of a frame that is read and of one that contradicts nothing, what each kind keeps, and the
--- three ways in which a delivery ends.
+-- Deliver: what is known of a frame that is read, of a leader who equivocates and of a frame that contradicts nothing,
+-- what each kind keeps, and the four ways in which a delivery ends.
 use Prim.Native.Nat.{ℕ, _≤_, _<_}
 use native.Mathlib.Omega.{arith}
 use native.Mathlib.Decide.{ℕ-discrete}
-use mathlib.Core.Path.{_≡_, refl, sym, subst}
+use mathlib.Core.Path.{_≡_, refl, sym, subst, _∙_}
+use mathlib.Core.Logic.{_≢_}
 use mathlib.Core.Bool.{Bool, true, false, _||_, not, cond, true≢false}
 use mathlib.Core.List.{List, [], _∷_, _++_}
 use mathlib.Core.Option.{Option, some, none}
 use lib.ListN.{length, length-drop}
-use lib.Dec.{ltb}
-use borrow.Author.Tests.{eqb-true, ltb-true, not-true}
+use lib.Dec.{eqb, ltb}
+use borrow.Author.Tests.{eqb-true, eq-eqb, ltb-true, not-true}
 use Rattle.protocol.specs.ReadFrame.{ReadFrame}
-use Rattle.protocol.specs.Bytes.{Bytes}
+use Rattle.protocol.specs.Bytes.{Bytes, same}
 use Rattle.protocol.specs.Tests.{allOf, inRange, implies, Row, firstRefusal}
 use Rattle.protocol.specs.Frame.{kind, signer, frameHeight, signerMask, frameDigest, frameBlock, frameWellFormed}
-use Rattle.protocol.specs.Frame.{isStatement}
+use Rattle.protocol.specs.Frame.{isStatement, isProposal}
 use Rattle.protocol.specs.Mask.{inMask, belowBit}
 use Rattle.protocol.specs.State.{State, Height, at, last, decode, encode, withHeight, holdsProposal, isNotarized}
-use Rattle.protocol.specs.State.{voteOf}
+use Rattle.protocol.specs.State.{voteOf, flag, withTimerFired}
 use Rattle.protocol.specs.View.{View, quorum}
 use Rattle.protocol.specs.Sound.{view, sound}
-use Rattle.protocol.specs.Answer.{Outcome, Delivery, refused, accepted, known, fresh, unlessRefused}
+use Rattle.protocol.specs.Answer.{Answer, Outcome, Delivery, refused, accepted, known, fresh, unlessRefused}
 use Rattle.protocol.specs.Deliver.{readRows, clashRows, deliverRows, keepProposal, keepBlockVote, keepDummyVote}
 use Rattle.protocol.specs.Deliver.{keepFinalize, keepBlockCertificate, keepDummyCertificate}
 use Rattle.protocol.specs.Deliver.{keepFinalizeCertificate, keep, kept, deliverCall, votersFor, notarize}
-use Rattle.protocol.specs.Deliver.{withNotarized}
+use Rattle.protocol.specs.Deliver.{withNotarized, secondProposal, leaderEquivocates, timerFires, heard}
 use Rattle.protocol.specs.Laws.BytesLaws.{length-part}
 use Rattle.protocol.specs.Laws.MaskLaws.{below-lt}
-use Rattle.protocol.specs.Laws.TestsLaws.{cond-elim}
+use Rattle.protocol.specs.Laws.TestsLaws.{cond-elim, and-both}
 use Rattle.protocol.specs.Laws.RowLaws.{row-passes, by-rows, by-tested, split-rows, in-range, range-in}
-use Rattle.protocol.specs.Laws.RowLaws.{not-passed, implies-true, same-eq}
+use Rattle.protocol.specs.Laws.RowLaws.{not-passed, true-and, implies-true, same-eq, eq-same}
 use Rattle.protocol.specs.Laws.FormedLaws.{formed-frame}
 
 -- ---- kinds
@@ -88,20 +89,73 @@ module _ {s : State} {frame : Bytes} (read : ReadFrame s frame) where
   pub signer-few : s .n ≤ 16 → kind frame ≡ 2 → signer frame < 16
   signer-few most two = omega (arith, read .signer-small (omega arith))
 
--- ---- a frame that contradicts nothing kept at its height
+-- ---- a leader who equivocates
+-- a frame is a proposal for the current height, which holds another one
+pub record Equivocates (s : State) (frame : Bytes) : Type 0 where
+  pub proposes : kind frame ≡ 1
+  pub held : holdsProposal (at s (frameHeight frame)) ≡ true
+  pub unlike : at s (frameHeight frame) .proposal ≢ frameBlock frame
+  pub here : frameHeight frame ≡ s .current
+
+module _ (s : State) (frame : Bytes) where
+  pub equivocates : leaderEquivocates s frame ≡ true → Equivocates s frame
+  unfolding leaderEquivocates secondProposal
+  equivocates e =
+      let (second, here) = and-both _ _ e in
+      by-rows _ second λ one held unlike. record {
+        proposes = eqb-true _ _ one;
+        held = held;
+        unlike = λ is. true≢false (sym (eq-same _ _ is) ∙ not-true _ unlike);
+        here = eqb-true _ _ here;
+      }
+
+  -- a proposal whose height holds another one
+  pub second-proposal : kind frame ≡ 1 → holdsProposal (at s (frameHeight frame)) ≡ true →
+      same (at s (frameHeight frame) .proposal) (frameBlock frame) ≡ false → secondProposal s frame ≡ true
+  unfolding secondProposal allOf
+  second-proposal one held unlike = rw (one, held, unlike)
+
+  pub equivocal : Equivocates s frame → leaderEquivocates s frame ≡ true
+  unfolding leaderEquivocates
+  equivocal e =
+      true-and _ _ (second-proposal (e .proposes) (e .held) (not-passed _ (λ is. e .unlike (same-eq _ _ is))))
+      (eq-eqb _ _ (e .here))
+
+  -- frames of other kinds fire no timer
+  pub no-proposal : isProposal (kind frame) ≡ false → leaderEquivocates s frame ≡ false
+  unfolding leaderEquivocates secondProposal allOf
+  no-proposal e = rw e
+
+-- ---- a frame that contradicts nothing kept at its height, unless the leader of the current height equivocates by it
 pub record Agrees (s : State) (frame : Bytes) : Type 0 where
   pub proposal : kind frame ≡ 1 → holdsProposal (at s (frameHeight frame)) ≡ true →
-      at s (frameHeight frame) .proposal ≡ frameBlock frame
+      leaderEquivocates s frame ≡ false → at s (frameHeight frame) .proposal ≡ frameBlock frame
   pub vote : kind frame ≡ 2 → inMask (at s (frameHeight frame) .voterMask) (signer frame) ≡ true →
       voteOf (at s (frameHeight frame)) (signer frame) ≡ frameDigest frame
   pub block : kind frame ≡ 5 → isNotarized (at s (frameHeight frame)) ≡ true →
       at s (frameHeight frame) .notarized ≡ frameBlock frame
 
+-- a proposal that row 8 lets pass is the held one, if one is held and the leader does not equivocate by it
+single-proposal : (s : State) (frame : Bytes) →
+    implies (secondProposal s frame) (eqb (frameHeight frame) (s .current)) ≡ true → kind frame ≡ 1 →
+    holdsProposal (at s (frameHeight frame)) ≡ true → leaderEquivocates s frame ≡ false →
+    at s (frameHeight frame) .proposal ≡ frameBlock frame
+unfolding leaderEquivocates
+single-proposal s frame passes one held single =
+    go (same (at s (frameHeight frame) .proposal) (frameBlock frame)) refl
+  where
+    go : (b : Bool) → same (at s (frameHeight frame) .proposal) (frameBlock frame) ≡ b →
+        at s (frameHeight frame) .proposal ≡ frameBlock frame
+    go true e = same-eq _ _ e
+    go false e =
+        let second = second-proposal s frame one held e in
+        absurd (true≢false (sym (true-and _ _ second (implies-true _ _ passes second)) ∙ single))
+
 pub clash-facts : (s : State) (frame : Bytes) → firstRefusal (clashRows s frame) ≡ none → Agrees s frame
 unfolding clashRows implies
 clash-facts s frame e =
     by-tested _ e λ proposals votes blocks. record {
-      proposal = λ one held. same-eq _ _ (rw (one, held) at proposals);
+      proposal = single-proposal s frame proposals;
       vote = λ two has. same-eq _ _ (rw (two, has) at votes);
       block = λ five has. same-eq _ _ (rw (five, has) at blocks);
     }
@@ -225,21 +279,56 @@ module _ (digest : Bytes → Bytes) (book frame : Bytes) where
       let (read, clash) = read-facts (decode book) frame (clashRows (decode book) frame) rest in
       record { was-sound = is-sound; read = read; agrees = clash-facts (decode book) frame clash }
 
-  -- a delivery is refused, or the frame is known, and the book stays; or the frame is fresh, and one height changes
+  -- the outcome of a frame by which no leader equivocates
+  pub heard-single : leaderEquivocates (decode book) frame ≡ false →
+      heard digest book frame ≡ kept digest book frame (keep digest (decode book) frame)
+  unfolding heard
+  heard-single e = rw e
+
+  -- a frame that passes all rows is accepted
+  pub heard-accepted : (P : Answer Delivery → Type 0) → ((news : Delivery) → P (accepted news)) →
+      P (heard digest book frame .answer)
+  unfolding heard timerFires kept
+  heard-accepted P accepts =
+      cond-elim (λ (o : Outcome Delivery). P (o .answer)) (leaderEquivocates (decode book) frame)
+      (λ _. cond-elim (λ (o : Outcome Delivery). P (o .answer)) (flag 1 (decode book)) (λ _. accepts known)
+      (λ _. accepts fresh))
+      (λ _. go (keep digest (decode book) frame))
+    where
+      go : (o : Option Height) → P (kept digest book frame o .answer)
+      go none = accepts known
+      go (some y) = accepts fresh
+
+  nothing-kept : Equivocates (decode book) frame → keep digest (decode book) frame ≡ none
+  nothing-kept e =
+      keep-proposal digest (decode book) frame (e .proposes) ∙ (unfold keepProposal in rw (e .held))
+
+  -- a delivery is refused, or the frame is known, and the book stays; or the frame is fresh, and one height changes or,
+  -- where the leader of the current height equivocates, the timer fires
   pub deliver-cases : (P : Outcome Delivery → Type 0) →
       ((number : ℕ) → firstRefusal (deliverRows digest book frame) ≡ some number →
       P (record { answer = refused number; book = book })) →
-      (Accepts digest book frame → keep digest (decode book) frame ≡ none →
-      P (record { answer = accepted known; book = book })) →
-      ((y : Height) → Accepts digest book frame → keep digest (decode book) frame ≡ some y →
+      (Accepts digest book frame → (leaderEquivocates (decode book) frame ≡ true → flag 1 (decode book) ≡ true) →
+      keep digest (decode book) frame ≡ none → P (record { answer = accepted known; book = book })) →
+      ((y : Height) → Accepts digest book frame → leaderEquivocates (decode book) frame ≡ false →
+      keep digest (decode book) frame ≡ some y →
       P (record { answer = accepted fresh; book = encode (withHeight (decode book) (frameHeight frame) y) })) →
+      (Accepts digest book frame → leaderEquivocates (decode book) frame ≡ true → flag 1 (decode book) ≡ false →
+      P (record { answer = accepted fresh; book = encode (withTimerFired (decode book)) })) →
       P (deliverCall digest book frame)
-  unfolding deliverCall unlessRefused kept
-  deliver-cases P refusal same new =
-      go (firstRefusal (deliverRows digest book frame)) refl (keep digest (decode book) frame) refl
+  unfolding deliverCall heard timerFires unlessRefused kept
+  deliver-cases P refusal same new fired =
+      go (firstRefusal (deliverRows digest book frame)) refl (leaderEquivocates (decode book) frame) refl
+      (flag 1 (decode book)) refl (keep digest (decode book) frame) refl
     where
-      go : (r : Option ℕ) → firstRefusal (deliverRows digest book frame) ≡ r → (o : Option Height) →
-          keep digest (decode book) frame ≡ o → P (unlessRefused r book (kept digest book frame o))
-      go (some number) e o f = refusal number e
-      go none e none f = same (deliver-facts e) f
-      go none e (some y) f = new y (deliver-facts e) f
+      go : (r : Option ℕ) → firstRefusal (deliverRows digest book frame) ≡ r →
+          (b : Bool) → leaderEquivocates (decode book) frame ≡ b → (f : Bool) → flag 1 (decode book) ≡ f →
+          (o : Option Height) → keep digest (decode book) frame ≡ o →
+          P (unlessRefused r book (cond b (cond f (record { answer = accepted known; book = book })
+          (record { answer = accepted fresh; book = encode (withTimerFired (decode book)) }))
+          (kept digest book frame o)))
+      go (some number) e b d f g o k = refusal number e
+      go none e true d true g o k = same (deliver-facts e) (λ _. g) (nothing-kept (equivocates (decode book) frame d))
+      go none e true d false g o k = fired (deliver-facts e) d g
+      go none e false d f g none k = same (deliver-facts e) (λ is. absurd (true≢false (sym is ∙ d))) k
+      go none e false d f g (some y) k = new y (deliver-facts e) d k

@@ -7,7 +7,7 @@ use mathlib.Core.List.{List, [], _∷_, map}
 use Rattle.protocol.specs.Bytes.{Bytes}
 use Rattle.protocol.specs.State.{State, Height, withHeight, withEdition, at}
 use Rattle.protocol.specs.Sound.{view, log}
-use Rattle.protocol.specs.Deliver.{keep, readRows, clashRows}
+use Rattle.protocol.specs.Deliver.{keep, readRows, clashRows, leaderEquivocates}
 use Rattle.protocol.specs.Move.{Step, step, firstStep, idleStep, dummyVoteApplies, dummyVoteStep, outputApplies}
 use Rattle.protocol.specs.Move.{outputStep, passApplies, passStep, proposeApplies, proposeStep, blockVoteApplies}
 use Rattle.protocol.specs.Move.{blockVoteStep}
@@ -52,6 +52,10 @@ module _ (edition : ℕ) (s : State) where
   pub same-clashes : (frame : Bytes) → clashRows s′ frame ≡ clashRows s frame
   unfolding withEdition everything
   same-clashes frame = refl
+
+  pub same-equivocation : (frame : Bytes) → leaderEquivocates s′ frame ≡ leaderEquivocates s frame
+  unfolding withEdition everything
+  same-equivocation frame = refl
 
   module _ (digest : Bytes → Bytes) where
     pub same-keep : (frame : Bytes) → keep digest s′ frame ≡ keep digest s frame

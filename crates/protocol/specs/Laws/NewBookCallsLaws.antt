@@ -13,18 +13,19 @@ use Rattle.protocol.specs.Bytes.{Bytes, zeros, le16, word16, part, isZer
 use Rattle.protocol.specs.Tests.{allOf, inRange, implies, firstRefusal}
 use Rattle.protocol.specs.Laws.RowLaws.{range-in}
 use Rattle.protocol.specs.Laws.MoveLaws.{step-cases}
+use Rattle.protocol.specs.Laws.DeliverLaws.{no-proposal}
 use Rattle.protocol.specs.State.{State, at, last, encode, holdsProposal, isNotarized, flag, withHead}
 use Rattle.protocol.specs.State.{withTimerFired, withHeight}
 use Rattle.protocol.specs.View.{quorum, isDummy, linked, linkedWithin, isFinalized, largestFinalized, parentOf}
 use Rattle.protocol.specs.Sound.{view}
 use Rattle.protocol.specs.Open.{newHeight}
 use Rattle.protocol.specs.Deliver.{withMasks, readRows, clashRows, keep, kept, keepDummyVote}
-use Rattle.protocol.specs.Deliver.{keepFinalizeCertificate, deliverRows, deliverCall}
+use Rattle.protocol.specs.Deliver.{keepFinalizeCertificate, secondProposal, deliverRows, heard, deliverCall}
 use Rattle.protocol.specs.Signal.{signalRows, signalCall}
 use Rattle.protocol.specs.Mask.{inMask, union, belowBit}
 use Rattle.protocol.specs.Frame.{kind, signer, frameHeight, signerMask, frameDigest, frameBlock, isStatement}
 use Rattle.protocol.specs.Frame.{isCertificate, carriesBlock, carriesDigest, frameWellFormed, frameOf, dummyVote}
-use Rattle.protocol.specs.Frame.{finalizeCertificate}
+use Rattle.protocol.specs.Frame.{isProposal, finalizeCertificate}
 use Rattle.protocol.specs.Answer.{accepted, done, fresh, unlessRefused}
 use Rattle.protocol.specs.Move.{Step, firstStep, isSome, isRunning, idleStep, dummyVoteApplies, dummyVoteStep}
 use Rattle.protocol.specs.Move.{moved, unlessMoveRefused, newFinalized, outputApplies, passApplies, passStep}
@@ -134,7 +135,7 @@ module _ (n own flags dummy final leader : ℕ) (leaders : Bytes) (ranges : Rang
         )
 
     vote-rows : (s : ℕ) → s < n → firstRefusal (readRows E (dummyVote s 1) ++ clashRows E (dummyVote s 1)) ≡ none
-    unfolding readRows clashRows firstRefusal frameWellFormed allOf dummyVote frameOf kind signer frameHeight signerMask
+    unfolding readRows clashRows secondProposal firstRefusal frameWellFormed allOf dummyVote frameOf kind signer frameHeight signerMask
         frameDigest frameBlock isStatement isCertificate carriesBlock carriesDigest implies le16 zeros word16
         part isZero
         all inRange last
@@ -153,25 +154,30 @@ module _ (n own flags dummy final leader : ℕ) (leaders : Bytes) (ranges : Rang
     kept-first frame m q e =
         rw (early-back n own flags dummy final leader leaders ranges flags-below dummy-below final-below, e)
 
+    vote-kind : (s : ℕ) → isProposal (kind (dummyVote s 1)) ≡ false
+    unfolding dummyVote frameOf kind
+    vote-kind s = refl
+
     vote-height : (s : ℕ) → frameHeight (dummyVote s 1) ≡ 1
     unfolding dummyVote frameOf frameHeight word16 le16
     vote-height s = refl
 
     pub early-vote : (s : ℕ) → s < n → inMask dummy s ≡ false → deliverCall digest (encode E) (dummyVote s 1) ≡
         record { answer = accepted fresh; book = encode (early n own flags (dummy + 2 ^ s) final leader leaders) }
-    unfolding deliverCall deliverRows firstRefusal unlessRefused
+    unfolding deliverCall heard deliverRows firstRefusal unlessRefused
     early-vote s h e =
         rw (
           early-sound n own flags dummy final leader leaders ranges flags-below dummy-below final-below digest,
           early-back n own flags dummy final leader leaders ranges flags-below dummy-below final-below,
           vote-rows s h,
+          no-proposal E (dummyVote s 1) (vote-kind s),
           keep-vote s e,
         ) (kept-first (dummyVote s 1) (dummy + 2 ^ s) final (vote-height s))
 
     certificate-rows : (mask : ℕ) → belowBit n (word16 (le16 mask) 0) ≡ true →
         quorum (view E) (word16 (le16 mask) 0) ≡ true →
         firstRefusal (readRows E (finalizeCertificate 1 mask) ++ clashRows E (finalizeCertificate 1 mask)) ≡ none
-    unfolding readRows clashRows firstRefusal frameWellFormed allOf finalizeCertificate frameOf kind signer frameHeight
+    unfolding readRows clashRows secondProposal firstRefusal frameWellFormed allOf finalizeCertificate frameOf kind signer frameHeight
         signerMask frameDigest frameBlock isStatement isCertificate carriesBlock carriesDigest implies le16 zeros word16
         part isZero all inRange last
     certificate-rows mask below enough = rw (
@@ -188,6 +194,10 @@ module _ (n own flags dummy final leader : ℕ) (leaders : Bytes) (ranges : Rang
         frameHeight word16 le16
     keep-certificate mask e = rw e
 
+    certificate-kind : (mask : ℕ) → isProposal (kind (finalizeCertificate 1 mask)) ≡ false
+    unfolding finalizeCertificate frameOf kind
+    certificate-kind mask = refl
+
     certificate-height : (mask : ℕ) → frameHeight (finalizeCertificate 1 mask) ≡ 1
     unfolding finalizeCertificate frameOf frameHeight word16 le16
     certificate-height mask = refl
@@ -201,12 +211,13 @@ module _ (n own flags dummy final leader : ℕ) (leaders : Bytes) (ranges : Rang
           book = encode
               (early n own flags dummy (union n final (word16 (le16 mask) 0)) leader leaders);
         }
-    unfolding deliverCall deliverRows firstRefusal unlessRefused
+    unfolding deliverCall heard deliverRows firstRefusal unlessRefused
     early-certificate mask below enough new =
         rw (
           early-sound n own flags dummy final leader leaders ranges flags-below dummy-below final-below digest,
           early-back n own flags dummy final leader leaders ranges flags-below dummy-below final-below,
           certificate-rows mask below enough,
+          no-proposal E (finalizeCertificate 1 mask) (certificate-kind mask),
           keep-certificate mask new,
         )
         (kept-first (finalizeCertificate 1 mask) dummy (union n final (word16 (le16 mask) 0)) (certificate-height mask))
