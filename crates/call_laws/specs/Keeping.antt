@@ -1,22 +1,23 @@
 -- What a delivery that is not refused leaves, beside document 01's "Deliver": the statements that its frame makes are
 -- kept, all that was kept before stays, and no other byte changes; the answer says whether a byte did. A block is
 -- notarized just where a certificate says so, or where a proposal or a vote is newly kept and the kept votes for the
--- held proposal are a quorum. That this leaves no choice is `KeepsExactLaws.keeps-exact`.
-use Prim.Native.Nat.{ℕ, _≤_, _<_}
+-- held proposal are a quorum. The one exception is request 2.2's: a second proposal of the leader of the current height
+-- fires the timer, and is not kept. That this leaves no choice is `KeepsExactLaws.keeps-exact`.
+use Prim.Native.Nat.{ℕ, _+_, _≤_, _<_}
 use mathlib.Core.Path.{_≡_}
 use mathlib.Core.Logic.{_⊎_, _≢_}
 use mathlib.Core.Bool.{Bool, true, false, _&&_, _||_, cond}
 use lib.Dec.{eqb}
-use lib.ListN.{length}
+use lib.ListN.{length, set}
 use Rattle.protocol.specs.Bytes.{Bytes, byteAt, AreBytes}
 use Rattle.protocol.specs.Answer.{Delivery, known, fresh}
 use Rattle.protocol.specs.Mask.{inMask}
 use Rattle.protocol.specs.Frame.{kind, signer, frameHeight, signerMask, frameDigest, frameBlock, isProposal}
 use Rattle.protocol.specs.Frame.{isBlockVote}
-use Rattle.protocol.specs.State.{State, Height, at, decode, withHeight, holdsProposal, isNotarized, voteOf}
+use Rattle.protocol.specs.State.{State, Height, at, decode, withHeight, holdsProposal, isNotarized, voteOf, flag}
 use Rattle.protocol.specs.View.{View, quorum}
 use Rattle.protocol.specs.Sound.{view, sound}
-use Rattle.protocol.specs.Deliver.{votersFor}
+use Rattle.protocol.specs.Deliver.{votersFor, leaderEquivocates}
 use Rattle.call_laws.specs.KeptBytes.{SameOutside, deliveryParts}
 
 -- a frame of kind `k` makes a statement in the name of replica `t`: one of its own, or one that a certificate says it
@@ -98,8 +99,8 @@ pub record KeepsState (digest : Bytes → Bytes) (s s′ : State) (frame : Bytes
   pub elsewhere : s′ ≡ withHeight s (frameHeight frame) (at s′ (frameHeight frame))
   pub here : KeepsAt digest (view s) (kind frame) frame (at s (frameHeight frame)) (at s′ (frameHeight frame))
 
--- ---- the bytes of a book, and those after a delivery that answered `news`
-pub record Keeps (digest : Bytes → Bytes) (book frame : Bytes) (news : Delivery) (after : Bytes) : Type 0 where
+-- ---- the bytes of a book, and those after a delivery that answered `news` and kept the frame's statement
+pub record KeepsStatement (digest : Bytes → Bytes) (book frame : Bytes) (news : Delivery) (after : Bytes) : Type 0 where
   -- known: no byte has changed; fresh: one has
   pub known-same : news ≡ known → after ≡ book
   pub fresh-differs : news ≡ fresh → (i : ℕ) × (i < length book) × (byteAt after i ≢ byteAt book i)
@@ -109,3 +110,16 @@ pub record Keeps (digest : Bytes → Bytes) (book frame : Bytes) (news : Deliver
   -- and they hold what the frame states, with no bit of a mask from n up and no state above 3, as in each sound book
   pub keeps : KeepsState digest (decode book) (decode after) frame
   pub stays-sound : sound digest after ≡ true
+
+-- ---- the same where the leader of the current height equivocates: nothing but flag 1 changes
+pub record FiresTimer (book : Bytes) (news : Delivery) (after : Bytes) : Type 0 where
+  -- the timer had fired: no byte has changed
+  pub fired-before : flag 1 (decode book) ≡ true → (news ≡ known) × (after ≡ book)
+  -- it had not: flag 1 is added to byte 3, and no other byte has changed
+  pub fires-now : flag 1 (decode book) ≡ false →
+      (news ≡ fresh) × (AreBytes book → after ≡ set book 3 (byteAt book 3 + 1))
+
+-- ---- each delivery that is not refused does one of the two
+pub record Keeps (digest : Bytes → Bytes) (book frame : Bytes) (news : Delivery) (after : Bytes) : Type 0 where
+  pub statement : leaderEquivocates (decode book) frame ≡ false → KeepsStatement digest book frame news after
+  pub equivocation : leaderEquivocates (decode book) frame ≡ true → FiresTimer book news after

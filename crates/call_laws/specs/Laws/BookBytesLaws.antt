@@ -8,7 +8,7 @@ use mathlib.Core.Option.{Option, some, none}
 use lib.ListN.{length, set, length-append, length-map}
 use borrow.Author.Tests.{le-leb}
 use Rattle.protocol.specs.Every.{Every, none, one}
-use Rattle.protocol.specs.Bytes.{Bytes, le16, zeros, join, AreBytes, put, Sized}
+use Rattle.protocol.specs.Bytes.{Bytes, byteAt, le16, zeros, join, AreBytes, put, Sized}
 use Rattle.protocol.specs.Tests.{firstRefusal}
 use Rattle.protocol.specs.Laws.BytesLaws.{put-all, zeros-add}
 use Rattle.protocol.specs.Answer.{done, accepted, unlessRefused}
@@ -86,9 +86,11 @@ module _ (digest : Bytes → Bytes) (book : Bytes) (small : AreBytes book) where
   s = decode book
 
   -- ---- Signal
-  timer-bytes : encode (withTimerFired s) ≡ set (encode s) 3 (s .flags + 1)
-  unfolding withTimerFired withHead encode headBytes
-  timer-bytes = refl
+  pub timer-bytes : sound digest book ≡ true → encode (withTimerFired s) ≡ set book 3 (byteAt book 3 + 1)
+  timer-bytes was-sound = fired ∙ rw (encode-decode digest book was-sound small) (unfold decode in refl)
+    where
+      fired : encode (withTimerFired s) ≡ set (encode s) 3 (s .flags + 1)
+      fired = unfold withTimerFired withHead encode headBytes in refl
 
   pub signal-bytes : (h : ℕ) → signalCall digest book h .answer ≡ accepted done →
       Signals book h (signalCall digest book h .book)
@@ -102,7 +104,7 @@ module _ (digest : Bytes → Bytes) (book : Bytes) (small : AreBytes book) where
           record {
             current = tested .is-current ∙ unfold decode in refl;
             was-clear = tested .not-fired;
-            bytes = timer-bytes ∙ rw (encode-decode digest book (tested .was-sound) small) (unfold decode in refl);
+            bytes = timer-bytes (tested .was-sound);
           }
 
   -- ---- Submit

@@ -5,7 +5,7 @@ use Rattle.protocol.specs.SoundState.{SoundState}
 use Rattle.protocol.specs.Bytes.{Bytes}
 use Rattle.protocol.specs.Answer.{Outcome, Delivery}
 use Rattle.protocol.specs.Frame.{frameHeight}
-use Rattle.protocol.specs.State.{State, decode, withHeight}
+use Rattle.protocol.specs.State.{State, decode, withHead, withHeight, withTimerFired}
 use Rattle.protocol.specs.Laws.StateLaws.{decode-encode}
 use Rattle.protocol.specs.Sound.{view, sound}
 use Rattle.protocol.specs.Laws.SoundLaws.{sound-decode}
@@ -16,17 +16,21 @@ use Rattle.protocol.specs.Laws.MoveLaws.{step-body}
 use Rattle.call_laws.specs.Grows.{Grows}
 use Rattle.call_laws.specs.Laws.GrowsLaws.{same-grows}
 use Rattle.call_laws.specs.Laws.DeliverSoundLaws.{keep-grows, keep-sound}
+use Rattle.call_laws.specs.Laws.MoveSoundLaws.{timer-sound}
 
 module _ (digest : Bytes → Bytes) where
   pub deliver-grows : (book frame : Bytes) → sound digest book ≡ true →
       Grows (view (decode book)) (view (decode (deliverCall digest book frame .book)))
   deliver-grows book frame was =
       deliver-cases digest book frame (λ (o : Outcome Delivery). Grows (view s) (view (decode (o .book))))
-      (λ _ _. same-grows s s refl refl) (λ _ _. same-grows s s refl refl)
-      (λ y accepts e.
+      (λ _ _. same-grows s s refl refl) (λ _ _ _. same-grows s s refl refl)
+      (λ y accepts _ e.
       rw (decode-encode (withHeight s (frameHeight frame) y)
       (keep-sound digest s state frame (accepts .read) y e .shaped))
       (keep-grows digest s state frame (accepts .read) y e))
+      (λ _ _ clear.
+      rw (decode-encode (withTimerFired s) (timer-sound digest s state clear .shaped))
+      (unfold withTimerFired withHead in same-grows s (withTimerFired s) refl refl))
     where
       s : State
       s = decode book

@@ -12,8 +12,8 @@ use Rattle.protocol.specs.SoundState.{SoundState}
 use Rattle.protocol.specs.Bytes.{Bytes, byteAt, AreBytes}
 use Rattle.protocol.specs.Answer.{Outcome, accepted, Delivery, known, fresh}
 use Rattle.protocol.specs.Frame.{frameHeight}
-use Rattle.protocol.specs.State.{State, Height, at, last, withHeight, encode, decode}
-use Rattle.protocol.specs.Deliver.{keep, deliverCall}
+use Rattle.protocol.specs.State.{State, Height, at, last, withHeight, encode, decode, flag, withTimerFired}
+use Rattle.protocol.specs.Deliver.{keep, deliverCall, leaderEquivocates}
 use Rattle.protocol.specs.Laws.StateLaws.{decode-encode}
 use Rattle.protocol.specs.Laws.PlaceLaws.{length-encode}
 use Rattle.protocol.specs.Laws.CodecLaws.{last-decode}
@@ -23,8 +23,9 @@ use Rattle.call_laws.specs.Laws.DeliverSoundLaws.{keep-sound}
 use Rattle.call_laws.specs.KeptBytes.{Part, SameOutside, deliveryParts}
 use Rattle.call_laws.specs.Laws.KeptBytesLaws.{keep-only, keep-other}
 use Rattle.call_laws.specs.Laws.RefusalsLaws.{refused≢accepted}
+use Rattle.call_laws.specs.Laws.BookBytesLaws.{timer-bytes}
 use Rattle.call_laws.specs.Laws.KeepsStateLaws.{at-placed, placed-same, state, known-keeps, fresh-keeps}
-use Rattle.call_laws.specs.Keeping.{Keeps}
+use Rattle.call_laws.specs.Keeping.{Keeps, KeepsStatement, FiresTimer}
 
 -- two byte strings of the same length that are not the same differ at a byte
 differ : (a b : Bytes) → length a ≡ length b → a ≢ b → (i : ℕ) × (i < length b) × (byteAt a i ≢ byteAt b i)
@@ -41,7 +42,7 @@ differ (x ∷ xs) (y ∷ ys) size other = go (ℕ-discrete x y) (λ e. differ xs
 from-same : {parts : List Part} {a b c : Bytes} → a ≡ b → SameOutside parts a c → SameOutside parts b c
 from-same {parts} {c = c} e same = subst (λ (z : Bytes). SameOutside parts z c) e same
 
-known≢fresh : known ≡ fresh → ⊥
+pub known≢fresh : known ≡ fresh → ⊥
 known≢fresh e = true≢false (let impossible : true ≡ false = cc in impossible)
 
 module _ (digest : Bytes → Bytes) (book frame : Bytes) (accepts : Accepts digest book frame) where
@@ -55,7 +56,7 @@ module _ (digest : Bytes → Bytes) (book frame : Bytes) (accepts : Accepts dige
   is = state digest book frame accepts
 
   -- the frame is news: its height becomes `y`
-  module _ (y : Height) (e : keep digest s frame ≡ some y) where
+  module _ (y : Height) (single : leaderEquivocates s frame ≡ false) (e : keep digest s frame ≡ some y) where
     abbrev s′ : State
     s′ = withHeight s h y
 
@@ -87,24 +88,38 @@ module _ (digest : Bytes → Bytes) (book frame : Bytes) (accepts : Accepts dige
         rw (here, ← last-decode book) (from-same before
         (keep-only digest s is frame (accepts .read) y e))
 
-    all-fresh : Keeps digest book frame fresh (encode s′)
+    all-fresh : KeepsStatement digest book frame fresh (encode s′)
     all-fresh = record {
       known-same = λ same. absurd (known≢fresh (sym same));
       fresh-differs = λ _. differ (encode s′) book size-after changed;
       other-bytes = untouched;
       same-length = size-after;
-      keeps = fresh-keeps digest book frame accepts y e;
+      keeps = fresh-keeps digest book frame accepts y single e;
       stays-sound = sound-encode digest s′ sound-after;
     }
 
-  all-known : keep digest s frame ≡ none → Keeps digest book frame known book
-  all-known e = record {
+  all-known : leaderEquivocates s frame ≡ false → keep digest s frame ≡ none →
+      KeepsStatement digest book frame known book
+  all-known single e = record {
     known-same = λ _. refl;
     fresh-differs = λ same. absurd (known≢fresh same);
     other-bytes = λ _. record { same-byte = λ _ _. refl };
     same-length = refl;
-    keeps = known-keeps digest book frame accepts e;
+    keeps = known-keeps digest book frame accepts single e;
     stays-sound = accepts .was-sound;
+  }
+
+  -- the leader equivocates: the timer has fired, or fires
+  fires-known : flag 1 s ≡ true → FiresTimer book known book
+  fires-known e = record {
+    fired-before = λ _. (refl, refl);
+    fires-now = λ clear. absurd (true≢false (sym e ∙ clear));
+  }
+
+  fires-fresh : flag 1 s ≡ false → FiresTimer book fresh (encode (withTimerFired s))
+  fires-fresh e = record {
+    fired-before = λ has. absurd (true≢false (sym has ∙ e));
+    fires-now = λ _. (refl, λ small. timer-bytes digest book small (accepts .was-sound));
   }
 
 -- a delivery that is not refused keeps what its frame states, and changes nothing else
@@ -115,8 +130,18 @@ deliver-keeps digest book frame news =
     deliver-cases digest book frame (λ (o : Outcome Delivery). o .answer ≡ accepted news →
     Keeps digest book frame news (o .book))
     (λ number _ e. absurd (refused≢accepted number news e))
-    (λ accepts e said. named (same-news said) (all-known digest book frame accepts e))
-    (λ y accepts e said. named (same-news said) (all-fresh digest book frame accepts y e))
+    (λ accepts fired e said. named (same-news said) (record {
+      statement = λ single. all-known digest book frame accepts single e;
+      equivocation = λ is. fires-known digest book frame accepts (fired is);
+    }))
+    (λ y accepts single e said. named (same-news said) (record {
+      statement = λ _. all-fresh digest book frame accepts y single e;
+      equivocation = λ is. absurd (true≢false (sym is ∙ single));
+    }))
+    (λ accepts is clear said. named (same-news said) (record {
+      statement = λ single. absurd (true≢false (sym is ∙ single));
+      equivocation = λ _. fires-fresh digest book frame accepts clear;
+    }))
   where
     same-news : {a b : Delivery} → accepted a ≡ accepted b → a ≡ b
     same-news e = cc

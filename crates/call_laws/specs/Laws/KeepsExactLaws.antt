@@ -5,7 +5,7 @@ use native.Mathlib.Omega.{arith}
 use native.Mathlib.Nat.{add-zero}
 use mathlib.Core.Path.{_≡_, refl, sym, ap, _∙_}
 use mathlib.Core.Logic.{_⊎_, inl, inr, _≢_}
-use mathlib.Core.Bool.{true, false, _||_, not, cond, true≢false}
+use mathlib.Core.Bool.{Bool, true, false, _||_, not, cond, true≢false}
 use mathlib.Core.List.{[]}
 use mathlib.Core.Option.{none}
 use lib.ListN.{length}
@@ -20,16 +20,16 @@ use Rattle.protocol.specs.Mask.{inMask}
 use Rattle.protocol.specs.Laws.MaskLaws.{mask-same}
 use Rattle.protocol.specs.Frame.{kind, signer, frameHeight}
 use Rattle.protocol.specs.Answer.{Outcome, accepted, Delivery, known, fresh}
-use Rattle.protocol.specs.State.{Height, at, decode, holdsProposal, isNotarized, bookHeights}
+use Rattle.protocol.specs.State.{Height, at, decode, holdsProposal, isNotarized, bookHeights, flag}
 use Rattle.protocol.specs.Sound.{view}
-use Rattle.protocol.specs.Deliver.{deliverCall}
+use Rattle.protocol.specs.Deliver.{deliverCall, leaderEquivocates}
 use Rattle.protocol.specs.Laws.DeliverLaws.{Accepts, signer-few, deliver-cases}
 use Rattle.call_laws.specs.Laws.RefusalsLaws.{refused≢accepted}
 use Rattle.call_laws.specs.Laws.KeepsStateLaws.{state}
 use Rattle.call_laws.specs.Laws.KeepingLaws.{deliver-keeps}
 use Rattle.call_laws.specs.KeptBytes.{Part, contentAt, bodyAt, proposalParts, voteParts, dummyParts}
 use Rattle.call_laws.specs.KeptBytes.{finalizeParts, notarizedParts, keptParts, newlyNotarized, deliveryParts}
-use Rattle.call_laws.specs.Keeping.{Keeps, NewlyKept, KeepsAt, Voted, ByVotes}
+use Rattle.call_laws.specs.Keeping.{Keeps, KeepsStatement, FiresTimer, NewlyKept, KeepsAt, Voted, ByVotes}
 use Rattle.call_laws.specs.Laws.SameBytesLaws.{Inside, same-bytes}
 use Rattle.call_laws.specs.Laws.KeptFieldsLaws.{KeptFields, kept-fields}
 use Rattle.call_laws.specs.Laws.SameHeightLaws.{same-status, same-holds, same-proposal, same-voters}
@@ -39,12 +39,13 @@ not-refused : (digest : Bytes → Bytes) (book frame : Bytes) (news : Delivery) 
     deliverCall digest book frame .answer ≡ accepted news → Accepts digest book frame
 not-refused digest book frame news =
     deliver-cases digest book frame (λ (o : Outcome Delivery). o .answer ≡ accepted news → Accepts digest book frame)
-    (λ number _ e. absurd (refused≢accepted number news e)) (λ accepts _ _. accepts) (λ _ accepts _ _. accepts)
+    (λ number _ e. absurd (refused≢accepted number news e)) (λ accepts _ _ _. accepts)
+    (λ _ accepts _ _ _. accepts) (λ accepts _ _ _. accepts)
 
--- ---- two books that meet it
+-- ---- two books that keep a frame's statement
 module _ (digest : Bytes → Bytes) (book frame : Bytes) (accepts : Accepts digest book frame)
-    (news news′ : Delivery) (after after′ : Bytes) (is : Keeps digest book frame news after)
-    (is′ : Keeps digest book frame news′ after′)
+    (news news′ : Delivery) (after after′ : Bytes) (is : KeepsStatement digest book frame news after)
+    (is′ : KeepsStatement digest book frame news′ after′)
     (small : AreBytes book) (bytes : AreBytes after) (bytes′ : AreBytes after′) where
   abbrev h : ℕ
   h = frameHeight frame
@@ -214,6 +215,21 @@ module _ (digest : Bytes → Bytes) (book frame : Bytes) (accepts : Accepts dige
       go known fresh k k′ f f′ = absurd (never (sym same-after ∙ k refl) (f′ refl))
       go fresh known k k′ f f′ = absurd (never (same-after ∙ k′ refl) (f refl))
 
+-- ---- two books in which the timer fires
+same-firing : (book : Bytes) (news news′ : Delivery) (after after′ : Bytes) → AreBytes book →
+    FiresTimer book news after → FiresTimer book news′ after′ → (news′ ≡ news) × (after′ ≡ after)
+same-firing book news news′ after after′ small is is′ = go (flag 1 (decode book)) refl
+  where
+    go : (b : Bool) → flag 1 (decode book) ≡ b → (news′ ≡ news) × (after′ ≡ after)
+    go true e =
+        let (known-news, same) = is .fired-before e in
+        let (known-news′, same′) = is′ .fired-before e in
+        (known-news′ ∙ sym known-news, same′ ∙ sym same)
+    go false e =
+        let (fresh-news, bytes) = is .fires-now e in
+        let (fresh-news′, bytes′) = is′ .fires-now e in
+        (fresh-news′ ∙ sym fresh-news, bytes′ small ∙ sym (bytes small))
+
 -- what meets `Keeps`, of a delivery that is not refused, is what Deliver answers and leaves
 pub keeps-exact : (digest : Bytes → Bytes) (book frame : Bytes) (news : Delivery) →
     deliverCall digest book frame .answer ≡ accepted news → AreBytes book →
@@ -221,10 +237,22 @@ pub keeps-exact : (digest : Bytes → Bytes) (book frame : Bytes) (news : Delive
     (news′ : Delivery) (after : Bytes) → AreBytes after → Keeps digest book frame news′ after →
     (news′ ≡ news) × (after ≡ deliverCall digest book frame .book)
 keeps-exact digest book frame news accepts small bytes news′ after bytes′ is =
-    let tested = not-refused digest book frame news accepts in
-    let right = deliver-keeps digest book frame news accepts in (
-      same-news digest book frame tested news′ news after
-          (deliverCall digest book frame .book) is right small bytes′ bytes,
-      same-after digest book frame tested news′ news after
-          (deliverCall digest book frame .book) is right small bytes′ bytes,
+    go (leaderEquivocates (decode book) frame) refl
+  where
+    tested : Accepts digest book frame
+    tested = not-refused digest book frame news accepts
+
+    left : Bytes
+    left = deliverCall digest book frame .book
+
+    right : Keeps digest book frame news left
+    right = deliver-keeps digest book frame news accepts
+
+    go : (b : Bool) → leaderEquivocates (decode book) frame ≡ b → (news′ ≡ news) × (after ≡ left)
+    go true e = same-firing book news news′ left after small (right .equivocation e) (is .equivocation e)
+    go false e = (
+      same-news digest book frame tested news′ news after left (is .statement e) (right .statement e) small bytes′
+          bytes,
+      same-after digest book frame tested news′ news after left (is .statement e) (right .statement e) small bytes′
+          bytes,
     )

@@ -2,13 +2,14 @@
 use Prim.Native.Nat.{ℕ, zero, suc, _≤_}
 use native.Mathlib.Omega.{arith}
 use mathlib.Core.Path.{_≡_, refl, sym, ap, subst, _∙_}
+use mathlib.Core.Bool.{false}
 use mathlib.Core.Option.{some, none}
 use Rattle.protocol.specs.ReadFrame.{ReadFrame}
 use Rattle.protocol.specs.SoundState.{SoundState}
 use Rattle.protocol.specs.Bytes.{Bytes, same}
 use Rattle.protocol.specs.Frame.{kind, frameHeight}
 use Rattle.protocol.specs.State.{State, Height, at, last, withHeight, encode, decode}
-use Rattle.protocol.specs.Deliver.{keep}
+use Rattle.protocol.specs.Deliver.{keep, leaderEquivocates}
 use Rattle.protocol.specs.Sound.{view}
 use Rattle.protocol.specs.Laws.StateLaws.{decode-encode}
 use Rattle.protocol.specs.Laws.PlaceLaws.{with-at, at-with}
@@ -32,14 +33,14 @@ module _ (s : State) where
 
 -- ---- the whole delivery
 module _ (digest : Bytes → Bytes) (s : State) (is : SoundState digest s) (frame : Bytes) (read : ReadFrame s frame)
-    (agrees : Agrees s frame) where
+    (agrees : Agrees s frame) (single : leaderEquivocates s frame ≡ false) where
   abbrev x : Height
   x = at s (frameHeight frame)
 
   keep-keeps : Kept digest (view s) frame x (kind frame) (keep digest s frame)
   unfolding view
   keep-keeps = keep-cases digest s frame read (Kept digest (view s) frame x)
-      (λ e. proposal-keeps digest (view s) frame x (agrees .proposal e))
+      (λ e. proposal-keeps digest (view s) frame x (λ held. agrees .proposal e held single))
       (λ e. vote-keeps digest (view s) frame x (shaped digest s is frame read) (signer-few read (is .n-high) e)
       (digest-size read) (agrees .vote e))
       (λ e. dummy-keeps digest (view s) frame x)
@@ -67,21 +68,21 @@ module _ (digest : Bytes → Bytes) (book frame : Bytes) (accepts : Accepts dige
   state = sound-decode digest book (accepts .was-sound)
 
   -- a frame that is known keeps nothing, and a fresh one its height
-  pub known-keeps : keep digest s frame ≡ none → KeepsState digest s s frame
+  pub known-keeps : leaderEquivocates s frame ≡ false → keep digest s frame ≡ none → KeepsState digest s s frame
   unfolding left
-  known-keeps e =
-      let same : after digest s state frame (accepts .read) (accepts .agrees) ≡ s =
+  known-keeps single e =
+      let same : after digest s state frame (accepts .read) (accepts .agrees) single ≡ s =
       rw e (placed-same s (frameHeight frame) (accepts .read .low)) in
       subst (λ (z : State). KeepsState digest s z frame) same
-      (keeps digest s state frame (accepts .read) (accepts .agrees))
+      (keeps digest s state frame (accepts .read) (accepts .agrees) single)
 
-  pub fresh-keeps : (y : Height) → keep digest s frame ≡ some y →
+  pub fresh-keeps : (y : Height) → leaderEquivocates s frame ≡ false → keep digest s frame ≡ some y →
       KeepsState digest s (decode (encode (withHeight s (frameHeight frame) y))) frame
   unfolding left
-  fresh-keeps y e =
-      let same : after digest s state frame (accepts .read) (accepts .agrees) ≡ withHeight s (frameHeight frame) y =
+  fresh-keeps y single e =
+      let same : after digest s state frame (accepts .read) (accepts .agrees) single ≡ withHeight s (frameHeight frame) y =
       rw e refl in
       let back = decode-encode (withHeight s (frameHeight frame) y)
       (keep-sound digest s state frame (accepts .read) y e .shaped) in
       subst (λ (z : State). KeepsState digest s z frame) (same ∙ sym back)
-      (keeps digest s state frame (accepts .read) (accepts .agrees))
+      (keeps digest s state frame (accepts .read) (accepts .agrees) single)

@@ -1,4 +1,4 @@
--- Where the fields of the frame's height stand in a book that meets `Keeps`.
+-- Where the fields of the frame's height stand in a book that meets `KeepsStatement`.
 use Prim.Native.Nat.{suc, ℕ, _+_, _-_, _*_, _≤_, _<_}
 use native.Mathlib.Omega.{arith}
 use mathlib.Core.Path.{_≡_, refl, sym, ap, _∙_}
@@ -16,7 +16,7 @@ use Rattle.protocol.specs.Laws.SoundLaws.{sound-decode}
 use Rattle.protocol.specs.Laws.FieldLaws.{read-status, read-certificate-mask, read-dummy-mask, read-finalize-mask}
 use Rattle.protocol.specs.Laws.FieldLaws.{read-voter-mask, read-proposal, read-notarized, read-vote}
 use Rattle.call_laws.specs.KeptBytes.{contentAt, bodyAt}
-use Rattle.call_laws.specs.Keeping.{Keeps}
+use Rattle.call_laws.specs.Keeping.{KeepsStatement}
 
 -- what a book after a delivery has of the frame's height, and where
 module _ (book frame after : Bytes) where
@@ -45,7 +45,7 @@ module _ (book frame after : Bytes) where
     pub vote : (t : ℕ) → t < 16 → part after (d + (352 + 32 * t)) 32 ≡ voteOf y t
 
   pub kept-fields : {digest : Bytes → Bytes} {news : Delivery} → Accepts digest book frame →
-      Keeps digest book frame news after → KeptFields
+      KeepsStatement digest book frame news after → KeptFields
   kept-fields {digest} accepts is = record {
     same-n = ap (λ (s : State). s .n) (is .keeps .elsewhere) ∙ unfold withHeight in refl;
     sound = sound-decode digest after (is .stays-sound) .each h low (rw same-last (accepts .read .high));

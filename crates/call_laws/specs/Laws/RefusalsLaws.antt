@@ -7,10 +7,10 @@ use mathlib.Core.Option.{Option, some, none}
 use Rattle.protocol.specs.Bytes.{Bytes}
 use Rattle.protocol.specs.Tests.{Row, firstRefusal}
 use Rattle.protocol.specs.Answer.{Answer, Outcome, Done, Delivery, Counts, Move, refused, accepted, unlessRefused}
-use Rattle.protocol.specs.State.{Height, decode}
+use Rattle.protocol.specs.State.{decode}
 use Rattle.protocol.specs.Sound.{sound}
 use Rattle.protocol.specs.Open.{openRows, openCall}
-use Rattle.protocol.specs.Deliver.{keep, kept, deliverRows, deliverCall}
+use Rattle.protocol.specs.Deliver.{deliverRows, heard, deliverCall}
 use Rattle.protocol.specs.Packet.{packetRows, packetCall}
 use Rattle.protocol.specs.Move.{MoveOutcome, moved, step, unlessMoveRefused, moveRows, moveCall}
 use Rattle.protocol.specs.Signal.{signalRows, signalCall}
@@ -18,6 +18,7 @@ use Rattle.protocol.specs.Submit.{submitRows, submitCall}
 use Rattle.protocol.specs.Read.{logSize, sizeCall}
 use Rattle.protocol.specs.Fetch.{unlessFetchRefused, fetchRows, fetchCall}
 use Rattle.protocol.specs.Certificates.{certificateFrame}
+use Rattle.protocol.specs.Laws.DeliverLaws.{heard-accepted}
 use Rattle.call_laws.specs.Refusals.{Refuses}
 
 pub refused≢accepted : {A : Type 0} (number : ℕ) (answer : A) → refused number ≡ accepted answer → ⊥
@@ -68,19 +69,9 @@ module _ (digest : Bytes → Bytes) (book : Bytes) where
       Refuses Delivery (deliverRows digest book frame) (deliverCall digest book frame .answer) (book ∷ [])
       (deliverCall digest book frame .book ∷ [])
   unfolding deliverCall
-  deliver-refuses frame = go (keep digest (decode book) frame)
-    where
-      rows : List Row
-      rows = deliverRows digest book frame
-
-      Refused : Option Height → Type 0
-      Refused o =
-          let outcome : Outcome Delivery = unlessRefused (firstRefusal rows) book (kept digest book frame o) in
-          Refuses Delivery rows (outcome .answer) (book ∷ []) (outcome .book ∷ [])
-
-      go : (o : Option Height) → Refused o
-      go none = unfold kept in outcome-refuses rows book (kept digest book frame none) _ refl
-      go (some y) = unfold kept in outcome-refuses rows book (kept digest book frame (some y)) _ refl
+  deliver-refuses frame =
+      let (news, accepts) = heard-accepted digest book frame in
+      outcome-refuses (deliverRows digest book frame) book (heard digest book frame) news accepts
 
   pub packet-refuses : (packet : Bytes) →
       Refuses Counts (packetRows digest book packet) (packetCall digest book packet .answer) (book ∷ [])

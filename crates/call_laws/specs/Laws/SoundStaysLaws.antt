@@ -2,14 +2,14 @@
 use Prim.Native.Nat.{ℕ}
 use native.Mathlib.Omega.{arith}
 use mathlib.Core.Path.{_≡_, refl}
-use mathlib.Core.Bool.{true}
+use mathlib.Core.Bool.{true, false}
 use mathlib.Core.List.{List, [], _∷_, _++_}
 use mathlib.Core.Option.{Option, some, none}
 use Rattle.protocol.specs.SoundState.{SoundState}
 use Rattle.protocol.specs.Bytes.{Bytes}
 use Rattle.protocol.specs.Tests.{Row, firstRefusal}
 use Rattle.protocol.specs.Frame.{frameHeight}
-use Rattle.protocol.specs.State.{State, encode, decode, withHeight, withTimerFired}
+use Rattle.protocol.specs.State.{State, encode, decode, withHeight, flag, withTimerFired}
 use Rattle.protocol.specs.Sound.{sound}
 use Rattle.protocol.specs.Answer.{Answer, refused, accepted, Outcome, Delivery, Done, done, unlessRefused}
 use Rattle.protocol.specs.Open.{newState, openRows, openCall}
@@ -46,10 +46,15 @@ module _ (digest : Bytes → Bytes) where
     state : SoundState digest s
     state = sound-decode digest book was
 
+    fired : flag 1 s ≡ false → Sound (encode (withTimerFired s))
+    fired clear = sound-encode digest (withTimerFired s) (timer-sound digest s state clear)
+
     pub deliver-stays : (frame : Bytes) → Sound (deliverCall digest book frame .book)
     deliver-stays frame = deliver-cases digest book frame (λ (o : Outcome Delivery). Sound (o .book))
-        (λ _ _. was) (λ _ _. was) (λ y accepts e.
+        (λ _ _. was) (λ _ _ _. was)
+        (λ y accepts _ e.
         sound-encode digest (withHeight s (frameHeight frame) y) (keep-sound digest s state frame (accepts .read) y e))
+        (λ _ _ clear. fired clear)
 
     pub move-stays : (reply : Bytes) → Sound (moveCall digest book reply .book)
     unfolding moveCall
@@ -60,15 +65,11 @@ module _ (digest : Bytes → Bytes) where
             sound-encode digest (step digest s .after) (step-sound digest s state)
         go (some number) = unfold unlessMoveRefused in was
 
-    fired : (h : ℕ) → firstRefusal (signalRows digest book h) ≡ none → Sound (encode (withTimerFired s))
-    fired h passes =
-        sound-encode digest (withTimerFired s) (timer-sound digest s state (signal-tested digest book h passes
-        .not-fired))
-
     pub signal-stays : (h : ℕ) → Sound (signalCall digest book h .book)
     unfolding signalCall
     signal-stays h = unless-refused Sound (signalRows digest book h) book
-        (record { answer = accepted done; book = encode (withTimerFired s) }) was (fired h)
+        (record { answer = accepted done; book = encode (withTimerFired s) }) was
+        (λ passes. fired (signal-tested digest book h passes .not-fired))
 
     abbrev submitted : Bytes → Bytes
     submitted entry = encode (withPending s (stillPending s ++ (entry ∷ [])))

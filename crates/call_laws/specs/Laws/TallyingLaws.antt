@@ -122,16 +122,16 @@ module _ (digest : Bytes → Bytes) where
             (ap (λ (z : State). z .heights) (head .3) ∙ unfold withHead in refl)
         go (some number) = unfold unlessMoveRefused in all
 
-    fired-shaped : Shaped (withTimerFired s)
+    fired : AllTallied digest (decode (encode (withTimerFired s)))
     unfolding withTimerFired withHead
-    fired-shaped = record { pool-size = state .shaped .pool-size; heights = state .shaped .heights }
+    fired = rewritten (withTimerFired s)
+        (record { pool-size = state .shaped .pool-size; heights = state .shaped .heights }) refl refl
 
     pub signal-keeps : (h : ℕ) → AllTallied digest (decode (signalCall digest book h .book))
     unfolding signalCall
     signal-keeps h = unless-refused (λ (b : Bytes). AllTallied digest (decode b)) (signalRows digest book h) book
         (record { answer = accepted done; book = encode (withTimerFired s) }) all
-        (λ passes. rewritten (withTimerFired s) fired-shaped (unfold withTimerFired withHead in refl)
-        (unfold withTimerFired withHead in refl))
+        (λ _. fired)
 
     submitted : (entry : Bytes) → firstRefusal (submitRows digest book entry) ≡ none →
         SoundState digest (withPending s (stillPending s ++ (entry ∷ [])))
@@ -166,9 +166,10 @@ module _ (digest : Bytes → Bytes) where
     pub deliver-keeps-tallies : (frame : Bytes) → AllTallied digest (decode (deliverCall digest book frame .book))
     deliver-keeps-tallies frame =
         deliver-cases digest book frame (λ (o : Outcome Delivery). AllTallied digest (decode (o .book)))
-        (λ _ _. all) (λ _ _. all)
-        (λ y accepts e. delivered frame _ (fresh-keeps digest book frame accepts y e) (accepts .read .low)
+        (λ _ _. all) (λ _ _ _. all)
+        (λ y accepts single e. delivered frame _ (fresh-keeps digest book frame accepts y single e) (accepts .read .low)
         (accepts .read .high))
+        (λ _ _ _. fired)
 
   -- ---- a packet: frame by frame
   frames-keep-tallies : (book : Bytes) → sound digest book ≡ true → AllTallied digest (decode book) →

@@ -1,13 +1,13 @@
 -- A refused call does nothing; what opens a book is an opening, and what reads a part is a reading.
 use Prim.Native.Nat.{ℕ}
 use native.Mathlib.Omega.{arith}
-use mathlib.Core.Path.{_≡_, refl, sym, _∙_}
+use mathlib.Core.Path.{_≡_, refl, sym, ap, _∙_}
 use mathlib.Core.Bool.{Bool, true, false, cond, true≢false}
 use mathlib.Core.Option.{Option, some, none}
 use Rattle.protocol.specs.Bytes.{Bytes}
 use Rattle.protocol.specs.Tests.{firstRefusal}
 use Rattle.protocol.specs.State.{decode}
-use Rattle.protocol.specs.Answer.{Answer, Outcome, Delivery, refused, isAccepted, unlessRefused}
+use Rattle.protocol.specs.Answer.{Outcome, refused, isAccepted, unlessRefused}
 use Rattle.protocol.specs.Open.{openCall, openRows}
 use Rattle.protocol.specs.Deliver.{deliverCall, deliverRows}
 use Rattle.protocol.specs.Packet.{acceptedOf, packetCall, packetFrames, packetRows}
@@ -45,7 +45,7 @@ module _ (digest : Bytes → Bytes) (book : Bytes) where
       (firstRefusal (openRows book n own heights leaders))
   refused-does-nothing (delivery frame) =
       unless-refused (ofDelivery frame) (λ number. refl) _
-      (heard-accepted digest book frame (λ (a : Answer Delivery). isAccepted a ≡ true) (λ news. refl))
+      (ap isAccepted (heard-accepted digest book frame .1))
       (firstRefusal (deliverRows digest book frame))
   refused-does-nothing (packetDelivery packet) =
       unless-refused (ofPacket (acceptedOf digest book (packetFrames packet))) (λ number. refl) _ refl

@@ -21,7 +21,7 @@ use Rattle.protocol.specs.State.{State, Height, at, last, decode, encode
 use Rattle.protocol.specs.State.{voteOf, flag, withTimerFired}
 use Rattle.protocol.specs.View.{View, quorum}
 use Rattle.protocol.specs.Sound.{view, sound}
-use Rattle.protocol.specs.Answer.{Answer, Outcome, Delivery, refused, accepted, known, fresh, unlessRefused}
+use Rattle.protocol.specs.Answer.{Outcome, Delivery, refused, accepted, known, fresh, unlessRefused}
 use Rattle.protocol.specs.Deliver.{readRows, clashRows, deliverRows, keepProposal, keepBlockVote, keepDummyVote}
 use Rattle.protocol.specs.Deliver.{keepFinalize, keepBlockCertificate, keepDummyCertificate}
 use Rattle.protocol.specs.Deliver.{keepFinalizeCertificate, keep, kept, deliverCall, votersFor, notarize}
@@ -286,18 +286,19 @@ module _ (digest : Bytes → Bytes) (book frame : Bytes) where
   heard-single e = rw e
 
   -- a frame that passes all rows is accepted
-  pub heard-accepted : (P : Answer Delivery → Type 0) → ((news : Delivery) → P (accepted news)) →
-      P (heard digest book frame .answer)
+  pub heard-accepted : (news : Delivery) × (heard digest book frame .answer ≡ accepted news)
   unfolding heard timerFires kept
-  heard-accepted P accepts =
-      cond-elim (λ (o : Outcome Delivery). P (o .answer)) (leaderEquivocates (decode book) frame)
-      (λ _. cond-elim (λ (o : Outcome Delivery). P (o .answer)) (flag 1 (decode book)) (λ _. accepts known)
-      (λ _. accepts fresh))
+  heard-accepted =
+      cond-elim Accepted (leaderEquivocates (decode book) frame)
+      (λ _. cond-elim Accepted (flag 1 (decode book)) (λ _. (known, refl)) (λ _. (fresh, refl)))
       (λ _. go (keep digest (decode book) frame))
     where
-      go : (o : Option Height) → P (kept digest book frame o .answer)
-      go none = accepts known
-      go (some y) = accepts fresh
+      Accepted : Outcome Delivery → Type 0
+      Accepted o = (news : Delivery) × (o .answer ≡ accepted news)
+
+      go : (o : Option Height) → Accepted (kept digest book frame o)
+      go none = (known, refl)
+      go (some y) = (fresh, refl)
 
   nothing-kept : Equivocates (decode book) frame → keep digest (decode book) frame ≡ none
   nothing-kept e =
