@@ -13,13 +13,12 @@ use Rattle.protocol.specs.Answer.{Counts, Done, Outcome, accepted, done, isAcce
 use Rattle.protocol.specs.Bytes.{Bytes}
 use Rattle.protocol.specs.Deliver.{deliverAll, deliverCall}
 use Rattle.protocol.specs.Packet.{acceptedOf, countAll, packetCall, packetFrames, packetRows}
-use Rattle.protocol.specs.Laws.FlagLaws.{flag-set, flag-kept}
 use Rattle.protocol.specs.Laws.MoveLaws.{step-body}
 use Rattle.protocol.specs.Move.{Step, moveCall, moveRows, moved, step, unlessMoveRefused}
 use Rattle.protocol.specs.Open.{newState, openCall, openRows}
 use Rattle.protocol.specs.Signal.{signalCall, signalRows}
 use Rattle.protocol.specs.Sound.{sound}
-use Rattle.protocol.specs.State.{Height, State, decode, encode, flag, noHeight, withHead, withTimerFired}
+use Rattle.protocol.specs.State.{Height, State, decode, encode, flag, noHeight}
 use Rattle.protocol.specs.Tests.{firstRefusal}
 use Rattle.protocol.specs.Laws.TestedLaws.{signal-tested, move-tested}
 use Rattle.agreement.specs.Laws.BackingLaws.{later}
@@ -27,8 +26,8 @@ use Rattle.agreement.specs.Laws.GrantsLaws.{grants}
 use Rattle.agreement.specs.Lists.{Member, Statement, Wrote, delivers, statementOf, writes}
 use Rattle.agreement.specs.Laws.MovingLaws.{step-good}
 use Rattle.agreement.specs.Laws.StatementsLaws.{Consistent, stated-nothing}
-use Rattle.agreement.specs.Laws.RunLaws.{AllDelivered, BackedBy, Good, Seen, States, encoded, frame-good}
-use Rattle.agreement.specs.Laws.RunLaws.{frames-good}
+use Rattle.agreement.specs.Laws.RunLaws.{AllDelivered, BackedBy, Good, Seen, States, encoded, fired-good}
+use Rattle.agreement.specs.Laws.RunLaws.{frame-good, frames-good}
 use Rattle.agreement.specs.Laws.ListsLaws.{wrote-last, wrote-more}
 
 module _ (digest : Bytes → Bytes) (n : ℕ) (books names : ℕ → Type 0) (P : List Member) (m : Member) where
@@ -162,23 +161,12 @@ module _ (digest : Bytes → Bytes) (n : ℕ) (books names : ℕ → Type 0) (P 
 
   pub signal-good : (s : ℕ) (book : Bytes) (h : ℕ) → GoodIn P s (decode book) → writes digest m ≡ [] →
       GoodIn P′ s (decode (signalCall digest book h .book))
-  unfolding signalCall withTimerFired withHead
+  unfolding signalCall
   signal-good s book h g silent =
-      unless-refused-good s (firstRefusal (signalRows digest book h)) book _ (unchanged s b g (λ q. silent))
-      (λ e. encoded digest n books names P′ s _ (fired e))
-    where
-      b : State
-      b = decode book
-
-      fired : firstRefusal (signalRows digest book h) ≡ none →
-          GoodIn P′ s (withHead b (b .flags + 1) (b .current) (b .finalized))
-      fired e =
-          let off = signal-tested digest book h e .not-fired in
-          quiet s b (withHead b (b .flags + 1) (b .current) (b .finalized)) g (λ q. silent) refl refl
-          (λ q. flag-set b (b .current) (b .finalized) 0 off)
-          (λ q. flag-kept b (b .current) (b .finalized) 0 off 2 (omega arith) ∙ q)
-          (record { pool-size = g .kept .shaped .pool-size; heights = g .kept .shaped .heights })
-          (λ i. backed-more (g .kept .backed i))
+      let still = unchanged s (decode book) g (λ q. silent) in
+      unless-refused-good s (firstRefusal (signalRows digest book h)) book _ still
+      (λ e. encoded digest n books names P′ s _ (fired-good digest n books names P′ (decode book) s
+      (signal-tested digest book h e .not-fired) still))
 
   -- ---- a move
   pub step-keeps : (s : ℕ) (book : Bytes) → names s → GoodIn P s (decode book) → sound digest book ≡ true →

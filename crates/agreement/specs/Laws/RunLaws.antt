@@ -1,7 +1,8 @@
 -- The book of an honest replica along a list of calls: what is backed in it, and what the frames delivered to it leave.
 use Prim.Native.Nat.{ℕ, suc, _-_, _<_}
 use native.Mathlib.Omega.{arith}
-use mathlib.Core.Path.{_≡_, refl, sym, subst}
+use mathlib.Core.Path.{_≡_, refl, sym, subst, _∙_}
+use mathlib.Core.Logic.{inl}
 use mathlib.Core.Bool.{Bool, true, false}
 use mathlib.Core.List.{List, [], _∷_, List·Memᴰ, Memᴰ·append-left}
 use mathlib.Core.Option.{Option, some, none}
@@ -16,13 +17,15 @@ use Rattle.protocol.specs.Deliver.{deliverAll, deliverCall, keep}
 use Rattle.protocol.specs.Laws.EveryLaws.{every-set, every-at}
 use Rattle.protocol.specs.Frame.{frameHeight}
 use Rattle.protocol.specs.Laws.DeliverLaws.{Accepts, deliver-cases}
-use Rattle.protocol.specs.State.{Height, State, at, decode, encode, flag, last, noHeight, withHeight}
+use Rattle.protocol.specs.State.{Height, State, at, decode, encode, flag, last, noHeight, withHead, withHeight}
+use Rattle.protocol.specs.State.{withTimerFired}
 use Rattle.protocol.specs.Laws.StateLaws.{decode-encode}
+use Rattle.protocol.specs.Laws.FlagLaws.{flag-set, flag-kept}
 use Rattle.agreement.specs.Laws.BackingLaws.{Backed}
 use Rattle.agreement.specs.Laws.GrantsLaws.{grants}
 use Rattle.agreement.specs.Laws.KeepingLaws.{keep-good}
 use Rattle.agreement.specs.Lists.{Member, Shows, Statement, Wrote, blockIn, delivers, statementOf, writes}
-use Rattle.agreement.specs.Laws.StatementsLaws.{Consistent}
+use Rattle.agreement.specs.Laws.StatementsLaws.{Consistent, stated-nothing}
 
 module _ (digest : Bytes → Bytes) where
   -- `books`: whose books are meant; `names`: whose statements. An honest replica is among both
@@ -54,6 +57,25 @@ module _ (digest : Bytes → Bytes) where
 
     pub encoded : (P : List Member) (s : ℕ) (b : State) → Good P s b → Good P s (decode (encode b))
     encoded P s b g = rw (decode-encode b (g .kept .shaped)) g
+
+    -- ---- the timer fires, by a signal or because the leader equivocates
+    module _ (P : List Member) (b : State) where
+      fired-kept : Kept P b → Kept P (withTimerFired b)
+      unfolding withTimerFired withHead
+      fired-kept k = record {
+        shaped = record { pool-size = k .shaped .pool-size; heights = k .shaped .heights };
+        backed = k .backed;
+      }
+
+      pub fired-good : (s : ℕ) → flag 1 b ≡ false → Good P s b → Good P s (withTimerFired b)
+      unfolding withTimerFired withHead
+      fired-good s clear g = record {
+        same-n = g .same-n;
+        kept = fired-kept (g .kept);
+        consistent = stated-nothing (g .consistent) (λ st w. inl w)
+            (λ _. flag-set b (b .current) (b .finalized) 0 clear)
+            (λ e. flag-kept b (b .current) (b .finalized) 0 clear 2 (omega arith) ∙ e);
+      }
 
     -- ---- a frame among those that a member of the list delivers
     module _ (P : List Member) (m : Member) (among : List·Memᴰ m P) (ours : books (m .replica)) where
@@ -130,10 +152,13 @@ module _ (digest : Bytes → Bytes) where
       frame-kept book f k =
           deliver-cases digest book f (λ (o : Outcome Delivery).
           (isAccepted (o .answer) ≡ true → List·Memᴰ f (delivers digest m)) → Said f → Kept P (decode (o .book)))
-          (λ _ _ _ _. k) (λ _ _ _ _. k)
-          (λ new accepts q d said.
+          (λ _ _ _ _. k) (λ _ _ _ _ _. k)
+          (λ new accepts _ q d said.
           let after = changed book f k (d refl) (said (d refl)) accepts new q in
           rw (decode-encode (withHeight (decode book) (frameHeight f) new) (after .shaped)) after)
+          (λ _ _ _ _ _.
+          let after = fired-kept P (decode book) k in
+          rw (decode-encode (withTimerFired (decode book)) (after .shaped)) after)
 
       pub frame-good : (s : ℕ) (book f : Bytes) → Good P s (decode book) → Delivered book f → Said f →
           Good P s (decode (deliverCall digest book f .book))
@@ -141,9 +166,10 @@ module _ (digest : Bytes → Bytes) where
       frame-good s book f g =
           deliver-cases digest book f (λ (o : Outcome Delivery).
           (isAccepted (o .answer) ≡ true → List·Memᴰ f (delivers digest m)) → Said f → Good P s (decode (o .book)))
-          (λ _ _ _ _. g) (λ _ _ _ _. g)
-          (λ new accepts q d said.
+          (λ _ _ _ _. g) (λ _ _ _ _ _. g)
+          (λ new accepts _ q d said.
           encoded P s _ (changed-good book f (g .kept) (d refl) (said (d refl)) accepts new q s g))
+          (λ _ _ clear _ _. encoded P s _ (fired-good P (decode book) s clear g))
 
       -- several frames, each delivered to the book that those before it left
       unfoldable pub AllDelivered : Bytes → List Bytes → Type 0

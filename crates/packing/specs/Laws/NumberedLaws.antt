@@ -9,17 +9,17 @@ use Rattle.protocol.specs.Bytes.{Bytes}
 use Rattle.protocol.specs.Tests.{Row, inRange, firstRefusal}
 use Rattle.protocol.specs.Laws.TestsLaws.{and-both, cond-elim}
 use Rattle.protocol.specs.Laws.RowLaws.{in-range}
-use Rattle.protocol.specs.State.{Height}
 use Rattle.protocol.specs.Sound.{sound}
-use Rattle.protocol.specs.Answer.{refused, accepted, Outcome, unlessRefused, known, fresh}
+use Rattle.protocol.specs.Answer.{refused, accepted, Outcome, unlessRefused}
 use Rattle.protocol.specs.Open.{openRows, openCall}
-use Rattle.protocol.specs.Deliver.{readRows, clashRows, deliverRows, kept, deliverCall}
+use Rattle.protocol.specs.Deliver.{readRows, clashRows, deliverRows, deliverCall}
 use Rattle.protocol.specs.Packet.{packetRows, packetCall}
 use Rattle.protocol.specs.Signal.{signalRows, signalCall}
 use Rattle.protocol.specs.Submit.{submitRows, submitCall}
 use Rattle.protocol.specs.Fetch.{unlessFetchRefused, fetchRows, fetchCall}
 use Rattle.protocol.specs.Read.{sizeCall}
 use Rattle.protocol.specs.Move.{Step, moved, unlessMoveRefused, moveRows, moveCall}
+use Rattle.protocol.specs.Laws.DeliverLaws.{heard-accepted}
 use Rattle.packing.specs.Unpacking.{lastRefusal, Numbered}
 
 -- ---- rows of refusals
@@ -64,11 +64,9 @@ open-numbered book n own heights leaders = outcome-numbered _ refl book _ (accep
 module _ (digest : Bytes → Bytes) (book : Bytes) where
   pub deliver-numbered : (frame : Bytes) → Numbered (deliverCall digest book frame .answer)
   unfolding deliverCall deliverRows readRows clashRows allNumbered inRange
-  deliver-numbered frame = outcome-numbered _ refl book _ (kept-numbered _)
-    where
-      kept-numbered : (x : Option Height) → Numbered (kept digest book frame x .answer)
-      kept-numbered none = unfold kept in accepted-numbered known
-      kept-numbered (some x) = unfold kept in accepted-numbered fresh
+  deliver-numbered frame =
+      let (news, e) = heard-accepted digest book frame in
+      outcome-numbered _ refl book _ (rw e (accepted-numbered news))
 
   pub packet-numbered : (packet : Bytes) → Numbered (packetCall digest book packet .answer)
   unfolding packetCall packetRows allNumbered inRange
