@@ -14,3 +14,5 @@ pub mod NotarizingProposalsLaws
 pub mod NextIterationLaws
 pub mod FinalizedOutputsLaws
 pub mod StepsLaws
+pub mod TimerLaws
+pub mod EquivocationLaws

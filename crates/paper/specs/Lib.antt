@@ -4,4 +4,5 @@ pub mod Idle
 pub mod Blockchains
 pub mod Register
 pub mod Steps
+pub mod Timer
 pub mod Laws

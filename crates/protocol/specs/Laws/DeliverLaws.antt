@@ -30,7 +30,8 @@ use Rattle.protocol.specs.Laws.BytesLaws.{length-part}
 use Rattle.protocol.specs.Laws.MaskLaws.{below-lt}
 use Rattle.protocol.specs.Laws.TestsLaws.{cond-elim, and-both}
 use Rattle.protocol.specs.Laws.RowLaws.{row-passes, by-rows, by-tested, split-rows, in-range, range-in}
-use Rattle.protocol.specs.Laws.RowLaws.{not-passed, true-and, implies-true, same-eq, eq-same}
+use Rattle.protocol.specs.Laws.RowLaws.{pass-row, pass-rows, not-passed, true-and, implies-true, true-implies, same-eq}
+use Rattle.protocol.specs.Laws.RowLaws.{eq-same}
 use Rattle.protocol.specs.Laws.FormedLaws.{formed-frame}
 
 -- ---- kinds
@@ -51,7 +52,7 @@ module _ (s : State) (frame : Bytes) where
   abbrev Members : Bool → Type 0
   Members statement = cond statement (ltb (signer frame) (s .n)) (belowBit (s .n) (signerMask frame)) ≡ true
 
-  rows-read : firstRefusal (readRows s frame) ≡ none → ReadFrame s frame
+  pub rows-read : firstRefusal (readRows s frame) ≡ none → ReadFrame s frame
   unfolding readRows
   rows-read e =
       by-tested _ e λ formed height members leader enough.
@@ -159,6 +160,15 @@ clash-facts s frame e =
       vote = λ two has. same-eq _ _ (rw (two, has) at votes);
       block = λ five has. same-eq _ _ (rw (five, has) at blocks);
     }
+
+-- a proposal for the current height contradicts nothing
+clash-passes : (s : State) (frame : Bytes) → kind frame ≡ 1 → frameHeight frame ≡ s .current →
+    firstRefusal (clashRows s frame) ≡ none
+unfolding clashRows firstRefusal
+clash-passes s frame one here = rw (
+  true-implies (secondProposal s frame) (eqb (frameHeight frame) (s .current)) (λ _. eq-eqb _ _ here),
+  one,
+) (unfold implies in refl)
 
 -- ---- what each of the seven kinds keeps
 -- a fact of what is kept, if something is
@@ -268,6 +278,7 @@ module _ (digest : Bytes → Bytes) (s : State) (frame : Bytes) where
 -- what a delivery that is not refused has tested
 pub record Accepts (digest : Bytes → Bytes) (book frame : Bytes) : Type 0 where
   pub was-sound : sound digest book ≡ true
+  pub passes : firstRefusal (readRows (decode book) frame) ≡ none
   pub read : ReadFrame (decode book) frame
   pub agrees : Agrees (decode book) frame
 
@@ -276,8 +287,13 @@ module _ (digest : Bytes → Bytes) (book frame : Bytes) where
   unfolding deliverRows
   deliver-facts e =
       let (is-sound, rest) = row-passes _ _ e in
-      let (read, clash) = read-facts (decode book) frame (clashRows (decode book) frame) rest in
-      record { was-sound = is-sound; read = read; agrees = clash-facts (decode book) frame clash }
+      let (passes, clash) = split-rows (readRows (decode book) frame) (clashRows (decode book) frame) rest in
+      record {
+        was-sound = is-sound;
+        passes = passes;
+        read = rows-read (decode book) frame passes;
+        agrees = clash-facts (decode book) frame clash;
+      }
 
   -- the outcome of a frame by which no leader equivocates
   pub heard-single : leaderEquivocates (decode book) frame ≡ false →
@@ -299,6 +315,21 @@ module _ (digest : Bytes → Bytes) (book frame : Bytes) where
       go : (o : Option Height) → Accepted (kept digest book frame o)
       go none = (known, refl)
       go (some y) = (fresh, refl)
+
+  -- a proposal that is read over a sound book, for its current height, is not refused
+  pub proposal-passes : sound digest book ≡ true → firstRefusal (readRows (decode book) frame) ≡ none →
+      kind frame ≡ 1 → frameHeight frame ≡ decode book .current → firstRefusal (deliverRows digest book frame) ≡ none
+  unfolding deliverRows
+  proposal-passes was-sound passes one here =
+      pass-row _ _ was-sound ∙ pass-rows (readRows (decode book) frame) _ passes ∙
+      clash-passes (decode book) frame one here
+
+  -- and the timer fires by it where the leader equivocates
+  pub proposal-fires : sound digest book ≡ true → firstRefusal (readRows (decode book) frame) ≡ none →
+      Equivocates (decode book) frame → deliverCall digest book frame ≡ timerFires book
+  unfolding deliverCall heard unlessRefused
+  proposal-fires was-sound passes e =
+      rw (proposal-passes was-sound passes (e .proposes) (e .here), equivocal (decode book) frame e)
 
   nothing-kept : Equivocates (decode book) frame → keep digest (decode book) frame ≡ none
   nothing-kept e =
