@@ -11,7 +11,6 @@ use Rattle.protocol.specs.Move.{isSome}
 use Rattle.protocol.specs.Call.{Opened}
 use Rattle.agreement.specs.Lists.{Member, Statement, proposes, votesBlock, votesDummy, finalizes, statementOf}
 use Rattle.agreement.specs.Lists.{blockIn, does, delivers, writes}
-use Rattle.agreement.specs.Unpacked.{packetIn}
 
 -- ---- over lists and replicas
 unfoldable pub everyIn : {A : Type 0} → (A → Bool) → List A → Bool
@@ -104,7 +103,7 @@ module _ (digest : Bytes → Bytes) where
       everyIn (λ block. everyIn (λ other. implies (same (digest block) (digest other)) (same block other)) blocks)
       blocks
 
-  -- ---- members of replica `s`: one that reads this part, one to which this frame is delivered, the same in a packet,
+  -- ---- members of replica `s`: one that reads this part, one to which this frame is delivered, the same with a test,
   -- one that writes it
   unfoldable pub readsAt : Bytes → ℕ → Member → Bool
   readsAt part s m = eqb (m .replica) s && readsPart part (does digest m .reads)
@@ -112,9 +111,8 @@ module _ (digest : Bytes → Bytes) where
   unfoldable pub hearsAt : Bytes → ℕ → Member → Bool
   hearsAt frame s m = eqb (m .replica) s && holds frame (delivers digest m)
 
-  unfoldable pub hearsPacketAt : Bytes → ℕ → Member → Bool
-  hearsPacketAt frame s m =
-      eqb (m .replica) s && (isSome (packetIn (m .call)) && holds frame (delivers digest m))
+  unfoldable pub hearsWhereAt : (Member → Bool) → Bytes → ℕ → Member → Bool
+  hearsWhereAt test frame s m = eqb (m .replica) s && (test m && holds frame (delivers digest m))
 
   unfoldable pub writesAt : Bytes → ℕ → Member → Bool
   writesAt frame s m = eqb (m .replica) s && holds frame (writes digest m)

@@ -3,13 +3,14 @@
 use Prim.Native.Nat.{ℕ}
 use mathlib.Core.Path.{_≡_}
 use mathlib.Core.Logic.{_≢_}
-use mathlib.Core.Bool.{true}
+use mathlib.Core.Bool.{Bool, true, _&&_, not}
 use mathlib.Core.List.{List, [], List·Memᴰ}
 use mathlib.Core.Option.{some}
 use Rattle.protocol.specs.Bytes.{Bytes}
+use Rattle.protocol.specs.State.{decode, flag}
 use Rattle.protocol.specs.Move.{isSome}
 use Rattle.agreement.specs.Lists.{Member, Statement, statementOf, delivers, HonestIn, FewDishonest, KeepsOneBook}
-use Rattle.agreement.specs.Lists.{NotForged, NoCollision, Reads}
+use Rattle.agreement.specs.Lists.{NotForged, NoCollision, Reads, does}
 use Rattle.agreement.specs.Unpacked.{packetIn}
 
 -- a member of the list, of this replica, with a property
@@ -22,9 +23,16 @@ module _ (digest : Bytes → Bytes) where
   Hears s statement m =
       (frame : Bytes) × List·Memᴰ frame (delivers digest m) × (statementOf digest frame s ≡ some statement)
 
-  -- .. in a packet
-  abbrev pub HearsPacket : ℕ → Statement → Member → Type 0
-  HearsPacket s statement m = (isSome (packetIn (m .call)) ≡ true) × Hears s statement m
+  -- .. and the member passes a test
+  abbrev pub HearsWhere : (Member → Bool) → ℕ → Statement → Member → Type 0
+  HearsWhere test s statement m = (test m ≡ true) × Hears s statement m
+
+  -- two tests of a member: its call is a packet; the timer of its book fires by the call
+  unfoldable pub isPacket : Member → Bool
+  isPacket m = isSome (packetIn (m .call))
+
+  unfoldable pub firesTimer : Member → Bool
+  firesTimer m = not (flag 1 (decode (m .book))) && flag 1 (decode (does digest m .book))
 
   -- demand 3 with any other conclusion about the two parts that are read; with its own it is `Agreement` (MetLaws)
   unfoldable pub Claim : (Bytes → Bytes → Type 0) → Type 0

@@ -11,7 +11,7 @@ use Rattle.protocol.specs.Computing.{everything}
 use Rattle.agreement.specs.ListTests.{everyIn, someIn, everyHonest, isHonest, statementBytes, opensFor, isAmong}
 use Rattle.agreement.specs.ListTests.{opensInTurn, opensOnce, signed, signedIn, isBacked, deliversBacked}
 use Rattle.agreement.specs.ListTests.{notForged, shows, showsOnly, noCollision, readsPart, readsAt, hearsAt}
-use Rattle.agreement.specs.ListTests.{hearsPacketAt, writesAt}
+use Rattle.agreement.specs.ListTests.{hearsWhereAt, writesAt}
 use Rattle.agreement.specs.Lists.{Member, when, blockIn, statementOf}
 use Rattle.agreement.specs.Unpacked.{packetIn}
 
@@ -70,6 +70,6 @@ dishonest = 8
 -- one name that opens every definition of these lists and their tests
 unfoldable pub everyTurn : Unit {0}
 unfolding everything everyHonest isHonest opensInTurn opensOnce deliversBacked notForged shows showsOnly noCollision
-    someIn everyIn signed signedIn isBacked statementBytes opensFor isAmong readsPart readsAt hearsAt hearsPacketAt
+    someIn everyIn signed signedIn isBacked statementBytes opensFor isAmong readsPart readsAt hearsAt hearsWhereAt
     writesAt packetIn when blockIn statementOf entry nextBlock move hear hearPacket openings readings build anything
 everyTurn = tt

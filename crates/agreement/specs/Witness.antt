@@ -1,7 +1,8 @@
 -- A list of calls that meets every premise of demand 3 over a stand-in digest, so that the claim is not vacuous: four
--- replicas, of which replica 3 is dishonest and proposes two blocks at one height; height 1 passes on its dummy block,
--- height 2 is notarized by votes that come in one packet and are tallied, and two honest replicas read an entry. The
--- digest must compute here, and SHA-256 does not in the prover; a list for SHA-256 is in AnyDigest.antt.
+-- replicas, of which replica 3 is dishonest and proposes two blocks at one height; replica 0 hears both, and its timer
+-- fires by the second with no signal; height 1 passes on its dummy block, height 2 is notarized by votes that come in
+-- one packet and are tallied, and two honest replicas read an entry. The digest must compute here, and SHA-256 does not
+-- in the prover; a list for SHA-256 is in AnyDigest.antt.
 use mathlib.Core.Logic.{_≢_}
 use mathlib.Core.List.{List, [], _∷_, _++_, List·Memᴰ}
 use lib.ListN.{replicate}
@@ -11,7 +12,7 @@ use Rattle.protocol.specs.Frame.{proposal, blockVote, dummyVote, finalize, bloc
 use Rattle.protocol.specs.Frame.{finalizeCertificate}
 use Rattle.protocol.specs.Call.{packetDelivery, signalling}
 use Rattle.agreement.specs.Lists.{Member, proposes, votesBlock, writes}
-use Rattle.agreement.specs.Met.{Hears, HearsPacket, MemberOf, Met}
+use Rattle.agreement.specs.Met.{Hears, HearsWhere, MemberOf, Met, firesTimer, isPacket}
 use Rattle.agreement.specs.Turns.{Turn, anything, build, dishonest, entry, hear, hearPacket, move, nextBlock}
 use Rattle.agreement.specs.Turns.{openings, readings}
 
@@ -36,12 +37,12 @@ split =
     hear 0 (blockVote 3 1 (sample oneBlock)) ∷ hear 1 (blockVote 3 1 (sample otherBlock)) ∷
     hear 0 (blockVote 0 1 (sample oneBlock)) ∷ hear 1 (blockVote 0 1 (sample oneBlock)) ∷ []
 
--- the timers fire, replica 0 hears the other block too and a vote that replica 1 never cast, at a height that there is
--- not, both refused, and height 1 passes on its dummy block
+-- replica 0 hears a vote that replica 1 never cast, at a height that there is not, refused, and the other block too, by
+-- which its timer fires; those of replicas 1 and 2 are signalled, and height 1 passes on its dummy block
 unfoldable pub timeouts : List Turn
 timeouts =
     hear 0 (dummyVote 1 9) ∷
-    (0, signalling 1) ∷ (1, signalling 1) ∷ (2, signalling 1) ∷ hear 0 (proposal 3 1 otherBlock) ∷
+    hear 0 (proposal 3 1 otherBlock) ∷ (1, signalling 1) ∷ (2, signalling 1) ∷
     move 0 ∷ move 1 ∷ move 2 ∷
     hear 0 (dummyVote 0 1) ∷ hear 0 (dummyVote 1 1) ∷ hear 0 (dummyVote 2 1) ∷ move 0 ∷
     hear 1 (dummyCertificate 1 7) ∷ hear 2 (dummyCertificate 1 7) ∷ move 1 ∷ move 2 ∷ []
@@ -73,8 +74,10 @@ pub record Witness : Type 0 where
   pub one-proposal : MemberOf list 0 (Hears sample 3 (proposes 1 oneBlock))
   pub other-proposal : MemberOf list 1 (Hears sample 3 (proposes 1 otherBlock))
   pub two-blocks : oneBlock ≢ otherBlock
+  -- replica 0 hears the second one as well, and its timer fires by that
+  pub fires-0 : MemberOf list 0 (HearsWhere sample (firesTimer sample) 3 (proposes 1 otherBlock))
   -- replicas 0 and 1 pass height 1 with the certificate of its dummy block
   pub dummy-0 : MemberOf list 0 (λ m. List·Memᴰ (dummyCertificate 1 7) (writes sample m))
   pub dummy-1 : MemberOf list 1 (λ m. List·Memᴰ (dummyCertificate 1 7) (writes sample m))
   -- replica 0 gets the votes for height 2 in a packet
-  pub packet-0 : MemberOf list 0 (HearsPacket sample 2 (votesBlock 2 (sample nextBlock)))
+  pub packet-0 : MemberOf list 0 (HearsWhere sample (isPacket sample) 2 (votesBlock 2 (sample nextBlock)))

@@ -19,7 +19,7 @@
 -- below 256, as in a byte slice.
 use Prim.Native.Nat.{ℕ, _*_, _≤_}
 use mathlib.Core.Path.{_≡_}
-use mathlib.Core.Bool.{true}
+use mathlib.Core.Bool.{true, false}
 use mathlib.Core.List.{List, [], _∷_, map}
 use lib.ListN.{length}
 use borrow.Author.Tests.{le-leb}
@@ -28,12 +28,12 @@ use Rattle.sha256.specs.Laws.DigestLaws.{sha256-length}
 use Rattle.protocol.specs.Bytes.{Bytes, AreBytes}
 use Rattle.protocol.specs.Tests.{firstRefusal}
 use Rattle.protocol.specs.Frame.{frameSize}
-use Rattle.protocol.specs.State.{decode}
+use Rattle.protocol.specs.State.{decode, flag}
 use Rattle.protocol.specs.Sound.{sound}
 use Rattle.protocol.specs.Laws.SoundLaws.{sound-decode}
 use Rattle.protocol.specs.Answer.{Done, Delivery, Counts, Move, accepted, done}
 use Rattle.protocol.specs.Open.{openRows, openCall}
-use Rattle.protocol.specs.Deliver.{deliverRows, deliverCall}
+use Rattle.protocol.specs.Deliver.{deliverRows, deliverCall, deliverAll}
 use Rattle.protocol.specs.Packet.{packetFrames, counted, packetRows, packetCall}
 use Rattle.protocol.specs.Laws.PacketLaws.{packet-delivered, packet-sums}
 use Rattle.protocol.specs.Move.{step, moved, moveRows, moveCall, unlessMoveRefused}
@@ -66,6 +66,9 @@ use Rattle.call_laws.specs.WrittenRead.{MoveWritten, FetchWritten}
 use Rattle.call_laws.specs.Laws.CallWrittenLaws.{move-written-read, fetch-written-read}
 use Rattle.paper.specs.Steps.{FiveSteps}
 use Rattle.paper.specs.Laws.StepsLaws.{five-steps}
+use Rattle.paper.specs.Timer.{Timer, TwoBlocks, VotesDummyNext}
+use Rattle.paper.specs.Laws.TimerLaws.{timer}
+use Rattle.paper.specs.Laws.EquivocationLaws.{two-blocks, two-blocks-packet}
 use Rattle.paper.specs.Idle.{IdlesJustThen, MovesEnd}
 use Rattle.paper.specs.Laws.IdleLaws.{idles-just-then, moves-end}
 use Rattle.paper.specs.Register.{ReadsChain, CannotRead}
@@ -156,6 +159,25 @@ move-is-the-step book reply ok room = rw (ok, le-leb 448 (length reply) room)
 pub the-five-steps : (book : Bytes) → sound sha256 book ≡ true → FiveSteps sha256 (decode book)
 the-five-steps book ok = five-steps sha256 sha256-length (decode book) (sound-decode sha256 book ok)
 
+-- flag 1, by which step 2 goes: it goes up by a signal of the current height and by a second, different proposal of its
+-- leader (004, footnote 10), also in a packet, and by nothing else; it comes down by a pass alone, unless the bytes are
+-- opened anew
+pub the-timer : (book : Bytes) (call : Call) → sound sha256 book ≡ true → Timer sha256 book call
+the-timer book call ok = timer sha256 book ok call
+
+-- when two of the frames that are delivered are the leader's proposals of different blocks for the current height, the
+-- next move is the vote for the dummy block, if it has not gone out: no signal is needed ..
+pub two-blocks-end-the-wait : (book : Bytes) (frames : List Bytes) → sound sha256 book ≡ true →
+    TwoBlocks sha256 book frames → flag 2 (decode book) ≡ false →
+    VotesDummyNext sha256 book (deliverAll sha256 book frames)
+two-blocks-end-the-wait book frames = two-blocks sha256 book frames
+
+-- .. and so too when they come in one packet
+pub two-blocks-in-a-packet : (book packet : Bytes) (counts : Counts) → sound sha256 book ≡ true →
+    packetCall sha256 book packet .answer ≡ accepted counts → TwoBlocks sha256 book (packetFrames packet) →
+    flag 2 (decode book) ≡ false → VotesDummyNext sha256 book (packetCall sha256 book packet .book)
+two-blocks-in-a-packet = two-blocks-packet sha256
+
 -- Move answers idle if and only if none of document 01's moves applies, and moving until idle ends
 pub idle-just-then : (book reply : Bytes) → sound sha256 book ≡ true → 448 ≤ length reply →
     IdlesJustThen sha256 book reply
@@ -165,7 +187,8 @@ pub moving-ends : (book : Bytes) → MovesEnd sha256 (decode book)
 moving-ends book = moves-end sha256 (decode book)
 
 -- ---- demand 2: what is kept
--- a delivery that is not refused keeps what its frame states, all that was kept before, and nothing else
+-- a delivery that is not refused keeps what its frame states, all that was kept before, and nothing else; but where the
+-- leader of the current height equivocates, the timer fires and nothing else changes
 pub deliveries-keep : (book frame : Bytes) (news : Delivery) → deliverCall sha256 book frame .answer ≡ accepted news →
     Keeps sha256 book frame news (deliverCall sha256 book frame .book)
 deliveries-keep = deliver-keeps sha256

@@ -11,16 +11,14 @@ use lib.Dec.{eqb, ltb}
 use borrow.Author.Tests.{eqb-true, leb-true, le-leb, not-true}
 use Rattle.protocol.specs.Bytes.{Bytes, holds, same}
 use Rattle.protocol.specs.Mask.{inMask}
-use Rattle.protocol.specs.Move.{isSome}
 use Rattle.protocol.specs.Laws.RowLaws.{eq-same, implies-true, same-eq}
 use Rattle.protocol.specs.Tests.{implies}
 use Rattle.protocol.specs.Laws.TestsLaws.{and-both, le-or-lt, or-either}
 use Rattle.agreement.specs.ListTests.{everyHonest, everyIn, hearsAt, isAmong, isHonest, noCollision, readsAt}
-use Rattle.agreement.specs.ListTests.{hearsPacketAt, readsPart, shows, showsOnly, someIn, writesAt}
+use Rattle.agreement.specs.ListTests.{hearsWhereAt, readsPart, shows, showsOnly, someIn, writesAt}
 use Rattle.agreement.specs.Lists.{HonestIn, Member, NoCollision, Reads, Shows, Statement, blockIn, delivers, does}
 use Rattle.agreement.specs.Lists.{statementOf, writes}
-use Rattle.agreement.specs.Met.{Hears, HearsPacket, MemberOf}
-use Rattle.agreement.specs.Unpacked.{packetIn}
+use Rattle.agreement.specs.Met.{Hears, HearsWhere, MemberOf}
 
 -- ---- over lists and replicas
 pub every-in : {A : Type 0} (test : A → Bool) (l : List A) → everyIn test l ≡ true → (x : A) → List·Memᴰ x l →
@@ -151,12 +149,12 @@ module _ (digest : Bytes → Bytes) where
   unfolding hearsAt
   hears-found list frame s t st says e = found list s _ _ (λ m r. (frame, holds-member _ _ r, says)) e
 
-  pub packet-found : (list : List Member) (frame : Bytes) (s t : ℕ) (st : Statement) →
-      statementOf digest frame t ≡ some st → someIn (hearsPacketAt digest frame s) list ≡ true →
-      MemberOf list s (HearsPacket digest t st)
-  unfolding hearsPacketAt
-  packet-found list frame s t st says e = found list s _ _ (λ m r.
-      let q = and-both (isSome (packetIn (m .call))) (holds frame (delivers digest m)) r in
+  pub where-found : (test : Member → Bool) (list : List Member) (frame : Bytes) (s t : ℕ) (st : Statement) →
+      statementOf digest frame t ≡ some st → someIn (hearsWhereAt digest test frame s) list ≡ true →
+      MemberOf list s (HearsWhere digest test t st)
+  unfolding hearsWhereAt
+  where-found test list frame s t st says e = found list s _ _ (λ m r.
+      let q = and-both (test m) (holds frame (delivers digest m)) r in
       (q .0, (frame, holds-member _ _ (q .1), says))) e
 
   pub writes-found : (list : List Member) (frame : Bytes) (s : ℕ) → someIn (writesAt digest frame s) list ≡ true →

@@ -12,12 +12,12 @@ use Rattle.protocol.specs.Frame.{blockVote, dummyCertificate, frameBlock, frame
 use Rattle.protocol.specs.Laws.RowLaws.{by-rows}
 use Rattle.protocol.specs.Tests.{allOf}
 use Rattle.agreement.specs.ListTests.{everyHonest, hearsAt, opensOnce, noCollision, notForged, readsAt, showsOnly}
-use Rattle.agreement.specs.ListTests.{hearsPacketAt, someIn, writesAt}
-use Rattle.agreement.specs.Laws.ListTestsLaws.{collision-sound, hears-found, packet-found, reads-found}
+use Rattle.agreement.specs.ListTests.{hearsWhereAt, someIn, writesAt}
+use Rattle.agreement.specs.Laws.ListTestsLaws.{collision-sound, hears-found, reads-found, where-found}
 use Rattle.agreement.specs.Laws.ListTestsLaws.{writes-found}
 use Rattle.agreement.specs.Laws.NotForgedLaws.{forged-sound}
 use Rattle.agreement.specs.Lists.{Member, proposes, statementOf, votesBlock, when}
-use Rattle.agreement.specs.Met.{Met}
+use Rattle.agreement.specs.Met.{Met, firesTimer, isPacket}
 use Rattle.agreement.specs.Laws.MetLaws.{OneBegins, applied}
 use Rattle.agreement.specs.Turns.{dishonest, entry, everyTurn, nextBlock}
 use Rattle.agreement.specs.Laws.TurnsLaws.{entry-not-empty, few, honest-0, honest-1, keeps}
@@ -39,7 +39,8 @@ tests l = allOf
     someIn (hearsAt sample (proposal 3 1 otherBlock) 1) l ∷
     someIn (writesAt sample (dummyCertificate 1 7) 0) l ∷
     someIn (writesAt sample (dummyCertificate 1 7) 1) l ∷
-    someIn (hearsPacketAt sample (blockVote 2 2 (sample nextBlock)) 0) l ∷ [])
+    someIn (hearsWhereAt sample (firesTimer sample) (proposal 3 1 otherBlock) 0) l ∷
+    someIn (hearsWhereAt sample (isPacket sample) (blockVote 2 2 (sample nextBlock)) 0) l ∷ [])
 
 -- what they say of a list, by name
 record Passes (l : List Member) : Type 0 where
@@ -53,12 +54,14 @@ record Passes (l : List Member) : Type 0 where
   hears-1 : someIn (hearsAt sample (proposal 3 1 otherBlock) 1) l ≡ true
   writes-0 : someIn (writesAt sample (dummyCertificate 1 7) 0) l ≡ true
   writes-1 : someIn (writesAt sample (dummyCertificate 1 7) 1) l ≡ true
-  packet-0 : someIn (hearsPacketAt sample (blockVote 2 2 (sample nextBlock)) 0) l ≡ true
+  fires-0 : someIn (hearsWhereAt sample (firesTimer sample) (proposal 3 1 otherBlock) 0) l ≡ true
+  packet-0 : someIn (hearsWhereAt sample (isPacket sample) (blockVote 2 2 (sample nextBlock)) 0) l ≡ true
 
 passes-rows : (l : List Member) → tests l ≡ true → Passes l
 unfolding tests
 passes-rows l e =
-    by-rows _ e λ opens unforged shows no-collision reads-0 reads-1 hears-0 hears-1 writes-0 writes-1 packet-0. record {
+    by-rows _ e λ opens unforged shows no-collision reads-0 reads-1 hears-0 hears-1 writes-0 writes-1 fires-0 packet-0.
+    record {
       opens = opens;
       unforged = unforged;
       shows = shows;
@@ -69,11 +72,12 @@ passes-rows l e =
       hears-1 = hears-1;
       writes-0 = writes-0;
       writes-1 = writes-1;
+      fires-0 = fires-0;
       packet-0 = packet-0;
     }
 
 tested : tests list ≡ true
-unfolding everyTurn tests list sample oneBlock otherBlock split timeouts votes agreed
+unfolding everyTurn tests firesTimer isPacket list sample oneBlock otherBlock split timeouts votes agreed
 tested = refl
 
 passes : Passes list
@@ -115,7 +119,9 @@ witness = record {
   two-blocks = two-blocks;
   dummy-0 = writes-found sample list _ 0 (passes .writes-0);
   dummy-1 = writes-found sample list _ 1 (passes .writes-1);
-  packet-0 = packet-found sample list _ 0 2 _ vote-says (passes .packet-0);
+  fires-0 =
+      where-found sample (firesTimer sample) list _ 0 3 _ (proposal-says otherBlock) (passes .fires-0);
+  packet-0 = where-found sample (isPacket sample) list _ 0 2 _ vote-says (passes .packet-0);
 }
 
 -- agreement, applied to the list
