@@ -109,7 +109,7 @@ refusals : allOf
 unfolding books
 refusals = refl
 
--- a second proposal at the current height is not refused: it is fresh, then known (EquivocationChecks says what it does)
+-- a second proposal at the current height is not refused: it is fresh, then known; EquivocationChecks has the rest
 second-proposal-at-current : answers single
     (delivery (proposal 0 1 one) ∷ delivery (proposal 0 1 other) ∷ delivery (proposal 0 1 other) ∷ []) ≡
     (0 ∷ 1 ∷ []) ∷ (0 ∷ 1 ∷ []) ∷ (0 ∷ 0 ∷ []) ∷ []
