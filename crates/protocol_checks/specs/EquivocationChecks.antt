@@ -2,13 +2,15 @@
 -- timer and changes nothing else. Each condition where it alone decides, the book's bytes afterwards, and the moves.
 use Prim.Native.Nat.{ℕ, suc}
 use mathlib.Core.Path.{_≡_, refl}
-use mathlib.Core.Bool.{cond}
+use mathlib.Core.Bool.{true, false, cond}
 use mathlib.Core.List.{List, [], _∷_, _++_, map}
 use lib.ListN.{replicate, take}
 use lib.Dec.{eqb}
 use Rattle.protocol.specs.Bytes.{Bytes, zeros, join}
 use Rattle.protocol.specs.Frame.{proposal, blockVote, dummyVote, finalize, blockCertificate, dummyCertificate}
 use Rattle.protocol.specs.Frame.{finalizeCertificate}
+use Rattle.protocol.specs.State.{decode}
+use Rattle.protocol.specs.Deliver.{leaderEquivocates}
 use Rattle.protocol.specs.Call.{opening, delivery, packetDelivery, moving, signalling, effect}
 use Rattle.protocol_checks.specs.CheckCalls.{standIn, Result, perform, answers, splice, expect, disagreement}
 use Rattle.protocol_checks.specs.CheckStates.{entry, counting, stateTools}
@@ -85,6 +87,13 @@ heights-fired : map (λ c. outcomes (book 1 c) (proposals 2)) (1 ∷ 2 ∷ 3 ∷
     ((8 ∷ []) ∷ (8 ∷ []) ∷ (8 ∷ []) ∷ []) ∷ []
 unfolding equivocations
 heights-fired = refl
+
+-- the condition by itself, without row 8 before it
+condition : map (λ c. map (leaderEquivocates (decode (book 0 c))) (proposals 2)) (1 ∷ 2 ∷ 3 ∷ 4 ∷ []) ≡
+    (true ∷ false ∷ false ∷ []) ∷ (false ∷ true ∷ false ∷ []) ∷ (false ∷ false ∷ true ∷ []) ∷
+    replicate 3 false ∷ []
+unfolding equivocations
+condition = refl
 
 -- the held block again is known at every height
 held-again : map (λ c. outcomes (book 0 c) (proposals 1)) (1 ∷ 2 ∷ 3 ∷ 4 ∷ []) ≡
