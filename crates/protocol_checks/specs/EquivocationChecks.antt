@@ -110,8 +110,8 @@ flags : map (λ f. outcome (book f 2) (proposal 0 2 (block 2 2))) (counting 0 16
 unfolding equivocations
 flags = refl
 
--- the moves that follow: a dummy vote unless it was cast, then a block vote unless it was cast, for the held block
--- stands; flag 8 makes no difference to one who does not lead
+-- the moves that follow: a dummy vote unless it was cast, then a vote for the held block unless one was cast; flag 8
+-- makes no difference to one who does not lead
 moves : map (λ f. movesAfter (book f 2) (proposal 0 2 (block 2 2))) (counting 0 9) ≡
     ((0 ∷ 1 ∷ []) ∷ (0 ∷ 1 ∷ 2 ∷ []) ∷ (0 ∷ 5 ∷ 2 ∷ []) ∷ (0 ∷ 0 ∷ 0 ∷ []) ∷ []) ∷
     ((0 ∷ 0 ∷ []) ∷ (0 ∷ 1 ∷ 2 ∷ []) ∷ (0 ∷ 5 ∷ 2 ∷ []) ∷ (0 ∷ 0 ∷ 0 ∷ []) ∷ []) ∷
@@ -180,32 +180,32 @@ not-held : map (λ f. map (λ status. outcomes (vacantBook f status) twins) (0 �
 unfolding equivocations twins vacantBook
 not-held = refl
 
--- ---- the current height is notarized and linked, a dummy, both, or finalized: no exception
-standing : List Bytes
-standing =
+-- ---- the current height can be passed, being notarized and linked, a dummy, both, or finalized: no exception
+passable : List Bytes
+passable =
     map (λ x. bookWith 0 2 x (block 2 1 ++ (block 2 1 ++ zeros 512)))
     (content 0 3 7 0 0 0 ∷ content 0 1 0 7 0 0 ∷ content 0 3 7 7 0 0 ∷ content 0 3 7 0 7 0 ∷ [])
 
-no-exception : map (λ x. outcome x (proposal 0 2 (block 2 2))) standing ≡ replicate 4 (0 ∷ 1 ∷ 3 ∷ 1 ∷ [])
-unfolding equivocations standing
+no-exception : map (λ x. outcome x (proposal 0 2 (block 2 2))) passable ≡ replicate 4 (0 ∷ 1 ∷ 3 ∷ 1 ∷ [])
+unfolding equivocations passable
 no-exception = refl
 
 -- the dummy vote, then the pass, and it does not finalize; at height 3 the timer has not fired
-passes : map (λ x. movesAfter x (proposal 0 2 (block 2 2))) standing ≡
+passes : map (λ x. movesAfter x (proposal 0 2 (block 2 2))) passable ≡
     ((0 ∷ 1 ∷ []) ∷ (0 ∷ 1 ∷ 2 ∷ []) ∷ (0 ∷ 3 ∷ 2 ∷ 5 ∷ 0 ∷ []) ∷ (0 ∷ 0 ∷ 0 ∷ []) ∷ []) ∷
     ((0 ∷ 1 ∷ []) ∷ (0 ∷ 1 ∷ 2 ∷ []) ∷ (0 ∷ 3 ∷ 2 ∷ 6 ∷ 0 ∷ []) ∷ (0 ∷ 5 ∷ 3 ∷ []) ∷ []) ∷
     ((0 ∷ 1 ∷ []) ∷ (0 ∷ 1 ∷ 2 ∷ []) ∷ (0 ∷ 3 ∷ 2 ∷ 5 ∷ 0 ∷ []) ∷ (0 ∷ 5 ∷ 3 ∷ []) ∷ []) ∷
     ((0 ∷ 1 ∷ []) ∷ (0 ∷ 1 ∷ 2 ∷ []) ∷ (0 ∷ 2 ∷ 2 ∷ []) ∷ (0 ∷ 3 ∷ 2 ∷ 5 ∷ 0 ∷ []) ∷ []) ∷ []
-unfolding equivocations standing
+unfolding equivocations passable
 passes = refl
 
 -- the same books with the held proposal again: no dummy vote, and the pass finalizes
-passes-single : map (λ x. movesAfter x (proposal 0 2 (block 2 1))) standing ≡
+passes-single : map (λ x. movesAfter x (proposal 0 2 (block 2 1))) passable ≡
     ((0 ∷ 0 ∷ []) ∷ (0 ∷ 3 ∷ 2 ∷ 5 ∷ 4 ∷ []) ∷ (0 ∷ 0 ∷ 0 ∷ []) ∷ (0 ∷ 0 ∷ 0 ∷ []) ∷ []) ∷
     ((0 ∷ 0 ∷ []) ∷ (0 ∷ 3 ∷ 2 ∷ 6 ∷ 4 ∷ []) ∷ (0 ∷ 5 ∷ 3 ∷ []) ∷ (0 ∷ 0 ∷ 0 ∷ []) ∷ []) ∷
     ((0 ∷ 0 ∷ []) ∷ (0 ∷ 3 ∷ 2 ∷ 5 ∷ 4 ∷ []) ∷ (0 ∷ 5 ∷ 3 ∷ []) ∷ (0 ∷ 0 ∷ 0 ∷ []) ∷ []) ∷
     ((0 ∷ 0 ∷ []) ∷ (0 ∷ 2 ∷ 2 ∷ []) ∷ (0 ∷ 3 ∷ 2 ∷ 5 ∷ 4 ∷ []) ∷ (0 ∷ 0 ∷ 0 ∷ []) ∷ []) ∷ []
-unfolding equivocations standing
+unfolding equivocations passable
 passes-single = refl
 
 -- ---- other frames at the current height: they fire nothing, whether the timer has fired or not
