@@ -109,9 +109,10 @@ refusals : allOf
 unfolding books
 refusals = refl
 
--- a second proposal at the current height is refused by 8 too
-second-proposal-at-current : refuses 8 (after single (delivery (proposal 0 1 one) ∷ []))
-    (delivery (proposal 0 1 other)) ≡ true
+-- a second proposal at the current height is not refused: it is fresh, then known; EquivocationChecks has the rest
+second-proposal-at-current : answers single
+    (delivery (proposal 0 1 one) ∷ delivery (proposal 0 1 other) ∷ delivery (proposal 0 1 other) ∷ []) ≡
+    (0 ∷ 1 ∷ []) ∷ (0 ∷ 1 ∷ []) ∷ (0 ∷ 0 ∷ []) ∷ []
 unfolding books
 second-proposal-at-current = refl
 
@@ -187,7 +188,8 @@ orders : allOf
     -- deliver 5, 7 and 5, 9: signer 4 does not lead; mask 16 is no quorum
     refuses 5 single (delivery (proposal 4 1 one)) ∷
     refuses 5 single (delivery (finalizeCertificate 1 17)) ∷
-    -- deliver 7, 8: a second proposal by another replica
+    -- deliver 7, 8: a second proposal by another replica, above the current height; at it, where the leader's is no 8
+    refuses 7 (after triple (delivery (proposal 1 2 ahead) ∷ [])) (delivery (proposal 0 2 aheadOther)) ∷
     refuses 7 (after single (delivery (proposal 0 1 one) ∷ [])) (delivery (proposal 1 1 other)) ∷
     -- deliver 9, 10: another block with mask 3
     refuses 9 (after single (delivery (blockCertificate 1 7 one) ∷ [])) (delivery (blockCertificate 1 3 other)) ∷

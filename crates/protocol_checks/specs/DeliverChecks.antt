@@ -146,10 +146,11 @@ clashes : map (λ s. refusals s
 unfolding deliveries digests busy stale
 clashes = refl
 
--- the proposals and votes that are unlike at the current height: of the leader, of another replica
+-- the proposals and votes that are unlike at the current height: a proposal of the leader is no clash there, one of
+-- another replica is refused before, and a voter's second digest is a clash as at any height
 second-proposal-at-current : refusals (state 4 0 0 1 0 0 [] (height 0 1 0 0 0 8 first [] (zeros 512) ∷ []))
     (proposal 0 1 first ∷ proposal 0 1 other ∷ proposal 1 1 other ∷ blockVote 3 1 (zeros 32) ∷
-    blockVote 3 1 (replicate 32 1) ∷ []) ≡ 0 ∷ 8 ∷ 7 ∷ 0 ∷ 8 ∷ []
+    blockVote 3 1 (replicate 32 1) ∷ []) ≡ 0 ∷ 0 ∷ 7 ∷ 0 ∷ 8 ∷ []
 unfolding deliveries
 second-proposal-at-current = refl
 

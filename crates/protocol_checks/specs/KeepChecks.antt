@@ -48,12 +48,12 @@ masks : kept (height 2 1 3 6 9 5 [] [] [])
     finalize 3 1 ∷
     dummyCertificate 1 14 ∷ dummyCertificate 1 7 ∷ dummyCertificate 1 15 ∷ finalizeCertificate 1 11 ∷
     finalizeCertificate 1 13 ∷
-    finalizeCertificate 1 7 ∷ []) ≡
+    finalizeCertificate 1 7 ∷ finalizeCertificate 1 14 ∷ []) ≡
     (2 ∷ 1 ∷ 3 ∷ 7 ∷ 9 ∷ 5 ∷ []) ∷ [] ∷ [] ∷ (2 ∷ 1 ∷ 3 ∷ 14 ∷ 9 ∷ 5 ∷ []) ∷
     [] ∷ (2 ∷ 1 ∷ 3 ∷ 6 ∷ 11 ∷ 5 ∷ []) ∷ (2 ∷ 1 ∷ 3 ∷ 6 ∷ 13 ∷ 5 ∷ []) ∷ [] ∷
     (2 ∷ 1 ∷ 3 ∷ 14 ∷ 9 ∷ 5 ∷ []) ∷ (2 ∷ 1 ∷ 3 ∷ 7 ∷ 9 ∷ 5 ∷ []) ∷ (2 ∷ 1 ∷ 3 ∷ 15 ∷ 9 ∷ 5 ∷ []) ∷
     (2 ∷ 1 ∷ 3 ∷ 6 ∷ 11 ∷ 5 ∷ []) ∷ (2 ∷ 1 ∷ 3 ∷ 6 ∷ 13 ∷ 5 ∷ []) ∷
-    (2 ∷ 1 ∷ 3 ∷ 6 ∷ 15 ∷ 5 ∷ []) ∷ []
+    (2 ∷ 1 ∷ 3 ∷ 6 ∷ 15 ∷ 5 ∷ []) ∷ (2 ∷ 1 ∷ 3 ∷ 6 ∷ 15 ∷ 5 ∷ []) ∷ []
 unfolding keeping
 masks = refl
 

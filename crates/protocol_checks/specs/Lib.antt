@@ -11,6 +11,7 @@ pub mod SoundChecks
 pub mod ViewChecks
 pub mod OpenChecks
 pub mod DeliverChecks
+pub mod EquivocationChecks
 pub mod KeepChecks
 pub mod PacketChecks
 pub mod MoveChecks

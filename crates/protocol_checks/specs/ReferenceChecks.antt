@@ -58,8 +58,8 @@ alone : disagreement 1 (replicate 1456 90)
 unfolding tools tagged
 alone = refl
 
--- four replicas and two heights: votes before the proposal, clashes, a block on a parent that was not notarized, a log
--- of one entry
+-- four replicas and two heights: votes before the proposal, clashes, a leader who equivocates and the height passed
+-- without a finalize, a block on a parent that was not notarized, a log of one entry
 votes : disagreement 1 (replicate 2336 90)
     (expect (opening 4 2 2 (0 ∷ 1 ∷ [])) (0 ∷ [])
     ((0, 4 ∷ 2 ∷ 2 ∷ 0 ∷ 1 ∷ 0 ∷ 0 ∷ 1 ∷ (zeros 584 ++ (1 ∷ zeros 1743))) ∷ []) [] ∷
@@ -75,18 +75,20 @@ votes : disagreement 1 (replicate 2336 90)
     expect (delivery (1 ∷ 0 ∷ 1 ∷ (zeros 45 ++ (1 ∷ 0 ∷ 0 ∷ 0 ∷ 1 ∷ (zeros 43 ++ (tagged 1 16 ++ (zeros 112)))))))
     (0 ∷ 0 ∷ []) [] [] ∷
     expect (delivery (1 ∷ 0 ∷ 1 ∷ (zeros 45 ++ (1 ∷ 0 ∷ 0 ∷ 0 ∷ 1 ∷ (zeros 43 ++ (tagged 2 16 ++ (zeros 112)))))))
-    (8 ∷ []) [] [] ∷
-    expect (moving (replicate 448 170)) (0 ∷ 5 ∷ 1 ∷ []) ((3, 4 ∷ []) ∷ [])
+    (0 ∷ 1 ∷ []) ((3, 1 ∷ []) ∷ []) [] ∷
+    expect (moving (replicate 448 170)) (0 ∷ 1 ∷ 1 ∷ []) ((3, 3 ∷ []) ∷ [])
+    (3 ∷ 2 ∷ 1 ∷ (zeros 221 ++ (replicate 224 170))) ∷
+    expect (delivery (3 ∷ 2 ∷ 1 ∷ zeros 221)) (0 ∷ 1 ∷ []) ((580, 4 ∷ []) ∷ []) [] ∷
+    expect (moving (replicate 448 170)) (0 ∷ 5 ∷ 1 ∷ []) ((3, 7 ∷ []) ∷ [])
     (2 ∷ 2 ∷ 1 ∷ (zeros 13 ++ (countUp 123 32 ++ (zeros 176 ++ (replicate 224 170))))) ∷
     expect (delivery (2 ∷ 2 ∷ 1 ∷ (zeros 13 ++ (countUp 123 32 ++ (zeros 176))))) (0 ∷ 1 ∷ [])
-    ((577, 3 ∷ 14 ∷ (zeros 5 ++ (15 ∷ []))) ∷ (784, 1 ∷ 0 ∷ 0 ∷ 0 ∷ 1 ∷ []) ∷ (832, tagged 1 16) ∷
+    ((577, 3 ∷ 14 ∷ []) ∷ (584, 15 ∷ []) ∷ (784, 1 ∷ 0 ∷ 0 ∷ 0 ∷ 1 ∷ []) ∷ (832, tagged 1 16) ∷
     (1024, countUp 123 32) ∷ []) [] ∷
-    expect (moving (replicate 448 170)) (0 ∷ 3 ∷ 1 ∷ 5 ∷ 4 ∷ []) ((3, 0 ∷ 2 ∷ []) ∷ [])
+    expect (moving (replicate 448 170)) (0 ∷ 3 ∷ 1 ∷ 5 ∷ 0 ∷ []) ((3, 0 ∷ 2 ∷ []) ∷ [])
     (5 ∷ 0 ∷ 1 ∷ 0 ∷ 14 ∷ (zeros 43 ++ (1 ∷ 0 ∷ 0 ∷ 0 ∷ 1 ∷
-    (zeros 43 ++ (tagged 1 16 ++ (zeros 112 ++ (4 ∷ 2 ∷ 1 ∷ zeros 221))))))) ∷
+    (zeros 43 ++ (tagged 1 16 ++ (zeros 112 ++ (zeros 224))))))) ∷
     expect (delivery (5 ∷ 0 ∷ 1 ∷ 0 ∷ 14 ∷ (zeros
     43 ++ (1 ∷ 0 ∷ 0 ∷ 0 ∷ 1 ∷ (zeros 43 ++ (tagged 1 16 ++ (zeros 112))))))) (0 ∷ 0 ∷ []) [] [] ∷
-    expect (delivery (4 ∷ 2 ∷ 1 ∷ zeros 221)) (0 ∷ 1 ∷ []) ((582, 4 ∷ []) ∷ []) [] ∷
     expect (moving (replicate 448 170)) (0 ∷ 0 ∷ 0 ∷ []) [] (replicate 448 170) ∷
     expect (delivery (5 ∷ 0 ∷ 1 ∷ 0 ∷ 15 ∷ (zeros
     43 ++ (1 ∷ 0 ∷ 0 ∷ 0 ∷ 1 ∷ (zeros 43 ++ (tagged 1 16 ++ (zeros 112))))))) (0 ∷ 0 ∷ []) [] [] ∷
