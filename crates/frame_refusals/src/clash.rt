@@ -50,8 +50,8 @@ fn vote_agrees(book: &[u8], h: usize, frame: &[u8]) -> bool
     }
 }
 
-// The first of refusals 8 and 10 that stands against a frame that is read, and 0 where none does. A second proposal for
-// the current height passes, so there the held one is not compared.
+// The first of refusals 8 and 10 that stands against a frame that is read, and 0 where none does. At the current height
+// a second proposal passes, so there the held one is not compared.
 pub fn clash_refusal(book: &[u8], h: usize, frame: &[u8]) -> usize
     requires { ⌜ Read (now book) h (now frame) ⌝ }
     ensures { λ r. ⌜ refusalOf r ≡ firstRefusal (clashRows (decode (now (book .entry))) (now (frame .entry))) ⌝ }
