@@ -39,9 +39,8 @@ pub fn fire_timer(book: &mut [u8]) -> bool
     ensures { λ r. ⌜ acceptedBook r (now (book .exit)) ≡ timerFires (now (book .entry)) ⌝ }
 {
     if flag(book, 1) {
-        false
-    } else {
-        set_flag(book, 1);
-        true
+        return false;
     }
+    set_flag(book, 1);
+    true
 }

@@ -19,5 +19,5 @@ returns-2 c =
     rw (sym (branch .before .flag .ensures) ∙ branch .if1 .left, after-set-flag .set-flag .ensures)
 
 pub fire-timer-spec : {M : Type 1} → statement M
-fire-timer-spec = tie.close (tie.spec (λ c κs. search needs) (λ c κs. search needs) (λ c. search needs) returns
+fire-timer-spec = tie.close (tie.spec (λ c κs. search needs) (λ c. search needs) returns (λ c κs. search needs)
     (λ c. search needs) returns-2)
