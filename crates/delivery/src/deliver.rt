@@ -1,4 +1,6 @@
 // Deliver: reads a frame over the book, and keeps what it states.
+use crate::equivocation::fire_timer;
+use crate::equivocation::leader_equivocates;
 use crate::keep::keep;
 use answers::answer::Delivered;
 use frame_refusals::clash_refusal;
@@ -6,22 +8,39 @@ use frame_refusals::read_refusal;
 use frames::frame_height;
 ghost use mathlib.Core.Path.{_≡_};
 ghost use mathlib.Core.Bool.{true};
+ghost use Prim.Native.Nat.{_<_};
 ghost use Rattle.sha256.specs.Digest.{sha256};
 ghost use Rattle.protocol.specs.Sound.{sound};
-ghost use Rattle.protocol.specs.Deliver.{deliverCall};
+ghost use Rattle.protocol.specs.State.{decode};
+ghost use Rattle.protocol.specs.Deliver.{heard, deliverCall};
 ghost use Rattle.answers.specs.Answers.{deliveredAnswer};
-ghost use Rattle.delivery.specs.Kept.{readOutcome};
+ghost use Rattle.delivery.specs.Kept.{acceptedBook, readOutcome};
 ghost use Rattle.frame_refusals.specs.Given.{Read};
 
-// Keeps a frame that is read and contradicts nothing.
+// Fires the timer where the leader of the current height equivocates by a frame that passes all rows, and else keeps
+// what the frame states. Answers whether the book changed.
+fn hear(book: &mut [u8], h: usize, frame: &[u8]) -> bool
+    requires { ⌜ Read (now book) h (now frame) ⌝ }
+    requires { ⌜ decode (now book) .flags < 16 ⌝ }
+    ensures { λ r. ⌜ acceptedBook r (now (book .exit)) ≡ heard sha256 (now (book .entry)) (now (frame .entry)) ⌝ }
+{
+    if leader_equivocates(book, h, frame) {
+        fire_timer(book)
+    } else {
+        keep(book, h, frame)
+    }
+}
+
+// Hears a frame that is read, if it contradicts nothing.
 fn deliver_read(book: &mut [u8], h: usize, frame: &[u8]) -> Delivered
     requires { ⌜ Read (now book) h (now frame) ⌝ }
+    requires { ⌜ decode (now book) .flags < 16 ⌝ }
     ensures answer { λ r. ⌜ deliveredAnswer r ≡ readOutcome sha256 (now (book .entry)) (now (frame .entry)) .answer ⌝ }
     ensures book { λ _. ⌜ now (book .exit) ≡ readOutcome sha256 (now (book .entry)) (now (frame .entry)) .book ⌝ }
 {
     let clash = clash_refusal(book, h, frame);
     if clash == 0 {
-        if keep(book, h, frame) {
+        if hear(book, h, frame) {
             Delivered::Fresh
         } else {
             Delivered::Known

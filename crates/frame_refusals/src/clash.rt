@@ -1,5 +1,6 @@
 // Whether a frame that is read contradicts what its height keeps: refusals 8 and 10.
 use crate::first::first_refusal;
+use book_fields::head::current;
 use book_fields::height::holds_proposal;
 use book_fields::height::is_notarized;
 use book_fields::height::notarized;
@@ -22,7 +23,7 @@ ghost use Rattle.frame_refusals.specs.Given.{Read};
 ghost use Rattle.book_fields.specs.Book.{heightIn};
 
 // Whether what a frame carries is what is kept, where that is to be asked.
-fn agrees(asked: bool, kept: &[u8], carried: &[u8]) -> bool
+pub fn agrees(asked: bool, kept: &[u8], carried: &[u8]) -> bool
     ensures { λ r. ⌜ r ≡ implies asked (same (now (kept .entry)) (now (carried .entry))) ⌝ }
 {
     if asked {
@@ -49,15 +50,17 @@ fn vote_agrees(book: &[u8], h: usize, frame: &[u8]) -> bool
     }
 }
 
-// The first of refusals 8 and 10 that stands against a frame that is read, and 0 where none does.
+// The first of refusals 8 and 10 that stands against a frame that is read, and 0 where none does. At the current height
+// a second proposal passes, so there the held one is not compared.
 pub fn clash_refusal(book: &[u8], h: usize, frame: &[u8]) -> usize
     requires { ⌜ Read (now book) h (now frame) ⌝ }
     ensures { λ r. ⌜ refusalOf r ≡ firstRefusal (clashRows (decode (now (book .entry))) (now (frame .entry))) ⌝ }
 {
     let kind = frame_kind(frame);
     let block = frame_block(frame);
+    let here = h == current(book);
     let proposed = agrees(
-        (kind == 1) & holds_proposal(book, h),
+        (kind == 1) & holds_proposal(book, h) & !here,
         proposal(book, h),
         block,
     );

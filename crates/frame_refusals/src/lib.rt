@@ -3,5 +3,6 @@ mod clash;
 mod first;
 mod read;
 
+pub use clash::agrees;
 pub use clash::clash_refusal;
 pub use read::read_refusal;

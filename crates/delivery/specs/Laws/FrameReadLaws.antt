@@ -1,5 +1,5 @@
 -- What soundness and the rows of reading grant: a height to read and write, and a frame whose signers are replicas.
-use Prim.Native.Nat.{ℕ}
+use Prim.Native.Nat.{ℕ, _<_}
 use mathlib.Core.Path.{_≡_, refl, sym, subst}
 use mathlib.Core.Bool.{true}
 use mathlib.Core.List.{[], append-nil}
@@ -20,9 +20,13 @@ use Rattle.book_fields.specs.Book.{Readable, SoundBook}
 use Rattle.book_fields.specs.Laws.BookLaws.{sound-book}
 use Rattle.frame_refusals.specs.Given.{Read}
 
--- a sound book is readable
-pub sound-readable : (digest : Bytes → Bytes) (book : Bytes) → AreBytes book → sound digest book ≡ true → Readable book
-sound-readable digest book small e = sound-book digest book small e .ready .readable
+-- a sound book is readable, and its flags are below 16
+module _ (digest : Bytes → Bytes) (book : Bytes) (small : AreBytes book) (is : sound digest book ≡ true) where
+  pub sound-readable : Readable book
+  sound-readable = sound-book digest book small is .ready .readable
+
+  pub sound-flags : decode book .flags < 16
+  sound-flags = sound-book digest book small is .state .flags-small
 
 -- ---- a frame that is read
 module _ (digest : Bytes → Bytes) (book frame : Bytes) (small : AreBytes book) (is : sound digest book ≡ true)

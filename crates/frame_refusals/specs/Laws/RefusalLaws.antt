@@ -2,15 +2,16 @@
 use Prim.Native.Nat.{ℕ, zero, suc, _≤_}
 use native.Mathlib.Omega.{arith}
 use mathlib.Core.Path.{_≡_, refl, sym, ap, _∙_}
-use mathlib.Core.Bool.{Bool, true, false, _&&_}
-use mathlib.Core.List.{_∷_}
+use mathlib.Core.Bool.{Bool, true, false, _&&_, not}
+use mathlib.Core.List.{[], _∷_}
 use mathlib.Core.Option.{Option, some, none}
+use lib.Dec.{eqb}
 use Rattle.protocol.specs.Bytes.{Bytes, same}
-use Rattle.protocol.specs.Tests.{implies, inRange, firstRefusal}
+use Rattle.protocol.specs.Tests.{allOf, implies, inRange, firstRefusal}
 use Rattle.protocol.specs.Frame.{kind, frameHeight, frameBlock, frameWellFormed, isProposal, isBlockCertificate}
 use Rattle.protocol.specs.State.{State, at, last, holdsProposal, isNotarized}
 use Rattle.protocol.specs.Laws.RowLaws.{pass-row, refuse-row}
-use Rattle.protocol.specs.Deliver.{readRows, clashRows}
+use Rattle.protocol.specs.Deliver.{readRows, clashRows, secondProposal}
 use Rattle.frame_refusals.specs.Refusal.{refusalOf, threeRows, membersFit, leaderSigned, signersEnough}
 use Rattle.frame_refusals.specs.Refusal.{memberRows, voteAgrees}
 
@@ -74,11 +75,27 @@ module _ (s : State) (frame : Bytes) where
       ∙ ap (λ (k : ℕ). firstRefusal (memberRows s k frame)) (sym same)
 
 -- ---- the rows of contradiction
+-- a proposal is compared with the held one at every height but the current one
+compared-elsewhere : (proposes holds is here : Bool) →
+    implies (allOf (proposes ∷ holds ∷ not is ∷ [])) here ≡ implies ((proposes && holds) && not here) is
+unfolding implies allOf
+compared-elsewhere false holds is here = refl
+compared-elsewhere true false is here = refl
+compared-elsewhere true true false false = refl
+compared-elsewhere true true false true = refl
+compared-elsewhere true true true false = refl
+compared-elsewhere true true true true = refl
+
 pub clash-rows : (s : State) (h : ℕ) (frame : Bytes) → h ≡ frameHeight frame →
     clashRows s frame ≡
-    threeRows 8 8 10 (implies (isProposal (kind frame) && holdsProposal (at s h))
+    threeRows 8 8 10 (implies ((isProposal (kind frame) && holdsProposal (at s h)) && not (eqb h (s .current)))
     (same (at s h .proposal) (frameBlock frame)))
     (voteAgrees (at s h) frame) (implies (isBlockCertificate (kind frame) && isNotarized (at s h))
     (same (at s h .notarized) (frameBlock frame)))
-unfolding clashRows voteAgrees
-clash-rows s h frame e = rw e
+unfolding clashRows secondProposal voteAgrees
+clash-rows s h frame e =
+    rw (
+      e,
+      compared-elsewhere (isProposal (kind frame)) (holdsProposal (at s (frameHeight frame)))
+          (same (at s (frameHeight frame) .proposal) (frameBlock frame)) (eqb (frameHeight frame) (s .current)),
+    )

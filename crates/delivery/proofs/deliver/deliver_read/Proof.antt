@@ -1,36 +1,33 @@
--- `deliver_read` meets its contract: a frame that contradicts nothing is kept, and is fresh if that changes the book.
-use mathlib.Core.Path.{refl, sym, _∙_}
+-- `deliver_read` meets its contract: a frame that contradicts nothing is heard, and is fresh if that changes the book.
+use mathlib.Core.Path.{refl}
 use Rattle.sha256.specs.Digest.{sha256}
 use Rattle.answers.specs.Answers.{deliveredAnswer}
-use Rattle.delivery.specs.Laws.OutcomeLaws.{read-refused, read-kept, kept-fresh, kept-known}
+use Rattle.delivery.specs.Kept.{acceptedBook}
+use Rattle.delivery.specs.Laws.OutcomeLaws.{read-refused, read-heard}
 use Rattle.frame_refusals.specs.Laws.RefusalLaws.{number-refuses, zero-passes}
 use borrow.Author.Needs.{needs}
 use Rattle.delivery.proofs.deliver.deliver_read.Statement.{statement}
 use Rattle.delivery.proofs.deliver.deliver_read.Tie as tie
 
 returns : tie.Need-returns
-unfolding deliveredAnswer
+unfolding deliveredAnswer acceptedBook
 returns c =
-    let after-keep = c .before .before .before in
-    let branch = after-keep .before .before in
+    let after-hear = c .before .before .before in
+    let branch = after-hear .before .before in
     let start = branch .before .before .before .before .before in
-    let book = start .args .book .now in
-    let frame = start .args .frame .now in
-    rw (read-kept sha256 book frame (zero-passes _ _ (branch .before .clash-refusal .ensures) (branch .if1 .taken)))
-    (kept-fresh sha256 book frame (start .args .h) (start .pre .height) _ _
-    (sym (c .if2 .taken) ∙ after-keep .keep .ensures .0) (after-keep .keep .ensures .1))
+    rw (read-heard sha256 (start .args .book .now) (start .args .frame .now)
+    (zero-passes _ _ (branch .before .clash-refusal .ensures) (branch .if1 .taken)) _ _ _ (after-hear .hear .ensures)
+    (c .if2 .taken)) (refl, refl)
 
 returns-2 : tie.Need-returns-2
-unfolding deliveredAnswer
+unfolding deliveredAnswer acceptedBook
 returns-2 c =
-    let after-keep = c .before .before .before in
-    let branch = after-keep .before .before in
+    let after-hear = c .before .before .before in
+    let branch = after-hear .before .before in
     let start = branch .before .before .before .before .before in
-    let book = start .args .book .now in
-    let frame = start .args .frame .now in
-    rw (read-kept sha256 book frame (zero-passes _ _ (branch .before .clash-refusal .ensures) (branch .if1 .taken)))
-    (kept-known sha256 book frame (start .args .h) _ _ (sym (c .if2 .left) ∙ after-keep .keep .ensures .0)
-    (after-keep .keep .ensures .1))
+    rw (read-heard sha256 (start .args .book .now) (start .args .frame .now)
+    (zero-passes _ _ (branch .before .clash-refusal .ensures) (branch .if1 .taken)) _ _ _ (after-hear .hear .ensures)
+    (c .if2 .left)) (refl, refl)
 
 returns-3 : tie.Need-returns-3
 unfolding deliveredAnswer

@@ -2,8 +2,9 @@
 use native.Mathlib.Omega.{arith}
 use mathlib.Core.Path.{refl}
 use Rattle.sha256.specs.Digest.{sha256}
+use Rattle.protocol.specs.Bytes.{AreBytes}
 use Rattle.answers.specs.Answers.{deliveredAnswer}
-use Rattle.delivery.specs.Laws.FrameReadLaws.{sound-readable, frame-read, frame-size}
+use Rattle.delivery.specs.Laws.FrameReadLaws.{sound-readable, sound-flags, frame-read, frame-size}
 use Rattle.delivery.specs.Laws.OutcomeLaws.{call-refused, call-read}
 use Rattle.frame_refusals.specs.Laws.RefusalLaws.{number-refuses, zero-passes}
 use borrow.Author.Needs.{needs}
@@ -36,9 +37,11 @@ deliver-read-requires c κs =
     let start = after-slice-known .before in
     let book = start .args .book .now in
     let frame = start .args .frame .now in
-    let passes = zero-passes _ _ (after-read-refusal .read-refusal .ensures) (after-if1 .if1 .taken) in
-    frame-read sha256 book frame (λ i. omega (arith, after-slice-known .slice-known .given i)) (start .pre) passes _
-    (c .frame-height .ensures .0)
+    let small : AreBytes book = λ i. omega (arith, after-slice-known .slice-known .given i) in
+    let passes = zero-passes _ _ (after-read-refusal .read-refusal .ensures) (after-if1 .if1 .taken) in (
+      frame-read sha256 book frame small (start .pre) passes _ (c .frame-height .ensures .0),
+      sound-flags sha256 book small (start .pre),
+    )
 
 returns : tie.Need-returns
 returns c =

@@ -7,13 +7,40 @@ use Rattle.frame_refusals.proofs.clash.clash_refusal.Tie as tie
 
 returns : tie.Need-returns
 returns c =
-    let start = c .before .before .before .before .before .before .before .before .before .before .before .before in
-    cc (clash-rows (decode (start .args .book .now)) (start .args .h) (start .args .frame .now) (start .pre .height))
+    let certified = c .before in
+    let voted = certified .before .before .before in
+    let proposed = voted .before in
+    let asked = proposed .before .before in
+    let read = asked .before .before in
+    let start = read .before .before .before .before in
+    let kind = read .before .frame-kind .ensures .0 in
+    let carried = read .frame-block .ensures .0 in
+    let proposes = rw (
+      kind,
+      carried,
+      asked .before .current .ensures .0,
+      asked .holds-proposal .ensures,
+      proposed .before .proposal .ensures,
+    ) at (proposed .agrees .ensures) in
+    let certifies = rw (
+      kind,
+      carried,
+      certified .before .before .is-notarized .ensures,
+      certified .before .notarized .ensures,
+    ) at (certified .agrees2 .ensures) in
+    rw (
+      clash-rows (decode (start .args .book .now)) (start .args .h) (start .args .frame .now) (start .pre .height),
+      ← proposes,
+      ← voted .vote-agrees .ensures,
+      ← certifies,
+    )
+    (c .first-refusal .ensures)
 
 pub clash-refusal-spec : {M : Type 1} → statement M
 clash-refusal-spec =
     tie.close
     (tie.spec
+    (λ c κs. search needs)
     (λ c κs. search needs)
     (λ c κs. search needs)
     (λ c κs. search needs)
