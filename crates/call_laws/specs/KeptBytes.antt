@@ -1,4 +1,4 @@
--- Which bytes of a book a delivery writes, by the kind of its frame.
+-- Which bytes of a book a delivery writes that keeps what its frame states, by the kind of the frame.
 use Prim.Native.Nat.{ℕ, _+_, _-_, _*_}
 use mathlib.Core.Path.{_≡_}
 use mathlib.Core.Bool.{Bool, false, _&&_, _||_, not, cond}

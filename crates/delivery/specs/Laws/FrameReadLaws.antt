@@ -2,7 +2,6 @@
 use Prim.Native.Nat.{ℕ, _<_}
 use mathlib.Core.Path.{_≡_, refl, sym, subst}
 use mathlib.Core.Bool.{true}
-use mathlib.Core.List.{[], append-nil}
 use mathlib.Core.Option.{none}
 use lib.ListN.{length}
 use Rattle.protocol.specs.ReadFrame.{ReadFrame}
@@ -13,7 +12,7 @@ use Rattle.protocol.specs.Frame.{frameHeight}
 use Rattle.protocol.specs.State.{decode, at}
 use Rattle.protocol.specs.Sound.{sound}
 use Rattle.protocol.specs.Laws.CodecLaws.{last-decode}
-use Rattle.protocol.specs.Laws.DeliverLaws.{read-facts}
+use Rattle.protocol.specs.Laws.DeliverLaws.{rows-read}
 use Rattle.protocol.specs.Laws.GrantedLaws.{height-range}
 use Rattle.protocol.specs.Deliver.{readRows}
 use Rattle.book_fields.specs.Book.{Readable, SoundBook}
@@ -32,7 +31,7 @@ module _ (digest : Bytes → Bytes) (book : Bytes) (small : AreBytes book) (is :
 module _ (digest : Bytes → Bytes) (book frame : Bytes) (small : AreBytes book) (is : sound digest book ≡ true)
     (passes : firstRefusal (readRows (decode book) frame) ≡ none) where
   tested : ReadFrame (decode book) frame
-  tested = read-facts (decode book) frame [] (rw append-nil passes) .0
+  tested = rows-read (decode book) frame passes
 
   here : Read book (frameHeight frame) frame
   here =

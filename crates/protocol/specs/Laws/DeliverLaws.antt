@@ -6,14 +6,14 @@ use native.Mathlib.Decide.{ℕ-discrete}
 use mathlib.Core.Path.{_≡_, refl, sym, subst, _∙_}
 use mathlib.Core.Logic.{_≢_}
 use mathlib.Core.Bool.{Bool, true, false, _||_, not, cond, true≢false}
-use mathlib.Core.List.{List, [], _∷_, _++_}
+use mathlib.Core.List.{List, [], _∷_}
 use mathlib.Core.Option.{Option, some, none}
 use lib.ListN.{length, length-drop}
 use lib.Dec.{eqb, ltb}
 use borrow.Author.Tests.{eqb-true, eq-eqb, ltb-true, not-true}
 use Rattle.protocol.specs.ReadFrame.{ReadFrame}
 use Rattle.protocol.specs.Bytes.{Bytes, same}
-use Rattle.protocol.specs.Tests.{allOf, inRange, implies, Row, firstRefusal}
+use Rattle.protocol.specs.Tests.{allOf, inRange, implies, firstRefusal}
 use Rattle.protocol.specs.Frame.{kind, signer, frameHeight, signerMask, frameDigest, frameBlock, frameWellFormed}
 use Rattle.protocol.specs.Frame.{isStatement, isProposal}
 use Rattle.protocol.specs.Mask.{inMask, belowBit}
@@ -71,11 +71,6 @@ module _ (s : State) (frame : Bytes) where
         enough = λ l. subst (λ (b : Bool). (b || quorum (view s) (signerMask frame)) ≡ true)
             (certificate-kind (kind frame) l) enough;
       }
-
-  -- the rows of reading pass, whatever rows follow them
-  pub read-facts : (rest : List Row) → firstRefusal (readRows s frame ++ rest) ≡ none →
-      ReadFrame s frame × (firstRefusal rest ≡ none)
-  read-facts rest e = let (read, more) = split-rows (readRows s frame) rest e in (rows-read read, more)
 
 module _ {s : State} {frame : Bytes} (read : ReadFrame s frame) where
   pub digest-size : length (frameDigest frame) ≡ 32
