@@ -22,8 +22,10 @@ mod report;
 mod run;
 mod scribe;
 mod second;
+mod second_page_kinds;
 mod single;
 mod traits;
+mod two_pages;
 
 pub use difference::{Difference, Halt, Outcome, Stop};
 pub use kinds::Kinds;
