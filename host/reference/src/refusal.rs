@@ -26,7 +26,7 @@ pub const NO_CERTIFICATE: u8 = 11;
 pub const FULL: u8 = 12;
 /// The entry is pending or logged already.
 pub const REPEATED: u8 = 13;
-/// The signal is not for the current height, or it came before.
+/// The signal is not for the current height, or its timer fired before.
 pub const STALE_SIGNAL: u8 = 14;
 /// The length of a packet is no multiple of a frame's.
 pub const UNEVEN_PACKET: u8 = 15;
