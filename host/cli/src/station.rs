@@ -145,10 +145,7 @@ fn behind_link(file: &str) -> String {
 fn second_page(frame: &[u8]) -> String {
     let (leader, height) =
         (frame.get(1).copied().unwrap_or(0), types::height_at(frame, FRAME_HEIGHT));
-    format!(
-        "station {leader}, which leads height {height}, has proposed two pages of it: keep this frame, and the one \
-         whose page the book holds, as evidence"
-    )
+    format!("station {leader} leads height {height} and proposed two pages of it; keep both frames")
 }
 
 /// Frames as lines of digits.

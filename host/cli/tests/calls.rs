@@ -131,8 +131,7 @@ fn proposal(height: types::Height, byte: u8) -> [u8; types::FRAME] {
 /// What is said of a frame of this number.
 fn two_pages(number: usize, height: types::Height) -> String {
     format!(
-        "mavunilai: frame {number}: station 0, which leads height {height}, has proposed two pages of it: keep this \
-         frame, and the one whose page the book holds, as evidence\n"
+        "mavunilai: frame {number}: station 0 leads height {height} and proposed two pages of it; keep both frames\n"
     )
 }
 
