@@ -2,8 +2,7 @@
 
 use compare::run;
 use reference::Rules;
-use types::{field, head_height, height_at, is_second_page, Area, Calls, Counts, Delivered};
-use types::{Layout, Move, BLOCK, FRAME, FRAME_HEIGHT};
+use types::{field, Calls, Counts, Delivered, Move, FRAME};
 
 /// What a faulty replica does wrong.
 #[derive(Clone, Copy, Debug, PartialEq, Eq)]
@@ -31,16 +30,6 @@ enum Fault {
     PacketByFirstBook,
     PacketCutsCounts,
     PacketForgetsRefused,
-    SecondPageRefused,
-    SecondPageFiresAbove,
-    SecondPageFiresBelow,
-    SecondPageFiresPastAll,
-    SecondPageHeld,
-    SecondPageLosesFlags,
-    SecondPageAlwaysFresh,
-    SecondPageNotIfNotarized,
-    SecondPageNotIfVoted,
-    SecondPageNotInPackets,
 }
 
 /// The reference with a fault.
@@ -56,55 +45,6 @@ impl Faulty {
     }
 }
 
-/// What a replica with a fault makes of a leader's second page, where the right one leaves this book and this answer.
-fn second_page(
-    fault: Fault,
-    before: &[u8],
-    book: &mut [u8],
-    frame: &[u8],
-    answer: Result<Delivered, u8>,
-) -> Result<Delivered, u8> {
-    let [current, last] = [field::CURRENT, field::HEIGHTS].map(|at| head_height(before, at));
-    let (height, layout) = (height_at(frame, FRAME_HEIGHT), Layout::new(last));
-    let notarized = before[layout.area(height, Area::Row).start + 1] & 2 != 0;
-    let (fires, refused) = (answer == Ok(Delivered::Fresh), answer == Err(8));
-    match fault {
-        Fault::SecondPageFiresAbove if refused && height > current => fired(book),
-        Fault::SecondPageFiresBelow if refused && height < current && current <= last => {
-            fired(book)
-        }
-        Fault::SecondPageFiresPastAll if refused && current > last => fired(book),
-        Fault::SecondPageAlwaysFresh => answer.map(|_| Delivered::Fresh),
-        Fault::SecondPageHeld if fires => {
-            book[layout.area(height, Area::Held)].copy_from_slice(&frame[FRAME - BLOCK..]);
-            answer
-        }
-        Fault::SecondPageLosesFlags if fires => {
-            book[field::FLAGS] = 1;
-            answer
-        }
-        Fault::SecondPageRefused if answer.is_ok() => {
-            book.copy_from_slice(before);
-            Err(8)
-        }
-        Fault::SecondPageNotIfNotarized if fires && notarized => {
-            book.copy_from_slice(before);
-            Ok(Delivered::Known)
-        }
-        Fault::SecondPageNotIfVoted if fires && before[field::FLAGS] & 4 != 0 => {
-            book.copy_from_slice(before);
-            Ok(Delivered::Known)
-        }
-        _ => answer,
-    }
-}
-
-/// Fires the timer where it must not.
-fn fired(book: &mut [u8]) -> Result<Delivered, u8> {
-    book[field::FLAGS] |= 1;
-    Ok(Delivered::Fresh)
-}
-
 impl Calls for Faulty {
     fn open(&self, book: &mut [u8], n: u64, own: u64, h: u64, leaders: &[u8]) -> Result<(), u8> {
         let last = book.last().copied();
@@ -118,11 +58,7 @@ impl Calls for Faulty {
     }
 
     fn deliver(&self, book: &mut [u8], frame: &[u8]) -> Result<Delivered, u8> {
-        let before = book.to_vec();
         let answer = Calls::deliver(&RULES, book, frame);
-        if is_second_page(&before, frame) {
-            return second_page(self.0, &before, book, frame, answer);
-        }
         match (self.0, answer) {
             (Fault::KnowsEverything, Ok(_)) => Ok(Delivered::Known),
             (Fault::TakesSecondVote, Err(8)) => Ok(Delivered::Known),
@@ -163,10 +99,6 @@ impl Calls for Faulty {
                 Ok(Counts { fresh, known, refused })
             }
             Fault::PacketForgetsRefused => Ok(Counts { refused: 0, ..counts }),
-            Fault::SecondPageNotInPackets => {
-                book[field::FLAGS] = before[field::FLAGS];
-                Ok(counts)
-            }
             _ => Ok(counts),
         }
     }
@@ -268,16 +200,6 @@ fn each_fault_is_found() {
         Fault::PacketByFirstBook,
         Fault::PacketCutsCounts,
         Fault::PacketForgetsRefused,
-        Fault::SecondPageRefused,
-        Fault::SecondPageFiresAbove,
-        Fault::SecondPageFiresBelow,
-        Fault::SecondPageFiresPastAll,
-        Fault::SecondPageHeld,
-        Fault::SecondPageLosesFlags,
-        Fault::SecondPageAlwaysFresh,
-        Fault::SecondPageNotIfNotarized,
-        Fault::SecondPageNotIfVoted,
-        Fault::SecondPageNotInPackets,
     ] {
         let found = run(RULES, Faulty(fault), 3, CALLS);
         let sentence = found.err().unwrap_or_else(|| panic!("{fault:?} was not found"));

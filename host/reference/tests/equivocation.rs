@@ -6,8 +6,7 @@ use common::*;
 use reference::Delivered::{Fresh, Known};
 use reference::{Certificate, Counts, Move};
 
-/// Where the head has the flags, and the flags of the current height.
-const FLAGS: usize = 3;
+/// The flags of the current height.
 const TIMER_FIRED: u8 = 1;
 const DUMMY_VOTED: u8 = 2;
 const BLOCK_VOTED: u8 = 4;
