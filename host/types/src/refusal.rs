@@ -25,8 +25,8 @@ pub enum Refusal {
     NoSuchHeight = 6,
     /// The proposer does not lead the height.
     NotLeader = 7,
-    /// Another block vote of this signer is kept, or another proposal at a height that is not the current one. The frame
-    /// is evidence against him: keep it.
+    /// Another block vote of this signer is kept, or another proposal at a height that is not the current one. The
+    /// frame is evidence against him: keep it.
     OtherKept = 8,
     /// The certificate's mask is no quorum.
     NoQuorum = 9,

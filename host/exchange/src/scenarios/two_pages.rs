@@ -65,7 +65,7 @@ fn second_votes<C: Calls>(to: &mut Recorder<C>) {
 }
 
 fn one_field_apart<C: Calls>(to: &mut Recorder<C>) {
-    to.part("Two pages of c that differ in one field alone: count, back height, back digest, the last byte of an entry");
+    to.part("Two pages of c that differ in one field alone: count, back height, back digest, an entry's last byte");
     let one = Block { parent: 1, digest: [7; 32], ..first(2, &[[0; ENTRY]]) };
     let mut last_byte = [0; ENTRY];
     last_byte[15] = 1;
