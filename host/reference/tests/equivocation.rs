@@ -69,13 +69,13 @@ fn the_same_page_again_does_not() {
 /// Any byte of a page makes it another one: count, entries, back height or back digest.
 #[test]
 fn pages_that_differ_in_one_field_are_two() {
-    let other = block(2, 1, [7; 32], &[entry(1)]);
+    let other = block(2, 1, ZERO, &[[0; 16]]);
     let mut last_byte = other;
     last_byte[63] ^= 1;
     for second in [
-        block(2, 1, [7; 32], &[]),
-        block(2, 1, [8; 32], &[entry(1)]),
-        block(2, 0, ZERO, &[entry(1)]),
+        block(2, 1, ZERO, &[]),
+        block(2, 1, [8; 32], &[[0; 16]]),
+        block(2, 0, ZERO, &[[0; 16]]),
         last_byte,
     ] {
         let mut book = new_book(4, 2, &[0, 1]);

@@ -66,12 +66,12 @@ fn second_votes<C: Calls>(to: &mut Recorder<C>) {
 
 fn one_field_apart<C: Calls>(to: &mut Recorder<C>) {
     to.part("Two pages of c that differ in one field alone: count, back height, back digest, an entry's last byte");
-    let one = Block { parent: 1, digest: [7; 32], ..first(2, &[[0; ENTRY]]) };
+    let one = Block { parent: 1, ..first(2, &[[0; ENTRY]]) };
     let mut last_byte = [0; ENTRY];
     last_byte[15] = 1;
     let others = [
         Block { entries: vec![], ..one.clone() },
-        Block { parent: 0, digest: [0; 32], ..one.clone() },
+        Block { parent: 0, ..one.clone() },
         Block { digest: [8; 32], ..one.clone() },
         Block { entries: vec![last_byte], ..one.clone() },
     ];
