@@ -39,7 +39,8 @@ extern "C" {
 #endif
 
 /* The number of the interface that this header declares. It goes up with each call that is added, and with each change
- * to a call's arguments or to what it may answer. */
+ * to a call's arguments or to the set of its answers. A change of a rule by which a call chooses another of the answers
+ * that it had leaves the number as it is: a program that was built before still fits. */
 #define MAVUNILAI_INTERFACE 2u
 
 /* The number of the interface that the library has. */
@@ -78,13 +79,13 @@ static inline int mavunilai_fits(void) {
 #define MAVUNILAI_REFUSED_NO_SUCH_SIGNER 5u   /* signer or mask bit not below n */
 #define MAVUNILAI_REFUSED_NO_SUCH_HEIGHT 6u   /* height 0 or above H */
 #define MAVUNILAI_REFUSED_NOT_LEADER 7u       /* the proposer does not lead the height */
-#define MAVUNILAI_REFUSED_OTHER_KEPT 8u       /* another proposal or page vote is kept */
+#define MAVUNILAI_REFUSED_OTHER_KEPT 8u       /* another page vote is kept, or another proposal, not at height c */
 #define MAVUNILAI_REFUSED_NO_QUORUM 9u        /* the certificate's mask is no quorum */
 #define MAVUNILAI_REFUSED_OTHER_NOTARISED 10u /* another page is notarised */
 #define MAVUNILAI_REFUSED_NO_CERTIFICATE 11u  /* no such certificate in the book */
 #define MAVUNILAI_REFUSED_PENDING_FULL 12u    /* 32 entries are pending, none in the register */
 #define MAVUNILAI_REFUSED_ENTRY_KNOWN 13u     /* the entry is pending or in the register */
-#define MAVUNILAI_REFUSED_NOT_DUE 14u         /* signal not for the current height, or repeated */
+#define MAVUNILAI_REFUSED_NOT_DUE 14u         /* signal not for the current height, or its timer fired before */
 #define MAVUNILAI_REFUSED_UNEVEN_PACKET 15u   /* the packet's length is not a multiple of 224 */
 
 /* What a refusal means, for people: one sentence without the full stop. */
@@ -104,7 +105,7 @@ static inline const char *mavunilai_refusal_text(unsigned refusal) {
     case MAVUNILAI_REFUSED_NO_CERTIFICATE: return "the book holds no such certificate";
     case MAVUNILAI_REFUSED_PENDING_FULL: return "all 32 pending places are taken";
     case MAVUNILAI_REFUSED_ENTRY_KNOWN: return "the entry is pending or in the register already";
-    case MAVUNILAI_REFUSED_NOT_DUE: return "the signal is not for the current height, or came before";
+    case MAVUNILAI_REFUSED_NOT_DUE: return "the signal is not for the current height, or its timer fired before";
     case MAVUNILAI_REFUSED_UNEVEN_PACKET: return "the packet's length is not a multiple of 224";
     default: return "this is no number of the table of refusals";
     }
@@ -147,14 +148,17 @@ static inline const char *mavunilai_refusal_text(unsigned refusal) {
 #define MAVUNILAI_PENDING_AT 64u   /* the pending entries, 16 bytes each */
 #define MAVUNILAI_CONTENTS_AT 576u /* the rows, 16 bytes for each height; a row's first byte is the leader */
 #define MAVUNILAI_ROW 16u
+#define MAVUNILAI_ROW_STATE 1u     /* within a row */
+#define MAVUNILAI_STATE_HELD 1u    /* a proposal is held: its page begins the height's body */
+#define MAVUNILAI_BODY 864u        /* the bodies, one for each height, follow the rows */
 
-#define MAVUNILAI_FLAG_TIMER 1u
+#define MAVUNILAI_FLAG_TIMER 1u    /* fired, by a signal or by a second page of the leader */
 #define MAVUNILAI_FLAG_BLANK_VOTE 2u
 #define MAVUNILAI_FLAG_PAGE_VOTE 4u
 #define MAVUNILAI_FLAG_PROPOSED 8u
 
-/* These three read bytes of a book and check nothing: they are for a book that a call has taken, so not refused with
- * 1, and that no other hand has changed since. Bytes that no call has taken may be too few to be read at all. */
+/* These four read bytes of a book and check nothing of it: they are for a book that a call has taken, so not refused
+ * with 1, and that no other hand has changed since. Bytes that no call has taken may be too few to be read at all. */
 
 /* The current height, 1 to H + 1: the one whose timer is to run. At H + 1 all heights are passed. */
 static inline unsigned mavunilai_current(const uint8_t *book) {
@@ -169,6 +173,25 @@ static inline unsigned mavunilai_settled(const uint8_t *book) {
 /* The leader of a height, 1 to H. */
 static inline unsigned mavunilai_leader(const uint8_t *book, unsigned height) {
     return book[MAVUNILAI_CONTENTS_AT + (size_t)MAVUNILAI_ROW * (height - 1u)];
+}
+
+/* 1 if a frame of 224 bytes is a proposal of another page than the one that the book holds at its height, else 0. If
+ * mavunilai_deliver took the frame, or refused it with 8, the leader of that height has proposed two pages: keep both
+ * frames. A held page is never replaced, so that it does not matter whether this is asked before the call or after. */
+static inline int mavunilai_second_page(const uint8_t *book, const uint8_t *frame) {
+    size_t heights = book[MAVUNILAI_HEAD_HEIGHTS], height = frame[MAVUNILAI_FRAME_HEIGHT], at;
+    const uint8_t *rows = book + MAVUNILAI_CONTENTS_AT, *held = rows + MAVUNILAI_ROW * heights;
+    if (frame[MAVUNILAI_FRAME_KIND] != MAVUNILAI_KIND_PROPOSAL || height == 0 || height > heights ||
+        (rows[MAVUNILAI_ROW * (height - 1u) + MAVUNILAI_ROW_STATE] & MAVUNILAI_STATE_HELD) == 0) {
+        return 0;
+    }
+    held += MAVUNILAI_BODY * (height - 1u);
+    for (at = 0; at < MAVUNILAI_PAGE; at++) {
+        if (held[at] != frame[MAVUNILAI_FRAME_PAGE + at]) {
+            return 1;
+        }
+    }
+    return 0;
 }
 
 /* ---- Answers ---- */
@@ -247,7 +270,10 @@ mavunilai_answer mavunilai_open(uint8_t *book, size_t book_len, uint64_t n, uint
 /* Takes one frame of 224 bytes whose signatures you have checked; a station's own frames too.
  * Refusals: 1, 4, 6, 5, 7, 9, 8, 10. Else byte 1 of the answer (mavunilai_fresh) is 1 if the frame was fresh: the book
  * now holds what it states; 0 if it was known: the book is as before. Of the book only the frame's height changes: its
- * row of the contents and its body. */
+ * row of the contents and its body.
+ * One frame is otherwise: a proposal of another page than the held one, by the leader of the current height, for that
+ * height. It is not refused with 8 but fires the timer, and is not kept: fresh, and flag 1 alone is set; or known, if
+ * it was set. At every other height it is 8. mavunilai_second_page tells such a frame. */
 mavunilai_answer mavunilai_deliver(uint8_t *book, size_t book_len, const uint8_t *frame, size_t frame_len);
 
 /* Takes a packet: frames of 224 bytes one behind the other, whose signatures you have checked, each one's. They are
@@ -270,8 +296,8 @@ mavunilai_answer mavunilai_packet(uint8_t *book, size_t book_len, const uint8_t 
  * enters the book when you deliver it. */
 mavunilai_answer mavunilai_move(uint8_t *book, size_t book_len, uint8_t *reply, size_t reply_len);
 
-/* Tells the book that the timer of a height fired. Refusals: 1, 6, 14. After 0 flag 1 of the current height is set,
- * and no other byte has changed. */
+/* Tells the book that the timer of a height fired. Refusals: 1, 6, 14; 14 too if a second page of the leader fired it
+ * before. After 0 flag 1 of the current height is set, and no other byte has changed. */
 mavunilai_answer mavunilai_signal(uint8_t *book, size_t book_len, uint64_t height);
 
 /* Adds an entry of 16 bytes to the pending ones; those that the register holds by now are dropped.

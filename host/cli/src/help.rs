@@ -127,7 +127,10 @@ with status 3. deliver keeps the book after each frame; of several each has its 
 with `deny` and a number if refused. packet takes all frames in one call and keeps the
 book once; it prints `counts` and how many frames were fresh, known and refused. For
 refused frames its status is still 0: the packet itself is refused only if its length
-is not a multiple of 224, or the book is not sound.
+is not a multiple of 224, or the book is not sound. Of a proposal of another page than
+the one that the book holds both say so on the standard error: its leader said two
+things. At the current height it fires the timer, with the answer fresh, or known where
+it had fired; a signal is refused with 14 then. At any other height it is refused with 8.
 
 --out adds the frames to FILE, a line for each, in place of printing them. FILE is
 synced and replaced as a whole, and holds nothing but such lines. Who sends them moves

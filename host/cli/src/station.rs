@@ -5,10 +5,10 @@ use crate::problem::Problem;
 use crate::words;
 use exchange::Answer;
 use std::fs::File;
-use std::io::{stdout, Write};
+use std::io::{stderr, stdout, Write};
 use std::os::fd::AsFd;
 use store::{Error, FileBook};
-use types::{Calls, Move, Written, FRAME};
+use types::{Calls, Move, Refusal, Written, FRAME, FRAME_HEIGHT};
 
 /// An open book; frames go to the file that `--out` names, else to standard output.
 pub struct Station<'a, C> {
@@ -49,6 +49,7 @@ impl<C: Calls + Clone> Station<'_, C> {
             text.push_str(&format!("{answer}\n"));
         }
         print(&text)?;
+        self.tell_second_pages(frames.iter().map(Vec::as_slice));
         match refused {
             0 => Ok(()),
             _ => Err(Problem::some_refused(refused, frames.len())),
@@ -58,7 +59,21 @@ impl<C: Calls + Clone> Station<'_, C> {
     /// Delivers frames as one packet, in one commit; those that are refused are counted like the others.
     pub fn packet(&mut self, packet: &[u8]) -> Result<(), Problem> {
         let counts = self.book.deliver_packet(packet)?;
-        print(&format!("{counts}\n"))
+        print(&format!("{counts}\n"))?;
+        self.tell_second_pages(packet.chunks(FRAME));
+        Ok(())
+    }
+
+    /// Says on the standard error which of the frames that were delivered show that a leader said two things.
+    fn tell_second_pages<'f>(&self, frames: impl Iterator<Item = &'f [u8]>) {
+        let mut copy = self.book.book().clone();
+        for (number, frame) in (1_usize..).zip(frames) {
+            // Refused for another reason, it is no statement of the leader; else it changes nothing any more.
+            let is_statement = |answer| matches!(answer, Ok(_) | Err(Refusal::OtherKept));
+            if copy.is_second_page(frame) && is_statement(copy.deliver(frame)) {
+                _ = writeln!(stderr(), "mavunilai: frame {number}: {}", second_page(frame));
+            }
+        }
     }
 
     /// Tells that the timer of a height fired.
@@ -124,6 +139,13 @@ impl<C: Calls + Clone> Station<'_, C> {
 fn behind_link(file: &str) -> String {
     let end = std::fs::read_link(file).and_then(|_| std::fs::canonicalize(file));
     end.map_or_else(|_| file.to_string(), |path| path.display().to_string())
+}
+
+/// The sentence about a second page of a leader.
+fn second_page(frame: &[u8]) -> String {
+    let (leader, height) =
+        (frame.get(1).copied().unwrap_or(0), types::height_at(frame, FRAME_HEIGHT));
+    format!("station {leader} leads height {height} and proposed two pages of it; keep both frames")
 }
 
 /// Frames as lines of digits.

@@ -122,6 +122,58 @@ fn a_packet_is_counted() {
     assert!(ended.complaint.contains("refused with 1:"), "{}", ended.complaint);
 }
 
+/// A proposal of station 0, with one entry of this byte alone.
+fn proposal(height: types::Height, byte: u8) -> [u8; types::FRAME] {
+    let block = types::Block { height, entries: vec![[byte; 16]], ..types::Block::default() };
+    Frame::Proposal { signer: 0, block }.bytes()
+}
+
+/// What is said of a frame of this number.
+fn two_pages(number: usize, height: types::Height) -> String {
+    format!(
+        "mavunilai: frame {number}: station 0 leads height {height} and proposed two pages of it; keep both frames\n"
+    )
+}
+
+#[test]
+fn a_second_page_of_the_leader_is_told() {
+    let book = book("two-pages", 4);
+    let deliver = |frames: &[[u8; types::FRAME]]| {
+        let ended = run(&format!("call {book} deliver -"), &frames.concat());
+        (ended.status, ended.text(), ended.complaint)
+    };
+    let told = |answer: &str, complaint: String| (0, answer.to_string(), complaint);
+    assert_eq!(deliver(&[proposal(1, 1)]), told("fresh\n", String::new()));
+    assert_eq!(deliver(&[proposal(1, 1)]), told("known\n", String::new()));
+    assert_eq!(deliver(&[proposal(1, 2)]), told("fresh\n", two_pages(1, 1)));
+    denied(&format!("call {book} signal 1"), &[], "refused with 14: the signal is not for");
+    assert_eq!(lines(&format!("call {book} move"), &[])[0], "dummy 1");
+    let both = [proposal(1, 1), proposal(1, 3)];
+    assert_eq!(deliver(&both), told("known\nknown\n", two_pages(2, 1)));
+    let (status, answers, complaint) = deliver(&[1, 2].map(|byte| proposal(2, byte)));
+    assert_eq!((status, answers.as_str()), (3, "fresh\ndeny 8\n"));
+    assert_eq!(complaint, two_pages(2, 2) + "mavunilai: 1 of 2 frames were refused\n");
+    let other = Frame::parts(&proposal(1, 4)).unwrap();
+    let Frame::Proposal { block, .. } = other else { panic!("{other:?}") };
+    denied(
+        &format!("call {book} deliver -"),
+        &Frame::Proposal { signer: 1, block }.bytes(),
+        "refused with 7",
+    );
+}
+
+#[test]
+fn second_pages_of_a_packet_are_told() {
+    let book = book("two-pages-packet", 4);
+    let mut of_another = proposal(1, 3);
+    of_another[1] = 1;
+    let frames = [proposal(1, 1), proposal(1, 2), of_another, proposal(2, 1), proposal(2, 2)];
+    let ended = run(&format!("call {book} packet -"), &frames.concat());
+    assert_eq!((ended.status, ended.text().as_str()), (0, "counts 3 0 2\n"));
+    assert_eq!(ended.complaint, two_pages(2, 1) + &two_pages(5, 2));
+    assert_eq!(std::fs::read(&book).unwrap()[types::field::FLAGS], 1);
+}
+
 #[test]
 fn what_one_station_wrote_is_a_packet_for_another() {
     let (one, two) = (book("wrote", 1), book("reads", 1));

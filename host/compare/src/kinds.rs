@@ -1,7 +1,7 @@
 //! The kinds of input and of answers that a large comparison must have had, and how often each occurred.
 
-use crate::packet_kinds;
 use crate::traits::{read_length, reply_length};
+use crate::{packet_kinds, second_page_kinds, two_pages};
 use exchange::{Answer, Call};
 use std::collections::{BTreeMap, BTreeSet};
 use std::fmt;
@@ -20,7 +20,7 @@ const REFUSALS: [(&str, &[u8]); 8] = [
 ];
 
 /// The kinds that the generators name, or that are seen by looking at a book.
-const NAMED: [&str; 25] = [
+const NAMED: [&str; 26] = [
     "book: new, opened over junk",
     "book: sound, that no run makes",
     "book: with a free byte set",
@@ -39,6 +39,7 @@ const NAMED: [&str; 25] = [
     "network: frame comes again",
     "network: frames come in a packet",
     "network: two proposals for one height",
+    "network: a leader's two pages fire a timer",
     "network: a dishonest vote for each page of a height",
     "network: a dishonest blank vote",
     "network: a dishonest finalise",
@@ -77,9 +78,11 @@ fn expected() -> Vec<String> {
     let lengths = ["reply of move", "reply of fetch", "buffer of read"];
     let lengths = lengths.into_iter().flat_map(|of| LENGTHS.map(|place| length(of, place)));
     let timers = (0..16).step_by(2).map(timer);
-    let named = NAMED.into_iter().chain(packet_kinds::NAMES).map(str::to_string);
+    let two_pages = second_page_kinds::NAMES.into_iter().chain(two_pages::NAMES);
+    let named = NAMED.into_iter().chain(packet_kinds::NAMES).chain(two_pages).map(str::to_string);
     let mut all: Vec<String> = REFUSALS.into_iter().flat_map(refused).collect();
     all.extend(done.into_iter().chain(kinds).chain(lengths).chain(timers).chain(named));
+    all.extend(second_page_kinds::by_flags());
     all
 }
 
@@ -116,9 +119,16 @@ impl Kinds {
     pub fn see(&mut self, call: &Call, book: &[u8], lent: usize, answer: Answer) {
         self.see_answer(call, answer);
         self.see_length(call, book, lent, answer);
-        if let Call::Packet { packet } = call {
-            let names = packet_kinds::kinds(book, packet, answer);
-            names.into_iter().for_each(|name| self.saw(name));
+        match call {
+            Call::Packet { packet } => {
+                let names = packet_kinds::kinds(book, packet, answer);
+                names.into_iter().for_each(|name| self.saw(name));
+            }
+            Call::Deliver { frame } => {
+                let names = second_page_kinds::kinds(book, frame, answer);
+                names.iter().for_each(|name| self.saw(name));
+            }
+            _ => {}
         }
         let flags = book.get(field::FLAGS).copied().unwrap_or(0);
         if let (Call::Signal { .. }, Answer::Done) = (call, answer) {

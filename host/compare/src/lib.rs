@@ -1,8 +1,8 @@
 //! Compares two replicas on random lists of calls: every answer and every byte of every buffer, after every call.
 //!
-//! Half of the calls go to single books, new, strange, damaged and garbage ones; the other half run whole networks,
-//! with the check that no two honest logs fork. The seed decides everything. The second of the two may be a program
-//! that is asked line by line, or a [`Scribe`] that writes the calls down.
+//! Half of the calls go to single books, new, strange, damaged and garbage ones, and ones whose leaders say two things;
+//! the other half run whole networks, with the check that no two honest logs fork. The seed decides everything. The
+//! second of the two may be a program that is asked line by line, or a [`Scribe`] that writes the calls down.
 
 #![warn(clippy::unwrap_used, clippy::expect_used, clippy::panic)]
 
@@ -22,8 +22,10 @@ mod report;
 mod run;
 mod scribe;
 mod second;
+mod second_page_kinds;
 mod single;
 mod traits;
+mod two_pages;
 
 pub use difference::{Difference, Halt, Outcome, Stop};
 pub use kinds::Kinds;

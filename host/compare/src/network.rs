@@ -92,7 +92,13 @@ impl<'a, A: Calls, B: Second> Network<'a, A, B> {
         let Some(book) = self.books.get_mut(replica) else {
             return Ok(Answer::Done);
         };
+        let fired = |book: &[u8]| book.get(field::FLAGS).is_some_and(|flags| flags & 1 != 0);
+        let before = fired(book);
         let answer = self.pair.make(call, book, buffer)?;
+        let takes = matches!(call, Call::Deliver { .. } | Call::Packet { .. });
+        if takes && !before && fired(book) {
+            self.saw("a leader's two pages fire a timer");
+        }
         match answer {
             Answer::Delivered(Delivered::Known) | Answer::Counted(Counts { fresh: 0, .. }) => {}
             Answer::Delivered(_) | Answer::Counted(_) | Answer::Done | Answer::Moved(_) => {

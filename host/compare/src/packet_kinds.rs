@@ -4,10 +4,10 @@ use crate::frames::{area, byte};
 use crate::packets::BYTE;
 use exchange::Answer;
 use reference::Rules;
-use types::{height_at, Area, Calls, Delivered, FRAME, FRAME_HEIGHT};
+use types::{height_at, is_second_page, Area, Calls, Delivered, FRAME, FRAME_HEIGHT};
 
 /// The names of all kinds.
-pub const NAMES: [&str; 15] = [
+pub const NAMES: [&str; 18] = [
     EMPTY,
     MANY,
     "packet: one frame",
@@ -18,6 +18,9 @@ pub const NAMES: [&str; 15] = [
     "packet: a frame that one before it makes known",
     "packet: a frame that one before it makes refused",
     "packet: a frame that notarises a page by votes",
+    "packet: a second page that fires the timer",
+    "packet: a second page, the timer fired before",
+    "packet: a second page, refused",
     "packet: one byte too few",
     "packet: one byte too many",
     "packet: another uneven length",
@@ -46,12 +49,13 @@ pub fn kinds(book: &[u8], packet: &[u8], answer: Answer) -> Vec<&'static str> {
     }
 }
 
-/// What became of a frame at its turn, what would have over the book before the packet, and whether it notarised a page
-/// by votes.
+/// What became of a frame at its turn, what would have over the book before the packet, whether it notarised a page by
+/// votes, and whether it was a leader's second page.
 struct Turn {
     answer: Result<Delivered, u8>,
     alone: Result<Delivered, u8>,
     notarized: bool,
+    second: bool,
 }
 
 /// The turns of a packet's frames.
@@ -60,11 +64,11 @@ fn turns(book: &[u8], packet: &[u8]) -> Vec<Turn> {
     let turn = |frame: &[u8; FRAME]| {
         let has_block =
             |book: &[u8]| byte(area(book, height_at(frame, FRAME_HEIGHT), Area::Row), 1) & 2 != 0;
-        let before = has_block(&now);
+        let (before, second) = (has_block(&now), is_second_page(&now, frame));
         let answer = Calls::deliver(&Rules::SHA256, &mut now, frame);
         let alone = Calls::deliver(&Rules::SHA256, &mut book.to_vec(), frame);
         let notarized = frame[0] < 5 && !before && has_block(&now);
-        Turn { answer, alone, notarized }
+        Turn { answer, alone, notarized, second }
     };
     packet.as_chunks::<FRAME>().0.iter().map(turn).collect()
 }
@@ -93,6 +97,15 @@ fn of_turns(turns: &[Turn]) -> Vec<&'static str> {
             "packet: a frame that one before it makes refused",
         ),
         (any(|turn| turn.notarized), "packet: a frame that notarises a page by votes"),
+        (
+            any(|turn| turn.second && turn.answer == Ok(Fresh)),
+            "packet: a second page that fires the timer",
+        ),
+        (
+            any(|turn| turn.second && turn.answer == Ok(Known)),
+            "packet: a second page, the timer fired before",
+        ),
+        (any(|turn| turn.second && turn.answer == Err(8)), "packet: a second page, refused"),
     ];
     kinds.into_iter().filter(|(is, _)| *is).map(|(_, name)| name).collect()
 }
@@ -101,7 +114,7 @@ fn of_turns(turns: &[Turn]) -> Vec<&'static str> {
 mod tests {
     use super::*;
     use std::collections::BTreeSet;
-    use types::{Block, Book, Counts, Frame};
+    use types::{Block, Book, Counts, Frame, ENTRY};
 
     /// The kinds of these frames over a new book, and of so many bytes behind them.
     fn of(frames: &[Frame], stray: usize) -> Vec<&'static str> {
@@ -130,6 +143,11 @@ mod tests {
         told.extend(of(&[bad.clone(), bad.clone()], 0));
         told.extend(of(&[vote(1, [1; 32]), vote(1, [2; 32])], 0));
         told.extend(of(&round, 0));
+        let pages = |signer, height| {
+            let page = |byte| Block { height, entries: vec![[byte; ENTRY]], ..Block::default() };
+            [1, 2, 2].map(|byte| Frame::Proposal { signer, block: page(byte) })
+        };
+        told.extend([pages(0, 1), pages(1, 2)].iter().flat_map(|frames| of(frames, 0)));
         [(1, 0), (1, 1), (1, 223), (1, 9)]
             .into_iter()
             .for_each(|(count, stray)| told.extend(of(&vec![good.clone(); count], stray)));

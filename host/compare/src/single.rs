@@ -3,7 +3,7 @@
 use crate::books::{any_heights, arguments_for, damage, garbage, strange_book};
 use crate::choose::{any_call, any_open, Recent};
 use crate::Random;
-use crate::{traits, Halt, Pair, Second};
+use crate::{traits, two_pages, Halt, Pair, Second};
 use exchange::Call;
 use reference::Rules;
 use types::{book_length, field, head_height, Calls, Height, MOST_HEIGHTS};
@@ -19,12 +19,16 @@ pub fn list<A: Calls, B: Second>(pair: &mut Pair<A, B>, random: &mut Random) -> 
             pair.begin("books of every size");
             every_size(pair, random)
         }
-        1..=14 => {
+        1..=13 => {
             pair.begin("a new book");
             let count = random.below(400);
             from_new(pair, random, heights, count)
         }
-        15..=29 => {
+        14..=16 => {
+            pair.begin("leaders who say two things");
+            two_pages::list(pair, random, heights)
+        }
+        17..=29 => {
             pair.begin("a sound book that no run makes");
             let count = random.below(60);
             from_strange(pair, random, heights, count)

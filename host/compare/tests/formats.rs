@@ -17,6 +17,7 @@ fn holds<C: Calls + Copy>(calls: C) {
     opening(&bench);
     signal_and_submit(&bench);
     each_kind(&bench);
+    second_page(&bench);
     votes(&bench);
     settling(&bench);
     zeros_of_pages_and_frames(&bench);
@@ -88,6 +89,19 @@ fn each_kind<C: Calls + Copy>(bench: &Bench<C>) {
         bench.fresh(&mut book, frame);
         changed(&before, &book, places);
     }
+}
+
+/// A second page of the current height's leader writes flag 1, as a signal does, and nothing else.
+fn second_page<C: Calls + Copy>(bench: &Bench<C>) {
+    let mut book = bench.new_book();
+    let pages = [1, 2].map(|byte| bench.page(1, None, &[[byte; 16]]));
+    let [first, second] =
+        pages.map(|page| bench.frame(1, 1, &[("signer", &[ROLL[0]]), ("page", &page)]));
+    bench.fresh(&mut book, &first);
+    let before = book.clone();
+    bench.fresh(&mut book, &second);
+    changed(&before, &book, &[bench.head("flags")]);
+    assert_eq!(book[bench.head("flags").start], 1);
 }
 
 /// Votes of a quorum notarise the held page, of the last height too; masks and digests stand where the page says.

@@ -1,9 +1,11 @@
 //! The folder `exchange/`: its files are what the reference records, they replay, and together they cover all.
 
-use exchange::{record, replay, scenarios, Answer, Call, Line, List, Tally};
+use exchange::{record, replay, scenarios, Answer, Call, Line, List, Stage, Tally};
 use reference::Rules;
+use std::cmp::Ordering;
 use std::path::PathBuf;
-use types::{Counts, FRAME};
+use types::Delivered::{Fresh, Known};
+use types::{field, head_height, height_at, is_second_page, Counts, FRAME, FRAME_HEIGHT};
 
 /// The file of a list.
 fn file(name: &str) -> PathBuf {
@@ -92,6 +94,72 @@ fn packets_of_every_kind_occur() {
     counted(|counts| counts.fresh + counts.known == 0 && counts.refused > 1);
 }
 
+/// The second pages that a list delivers singly: the book, where the height lies beside the current one, whether all
+/// heights are passed, and the answer.
+fn second_pages(list: &List) -> Vec<(String, Ordering, bool, Answer)> {
+    let (mut stage, mut found) = (Stage::default(), Vec::new());
+    for line in &list.lines {
+        let (call, name, buffer) = match line {
+            Line::Give { name, bytes } => {
+                stage.give(name, bytes.clone());
+                continue;
+            }
+            Line::Call { call, book, buffer, .. } => (call, book, buffer),
+            _ => continue,
+        };
+        let book = stage.bytes(name).unwrap().to_vec();
+        let answer = stage.make(&Rules::SHA256, call, name, buffer).unwrap().answer;
+        if let Call::Deliver { frame } = call {
+            let [current, last] = [field::CURRENT, field::HEIGHTS].map(|at| head_height(&book, at));
+            let place = height_at(frame, FRAME_HEIGHT).cmp(&current);
+            if is_second_page(&book, frame) {
+                found.push((name.clone(), place, current > last, answer));
+            }
+        }
+    }
+    found
+}
+
+#[test]
+fn second_pages_of_every_kind_occur() {
+    use Ordering::{Equal, Greater, Less};
+    let found: Vec<_> =
+        scenarios::NAMES.into_iter().flat_map(|name| second_pages(&list(name))).collect();
+    let [fresh, known] = [Fresh, Known].map(Answer::Delivered);
+    for wanted in [
+        (Equal, false, fresh),
+        (Equal, false, known),
+        (Less, false, Answer::Deny(8)),
+        (Less, true, Answer::Deny(8)),
+        (Greater, false, Answer::Deny(8)),
+    ] {
+        let is = |(_, place, all_passed, answer): &(String, _, _, _)| {
+            (*place, *all_passed, *answer) == wanted
+        };
+        assert!(found.iter().any(is), "{wanted:?}");
+    }
+}
+
+#[test]
+fn two_pages_end_the_wait_of_the_season_with_no_signal() {
+    let list = list("season");
+    let fresh = second_pages(&list).into_iter().filter(|(.., answer)| *answer != Answer::Deny(8));
+    let heard: Vec<_> = fresh.map(|(book, place, _, answer)| (book, place, answer)).collect();
+    let both = |book: &str| (book.to_string(), Ordering::Equal, Answer::Delivered(Fresh));
+    assert_eq!(heard, [both("book0"), both("book1")]);
+    let signals: Vec<_> = list
+        .lines
+        .iter()
+        .filter_map(|line| match line {
+            Line::Call { call: Call::Signal { height }, book, expected, .. } => {
+                Some((book.as_str(), *height, expected.as_ref()?.answer))
+            }
+            _ => None,
+        })
+        .collect();
+    assert_eq!(signals, [("book2", 2, Answer::Done), ("book0", 3, Answer::Deny(14))]);
+}
+
 #[test]
 fn refusals_alone_cover_every_number() {
     let tally = replay(&list("refusals"), &Rules::SHA256).unwrap().tally;
@@ -147,7 +215,7 @@ fn the_season_goes_as_told() {
         let book = format!("book{replica}");
         assert_eq!(moves(&list, &book).join(","), *expected, "{book}");
         let denied = answers(&list, &book).contains(&Answer::Deny(8));
-        assert_eq!(denied, replica == 0, "{book}");
+        assert_eq!(denied, [0, 2].contains(&replica), "{book}");
         assert_eq!(answers(&list, &book).last(), Some(&Answer::Part(64)), "{book}");
     }
 }

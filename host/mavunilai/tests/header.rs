@@ -6,7 +6,7 @@ mod common;
 use common::{compiler, compiles, host, prints, scratch, LANGUAGES};
 use std::collections::BTreeMap;
 use types::refusal::meaning;
-use types::{book_length, field, Area, Block, Certificate, Frame, Layout, Move, Refusal};
+use types::{book_length, field, Area, Block, Book, Certificate, Frame, Layout, Move, Refusal};
 
 /// A file of the host folder as a word.
 fn word(file: &str) -> String {
@@ -49,6 +49,40 @@ fn read_is_told_apart() {
     let (packed, plain) = (program("size(book, 576)"), program("read(book, 576, to, 16)"));
     assert!(packed.is_none_or(|compiled| compiled));
     assert!(plain.is_none_or(|compiled| !compiled));
+}
+
+/// Bytes as a row of an array in C.
+fn row(bytes: &[u8]) -> String {
+    format!("{{{}}}", bytes.iter().map(u8::to_string).collect::<Vec<_>>().join(","))
+}
+
+/// What the header says of second pages, over a book that holds a page of height 2 of three heights.
+#[test]
+fn a_second_page_is_told_as_by_the_types() {
+    let page = |height, byte| Block { height, entries: vec![[byte; 16]], ..Block::default() };
+    let proposal = |height, byte| Frame::Proposal { signer: 0, block: page(height, byte) }.bytes();
+    let mut book = Book::open(reference::Rules::SHA256, 4, 2, &[0; 3]).unwrap();
+    book.deliver(&proposal(2, 1)).unwrap();
+    let certificate = Frame::BlockCertificate { mask: 7, block: page(2, 2) }.bytes();
+    let frames = [(2, 1), (2, 2), (1, 2), (3, 2), (0, 2), (4, 2), (255, 2)];
+    let frames = frames.map(|(height, byte)| proposal(height, byte)).into_iter();
+    let frames: Vec<_> = frames.chain([certificate]).collect();
+    let rows: Vec<String> = frames.iter().map(|frame| row(frame)).collect();
+    let text = format!(
+        "#include <stdio.h>\n#include \"mavunilai.h\"\nint main(void) {{\n    \
+         static const uint8_t book[] = {}, frames[][MAVUNILAI_FRAME] = {{{}}};\n    size_t at;\n    \
+         for (at = 0; at < sizeof frames / sizeof *frames; at++) {{\n        \
+         printf(\"%d\\n\", mavunilai_second_page(book, frames[at]));\n    }}\n    return 0;\n}}\n",
+        row(book.bytes()),
+        rows.join(",")
+    );
+    let file = scratch("second_page.c");
+    std::fs::write(&file, text).unwrap();
+    let expected: Vec<bool> = frames.iter().map(|frame| book.is_second_page(frame)).collect();
+    assert_eq!(expected, [false, true, false, false, false, false, false, false]);
+    if let Some((text, ended)) = prints(LANGUAGES[0], "second_page", &[file.to_str().unwrap()]) {
+        assert!(ended && text.lines().eq(expected.iter().map(|is| if *is { "1" } else { "0" })));
+    }
 }
 
 #[test]
@@ -108,6 +142,8 @@ fn fields_of_the_book_are_where_the_types_have_them() {
     is("PENDING_AT", Layout::new(1).pending().start);
     is("CONTENTS_AT", Layout::new(1).area(1, Area::Row).start);
     is("ROW", Layout::new(1).area(1, Area::Row).len());
+    let body = |height| Layout::new(2).area(height, Area::Held).start;
+    is("BODY", body(2) - body(1));
 }
 
 /// Where a frame or page with this one field set differs from one with no field set.

@@ -2,20 +2,20 @@
 
 use crate::block::Block;
 use crate::frame::{Frame, Statement};
-use crate::state::{Slot, State, HELD, NOTARIZED};
+use crate::height::Height;
+use crate::state::{Slot, State, HELD, NOTARIZED, TIMER_FIRED};
 use crate::{quorum, refusal, Delivered, Digest, Rules};
 
 impl Rules {
-    /// Takes a frame whose signatures the host has checked.
+    /// Takes a frame whose signatures the host has checked. A second proposal of the current height's leader is no
+    /// refusal: it fires the timer.
     ///
     /// Refuses with 1, 4, 6, 5, 7, 9, 8, 10 in this order.
     pub fn deliver(&self, book: &mut [u8], frame: &[u8]) -> Result<Delivered, u8> {
         let mut state = self.sound(book)?;
         let frame = Frame::read(frame).ok_or(refusal::MALFORMED)?;
         admit(&state, &frame)?;
-        let n = state.n;
-        let slot = state.slot_mut(frame.height).ok_or(refusal::NO_SUCH_HEIGHT)?;
-        let answer = slot.take(&frame.statement, n, self.digest)?;
+        let answer = state.take(&frame, self.digest)?;
         state.store(book);
         Ok(answer)
     }
@@ -47,31 +47,61 @@ fn require(condition: bool, refusal: u8) -> Result<(), u8> {
     condition.then_some(()).ok_or(refusal)
 }
 
-impl Slot {
-    /// Takes a statement about this height; refuses with 8 or 10 before anything is changed.
-    fn take(&mut self, statement: &Statement, n: u8, digest: Digest) -> Result<Delivered, u8> {
-        match *statement {
-            Statement::Proposal { block, .. } => self.take_proposal(block, n, digest),
+impl State {
+    /// Takes an admitted frame; refuses with 8 or 10 before anything is changed.
+    fn take(&mut self, frame: &Frame, digest: Digest) -> Result<Delivered, u8> {
+        let n = self.n;
+        let slot = self.slot_mut(frame.height).ok_or(refusal::NO_SUCH_HEIGHT)?;
+        match frame.statement {
+            Statement::Proposal { block, .. } => self.take_proposal(frame.height, block, digest),
             Statement::BlockVote { signer, digest: vote } => {
-                self.take_vote(signer, vote, n, digest)
+                slot.take_vote(signer, vote, n, digest)
             }
-            Statement::DummyVote { signer } => Ok(join(&mut self.dummies, quorum::only(signer))),
-            Statement::Finalize { signer } => Ok(join(&mut self.finalizes, quorum::only(signer))),
-            Statement::BlockCertificate { mask, block } => self.take_certificate(mask, block),
-            Statement::DummyCertificate { mask } => Ok(join(&mut self.dummies, mask)),
-            Statement::FinalizeCertificate { mask } => Ok(join(&mut self.finalizes, mask)),
+            Statement::DummyVote { signer } => Ok(join(&mut slot.dummies, quorum::only(signer))),
+            Statement::Finalize { signer } => Ok(join(&mut slot.finalizes, quorum::only(signer))),
+            Statement::BlockCertificate { mask, block } => slot.take_certificate(mask, block),
+            Statement::DummyCertificate { mask } => Ok(join(&mut slot.dummies, mask)),
+            Statement::FinalizeCertificate { mask } => Ok(join(&mut slot.finalizes, mask)),
         }
     }
 
-    /// Holds the first proposal.
-    fn take_proposal(&mut self, block: &Block, n: u8, digest: Digest) -> Result<Delivered, u8> {
-        if let Some(held) = self.held() {
-            return known_if(held == block, refusal::CONFLICT);
+    /// Takes a proposal of the leader: the first is held, the same again is known, and by another one the leader
+    /// equivocates. It is compared with the held proposal alone, whatever block is notarized.
+    fn take_proposal(
+        &mut self,
+        height: Height,
+        block: &Block,
+        digest: Digest,
+    ) -> Result<Delivered, u8> {
+        let n = self.n;
+        let slot = self.slot_mut(height).ok_or(refusal::NO_SUCH_HEIGHT)?;
+        match slot.held().map(|held| held == block) {
+            None => Ok(slot.hold(block, n, digest)),
+            Some(true) => Ok(Delivered::Known),
+            Some(false) => self.leader_equivocates(height),
         }
+    }
+
+    /// The leader of a height said two things. At the current height this fires the timer, as footnote 10 of the
+    /// paper allows: flag 1 is added, nothing else changes, and it is known where the timer had fired before. At every
+    /// other height, and at all of them once the last is passed, the second proposal is refused and forgotten.
+    fn leader_equivocates(&mut self, height: Height) -> Result<Delivered, u8> {
+        require(height == self.current, refusal::CONFLICT)?;
+        if self.has(TIMER_FIRED) {
+            return Ok(Delivered::Known);
+        }
+        self.flags |= TIMER_FIRED;
+        Ok(Delivered::Fresh)
+    }
+}
+
+impl Slot {
+    /// Holds the first proposal.
+    fn hold(&mut self, block: &Block, n: u8, digest: Digest) -> Delivered {
         self.proposal = *block;
         self.marks |= HELD;
         self.tally(n, digest);
-        Ok(Delivered::Fresh)
+        Delivered::Fresh
     }
 
     /// Keeps the first vote of a signer.

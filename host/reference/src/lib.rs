@@ -1,5 +1,5 @@
-//! The reference replica: the rules of document 01, and of request 2.1 of document 02, in plain Rust, apart from the
-//! proved replica.
+//! The reference replica: the rules of document 01, and of requests 2.1 and 2.2 of document 02, in plain Rust, apart
+//! from the proved replica.
 //!
 //! Every call takes the bytes that it may read or write and answers with a value or with the number
 //! of a refusal. A refused call leaves all lent bytes as they were. No input makes a call panic.

@@ -14,7 +14,7 @@ pub const NO_SUCH_REPLICA: u8 = 5;
 pub const NO_SUCH_HEIGHT: u8 = 6;
 /// The proposer is not the leader of the height.
 pub const NOT_LEADER: u8 = 7;
-/// Another proposal, or another vote of the same signer, is kept already.
+/// Another vote of the same signer is kept already, or another proposal at a height that is not the current one.
 pub const CONFLICT: u8 = 8;
 /// Too few signers stand in a certificate.
 pub const NO_QUORUM: u8 = 9;
@@ -26,7 +26,7 @@ pub const NO_CERTIFICATE: u8 = 11;
 pub const FULL: u8 = 12;
 /// The entry is pending or logged already.
 pub const REPEATED: u8 = 13;
-/// The signal is not for the current height, or it came before.
+/// The signal is not for the current height, or its timer fired before.
 pub const STALE_SIGNAL: u8 = 14;
 /// The length of a packet is no multiple of a frame's.
 pub const UNEVEN_PACKET: u8 = 15;

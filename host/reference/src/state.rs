@@ -11,7 +11,7 @@ pub(crate) const PLACES: usize = 32;
 /// The most replicas, and so the places for votes at a height.
 pub(crate) const REPLICAS: usize = 16;
 
-/// Flag of the current height: its timer fired.
+/// Flag of the current height: its timer fired, by a signal or because its leader equivocates.
 pub(crate) const TIMER_FIRED: u8 = 1;
 /// Flag of the current height: the vote for the dummy block was cast.
 pub(crate) const DUMMY_VOTED: u8 = 2;

@@ -19,6 +19,8 @@ struct Network {
     wire: Vec<(usize, FrameBytes)>,
     spoken: Vec<FrameBytes>,
     blocks: Vec<Block>,
+    /// How often two proposals of one leader fired a timer.
+    fired: usize,
 }
 
 impl Network {
@@ -33,7 +35,7 @@ impl Network {
         let books = (0..honest).map(book).collect();
         let logs = vec![Vec::new(); honest.into()];
         let (wire, spoken, blocks) = (Vec::new(), Vec::new(), Vec::new());
-        Network { random, n, honest, leaders, books, logs, wire, spoken, blocks }
+        Network { random, n, honest, leaders, books, logs, wire, spoken, blocks, fired: 0 }
     }
 
     fn any_honest(&mut self) -> usize {
@@ -70,7 +72,9 @@ impl Network {
             true => self.wire[at],
             false => self.wire.swap_remove(at),
         };
+        let flags = self.books[to][FLAGS];
         let answer = RULES.deliver(&mut self.books[to], &frame);
+        self.fired += usize::from(self.books[to][FLAGS] != flags);
         let by_dishonest = frame[0] < 5 && frame[1] >= self.honest;
         assert!(answer.is_ok() || by_dishonest && answer == Err(8), "{answer:?}");
     }
@@ -205,9 +209,10 @@ impl Network {
     }
 }
 
-/// Runs a few networks; returns the lengths of all logs at the end.
+/// Runs a few networks; returns the lengths of all logs at the end. Timers are fired by two proposals of one leader
+/// where a replica is dishonest, and nowhere else.
 fn run(n: u8, honest: u8, seeds: std::ops::Range<u64>, events: usize) -> Vec<usize> {
-    let mut lengths = Vec::new();
+    let (mut lengths, mut fired) = (Vec::new(), 0);
     for seed in seeds {
         let mut network = Network::new(seed, n, honest);
         for event in 0..events {
@@ -218,7 +223,9 @@ fn run(n: u8, honest: u8, seeds: std::ops::Range<u64>, events: usize) -> Vec<usi
         }
         network.check();
         lengths.extend(network.logs.iter().map(Vec::len));
+        fired += network.fired;
     }
+    assert_eq!(fired > 0, honest < n, "{fired}");
     lengths
 }
 

@@ -133,12 +133,15 @@ fn number_8_unlike_the_kept() {
     assert_eq!(refused(&mut book, &proposal(0, &block(2, 0, ZERO, &[entry(1)]))), 8);
 }
 
-/// Request 2.2 takes this one as the timer's signal.
+/// There the second proposal fires the timer (`equivocation.rs`); below, where the height is passed, it is 8.
 #[test]
-fn number_8_a_second_proposal_at_the_current_height() {
+fn number_8_is_no_second_proposal_at_the_current_height() {
     let mut book = new_book(4, 2, &[0]);
-    deliver_all(&mut book, &[proposal(0, &block(1, 0, ZERO, &[]))]);
-    assert_eq!(refused(&mut book, &proposal(0, &block(1, 0, ZERO, &[entry(1)]))), 8);
+    let second = proposal(0, &block(1, 0, ZERO, &[entry(1)]));
+    deliver_all(&mut book, &[proposal(0, &block(1, 0, ZERO, &[])), dummy_certificate(7, 1)]);
+    deliver_all(&mut book.clone(), &[second]);
+    moves(&mut book);
+    assert_eq!(refused(&mut book, &second), 8);
 }
 
 #[test]

@@ -5,10 +5,10 @@ mod common;
 use common::fake::{Fake, Fault, Forgotten};
 use common::life::{Station, Way, BOOK};
 use common::random::Random;
-use common::script::{script, Input};
+use common::script::{script, Input, LEADERS};
 use reference::Rules;
 use store::{Error, FileBook};
-use types::{Book, Counts, Frame, Refusal, FRAME};
+use types::{Block, Book, Counts, Delivered, Frame, Move, Refusal, FRAME};
 
 /// The ways in which a station can move and send.
 const WAYS: [Way; 3] = [Way::Takes, Way::Bare, Way::Hands];
@@ -51,6 +51,84 @@ fn the_scripts_have_packets_and_single_frames() {
     let packets = inputs.iter().filter(|input| matches!(input, Input::Packet(_))).count();
     let singles = inputs.iter().filter(|input| matches!(input, Input::Deliver(_))).count();
     assert!(packets > 5 && singles > 50, "{packets} packets, {singles} single frames");
+}
+
+/// How many second pages of a leader fire the timer, if a script is gone through without a file.
+fn fired_by_second_pages(seed: u64) -> usize {
+    let mut book = Book::open(Rules::SHA256, 4, 2, &LEADERS).unwrap();
+    let mut fired = 0;
+    for input in script(seed) {
+        let frames = match input {
+            Input::Deliver(frame) => vec![frame],
+            Input::Packet(frames) => frames,
+            Input::Signal(height) => {
+                _ = book.signal(height);
+                Vec::new()
+            }
+            Input::Submit(_) => Vec::new(),
+        };
+        for frame in frames.iter().map(Frame::bytes) {
+            let second = book.is_second_page(&frame);
+            fired += usize::from(book.deliver(&frame) == Ok(Delivered::Fresh) && second);
+        }
+        while book.make_move().unwrap().0 != Move::Idle {}
+    }
+    fired
+}
+
+/// Those that come to grief at every step are among them.
+#[test]
+fn the_scripts_have_leaders_who_say_two_things() {
+    let at_every_step = WAYS.len() as u64;
+    assert!((1..=at_every_step).map(fired_by_second_pages).sum::<usize>() > 0);
+    assert!((0..40).map(fired_by_second_pages).filter(|fired| *fired > 0).count() > 5);
+}
+
+/// A station whose height 1 is blank hears a second page of its leader and votes blank; the machine ends after so many
+/// steps, or once the vote has left. Whether it has, and whether the next life would finalise.
+fn second_page_and_end(files: Fake, steps: usize, seed: u64) -> (bool, bool) {
+    let page = |byte| Block { height: 1, entries: vec![[byte; 16]], ..Block::default() };
+    let [first, second] =
+        [1, 2].map(|byte| Frame::Proposal { signer: 0, block: page(byte) }.bytes());
+    let mut new = Book::open(Rules::SHA256, 4, 2, &[0]).unwrap();
+    new.deliver(&first).unwrap();
+    new.deliver(&Frame::DummyCertificate { mask: 11, height: 1 }.bytes()).unwrap();
+    let mut book = FileBook::create_in(files.clone(), new, BOOK.as_ref()).unwrap();
+    files.fault(steps, Fault::Machine);
+    let left = book.deliver(&second).is_ok() && book.make_move().is_ok();
+    if left {
+        files.fault(0, Fault::Machine);
+        assert!(book.sent().is_err());
+    }
+    drop(book);
+    files.revive(&mut Random::new(seed));
+    let Ok(mut again) = FileBook::open_in(files, Rules::SHA256, BOOK.as_ref()) else {
+        return (left, true);
+    };
+    let mut next = again.book().clone();
+    let passed = std::iter::repeat_with(|| next.make_move().unwrap().0);
+    let mut passed = passed.skip_while(|made| !matches!(made, Move::Pass { .. }));
+    let finalises = matches!(passed.next(), Some(Move::Pass { finalized: true, .. }));
+    again.sent().unwrap();
+    assert_eq!(again.signal(1).is_ok(), finalises, "a timer that comes late is refused");
+    (left, finalises)
+}
+
+/// The blank vote after a leader's second page leaves only once the book with flag 1 is synced: no life after it
+/// finalises. A file system that does not sync is found out.
+#[test]
+fn a_second_page_is_kept_before_the_blank_vote_leaves() {
+    let ends = |forgotten: Option<Forgotten>| -> Vec<(bool, bool)> {
+        let all = (0..24).flat_map(|steps| (0..20).map(move |seed| (steps, seed)));
+        all.map(|(steps, seed)| second_page_and_end(Fake::forgetting(forgotten), steps, seed))
+            .collect()
+    };
+    let synced = ends(None);
+    for wanted in [(false, false), (false, true), (true, false)] {
+        assert!(synced.contains(&wanted), "{wanted:?}");
+    }
+    assert!(!synced.contains(&(true, true)));
+    assert!(ends(Some(Forgotten::Folders)).contains(&(true, true)));
 }
 
 #[test]

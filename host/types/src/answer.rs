@@ -6,9 +6,10 @@ use std::fmt;
 /// What became of a frame that was not refused.
 #[derive(Clone, Copy, Debug, PartialEq, Eq)]
 pub enum Delivered {
-    /// The frame changed the book.
+    /// The frame changed the book. Where it is the second page of the current height's leader, the change is flag 1
+    /// alone: its timer fired ([`crate::is_second_page`] tells).
     Fresh,
-    /// The book held all of it already.
+    /// The book held all of it already, or it is such a second page and the timer had fired.
     Known,
 }
 
@@ -18,7 +19,7 @@ pub enum Delivered {
 pub struct Counts {
     /// Frames that changed the book.
     pub fresh: u64,
-    /// Frames that the book held already.
+    /// Frames that changed nothing and were not refused.
     pub known: u64,
     /// Frames that were refused, each at its turn.
     pub refused: u64,

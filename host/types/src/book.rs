@@ -2,8 +2,8 @@
 
 use crate::refusal::Refusal;
 use crate::{
-    book_length, field, head_height, Area, Calls, Counts, Delivered, Height, Layout, Move, ENTRY,
-    FRAME,
+    book_length, field, head_height, held_page, is_second_page, Area, Calls, Counts, Delivered,
+    Height, Layout, Move, BLOCK, ENTRY, FRAME,
 };
 
 /// The bytes of a book together with the replica that works on them.
@@ -80,7 +80,18 @@ impl<C: Calls> Book<C> {
         self.bytes.get(at).copied().unwrap_or(0)
     }
 
-    /// Takes a frame whose signatures hold.
+    /// The page of the proposal that is held at a height, if one is.
+    pub fn held(&self, height: Height) -> Option<&[u8; BLOCK]> {
+        held_page(&self.bytes, height)
+    }
+
+    /// Whether a frame is a proposal of another page than the one that is held at its height: of a frame that
+    /// [`Book::deliver`] took, or refused with 8, that the leader said two things. The frame is evidence against him.
+    pub fn is_second_page(&self, frame: &[u8]) -> bool {
+        is_second_page(&self.bytes, frame)
+    }
+
+    /// Takes a frame whose signatures hold. A second page of the current height's leader fires the timer.
     pub fn deliver(&mut self, frame: &[u8]) -> Result<Delivered, Refusal> {
         self.calls.deliver(&mut self.bytes, frame).map_err(Refusal::of)
     }

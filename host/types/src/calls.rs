@@ -14,7 +14,8 @@ pub trait Calls {
         leaders: &[u8],
     ) -> Result<(), u8>;
 
-    /// Takes a frame into the book: 1, 4, 6, 5, 7, 9, 8, 10.
+    /// Takes a frame into the book: 1, 4, 6, 5, 7, 9, 8, 10. A second, different proposal of the current height's
+    /// leader is not refused: it fires the timer.
     fn deliver(&self, book: &mut [u8], frame: &[u8]) -> Result<Delivered, u8>;
 
     /// Takes the frames of a packet in order, each by itself, and counts what became of them: 1, 15.

@@ -25,7 +25,8 @@ pub enum Refusal {
     NoSuchHeight = 6,
     /// The proposer does not lead the height.
     NotLeader = 7,
-    /// Another proposal or block vote of this signer is kept. The frame is evidence against him: keep it.
+    /// Another block vote of this signer is kept, or another proposal at a height that is not the current one. The
+    /// frame is evidence against him: keep it.
     OtherKept = 8,
     /// The certificate's mask is no quorum.
     NoQuorum = 9,
@@ -37,7 +38,8 @@ pub enum Refusal {
     PendingFull = 12,
     /// The entry is pending or in the log.
     EntryKnown = 13,
-    /// The signal is not for the current height, or came before. A late timer is no fault.
+    /// The signal is not for the current height, or its timer fired before, by a signal or by the leader's second
+    /// proposal. A late timer is no fault.
     NotDue = 14,
     /// The length of a packet is not a multiple of 224, so that it is not whole frames.
     UnevenPacket = 15,
@@ -111,7 +113,7 @@ pub fn meaning(number: u8) -> &'static str {
         11 => "the book holds no such certificate",
         12 => "all 32 pending places are taken",
         13 => "the entry is pending or in the register already",
-        14 => "the signal is not for the current height, or came before",
+        14 => "the signal is not for the current height, or its timer fired before",
         15 => "the packet's length is not a multiple of 224",
         _ => "this is no number of the table of refusals",
     }

@@ -18,6 +18,7 @@ pub fn run<C: Calls>(to: &mut Recorder<C>) {
     free_bytes(to);
     past_the_end(to);
     full_pending(to);
+    second_page(to);
     damage(to);
 }
 
@@ -81,6 +82,23 @@ fn full_pending<C: Calls>(to: &mut Recorder<C>) {
     edited(to, &edits);
     submit(to, BOOK, entry("lot 9 to C5"));
     to.make(Call::Size, BOOK, "");
+}
+
+fn second_page<C: Calls>(to: &mut Recorder<C>) {
+    to.part("Flags without flag 1, and a second page of the leader: it joins them, and no blank vote is cast again");
+    let sound = to.bytes(BOOK).to_vec();
+    to.open(BOOK, 4, 1, &[0, 1]);
+    let pages = ["swap A1 B2", "swap A1 B3"].map(|words| first(1, &[entry(words)]));
+    let pages = pages.map(|block| Frame::Proposal { signer: 0, block });
+    deliver(to, BOOK, &pages[..1]);
+    let held = to.bytes(BOOK).to_vec();
+    for flags in [2, 4, 8, 14] {
+        to.give(BOOK, held.clone());
+        edited(to, &[(field::FLAGS, flags)]);
+        deliver(to, BOOK, &pages[1..]);
+        moves(to, BOOK);
+    }
+    to.give(BOOK, sound);
 }
 
 fn damage<C: Calls>(to: &mut Recorder<C>) {

@@ -1,7 +1,7 @@
 //! The list of corners: quorums of every n, chains with two ways down, tallies that complete late.
 
 use super::parts::*;
-use super::{edges, packets};
+use super::{edges, packets, two_pages};
 use crate::{Call, Recorder};
 use types::{field, put_head_height, Calls, Frame, MOST_REPLICAS};
 
@@ -23,6 +23,7 @@ pub fn run<C: Calls>(to: &mut Recorder<C>) {
     joined_certificates(to);
     unlinked_certificate(to);
     unsettled_entry(to);
+    two_pages::run(to);
     packets::run(to);
     edges::run(to);
 }

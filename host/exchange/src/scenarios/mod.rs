@@ -10,6 +10,7 @@ mod parts;
 mod refusals;
 mod rehearsal;
 mod season;
+mod two_pages;
 mod vectors;
 
 use crate::{List, Recorder};

@@ -19,6 +19,8 @@ pub fn run<C: Calls>(to: &mut Recorder<C>) {
     finalized_nothing(to);
     gap(to);
     two_apply(to);
+    two_pages(to);
+    two_pages_of_a_passable_height(to);
 }
 
 /// The dummy votes of replicas 0, 1 and 2.
@@ -116,4 +118,47 @@ fn two_apply<C: Calls>(to: &mut Recorder<C>) {
     to.open(BOOK, 4, 0, &[0]);
     deliver(to, BOOK, &[Frame::Proposal { signer: 0, block: first(1, &[]) }]);
     moves(to, BOOK);
+}
+
+/// The two pages of height 1 that station 0 proposes.
+fn both_pages() -> [Frame; 2] {
+    let pages = [first(1, &[entry("swap A1 B2")]), first(1, &[entry("swap A1 B3")])];
+    pages.map(|block| Frame::Proposal { signer: 0, block })
+}
+
+fn two_pages<C: Calls>(to: &mut Recorder<C>) {
+    to.part("The leader of c sends two pages: with no signal a blank vote, then the vote for the first; no finalise");
+    to.open(BOOK, 4, 2, &[0]);
+    let pages = both_pages();
+    deliver(to, BOOK, &pages);
+    moves(to, BOOK);
+    deliver(to, BOOK, &three_dummies(1));
+    moves(to, BOOK);
+    to.part("The second page comes after the vote for the first, which is notarised all the same: no finalise");
+    to.open(BOOK, 4, 2, &[0]);
+    deliver(to, BOOK, &pages[..1]);
+    moves(to, BOOK);
+    deliver(to, BOOK, &pages[1..]);
+    moves(to, BOOK);
+    let block = first(1, &[entry("swap A1 B2")]);
+    deliver(to, BOOK, &[0, 1, 3].map(|signer| vote(signer, &block)));
+    moves(to, BOOK);
+}
+
+fn two_pages_of_a_passable_height<C: Calls>(to: &mut Recorder<C>) {
+    to.part("c is linked, settled, blank, or linked and blank when the second page comes: no pass finalises then");
+    let pages = both_pages();
+    let block = first(1, &[entry("swap A1 B2")]);
+    let page = Frame::BlockCertificate { mask: 7, block };
+    let blank = Frame::DummyCertificate { mask: 7, height: 1 };
+    let settled = Frame::FinalizeCertificate { mask: 7, height: 1 };
+    let ways =
+        [vec![page.clone()], vec![page.clone(), settled], vec![blank.clone()], vec![page, blank]];
+    for certificates in &ways {
+        to.open(BOOK, 4, 2, &[0]);
+        deliver(to, BOOK, &pages[..1]);
+        deliver(to, BOOK, certificates);
+        deliver(to, BOOK, &pages[1..]);
+        moves(to, BOOK);
+    }
 }

@@ -39,6 +39,10 @@ fn frames<C: Calls>(to: &mut Recorder<C>) {
     to.open(AHEAD, 4, 2, &[0, 0]);
     deliver(to, AHEAD, &[Frame::Proposal { signer: 0, block: first(2, &[]) }]);
     deliver(to, AHEAD, &[Frame::Proposal { signer: 1, block: first(2, &[entry("other")]) }]);
+    to.remark("At the current height 5 and 7 come before a second proposal fires the timer");
+    for signer in [4, 255, 1, 0] {
+        deliver(to, BOOK, &[Frame::Proposal { signer, block: first(1, &[entry("other")]) }]);
+    }
     to.remark("An entry past the count, and 9 before 10 for a certificate");
     let mut frame = Frame::Proposal { signer: 0, block: first(1, &[entry("more")]) }.bytes();
     frame.iter_mut().skip(52).take(1).for_each(|count| *count = 0);

@@ -49,7 +49,9 @@ fn frames_that_meet<C: Calls>(to: &mut Recorder<C>) {
     to.packet(BOOK, &votes.map(|vote| vote.bytes()));
     to.remark("A frame twice is fresh, then known");
     to.packet(BOOK, &[blank(3), blank(3)]);
-    to.remark("Of two certified pages, and of two proposals of one leader, the second is refused");
+    to.remark(
+        "Of two certified pages, and of two proposals of one leader above c, the second is refused",
+    );
     let certificates = [two, one].map(|block| Frame::BlockCertificate { mask: 7, block }.bytes());
     to.packet(BOOK, &certificates);
     let pages = [first(2, &[]), first(2, &[entry("swap A1 B2")])];

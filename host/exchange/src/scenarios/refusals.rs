@@ -92,22 +92,49 @@ fn frames<C: Calls>(to: &mut Recorder<C>) {
 
 /// Deliver: 8.
 fn conflicts<C: Calls>(to: &mut Recorder<C>) {
-    to.part("A second proposal and a second page vote are 8; the same again is known");
+    to.part("A second proposal above the current height and a second page vote are 8; the same again is known");
     to.open(AHEAD, 4, 2, &[0, 0]);
     let (one, two) = (first(2, &[[1; 16]]), first(2, &[[2; 16]]));
     for block in [&one, &one, &two] {
         deliver(to, AHEAD, &[proposal(0, block.clone()), vote(3, block)]);
     }
+    at_other_heights(to);
     at_the_current_height(to);
 }
 
-/// The one second proposal of all lists that is for the current height: request 2.2 takes it for the timer's signal.
+/// No refusal: the second proposal of the current height fires the timer.
 fn at_the_current_height<C: Calls>(to: &mut Recorder<C>) {
-    to.part("The same at the current height");
-    let (one, two) = (first(1, &[[1; 16]]), first(1, &[[2; 16]]));
-    for block in [&one, &one, &two] {
+    to.part("At the current height a second proposal is fresh and fires the timer; a second page vote is 8 there too");
+    let pages = [1, 2, 3].map(|byte| first(1, &[[byte; 16]]));
+    let [one, two, three] = &pages;
+    for block in [one, one, two] {
         deliver(to, BOOK, &[proposal(0, block.clone()), vote(3, block)]);
     }
+    to.remark("The second again, a third and the first are known, and a signal is 14");
+    deliver(to, BOOK, &[two, three, one].map(|block| proposal(0, block.clone())));
+    signal(to, BOOK, 1);
+    to.remark("After a signal the second proposal is known");
+    to.open("timed", 4, 2, &[0]);
+    signal(to, "timed", 1);
+    deliver(to, "timed", &[one, two].map(|block| proposal(0, block.clone())));
+}
+
+/// Deliver: 8, on the book that holds a proposal of height 2 while it passes both heights.
+fn at_other_heights<C: Calls>(to: &mut Recorder<C>) {
+    to.part("What was refused above the current height is forgotten: the height begins with no timer fired");
+    let two = |byte: u8| proposal(0, first(2, &[[byte; 16]]));
+    deliver(to, AHEAD, &[Frame::DummyCertificate { mask: 7, height: 1 }]);
+    moves(to, AHEAD);
+    to.remark("Below the current height the second proposal is 8");
+    deliver(to, AHEAD, &[1, 2].map(|byte| proposal(0, first(1, &[[byte; 16]]))));
+    to.remark("At it the first again is known, and the second is fresh once it comes again");
+    deliver(to, AHEAD, &[two(1), two(2)]);
+    to.remark(
+        "Above the last height no height is the current one: 8 at each, and the first is known",
+    );
+    deliver(to, AHEAD, &[Frame::DummyCertificate { mask: 7, height: 2 }]);
+    moves(to, AHEAD);
+    deliver(to, AHEAD, &[two(2), proposal(0, first(1, &[[2; 16]])), two(1)]);
 }
 
 /// Deliver: 10.

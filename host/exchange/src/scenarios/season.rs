@@ -20,8 +20,8 @@ pub fn run<C: Calls>(to: &mut Recorder<C>) {
     first_height(to);
     second_height(to);
     catching_up(to);
-    let other = third_height(to);
-    fourth_height(to, other);
+    let late = third_height(to);
+    fourth_height(to, &late);
     reading(to);
 }
 
@@ -102,8 +102,8 @@ fn catching_up<C: Calls>(to: &mut Recorder<C>) {
     submit(to, book(3), entry("lot 9 to plot 5"));
 }
 
-/// Returns the second proposal.
-fn third_height<C: Calls>(to: &mut Recorder<C>) -> Frame {
+/// Returns the first proposal.
+fn third_height<C: Calls>(to: &mut Recorder<C>) -> Vec<Vec<u8>> {
     to.part("Height 3: station 3 leads and sends one page to station 0 and another to 1 and 2");
     let offer = all_move(to, &[3], &[1]);
     let one = offered(&offer);
@@ -115,23 +115,26 @@ fn third_height<C: Calls>(to: &mut Recorder<C>) -> Frame {
     send(to, &votes, &[0, 1, 2]);
     to.remark("Its second vote is refused where the first is kept");
     deliver(to, book(0), &[vote(3, &one), vote(3, &two)]);
-    to.remark("No page gets three votes. Timers fire at 0 and 1; 2 passes on the blank before its own does");
-    signal(to, book(0), 3);
-    signal(to, book(1), 3);
+    to.remark("No page gets three votes. Stations 0 and 1 hand each other what the leader sent: each hears both pages");
+    deliver(to, book(0), std::slice::from_ref(&other));
+    send(to, &offer, &[1]);
+    to.remark("Neither waits for its timer: both vote blank with no signal; the timer of 0 comes late, and is refused");
     let mut blanks = all_move(to, &[0, 1], &[3]);
+    signal(to, book(0), 3);
+    to.remark("Station 2 heard one page; it passes on the blank before its own timer fires");
     blanks.push(Frame::DummyVote { signer: 3, height: 3 }.bytes().to_vec());
     submit(to, book(2), entry("plot C7 fallow"));
     send(to, &blanks, &[0, 1, 2]);
-    other
+    offer
 }
 
-fn fourth_height<C: Calls>(to: &mut Recorder<C>, other: Frame) {
+fn fourth_height<C: Calls>(to: &mut Recorder<C>, late: &[Vec<u8>]) {
     to.part("Height 4: page 4 stands on page 2 over the blank; station 1 gets its certificate before the page");
     let offer = all_move(to, &[0, 1, 2], &[1]);
     to.remark(
-        "Station 0 hears of the other page of height 3 once it has passed it, and refuses it",
+        "Station 2 hears of the other page of height 3 once it has passed it, and refuses it",
     );
-    deliver(to, book(0), &[other]);
+    send(to, late, &[2]);
     hand_over(to, 0, 3, &[(6, 3)]);
     send(to, &offer, &[0, 2, 3]);
     let votes = all_move(to, &[0, 2, 3], &[2]);

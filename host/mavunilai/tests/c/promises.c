@@ -1,6 +1,6 @@
 /* What the header promises of the library, tried: the interface's number, null pointers with length 0, the counts of a
- * packet, and that the parts of an answer and of a book are read as they are told. Says what fails, and ends with the
- * count of it. */
+ * packet, a leader's second page, and that the parts of an answer and of a book are read as they are told. Says what
+ * fails, and ends with the count of it. */
 #include <stdio.h>
 #include <string.h>
 
@@ -110,6 +110,29 @@ static void flags(const uint8_t *opened) {
     EXPECT(book[MAVUNILAI_HEAD_FLAGS] == (MAVUNILAI_FLAG_TIMER | MAVUNILAI_FLAG_BLANK_VOTE));
 }
 
+/* A second page of the leader fires the timer of the current height, and is told; at another height it is refused. */
+static void two_pages(const uint8_t *opened) {
+    uint8_t first[MAVUNILAI_FRAME] = {MAVUNILAI_KIND_PROPOSAL, 0, 1}, second[MAVUNILAI_FRAME], book[LENGTH];
+    memcpy(book, opened, LENGTH);
+    first[MAVUNILAI_FRAME_PAGE + MAVUNILAI_PAGE_HEIGHT] = 1;
+    memcpy(second, first, sizeof second);
+    second[MAVUNILAI_FRAME_PAGE + MAVUNILAI_PAGE_COUNT] = 1;
+    EXPECT(!mavunilai_second_page(book, second));
+    EXPECT(mavunilai_fresh(mavunilai_deliver(book, LENGTH, first, sizeof first)) == 1);
+    EXPECT(!mavunilai_second_page(book, first) && mavunilai_second_page(book, second));
+    EXPECT(mavunilai_deliver(book, LENGTH, second, sizeof second).packed == 256);
+    EXPECT(book[MAVUNILAI_HEAD_FLAGS] == MAVUNILAI_FLAG_TIMER && mavunilai_second_page(book, second));
+    EXPECT(mavunilai_deliver(book, LENGTH, second, sizeof second).packed == 0);
+    EXPECT(REFUSED(mavunilai_signal(book, LENGTH, 1)) == MAVUNILAI_REFUSED_NOT_DUE);
+
+    first[MAVUNILAI_FRAME_HEIGHT] = second[MAVUNILAI_FRAME_HEIGHT] = HEIGHTS;
+    first[MAVUNILAI_FRAME_PAGE + MAVUNILAI_PAGE_HEIGHT] = HEIGHTS;
+    second[MAVUNILAI_FRAME_PAGE + MAVUNILAI_PAGE_HEIGHT] = HEIGHTS;
+    EXPECT(mavunilai_fresh(mavunilai_deliver(book, LENGTH, first, sizeof first)) == 1);
+    EXPECT(REFUSED(mavunilai_deliver(book, LENGTH, second, sizeof second)) == MAVUNILAI_REFUSED_OTHER_KEPT);
+    EXPECT(mavunilai_second_page(book, second) && !mavunilai_second_page(book, first));
+}
+
 /* A packet of four frames is counted and leaves what they leave one by one; a refused one leaves counts and book. */
 static void packets(const uint8_t *opened) {
     uint8_t packet[4 * MAVUNILAI_FRAME + 1] = {MAVUNILAI_KIND_BLANK_VOTE, 0, 1}, book[LENGTH], other[LENGTH];
@@ -143,6 +166,7 @@ static void parts(uint8_t *book) {
     EXPECT(memcmp(book + MAVUNILAI_PENDING_AT, "swap A12 to B40 ", MAVUNILAI_ENTRY) == 0);
 
     flags(book);
+    two_pages(book);
     packets(book);
     EXPECT(run(book) == 8);
     EXPECT(mavunilai_current(book) == 3 && mavunilai_settled(book) == 2);

@@ -14,8 +14,9 @@ pub type Block = [u8; 176];
 pub type FrameBytes = [u8; 224];
 pub const ZERO: [u8; 32] = [0; 32];
 
-/// Where the head has its heights: H, the current and the finalized one.
+/// Where the head has its heights, H, the current and the finalized one, and the flags.
 pub const HEIGHTS: usize = 2;
+pub const FLAGS: usize = 3;
 pub const CURRENT: usize = 4;
 pub const FINALIZED: usize = 5;
 

@@ -70,7 +70,7 @@ impl Station {
             self.move_until_idle(&mut book)?;
             self.done += 1;
         }
-        if self.way == Way::Hands {
+        if self.way == Way::Hands && !self.said.is_empty() {
             let pile = self.files.text(Path::new(PILE));
             let kept: Vec<_> = pile.lines().map(frame).collect();
             if self.said.iter().any(|frame| !kept.contains(frame)) {

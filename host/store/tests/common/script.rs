@@ -15,7 +15,8 @@ pub enum Input {
 /// The leaders of the heights; the station is 2 of 4.
 pub const LEADERS: [u8; 4] = [0, 2, 1, 2];
 
-/// A script of three others who propose, vote, give up and finalise at each height, not all of them and not in order.
+/// A script of three others who propose, vote, give up and finalise at each height, not all of them and not in order;
+/// leaders may propose two pages.
 pub fn script(seed: u64) -> Vec<Input> {
     let mut random = Random::new(seed);
     let mut parent = Block::default();
@@ -37,6 +38,8 @@ fn at_height(height: Height, leader: u8, block: &Block, random: &mut Random) -> 
     let mut frames = Vec::new();
     if leader != 2 {
         frames.push(Frame::Proposal { signer: leader, block: block.clone() });
+        let other = Block { entries: vec![[first; 16]], ..block.clone() };
+        frames.push(Frame::Proposal { signer: leader, block: other });
     }
     for signer in [0, 1, 3] {
         frames.push(Frame::BlockVote { signer, height, digest });
