@@ -296,21 +296,6 @@ module _ (digest : Bytes → Bytes) (book frame : Bytes) where
   unfolding heard
   heard-single e = rw e
 
-  -- a frame that passes all rows is accepted
-  pub heard-accepted : (news : Delivery) × (heard digest book frame .answer ≡ accepted news)
-  unfolding heard timerFires kept
-  heard-accepted =
-      cond-elim Accepted (leaderEquivocates (decode book) frame)
-      (λ _. cond-elim Accepted (flag 1 (decode book)) (λ _. (known, refl)) (λ _. (fresh, refl)))
-      (λ _. go (keep digest (decode book) frame))
-    where
-      Accepted : Outcome Delivery → Type 0
-      Accepted o = (news : Delivery) × (o .answer ≡ accepted news)
-
-      go : (o : Option Height) → Accepted (kept digest book frame o)
-      go none = (known, refl)
-      go (some y) = (fresh, refl)
-
   -- a proposal that is read over a sound book, for its current height, is not refused
   pub proposal-passes : sound digest book ≡ true → firstRefusal (readRows (decode book) frame) ≡ none →
       kind frame ≡ 1 → frameHeight frame ≡ decode book .current → firstRefusal (deliverRows digest book frame) ≡ none
@@ -359,3 +344,18 @@ module _ (digest : Bytes → Bytes) (book frame : Bytes) where
       go none e true d false g o k = fired (deliver-facts e) d g
       go none e false d f g none k = same (deliver-facts e) (λ is. absurd (true≢false (sym is ∙ d))) k
       go none e false d f g (some y) k = new y (deliver-facts e) d k
+
+  -- a frame that passes all rows is accepted
+  pub heard-accepted : (news : Delivery) × (heard digest book frame .answer ≡ accepted news)
+  unfolding heard timerFires kept
+  heard-accepted =
+      cond-elim Accepted (leaderEquivocates (decode book) frame)
+      (λ _. cond-elim Accepted (flag 1 (decode book)) (λ _. (known, refl)) (λ _. (fresh, refl)))
+      (λ _. go (keep digest (decode book) frame))
+    where
+      Accepted : Outcome Delivery → Type 0
+      Accepted o = (news : Delivery) × (o .answer ≡ accepted news)
+
+      go : (o : Option Height) → Accepted (kept digest book frame o)
+      go none = (known, refl)
+      go (some y) = (fresh, refl)
