@@ -127,7 +127,8 @@ timerFires book =
     cond (flag 1 (decode book)) (record { answer = accepted known; book = book })
     (record { answer = accepted fresh; book = encode (withTimerFired (decode book)) })
 
--- a frame that is read contradicts nothing kept if it passes these rows; at the current height a second proposal does
+-- a frame that is read contradicts nothing kept if it passes these rows; a second proposal at the current height does
+-- contradict the held one, and passes
 unfoldable pub clashRows : State → Bytes → List Row
 clashRows s frame =
     let x : Height = at s (frameHeight frame) in
