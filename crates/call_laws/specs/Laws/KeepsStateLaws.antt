@@ -80,8 +80,8 @@ module _ (digest : Bytes → Bytes) (book frame : Bytes) (accepts : Accepts dige
       KeepsState digest s (decode (encode (withHeight s (frameHeight frame) y))) frame
   unfolding left
   fresh-keeps y single e =
-      let same : after digest s state frame (accepts .read) (accepts .agrees) single ≡ withHeight s (frameHeight frame) y =
-      rw e refl in
+      let kept : State = withHeight s (frameHeight frame) y in
+      let same : after digest s state frame (accepts .read) (accepts .agrees) single ≡ kept = rw e refl in
       let back = decode-encode (withHeight s (frameHeight frame) y)
       (keep-sound digest s state frame (accepts .read) y e .shaped) in
       subst (λ (z : State). KeepsState digest s z frame) (same ∙ sym back)

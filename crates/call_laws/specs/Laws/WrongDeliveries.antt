@@ -59,7 +59,9 @@ small = are-bytes book (unfold everything book in refl)
 another-mask : Wrong (blockCertificate 1 7 block) fresh
     (encode (withHeight (decode book) 1 (withNotarized (at (decode book) 1) 15 block)))
 unfolding everything standIn book block Wrong
-another-mask k = let same : _≡_ {A = ℕ} 15 7 = k .statement refl .keeps .here .block .this-certificate refl refl in omega arith
+another-mask k =
+    let same : _≡_ {A = ℕ} 15 7 = k .statement refl .keeps .here .block .this-certificate refl refl in
+    omega arith
 
 -- ---- a dummy vote that changes a byte besides: of the held proposal where none is held, of the notarized block where
 -- none is notarized, of the digest of a replica that did not vote, of a pending place past the count
@@ -82,7 +84,9 @@ free-place k = let same : _≡_ {A = ℕ} 9 0 = k .statement refl .other-bytes s
 -- ---- a proposal that notarizes nothing and writes a certificate mask
 mask-without-block : Wrong (proposal 0 1 block) fresh (set (delivered (proposal 0 1 block)) 578 1)
 unfolding everything standIn book block delivered Wrong inParts proposalParts keptParts newlyNotarized deliveryParts
-mask-without-block k = let same : _≡_ {A = ℕ} 1 0 = k .statement refl .other-bytes small .same-byte 578 refl in omega arith
+mask-without-block k =
+    let same : _≡_ {A = ℕ} 1 0 = k .statement refl .other-bytes small .same-byte 578 refl in
+    omega arith
 
 -- ---- an answer that is always known, and one that is fresh where nothing changed
 always-known : Wrong vote known (delivered vote)

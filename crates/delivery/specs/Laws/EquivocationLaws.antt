@@ -36,6 +36,7 @@ module _ (book : Bytes) where
   unfolding acceptedBook timerFires
   timer-fired e = rw e
 
-  pub timer-runs : flag 1 (decode book) ≡ false → acceptedBook true (encode (withFlag 1 (decode book))) ≡ timerFires book
+  pub timer-runs : flag 1 (decode book) ≡ false →
+      acceptedBook true (encode (withFlag 1 (decode book))) ≡ timerFires book
   unfolding acceptedBook timerFires withTimerFired
   timer-runs e = rw e

@@ -210,13 +210,15 @@ module _ (digest : Bytes → Bytes) where
   all-heard book [] frame was i is = elim i [ ]
   all-heard book (first ∷ frames) frame was (List·Memᴰ·head e) is =
       let next : Bytes = deliverCall digest book first .book in
+      let heard = proposal-heard digest book first was (rw e at is) in
       heard-stays (all-stay next frames (deliver-stays digest book was first)) (frameBlock frame)
-      (subst (λ (f : Bytes). Heard (decode next) (frameBlock f)) (sym e) (proposal-heard digest book first was (rw e at is)))
+      (subst (λ (f : Bytes). Heard (decode next) (frameBlock f)) (sym e) heard)
   all-heard book (first ∷ frames) frame was (List·Memᴰ·tail i) is =
       all-heard (deliverCall digest book first .book) frames frame (deliver-stays digest book was first) i
       (proposed-stays (delivery-stays digest book first was) frame is)
 
-  module _ (book : Bytes) (frames : List Bytes) (was : sound digest book ≡ true) (two : TwoBlocks digest book frames) where
+  module _ (book : Bytes) (frames : List Bytes) (was : sound digest book ≡ true)
+      (two : TwoBlocks digest book frames) where
     abbrev t : State
     t = decode (deliverAll digest book frames)
 

@@ -28,8 +28,8 @@ use Rattle.protocol.specs.Move.{Step, step, dummyVoteStep, outputStep, passStep
 use Rattle.protocol.specs.Packet.{packetFrames, packetRows, packetCall}
 use Rattle.protocol.specs.Signal.{signalRows, signalCall}
 use Rattle.protocol.specs.Submit.{submitRows, submitCall, withPending}
-use Rattle.protocol.specs.Call.{Call, opening, delivery, packetDelivery, moving, signalling, submitting, sizing, reading}
-use Rattle.protocol.specs.Call.{fetching, effect, bookAfter}
+use Rattle.protocol.specs.Call.{Call, opening, delivery, packetDelivery, moving, signalling, submitting, sizing}
+use Rattle.protocol.specs.Call.{reading, fetching, effect, bookAfter}
 use Rattle.call_laws.specs.Laws.SoundStaysLaws.{unless-refused, deliver-stays}
 use Rattle.call_laws.specs.BookBytes.{openedBook}
 use Rattle.call_laws.specs.Laws.BookBytesLaws.{open-bytes}

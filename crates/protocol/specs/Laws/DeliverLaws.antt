@@ -30,8 +30,8 @@ use Rattle.protocol.specs.Laws.BytesLaws.{length-part}
 use Rattle.protocol.specs.Laws.MaskLaws.{below-lt}
 use Rattle.protocol.specs.Laws.TestsLaws.{cond-elim, and-both}
 use Rattle.protocol.specs.Laws.RowLaws.{row-passes, by-rows, by-tested, split-rows, in-range, range-in}
-use Rattle.protocol.specs.Laws.RowLaws.{pass-row, pass-rows, not-passed, true-and, implies-true, true-implies, same-eq}
-use Rattle.protocol.specs.Laws.RowLaws.{eq-same}
+use Rattle.protocol.specs.Laws.RowLaws.{pass-row, pass-rows, not-passed, true-and, implies-true, true-implies}
+use Rattle.protocol.specs.Laws.RowLaws.{same-eq, eq-same}
 use Rattle.protocol.specs.Laws.FormedLaws.{formed-frame}
 
 -- ---- kinds

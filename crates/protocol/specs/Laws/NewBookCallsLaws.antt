@@ -135,10 +135,9 @@ module _ (n own flags dummy final leader : ℕ) (leaders : Bytes) (ranges : Rang
         )
 
     vote-rows : (s : ℕ) → s < n → firstRefusal (readRows E (dummyVote s 1) ++ clashRows E (dummyVote s 1)) ≡ none
-    unfolding readRows clashRows secondProposal firstRefusal frameWellFormed allOf dummyVote frameOf kind signer frameHeight signerMask
-        frameDigest frameBlock isStatement isCertificate carriesBlock carriesDigest implies le16 zeros word16
-        part isZero
-        all inRange last
+    unfolding readRows clashRows secondProposal firstRefusal frameWellFormed allOf dummyVote frameOf kind signer
+        frameHeight signerMask frameDigest frameBlock isStatement isCertificate carriesBlock carriesDigest implies le16
+        zeros word16 part isZero all inRange last
     vote-rows s h = rw (le-leb 1 (suc (length (map newHeight leaders))) (omega arith), lt-ltb s n h)
 
     keep-vote : (s : ℕ) → inMask dummy s ≡ false → keep digest E (dummyVote s 1) ≡ some
@@ -177,9 +176,9 @@ module _ (n own flags dummy final leader : ℕ) (leaders : Bytes) (ranges : Rang
     certificate-rows : (mask : ℕ) → belowBit n (word16 (le16 mask) 0) ≡ true →
         quorum (view E) (word16 (le16 mask) 0) ≡ true →
         firstRefusal (readRows E (finalizeCertificate 1 mask) ++ clashRows E (finalizeCertificate 1 mask)) ≡ none
-    unfolding readRows clashRows secondProposal firstRefusal frameWellFormed allOf finalizeCertificate frameOf kind signer frameHeight
-        signerMask frameDigest frameBlock isStatement isCertificate carriesBlock carriesDigest implies le16 zeros word16
-        part isZero all inRange last
+    unfolding readRows clashRows secondProposal firstRefusal frameWellFormed allOf finalizeCertificate frameOf kind
+        signer frameHeight signerMask frameDigest frameBlock isStatement isCertificate carriesBlock carriesDigest
+        implies le16 zeros word16 part isZero all inRange last
     certificate-rows mask below enough = rw (
       le-leb 1 (suc (length (map newHeight leaders))) (omega arith),
       below,
