@@ -44,6 +44,7 @@ impl Start {
         let certified = open.clone().deliver(std::slice::from_ref(&certificate))?;
         let other = Frame::BlockVote { signer: 0, height, digest: [7; 32] };
         let finalize = Frame::FinalizeCertificate { mask, height };
+        let second = open.second_proposal();
         let dummy = Frame::DummyVote { signer: 0, height };
         Ok(vec![
             deliver("Deliver, proposal", &open, &open.proposal(), "fresh"),
@@ -54,6 +55,7 @@ impl Start {
             deliver("Deliver, page certificate again", &certified, &certificate, "known"),
             deliver("Deliver, finalise certificate", &open, &finalize, "fresh"),
             deliver("Deliver, a second digest: refused, 8", &voted, &other, "deny 8"),
+            deliver("Deliver, a second page: the timer fires", &held, &second, "fresh"),
             malformed(&self.closed()?),
         ])
     }

@@ -96,6 +96,13 @@ impl Station {
         Frame::Proposal { signer: leader(self.size, self.next()), block: self.block() }
     }
 
+    /// A second proposal of its leader, of a block with fewer entries.
+    pub fn second_proposal(&self) -> Frame {
+        let mut block = self.block();
+        block.entries.truncate(1);
+        Frame::Proposal { signer: leader(self.size, self.next()), block }
+    }
+
     /// A replica's vote for that block.
     pub fn vote(&self, signer: u8) -> Frame {
         let digest = sha256::digest(&self.block().bytes());
