@@ -17,6 +17,10 @@ use Rattle.agreement.specs.Unpacked.{packetIn}
 abbrev pub MemberOf : List Member → ℕ → (Member → Type 0) → Type 0
 MemberOf list s P = (m : Member) × List·Memᴰ m list × (m .replica ≡ s) × P m
 
+-- a test of a member: its call is a packet
+unfoldable pub isPacket : Member → Bool
+isPacket m = isSome (packetIn (m .call))
+
 module _ (digest : Bytes → Bytes) where
   -- a frame that makes this statement in the name of replica `s` is delivered to a member
   abbrev pub Hears : ℕ → Statement → Member → Type 0
@@ -27,10 +31,7 @@ module _ (digest : Bytes → Bytes) where
   abbrev pub HearsWhere : (Member → Bool) → ℕ → Statement → Member → Type 0
   HearsWhere test s statement m = (test m ≡ true) × Hears s statement m
 
-  -- two tests of a member: its call is a packet; the timer of its book fires by the call
-  unfoldable pub isPacket : Member → Bool
-  isPacket m = isSome (packetIn (m .call))
-
+  -- a test of a member: the timer of its book fires by its call
   unfoldable pub firesTimer : Member → Bool
   firesTimer m = not (flag 1 (decode (m .book))) && flag 1 (decode (does digest m .book))
 

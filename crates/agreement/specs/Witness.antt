@@ -80,4 +80,4 @@ pub record Witness : Type 0 where
   pub dummy-0 : MemberOf list 0 (λ m. List·Memᴰ (dummyCertificate 1 7) (writes sample m))
   pub dummy-1 : MemberOf list 1 (λ m. List·Memᴰ (dummyCertificate 1 7) (writes sample m))
   -- replica 0 gets the votes for height 2 in a packet
-  pub packet-0 : MemberOf list 0 (HearsWhere sample (isPacket sample) 2 (votesBlock 2 (sample nextBlock)))
+  pub packet-0 : MemberOf list 0 (HearsWhere sample isPacket 2 (votesBlock 2 (sample nextBlock)))

@@ -17,8 +17,9 @@ use Rattle.protocol.specs.Frame.{isBlockVote}
 use Rattle.protocol.specs.State.{State, Height, at, decode, withHeight, holdsProposal, isNotarized, voteOf, flag}
 use Rattle.protocol.specs.View.{View, quorum}
 use Rattle.protocol.specs.Sound.{view, sound}
-use Rattle.protocol.specs.Deliver.{votersFor, leaderEquivocates}
+use Rattle.protocol.specs.Deliver.{votersFor}
 use Rattle.call_laws.specs.KeptBytes.{SameOutside, deliveryParts}
+use Rattle.call_laws.specs.Equivocating.{Equivocation}
 
 -- a frame of kind `k` makes a statement in the name of replica `t`: one of its own, or one that a certificate says it
 -- made
@@ -121,5 +122,5 @@ pub record FiresTimer (book : Bytes) (news : Delivery) (after : Bytes) : Type 0 
 
 -- ---- each delivery that is not refused does one of the two
 pub record Keeps (digest : Bytes → Bytes) (book frame : Bytes) (news : Delivery) (after : Bytes) : Type 0 where
-  pub statement : leaderEquivocates (decode book) frame ≡ false → KeepsStatement digest book frame news after
-  pub equivocation : leaderEquivocates (decode book) frame ≡ true → FiresTimer book news after
+  pub statement : (Equivocation (decode book) frame → ⊥) → KeepsStatement digest book frame news after
+  pub equivocation : Equivocation (decode book) frame → FiresTimer book news after

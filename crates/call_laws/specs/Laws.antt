@@ -7,6 +7,7 @@ pub mod OutsideLaws
 pub mod ChangedPartsLaws
 pub mod KeptOtherLaws
 pub mod KeptBytesLaws
+pub mod EquivocatingLaws
 pub mod KeepingLaws
 pub mod SameBytesLaws
 pub mod SameHeightLaws

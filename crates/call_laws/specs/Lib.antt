@@ -1,5 +1,6 @@
 -- What calls keep: sound books stay sound, and what is written is read.
 pub mod WrittenRead
+pub mod Equivocating
 pub mod Keeping
 pub mod KeptBytes
 pub mod PacketKeeping

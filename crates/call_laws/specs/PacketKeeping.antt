@@ -12,7 +12,7 @@ use Rattle.call_laws.specs.Keeping.{Keeps}
 
 module _ (digest : Bytes → Bytes) where
   -- a frame with this answer, and the book after it: the number of its first row that fails, and no byte changes; or
-  -- no row fails, and what the frame states is kept
+  -- no row fails, and what the frame states is kept or the timer fires
   unfoldable pub Delivers : Bytes → Bytes → Answer Delivery → Bytes → Type 0
   Delivers book frame (refused number) after =
       (firstRefusal (deliverRows digest book frame) ≡ some number) × (after ≡ book)

@@ -1,4 +1,5 @@
-// Deliver: reads a frame over the book, and keeps what it states.
+// Deliver: reads a frame over the book, and keeps what it states; a leader's second proposal for the current height
+// fires the timer instead.
 use crate::equivocation::fire_timer;
 use crate::equivocation::leader_equivocates;
 use crate::keep::keep;
@@ -31,7 +32,7 @@ fn hear(book: &mut [u8], h: usize, frame: &[u8]) -> bool
     }
 }
 
-// Hears a frame that is read, if it contradicts nothing.
+// Hears a frame that is read, if neither 8 nor 10 stands against it.
 fn deliver_read(book: &mut [u8], h: usize, frame: &[u8]) -> Delivered
     requires { ⌜ Read (now book) h (now frame) ⌝ }
     requires { ⌜ decode (now book) .flags < 16 ⌝ }
@@ -64,7 +65,8 @@ pub fn deliver_sound(book: &mut [u8], frame: &[u8]) -> Delivered
     }
 }
 
-// Reads a frame and keeps what it states. The book is first tested for soundness; a refused call changes nothing.
+// Reads a frame and keeps what it states, or fires the timer by it. The book is first tested for soundness; a refused
+// call changes nothing.
 pub fn deliver(book: &mut [u8], frame: &[u8]) -> Delivered
     ensures answer { λ r. ⌜ deliveredAnswer r ≡ deliverCall sha256 (now (book .entry)) (now (frame .entry)) .answer ⌝ }
     ensures book { λ _. ⌜ now (book .exit) ≡ deliverCall sha256 (now (book .entry)) (now (frame .entry)) .book ⌝ }

@@ -54,6 +54,7 @@ use Rattle.call_laws.specs.Laws.RefusalsLaws.{open-refuses, deliver-refuses, pa
 use Rattle.call_laws.specs.Laws.RefusalsLaws.{signal-refuses, submit-refuses, size-refuses, fetch-refuses}
 use Rattle.call_laws.specs.BookBytes.{openedBook, Signals, Submits, headOf}
 use Rattle.call_laws.specs.Laws.BookBytesLaws.{open-bytes, signal-bytes, submit-bytes, move-bytes}
+use Rattle.call_laws.specs.Equivocating.{Equivocation}
 use Rattle.call_laws.specs.Keeping.{Keeps, AllTallied}
 use Rattle.call_laws.specs.Laws.KeepingLaws.{deliver-keeps}
 use Rattle.call_laws.specs.Laws.KeepsExactLaws.{keeps-exact}
@@ -68,7 +69,7 @@ use Rattle.paper.specs.Steps.{FiveSteps}
 use Rattle.paper.specs.Laws.StepsLaws.{five-steps}
 use Rattle.paper.specs.Timer.{Timer, TwoBlocks, VotesDummyNext}
 use Rattle.paper.specs.Laws.TimerLaws.{timer}
-use Rattle.paper.specs.Laws.EquivocationLaws.{two-blocks, two-blocks-packet}
+use Rattle.paper.specs.Laws.EquivocationLaws.{second-block, two-blocks, two-blocks-packet}
 use Rattle.paper.specs.Idle.{IdlesJustThen, MovesEnd}
 use Rattle.paper.specs.Laws.IdleLaws.{idles-just-then, moves-end}
 use Rattle.paper.specs.Register.{ReadsChain, CannotRead}
@@ -165,16 +166,21 @@ the-five-steps book ok = five-steps sha256 sha256-length (decode book) (sound-de
 pub the-timer : (book : Bytes) (call : Call) → sound sha256 book ≡ true → Timer sha256 book call
 the-timer book call ok = timer sha256 book ok call
 
--- when two of the frames that are delivered are the leader's proposals of different blocks for the current height, the
--- next move is the vote for the dummy block, if it has not gone out: no signal is needed ..
+-- when the leader's second, different proposal for the current height is delivered, the next move is the vote for the
+-- dummy block, if it has not gone out: no signal is needed ..
+pub second-block-ends-the-wait : (book frame : Bytes) → sound sha256 book ≡ true → Equivocation (decode book) frame →
+    flag 2 (decode book) ≡ false → VotesDummyNext sha256 book (deliverCall sha256 book frame .book)
+second-block-ends-the-wait = second-block sha256
+
+-- .. so too when both come among frames that are delivered one after the other, whatever was held before ..
 pub two-blocks-end-the-wait : (book : Bytes) (frames : List Bytes) → sound sha256 book ≡ true →
-    TwoBlocks sha256 book frames → flag 2 (decode book) ≡ false →
+    TwoBlocks book frames → flag 2 (decode book) ≡ false →
     VotesDummyNext sha256 book (deliverAll sha256 book frames)
 two-blocks-end-the-wait book frames = two-blocks sha256 book frames
 
--- .. and so too when they come in one packet
+-- .. and when they come in one packet
 pub two-blocks-in-a-packet : (book packet : Bytes) (counts : Counts) → sound sha256 book ≡ true →
-    packetCall sha256 book packet .answer ≡ accepted counts → TwoBlocks sha256 book (packetFrames packet) →
+    packetCall sha256 book packet .answer ≡ accepted counts → TwoBlocks book (packetFrames packet) →
     flag 2 (decode book) ≡ false → VotesDummyNext sha256 book (packetCall sha256 book packet .book)
 two-blocks-in-a-packet = two-blocks-packet sha256
 

@@ -58,7 +58,8 @@ module _ (digest : Bytes → Bytes) (s : State) where
       Makes (propose (s .current)) (proposal (s .own) (s .current) block ∷ [])
       (withHead s (s .flags + 8) (s .current) (s .finalized)))
 
-  -- ---- step 2: the vote for the dummy block goes out once, after the timer fired and not before
+  -- ---- step 2: the vote for the dummy block goes out once, after the timer fired (flag 1; `Timer` has what fires it) and
+  -- not before
   abbrev pub MayVoteDummy : Type 0
   MayVoteDummy = Running × (flag 1 s ≡ true) × (flag 2 s ≡ false)
 

@@ -1,5 +1,5 @@
--- The timer of step 2 (004, section 2.1): flag 1 says that it has fired. Which calls fire it, which start it anew, and
--- when a leader equivocates, by which footnote 10 there lets it fire.
+-- The timer of step 2 (004, section 2.1): flag 1 says that it has fired. Which calls fire it, also by a leader who
+-- equivocates (footnote 10 there), which start it anew, and what follows.
 use Prim.Native.Nat.{ℕ, _+_, _≤_}
 use mathlib.Core.Path.{_≡_}
 use mathlib.Core.Logic.{_↔_, _⊎_, _≢_}
@@ -9,30 +9,27 @@ use mathlib.Core.Option.{none}
 use lib.ListN.{length}
 use Rattle.protocol.specs.Bytes.{Bytes}
 use Rattle.protocol.specs.Tests.{firstRefusal}
-use Rattle.protocol.specs.Frame.{kind, signer, frameHeight, frameBlock, dummyVote}
-use Rattle.protocol.specs.State.{State, at, last, flag, decode, holdsProposal, withHead}
+use Rattle.protocol.specs.Frame.{frameBlock, dummyVote}
+use Rattle.protocol.specs.State.{State, last, flag, decode, withHead}
 use Rattle.protocol.specs.Answer.{Certificate, accepted, done, voteDummy, pass}
 use Rattle.protocol.specs.Open.{openCall}
 use Rattle.protocol.specs.Deliver.{deliverCall}
 use Rattle.protocol.specs.Packet.{packetFrames, packetRows}
 use Rattle.protocol.specs.Move.{step}
 use Rattle.protocol.specs.Call.{Call, opening, delivery, packetDelivery, moving, signalling, bookAfter}
-use Rattle.call_laws.specs.Readable.{IsRead}
+use Rattle.call_laws.specs.Equivocating.{ProposedNow, Equivocation}
 use Rattle.paper.specs.Steps.{Makes}
 
--- ---- the leader of the current height
--- a frame is read as its leader's proposal for the current height
-pub record ProposedNow (s : State) (frame : Bytes) : Type 0 where
-  pub read : IsRead s frame
-  pub proposes : kind frame ≡ 1
-  pub here : frameHeight frame ≡ s .current
-  pub by-leader : signer frame ≡ at s (s .current) .leader
-
--- the leader equivocates: it proposes, and the current height holds another proposal of it
-pub record Equivocation (s : State) (frame : Bytes) : Type 0 where
-  pub proposed : ProposedNow s frame
-  pub held : holdsProposal (at s (s .current)) ≡ true
-  pub unlike : at s (s .current) .proposal ≢ frameBlock frame
+-- of frames that are delivered to a book in order, with no call between, two are the leader's proposals for the current
+-- height, of different blocks
+pub record TwoBlocks (book : Bytes) (frames : List Bytes) : Type 0 where
+  pub one : Bytes
+  pub other : Bytes
+  pub one-among : List·Memᴰ one frames
+  pub other-among : List·Memᴰ other frames
+  pub one-proposed : ProposedNow (decode book) one
+  pub other-proposed : ProposedNow (decode book) other
+  pub unlike : frameBlock one ≢ frameBlock other
 
 module _ (digest : Bytes → Bytes) where
   -- of frames that are delivered in order, one is such a proposal at its turn
@@ -63,17 +60,7 @@ module _ (digest : Bytes → Bytes) where
     pub comes-down : flag 1 (decode book) ≡ true →
         (flag 1 (decode (bookAfter digest book call)) ≡ false) ↔ Restarts book call
 
-  -- ---- two blocks of one leader
-  -- of these frames, delivered in order, two are the leader's proposals for the current height, of different blocks
-  pub record TwoBlocks (book : Bytes) (frames : List Bytes) : Type 0 where
-    pub one : Bytes
-    pub other : Bytes
-    pub one-among : List·Memᴰ one frames
-    pub other-among : List·Memᴰ other frames
-    pub one-proposed : ProposedNow (decode book) one
-    pub other-proposed : ProposedNow (decode book) other
-    pub unlike : frameBlock one ≢ frameBlock other
-
+  -- ---- what follows
   -- on the book `after`, which came of `book`, the next move is the vote for the dummy block of the same height
   abbrev pub VotesDummyNext : Bytes → Bytes → Type 0
   VotesDummyNext book after =

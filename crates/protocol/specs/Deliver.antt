@@ -127,8 +127,7 @@ timerFires book =
     cond (flag 1 (decode book)) (record { answer = accepted known; book = book })
     (record { answer = accepted fresh; book = encode (withTimerFired (decode book)) })
 
--- a frame that is read contradicts nothing kept if it passes these rows; a second proposal at the current height does
--- contradict the held one, and passes
+-- a frame that is read passes these rows if it contradicts nothing kept, or is a second proposal for the current height
 unfoldable pub clashRows : State → Bytes → List Row
 clashRows s frame =
     let x : Height = at s (frameHeight frame) in

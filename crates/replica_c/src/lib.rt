@@ -36,7 +36,8 @@ pub extern "C" fn mavunilai_open(
     packing::done_number(replica::open::open(book, n, own, heights, leaders))
 }
 
-// Deliver: keeps what a frame says, whose signatures the caller has checked.
+// Deliver: keeps what a frame says, whose signatures the caller has checked; a leader's second proposal for the current
+// height fires the timer instead.
 // Returns 256 where the frame was fresh, so that the book changed, and 0 where it was known. Refusals: 1, 4, 6, 5, 7,
 // 9, 8, 10 (`deliverCall`).
 #[no_mangle]

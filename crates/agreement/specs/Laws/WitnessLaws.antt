@@ -40,7 +40,7 @@ tests l = allOf
     someIn (writesAt sample (dummyCertificate 1 7) 0) l ∷
     someIn (writesAt sample (dummyCertificate 1 7) 1) l ∷
     someIn (hearsWhereAt sample (firesTimer sample) (proposal 3 1 otherBlock) 0) l ∷
-    someIn (hearsWhereAt sample (isPacket sample) (blockVote 2 2 (sample nextBlock)) 0) l ∷ [])
+    someIn (hearsWhereAt sample isPacket (blockVote 2 2 (sample nextBlock)) 0) l ∷ [])
 
 -- what they say of a list, by name
 record Passes (l : List Member) : Type 0 where
@@ -55,7 +55,7 @@ record Passes (l : List Member) : Type 0 where
   writes-0 : someIn (writesAt sample (dummyCertificate 1 7) 0) l ≡ true
   writes-1 : someIn (writesAt sample (dummyCertificate 1 7) 1) l ≡ true
   fires-0 : someIn (hearsWhereAt sample (firesTimer sample) (proposal 3 1 otherBlock) 0) l ≡ true
-  packet-0 : someIn (hearsWhereAt sample (isPacket sample) (blockVote 2 2 (sample nextBlock)) 0) l ≡ true
+  packet-0 : someIn (hearsWhereAt sample isPacket (blockVote 2 2 (sample nextBlock)) 0) l ≡ true
 
 passes-rows : (l : List Member) → tests l ≡ true → Passes l
 unfolding tests
@@ -121,7 +121,7 @@ witness = record {
   dummy-1 = writes-found sample list _ 1 (passes .writes-1);
   fires-0 =
       where-found sample (firesTimer sample) list _ 0 3 _ (proposal-says otherBlock) (passes .fires-0);
-  packet-0 = where-found sample (isPacket sample) list _ 0 2 _ vote-says (passes .packet-0);
+  packet-0 = where-found sample isPacket list _ 0 2 _ vote-says (passes .packet-0);
 }
 
 -- agreement, applied to the list

@@ -25,6 +25,7 @@ use Rattle.call_laws.specs.Laws.KeptBytesLaws.{keep-only, keep-other}
 use Rattle.call_laws.specs.Laws.RefusalsLaws.{refused≢accepted}
 use Rattle.call_laws.specs.Laws.BookBytesLaws.{timer-bytes}
 use Rattle.call_laws.specs.Laws.KeepsStateLaws.{at-placed, placed-same, state, known-keeps, fresh-keeps}
+use Rattle.call_laws.specs.Laws.EquivocatingLaws.{equivocation, passes-test, fails-test}
 use Rattle.call_laws.specs.Keeping.{Keeps, KeepsStatement, FiresTimer}
 
 -- two byte strings of the same length that are not the same differ at a byte
@@ -122,7 +123,8 @@ module _ (digest : Bytes → Bytes) (book frame : Bytes) (accepts : Accepts dige
     fires-now = λ _. (refl, λ small. timer-bytes digest book small (accepts .was-sound));
   }
 
--- a delivery that is not refused keeps what its frame states, and changes nothing else
+-- a delivery that is not refused keeps what its frame states, and changes nothing else; where the leader of the current
+-- height equivocates, the timer fires instead
 pub deliver-keeps : (digest : Bytes → Bytes) (book frame : Bytes) (news : Delivery) →
     deliverCall digest book frame .answer ≡ accepted news →
     Keeps digest book frame news (deliverCall digest book frame .book)
@@ -131,15 +133,15 @@ deliver-keeps digest book frame news =
     Keeps digest book frame news (o .book))
     (λ number _ e. absurd (refused≢accepted number news e))
     (λ accepts fired e said. named (same-news said) (record {
-      statement = λ single. all-known digest book frame accepts single e;
-      equivocation = λ is. fires-known digest book frame accepts (fired is);
+      statement = λ never. all-known digest book frame accepts (fails-test digest book frame accepts never) e;
+      equivocation = λ is. fires-known digest book frame accepts (fired (passes-test digest book frame is));
     }))
     (λ y accepts single e said. named (same-news said) (record {
       statement = λ _. all-fresh digest book frame accepts y single e;
-      equivocation = λ is. absurd (true≢false (sym is ∙ single));
+      equivocation = λ is. absurd (true≢false (sym (passes-test digest book frame is) ∙ single));
     }))
     (λ accepts is clear said. named (same-news said) (record {
-      statement = λ single. absurd (true≢false (sym is ∙ single));
+      statement = λ never. absurd (never (equivocation digest book frame accepts is));
       equivocation = λ _. fires-fresh digest book frame accepts clear;
     }))
   where

@@ -26,6 +26,8 @@ use Rattle.protocol.specs.Deliver.{deliverCall, leaderEquivocates}
 use Rattle.protocol.specs.Laws.DeliverLaws.{Accepts, signer-few, deliver-cases}
 use Rattle.call_laws.specs.Laws.RefusalsLaws.{refused≢accepted}
 use Rattle.call_laws.specs.Laws.KeepsStateLaws.{state}
+use Rattle.call_laws.specs.Equivocating.{Equivocation}
+use Rattle.call_laws.specs.Laws.EquivocatingLaws.{equivocation, passes-test}
 use Rattle.call_laws.specs.Laws.KeepingLaws.{deliver-keeps}
 use Rattle.call_laws.specs.KeptBytes.{Part, contentAt, bodyAt, proposalParts, voteParts, dummyParts}
 use Rattle.call_laws.specs.KeptBytes.{finalizeParts, notarizedParts, keptParts, newlyNotarized, deliveryParts}
@@ -248,11 +250,16 @@ keeps-exact digest book frame news accepts small bytes news′ after bytes′ is
     right : Keeps digest book frame news left
     right = deliver-keeps digest book frame news accepts
 
+    never : leaderEquivocates (decode book) frame ≡ false → Equivocation (decode book) frame → ⊥
+    never single is = true≢false (sym (passes-test digest book frame is) ∙ single)
+
     go : (b : Bool) → leaderEquivocates (decode book) frame ≡ b → (news′ ≡ news) × (after ≡ left)
-    go true e = same-firing book news news′ left after small (right .equivocation e) (is .equivocation e)
+    go true e =
+        let equivocates = equivocation digest book frame tested e in
+        same-firing book news news′ left after small (right .equivocation equivocates) (is .equivocation equivocates)
     go false e = (
-      same-news digest book frame tested news′ news after left (is .statement e) (right .statement e) small bytes′
-          bytes,
-      same-after digest book frame tested news′ news after left (is .statement e) (right .statement e) small bytes′
-          bytes,
+      same-news digest book frame tested news′ news after left (is .statement (never e)) (right .statement (never e)) small
+          bytes′ bytes,
+      same-after digest book frame tested news′ news after left (is .statement (never e)) (right .statement (never e)) small
+          bytes′ bytes,
     )

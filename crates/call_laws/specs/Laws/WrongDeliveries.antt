@@ -21,6 +21,7 @@ use Rattle.protocol.specs.Answer.{Delivery, known, fresh, accepted}
 use Rattle.protocol.specs.Computing.{everything}
 use Rattle.call_laws.specs.KeptBytes.{inParts, proposalParts, dummyParts, keptParts, newlyNotarized}
 use Rattle.call_laws.specs.KeptBytes.{deliveryParts}
+use Rattle.call_laws.specs.Equivocating.{Equivocation}
 use Rattle.call_laws.specs.Keeping.{Keeps, NewlyKept}
 use Rattle.call_laws.specs.Laws.KeepingLaws.{known≢fresh}
 
@@ -55,50 +56,63 @@ are-bytes bytes e i = go (le-or-lt (length bytes) i)
 small : AreBytes book
 small = are-bytes book (unfold everything book in refl)
 
+-- ---- by these frames no leader equivocates
+certificate-single : Equivocation (decode book) (blockCertificate 1 7 block) → ⊥
+unfolding everything book block
+certificate-single e = let its-kind : _≡_ {A = ℕ} 5 1 = e .proposed .proposes in omega arith
+
+vote-single : Equivocation (decode book) vote → ⊥
+unfolding everything book vote
+vote-single e = let its-kind : _≡_ {A = ℕ} 3 1 = e .proposed .proposes in omega arith
+
+proposal-single : Equivocation (decode book) (proposal 0 1 block) → ⊥
+unfolding everything book block
+proposal-single e = false≢true (e .held)
+
 -- ---- a fresh block certificate with other signers than the frame names
 another-mask : Wrong (blockCertificate 1 7 block) fresh
     (encode (withHeight (decode book) 1 (withNotarized (at (decode book) 1) 15 block)))
 unfolding everything standIn book block Wrong
 another-mask k =
-    let same : _≡_ {A = ℕ} 15 7 = k .statement refl .keeps .here .block .this-certificate refl refl in
+    let same : _≡_ {A = ℕ} 15 7 = k .statement certificate-single .keeps .here .block .this-certificate refl refl in
     omega arith
 
 -- ---- a dummy vote that changes a byte besides: of the held proposal where none is held, of the notarized block where
 -- none is notarized, of the digest of a replica that did not vote, of a pending place past the count
 held-area : Wrong vote fresh (set (delivered vote) 595 9)
 unfolding everything standIn book vote delivered Wrong inParts dummyParts keptParts newlyNotarized deliveryParts
-held-area k = let same : _≡_ {A = ℕ} 9 0 = k .statement refl .other-bytes small .same-byte 595 refl in omega arith
+held-area k = let same : _≡_ {A = ℕ} 9 0 = k .statement vote-single .other-bytes small .same-byte 595 refl in omega arith
 
 notarized-area : Wrong vote fresh (set (delivered vote) 800 9)
 unfolding everything standIn book vote delivered Wrong inParts dummyParts keptParts newlyNotarized deliveryParts
-notarized-area k = let same : _≡_ {A = ℕ} 9 0 = k .statement refl .other-bytes small .same-byte 800 refl in omega arith
+notarized-area k = let same : _≡_ {A = ℕ} 9 0 = k .statement vote-single .other-bytes small .same-byte 800 refl in omega arith
 
 absent-vote : Wrong vote fresh (set (delivered vote) 1010 9)
 unfolding everything standIn book vote delivered Wrong inParts dummyParts keptParts newlyNotarized deliveryParts
-absent-vote k = let same : _≡_ {A = ℕ} 9 0 = k .statement refl .other-bytes small .same-byte 1010 refl in omega arith
+absent-vote k = let same : _≡_ {A = ℕ} 9 0 = k .statement vote-single .other-bytes small .same-byte 1010 refl in omega arith
 
 free-place : Wrong vote fresh (set (delivered vote) 150 9)
 unfolding everything standIn book vote delivered Wrong inParts dummyParts keptParts newlyNotarized deliveryParts
-free-place k = let same : _≡_ {A = ℕ} 9 0 = k .statement refl .other-bytes small .same-byte 150 refl in omega arith
+free-place k = let same : _≡_ {A = ℕ} 9 0 = k .statement vote-single .other-bytes small .same-byte 150 refl in omega arith
 
 -- ---- a proposal that notarizes nothing and writes a certificate mask
 mask-without-block : Wrong (proposal 0 1 block) fresh (set (delivered (proposal 0 1 block)) 578 1)
 unfolding everything standIn book block delivered Wrong inParts proposalParts keptParts newlyNotarized deliveryParts
 mask-without-block k =
-    let same : _≡_ {A = ℕ} 1 0 = k .statement refl .other-bytes small .same-byte 578 refl in
+    let same : _≡_ {A = ℕ} 1 0 = k .statement proposal-single .other-bytes small .same-byte 578 refl in
     omega arith
 
 -- ---- an answer that is always known, and one that is fresh where nothing changed
 always-known : Wrong vote known (delivered vote)
 unfolding everything standIn book vote delivered Wrong
 always-known k =
-    let same : _≡_ {A = ℕ} 4 0 = ap (λ (b : Bytes). byteAt b 580) (k .statement refl .known-same refl) in
+    let same : _≡_ {A = ℕ} 4 0 = ap (λ (b : Bytes). byteAt b 580) (k .statement vote-single .known-same refl) in
     omega arith
 
 always-fresh : Wrong vote fresh book
 unfolding Wrong
 always-fresh k =
-    let (i, inside, differs) = k .statement (unfold everything standIn book vote in refl) .fresh-differs refl in
+    let (i, inside, differs) = k .statement vote-single .fresh-differs refl in
     differs refl
 
 -- ---- a proposal that is known already, at a height whose votes were never counted, as no run leaves it: nothing is
@@ -117,7 +131,7 @@ uncounted = put (set (set (openCall (zeros 1456) 1 0 1 (0 ∷ []) .book) 577 1) 
 late-count : Keeps standIn uncounted (proposal 0 1 block) fresh
     (encode (withHeight (decode uncounted) 1 (withNotarized (at (decode uncounted) 1) 1 block))) → ⊥
 unfolding everything standIn block uncounted put NewlyKept
-late-count k = only-new (k .statement refl .keeps .here .block .only-so refl)
+late-count k = only-new (k .statement (λ e. e .unlike refl) .keeps .here .block .only-so refl)
 
 -- its book is sound, and document 01's replica answers known
 uncounted-known : deliverCall standIn uncounted (proposal 0 1 block) .answer ≡ accepted known
@@ -138,6 +152,23 @@ WrongSecond before news after = Keeps standIn before (proposal 0 1 other) news a
 fired : Bytes
 fired = set holding 3 1
 
+-- so it is on either book
+second-equivocates : Equivocation (decode holding) (proposal 0 1 other)
+unfolding everything standIn book block other delivered holding
+second-equivocates = record {
+  proposed = record { read = refl; proposes = refl; here = refl; by-leader = refl };
+  held = refl;
+  unlike = λ e. let same : _≡_ {A = ℕ} 0 1 = ap (λ (b : Bytes). byteAt b 4) e in omega arith;
+}
+
+third-equivocates : Equivocation (decode fired) (proposal 0 1 other)
+unfolding everything standIn book block other delivered holding fired
+third-equivocates = record {
+  proposed = record { read = refl; proposes = refl; here = refl; by-leader = refl };
+  held = refl;
+  unlike = λ e. let same : _≡_ {A = ℕ} 0 1 = ap (λ (b : Bytes). byteAt b 4) e in omega arith;
+}
+
 -- the replica of request 2.2 leaves that book, twice
 second-fires : deliverCall standIn holding (proposal 0 1 other) ≡ record { answer = accepted fresh; book = fired }
 unfolding everything standIn book block other delivered holding fired
@@ -155,23 +186,23 @@ held-replaced : WrongSecond holding fresh (put fired 592 other)
 unfolding everything standIn book block other delivered holding fired put WrongSecond
 held-replaced k =
     let same : _≡_ {A = ℕ} 1 0 =
-    ap (λ (b : Bytes). byteAt b 596) (k .equivocation refl .fires-now refl .1 held-small) in
+    ap (λ (b : Bytes). byteAt b 596) (k .equivocation second-equivocates .fires-now refl .1 held-small) in
     omega arith
 
--- another flag is set, besides it or instead
+-- another flag is set besides it
 another-flag : WrongSecond holding fresh (set holding 3 3)
 unfolding everything standIn book block other delivered holding WrongSecond
 another-flag k =
     let same : _≡_ {A = ℕ} 3 1 =
-    ap (λ (b : Bytes). byteAt b 3) (k .equivocation refl .fires-now refl .1 held-small) in
+    ap (λ (b : Bytes). byteAt b 3) (k .equivocation second-equivocates .fires-now refl .1 held-small) in
     omega arith
 
 -- the timer does not fire
 second-overheard : WrongSecond holding known holding
 unfolding everything standIn book block other delivered holding WrongSecond
-second-overheard k = known≢fresh (k .equivocation refl .fires-now refl .0)
+second-overheard k = known≢fresh (k .equivocation second-equivocates .fires-now refl .0)
 
 -- it fires again
 fired-again : WrongSecond fired fresh fired
 unfolding everything standIn book block other delivered holding fired WrongSecond
-fired-again k = known≢fresh (sym (k .equivocation refl .fired-before refl .0))
+fired-again k = known≢fresh (sym (k .equivocation third-equivocates .fired-before refl .0))

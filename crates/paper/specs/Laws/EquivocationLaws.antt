@@ -28,7 +28,9 @@ use Rattle.call_laws.specs.Laws.KeepsStateLaws.{known-keeps, fresh-keeps}
 use Rattle.call_laws.specs.Laws.MoveSoundLaws.{timer-sound}
 use Rattle.call_laws.specs.Laws.SoundStaysLaws.{deliver-stays}
 use Rattle.paper.specs.Steps.{Makes, MayVoteDummy, DummyBlocks}
-use Rattle.paper.specs.Timer.{ProposedNow, TwoBlocks, VotesDummyNext}
+use Rattle.call_laws.specs.Equivocating.{ProposedNow, Equivocation}
+use Rattle.paper.specs.Timer.{TwoBlocks, VotesDummyNext}
+use Rattle.paper.specs.Laws.TimerLaws.{set-or-clear, delivery-keeps-flag, equivocation-fires}
 use Rattle.paper.specs.Laws.DummyBlocksLaws.{dummy-blocks}
 
 -- ---- what a delivery leaves: of the head, and at the current height
@@ -193,6 +195,30 @@ module _ (digest : Bytes → Bytes) (book frame : Bytes) (was : sound digest boo
       (fired-heard e (withTimerFired s) (fired-stays s clear)
       (unfold withTimerFired in flag-set s (s .current) (s .finalized) 0 clear)))
 
+-- ---- the move that follows
+-- a height for which a proposal is read is one of the book's
+proposed-running : (s : State) (frame : Bytes) → ProposedNow s frame → s .current ≤ last s
+proposed-running s frame is = subst (λ (h : ℕ). h ≤ last s) (is .here) (rows-read s frame (is .read) .high)
+
+-- the timer has fired and the vote for the dummy block has not gone out: it is the next move
+fired-votes : (digest : Bytes → Bytes) (book after : Bytes) → Stays (decode book) (decode after) →
+    flag 1 (decode after) ≡ true → flag 2 (decode book) ≡ false → decode book .current ≤ last (decode book) →
+    VotesDummyNext digest book after
+unfolding DummyBlocks
+fired-votes digest book after stays fired free running =
+    let same = stays .same-current in
+    let same-last = stays .same-last in
+    let may : MayVoteDummy digest t = (omega arith, fired, stays .same-voted ∙ free) in
+    let (when, then) = dummy-blocks digest t in
+    subst (λ (own : ℕ). Votes own (decode book .current)) (stays .same-own)
+    (subst (Votes (t .own)) same (then (when .1 may)))
+  where
+    t : State
+    t = decode after
+
+    Votes : ℕ → ℕ → Type 0
+    Votes own c = Makes digest t (voteDummy c) (dummyVote own c ∷ []) (withHead t (t .flags + 2) c (t .finalized))
+
 -- ---- frames that are delivered in order
 module _ (digest : Bytes → Bytes) where
   all-stay : (book : Bytes) (frames : List Bytes) → sound digest book ≡ true →
@@ -218,7 +244,7 @@ module _ (digest : Bytes → Bytes) where
       (proposed-stays (delivery-stays digest book first was) frame is)
 
   module _ (book : Bytes) (frames : List Bytes) (was : sound digest book ≡ true)
-      (two : TwoBlocks digest book frames) where
+      (two : TwoBlocks book frames) where
     abbrev t : State
     t = decode (deliverAll digest book frames)
 
@@ -235,30 +261,24 @@ module _ (digest : Bytes → Bytes) where
         go (inr e) (inr e′) = absurd (two .unlike (sym e ∙ e′))
 
     pub two-blocks : flag 2 (decode book) ≡ false → VotesDummyNext digest book (deliverAll digest book frames)
-    unfolding DummyBlocks
     two-blocks free =
-        let stays = all-stay book frames was in
-        let may : MayVoteDummy digest t = (still-running stays, two-fire, stays .same-voted ∙ free) in
-        let (when, then) = dummy-blocks digest t in
-        subst (λ (own : ℕ). Votes own (decode book .current)) (stays .same-own)
-        (subst (Votes (t .own)) (stays .same-current) (then (when .1 may)))
-      where
-        Votes : ℕ → ℕ → Type 0
-        Votes own c = Makes digest t (voteDummy c) (dummyVote own c ∷ []) (withHead t (t .flags + 2) c (t .finalized))
-
-        still-running : Stays (decode book) t → t .current ≤ last t
-        still-running stays =
-            let high = rows-read (decode book) (two .one) (two .one-proposed .read) .high in
-            let here = two .one-proposed .here in
-            let same = stays .same-current in
-            let same-last = stays .same-last in
-            omega arith
+        fired-votes digest book (deliverAll digest book frames) (all-stay book frames was) two-fire free
+        (proposed-running (decode book) (two .one) (two .one-proposed))
 
   -- the same where the frames come in one packet
   pub two-blocks-packet : (book packet : Bytes) (counts : Counts) → sound digest book ≡ true →
-      packetCall digest book packet .answer ≡ accepted counts → TwoBlocks digest book (packetFrames packet) →
+      packetCall digest book packet .answer ≡ accepted counts → TwoBlocks book (packetFrames packet) →
       flag 2 (decode book) ≡ false → VotesDummyNext digest book (packetCall digest book packet .book)
   two-blocks-packet book packet counts was e two free =
       subst (VotesDummyNext digest book)
       (deliver-calls digest book (packetFrames packet) ∙ sym (packet-delivered digest book packet counts e))
       (two-blocks book (packetFrames packet) was two free)
+
+  -- one block is held, and the other one comes
+  pub second-block : (book frame : Bytes) → sound digest book ≡ true → Equivocation (decode book) frame →
+      flag 2 (decode book) ≡ false → VotesDummyNext digest book (deliverCall digest book frame .book)
+  second-block book frame was e free =
+      fired-votes digest book (deliverCall digest book frame .book) (delivery-stays digest book frame was)
+      (set-or-clear (flag 1 (decode book)) (delivery-keeps-flag digest book frame)
+      (λ clear. equivocation-fires digest book frame was clear e)) free
+      (proposed-running (decode book) frame (e .proposed))

@@ -17,7 +17,7 @@ use Rattle.protocol.specs.Frame.{frameHeight}
 use Rattle.protocol.specs.Sound.{sound}
 use Rattle.protocol.specs.Open.{newState, openRows, openCall}
 use Rattle.protocol.specs.Deliver.{deliverCall, deliverAll, leaderEquivocates, timerFires}
-use Rattle.protocol.specs.Laws.DeliverLaws.{Accepts, Equivocates, equivocates, deliver-cases, proposal-fires}
+use Rattle.protocol.specs.Laws.DeliverLaws.{deliver-cases, proposal-fires}
 use Rattle.protocol.specs.Laws.RowLaws.{range-in}
 use Rattle.protocol.specs.Laws.SoundLaws.{sound-decode}
 use Rattle.protocol.specs.Laws.TestedLaws.{signal-tested, move-tested}
@@ -33,7 +33,9 @@ use Rattle.protocol.specs.Call.{reading, fetching, effect, bookAfter}
 use Rattle.call_laws.specs.Laws.SoundStaysLaws.{unless-refused, deliver-stays}
 use Rattle.call_laws.specs.BookBytes.{openedBook}
 use Rattle.call_laws.specs.Laws.BookBytesLaws.{open-bytes}
-use Rattle.paper.specs.Timer.{Equivocation, EquivocationAmong, Fires, bySignal, byEquivocation}
+use Rattle.call_laws.specs.Equivocating.{Equivocation}
+use Rattle.call_laws.specs.Laws.EquivocatingLaws.{equivocation, as-tested}
+use Rattle.paper.specs.Timer.{EquivocationAmong, Fires, bySignal, byEquivocation}
 use Rattle.paper.specs.Timer.{byPacket, Restarts, byPass, byOpening, Timer}
 
 -- flags go into a book and come back
@@ -45,34 +47,8 @@ flag-fired : (s : State) → flag 1 s ≡ false → flag 1 (withTimerFired s) �
 unfolding withTimerFired
 flag-fired s clear = flag-set s (s .current) (s .finalized) 0 clear
 
--- ---- the leader equivocates, as the rules test it and as `Equivocation` says
+-- ---- a delivery
 module _ (digest : Bytes → Bytes) (book frame : Bytes) where
-  equivocation : Accepts digest book frame → leaderEquivocates (decode book) frame ≡ true →
-      Equivocation (decode book) frame
-  equivocation accepts is =
-      let e = equivocates (decode book) frame is in
-      let there : at (decode book) (frameHeight frame) ≡ at (decode book) (decode book .current) =
-      ap (at (decode book)) (e .here) in
-      record {
-        proposed = record {
-          read = accepts .passes;
-          proposes = e .proposes;
-          here = e .here;
-          by-leader = accepts .read .led (e .proposes) ∙ ap (λ (x : Height). x .leader) there;
-        };
-        held = rw there at (e .held);
-        unlike = rw there at (e .unlike);
-      }
-
-  tested : Equivocation (decode book) frame → Equivocates (decode book) frame
-  tested e = record {
-    proposes = e .proposed .proposes;
-    held = rw (e .proposed .here) (e .held);
-    unlike = rw (e .proposed .here) (e .unlike);
-    here = e .proposed .here;
-  }
-
-  -- ---- a delivery
   delivery-fires : flag 1 (decode book) ≡ false → flag 1 (decode (deliverCall digest book frame .book)) ≡ true →
       Equivocation (decode book) frame
   delivery-fires clear =
@@ -81,12 +57,12 @@ module _ (digest : Bytes → Bytes) (book frame : Bytes) where
       (λ _ _ set. absurd (true≢false (sym set ∙ clear)))
       (λ _ _ _ set. absurd (true≢false (sym set ∙ clear)))
       (λ y _ _ _ set. absurd (true≢false (sym set ∙ flag-back 1 _ ∙ (unfold withHeight flag in clear))))
-      (λ accepts is _ _. equivocation accepts is)
+      (λ accepts is _ _. equivocation digest book frame accepts is)
 
-  equivocation-fires : sound digest book ≡ true → flag 1 (decode book) ≡ false → Equivocation (decode book) frame →
+  pub equivocation-fires : sound digest book ≡ true → flag 1 (decode book) ≡ false → Equivocation (decode book) frame →
       flag 1 (decode (deliverCall digest book frame .book)) ≡ true
   equivocation-fires was clear e =
-      rw (proposal-fires digest book frame was (e .proposed .read) (tested e))
+      rw (proposal-fires digest book frame was (e .proposed .read) (as-tested digest book frame e))
       (unfold timerFires in rw clear (flag-back 1 (withTimerFired (decode book)) ∙ flag-fired (decode book) clear))
 
   -- what has fired stays so
@@ -97,6 +73,10 @@ module _ (digest : Bytes → Bytes) (book frame : Bytes) where
       (λ _ _ clear. absurd (true≢false (sym set ∙ clear)))
 
 -- ---- frames that are delivered in order
+pub set-or-clear : {A : Type 0} (b : Bool) → (b ≡ true → A) → (b ≡ false → A) → A
+set-or-clear true set clear = set refl
+set-or-clear false set clear = clear refl
+
 module _ (digest : Bytes → Bytes) where
   pub frames-keep-flag : (book : Bytes) (frames : List Bytes) → flag 1 (decode book) ≡ true →
       flag 1 (decode (deliverAll digest book frames)) ≡ true
@@ -104,10 +84,6 @@ module _ (digest : Bytes → Bytes) where
   frames-keep-flag book [] set = set
   frames-keep-flag book (frame ∷ frames) set =
       frames-keep-flag (deliverCall digest book frame .book) frames (delivery-keeps-flag digest book frame set)
-
-  set-or-clear : {A : Type 0} (b : Bool) → (b ≡ true → A) → (b ≡ false → A) → A
-  set-or-clear true set clear = set refl
-  set-or-clear false set clear = clear refl
 
   frames-fire : (book : Bytes) (frames : List Bytes) → flag 1 (decode book) ≡ false →
       flag 1 (decode (deliverAll digest book frames)) ≡ true → EquivocationAmong digest book frames

@@ -156,7 +156,7 @@ clash-facts s frame e =
       block = λ five has. same-eq _ _ (rw (five, has) at blocks);
     }
 
--- a proposal for the current height contradicts nothing
+-- a proposal for the current height passes these rows
 clash-passes : (s : State) (frame : Bytes) → kind frame ≡ 1 → frameHeight frame ≡ s .current →
     firstRefusal (clashRows s frame) ≡ none
 unfolding clashRows firstRefusal

@@ -1,4 +1,4 @@
--- `deliver_read` meets its contract: a frame that contradicts nothing is heard, and is fresh if that changes the book.
+-- `deliver_read` meets its contract: a frame that passes the rows is heard, and is fresh if that changes the book.
 use mathlib.Core.Path.{refl}
 use Rattle.sha256.specs.Digest.{sha256}
 use Rattle.answers.specs.Answers.{deliveredAnswer}
