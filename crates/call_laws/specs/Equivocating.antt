@@ -1,5 +1,5 @@
--- When the leader of the current height equivocates (004, footnote 10): by a proposal that is read, of another block than
--- the one that the height holds.
+-- When the leader of the current height equivocates (004, footnote 10): by a proposal that is read, of another block
+-- than the one that the height holds.
 use mathlib.Core.Path.{_≡_}
 use mathlib.Core.Logic.{_≢_}
 use mathlib.Core.Bool.{true}

@@ -257,9 +257,9 @@ keeps-exact digest book frame news accepts small bytes news′ after bytes′ is
     go true e =
         let equivocates = equivocation digest book frame tested e in
         same-firing book news news′ left after small (right .equivocation equivocates) (is .equivocation equivocates)
-    go false e = (
-      same-news digest book frame tested news′ news after left (is .statement (never e)) (right .statement (never e)) small
-          bytes′ bytes,
-      same-after digest book frame tested news′ news after left (is .statement (never e)) (right .statement (never e)) small
-          bytes′ bytes,
-    )
+    go false e =
+        let keeps = right .statement (never e) in
+        let keeps′ = is .statement (never e) in (
+          same-news digest book frame tested news′ news after left keeps′ keeps small bytes′ bytes,
+          same-after digest book frame tested news′ news after left keeps′ keeps small bytes′ bytes,
+        )

@@ -81,19 +81,23 @@ another-mask k =
 -- none is notarized, of the digest of a replica that did not vote, of a pending place past the count
 held-area : Wrong vote fresh (set (delivered vote) 595 9)
 unfolding everything standIn book vote delivered Wrong inParts dummyParts keptParts newlyNotarized deliveryParts
-held-area k = let same : _≡_ {A = ℕ} 9 0 = k .statement vote-single .other-bytes small .same-byte 595 refl in omega arith
+held-area k = let same : _≡_ {A = ℕ} 9 0 = k .statement vote-single .other-bytes small .same-byte 595 refl in
+    omega arith
 
 notarized-area : Wrong vote fresh (set (delivered vote) 800 9)
 unfolding everything standIn book vote delivered Wrong inParts dummyParts keptParts newlyNotarized deliveryParts
-notarized-area k = let same : _≡_ {A = ℕ} 9 0 = k .statement vote-single .other-bytes small .same-byte 800 refl in omega arith
+notarized-area k = let same : _≡_ {A = ℕ} 9 0 = k .statement vote-single .other-bytes small .same-byte 800 refl in
+    omega arith
 
 absent-vote : Wrong vote fresh (set (delivered vote) 1010 9)
 unfolding everything standIn book vote delivered Wrong inParts dummyParts keptParts newlyNotarized deliveryParts
-absent-vote k = let same : _≡_ {A = ℕ} 9 0 = k .statement vote-single .other-bytes small .same-byte 1010 refl in omega arith
+absent-vote k = let same : _≡_ {A = ℕ} 9 0 = k .statement vote-single .other-bytes small .same-byte 1010 refl in
+    omega arith
 
 free-place : Wrong vote fresh (set (delivered vote) 150 9)
 unfolding everything standIn book vote delivered Wrong inParts dummyParts keptParts newlyNotarized deliveryParts
-free-place k = let same : _≡_ {A = ℕ} 9 0 = k .statement vote-single .other-bytes small .same-byte 150 refl in omega arith
+free-place k = let same : _≡_ {A = ℕ} 9 0 = k .statement vote-single .other-bytes small .same-byte 150 refl in
+    omega arith
 
 -- ---- a proposal that notarizes nothing and writes a certificate mask
 mask-without-block : Wrong (proposal 0 1 block) fresh (set (delivered (proposal 0 1 block)) 578 1)

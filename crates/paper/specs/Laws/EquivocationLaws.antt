@@ -108,7 +108,7 @@ fired-stays s clear = record {
 
 -- ---- a proposal for the current height
 -- some proposal is held there, and the timer has fired unless it is of this block
-pub record Heard (t : State) (block : Bytes) : Type 0 where
+pub record HoldsOrFired (t : State) (block : Bytes) : Type 0 where
   pub held : holdsProposal (at t (t .current)) ≡ true
   pub this : (flag 1 t ≡ true) ⊎ (at t (t .current) .proposal ≡ block)
 
@@ -116,7 +116,7 @@ module _ {s t : State} (stays : Stays s t) where
   there : at t (t .current) ≡ at t (s .current)
   there = ap (at t) (stays .same-current)
 
-  heard-stays : (block : Bytes) → Heard s block → Heard t block
+  heard-stays : (block : Bytes) → HoldsOrFired s block → HoldsOrFired t block
   heard-stays block heard = record { held = rw there (stays .held (heard .held)); this = go (heard .this) }
     where
       go : (flag 1 s ≡ true) ⊎ (at s (s .current) .proposal ≡ block) →
@@ -160,7 +160,7 @@ module _ (digest : Bytes → Bytes) (book frame : Bytes) (was : sound digest boo
       (fired-stays s clear))
 
   -- its statement is kept, or the leader equivocates by it
-  statement-heard : (t : State) → ProposedNow s frame → KeepsState digest s t frame → Heard t (frameBlock frame)
+  statement-heard : (t : State) → ProposedNow s frame → KeepsState digest s t frame → HoldsOrFired t (frameBlock frame)
   statement-heard t is keeps = record {
     held = rw (here, keeps .here .proposal .holds, is .proposes) (or-true (holdsProposal (at s (frameHeight frame))));
     this = inr (rw here (keeps .here .proposal .this-proposal (is .proposes)));
@@ -170,21 +170,21 @@ module _ (digest : Bytes → Bytes) (book frame : Bytes) (was : sound digest boo
       here = ap (at t) (ap (λ (z : State). z .current) (keeps .elsewhere) ∙ (unfold withHeight in sym (is .here)))
 
   fired-heard : leaderEquivocates s frame ≡ true → (t : State) → Stays s t → flag 1 t ≡ true →
-      Heard t (frameBlock frame)
+      HoldsOrFired t (frameBlock frame)
   fired-heard is t stays set =
       let e = equivocates s frame is in
       record { held = rw (there stays) (stays .held (rw (e .here) at (e .held))); this = inl set }
 
   known-heard : ProposedNow s frame → Accepts digest book frame → (leaderEquivocates s frame ≡ true → flag 1 s ≡ true) →
-      keep digest s frame ≡ none → (b : Bool) → leaderEquivocates s frame ≡ b → Heard s (frameBlock frame)
+      keep digest s frame ≡ none → (b : Bool) → leaderEquivocates s frame ≡ b → HoldsOrFired s (frameBlock frame)
   known-heard is accepts fired e true equivocal = fired-heard equivocal s (same-stays s) (fired equivocal)
   known-heard is accepts fired e false single =
       statement-heard s is (known-keeps digest book frame accepts single e)
 
-  proposal-heard : ProposedNow s frame → Heard (decode (deliverCall digest book frame .book)) (frameBlock frame)
+  proposal-heard : ProposedNow s frame → HoldsOrFired (decode (deliverCall digest book frame .book)) (frameBlock frame)
   unfolding isSome
   proposal-heard is =
-      deliver-cases digest book frame (λ (o : Outcome Delivery). Heard (decode (o .book)) (frameBlock frame))
+      deliver-cases digest book frame (λ (o : Outcome Delivery). HoldsOrFired (decode (o .book)) (frameBlock frame))
       (λ number e.
       let passes = proposal-passes digest book frame was (is .read) (is .proposes) (is .here) in
       absurd (false≢true (ap isSome (sym passes ∙ e))))
@@ -231,14 +231,14 @@ module _ (digest : Bytes → Bytes) where
 
   all-heard : (book : Bytes) (frames : List Bytes) (frame : Bytes) → sound digest book ≡ true →
       List·Memᴰ frame frames → ProposedNow (decode book) frame →
-      Heard (decode (deliverAll digest book frames)) (frameBlock frame)
+      HoldsOrFired (decode (deliverAll digest book frames)) (frameBlock frame)
   unfolding deliverAll
   all-heard book [] frame was i is = elim i [ ]
   all-heard book (first ∷ frames) frame was (List·Memᴰ·head e) is =
       let next : Bytes = deliverCall digest book first .book in
       let heard = proposal-heard digest book first was (rw e at is) in
       heard-stays (all-stay next frames (deliver-stays digest book was first)) (frameBlock frame)
-      (subst (λ (f : Bytes). Heard (decode next) (frameBlock f)) (sym e) heard)
+      (subst (λ (f : Bytes). HoldsOrFired (decode next) (frameBlock f)) (sym e) heard)
   all-heard book (first ∷ frames) frame was (List·Memᴰ·tail i) is =
       all-heard (deliverCall digest book first .book) frames frame (deliver-stays digest book was first) i
       (proposed-stays (delivery-stays digest book first was) frame is)
