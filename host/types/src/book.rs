@@ -87,6 +87,7 @@ impl<C: Calls> Book<C> {
 
     /// Whether a frame is a proposal of another page than the one that is held at its height: of a frame that
     /// [`Book::deliver`] took, or refused with 8, that the leader said two things. The frame is evidence against him.
+    /// Of the frames of a packet ask after [`Book::deliver_packet`], which may bring the first page itself.
     pub fn is_second_page(&self, frame: &[u8]) -> bool {
         is_second_page(&self.bytes, frame)
     }

@@ -21,7 +21,9 @@ pub fn held_page(book: &[u8], height: Height) -> Option<&[u8; BLOCK]> {
 ///
 /// Of a frame that deliver took, or refused with 8, this says that the leader of the height proposed two pages: the
 /// frame and the one that brought the held page are evidence against him. Deliver never replaces a held page, so that
-/// the book before the call and the book after it say the same.
+/// the book before that call and the book after it say the same. A packet may itself bring the first page: ask about
+/// its frames after the packet and before any move, and deliver each that this tells once more; any refusal but 8 says
+/// that it is no second page.
 pub fn is_second_page(book: &[u8], frame: &[u8]) -> bool {
     let page = frame.first_chunk::<FRAME>().and_then(|frame| frame.last_chunk::<BLOCK>());
     let held = held_page(book, height_at(frame, FRAME_HEIGHT));
