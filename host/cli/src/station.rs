@@ -73,7 +73,7 @@ impl<C: Calls + Clone> Station<'_, C> {
         for (number, frame) in (1_usize..).zip(frames) {
             // Refused for another reason, it is no statement of the leader; else it changes nothing any more.
             let is_statement = |answer| matches!(answer, Ok(_) | Err(Refusal::OtherKept));
-            if copy.is_second_page(frame) && is_statement(copy.deliver(frame)) {
+            if copy.is_second_block(frame) && is_statement(copy.deliver(frame)) {
                 _ = writeln!(stderr(), "mavunilai: frame {number}: {}", second_page(frame));
             }
         }
