@@ -177,7 +177,9 @@ static inline unsigned mavunilai_leader(const uint8_t *book, unsigned height) {
 
 /* 1 if a frame of 224 bytes is a proposal of another page than the one that the book holds at its height, else 0. If
  * mavunilai_deliver took the frame, or refused it with 8, the leader of that height has proposed two pages: keep both
- * frames. A held page is never replaced, so that it does not matter whether this is asked before the call or after. */
+ * frames. A held page is never replaced, so that of one frame it does not matter whether this is asked before
+ * mavunilai_deliver or after. Of a packet's frames ask after mavunilai_packet: it may bring the first page itself.
+ * Then, before any move, deliver each for which this is 1 once more: any refusal but 8 says it is no second page. */
 static inline int mavunilai_second_page(const uint8_t *book, const uint8_t *frame) {
     size_t heights = book[MAVUNILAI_HEAD_HEIGHTS], height = frame[MAVUNILAI_FRAME_HEIGHT], at;
     const uint8_t *rows = book + MAVUNILAI_CONTENTS_AT, *held = rows + MAVUNILAI_ROW * heights;

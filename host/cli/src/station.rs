@@ -39,29 +39,32 @@ pub fn open<'a>(
 impl<C: Calls + Clone> Station<'_, C> {
     /// Delivers frames one by one. A single one may be refused; of several the others are taken all the same.
     pub fn deliver(&mut self, frames: &[Vec<u8>]) -> Result<(), Problem> {
-        let (mut text, mut refused) = (String::new(), 0_usize);
-        for frame in frames {
-            let answer = match self.book.deliver(frame) {
-                Err(Error::Refused(refusal)) if frames.len() > 1 => Answer::Deny(refusal.number()),
-                answer => Answer::Delivered(answer?),
-            };
-            refused = refused.saturating_add(matches!(answer, Answer::Deny(_)).into());
-            text.push_str(&format!("{answer}\n"));
-        }
-        print(&text)?;
+        let answers = self.answers(frames);
+        // Before all that may end the call: a refusal of the only frame, or an output that cannot be written.
         self.tell_second_pages(frames.iter().map(Vec::as_slice));
-        match refused {
+        let answers = answers?;
+        print(&answers.iter().map(|answer| format!("{answer}\n")).collect::<String>())?;
+        match answers.iter().filter(|answer| matches!(answer, Answer::Deny(_))).count() {
             0 => Ok(()),
-            _ => Err(Problem::some_refused(refused, frames.len())),
+            refused => Err(Problem::some_refused(refused, frames.len())),
         }
+    }
+
+    /// The answers to frames that are delivered one by one; a refusal is an answer if there are several.
+    fn answers(&mut self, frames: &[Vec<u8>]) -> Result<Vec<Answer>, Error> {
+        let several = frames.len() > 1;
+        let answer = |frame: &Vec<u8>| match self.book.deliver(frame) {
+            Err(Error::Refused(refusal)) if several => Ok(Answer::Deny(refusal.number())),
+            answer => answer.map(Answer::Delivered),
+        };
+        frames.iter().map(answer).collect()
     }
 
     /// Delivers frames as one packet, in one commit; those that are refused are counted like the others.
     pub fn packet(&mut self, packet: &[u8]) -> Result<(), Problem> {
         let counts = self.book.deliver_packet(packet)?;
-        print(&format!("{counts}\n"))?;
         self.tell_second_pages(packet.chunks(FRAME));
-        Ok(())
+        print(&format!("{counts}\n"))
     }
 
     /// Says on the standard error which of the frames that were delivered show that a leader said two things.
@@ -70,7 +73,7 @@ impl<C: Calls + Clone> Station<'_, C> {
         for (number, frame) in (1_usize..).zip(frames) {
             // Refused for another reason, it is no statement of the leader; else it changes nothing any more.
             let is_statement = |answer| matches!(answer, Ok(_) | Err(Refusal::OtherKept));
-            if copy.is_second_page(frame) && is_statement(copy.deliver(frame)) {
+            if copy.is_second_block(frame) && is_statement(copy.deliver(frame)) {
                 _ = writeln!(stderr(), "mavunilai: frame {number}: {}", second_page(frame));
             }
         }

@@ -163,6 +163,35 @@ fn a_second_page_of_the_leader_is_told() {
 }
 
 #[test]
+fn a_second_page_that_is_refused_alone_is_told() {
+    let book = book("two-pages-alone", 4);
+    let call = format!("call {book} deliver -");
+    assert_eq!(lines(&call, &proposal(2, 1)), ["fresh"]);
+    let kept = std::fs::read(&book).unwrap();
+    let ended = run(&call, &proposal(2, 2));
+    assert_eq!((ended.status, ended.text().as_str()), (3, ""));
+    let refusal = ended.complaint.strip_prefix(&two_pages(1, 2)).unwrap();
+    assert!(refusal.starts_with("mavunilai: refused with 8: "), "{refusal}");
+    assert_eq!((refusal.lines().count(), std::fs::read(&book).unwrap()), (1, kept));
+}
+
+#[test]
+fn second_pages_are_told_where_the_output_is_full() {
+    for call in ["deliver", "packet"] {
+        let book = book(&format!("two-pages-full-{call}"), 4);
+        let frames = format!("{book}.pile");
+        std::fs::write(&frames, [1, 2].map(|byte| proposal(1, byte)).concat()).unwrap();
+        let full = std::fs::File::options().write(true).open("/dev/full").unwrap();
+        let mut command = std::process::Command::new(env!("CARGO_BIN_EXE_mavunilai"));
+        let ended = command.args(["call", &book, call, &frames]).stdout(full).output().unwrap();
+        let complaint = String::from_utf8(ended.stderr).unwrap();
+        let problem = complaint.strip_prefix(&two_pages(2, 1)).unwrap();
+        assert!(problem.contains("the output cannot be written"), "{problem}");
+        assert_eq!(ended.status.code(), Some(2));
+    }
+}
+
+#[test]
 fn second_pages_of_a_packet_are_told() {
     let book = book("two-pages-packet", 4);
     let mut of_another = proposal(1, 3);

@@ -4,7 +4,7 @@ use crate::frames::{area, byte};
 use crate::packets::BYTE;
 use exchange::Answer;
 use reference::Rules;
-use types::{height_at, is_second_page, Area, Calls, Delivered, FRAME, FRAME_HEIGHT};
+use types::{height_at, is_second_block, Area, Calls, Delivered, FRAME, FRAME_HEIGHT};
 
 /// The names of all kinds.
 pub const NAMES: [&str; 18] = [
@@ -64,7 +64,7 @@ fn turns(book: &[u8], packet: &[u8]) -> Vec<Turn> {
     let turn = |frame: &[u8; FRAME]| {
         let has_block =
             |book: &[u8]| byte(area(book, height_at(frame, FRAME_HEIGHT), Area::Row), 1) & 2 != 0;
-        let (before, second) = (has_block(&now), is_second_page(&now, frame));
+        let (before, second) = (has_block(&now), is_second_block(&now, frame));
         let answer = Calls::deliver(&Rules::SHA256, &mut now, frame);
         let alone = Calls::deliver(&Rules::SHA256, &mut book.to_vec(), frame);
         let notarized = frame[0] < 5 && !before && has_block(&now);

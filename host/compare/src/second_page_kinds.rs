@@ -4,7 +4,7 @@ use crate::frames::{area, byte};
 use exchange::Answer;
 use reference::inspect::{inspect, AtHeight};
 use std::cmp::Ordering;
-use types::{field, head_height, height_at, is_second_page, Area, Delivered, BLOCK, FRAME_HEIGHT};
+use types::{field, head_height, height_at, is_second_block, Area, Delivered, BLOCK, FRAME_HEIGHT};
 
 /// The names of all kinds but those by flags.
 pub const NAMES: [&str; 11] = [
@@ -38,7 +38,7 @@ fn fires_with(flags: u8) -> String {
 /// The kinds of a frame that was delivered to a book, which is as it was before: none if it is no second page, or is
 /// refused for another reason.
 pub fn kinds(book: &[u8], frame: &[u8], answer: Answer) -> Vec<String> {
-    if !is_second_page(book, frame) {
+    if !is_second_block(book, frame) {
         return Vec::new();
     }
     let [current, last] = [field::CURRENT, field::HEIGHTS].map(|at| head_height(book, at));

@@ -5,7 +5,7 @@ use crate::frames::{any_block, any_frame, any_height, area, byte, likely_block};
 use crate::Random;
 use crate::{Halt, Pair, Second};
 use exchange::{Answer, Call};
-use types::{book_length, field, head_height, is_second_page, put_head_height};
+use types::{book_length, field, head_height, is_second_block, put_head_height};
 use types::{Area, Calls, Delivered, Frame, Height, Move, FRAME};
 
 /// The names of what happens after a second page.
@@ -74,7 +74,7 @@ fn one_leader<A: Calls, B: Second>(
         pair.make(&Call::Packet { packet: frames.concat() }, book, &mut [])?;
     } else {
         for frame in frames {
-            let second = is_second_page(book, &frame);
+            let second = is_second_block(book, &frame);
             let answer = pair.make(&Call::Deliver { frame: frame.to_vec() }, book, &mut [])?;
             fired |= second && answer == Answer::Delivered(Delivered::Fresh);
         }

@@ -3,7 +3,7 @@
 
 use compare::run;
 use reference::Rules;
-use types::{field, head_height, height_at, is_second_page, Area, Calls, Counts, Delivered};
+use types::{field, head_height, height_at, is_second_block, Area, Calls, Counts, Delivered};
 use types::{Layout, Move, BLOCK, FRAME, FRAME_HEIGHT};
 
 /// What a faulty replica does wrong.
@@ -104,7 +104,7 @@ impl Calls for Faulty {
     fn deliver(&self, book: &mut [u8], frame: &[u8]) -> Result<Delivered, u8> {
         let before = &book.to_vec();
         let answer = Calls::deliver(&RULES, book, frame);
-        match is_second_page(before, frame) {
+        match is_second_block(before, frame) {
             true => Second { before, frame, answer }.taken(self.0, book),
             false => answer,
         }

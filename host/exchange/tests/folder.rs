@@ -5,7 +5,7 @@ use reference::Rules;
 use std::cmp::Ordering;
 use std::path::PathBuf;
 use types::Delivered::{Fresh, Known};
-use types::{field, head_height, height_at, is_second_page, Counts, FRAME, FRAME_HEIGHT};
+use types::{field, head_height, height_at, is_second_block, Counts, FRAME, FRAME_HEIGHT};
 
 /// The file of a list.
 fn file(name: &str) -> PathBuf {
@@ -112,7 +112,7 @@ fn second_pages(list: &List) -> Vec<(String, Ordering, bool, Answer)> {
         if let Call::Deliver { frame } = call {
             let [current, last] = [field::CURRENT, field::HEIGHTS].map(|at| head_height(&book, at));
             let place = height_at(frame, FRAME_HEIGHT).cmp(&current);
-            if is_second_page(&book, frame) {
+            if is_second_block(&book, frame) {
                 found.push((name.clone(), place, current > last, answer));
             }
         }

@@ -33,7 +33,7 @@ pub use foreign::{fits, Proved, INTERFACE};
 /// A book in a file: locked while it is open, each call committed together with its frames.
 pub use store;
 pub use types::{
-    book_length, held_page, is_second_page, Block, Book, Calls, Certificate, Counts, Delivered,
+    book_length, held_block, is_second_block, Block, Book, Calls, Certificate, Counts, Delivered,
     Frame, Move, Refusal, Written, BLOCK, ENTRY, FRAME, MOST_HEIGHTS, MOST_REPLICAS,
 };
 

@@ -78,7 +78,7 @@ fn a_second_page_is_told_as_by_the_types() {
     );
     let file = scratch("second_page.c");
     std::fs::write(&file, text).unwrap();
-    let expected: Vec<bool> = frames.iter().map(|frame| book.is_second_page(frame)).collect();
+    let expected: Vec<bool> = frames.iter().map(|frame| book.is_second_block(frame)).collect();
     assert_eq!(expected, [false, true, false, false, false, false, false, false]);
     if let Some((text, ended)) = prints(LANGUAGES[0], "second_page", &[file.to_str().unwrap()]) {
         assert!(ended && text.lines().eq(expected.iter().map(|is| if *is { "1" } else { "0" })));

@@ -68,7 +68,7 @@ fn fired_by_second_pages(seed: u64) -> usize {
             Input::Submit(_) => Vec::new(),
         };
         for frame in frames.iter().map(Frame::bytes) {
-            let second = book.is_second_page(&frame);
+            let second = book.is_second_block(&frame);
             fired += usize::from(book.deliver(&frame) == Ok(Delivered::Fresh) && second);
         }
         while book.make_move().unwrap().0 != Move::Idle {}

@@ -6,10 +6,10 @@ use std::fmt;
 /// What became of a frame that was not refused.
 #[derive(Clone, Copy, Debug, PartialEq, Eq)]
 pub enum Delivered {
-    /// The frame changed the book. Where it is the second page of the current height's leader, the change is flag 1
-    /// alone: its timer fired ([`crate::is_second_page`] tells).
+    /// The frame changed the book. Where it is the second block of the current height's leader, the change is flag 1
+    /// alone: its timer fired ([`crate::is_second_block`] tells).
     Fresh,
-    /// The book held all of it already, or it is such a second page and the timer had fired.
+    /// The book held all of it already, or it is such a second block and the timer had fired.
     Known,
 }
 

@@ -2,7 +2,7 @@
 
 use crate::refusal::Refusal;
 use crate::{
-    book_length, field, head_height, held_page, is_second_page, Area, Calls, Counts, Delivered,
+    book_length, field, head_height, held_block, is_second_block, Area, Calls, Counts, Delivered,
     Height, Layout, Move, BLOCK, ENTRY, FRAME,
 };
 
@@ -80,18 +80,19 @@ impl<C: Calls> Book<C> {
         self.bytes.get(at).copied().unwrap_or(0)
     }
 
-    /// The page of the proposal that is held at a height, if one is.
+    /// The block of the proposal that is held at a height, if one is.
     pub fn held(&self, height: Height) -> Option<&[u8; BLOCK]> {
-        held_page(&self.bytes, height)
+        held_block(&self.bytes, height)
     }
 
-    /// Whether a frame is a proposal of another page than the one that is held at its height: of a frame that
+    /// Whether a frame is a proposal of another block than the one that is held at its height: of a frame that
     /// [`Book::deliver`] took, or refused with 8, that the leader said two things. The frame is evidence against him.
-    pub fn is_second_page(&self, frame: &[u8]) -> bool {
-        is_second_page(&self.bytes, frame)
+    /// Of the frames of a packet ask after [`Book::deliver_packet`], which may bring the first block itself.
+    pub fn is_second_block(&self, frame: &[u8]) -> bool {
+        is_second_block(&self.bytes, frame)
     }
 
-    /// Takes a frame whose signatures hold. A second page of the current height's leader fires the timer.
+    /// Takes a frame whose signatures hold. A second block of the current height's leader fires the timer.
     pub fn deliver(&mut self, frame: &[u8]) -> Result<Delivered, Refusal> {
         self.calls.deliver(&mut self.bytes, frame).map_err(Refusal::of)
     }

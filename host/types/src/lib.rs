@@ -16,7 +16,7 @@ mod height;
 mod layout;
 pub mod packing;
 pub mod refusal;
-mod second_page;
+mod second_block;
 
 pub use answer::{Certificate, Counts, Delivered, Move};
 pub use block::{Block, BLOCK, BLOCK_HEIGHT, BLOCK_PARENT};
@@ -27,4 +27,4 @@ pub use frame::{Frame, FRAME, FRAME_HEIGHT};
 pub use height::{head_height, height_at, height_bytes, put_head_height, put_height, Height};
 pub use layout::{book_length, field, mask_at, Area, Layout, ENTRY};
 pub use refusal::Refusal;
-pub use second_page::{held_page, is_second_page};
+pub use second_block::{held_block, is_second_block};
