@@ -35,6 +35,15 @@ use Rattle.protocol.specs.Read.{logSize, sizeCall, readPart, readBuffer}
 use Rattle.protocol.specs.Fetch.{hasCertificate, certificateIf, certificatesAt, certificatesTo, everyCertificate}
 use Rattle.protocol.specs.Fetch.{unlessFetchRefused, fetchRows, fetchCall}
 use Rattle.protocol.specs.Call.{effect, bookAfterAll}
+use Rattle.protocol.specs.Observer.{asReplicaHeight, asReplica, observedHeight, observed, observerBookSize}
+use Rattle.protocol.specs.Observer.{observedContentBytes, observedBodyBytes, encodeObserver, decodeObservedHeight}
+use Rattle.protocol.specs.Observer.{decodeObservedHeights, decodeObserver}
+use Rattle.protocol.specs.ObserverSound.{replicaHead, observedZero, observerSound}
+use Rattle.protocol.specs.ObserverCalls.{newObservedHeight, newObserver, observerOpenRows, observerOpenCall}
+use Rattle.protocol.specs.ObserverCalls.{observerKept, observerLogSize, observerDeliverRows, observerDeliverCall}
+use Rattle.protocol.specs.ObserverCalls.{observerStep, observerMoved, observerMoveRows, observerMoveCall}
+use Rattle.protocol.specs.ObserverCalls.{observerSizeCall, observerReadPart, observerReadBuffer}
+use Rattle.protocol.specs.ObserverCall.{observation, observerBookAfterAll}
 
 unfoldable pub everything : Unit {0}
 unfolding word16 le16 part zeros overFront all isZero same pieces join holds without put allOf implies inRange
@@ -54,5 +63,10 @@ unfolding word16 le16 part zeros overFront all isZero same pieces join holds wit
     outputApplies outputStep passApplies passStep proposeApplies proposedBlock proposeStep blockVoteApplies
     blockVoteStep step afterMoves moveRows moveCall signalRows signalCall withPending stillPending submitRows submitCall
     logSize sizeCall readPart readBuffer hasCertificate certificateIf certificatesAt certificatesTo everyCertificate
-    unlessFetchRefused fetchRows fetchCall effect bookAfterAll
+    unlessFetchRefused fetchRows fetchCall effect bookAfterAll asReplicaHeight asReplica observedHeight observed
+    observerBookSize observedContentBytes observedBodyBytes encodeObserver decodeObservedHeight decodeObservedHeights
+    decodeObserver replicaHead observedZero observerSound newObservedHeight newObserver observerOpenRows
+    observerOpenCall observerKept observerLogSize observerDeliverRows observerDeliverCall observerStep observerMoved
+    observerMoveRows observerMoveCall observerSizeCall observerReadPart observerReadBuffer observation
+    observerBookAfterAll
 everything = tt

@@ -18,6 +18,10 @@ pub mod Submit
 pub mod Read
 pub mod Fetch
 pub mod Call
+pub mod Observer
+pub mod ObserverSound
+pub mod ObserverCalls
+pub mod ObserverCall
 pub mod Linked
 pub mod Examples
 pub mod Computing
