@@ -3,6 +3,7 @@ pub mod EveryLaws
 pub mod TestsLaws
 pub mod MaskLaws
 pub mod StateLaws
+pub mod ObserverStateLaws
 pub mod QuorumLaws
 pub mod FlagLaws
 pub mod MoveLaws
