@@ -190,7 +190,7 @@ module _ (o : Observer) (shaped : ShapedObserver o) where
   length-encode-observer =
       simp length-append (omega (arith, head-size-as o, observed-contents-length, observed-bodies-length))
 
-  contents-from : drop 64 (encodeObserver o) ≡ C ++ D
+  pub contents-from : drop 64 (encodeObserver o) ≡ C ++ D
   unfolding encodeObserver
   contents-from = drop-at (headBytes (asReplica o)) (C ++ D) 64 (head-size-as o)
 
