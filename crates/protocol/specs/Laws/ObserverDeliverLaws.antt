@@ -1,17 +1,16 @@
 -- Deliver of an observer: what a certificate that is not refused has passed, what it keeps, and the three ways in which
 -- a delivery ends. Move of an observer: the two ways in which it ends.
-use Prim.Native.Nat.{ℕ, suc, _-_, _≤_, _<_}
+use Prim.Native.Nat.{ℕ, _-_, _≤_}
 use native.Mathlib.Omega.{arith}
-use mathlib.Core.Path.{_≡_, refl, sym, ap, subst, _∙_}
+use mathlib.Core.Path.{_≡_, refl, sym, subst}
 use mathlib.Core.Bool.{Bool, true, false, cond}
 use mathlib.Core.Option.{Option, some, none}
-use lib.ListN.{length}
 use lib.Dec.{eqb}
 use Rattle.protocol.specs.SoundState.{ShapedHeight, Shaped}
 use Rattle.protocol.specs.ReadFrame.{ReadFrame}
 use Rattle.protocol.specs.Bytes.{Bytes}
 use Rattle.protocol.specs.Tests.{firstRefusal}
-use Rattle.protocol.specs.Frame.{kind, frameHeight, frameBlock, frameWellFormed, isCertificate, signerMask}
+use Rattle.protocol.specs.Frame.{kind, frameHeight, frameBlock, isCertificate, signerMask}
 use Rattle.protocol.specs.Mask.{union}
 use Rattle.protocol.specs.State.{State, Height, at, last, withHead, withHeight, isNotarized}
 use Rattle.protocol.specs.Answer.{Outcome, Delivery, Move, refused, accepted, known, fresh, idle, output}
