@@ -9,7 +9,9 @@ use Rattle.protocol.specs.Block.{maximumHeights}
 use Rattle.protocol.specs.State.{State, Height, at, last, decode, encode, withHeight, bookHeights, maximumReplicas}
 use Rattle.protocol.specs.View.{View}
 use Rattle.protocol.specs.Sound.{view, sound}
-use Rattle.protocol.specs.Observer.{observerState}
+use Rattle.protocol.specs.Observer.{observerState, decodeObserver, encodeObserver, observed}
+use Rattle.protocol.specs.ObserverSound.{observerSound}
+use Rattle.protocol.specs.SoundObserver.{SoundObserver}
 use Rattle.book_fields.specs.declared.kind.Kind.{Kind}
 use Rattle.book_fields.specs.declared.kind.Kind.the-variants.{Replica, Observer}
 
@@ -33,6 +35,15 @@ recoded book change = encode (change (decode book))
 -- the book with height `h` changed
 abbrev pub changed : Bytes → ℕ → (Height → Height) → Bytes
 changed book h change = encode (withHeight (decode book) h (change (heightIn book h)))
+
+-- an observer's book of a changed state
+abbrev pub observerRecoded : Bytes → (State → State) → Bytes
+observerRecoded book change = encodeObserver (observed (change (observerState book)))
+
+-- an observer's book with height `h` changed
+abbrev pub observerChanged : Bytes → ℕ → (Height → Height) → Bytes
+observerChanged book h change =
+    encodeObserver (observed (withHeight (observerState book) h (change (observedIn book h))))
 
 -- ---- the kinds of books
 -- the view that a book of this kind gives
@@ -84,12 +95,24 @@ pub record Ready (book : Bytes) : Type 0 where
   pub readable : Readable book
   pub whole : encode (decode book) ≡ book
 
+-- of an observer's book
+pub record ObserverReady (book : Bytes) : Type 0 where
+  pub readable : ObserverReadable book
+  pub whole : encodeObserver (decodeObserver book) ≡ book
+
 -- ---- the third rung: what a call has found, with what soundness says of the state
 pub record SoundBook (digest : Bytes → Bytes) (book : Bytes) : Type 0 where
   pub is-sound : sound digest book ≡ true
   pub ready : Ready book
   pub state : SoundState digest (decode book)
   pub finalized-high : decode book .finalized ≤ bookHeights book
+
+-- of an observer's book
+pub record SoundObserverBook (digest : Bytes → Bytes) (book : Bytes) : Type 0 where
+  pub is-sound : observerSound digest book ≡ true
+  pub ready : ObserverReady book
+  pub state : SoundObserver digest (decodeObserver book)
+  pub finalized-high : observerState book .finalized ≤ bookHeights book
 
 -- ---- height `h` is one of the book's
 pub record Within (book : Bytes) (h : ℕ) : Type 0 where

@@ -5,7 +5,8 @@ ghost use Prim.Native.Nat.{_<_, _≤_};
 ghost use lib.ListN.{length};
 ghost use Rattle.protocol.specs.View.{quorum as isQuorum, isDummy};
 ghost use Rattle.protocol.specs.Mask.{maskLimit};
-ghost use Rattle.protocol.specs.State.{maximumReplicas};
+ghost use Rattle.protocol.specs.Block.{maximumHeights};
+ghost use Rattle.protocol.specs.State.{bookHeights, maximumReplicas};
 ghost use Rattle.book_fields.specs.Book.{Within, Shown, viewOf};
 
 pub enum Kind {
@@ -66,6 +67,14 @@ pub fn replicas(kind: Kind, book: &[u8]) -> usize
     ensures { λ r. ⌜ (r ≡ viewOf kind (now (book .entry)) .n) × (r ≤ maximumReplicas) ⌝ }
 {
     wire::bytes::byte(book, 0)
+}
+
+// The number of heights.
+pub fn heights(kind: Kind, book: &[u8]) -> usize
+    requires { ⌜ Shown kind (now book) ⌝ }
+    ensures { λ r. ⌜ (r ≡ bookHeights (now (book .entry))) × (r ≤ maximumHeights) ⌝ }
+{
+    wire::bytes::byte(book, 2)
 }
 
 // Whether a mask holds two thirds of the book's replicas.

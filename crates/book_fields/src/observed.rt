@@ -1,11 +1,20 @@
-// One height of an observer's book: status, masks and block, read where they lie.
+// An observer's book: its finalized height, and the status, masks and block of one height, read where they lie.
 ghost use mathlib.Core.Path.{_≡_};
 ghost use Prim.Native.Nat.{_+_, _-_, _*_, _<_, _≤_};
 ghost use Rattle.protocol.specs.State.{isNotarized, bookHeights};
+ghost use Rattle.protocol.specs.Observer.{observerState};
 ghost use Rattle.protocol.specs.Block.{maximumHeights};
 ghost use Rattle.protocol.specs.Mask.{maskLimit};
 ghost use Rattle.book_fields.specs.Book.{ObserverReadable, Within, observedIn};
 ghost use Rattle.book_fields.specs.Numbered.{maskAt};
+
+// The finalized height.
+pub fn finalized(book: &[u8]) -> usize
+    requires { ⌜ ObserverReadable (now book) ⌝ }
+    ensures { λ r. ⌜ (r ≡ observerState (now (book .entry)) .finalized) × (r < 256) ⌝ }
+{
+    wire::bytes::byte(book, 5)
+}
 
 // Where the contents of height `h` start.
 pub fn content_at(h: usize) -> usize

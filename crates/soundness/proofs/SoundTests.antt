@@ -91,15 +91,6 @@ module _ (digest : Bytes → Bytes) (book : Bytes) where
   unfolding finalRow
   final-none e = rw (eq-eqb (decode book .finalized) 0 e)
 
-  pub final-some : decode book .finalized ≢ 0 → finalRow digest book ≡ isFinalized digest (view (decode book))
-      (decode book .finalized)
-  unfolding finalRow
-  final-some f = rw (ne-eqb (decode book .finalized) 0 f)
-
-  pub final-past : decode book .finalized ≢ 0 → bookHeights book < decode book .finalized → finalRow digest book ≡ false
-  final-past f past = final-some f ∙ not-finalized-past digest (decode book) (decode book .finalized)
-      (rw (last-decode book) past)
-
   -- ---- the three groups
   abbrev every : Bool
   every = everyHeight (λ h. allOf (heightRows book h)) (bookHeights book)
