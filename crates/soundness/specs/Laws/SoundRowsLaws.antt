@@ -1,6 +1,5 @@
 -- The groups of rows make soundness; a sound head can be read; a memory of zeros is one of a book.
 use Prim.Native.Nat.{ℕ, _+_, _*_, _≤_}
-use native.Mathlib.Omega.{arith}
 use mathlib.Core.Path.{_≡_}
 use mathlib.Core.Bool.{Bool, true, _&&_}
 use lib.ListN.{length}
