@@ -51,3 +51,4 @@ pub mod EditionLaws
 pub mod CallLaws
 pub mod SoundRowNames
 pub mod ObserverFieldLaws
+pub mod ObserverPlaceLaws
