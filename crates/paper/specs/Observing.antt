@@ -1,17 +1,15 @@
 -- What an observer does, in the paper's terms: of the five steps the last alone, finalized outputs.
-use Prim.Native.Nat.{ℕ, _*_, _≤_}
+use Prim.Native.Nat.{ℕ, _≤_}
 use mathlib.Core.Path.{_≡_}
 use mathlib.Core.Logic.{_↔_}
-use mathlib.Core.List.{_++_}
-use lib.ListN.{length, drop, set}
-use Rattle.protocol.specs.Bytes.{Bytes, byteAt, join}
-use Rattle.protocol.specs.Block.{entrySize}
+use lib.ListN.{set}
+use Rattle.protocol.specs.Bytes.{Bytes}
 use Rattle.protocol.specs.State.{State, last}
 use Rattle.protocol.specs.Sound.{view}
 use Rattle.protocol.specs.Answer.{accepted, idle, output}
 use Rattle.protocol.specs.Observer.{observerState}
-use Rattle.protocol.specs.ObserverCalls.{observerMoveCall, observerReadPart, observerReadBuffer}
-use Rattle.paper.specs.Paper.{Sequence, height, linearize, FinalizedBlockchain, Finalization, SeenWithBlock}
+use Rattle.protocol.specs.ObserverCalls.{observerMoveCall}
+use Rattle.paper.specs.Paper.{Finalization, SeenWithBlock}
 use Rattle.paper.specs.Steps.{MayOutput}
 
 -- the moves of an observer, whose state is `s`, on a sound book

@@ -1,25 +1,18 @@
 -- An observer does what `Observing` says.
 use Prim.Native.Nat.{ℕ, _≤_}
 use native.Mathlib.Omega.{arith}
-use mathlib.Core.Path.{_≡_, refl, sym, ap, subst, _∙_}
-use mathlib.Core.Logic.{_⊎_, inl, inr, _↔_}
-use mathlib.Core.Bool.{Bool, true, false, cond, true≢false}
-use mathlib.Core.List.{[]}
-use lib.ListN.{length, set}
-use lib.Dec.{leb}
-use borrow.Author.Tests.{le-leb}
-use Rattle.protocol.specs.Bytes.{Bytes, AreBytes, join, overFront}
+use mathlib.Core.Path.{_≡_, refl, sym, subst, _∙_}
+use mathlib.Core.Logic.{_⊎_, inl, inr}
+use mathlib.Core.Bool.{true, false, true≢false}
+use Rattle.protocol.specs.Bytes.{Bytes, AreBytes}
 use Rattle.protocol.specs.SoundState.{CertifiedState}
 use Rattle.protocol.specs.State.{State, last}
-use Rattle.protocol.specs.Sound.{view, log}
-use Rattle.protocol.specs.Answer.{Answer, Move, Outcome, refused, accepted, idle, output}
+use Rattle.protocol.specs.Sound.{view}
+use Rattle.protocol.specs.Answer.{Move, Outcome, accepted, idle, output}
 use Rattle.protocol.specs.Move.{newFinalized, outputApplies, outputStep}
-use Rattle.protocol.specs.Observer.{asReplica, observed, observerState, decodeObserver, encodeObserver}
+use Rattle.protocol.specs.Observer.{observed, observerState, decodeObserver, encodeObserver}
 use Rattle.protocol.specs.ObserverSound.{observerSound}
-use Rattle.protocol.specs.ObserverCalls.{observerMoveCall, observerLogSize, observerSizeCall, observerReadPart}
-use Rattle.protocol.specs.ObserverCalls.{observerReadBuffer}
-use Rattle.protocol.specs.Laws.LogLaws.{log-bytes}
-use Rattle.protocol.specs.Laws.RowLaws.{not-passed}
+use Rattle.protocol.specs.ObserverCalls.{observerMoveCall}
 use Rattle.protocol.specs.Laws.ObserverStateLaws.{output-set}
 use Rattle.protocol.specs.Laws.ObserverSoundLaws.{sound-observer, certified-observer, encode-decode-observer}
 use Rattle.protocol.specs.Laws.ObserverDeliverLaws.{observer-move-cases}
@@ -28,7 +21,6 @@ use Rattle.paper.specs.Blockchains.{InThePapersTerms}
 use Rattle.paper.specs.Laws.BlockchainsLaws.{in-the-papers-terms}
 use Rattle.paper.specs.Laws.FinalizedOutputsLaws.{output-when, output-applies, output-seen, not-above}
 use Rattle.paper.specs.Observing.{ObserverStep}
-use Rattle.paper.specs.Steps.{MayOutput}
 
 module _ (digest : Bytes → Bytes) (book : Bytes) (ok : observerSound digest book ≡ true) where
   abbrev s : State
