@@ -1,5 +1,5 @@
 -- The tests that the code of an observer's soundness makes are the rows of the definition, group by group.
-use Prim.Native.Nat.{ℕ, suc, _+_, _-_, _*_, _^_, _<_}
+use Prim.Native.Nat.{ℕ, _+_, _-_, _*_, _^_, _<_}
 use native.Mathlib.Omega.{arith}
 use mathlib.Core.Path.{_≡_, refl, sym, subst, _∙_}
 use mathlib.Core.Bool.{Bool, true, false, _&&_, _||_, and-true, and-assoc, true≢false}
@@ -8,7 +8,7 @@ use lib.Pow.{pow-pos}
 use lib.Dec.{eqb, leb}
 use borrow.Author.Tests.{eq-eqb, ne-eqb, lt-ltb}
 use Rattle.protocol.specs.Bytes.{Bytes, byteAt, part, all, isZero}
-use Rattle.protocol.specs.Tests.{allOf, implies, inRange, everyHeight}
+use Rattle.protocol.specs.Tests.{allOf, inRange, everyHeight}
 use Rattle.protocol.specs.Block.{blockWellFormed}
 use Rattle.protocol.specs.Mask.{belowBit}
 use Rattle.protocol.specs.State.{Height, at, isNotarized, bookHeights}
