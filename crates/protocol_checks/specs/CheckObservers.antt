@@ -1,17 +1,19 @@
 -- An observer's calls with their answers as numbers, and books of observers byte by byte: what the checks of observers
 -- run and compute on.
-use Prim.Native.Nat.{ℕ, _+_, _*_}
-use mathlib.Core.Bool.{Bool, cond}
+use Prim.Native.Nat.{ℕ, _*_}
+use mathlib.Core.Bool.{Bool}
 use mathlib.Core.List.{List, [], _∷_, _++_, map}
 use lib.ListN.{replicate}
 use Rattle.protocol.specs.Bytes.{Bytes, zeros, same}
+use Rattle.protocol.specs.Tests.{allOf}
+use Rattle.protocol.specs.Call.{opening}
 use Rattle.protocol.specs.ObserverSound.{observerSound}
 use Rattle.protocol.specs.ObserverCalls.{observerOpenCall, observerDeliverCall, observerMoveCall, observerSizeCall}
 use Rattle.protocol.specs.ObserverCalls.{observerReadPart, observerReadBuffer}
 use Rattle.protocol.specs.ObserverCall.{ObserverCall, observerOpening, observerDelivery, observerMoving}
 use Rattle.protocol.specs.ObserverCall.{observerSizing, observerReading, observation}
 use Rattle.protocol_checks.specs.CheckCalls.{standIn, numbersOf, doneNumbers, deliveryNumbers, moveNumbers}
-use Rattle.protocol_checks.specs.CheckCalls.{splice}
+use Rattle.protocol_checks.specs.CheckCalls.{after, splice, changed}
 use Rattle.protocol_checks.specs.CheckStates.{entry, passing, differences, stateTools}
 
 -- ---- calls
@@ -42,6 +44,30 @@ observerOutcomes book (call ∷ calls) =
 -- the outcomes of frames, each delivered to the same book
 unfoldable pub deliveries : Bytes → List Bytes → List (List ℕ)
 deliveries book frames = map (λ frame. observerOutcome book (observerDelivery frame)) frames
+
+-- ---- calls with what is expected of them
+-- the bytes that a call is lent, after it
+unfoldable pub observerBuffer : Bytes → ObserverCall → Bytes
+observerBuffer book (observerOpening n heights) = []
+observerBuffer book (observerDelivery frame) = []
+observerBuffer book observerMoving = []
+observerBuffer book observerSizing = []
+observerBuffer book (observerReading buffer) = observerReadBuffer standIn book buffer
+
+-- a call on a book: its numbers, the parts of the book that it changed by their places, and the lent bytes after it
+pub record Observed : Type 0 where
+  pub book : Bytes
+  pub call : ObserverCall
+  pub numbers : List ℕ
+  pub changes : List (ℕ × Bytes)
+  pub buffer : Bytes
+
+-- a call is as expected
+unfoldable pub isObserved : Observed → Bool
+isObserved x = allOf
+    (same (observerNumbers (x .book) (x .call)) (x .numbers) ∷
+    same (observerAfter (x .book) (x .call)) (changed (x .changes) (x .book)) ∷
+    same (observerBuffer (x .book) (x .call)) (x .buffer) ∷ [])
 
 -- ---- soundness
 unfoldable pub observes : Bytes → Bool
@@ -93,7 +119,31 @@ season =
 unfoldable pub seasonTo : ℕ → Bytes
 seasonTo g = splice 5 (g ∷ []) season
 
+-- another block of height 1, and one of height 2
+unfoldable pub other : Bytes
+other = firstBlock 1 8
+
+unfoldable pub middle : Bytes
+middle = firstBlock 2 9
+
+-- the entries of its log
+unfoldable pub seasonEntries : Bytes
+seasonEntries = entry 7 ++ (entry 5 ++ entry 6)
+
+-- a book that is not sound: its current height is 1
+unfoldable pub damaged : Bytes
+damaged = splice 4 (1 ∷ []) season
+
+-- the new book of a replica, 2 of four, with three heights that replica 3 leads
+unfoldable pub replicaBook : Bytes
+replicaBook = after (replicate 3216 9) (opening 4 2 3 (3 ∷ 3 ∷ 3 ∷ []) ∷ [])
+
+-- a frame with another byte at a place
+unfoldable pub withByte : ℕ → ℕ → Bytes → Bytes
+withByte place value frame = splice place (value ∷ []) frame
+
 unfoldable pub observerTools : Unit {0}
-unfolding stateTools observerNumbers observerAfter observerOutcome observerOutcomes deliveries observes observesWith
-    firstBlock nextBlock observerHead observedContent newBook lowest highest season seasonTo
+unfolding stateTools observerNumbers observerAfter observerOutcome observerOutcomes deliveries observerBuffer
+    isObserved observes observesWith firstBlock nextBlock observerHead observedContent newBook lowest highest season
+    seasonTo other middle seasonEntries damaged replicaBook withByte
 observerTools = tt

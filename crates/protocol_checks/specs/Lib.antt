@@ -20,4 +20,6 @@ pub mod MoveFrameChecks
 pub mod CallChecks
 pub mod EffectChecks
 pub mod ObserverSoundChecks
+pub mod ObserverDeliverChecks
 pub mod ObserverChecks
+pub mod ObserverExamples
