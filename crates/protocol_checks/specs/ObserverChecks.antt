@@ -112,11 +112,13 @@ read book room =
 
 readings : map (read (seasonTo 3)) (48 ∷ 50 ∷ 47 ∷ 0 ∷ []) ++
     (read (seasonTo 1) 16 ∷ read (seasonTo 1) 15 ∷ read (seasonTo 0) 20 ∷ read (seasonTo 0) 0 ∷ read damaged 99 ∷
-    read (seasonTo 2) 99 ∷ read (splice 264 (replicate 176 255) (seasonTo 3)) 48 ∷ []) ≡
+    read (seasonTo 2) 99 ∷ read (splice 264 (replicate 176 255) (seasonTo 3)) 48 ∷
+    read (splice 5 (3 ∷ []) damaged) 99 ∷ []) ≡
     (seasonEntries ∷ seasonEntries ∷ []) ∷ (seasonEntries ∷ (seasonEntries ++ (170 ∷ 170 ∷ [])) ∷ []) ∷
     ([] ∷ replicate 47 170 ∷ []) ∷ ([] ∷ [] ∷ []) ∷
     (entry 7 ∷ entry 7 ∷ []) ∷ ([] ∷ replicate 15 170 ∷ []) ∷ ([] ∷ replicate 20 170 ∷ []) ∷ ([] ∷ [] ∷ []) ∷
-    ([] ∷ replicate 99 170 ∷ []) ∷ ([] ∷ replicate 99 170 ∷ []) ∷ (seasonEntries ∷ seasonEntries ∷ []) ∷ []
+    ([] ∷ replicate 99 170 ∷ []) ∷ ([] ∷ replicate 99 170 ∷ []) ∷ (seasonEntries ∷ seasonEntries ∷ []) ∷
+    ([] ∷ replicate 99 170 ∷ []) ∷ []
 unfolding observerTools read
 readings = refl
 
@@ -217,7 +219,7 @@ observer-calls = refl
 -- ---- what each call does besides its answer, refused and not
 calls : List ObserverCall
 calls =
-    observerOpening 3 3 ∷ observerOpening 17 3 ∷ observerOpening 3 2 ∷
+    observerOpening 5 3 ∷ observerOpening 17 3 ∷ observerOpening 5 2 ∷
     observerDelivery (finalizeCertificate 2 7) ∷ observerDelivery (dummyCertificate 2 7) ∷
     observerDelivery (dummyVote 0 1) ∷ observerDelivery (blockCertificate 1 7 other) ∷
     observerMoving ∷ observerSizing ∷ observerReading (zeros 16) ∷ observerReading (zeros 15) ∷ []
@@ -231,7 +233,7 @@ accepted : map (λ call. observation standIn (seasonTo 1) call .accepted) calls 
 unfolding observerTools calls
 accepted = refl
 
-opens-for : map (λ call. observation standIn (seasonTo 1) call .opens) calls ≡ some 3 ∷ replicate 10 none
+opens-for : map (λ call. observation standIn (seasonTo 1) call .opens) calls ≡ some 5 ∷ replicate 10 none
 unfolding observerTools calls
 opens-for = refl
 

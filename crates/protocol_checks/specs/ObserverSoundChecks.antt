@@ -79,11 +79,18 @@ encoded : encodeObserver sample ≡ sampleBytes
 unfolding observerTools sample sampleBytes
 encoded = refl
 
-decoded : fields (decodeObserver sampleBytes) ≡
-    (9 ∷ 5 ∷ 7 ∷ []) ∷
+-- each field is read at its place alone, whatever the bytes are that are called zero
+cluttered : Bytes
+cluttered =
+    splice 1 (31 ∷ []) (splice 3 (32 ∷ 33 ∷ []) (splice 6 (34 ∷ []) (splice 8 (replicate 56 35)
+    (splice 65 (36 ∷ []) (splice 73 (37 ∷ []) sampleBytes)))))
+
+decoded : map (λ bytes. fields (decodeObserver bytes)) (sampleBytes ∷ cluttered ∷ []) ≡
+    replicate 2
+    ((9 ∷ 5 ∷ 7 ∷ []) ∷
     (3 ∷ 513 ∷ 1027 ∷ 1541 ∷ counting 11 176) ∷
-    (8 ∷ 3340 ∷ 3854 ∷ 4368 ∷ counting 40 176) ∷ []
-unfolding observerTools sampleBytes heightFields fields
+    (8 ∷ 3340 ∷ 3854 ∷ 4368 ∷ counting 40 176) ∷ [])
+unfolding observerTools sampleBytes cluttered heightFields fields
 decoded = refl
 
 -- and back to the bytes; of a sound book too
@@ -115,12 +122,16 @@ content-places : freePlaces observes (newBook 4 3) (counting 64 24) ≡
 unfolding observerTools
 content-places = refl
 
+-- the same with a block on no parent at height 2 too, notarized where this state is 2
+filled : ℕ → Bytes
+filled status = splice 72 (observedContent status 14 7 0) (splice 264 (firstBlock 2 9) season)
+
 -- of a notarized block on no parent the count and the entries up to it; on a parent its height and digest too
-block-places : freePlaces observes season
-    (counting 88 16 ++ (104 ∷ 135 ∷ 136 ∷ 151 ∷ 152 ∷ 263 ∷ (counting 440 16 ++
-    (456 ∷ 487 ∷ 488 ∷ 519 ∷ 520 ∷ 615 ∷ [])))) ≡
-    92 ∷ 136 ∷ 151 ∷ 442 ∷ 444 ∷ 456 ∷ 487 ∷ 488 ∷ 519 ∷ []
-unfolding observerTools
+block-places : freePlaces observes (filled 2)
+    (counting 88 16 ++ (104 ∷ 135 ∷ 136 ∷ 151 ∷ 152 ∷ 263 ∷ (counting 264 5 ++ (327 ∷ 328 ∷ (counting 440 16 ++
+    (456 ∷ 487 ∷ 488 ∷ 519 ∷ 520 ∷ 615 ∷ [])))))) ≡
+    92 ∷ 136 ∷ 151 ∷ 266 ∷ 268 ∷ 327 ∷ 442 ∷ 444 ∷ 456 ∷ 487 ∷ 488 ∷ 519 ∷ []
+unfolding observerTools filled
 block-places = refl
 
 -- where the log ends at height 3 its block's parent counts too, and all of the parent's bytes
@@ -130,9 +141,10 @@ unfolding observerTools
 linked-places = refl
 
 -- where no block is notarized its place is free, and its certificate's mask below n
-free-places : allOf (map observes
+free-places : map observes
     (splice 264 (replicate 176 255) (seasonTo 3) ∷ splice 74 (15 ∷ []) (seasonTo 3) ∷
-    splice 264 (counting 1 176) (splice 74 (1 ∷ []) season) ∷ [])) ≡ true
+    splice 264 (counting 1 176) (splice 74 (1 ∷ []) season) ∷ splice 88 (replicate 528 255) (newBook 4 3) ∷
+    splice 72 (replicate 176 255) (newBook 1 1) ∷ []) ≡ replicate 5 true
 unfolding observerTools
 free-places = refl
 
@@ -158,11 +170,8 @@ unfolding observerTools
 head-bounds = refl
 
 -- states 0 and 2 where a block is well formed and certified, and 0 where none is
-filled : Bytes
-filled = splice 72 (observedContent 0 14 7 0) (splice 264 (firstBlock 2 9) season)
-
 states : map (λ place. observesWith season place (counting 0 7 ++ (255 ∷ []))) (64 ∷ 72 ∷ 80 ∷ []) ++
-    (observesWith filled 72 (counting 0 7 ++ (255 ∷ [])) ∷ []) ≡
+    (observesWith (filled 0) 72 (counting 0 7 ++ (255 ∷ [])) ∷ []) ≡
     (0 ∷ 2 ∷ []) ∷ (0 ∷ []) ∷ (0 ∷ 2 ∷ []) ∷ (0 ∷ 2 ∷ []) ∷ []
 unfolding observerTools filled
 states = refl
@@ -178,7 +187,7 @@ masks = refl
 
 -- a notarized block's certificate is a quorum, at each height; where none is notarized it need not be
 certificates : map (λ place. observesWith season place (0 ∷ 3 ∷ 7 ∷ 12 ∷ 14 ∷ 15 ∷ [])) (66 ∷ 74 ∷ 82 ∷ []) ++
-    (observesWith (splice 72 (2 ∷ []) filled) 74 (0 ∷ 3 ∷ 7 ∷ 12 ∷ 14 ∷ 15 ∷ []) ∷ []) ≡
+    (observesWith (filled 2) 74 (0 ∷ 3 ∷ 7 ∷ 12 ∷ 14 ∷ 15 ∷ []) ∷ []) ≡
     (7 ∷ 14 ∷ 15 ∷ []) ∷ (0 ∷ 3 ∷ 7 ∷ 12 ∷ 14 ∷ 15 ∷ []) ∷ (7 ∷ 14 ∷ 15 ∷ []) ∷ (7 ∷ 14 ∷ 15 ∷ []) ∷ []
 unfolding observerTools filled
 certificates = refl
@@ -203,7 +212,7 @@ finalized book = observesWith book 5 (counting 0 6 ++ (255 ∷ []))
 finalized-heights : map finalized
     (season ∷ splice 456 (99 ∷ []) season ∷ splice 76 (0 ∷ []) season ∷ splice 76 (3 ∷ []) season ∷
     splice 86 (3 ∷ []) season ∷ splice 80 (0 ∷ []) season ∷ splice 70 (12 ∷ []) season ∷
-    splice 78 (7 ∷ []) season ∷ splice 72 (observedContent 2 7 7 7) (splice 68 (7 ∷ []) filled) ∷ []) ≡
+    splice 78 (7 ∷ []) season ∷ splice 72 (observedContent 2 7 7 7) (splice 68 (7 ∷ []) (filled 0)) ∷ []) ≡
     (0 ∷ 1 ∷ 3 ∷ []) ∷ (0 ∷ 1 ∷ []) ∷ (0 ∷ 1 ∷ []) ∷ (0 ∷ 1 ∷ []) ∷
     (0 ∷ 1 ∷ []) ∷ (0 ∷ 1 ∷ []) ∷ (0 ∷ 3 ∷ []) ∷
     (0 ∷ 1 ∷ 3 ∷ []) ∷ (0 ∷ 1 ∷ 2 ∷ 3 ∷ []) ∷ []
