@@ -154,3 +154,12 @@ below : map (λ g. observerOutcome (seasonTo g) (observerDelivery (dummyCertific
     replicate 3 (0 ∷ 1 ∷ 68 ∷ 7 ∷ [])
 unfolding frames
 below = refl
+
+-- the last of 63 heights: contents at 560, block at 11480; the longest outcome is cut off within the block's entry
+last-height : map (take 12) (deliveries (newBook 4 63)
+    (dummyCertificate 63 7 ∷ finalizeCertificate 63 7 ∷ dummyCertificate 64 7 ∷
+    blockCertificate 63 7 (firstBlock 63 1) ∷ [])) ≡
+    (0 ∷ 1 ∷ 564 ∷ 7 ∷ []) ∷ (0 ∷ 1 ∷ 566 ∷ 7 ∷ []) ∷ (6 ∷ []) ∷
+    (0 ∷ 1 ∷ 560 ∷ 2 ∷ 562 ∷ 7 ∷ 11480 ∷ 63 ∷ 11484 ∷ 1 ∷ 11528 ∷ 1 ∷ []) ∷ []
+unfolding frames
+last-height = refl
