@@ -37,7 +37,7 @@ module _ (k : ℕ) (is : isCertificate k ≡ true) where
 
 -- ---- rows
 -- the rows of reading a certificate, among `n` replicas and over `H` heights
-pub readRowsOf : ℕ → ℕ → View → Bytes → List Row
+unfoldable pub readRowsOf : ℕ → ℕ → View → Bytes → List Row
 readRowsOf n heights v frame =
     (4, frameWellFormed frame) ∷
     (6, inRange 1 heights (frameHeight frame)) ∷
@@ -46,7 +46,7 @@ readRowsOf n heights v frame =
     (9, quorum v (signerMask frame)) ∷ []
 
 -- and of its block being the one that is notarized, if one is
-pub clashRowsOf : ObservedHeight → Bytes → List Row
+unfoldable pub clashRowsOf : ObservedHeight → Bytes → List Row
 clashRowsOf x frame =
     (8, true) ∷
     (8, true) ∷
@@ -78,7 +78,7 @@ module _ (frame : Bytes) (is : isCertificate (kind frame) ≡ true) where
 
 -- ---- what is kept
 -- what is shown of a height that is kept, if one is
-pub shownKept : Option Height → Option ObservedHeight
+unfoldable pub shownKept : Option Height → Option ObservedHeight
 shownKept none = none
 shownKept (some y) = some (observedHeight y)
 

@@ -57,7 +57,7 @@ module _ (x : Height) (e : ObservingHeight x) where
       subst (λ (y : Height). ObservingHeight (withNotarized y mask block)) e
       (unfold asReplicaHeight in unfold observedHeight in unfold withNotarized in refl)
 
-map-set : {A B : Type 0} (f : A → B) (xs : List A) (i : ℕ) (y : A) → map f (set xs i y) ≡ set (map f xs) i (f y)
+pub map-set : {A B : Type 0} (f : A → B) (xs : List A) (i : ℕ) (y : A) → map f (set xs i y) ≡ set (map f xs) i (f y)
 map-set f [] i y = refl
 map-set f (x ∷ xs) zero y = refl
 map-set {B = B} f (x ∷ xs) (suc i) y = ap (λ (ys : List B). f x ∷ ys) (map-set f xs i y)
