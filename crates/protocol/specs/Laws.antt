@@ -23,6 +23,7 @@ pub mod ChainLaws
 pub mod BlockLaws
 pub mod ParentLaws
 pub mod SoundLaws
+pub mod ObserverSoundLaws
 pub mod GrantedLaws
 pub mod PlaceLaws
 pub mod PoolLaws
