@@ -2,3 +2,5 @@
 pub mod AlikeLaws
 pub mod CertificateLaws
 pub mod HearLaws
+pub mod AwakeLaws
+pub mod RefusingLaws
