@@ -9,6 +9,7 @@ pub mod QuorumLaws
 pub mod FlagLaws
 pub mod MoveLaws
 pub mod DeliverLaws
+pub mod ObserverDeliverLaws
 pub mod PacketLaws
 pub mod FetchLaws
 pub mod TestedLaws

@@ -1,8 +1,8 @@
 -- What soundness says of an observer's state, apart from bytes: a sound book says a sound state, and a sound state's
 -- bytes are a sound book.
-use Prim.Native.Nat.{ℕ, suc, _+_, _-_, _*_, _^_, _≤_, _<_}
+use Prim.Native.Nat.{ℕ, suc, _+_, _-_, _*_, _≤_, _<_}
 use native.Mathlib.Omega.{arith}
-use mathlib.Core.Path.{_≡_, refl, sym, subst, _∙_}
+use mathlib.Core.Path.{_≡_, sym, subst}
 use mathlib.Core.Logic.{_⊎_, inl, inr}
 use mathlib.Core.Bool.{true, _||_, false≢true}
 use mathlib.Core.List.{[], _∷_}
@@ -13,14 +13,14 @@ use Rattle.protocol.specs.SoundState.{SoundHeight}
 use Rattle.protocol.specs.SoundObserver.{SoundObserver}
 use Rattle.protocol.specs.Every.{none, one}
 use Rattle.protocol.specs.Bytes.{Bytes, byteAt, part, all, isZero, AreBytes}
-use Rattle.protocol.specs.Tests.{allOf, implies, inRange, everyHeight}
+use Rattle.protocol.specs.Tests.{implies, inRange}
 use Rattle.protocol.specs.Block.{maximumHeights, blockWellFormed}
 use Rattle.protocol.specs.Mask.{belowBit}
 use Rattle.protocol.specs.State.{State, Height, at, last, bookHeights, holdsProposal, isNotarized}
 use Rattle.protocol.specs.State.{maximumReplicas}
 use Rattle.protocol.specs.View.{View, quorum, isFinalized}
 use Rattle.protocol.specs.Sound.{view, masksBelow}
-use Rattle.protocol.specs.Observer.{Observer, asReplica, asReplicaHeight, observerState, observerView}
+use Rattle.protocol.specs.Observer.{Observer, asReplica, asReplicaHeight, observerState}
 use Rattle.protocol.specs.Observer.{decodeObserver, encodeObserver, observerBookSize}
 use Rattle.protocol.specs.ObserverSound.{observerSound, replicaHead, observedZero}
 use Rattle.protocol.specs.Laws.TestsLaws.{and-both, or-either, or-right}
