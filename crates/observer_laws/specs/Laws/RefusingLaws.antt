@@ -8,6 +8,7 @@ use mathlib.Core.List.{List, [], _∷_, _++_}
 use mathlib.Core.Option.{Option, some, none}
 use lib.ListN.{length}
 use lib.Dec.{leb}
+use borrow.Author.Tests.{lt-leb}
 use Rattle.protocol.specs.Bytes.{Bytes, overFront}
 use Rattle.protocol.specs.Tests.{Row, firstRefusal}
 use Rattle.protocol.specs.Frame.{kind, frameHeight, frameWellFormed, isCertificate, isStatement}
@@ -21,6 +22,7 @@ use Rattle.protocol.specs.ObserverCalls.{observerOpenRows, observerOpenCall, ob
 use Rattle.protocol.specs.ObserverCalls.{observerDeliverRows, observerDeliverCall, observerMoveRows, observerMoveCall}
 use Rattle.protocol.specs.ObserverCalls.{observerMoved, observerSizeCall, observerReadPart, observerReadBuffer}
 use Rattle.protocol.specs.Laws.RowLaws.{in-range, not-passed, pass-row, refuse-row}
+use Rattle.protocol.specs.Laws.FrontLaws.{front-none}
 use Rattle.call_laws.specs.Refusals.{Refuses}
 use Rattle.call_laws.specs.Laws.RefusalsLaws.{outcome-refuses, test-refuses}
 use Rattle.observer_laws.specs.Refusing.{certificateRows, notarizedRow, refusalRows, RefusesStatements}
@@ -34,13 +36,6 @@ unfolding observerOpenCall
 observer-open-refuses book n heights = outcome-refuses (observerOpenRows book n heights) book _ _ refl
 
 -- ---- Deliver: the rows that can fail
--- a row that passed before passes again
-row-again : (number : ℕ) (test : Bool) (rows : List Row) →
-    firstRefusal ((number, test) ∷ (number, test) ∷ rows) ≡ firstRefusal ((number, test) ∷ rows)
-unfolding firstRefusal
-row-again number true rows = refl
-row-again number false rows = refl
-
 module _ (s : State) (frame : Bytes) where
   abbrev rest : List Row
   rest = readRows s frame ++ clashRows s frame
@@ -51,11 +46,11 @@ module _ (s : State) (frame : Bytes) where
       firstRefusal (certificateRows s frame ++ (notarizedRow s frame ∷ []))
   unfolding certificateRows notarizedRow firstRefusal readRowsOf clashRowsOf observedHeight isNotarized
   certificate-refusal is =
-      rw (is, read-rows-are frame is s, clash-rows-are frame is s) (again (frameWellFormed frame))
+      rw (is, read-rows-are frame is s, clash-rows-are frame is s) (again (frameWellFormed frame) _)
     where
-      again : (b : Bool) {x : Option ℕ} → cond b (cond b x (some 4)) (some 4) ≡ cond b x (some 4)
-      again true = refl
-      again false = refl
+      again : (b : Bool) (x : Option ℕ) → cond b (cond b x (some 4)) (some 4) ≡ cond b x (some 4)
+      again true x = refl
+      again false x = refl
 
   -- another frame
   other-refusal : (c : Bool) → isCertificate (kind frame) ≡ c →
@@ -63,3 +58,90 @@ module _ (s : State) (frame : Bytes) where
       firstRefusal (certificateRows s frame ++ (notarizedRow s frame ∷ []))
   other-refusal true is = certificate-refusal is
   other-refusal false is = unfold certificateRows firstRefusal in rw is
+
+-- a call refuses by other rows of which the same one fails first
+by-other-rows : {A : Type 0} (rows others : List Row) (answer : Answer A) (before after : List Bytes) →
+    firstRefusal rows ≡ firstRefusal others → Refuses A rows answer before after → Refuses A others answer before after
+by-other-rows rows others answer before after e refuses = record {
+  by-number = λ number.
+      let (forth, back) = refuses .by-number number in ((λ is. sym e ∙ forth is), λ is. back (e ∙ is));
+  unchanged = refuses .unchanged;
+}
+
+module _ (digest : Bytes → Bytes) where
+  same-refusal : (book frame : Bytes) →
+      firstRefusal (observerDeliverRows digest book frame) ≡ firstRefusal (refusalRows digest book frame)
+  unfolding observerDeliverRows refusalRows
+  same-refusal book frame = go (observerSound digest book) _ _
+      (other-refusal (observerState book) frame (isCertificate (kind frame)) refl)
+    where
+      go : (test : Bool) (rows others : List Row) → firstRefusal rows ≡ firstRefusal others →
+          firstRefusal ((1, test) ∷ rows) ≡ firstRefusal ((1, test) ∷ others)
+      go true rows others e = unfold firstRefusal in e
+      go false rows others e = unfold firstRefusal in refl
+
+  kept-accepted : (book frame : Bytes) (o : Option Height) →
+      (news : Delivery) × (observerKept book frame o .answer ≡ accepted news)
+  unfolding observerKept
+  kept-accepted book frame none = (known, refl)
+  kept-accepted book frame (some y) = (fresh, refl)
+
+  pub observer-deliver-refuses : (book frame : Bytes) →
+      Refuses Delivery (refusalRows digest book frame) (observerDeliverCall digest book frame .answer) (book ∷ [])
+      (observerDeliverCall digest book frame .book ∷ [])
+  unfolding observerDeliverCall
+  observer-deliver-refuses book frame =
+      let kept : Option Height = keep digest (observerState book) frame in
+      let (news, accepts) = kept-accepted book frame kept in
+      by-other-rows (observerDeliverRows digest book frame) (refusalRows digest book frame) _ _ _
+      (same-refusal book frame)
+      (outcome-refuses (observerDeliverRows digest book frame) book (observerKept book frame kept) news accepts)
+
+  pub observer-move-refuses : (book : Bytes) →
+      Refuses Move (observerMoveRows digest book) (observerMoveCall digest book .answer) (book ∷ [])
+      (observerMoveCall digest book .book ∷ [])
+  unfolding observerMoveCall observerMoved
+  observer-move-refuses book = outcome-refuses (observerMoveRows digest book) book _ _ refl
+
+  pub observer-size-refuses : (book : Bytes) →
+      Refuses ℕ ((1, observerSound digest book) ∷ []) (observerSizeCall digest book) [] []
+  unfolding observerSizeCall
+  observer-size-refuses book = test-refuses (observerSound digest book) (observerLogSize book)
+
+  -- ---- kinds 1 to 4
+  no-certificate : (k : ℕ) → isStatement k ≡ true → isCertificate k ≡ false
+  unfolding isStatement isCertificate
+  no-certificate k e = not-passed _ (λ is. omega (arith, in-range 1 4 k e, in-range 5 7 k is))
+
+  pub refuses-statements : RefusesStatements digest
+  unfolding RefusesStatements observerDeliverCall observerDeliverRows firstRefusal unlessRefused
+  refuses-statements book frame was-sound formed statement =
+      rw (was-sound, formed, no-certificate (kind frame) statement)
+
+  -- ---- Read
+  -- what the size says of the book
+  abbrev SizeSaid : Bytes → Answer ℕ → Type 0
+  SizeSaid book (refused number) = observerSound digest book ≡ false
+  SizeSaid book (accepted size) = (observerSound digest book ≡ true) × (observerLogSize book ≡ size)
+
+  size-said : (book : Bytes) (answer : Answer ℕ) → observerSizeCall digest book ≡ answer → SizeSaid book answer
+  unfolding observerSizeCall
+  size-said book answer e = subst (SizeSaid book) e (go (observerSound digest book) refl)
+    where
+      go : (b : Bool) → observerSound digest book ≡ b → SizeSaid book (cond b (accepted (observerLogSize book)) (refused 1))
+      go true e = (e, refl)
+      go false e = e
+
+  cannot-part : (book buffer : Bytes) → CannotObserve digest book buffer → observerReadPart digest book buffer ≡ []
+  unfolding CannotObserve observerReadPart
+  cannot-part book buffer (inl (number, e)) = rw (size-said book (refused number) e)
+  cannot-part book buffer (inr (size, e, short)) =
+      let (is-sound, is) = size-said book (accepted size) e in
+      let longer : leb (observerLogSize book) (length buffer) ≡ false =
+      lt-leb (observerLogSize book) (length buffer) (omega arith) in
+      rw (is-sound, longer)
+
+  pub observer-reads-nothing : (book buffer : Bytes) → CannotObserve digest book buffer →
+      (observerReadPart digest book buffer ≡ []) × (observerReadBuffer digest book buffer ≡ buffer)
+  unfolding observerReadBuffer
+  observer-reads-nothing book buffer e = let empty = cannot-part book buffer e in (empty, rw empty (front-none buffer))
