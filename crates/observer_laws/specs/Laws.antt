@@ -4,3 +4,4 @@ pub mod CertificateLaws
 pub mod HearLaws
 pub mod AwakeLaws
 pub mod RefusingLaws
+pub mod ObserverSoundStaysLaws
