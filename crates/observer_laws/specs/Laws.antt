@@ -5,3 +5,5 @@ pub mod HearLaws
 pub mod AwakeLaws
 pub mod RefusingLaws
 pub mod ObserverSoundStaysLaws
+pub mod ObserverOpenLaws
+pub mod ObserverSoundStays

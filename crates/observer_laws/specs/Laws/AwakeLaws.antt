@@ -41,7 +41,7 @@ module _ (digest : Bytes → Bytes) where
         final = is .final;
       }
 
-  awake-observer : (o : Observer) → SoundState digest (awake (asReplica o)) → HoldsNone (asReplica o) →
+  pub awake-observer : (o : Observer) → SoundState digest (awake (asReplica o)) → HoldsNone (asReplica o) →
       SoundObserver digest o
   unfolding awake withHead asReplica view at last
   awake-observer o is holds-none =
