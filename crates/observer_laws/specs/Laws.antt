@@ -7,3 +7,4 @@ pub mod RefusingLaws
 pub mod ObserverSoundStaysLaws
 pub mod ObserverOpenLaws
 pub mod ObserverSoundStays
+pub mod TwinDeliverLaws

@@ -1,4 +1,5 @@
 -- What observers' calls keep and refuse, what they read of what replicas write, and that a replica and an observer who
 -- hear the same certificates read the same log.
 pub mod Refusing
+pub mod Twins
 pub mod Laws

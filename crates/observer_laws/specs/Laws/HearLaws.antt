@@ -14,11 +14,9 @@ use Rattle.protocol.specs.State.{State, Height, withHeight}
 use Rattle.protocol.specs.Observer.{ObservedHeight, observedHeight}
 use Rattle.protocol.specs.Deliver.{readRows, clashRows, keep}
 use Rattle.protocol.specs.Laws.ObserverStateLaws.{map-set}
+use Rattle.observer_laws.specs.Twins.{IsCertificate}
 use Rattle.observer_laws.specs.Laws.AlikeLaws.{Alike}
 use Rattle.observer_laws.specs.Laws.CertificateLaws.{same-rows, shownKept, same-kept}
-
-abbrev pub IsCertificate : Bytes → Type 0
-IsCertificate frame = isCertificate (kind frame) ≡ true
 
 -- the rows of a certificate after that of soundness
 abbrev pub hearRows : State → Bytes → List Row

@@ -1,0 +1,118 @@
+-- The second claim of request 2.3: a replica and an observer, both new with one n and H, that are given the same
+-- certificates in the same order read the same log after each has moved until idle; and on the way the next certificate
+-- gets the same answer from both. The old bytes of both books, the own number and the leaders are any; so is what else
+-- is called in between, moves of either and signals among it. No one need be honest, and the digest is any function.
+use Prim.Native.Nat.{ℕ, _%_}
+use mathlib.Core.Path.{_≡_}
+use mathlib.Core.Bool.{Bool, true, false, cond}
+use mathlib.Core.List.{List, [], _∷_, _++_}
+use lib.ListN.{length}
+use lib.Dec.{eqb}
+use Rattle.protocol.specs.Bytes.{Bytes}
+use Rattle.protocol.specs.Every.{Every}
+use Rattle.protocol.specs.Frame.{kind, frameSize, isCertificate}
+use Rattle.protocol.specs.Answer.{Move, accepted, done, idle}
+use Rattle.protocol.specs.Open.{openCall}
+use Rattle.protocol.specs.Deliver.{deliverCall}
+use Rattle.protocol.specs.Packet.{packetFrames}
+use Rattle.protocol.specs.Move.{moveCall}
+use Rattle.protocol.specs.Read.{sizeCall, readPart}
+use Rattle.protocol.specs.Call.{Call, opening, delivery, packetDelivery, moving, signalling, submitting, sizing}
+use Rattle.protocol.specs.Call.{reading, fetching, bookAfterAll}
+use Rattle.protocol.specs.ObserverCalls.{observerOpenCall, observerDeliverCall, observerMoveCall, observerSizeCall}
+use Rattle.protocol.specs.ObserverCalls.{observerReadPart}
+use Rattle.protocol.specs.ObserverCall.{ObserverCall, observerOpening, observerDelivery, observerMoving, observerSizing}
+use Rattle.protocol.specs.ObserverCall.{observerReading, observerBookAfterAll}
+
+-- ---- the frames that a call gives to its book, refused or not, in order
+-- a packet whose length is no multiple of 224 is refused as a whole and gives none
+unfoldable pub given : Call → List Bytes
+given (opening n own heights leaders) = []
+given (delivery frame) = frame ∷ []
+given (packetDelivery packet) = cond (eqb (length packet % frameSize) 0) (packetFrames packet) []
+given (moving reply) = []
+given (signalling h) = []
+given (submitting entry) = []
+given sizing = []
+given (reading buffer) = []
+given (fetching k h reply) = []
+
+unfoldable pub allGiven : List Call → List Bytes
+allGiven [] = []
+allGiven (call ∷ calls) = given call ++ allGiven calls
+
+unfoldable pub givenToObserver : ObserverCall → List Bytes
+givenToObserver (observerOpening n heights) = []
+givenToObserver (observerDelivery frame) = frame ∷ []
+givenToObserver observerMoving = []
+givenToObserver observerSizing = []
+givenToObserver (observerReading buffer) = []
+
+unfoldable pub allGivenToObserver : List ObserverCall → List Bytes
+allGivenToObserver [] = []
+allGivenToObserver (call ∷ calls) = givenToObserver call ++ allGivenToObserver calls
+
+-- ---- which calls are openings
+unfoldable pub isOpening : Call → Bool
+isOpening (opening n own heights leaders) = true
+isOpening (delivery frame) = false
+isOpening (packetDelivery packet) = false
+isOpening (moving reply) = false
+isOpening (signalling h) = false
+isOpening (submitting entry) = false
+isOpening sizing = false
+isOpening (reading buffer) = false
+isOpening (fetching k h reply) = false
+
+unfoldable pub isObserverOpening : ObserverCall → Bool
+isObserverOpening (observerOpening n heights) = true
+isObserverOpening (observerDelivery frame) = false
+isObserverOpening observerMoving = false
+isObserverOpening observerSizing = false
+isObserverOpening (observerReading buffer) = false
+
+-- a frame whose kind byte is 5, 6 or 7, well formed or not
+abbrev pub IsCertificate : Bytes → Type 0
+IsCertificate frame = isCertificate (kind frame) ≡ true
+
+-- ---- a replica's and an observer's calls
+-- both books are opened with one n and H, not refused, and not again; and both are given the same certificates
+pub record SameCertificates (n heights own : ℕ) (leaders old observerOld : Bytes) (calls : List Call)
+    (observerCalls : List ObserverCall) : Type 0 where
+  pub opened : openCall old n own heights leaders .answer ≡ accepted done
+  pub observer-opened : observerOpenCall observerOld n heights .answer ≡ accepted done
+  pub opened-once : Every (λ (call : Call). isOpening call ≡ false) calls
+  pub observer-opened-once : Every (λ (call : ObserverCall). isObserverOpening call ≡ false) observerCalls
+  pub certificates : Every IsCertificate (allGiven calls)
+  pub same : allGivenToObserver observerCalls ≡ allGiven calls
+
+module _ (digest : Bytes → Bytes) where
+  -- ---- two books, a replica's and an observer's
+  -- each certificate gets the same answer from both: fresh, known, or refused with the same number
+  unfoldable pub SameAnswers : (book observerBook : Bytes) → Type 0
+  SameAnswers book observerBook = (frame : Bytes) → IsCertificate frame →
+      observerDeliverCall digest observerBook frame .answer ≡ deliverCall digest book frame .answer
+
+  -- where both are idle, they have the same log: its size, and what is read into any buffer
+  pub record SameLog (book observerBook : Bytes) : Type 0 where
+    pub same-size : observerSizeCall digest observerBook ≡ sizeCall digest book
+    pub same-part : (buffer : Bytes) → observerReadPart digest observerBook buffer ≡ readPart digest book buffer
+
+  unfoldable pub SameLogWhenIdle : (book observerBook : Bytes) → Type 0
+  SameLogWhenIdle book observerBook = (reply : Bytes) → moveCall digest book reply .answer ≡ accepted idle →
+      observerMoveCall digest observerBook .answer ≡ accepted idle → SameLog book observerBook
+
+  -- ---- the claim
+  unfoldable pub Twins : Type 0
+  Twins = (n heights own : ℕ) (leaders old observerOld : Bytes) (calls : List Call)
+      (observerCalls : List ObserverCall) →
+      SameCertificates n heights own leaders old observerOld calls observerCalls →
+      let book : Bytes = bookAfterAll digest (openCall old n own heights leaders .book) calls in
+      let observerBook : Bytes =
+      observerBookAfterAll digest (observerOpenCall observerOld n heights .book) observerCalls in
+      SameAnswers book observerBook × SameLogWhenIdle book observerBook
+
+  -- an observer is idle after one move: a second one right after it answers idle
+  unfoldable pub ObserverIdles : Type 0
+  ObserverIdles = (book : Bytes) (move : Move) → observerMoveCall digest book .answer ≡ accepted move →
+      observerMoveCall digest (observerMoveCall digest book .book) .answer ≡ accepted idle
