@@ -8,3 +8,4 @@ pub mod ObserverSoundStaysLaws
 pub mod ObserverOpenLaws
 pub mod ObserverSoundStays
 pub mod TwinDeliverLaws
+pub mod TwinCallLaws
