@@ -9,3 +9,4 @@ pub mod ObserverOpenLaws
 pub mod ObserverSoundStays
 pub mod TwinDeliverLaws
 pub mod TwinCallLaws
+pub mod TwinsLaws

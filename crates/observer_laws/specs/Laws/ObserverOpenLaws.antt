@@ -11,7 +11,7 @@ use lib.Dec.{ltb}
 use borrow.Author.Tests.{eqb-true, eq-eqb, lt-ltb}
 use Rattle.protocol.specs.SoundState.{SoundState}
 use Rattle.protocol.specs.SoundObserver.{SoundObserver}
-use Rattle.protocol.specs.Bytes.{Bytes, all}
+use Rattle.protocol.specs.Bytes.{Bytes, Sized, all}
 use Rattle.protocol.specs.Every.{Every, none, one}
 use Rattle.protocol.specs.Tests.{firstRefusal, allOf, inRange}
 use Rattle.protocol.specs.Block.{maximumHeights}
@@ -19,12 +19,14 @@ use Rattle.protocol.specs.State.{State, Height, noHeight, at, last, withHead, m
 use Rattle.protocol.specs.Answer.{Answer, Done, done, refused, accepted, unlessRefused}
 use Rattle.protocol.specs.Open.{newHeight, newState, startState, openInRange}
 use Rattle.protocol.specs.Observer.{Observer, ObservedHeight, asReplica, asReplicaHeight, observedHeight, encodeObserver}
+use Rattle.protocol.specs.Observer.{observedBodyBytes}
 use Rattle.protocol.specs.ObserverSound.{observerSound}
 use Rattle.protocol.specs.ObserverCalls.{newObserver, newObservedHeight, observerOpenRows, observerOpenCall}
 use Rattle.protocol.specs.Laws.EveryLaws.{every-at}
 use Rattle.protocol.specs.Laws.CodecLaws.{at-suc}
 use Rattle.protocol.specs.Laws.RowLaws.{by-rows, by-tested, all-of, in-range}
-use Rattle.protocol.specs.Laws.ObserverStateLaws.{observing-as, observed-as}
+use Rattle.protocol.specs.Laws.ObserverStateLaws.{ShapedObserver}
+use Rattle.protocol.specs.Laws.BytesLaws.{length-zeros}
 use Rattle.protocol.specs.Laws.ObserverSoundLaws.{observer-sound-encode}
 use Rattle.call_laws.specs.Laws.OpenSoundLaws.{open-sound}
 use Rattle.call_laws.specs.Laws.SoundStaysLaws.{unless-refused}
@@ -59,10 +61,19 @@ unfolding asReplicaHeight newObservedHeight
 all-status zero = none
 all-status (suc heights) = one refl (all-status heights)
 
+blocks-sized : (heights : ℕ) → Every (Sized 176) (map observedBodyBytes (replicate heights newObservedHeight))
+unfolding observedBodyBytes newObservedHeight
+blocks-sized zero = none
+blocks-sized (suc heights) = one (length-zeros 176) (blocks-sized heights)
+
 all-no-leader : (n heights : ℕ) → 1 ≤ n → all (λ leader. ltb leader n) (noLeaders heights) ≡ true
 unfolding all
 all-no-leader n zero low = refl
 all-no-leader n (suc heights) low = rw (lt-ltb 0 n low) (all-no-leader n heights low)
+
+pub new-observer-shaped : (n heights : ℕ) → ShapedObserver (newObserver n heights)
+unfolding newObserver
+new-observer-shaped n heights = blocks-sized heights
 
 pub record ObserverRanges (n heights : ℕ) : Type 0 where
   pub replicas : inRange 1 maximumReplicas n ≡ true

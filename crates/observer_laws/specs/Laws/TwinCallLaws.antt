@@ -153,14 +153,14 @@ module _ (digest : Bytes → Bytes) where
     abbrev t : State
     t = observerState book
 
-    back : observerState (encodeObserver (decodeObserver book)) ≡ t
-    back = ap asReplica (decode-encode-observer (decodeObserver book)
+    pub state-back : observerState (encodeObserver (decodeObserver book)) ≡ t
+    state-back = ap asReplica (decode-encode-observer (decodeObserver book)
         (as-shaped (decodeObserver book) (sound-observer digest book was .shaped)))
 
     observer-move-same : Alike t (observerState (observerMoveCall digest book .book))
     observer-move-same = observer-move-cases digest book (λ (o : Outcome Move). Alike t (observerState (o .book)))
         (λ _. alike-self t)
-        (λ _ _. subst (Alike t) (sym back) (alike-self t))
+        (λ _ _. subst (Alike t) (sym state-back) (alike-self t))
         (λ _ _. unfold outputStep in
         subst (Alike t) (sym (observer-output digest book was (newFinalized digest t)))
         (unfold withHead in record { same-n = refl; same-heights = refl }))
