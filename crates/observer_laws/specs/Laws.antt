@@ -10,3 +10,4 @@ pub mod ObserverSoundStays
 pub mod TwinDeliverLaws
 pub mod TwinCallLaws
 pub mod TwinsLaws
+pub mod CertificatesReadLaws

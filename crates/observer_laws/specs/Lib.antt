@@ -2,4 +2,5 @@
 -- hear the same certificates read the same log.
 pub mod Refusing
 pub mod Twins
+pub mod CertificatesRead
 pub mod Laws

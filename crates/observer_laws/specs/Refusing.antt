@@ -1,12 +1,9 @@
 -- What an observer will not take: each call by its rows in order, of which the first that fails gives the number. For
 -- Deliver the rows that can fail are 1, 4, 16, 6, 5, 9 and 10; those of document 01 with 7 and 8 ask nothing of a
 -- certificate.
-use Prim.Native.Nat.{ℕ, _<_}
 use mathlib.Core.Path.{_≡_}
-use mathlib.Core.Logic.{_⊎_}
 use mathlib.Core.Bool.{true, _&&_}
 use mathlib.Core.List.{List, [], _∷_, _++_}
-use lib.ListN.{length}
 use Rattle.protocol.specs.Bytes.{Bytes, same}
 use Rattle.protocol.specs.Tests.{Row, implies, inRange}
 use Rattle.protocol.specs.Mask.{belowBit}
@@ -15,10 +12,10 @@ use Rattle.protocol.specs.Frame.{isBlockCertificate}
 use Rattle.protocol.specs.State.{State, Height, at, last, isNotarized}
 use Rattle.protocol.specs.View.{quorum}
 use Rattle.protocol.specs.Sound.{view}
-use Rattle.protocol.specs.Answer.{Delivery, Outcome, refused, accepted}
+use Rattle.protocol.specs.Answer.{refused}
 use Rattle.protocol.specs.Observer.{observerState}
 use Rattle.protocol.specs.ObserverSound.{observerSound}
-use Rattle.protocol.specs.ObserverCalls.{observerDeliverCall, observerSizeCall}
+use Rattle.protocol.specs.ObserverCalls.{observerDeliverCall}
 
 -- a frame is read over an observer's state: it passes refusals 4, 16, 6, 5 and 9
 unfoldable pub certificateRows : State → Bytes → List Row
@@ -47,9 +44,3 @@ module _ (digest : Bytes → Bytes) where
   RefusesStatements = (book frame : Bytes) → observerSound digest book ≡ true → frameWellFormed frame ≡ true →
       isStatement (kind frame) ≡ true →
       observerDeliverCall digest book frame ≡ record { answer = refused 16; book = book }
-
-  -- Size refuses, or the buffer is shorter than the size
-  unfoldable pub CannotObserve : Bytes → Bytes → Type 0
-  CannotObserve book buffer =
-      ((number : ℕ) × (observerSizeCall digest book ≡ refused number)) ⊎
-      ((size : ℕ) × (observerSizeCall digest book ≡ accepted size) × (length buffer < size))

@@ -2,13 +2,9 @@
 use Prim.Native.Nat.{ℕ}
 use native.Mathlib.Omega.{arith}
 use mathlib.Core.Path.{_≡_, refl, sym, ap, ap₂, subst, _∙_}
-use mathlib.Core.Logic.{inl, inr}
 use mathlib.Core.Bool.{Bool, true, false, _&&_, cond, true≢false}
 use mathlib.Core.List.{List, [], _∷_, _++_}
 use mathlib.Core.Option.{Option, some, none}
-use lib.ListN.{length}
-use lib.Dec.{leb}
-use borrow.Author.Tests.{lt-leb}
 use Rattle.protocol.specs.Bytes.{Bytes, overFront}
 use Rattle.protocol.specs.Tests.{Row, firstRefusal}
 use Rattle.protocol.specs.Frame.{kind, frameHeight, frameWellFormed, isCertificate, isStatement}
@@ -20,13 +16,11 @@ use Rattle.protocol.specs.Observer.{observerState, observedHeight}
 use Rattle.protocol.specs.ObserverSound.{observerSound}
 use Rattle.protocol.specs.ObserverCalls.{observerOpenRows, observerOpenCall, observerKept, observerLogSize}
 use Rattle.protocol.specs.ObserverCalls.{observerDeliverRows, observerDeliverCall, observerMoveRows, observerMoveCall}
-use Rattle.protocol.specs.ObserverCalls.{observerMoved, observerSizeCall, observerReadPart, observerReadBuffer}
+use Rattle.protocol.specs.ObserverCalls.{observerMoved, observerSizeCall}
 use Rattle.protocol.specs.Laws.RowLaws.{in-range, not-passed, pass-row, refuse-row}
-use Rattle.protocol.specs.Laws.FrontLaws.{front-none}
 use Rattle.call_laws.specs.Refusals.{Refuses}
 use Rattle.call_laws.specs.Laws.RefusalsLaws.{outcome-refuses, test-refuses}
 use Rattle.observer_laws.specs.Refusing.{certificateRows, notarizedRow, refusalRows, RefusesStatements}
-use Rattle.observer_laws.specs.Refusing.{CannotObserve}
 use Rattle.observer_laws.specs.Laws.CertificateLaws.{readRowsOf, clashRowsOf, read-rows-are, clash-rows-are}
 
 pub observer-open-refuses : (book : Bytes) (n heights : ℕ) →
@@ -117,31 +111,3 @@ module _ (digest : Bytes → Bytes) where
   unfolding RefusesStatements observerDeliverCall observerDeliverRows firstRefusal unlessRefused
   refuses-statements book frame was-sound formed statement =
       rw (was-sound, formed, no-certificate (kind frame) statement)
-
-  -- ---- Read
-  -- what the size says of the book
-  abbrev SizeSaid : Bytes → Answer ℕ → Type 0
-  SizeSaid book (refused number) = observerSound digest book ≡ false
-  SizeSaid book (accepted size) = (observerSound digest book ≡ true) × (observerLogSize book ≡ size)
-
-  size-said : (book : Bytes) (answer : Answer ℕ) → observerSizeCall digest book ≡ answer → SizeSaid book answer
-  unfolding observerSizeCall
-  size-said book answer e = subst (SizeSaid book) e (go (observerSound digest book) refl)
-    where
-      go : (b : Bool) → observerSound digest book ≡ b → SizeSaid book (cond b (accepted (observerLogSize book)) (refused 1))
-      go true e = (e, refl)
-      go false e = e
-
-  cannot-part : (book buffer : Bytes) → CannotObserve digest book buffer → observerReadPart digest book buffer ≡ []
-  unfolding CannotObserve observerReadPart
-  cannot-part book buffer (inl (number, e)) = rw (size-said book (refused number) e)
-  cannot-part book buffer (inr (size, e, short)) =
-      let (is-sound, is) = size-said book (accepted size) e in
-      let longer : leb (observerLogSize book) (length buffer) ≡ false =
-      lt-leb (observerLogSize book) (length buffer) (omega arith) in
-      rw (is-sound, longer)
-
-  pub observer-reads-nothing : (book buffer : Bytes) → CannotObserve digest book buffer →
-      (observerReadPart digest book buffer ≡ []) × (observerReadBuffer digest book buffer ≡ buffer)
-  unfolding observerReadBuffer
-  observer-reads-nothing book buffer e = let empty = cannot-part book buffer e in (empty, rw empty (front-none buffer))
