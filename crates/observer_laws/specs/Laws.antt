@@ -11,3 +11,5 @@ pub mod TwinDeliverLaws
 pub mod TwinCallLaws
 pub mod TwinsLaws
 pub mod CertificatesReadLaws
+pub mod ObserverKeptLaws
+pub mod ObserverKeepsLaws

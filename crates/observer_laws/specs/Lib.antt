@@ -3,4 +3,5 @@
 pub mod Refusing
 pub mod Twins
 pub mod CertificatesRead
+pub mod ObserverKeeping
 pub mod Laws

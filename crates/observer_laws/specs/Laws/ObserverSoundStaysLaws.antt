@@ -57,10 +57,10 @@ module _ (digest : Bytes → Bytes) where
     facts : SoundObserver digest (decodeObserver book)
     facts = sound-observer digest book was
 
-    state : SoundState digest (awake s)
+    pub state : SoundState digest (awake s)
     state = awake-sound digest (decodeObserver book) facts
 
-    holds-none : HoldsNone s
+    pub holds-none : HoldsNone s
     holds-none h low high = facts .holds-none h low (rw (last-as (decodeObserver book)) at high)
 
     -- a state that an observer can have is the state of a sound book
@@ -72,7 +72,7 @@ module _ (digest : Bytes → Bytes) where
       abbrev h : ℕ
       h = frameHeight frame
 
-      read-awake : ReadFrame (awake s) frame
+      pub read-awake : ReadFrame (awake s) frame
       unfolding awake withHead readRows at last view
       read-awake = rows-read (awake s) frame (accepts .passes)
 
@@ -113,7 +113,7 @@ module _ (digest : Bytes → Bytes) where
             (accepts .read)) in
             observing-with s (observing-as (decodeObserver book)) h y fits
 
-        delivered : Sound (encodeObserver (observed (withHeight s h y)))
+        pub delivered : Sound (encodeObserver (observed (withHeight s h y)))
         delivered = encoded (withHeight s h y) kept-observing kept-sound kept-none
 
     pub observer-deliver-stays : (frame : Bytes) → Sound (observerDeliverCall digest book frame .book)
