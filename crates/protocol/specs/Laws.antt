@@ -50,3 +50,4 @@ pub mod BuildLaws
 pub mod EditionLaws
 pub mod CallLaws
 pub mod SoundRowNames
+pub mod ObserverPlaceLaws

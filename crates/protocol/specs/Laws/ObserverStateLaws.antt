@@ -22,11 +22,11 @@ observed-height : (x : ObservedHeight) → observedHeight (asReplicaHeight x) �
 unfolding observedHeight asReplicaHeight
 observed-height x = refl
 
-observed-heights : (xs : List ObservedHeight) → map observedHeight (map asReplicaHeight xs) ≡ xs
+pub observed-heights : (xs : List ObservedHeight) → map observedHeight (map asReplicaHeight xs) ≡ xs
 observed-heights [] = refl
 observed-heights (x ∷ xs) = ap₂ _∷_ (observed-height x) (observed-heights xs)
 
-abbrev withObservedHeights : Observer → List ObservedHeight → Observer
+abbrev pub withObservedHeights : Observer → List ObservedHeight → Observer
 withObservedHeights o heights =
     record { edition = o .edition; n = o .n; finalized = o .finalized; heights = heights }
 
