@@ -81,8 +81,8 @@ module _ (digest : Bytes → Bytes) (book frame : Bytes) (accepts : ObserverAcce
 
     same-count : bookHeights after ≡ bookHeights book
     same-count =
-        sym (last-observed after) ∙ ap last back ∙
-        (unfold last withHeight in length-set (s .heights) (h - 1) y) ∙ last-observed book
+        let counted : last (withHeight s h y) ≡ last s = unfold last withHeight in length-set (s .heights) (h - 1) y in
+        sym (last-observed after) ∙ ap last back ∙ counted ∙ last-observed book
 
     size-after : length after ≡ length book
     size-after =
