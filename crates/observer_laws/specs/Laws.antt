@@ -12,4 +12,5 @@ pub mod TwinCallLaws
 pub mod TwinsLaws
 pub mod CertificatesReadLaws
 pub mod ObserverKeptLaws
+pub mod ObserverWritesLaws
 pub mod ObserverKeepsLaws

@@ -29,6 +29,7 @@ use Rattle.call_laws.specs.Laws.RefusalsLaws.{refused≢accepted}
 use Rattle.observer_laws.specs.ObserverKeeping.{KeepsCertificate, ObserverKeeps, certificateParts}
 use Rattle.observer_laws.specs.Laws.AwakeLaws.{awake}
 use Rattle.observer_laws.specs.Laws.ObserverKeptLaws.{KeptCertificate, block-kept, dummies-kept, finalizes-kept}
+use Rattle.observer_laws.specs.Laws.ObserverWritesLaws.{fresh-writes}
 use Rattle.observer_laws.specs.Laws.ObserverSoundStaysLaws.{state, holds-none, read-awake, delivered}
 
 module _ (digest : Bytes → Bytes) (book frame : Bytes) (accepts : ObserverAccepts digest book frame) where
@@ -96,7 +97,7 @@ module _ (digest : Bytes → Bytes) (book frame : Bytes) (accepts : ObserverAcce
         (sym placed ∙ ap (λ (b : Bytes). at (observerState b) h) same ∙ (unfold awake withHead at in refl))
 
     untouched : AreBytes book → SameOutside (certificateParts (bookHeights book) h (kind frame)) book after
-    untouched small = ?
+    untouched small = fresh-writes digest book frame accepts small y e
 
     all-fresh : ObserverKeeps digest book frame fresh after
     all-fresh = record {
