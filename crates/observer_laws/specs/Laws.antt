@@ -14,3 +14,4 @@ pub mod CertificatesReadLaws
 pub mod ObserverKeptLaws
 pub mod ObserverWritesLaws
 pub mod ObserverKeepsLaws
+pub mod ObserverExactLaws
