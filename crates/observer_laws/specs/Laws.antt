@@ -15,3 +15,4 @@ pub mod ObserverKeptLaws
 pub mod ObserverWritesLaws
 pub mod ObserverKeepsLaws
 pub mod ObserverExactLaws
+pub mod TwinsMetLaws

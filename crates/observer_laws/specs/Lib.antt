@@ -2,6 +2,7 @@
 -- hear the same certificates read the same log.
 pub mod Refusing
 pub mod Twins
+pub mod TwinsMet
 pub mod CertificatesRead
 pub mod ObserverKeeping
 pub mod Laws

@@ -16,11 +16,11 @@ use Rattle.protocol.specs.Open.{openCall}
 use Rattle.protocol.specs.Deliver.{deliverCall}
 use Rattle.protocol.specs.Packet.{packetFrames}
 use Rattle.protocol.specs.Move.{moveCall}
-use Rattle.protocol.specs.Read.{sizeCall, readPart}
+use Rattle.protocol.specs.Read.{sizeCall, readPart, readBuffer}
 use Rattle.protocol.specs.Call.{Call, opening, delivery, packetDelivery, moving, signalling, submitting, sizing}
 use Rattle.protocol.specs.Call.{reading, fetching, bookAfterAll}
 use Rattle.protocol.specs.ObserverCalls.{observerOpenCall, observerDeliverCall, observerMoveCall, observerSizeCall}
-use Rattle.protocol.specs.ObserverCalls.{observerReadPart}
+use Rattle.protocol.specs.ObserverCalls.{observerReadPart, observerReadBuffer}
 use Rattle.protocol.specs.ObserverCall.{ObserverCall, observerOpening, observerDelivery, observerMoving, observerSizing}
 use Rattle.protocol.specs.ObserverCall.{observerReading, observerBookAfterAll}
 
@@ -93,11 +93,13 @@ module _ (digest : Bytes → Bytes) where
   SameAnswers book observerBook = (frame : Bytes) → IsCertificate frame →
       observerDeliverCall digest observerBook frame .answer ≡ deliverCall digest book frame .answer
 
-  -- where both are idle, they have the same log: its size, and what is read into any buffer
+  -- the same log: its size, the part that is read with any buffer, and the buffer afterwards
   pub record SameLog (book observerBook : Bytes) : Type 0 where
     pub same-size : observerSizeCall digest observerBook ≡ sizeCall digest book
     pub same-part : (buffer : Bytes) → observerReadPart digest observerBook buffer ≡ readPart digest book buffer
+    pub same-buffer : (buffer : Bytes) → observerReadBuffer digest observerBook buffer ≡ readBuffer digest book buffer
 
+  -- where both are idle
   unfoldable pub SameLogWhenIdle : (book observerBook : Bytes) → Type 0
   SameLogWhenIdle book observerBook = (reply : Bytes) → moveCall digest book reply .answer ≡ accepted idle →
       observerMoveCall digest observerBook .answer ≡ accepted idle → SameLog book observerBook

@@ -22,13 +22,14 @@ use Rattle.protocol.specs.Answer.{Answer, Outcome, Move, Done, accepted, done, 
 use Rattle.protocol.specs.Open.{newState, openRows, openCall}
 use Rattle.protocol.specs.Move.{Step, step, moved, unlessMoveRefused, moveRows, moveCall, newFinalized, outputApplies}
 use Rattle.protocol.specs.Move.{dummyVoteStep, outputStep, passStep, proposeStep, blockVoteStep}
-use Rattle.protocol.specs.Read.{logSize, sizeCall, readPart}
+use Rattle.protocol.specs.Read.{logSize, sizeCall, readPart, readBuffer}
 use Rattle.protocol.specs.Call.{Call, bookAfterAll}
 use Rattle.protocol.specs.Observer.{Observer, ObservedHeight, asReplica, observed, observedHeight, observerState}
 use Rattle.protocol.specs.Observer.{decodeObserver, encodeObserver}
 use Rattle.protocol.specs.ObserverSound.{observerSound}
 use Rattle.protocol.specs.ObserverCalls.{newObserver, newObservedHeight, observerOpenCall, observerDeliverCall}
 use Rattle.protocol.specs.ObserverCalls.{observerMoveCall, observerLogSize, observerSizeCall, observerReadPart}
+use Rattle.protocol.specs.ObserverCalls.{observerReadBuffer}
 use Rattle.protocol.specs.ObserverCall.{ObserverCall, observerBookAfterAll}
 use Rattle.protocol.specs.Laws.RowLaws.{not-passed}
 use Rattle.protocol.specs.Laws.StateLaws.{decode-encode}
@@ -166,10 +167,15 @@ module _ (digest : Bytes → Bytes) where
 
     idle-same : SameLogWhenIdle digest book observerBook
     unfolding SameLogWhenIdle observerSizeCall sizeCall observerLogSize logSize observerReadPart readPart
+        observerReadBuffer readBuffer
     idle-same reply rests observer-rests =
         let same : log (observerState observerBook) ≡ log (decode book) =
         logs-same (idle-replica book reply rests) (idle-observer observerBook observer-rests) in
-        record { same-size = rw (was, observer-was, same); same-part = λ buffer. rw (was, observer-was, same) }
+        record {
+          same-size = rw (was, observer-was, same);
+          same-part = λ buffer. rw (was, observer-was, same);
+          same-buffer = λ buffer. rw (was, observer-was, same);
+        }
 
   -- ---- the claim
   module _ (n heights own : ℕ) (leaders old observerOld : Bytes) (calls : List Call) (observerCalls : List ObserverCall)

@@ -1,0 +1,58 @@
+-- The calls of `TwinsMet` do what it says, by computation.
+use mathlib.Core.Path.{_≡_, refl}
+use mathlib.Core.List.{List, [], _∷_}
+use lib.ListN.{replicate}
+use Rattle.protocol.specs.Bytes.{Bytes, zeros}
+use Rattle.protocol.specs.Every.{Every, none, one}
+use Rattle.protocol.specs.Computing.{everything}
+use Rattle.protocol.specs.Answer.{accepted, idle}
+use Rattle.protocol.specs.Move.{moveCall}
+use Rattle.protocol.specs.Read.{readPart}
+use Rattle.protocol.specs.ObserverCalls.{observerMoveCall, observerReadPart}
+use Rattle.observer_laws.specs.Twins.{SameCertificates, SameLog, Twins, SameLogWhenIdle, given, allGiven}
+use Rattle.observer_laws.specs.Twins.{givenToObserver, allGivenToObserver, isOpening, isObserverOpening}
+use Rattle.observer_laws.specs.TwinsMet.{TwinsMet, entry, block, otherBlock, leaders, old, observerOld, calls}
+use Rattle.observer_laws.specs.TwinsMet.{observerCalls, book, observerBook}
+use Rattle.observer_laws.specs.Laws.TwinsLaws.{twins}
+
+premises : SameCertificates 4 2 2 leaders old observerOld calls observerCalls
+unfolding everything old observerOld calls observerCalls given allGiven givenToObserver allGivenToObserver isOpening
+    isObserverOpening block otherBlock entry
+premises = record {
+  opened = refl;
+  observer-opened = refl;
+  opened-once = one refl (one refl (one refl (one refl (one refl (one refl (one refl (one refl (one refl (one refl
+      (one refl (one refl none)))))))))));
+  observer-opened-once = one refl (one refl (one refl (one refl (one refl (one refl (one refl (one refl none)))))));
+  certificates = one refl (one refl (one refl (one refl (one refl (one refl none)))));
+  same = refl;
+}
+
+module _ (digest : Bytes → Bytes) where
+  rests : moveCall digest (book digest) (zeros 448) .answer ≡ accepted idle
+  unfolding everything book old calls block otherBlock entry
+  rests = refl
+
+  observer-rests : observerMoveCall digest (observerBook digest) .answer ≡ accepted idle
+  unfolding everything observerBook observerOld observerCalls block otherBlock entry
+  observer-rests = refl
+
+  reads : readPart digest (book digest) (zeros 16) ≡ entry
+  unfolding everything book old calls block otherBlock entry
+  reads = refl
+
+  observer-reads : observerReadPart digest (observerBook digest) (zeros 16) ≡ entry
+  unfolding everything observerBook observerOld observerCalls block otherBlock entry
+  observer-reads = refl
+
+  pub twins-met : TwinsMet digest
+  unfolding Twins SameLogWhenIdle book observerBook
+  twins-met = record {
+    premises = premises;
+    rests = rests;
+    observer-rests = observer-rests;
+    reads = reads;
+    observer-reads = observer-reads;
+    applied = twins digest 4 2 2 leaders old observerOld calls observerCalls premises .1 (zeros 448) rests
+        observer-rests;
+  }

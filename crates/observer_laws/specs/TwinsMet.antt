@@ -1,0 +1,70 @@
+-- Calls that meet every premise of `Twins`, whatever the digest, and after which both read an entry: among four
+-- replicas, replica 2 and an observer are given six certificates, of which three are refused, in deliveries and a packet
+-- and with moves at other times.
+use mathlib.Core.Path.{_≡_}
+use mathlib.Core.List.{List, [], _∷_, _++_}
+use lib.ListN.{replicate}
+use Rattle.protocol.specs.Bytes.{Bytes, zeros}
+use Rattle.protocol.specs.Block.{newBlock}
+use Rattle.protocol.specs.Frame.{blockCertificate, dummyCertificate, finalizeCertificate}
+use Rattle.protocol.specs.Answer.{accepted, idle}
+use Rattle.protocol.specs.Open.{openCall}
+use Rattle.protocol.specs.Move.{moveCall}
+use Rattle.protocol.specs.Read.{readPart}
+use Rattle.protocol.specs.Call.{Call, delivery, packetDelivery, moving, signalling, bookAfterAll}
+use Rattle.protocol.specs.ObserverCalls.{observerOpenCall, observerMoveCall, observerReadPart}
+use Rattle.protocol.specs.ObserverCall.{ObserverCall, observerDelivery, observerMoving, observerBookAfterAll}
+use Rattle.observer_laws.specs.Twins.{SameCertificates, SameLog}
+
+-- ---- what is said
+unfoldable pub entry : Bytes
+entry = replicate 16 7
+
+-- a block of height 2 on height 0, and another one
+unfoldable pub block : Bytes
+block = newBlock 2 0 (zeros 32) (entry ∷ [])
+
+unfoldable pub otherBlock : Bytes
+otherBlock = newBlock 2 0 (zeros 32) []
+
+-- ---- what is called, over old bytes
+abbrev pub leaders : Bytes
+leaders = 0 ∷ 1 ∷ []
+
+unfoldable pub old : Bytes
+old = replicate 2336 9
+
+unfoldable pub observerOld : Bytes
+observerOld = replicate 432 9
+
+abbrev move : Call
+move = moving (zeros 448)
+
+-- the frame of one byte is refused with 4, the mask of two replicas with 9, and the other block with 10
+unfoldable pub calls : List Call
+calls =
+    move ∷ delivery (5 ∷ []) ∷ signalling 1 ∷ delivery (dummyCertificate 1 3) ∷ move ∷ delivery (dummyCertificate 1 7) ∷
+    move ∷ move ∷ packetDelivery (blockCertificate 2 7 block ++ blockCertificate 2 11 otherBlock) ∷
+    delivery (finalizeCertificate 2 14) ∷ move ∷ move ∷ []
+
+unfoldable pub observerCalls : List ObserverCall
+observerCalls =
+    observerDelivery (5 ∷ []) ∷ observerDelivery (dummyCertificate 1 3) ∷ observerDelivery (dummyCertificate 1 7) ∷
+    observerDelivery (blockCertificate 2 7 block) ∷ observerMoving ∷ observerDelivery (blockCertificate 2 11 otherBlock) ∷
+    observerDelivery (finalizeCertificate 2 14) ∷ observerMoving ∷ []
+
+module _ (digest : Bytes → Bytes) where
+  unfoldable pub book : Bytes
+  book = bookAfterAll digest (openCall old 4 2 2 leaders .book) calls
+
+  unfoldable pub observerBook : Bytes
+  observerBook = observerBookAfterAll digest (observerOpenCall observerOld 4 2 .book) observerCalls
+
+  pub record TwinsMet : Type 0 where
+    pub premises : SameCertificates 4 2 2 leaders old observerOld calls observerCalls
+    pub rests : moveCall digest book (zeros 448) .answer ≡ accepted idle
+    pub observer-rests : observerMoveCall digest observerBook .answer ≡ accepted idle
+    pub reads : readPart digest book (zeros 16) ≡ entry
+    pub observer-reads : observerReadPart digest observerBook (zeros 16) ≡ entry
+    -- the claim applied to them
+    pub applied : SameLog digest book observerBook
