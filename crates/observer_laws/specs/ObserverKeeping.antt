@@ -12,7 +12,7 @@ use Rattle.protocol.specs.Answer.{Delivery, known, fresh}
 use Rattle.protocol.specs.Mask.{inMask}
 use Rattle.protocol.specs.Frame.{kind, frameHeight, signerMask, frameBlock, isBlockCertificate, isDummyCertificate}
 use Rattle.protocol.specs.Frame.{isFinalizeCertificate}
-use Rattle.protocol.specs.State.{State, Height, at, bookHeights, withHeight, isNotarized}
+use Rattle.protocol.specs.State.{Height, at, bookHeights, withHeight, isNotarized}
 use Rattle.protocol.specs.Observer.{observerState}
 use Rattle.protocol.specs.ObserverSound.{observerSound}
 use Rattle.call_laws.specs.KeptBytes.{Part, SameOutside}

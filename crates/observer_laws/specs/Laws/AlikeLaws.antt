@@ -1,15 +1,13 @@
 -- Two states that show the same: one n, and at each height the same status but for a held proposal, masks and block.
 use Prim.Native.Nat.{ℕ, _-_}
 use mathlib.Core.Path.{_≡_, refl, sym, ap, ap₂, _∙_}
-use mathlib.Core.Bool.{Bool, true, false}
-use mathlib.Core.List.{List, [], _∷_, _++_, map}
-use lib.ListN.{length, getD, set, length-map, List·getD-map, replicate}
-use lib.Dec.{eqb, leb}
-use Rattle.protocol.specs.Bytes.{Bytes}
-use Rattle.protocol.specs.State.{State, Height, noHeight, at, last, withHeight, withHead, isNotarized}
+use mathlib.Core.List.{List, map}
+use lib.ListN.{length, getD, length-map, List·getD-map, replicate}
+use lib.Dec.{leb}
+use Rattle.protocol.specs.State.{State, noHeight, at, last, isNotarized}
 use Rattle.protocol.specs.View.{View, logOf}
 use Rattle.protocol.specs.Sound.{view, log}
-use Rattle.protocol.specs.Observer.{ObservedHeight, Observer, asReplica, asReplicaHeight, observedHeight}
+use Rattle.protocol.specs.Observer.{ObservedHeight, observedHeight}
 
 pub record Alike (s t : State) : Type 0 where
   pub same-n : t .n ≡ s .n

@@ -1,10 +1,9 @@
 -- A sound observer's state is a sound replica's, put at height 1; so document 01's laws of sound states serve observers.
 use Prim.Native.Nat.{ℕ, _≤_}
 use native.Mathlib.Omega.{arith}
-use mathlib.Core.Path.{_≡_, refl, sym, subst}
+use mathlib.Core.Path.{_≡_, sym, subst}
 use mathlib.Core.Logic.{_⊎_}
-use lib.ListN.{length}
-use Rattle.protocol.specs.SoundState.{SoundHeight, SoundState}
+use Rattle.protocol.specs.SoundState.{SoundState}
 use Rattle.protocol.specs.SoundObserver.{SoundObserver}
 use Rattle.protocol.specs.Bytes.{Bytes}
 use Rattle.protocol.specs.State.{State, at, last, withHead}

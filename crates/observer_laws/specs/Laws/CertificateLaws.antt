@@ -3,7 +3,7 @@ use Prim.Native.Nat.{ℕ, _+_, _≤_}
 use native.Mathlib.Omega.{arith}
 use mathlib.Core.Path.{_≡_, refl, sym, ap, ap₂, _∙_}
 use mathlib.Core.Bool.{Bool, true, false, _&&_, cond}
-use mathlib.Core.List.{List, [], _∷_, _++_, map}
+use mathlib.Core.List.{List, [], _∷_, _++_}
 use mathlib.Core.Option.{Option, some, none}
 use lib.Dec.{eqb, leb}
 use borrow.Author.Tests.{eqb-true}
@@ -11,7 +11,7 @@ use Rattle.protocol.specs.Bytes.{Bytes, same}
 use Rattle.protocol.specs.Tests.{Row, allOf, implies, inRange}
 use Rattle.protocol.specs.Mask.{union, belowBit}
 use Rattle.protocol.specs.Frame.{kind, frameHeight, signerMask, frameBlock, frameWellFormed, isCertificate, isStatement}
-use Rattle.protocol.specs.Frame.{isProposal, isBlockVote, isDummyVote, isFinalize, isBlockCertificate}
+use Rattle.protocol.specs.Frame.{isBlockCertificate}
 use Rattle.protocol.specs.Frame.{isDummyCertificate}
 use Rattle.protocol.specs.State.{State, Height, at, last, isNotarized}
 use Rattle.protocol.specs.View.{View, quorum}

@@ -3,24 +3,21 @@ use Prim.Native.Nat.{ℕ, _≤_}
 use native.Mathlib.Omega.{arith}
 use mathlib.Core.Path.{_≡_, refl, sym, ap, subst, _∙_}
 use mathlib.Core.Bool.{Bool, true, false, _&&_, cond, true≢false}
-use mathlib.Core.List.{List, [], _∷_, _++_}
-use mathlib.Core.Option.{Option, some, none}
+use mathlib.Core.List.{List, [], _∷_}
+use mathlib.Core.Option.{some, none}
 use borrow.Author.Tests.{eqb-true}
 use Rattle.protocol.specs.Bytes.{Bytes, same}
 use Rattle.protocol.specs.Every.{Every, none, one}
-use Rattle.protocol.specs.Tests.{Row, firstRefusal, implies}
+use Rattle.protocol.specs.Tests.{firstRefusal, implies}
 use Rattle.protocol.specs.Mask.{belowBit}
 use Rattle.protocol.specs.Frame.{kind, frameHeight, signerMask, frameBlock, isCertificate, isBlockCertificate}
 use Rattle.protocol.specs.State.{State, at, last, decode, isNotarized}
 use Rattle.protocol.specs.Sound.{view}
-use Rattle.protocol.specs.Answer.{refused}
 use Rattle.protocol.specs.Observer.{observerState}
 use Rattle.protocol.specs.ObserverSound.{observerSound}
-use Rattle.protocol.specs.ObserverCalls.{observerDeliverCall}
 use Rattle.protocol.specs.Laws.TestsLaws.{and-both}
-use Rattle.protocol.specs.Laws.RowLaws.{by-tested, pass-row, pass-rows, in-range, range-in, true-implies, eq-same}
-use Rattle.protocol.specs.Laws.RowLaws.{not-passed}
-use Rattle.call_laws.specs.Readable.{IsRead, DigestSized, SameSetting}
+use Rattle.protocol.specs.Laws.RowLaws.{by-tested, pass-row, pass-rows, in-range, range-in, eq-same}
+use Rattle.call_laws.specs.Readable.{IsRead, DigestSized}
 use Rattle.call_laws.specs.Laws.GrowsLaws.{same-quorum, views-alike}
 use Rattle.call_laws.specs.Laws.CallWrittenLaws.{same-setting, move-written-read, fetch-written-read}
 use Rattle.observer_laws.specs.Refusing.{certificateRows, notarizedRow, refusalRows}

@@ -1,15 +1,14 @@
 -- What is left of a state by a certificate, refused or not: of states that show the same, states that show the same.
 use Prim.Native.Nat.{ℕ, _-_}
 use native.Mathlib.Omega.{arith}
-use mathlib.Core.Path.{_≡_, refl, sym, ap, ap₂, subst, _∙_}
-use mathlib.Core.Bool.{true}
-use mathlib.Core.List.{List, [], _∷_, _++_, map}
+use mathlib.Core.Path.{_≡_, refl, sym, ap₂, subst, _∙_}
+use mathlib.Core.List.{List, [], _∷_, _++_}
 use mathlib.Core.Option.{Option, some, none}
 use lib.ListN.{set}
 use Rattle.protocol.specs.Bytes.{Bytes}
 use Rattle.protocol.specs.Every.{Every, none, one}
 use Rattle.protocol.specs.Tests.{Row, firstRefusal}
-use Rattle.protocol.specs.Frame.{kind, frameHeight, isCertificate}
+use Rattle.protocol.specs.Frame.{frameHeight}
 use Rattle.protocol.specs.State.{State, Height, withHeight}
 use Rattle.protocol.specs.Observer.{ObservedHeight, observedHeight}
 use Rattle.protocol.specs.Deliver.{readRows, clashRows, keep}

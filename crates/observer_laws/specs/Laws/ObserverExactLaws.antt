@@ -1,19 +1,16 @@
 -- `ObserverKeeps` leaves no choice: what meets it is what Deliver answers and leaves.
 use Prim.Native.Nat.{ℕ, _-_, _^_, _≤_, _<_}
-use native.Mathlib.Omega.{arith}
 use native.Mathlib.Decide.{ℕ-discrete}
-use mathlib.Core.Path.{_≡_, refl, sym, ap, ap₂, subst, _∙_}
-use mathlib.Core.Logic.{_≢_}
+use mathlib.Core.Path.{_≡_, refl, sym, ap, subst, _∙_}
 use mathlib.Core.Bool.{Bool, true, false}
 use lib.ListN.{length-set}
 use Rattle.protocol.specs.SoundState.{SoundHeight}
-use Rattle.protocol.specs.SoundObserver.{SoundObserver}
 use Rattle.protocol.specs.Bytes.{Bytes, AreBytes}
 use Rattle.protocol.specs.Answer.{Outcome, Delivery, accepted}
 use Rattle.protocol.specs.Frame.{kind, frameHeight}
 use Rattle.protocol.specs.State.{State, Height, at, last, withHeight, isNotarized}
 use Rattle.protocol.specs.Sound.{view}
-use Rattle.protocol.specs.Observer.{Observer, ObservedHeight, asReplica, asReplicaHeight, observed, observedHeight}
+use Rattle.protocol.specs.Observer.{asReplicaHeight, observed, observedHeight}
 use Rattle.protocol.specs.Observer.{observerState, encodeObserver, decodeObserver}
 use Rattle.protocol.specs.ObserverCalls.{observerDeliverCall}
 use Rattle.protocol.specs.Laws.MaskLaws.{mask-same}

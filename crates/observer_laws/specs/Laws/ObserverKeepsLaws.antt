@@ -1,19 +1,18 @@
 -- Deliver leaves what `ObserverKeeping` says, and that leaves no choice.
-use Prim.Native.Nat.{ℕ, suc, _+_, _-_, _*_, _<_, _≤_}
+use Prim.Native.Nat.{ℕ, _+_, _-_, _*_, _≤_}
 use native.Mathlib.Omega.{arith}
 use mathlib.Core.Path.{_≡_, refl, sym, ap, subst, _∙_}
 use mathlib.Core.Logic.{_≢_}
-use mathlib.Core.Bool.{Bool, true, false, true≢false}
-use mathlib.Core.Option.{Option, some, none}
+use mathlib.Core.Bool.{true}
+use mathlib.Core.Option.{some, none}
 use lib.ListN.{length, length-set}
-use Rattle.protocol.specs.SoundObserver.{SoundObserver}
 use Rattle.protocol.specs.Bytes.{Bytes, AreBytes}
 use Rattle.protocol.specs.Answer.{Outcome, Delivery, accepted, known, fresh}
 use Rattle.protocol.specs.Frame.{kind, frameHeight}
 use Rattle.protocol.specs.State.{State, Height, at, last, withHead, withHeight, bookHeights}
 use Rattle.protocol.specs.Sound.{view}
 use Rattle.protocol.specs.Deliver.{keep}
-use Rattle.protocol.specs.Observer.{observed, observerState, encodeObserver, decodeObserver}
+use Rattle.protocol.specs.Observer.{observed, observerState, encodeObserver}
 use Rattle.protocol.specs.ObserverSound.{observerSound}
 use Rattle.protocol.specs.ObserverCalls.{observerDeliverCall}
 use Rattle.protocol.specs.Laws.DeliverLaws.{keep-cases}

@@ -1,10 +1,10 @@
 -- What a certificate keeps of an observer's height, kind by kind, be the height new or kept as it is.
-use Prim.Native.Nat.{ℕ, _+_, _<_}
+use Prim.Native.Nat.{ℕ, _<_}
 use native.Mathlib.Omega.{arith}
-use mathlib.Core.Path.{_≡_, refl, sym, ap, subst, _∙_}
+use mathlib.Core.Path.{_≡_, refl, sym, _∙_}
 use mathlib.Core.Logic.{_⊎_, inl, inr, _≢_}
-use mathlib.Core.Bool.{Bool, true, false, _&&_, _||_, cond, true≢false}
-use mathlib.Core.Option.{Option, some, none}
+use mathlib.Core.Bool.{Bool, true, false, _&&_, _||_, true≢false}
+use mathlib.Core.Option.{Option}
 use lib.Dec.{eqb}
 use borrow.Author.Tests.{eqb-true, le-leb}
 use Rattle.protocol.specs.Bytes.{Bytes}
@@ -18,7 +18,7 @@ use Rattle.protocol.specs.Laws.RowLaws.{not-passed}
 use Rattle.protocol.specs.Laws.UnionLaws.{union-bit}
 use Rattle.call_laws.specs.Laws.KeepsKindLaws.{left}
 use Rattle.call_laws.specs.Laws.HeightBitsLaws.{known-bits}
-use Rattle.observer_laws.specs.ObserverKeeping.{SameBlock, BlockOf, KeepsCertificate}
+use Rattle.observer_laws.specs.ObserverKeeping.{SameBlock, KeepsCertificate}
 
 -- a mask to which nothing is added
 nothing-more : (a test b : Bool) → test ≡ false → a ≡ (a || (test && b))

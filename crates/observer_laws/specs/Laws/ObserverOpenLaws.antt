@@ -1,24 +1,24 @@
 -- Open makes a sound observer's book, whose state is that of a new replica with any own number and leaders.
 use Prim.Native.Nat.{ℕ, zero, suc, _≤_}
 use native.Mathlib.Omega.{arith}
-use mathlib.Core.Path.{_≡_, refl, sym, ap, ap₂, subst, _∙_}
-use mathlib.Core.Logic.{_⊎_, inl}
-use mathlib.Core.Bool.{true, false}
+use mathlib.Core.Path.{_≡_, refl, sym, ap, subst}
+use mathlib.Core.Logic.{inl}
+use mathlib.Core.Bool.{true}
 use mathlib.Core.List.{List, [], _∷_, map}
 use mathlib.Core.Option.{Option, some, none}
 use lib.ListN.{length, replicate, length-replicate}
 use lib.Dec.{ltb}
-use borrow.Author.Tests.{eqb-true, eq-eqb, lt-ltb}
+use borrow.Author.Tests.{eq-eqb, lt-ltb}
 use Rattle.protocol.specs.SoundState.{SoundState}
 use Rattle.protocol.specs.SoundObserver.{SoundObserver}
 use Rattle.protocol.specs.Bytes.{Bytes, Sized, all}
 use Rattle.protocol.specs.Every.{Every, none, one}
-use Rattle.protocol.specs.Tests.{firstRefusal, allOf, inRange}
+use Rattle.protocol.specs.Tests.{firstRefusal, inRange}
 use Rattle.protocol.specs.Block.{maximumHeights}
-use Rattle.protocol.specs.State.{State, Height, noHeight, at, last, withHead, maximumReplicas}
-use Rattle.protocol.specs.Answer.{Answer, Done, done, refused, accepted, unlessRefused}
+use Rattle.protocol.specs.State.{Height, noHeight, last, withHead, maximumReplicas}
+use Rattle.protocol.specs.Answer.{done, accepted, unlessRefused}
 use Rattle.protocol.specs.Open.{newHeight, newState, startState, openInRange}
-use Rattle.protocol.specs.Observer.{Observer, ObservedHeight, asReplica, asReplicaHeight, observedHeight, encodeObserver}
+use Rattle.protocol.specs.Observer.{ObservedHeight, asReplica, asReplicaHeight, observedHeight, encodeObserver}
 use Rattle.protocol.specs.Observer.{observedBodyBytes}
 use Rattle.protocol.specs.ObserverSound.{observerSound}
 use Rattle.protocol.specs.ObserverCalls.{newObserver, newObservedHeight, observerOpenRows, observerOpenCall}

@@ -1,17 +1,16 @@
 -- Call by call: a sound observer's book is left sound.
-use Prim.Native.Nat.{ℕ, zero, suc, _+_, _≤_, _<_}
+use Prim.Native.Nat.{ℕ, zero, suc, _≤_}
 use native.Mathlib.Omega.{arith}
-use mathlib.Core.Path.{_≡_, refl, sym, subst, _∙_}
+use mathlib.Core.Path.{_≡_, sym, subst, _∙_}
 use mathlib.Core.Logic.{_⊎_, inl, inr}
-use mathlib.Core.Bool.{Bool, true, false, true≢false}
-use mathlib.Core.Option.{Option, some, none}
+use mathlib.Core.Bool.{true, false, true≢false}
+use mathlib.Core.Option.{some}
 use lib.Dec.{eqb}
 use borrow.Author.Tests.{le-leb}
 use Rattle.protocol.specs.SoundState.{SoundState}
 use Rattle.protocol.specs.SoundObserver.{SoundObserver}
 use Rattle.protocol.specs.ReadFrame.{ReadFrame}
 use Rattle.protocol.specs.Bytes.{Bytes}
-use Rattle.protocol.specs.Tests.{firstRefusal}
 use Rattle.protocol.specs.Mask.{union}
 use Rattle.protocol.specs.Frame.{kind, frameHeight, frameBlock, signerMask}
 use Rattle.protocol.specs.State.{State, Height, at, last, withHead, withHeight, isNotarized}
@@ -20,7 +19,7 @@ use Rattle.protocol.specs.Answer.{Outcome, Delivery, Move}
 use Rattle.protocol.specs.Deliver.{readRows, keep, keepBlockCertificate, keepDummyCertificate, keepFinalizeCertificate}
 use Rattle.protocol.specs.Deliver.{withNotarized, withMasks}
 use Rattle.protocol.specs.Move.{newFinalized, outputStep}
-use Rattle.protocol.specs.Observer.{asReplica, observed, observerState, encodeObserver, decodeObserver}
+use Rattle.protocol.specs.Observer.{observed, observerState, encodeObserver, decodeObserver}
 use Rattle.protocol.specs.ObserverSound.{observerSound}
 use Rattle.protocol.specs.ObserverCalls.{observerDeliverCall, observerMoveCall}
 use Rattle.protocol.specs.Laws.DeliverLaws.{OnSome, unless-known, rows-read, keep-cases}

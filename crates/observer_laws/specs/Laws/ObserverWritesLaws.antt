@@ -1,8 +1,7 @@
 -- A certificate that is kept writes only where `ObserverKeeping` says.
 use Prim.Native.Nat.{ℕ, suc, _+_, _-_, _*_, _≤_, _<_}
 use native.Mathlib.Omega.{arith}
-use mathlib.Core.Path.{_≡_, refl, sym, subst, _∙_}
-use mathlib.Core.Bool.{true, false}
+use mathlib.Core.Path.{_≡_, subst, _∙_}
 use mathlib.Core.List.{[], _∷_}
 use mathlib.Core.Option.{Option, some}
 use lib.ListN.{length, set, length-set}
@@ -10,7 +9,7 @@ use lib.Dec.{eqb}
 use Rattle.protocol.specs.Bytes.{Bytes, le16, put, AreBytes}
 use Rattle.protocol.specs.Mask.{union}
 use Rattle.protocol.specs.Frame.{kind, frameHeight, signerMask, frameBlock}
-use Rattle.protocol.specs.State.{State, Height, at, last, withHeight, bookHeights, isNotarized}
+use Rattle.protocol.specs.State.{State, Height, at, withHeight, bookHeights, isNotarized}
 use Rattle.protocol.specs.Deliver.{keep, keepBlockCertificate, keepDummyCertificate, keepFinalizeCertificate}
 use Rattle.protocol.specs.Deliver.{withNotarized, withMasks}
 use Rattle.protocol.specs.Observer.{observed, observerState, encodeObserver, decodeObserver}

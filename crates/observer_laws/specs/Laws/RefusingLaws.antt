@@ -1,23 +1,22 @@
 -- Every call of an observer refuses as `Refusing` and `Refusals` say.
 use Prim.Native.Nat.{ℕ}
 use native.Mathlib.Omega.{arith}
-use mathlib.Core.Path.{_≡_, refl, sym, ap, ap₂, subst, _∙_}
-use mathlib.Core.Bool.{Bool, true, false, _&&_, cond, true≢false}
+use mathlib.Core.Path.{_≡_, refl, sym, _∙_}
+use mathlib.Core.Bool.{Bool, true, false, cond}
 use mathlib.Core.List.{List, [], _∷_, _++_}
 use mathlib.Core.Option.{Option, some, none}
-use Rattle.protocol.specs.Bytes.{Bytes, overFront}
+use Rattle.protocol.specs.Bytes.{Bytes}
 use Rattle.protocol.specs.Tests.{Row, firstRefusal}
-use Rattle.protocol.specs.Frame.{kind, frameHeight, frameWellFormed, isCertificate, isStatement}
-use Rattle.protocol.specs.Answer.{Answer, Outcome, Done, Delivery, Move, refused, accepted, known, fresh, unlessRefused}
-use Rattle.protocol.specs.State.{State, Height, last, isNotarized}
-use Rattle.protocol.specs.Sound.{view}
+use Rattle.protocol.specs.Frame.{kind, frameWellFormed, isCertificate, isStatement}
+use Rattle.protocol.specs.Answer.{Answer, Done, Delivery, Move, accepted, known, fresh, unlessRefused}
+use Rattle.protocol.specs.State.{State, Height, isNotarized}
 use Rattle.protocol.specs.Deliver.{readRows, clashRows, keep}
 use Rattle.protocol.specs.Observer.{observerState, observedHeight}
 use Rattle.protocol.specs.ObserverSound.{observerSound}
 use Rattle.protocol.specs.ObserverCalls.{observerOpenRows, observerOpenCall, observerKept, observerLogSize}
 use Rattle.protocol.specs.ObserverCalls.{observerDeliverRows, observerDeliverCall, observerMoveRows, observerMoveCall}
 use Rattle.protocol.specs.ObserverCalls.{observerMoved, observerSizeCall}
-use Rattle.protocol.specs.Laws.RowLaws.{in-range, not-passed, pass-row, refuse-row}
+use Rattle.protocol.specs.Laws.RowLaws.{in-range, not-passed}
 use Rattle.call_laws.specs.Refusals.{Refuses}
 use Rattle.call_laws.specs.Laws.RefusalsLaws.{outcome-refuses, test-refuses}
 use Rattle.observer_laws.specs.Refusing.{certificateRows, notarizedRow, refusalRows, RefusesStatements}

@@ -1,6 +1,6 @@
 -- The book after calls shows what the frames that they give leave of its state: nothing else changes what it shows.
 use Prim.Native.Nat.{ℕ, _%_}
-use mathlib.Core.Path.{_≡_, refl, sym, ap, subst, _∙_}
+use mathlib.Core.Path.{_≡_, refl, sym, ap, subst}
 use mathlib.Core.Bool.{Bool, true, false, cond, true≢false}
 use mathlib.Core.List.{List, [], _∷_, _++_, map}
 use mathlib.Core.Option.{Option, some, none}
@@ -9,7 +9,7 @@ use lib.Dec.{eqb}
 use Rattle.protocol.specs.SoundState.{SoundState}
 use Rattle.protocol.specs.Bytes.{Bytes}
 use Rattle.protocol.specs.Every.{Every, none, one}
-use Rattle.protocol.specs.Tests.{Row, firstRefusal}
+use Rattle.protocol.specs.Tests.{firstRefusal}
 use Rattle.protocol.specs.Frame.{frameSize}
 use Rattle.protocol.specs.State.{State, encode, decode, withHead, withTimerFired}
 use Rattle.protocol.specs.Sound.{sound}

@@ -4,20 +4,19 @@ use Prim.Native.Nat.{ℕ}
 use native.Mathlib.Omega.{arith}
 use mathlib.Core.Path.{_≡_, refl, sym, ap, ap₂, _∙_}
 use mathlib.Core.Bool.{Bool, true, false, cond}
-use mathlib.Core.List.{List, [], _∷_, _++_}
+use mathlib.Core.List.{List}
 use mathlib.Core.Option.{Option, some, none}
-use Rattle.protocol.specs.SoundState.{SoundState}
 use Rattle.protocol.specs.Bytes.{Bytes}
 use Rattle.protocol.specs.Tests.{Row, firstRefusal}
-use Rattle.protocol.specs.Frame.{kind, frameHeight, frameWellFormed, isCertificate}
+use Rattle.protocol.specs.Frame.{kind, frameHeight, frameWellFormed}
 use Rattle.protocol.specs.State.{State, Height, encode, decode, withHeight}
 use Rattle.protocol.specs.Sound.{sound}
 use Rattle.protocol.specs.Answer.{Answer, Outcome, Delivery, refused, accepted, known, fresh, unlessRefused}
-use Rattle.protocol.specs.Deliver.{readRows, clashRows, keep, kept, heard, deliverRows, deliverCall}
+use Rattle.protocol.specs.Deliver.{readRows, clashRows, keep, kept, deliverRows, deliverCall}
 use Rattle.protocol.specs.Observer.{ObservedHeight, observed, observerState, encodeObserver}
 use Rattle.protocol.specs.ObserverSound.{observerSound}
 use Rattle.protocol.specs.ObserverCalls.{observerKept, observerDeliverRows, observerDeliverCall}
-use Rattle.protocol.specs.Laws.RowLaws.{row-passes, split-rows}
+use Rattle.protocol.specs.Laws.RowLaws.{split-rows}
 use Rattle.protocol.specs.Laws.StateLaws.{decode-encode}
 use Rattle.protocol.specs.Laws.SoundLaws.{sound-decode}
 use Rattle.protocol.specs.Laws.DeliverLaws.{no-proposal, heard-single, rows-read}

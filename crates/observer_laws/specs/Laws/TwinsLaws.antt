@@ -1,33 +1,30 @@
 -- Proofs of `Twins`: opened with one n and H, both show the same; given the same certificates, they show the same; and
 -- idle, each has finalized the largest height that its view finalizes.
-use Prim.Native.Nat.{ℕ, zero, suc, _*_, _≤_}
+use Prim.Native.Nat.{ℕ, zero, suc, _≤_}
 use native.Mathlib.Omega.{arith}
 use mathlib.Core.Path.{_≡_, refl, sym, ap, ap₂, subst, _∙_}
 use mathlib.Core.Logic.{_⊎_, inl, inr}
-use mathlib.Core.Bool.{Bool, true, false, cond, true≢false}
-use mathlib.Core.List.{List, [], _∷_, map}
+use mathlib.Core.Bool.{true, false, true≢false}
+use mathlib.Core.List.{List}
 use mathlib.Core.Option.{Option, some, none}
 use lib.ListN.{length, replicate}
-use lib.Dec.{leb, ltb}
+use lib.Dec.{ltb}
 use borrow.Author.Tests.{ltb-true, ltb-false}
-use Rattle.protocol.specs.SoundState.{SoundState}
-use Rattle.protocol.specs.Bytes.{Bytes, join}
+use Rattle.protocol.specs.Bytes.{Bytes}
 use Rattle.protocol.specs.Every.{Every}
 use Rattle.protocol.specs.Tests.{firstRefusal}
-use Rattle.protocol.specs.Block.{entrySize}
 use Rattle.protocol.specs.State.{State, at, last, encode, decode, withHead}
 use Rattle.protocol.specs.View.{isFinalized, largestFinalized}
 use Rattle.protocol.specs.Sound.{view, sound, log}
-use Rattle.protocol.specs.Answer.{Answer, Outcome, Move, Done, accepted, done, idle, moveNumber, unlessRefused}
+use Rattle.protocol.specs.Answer.{Outcome, Move, accepted, done, idle, moveNumber, unlessRefused}
 use Rattle.protocol.specs.Open.{newState, openRows, openCall}
 use Rattle.protocol.specs.Move.{Step, step, moved, unlessMoveRefused, moveRows, moveCall, newFinalized, outputApplies}
 use Rattle.protocol.specs.Move.{dummyVoteStep, outputStep, passStep, proposeStep, blockVoteStep}
 use Rattle.protocol.specs.Read.{logSize, sizeCall, readPart, readBuffer}
 use Rattle.protocol.specs.Call.{Call, bookAfterAll}
-use Rattle.protocol.specs.Observer.{Observer, ObservedHeight, asReplica, observed, observedHeight, observerState}
-use Rattle.protocol.specs.Observer.{decodeObserver, encodeObserver}
+use Rattle.protocol.specs.Observer.{Observer, asReplica, observed, observerState}
 use Rattle.protocol.specs.ObserverSound.{observerSound}
-use Rattle.protocol.specs.ObserverCalls.{newObserver, newObservedHeight, observerOpenCall, observerDeliverCall}
+use Rattle.protocol.specs.ObserverCalls.{newObserver, newObservedHeight, observerOpenCall}
 use Rattle.protocol.specs.ObserverCalls.{observerMoveCall, observerLogSize, observerSizeCall, observerReadPart}
 use Rattle.protocol.specs.ObserverCalls.{observerReadBuffer}
 use Rattle.protocol.specs.ObserverCall.{ObserverCall, observerBookAfterAll}
@@ -39,13 +36,13 @@ use Rattle.protocol.specs.Laws.ParentLaws.{largestFinalized-is}
 use Rattle.protocol.specs.Laws.MoveLaws.{step-cases}
 use Rattle.protocol.specs.Laws.NewStateLaws.{new-shaped}
 use Rattle.protocol.specs.Laws.TestedLaws.{open-tested, open-ranges}
-use Rattle.protocol.specs.Laws.ObserverStateLaws.{observed-as, decode-encode-observer, as-shaped}
+use Rattle.protocol.specs.Laws.ObserverStateLaws.{observed-as, decode-encode-observer}
 use Rattle.protocol.specs.Laws.ObserverSoundLaws.{sound-observer}
 use Rattle.protocol.specs.Laws.ObserverDeliverLaws.{observer-move-cases, observer-output}
 use Rattle.call_laws.specs.Laws.SoundStays.{sound-stays-all, sound-opened}
 use Rattle.call_laws.specs.Laws.RefusalsLaws.{refused≢accepted}
-use Rattle.observer_laws.specs.Twins.{SameCertificates, SameLog, SameAnswers, SameLogWhenIdle, Twins, IsCertificate}
-use Rattle.observer_laws.specs.Twins.{allGiven, allGivenToObserver, ObserverIdles}
+use Rattle.observer_laws.specs.Twins.{SameCertificates, SameAnswers, SameLogWhenIdle, Twins, IsCertificate}
+use Rattle.observer_laws.specs.Twins.{allGiven, ObserverIdles}
 use Rattle.observer_laws.specs.Laws.AlikeLaws.{Alike, same-last, same-view, same-log}
 use Rattle.observer_laws.specs.Laws.HearLaws.{alike-over, alike-back, hearAll, hear-all-alike}
 use Rattle.observer_laws.specs.Laws.TwinDeliverLaws.{same-answer}

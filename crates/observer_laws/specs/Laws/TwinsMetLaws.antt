@@ -1,15 +1,13 @@
 -- The calls of `TwinsMet` do what it says, by computation.
 use mathlib.Core.Path.{_≡_, refl}
-use mathlib.Core.List.{List, [], _∷_}
-use lib.ListN.{replicate}
 use Rattle.protocol.specs.Bytes.{Bytes, zeros}
-use Rattle.protocol.specs.Every.{Every, none, one}
+use Rattle.protocol.specs.Every.{none, one}
 use Rattle.protocol.specs.Computing.{everything}
 use Rattle.protocol.specs.Answer.{accepted, idle}
 use Rattle.protocol.specs.Move.{moveCall}
 use Rattle.protocol.specs.Read.{readPart}
 use Rattle.protocol.specs.ObserverCalls.{observerMoveCall, observerReadPart}
-use Rattle.observer_laws.specs.Twins.{SameCertificates, SameLog, Twins, SameLogWhenIdle, given, allGiven}
+use Rattle.observer_laws.specs.Twins.{SameCertificates, Twins, SameLogWhenIdle, given, allGiven}
 use Rattle.observer_laws.specs.Twins.{givenToObserver, allGivenToObserver, isOpening, isObserverOpening}
 use Rattle.observer_laws.specs.TwinsMet.{TwinsMet, entry, block, otherBlock, leaders, old, observerOld, calls}
 use Rattle.observer_laws.specs.TwinsMet.{observerCalls, book, observerBook}
