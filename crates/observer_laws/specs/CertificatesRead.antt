@@ -1,6 +1,7 @@
--- What is written is read by observers: each certificate that Move or Fetch writes is read over every observer's book of
--- the same n whose H is at least the certificate's height, with the same kind, height, signers, digest and block. A sound
--- one refuses it with 10 alone, where it has another block notarized there. Move's frames of kinds 1 to 4 are not meant.
+-- What is written is read by observers: each certificate that Move or Fetch writes is read over every observer's book
+-- of the same n whose H is at least the certificate's height, with the same kind, height, signers, digest and block. A
+-- sound one refuses it with 10 alone, where it has another block notarized there. Move's frames of kinds 1 to 4 are not
+-- meant.
 use Prim.Native.Nat.{ℕ, _≤_}
 use mathlib.Core.Path.{_≡_}
 use mathlib.Core.Logic.{_≢_}

@@ -16,3 +16,4 @@ pub mod ObserverWritesLaws
 pub mod ObserverKeepsLaws
 pub mod ObserverExactLaws
 pub mod TwinsMetLaws
+pub mod ObserverBytesLaws

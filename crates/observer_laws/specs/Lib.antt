@@ -4,5 +4,6 @@ pub mod Refusing
 pub mod Twins
 pub mod TwinsMet
 pub mod CertificatesRead
+pub mod ObserverOpened
 pub mod ObserverKeeping
 pub mod Laws

@@ -1,6 +1,6 @@
 -- What a delivery to an observer leaves where it is not refused: what the certificate says is kept, all that was kept
--- before stays, and no other byte changes; the answer says whether a byte did. That this
--- leaves no choice is `ObserverExactLaws.observer-keeps-exact`.
+-- before stays, and no other byte changes; the answer says whether a byte did. That this leaves no choice is
+-- `ObserverExactLaws.observer-keeps-exact`.
 use Prim.Native.Nat.{ℕ, _+_, _-_, _*_, _<_}
 use mathlib.Core.Path.{_≡_}
 use mathlib.Core.Logic.{_≢_}

@@ -1,6 +1,6 @@
 -- Calls that meet every premise of `Twins`, whatever the digest, and after which both read an entry: among four
--- replicas, replica 2 and an observer are given six certificates, of which three are refused, in deliveries and a packet
--- and with moves at other times.
+-- replicas, replica 2 and an observer are given six certificates, of which three are refused, in deliveries and a
+-- packet and with moves at other times.
 use mathlib.Core.Path.{_≡_}
 use mathlib.Core.List.{List, [], _∷_, _++_}
 use lib.ListN.{replicate}
@@ -50,8 +50,9 @@ calls =
 unfoldable pub observerCalls : List ObserverCall
 observerCalls =
     observerDelivery (5 ∷ []) ∷ observerDelivery (dummyCertificate 1 3) ∷ observerDelivery (dummyCertificate 1 7) ∷
-    observerDelivery (blockCertificate 2 7 block) ∷ observerMoving ∷ observerDelivery (blockCertificate 2 11 otherBlock) ∷
-    observerDelivery (finalizeCertificate 2 14) ∷ observerMoving ∷ []
+    observerDelivery (blockCertificate 2 7 block) ∷ observerMoving ∷
+    observerDelivery (blockCertificate 2 11 otherBlock) ∷ observerDelivery (finalizeCertificate 2 14) ∷
+    observerMoving ∷ []
 
 module _ (digest : Bytes → Bytes) where
   unfoldable pub book : Bytes

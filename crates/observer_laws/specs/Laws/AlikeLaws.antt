@@ -17,7 +17,8 @@ pub record Alike (s t : State) : Type 0 where
 abbrev pub shownAt : State → ℕ → ObservedHeight
 shownAt s h = observedHeight (at s h)
 
-shown-from : (s : State) (h : ℕ) → shownAt s h ≡ getD (map observedHeight (s .heights)) (h - 1) (observedHeight noHeight)
+shown-from : (s : State) (h : ℕ) →
+    shownAt s h ≡ getD (map observedHeight (s .heights)) (h - 1) (observedHeight noHeight)
 unfolding at
 shown-from s h = sym (List·getD-map observedHeight (s .heights) (h - 1) noHeight)
 

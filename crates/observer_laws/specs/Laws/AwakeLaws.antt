@@ -1,4 +1,4 @@
--- A sound observer's state is a sound replica's, put at height 1; so document 01's laws of sound states serve observers.
+-- A sound observer's state is a sound replica's, put at height 1; so the laws of sound states serve observers.
 use Prim.Native.Nat.{ℕ, _≤_}
 use native.Mathlib.Omega.{arith}
 use mathlib.Core.Path.{_≡_, sym, subst}

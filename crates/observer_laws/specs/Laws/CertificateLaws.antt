@@ -7,6 +7,7 @@ use mathlib.Core.List.{List, [], _∷_, _++_}
 use mathlib.Core.Option.{Option, some, none}
 use lib.Dec.{eqb, leb}
 use borrow.Author.Tests.{eqb-true}
+use Rattle.protocol.specs.ReadFrame.{ReadFrame}
 use Rattle.protocol.specs.Bytes.{Bytes, same}
 use Rattle.protocol.specs.Tests.{Row, allOf, implies, inRange}
 use Rattle.protocol.specs.Mask.{union, belowBit}
@@ -20,7 +21,7 @@ use Rattle.protocol.specs.Observer.{ObservedHeight, observedHeight}
 use Rattle.protocol.specs.Deliver.{readRows, clashRows, secondProposal, keep, keepBlockCertificate}
 use Rattle.protocol.specs.Deliver.{keepDummyCertificate, keepFinalizeCertificate, withNotarized, withMasks}
 use Rattle.protocol.specs.Laws.RowLaws.{in-range, not-passed}
-use Rattle.protocol.specs.Laws.DeliverLaws.{certificate-kind}
+use Rattle.protocol.specs.Laws.DeliverLaws.{certificate-kind, keep-cases}
 use Rattle.observer_laws.specs.Laws.AlikeLaws.{Alike, shownAt, same-last, same-shown, same-view}
 
 -- ---- kinds 5 to 7 are none of kinds 1 to 4
@@ -173,3 +174,16 @@ module _ (digest : Bytes → Bytes) (frame : Bytes) (is : isCertificate (kind fr
       keep-shown t ∙
       ap₂ (λ (n : ℕ) (x : ObservedHeight). keepShown n x frame) (alike .same-n) (same-shown alike (frameHeight frame)) ∙
       sym (keep-shown s)
+
+-- what holds of the height that each kind of certificate leaves holds of that which is kept
+pub certificate-cases : (digest : Bytes → Bytes) (s : State) (frame : Bytes) → 5 ≤ kind frame → ReadFrame s frame →
+    (P : ℕ → Option Height → Type 0) →
+    (kind frame ≡ 5 → P 5 (keepBlockCertificate (at s (frameHeight frame)) frame)) →
+    (kind frame ≡ 6 → P 6 (keepDummyCertificate (s .n) (at s (frameHeight frame)) frame)) →
+    (kind frame ≡ 7 → P 7 (keepFinalizeCertificate (s .n) (at s (frameHeight frame)) frame)) →
+    P (kind frame) (keep digest s frame)
+certificate-cases digest s frame high read P five six seven = keep-cases digest s frame read P
+    (never 1 (omega arith)) (never 2 (omega arith)) (never 3 (omega arith)) (never 4 (omega arith)) five six seven
+  where
+    never : {A : Type 0} (k : ℕ) → k ≤ 4 → kind frame ≡ k → A
+    never k few is = absurd (omega arith)

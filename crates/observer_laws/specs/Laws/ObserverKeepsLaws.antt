@@ -1,5 +1,5 @@
 -- Deliver leaves what `ObserverKeeping` says, and that leaves no choice.
-use Prim.Native.Nat.{ℕ, _+_, _-_, _*_, _≤_}
+use Prim.Native.Nat.{ℕ, _+_, _-_, _*_}
 use native.Mathlib.Omega.{arith}
 use mathlib.Core.Path.{_≡_, refl, sym, ap, subst, _∙_}
 use mathlib.Core.Logic.{_≢_}
@@ -15,7 +15,6 @@ use Rattle.protocol.specs.Deliver.{keep}
 use Rattle.protocol.specs.Observer.{observed, observerState, encodeObserver}
 use Rattle.protocol.specs.ObserverSound.{observerSound}
 use Rattle.protocol.specs.ObserverCalls.{observerDeliverCall}
-use Rattle.protocol.specs.Laws.DeliverLaws.{keep-cases}
 use Rattle.protocol.specs.Laws.ObserverCodecLaws.{last-observed}
 use Rattle.protocol.specs.Laws.ObserverSoundLaws.{exact-observer}
 use Rattle.protocol.specs.Laws.ObserverDeliverLaws.{ObserverAccepts, observer-deliver-cases, observer-delivered}
@@ -26,6 +25,7 @@ use Rattle.call_laws.specs.Laws.KeepsStateLaws.{at-placed, placed-same}
 use Rattle.call_laws.specs.Laws.KeptBytesLaws.{keep-other}
 use Rattle.call_laws.specs.Laws.RefusalsLaws.{refused≢accepted}
 use Rattle.observer_laws.specs.ObserverKeeping.{KeepsCertificate, ObserverKeeps, certificateParts}
+use Rattle.observer_laws.specs.Laws.CertificateLaws.{certificate-cases}
 use Rattle.observer_laws.specs.Laws.AwakeLaws.{awake}
 use Rattle.observer_laws.specs.Laws.ObserverKeptLaws.{KeptCertificate, block-kept, dummies-kept, finalizes-kept}
 use Rattle.observer_laws.specs.Laws.ObserverWritesLaws.{fresh-writes}
@@ -41,14 +41,11 @@ module _ (digest : Bytes → Bytes) (book frame : Bytes) (accepts : ObserverAcce
   abbrev x : Height
   x = at s h
 
-  never : {A : Type 0} (k : ℕ) → k ≤ 4 → kind frame ≡ k → A
-  never k few is = let high = accepts .certificate in absurd (omega arith)
-
   kept : KeepsCertificate (s .n) frame x (left x (keep digest s frame))
   kept =
       let status = holds-none digest book (accepts .was-sound) h (accepts .read .low) (accepts .read .high) in
-      keep-cases digest s frame (accepts .read) (λ _. KeptCertificate (s .n) frame x status)
-      (never 1 (omega arith)) (never 2 (omega arith)) (never 3 (omega arith)) (never 4 (omega arith))
+      certificate-cases digest s frame (accepts .certificate) (accepts .read)
+      (λ _. KeptCertificate (s .n) frame x status)
       (λ five. block-kept (s .n) frame x status five (accepts .agrees .block five))
       (λ six. dummies-kept (s .n) frame x status (λ five. omega arith) six)
       (λ seven. finalizes-kept (s .n) frame x status (λ five. omega arith) seven)

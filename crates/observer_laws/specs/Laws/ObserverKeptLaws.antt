@@ -18,7 +18,7 @@ use Rattle.protocol.specs.Laws.RowLaws.{not-passed}
 use Rattle.protocol.specs.Laws.UnionLaws.{union-bit}
 use Rattle.call_laws.specs.Laws.KeepsKindLaws.{left}
 use Rattle.call_laws.specs.Laws.HeightBitsLaws.{known-bits}
-use Rattle.observer_laws.specs.ObserverKeeping.{SameBlock, KeepsCertificate}
+use Rattle.observer_laws.specs.ObserverKeeping.{SameBlock, BlockOf, KeepsCertificate}
 
 -- a mask to which nothing is added
 nothing-more : (a test b : Bool) → test ≡ false → a ≡ (a || (test && b))
@@ -61,6 +61,10 @@ module _ (n : ℕ) (frame : Bytes) (x : Height) (status : (x .status ≡ 0) ⊎ 
   same-finalizes j e apart t l = nothing-more _ _ _ (other-kind frame j 7 e apart)
 
   -- ---- kind 5
+  new-block : isNotarized x ≡ false → BlockOf frame (withNotarized x (signerMask frame) (frameBlock frame))
+  unfolding withNotarized
+  new-block free = record { notarized = omega (arith, free-status free); its-signers = refl; its-block = refl }
+
   pub block-kept : kind frame ≡ 5 → (isNotarized x ≡ true → x .notarized ≡ frameBlock frame) →
       KeptCertificate (keepBlockCertificate x frame)
   unfolding keepBlockCertificate left withNotarized
@@ -78,7 +82,7 @@ module _ (n : ℕ) (frame : Bytes) (x : Height) (status : (x .status ≡ 0) ⊎ 
         finalizes = same-finalizes 5 five (λ e. omega arith);
         first-block = λ has. absurd (true≢false (sym has ∙ free));
         no-block = λ other. absurd (other five);
-        this-block = λ _ _. record { notarized = omega (arith, free-status free); its-signers = refl; its-block = refl };
+        this-block = λ _ _. new-block free;
         known-block = λ _. agrees;
       })
 

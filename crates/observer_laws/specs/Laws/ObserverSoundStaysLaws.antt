@@ -12,7 +12,7 @@ use Rattle.protocol.specs.SoundObserver.{SoundObserver}
 use Rattle.protocol.specs.ReadFrame.{ReadFrame}
 use Rattle.protocol.specs.Bytes.{Bytes}
 use Rattle.protocol.specs.Mask.{union}
-use Rattle.protocol.specs.Frame.{kind, frameHeight, frameBlock, signerMask}
+use Rattle.protocol.specs.Frame.{frameHeight, frameBlock, signerMask}
 use Rattle.protocol.specs.State.{State, Height, at, last, withHead, withHeight, isNotarized}
 use Rattle.protocol.specs.Sound.{view}
 use Rattle.protocol.specs.Answer.{Outcome, Delivery, Move}
@@ -22,7 +22,7 @@ use Rattle.protocol.specs.Move.{newFinalized, outputStep}
 use Rattle.protocol.specs.Observer.{observed, observerState, encodeObserver, decodeObserver}
 use Rattle.protocol.specs.ObserverSound.{observerSound}
 use Rattle.protocol.specs.ObserverCalls.{observerDeliverCall, observerMoveCall}
-use Rattle.protocol.specs.Laws.DeliverLaws.{OnSome, unless-known, rows-read, keep-cases}
+use Rattle.protocol.specs.Laws.DeliverLaws.{OnSome, unless-known, rows-read}
 use Rattle.protocol.specs.Laws.PlaceLaws.{last-with}
 use Rattle.protocol.specs.Laws.ObserverStateLaws.{Observing, ObservingHeight, observing-as, observing-with}
 use Rattle.protocol.specs.Laws.ObserverStateLaws.{observing-finalized, last-as}
@@ -32,6 +32,7 @@ use Rattle.protocol.specs.Laws.ObserverDeliverLaws.{observer-move-cases}
 use Rattle.call_laws.specs.Laws.DeliverSoundLaws.{keep-sound}
 use Rattle.call_laws.specs.Laws.MoveSoundLaws.{output-sound}
 use Rattle.call_laws.specs.Laws.HeightSoundLaws.{each-height}
+use Rattle.observer_laws.specs.Laws.CertificateLaws.{certificate-cases}
 use Rattle.observer_laws.specs.Laws.AwakeLaws.{awake, HoldsNone, awake-sound, sound-observed}
 
 -- a status of an observer's height
@@ -63,7 +64,8 @@ module _ (digest : Bytes → Bytes) where
     holds-none h low high = facts .holds-none h low (rw (last-as (decodeObserver book)) at high)
 
     -- a state that an observer can have is the state of a sound book
-    encoded : (t : State) → Observing t → SoundState digest (awake t) → HoldsNone t → Sound (encodeObserver (observed t))
+    encoded : (t : State) → Observing t → SoundState digest (awake t) → HoldsNone t →
+        Sound (encodeObserver (observed t))
     encoded t e is none-held =
         observer-sound-encode digest (observed t) (sound-observed digest t e is none-held)
 
@@ -75,21 +77,19 @@ module _ (digest : Bytes → Bytes) where
       unfolding awake withHead readRows at last view
       read-awake = rows-read (awake s) frame (accepts .passes)
 
-      never : {A : Type 0} (k : ℕ) → k ≤ 4 → kind frame ≡ k → A
-      never k few is = let high = accepts .certificate in absurd (omega arith)
-
       here : Status (at s h)
       here = holds-none h (accepts .read .low) (accepts .read .high)
 
       kept-status : OnSome Status (keep digest s frame)
       unfolding keepBlockCertificate keepDummyCertificate keepFinalizeCertificate
-      kept-status = keep-cases digest s frame (accepts .read) (λ _. OnSome Status)
-          (never 1 (omega arith)) (never 2 (omega arith)) (never 3 (omega arith)) (never 4 (omega arith))
-          (λ _. unless-known Status (isNotarized (at s h)) (λ free.
-          status-notarized (at s h) (signerMask frame) (frameBlock frame) here free))
-          (λ _. unless-known Status (eqb (union (s .n) (at s h .dummyMask) (signerMask frame)) (at s h .dummyMask))
+      kept-status =
+          let x : Height = at s h in
+          certificate-cases digest s frame (accepts .certificate) (accepts .read) (λ _. OnSome Status)
+          (λ _. unless-known Status (isNotarized x) (λ free.
+          status-notarized x (signerMask frame) (frameBlock frame) here free))
+          (λ _. unless-known Status (eqb (union (s .n) (x .dummyMask) (signerMask frame)) (x .dummyMask))
           (λ _. unfold withMasks in here))
-          (λ _. unless-known Status (eqb (union (s .n) (at s h .finalizeMask) (signerMask frame)) (at s h .finalizeMask))
+          (λ _. unless-known Status (eqb (union (s .n) (x .finalizeMask) (signerMask frame)) (x .finalizeMask))
           (λ _. unfold withMasks in here))
 
       module _ (y : Height) (e : keep digest s frame ≡ some y) where
@@ -103,7 +103,7 @@ module _ (digest : Bytes → Bytes) where
             go : (k : ℕ) → 1 ≤ k → k ≤ last s → HoldsNone (withHeight s k y)
             go zero low high = absurd (omega arith)
             go (suc i) low high = λ j l m. each-height s i high y (λ (k : ℕ) (x : Height). k ≤ last s → Status x)
-                (λ _. subst (OnSome Status) e kept-status) (λ k l′ m′. holds-none k l′ m′) j l (rw (last-with s i y) at m)
+                (λ _. subst (OnSome Status) e kept-status) holds-none j l (rw (last-with s i y) at m)
 
         kept-observing : Observing (withHeight s h y)
         kept-observing =

@@ -15,13 +15,14 @@ use Rattle.protocol.specs.Deliver.{withNotarized, withMasks}
 use Rattle.protocol.specs.Observer.{observed, observerState, encodeObserver, decodeObserver}
 use Rattle.protocol.specs.Laws.BytesLaws.{length-put}
 use Rattle.protocol.specs.Laws.PlaceLaws.{suc-pred}
-use Rattle.protocol.specs.Laws.DeliverLaws.{OnSome, unless-known, keep-cases, block-size}
+use Rattle.protocol.specs.Laws.DeliverLaws.{OnSome, unless-known, block-size}
 use Rattle.protocol.specs.Laws.ObserverCodecLaws.{ExactObserver, last-observed}
 use Rattle.protocol.specs.Laws.ObserverSoundLaws.{exact-observer, encode-decode-observer}
 use Rattle.protocol.specs.Laws.ObserverDeliverLaws.{ObserverAccepts}
 use Rattle.protocol.specs.Laws.ObserverPlaceLaws.{book-observed-dummy, book-observed-finalize, book-observed-notarized}
 use Rattle.call_laws.specs.KeptBytes.{SameOutside}
 use Rattle.call_laws.specs.Laws.OutsideLaws.{put-outside, set-outside, both-outside}
+use Rattle.observer_laws.specs.Laws.CertificateLaws.{certificate-cases}
 use Rattle.observer_laws.specs.ObserverKeeping.{certificateParts, observedContentAt, observedBlockAt}
 
 module _ (book : Bytes) (exact : ExactObserver book) (whole : encodeObserver (decodeObserver book) ≡ book) (h : ℕ)
@@ -60,7 +61,8 @@ module _ (book : Bytes) (exact : ExactObserver book) (whole : encodeObserver (de
 
   pub dummy-writes : (mask : ℕ) → Writes 6 (withMasks x mask (x .finalizeMask))
   unfolding certificateParts
-  dummy-writes mask = subst (SameOutside _ book) (rw there at (book-observed-dummy book exact whole (h - 1) inside mask))
+  dummy-writes mask =
+      subst (SameOutside _ book) (rw there at (book-observed-dummy book exact whole (h - 1) inside mask))
       (mask-writes 4 mask (omega arith))
 
   pub finalize-writes : (mask : ℕ) → Writes 7 (withMasks x (x .dummyMask) mask)
@@ -95,9 +97,6 @@ module _ (digest : Bytes → Bytes) (book frame : Bytes) (accepts : ObserverAcce
   Kept k o = OnSome (λ (y : Height). SameOutside (certificateParts (bookHeights book) h′ k) book
       (encodeObserver (observed (withHeight s h′ y)))) o
 
-  never : {A : Type 0} (k : ℕ) → k ≤ 4 → kind frame ≡ k → A
-  never k few is = let certificate = accepts .certificate in absurd (omega arith)
-
   kept-writes : Kept (kind frame) (keep digest s frame)
   unfolding keepBlockCertificate keepDummyCertificate keepFinalizeCertificate
   kept-writes =
@@ -105,8 +104,7 @@ module _ (digest : Bytes → Bytes) (book frame : Bytes) (accepts : ObserverAcce
       let whole = encode-decode-observer digest book (accepts .was-sound) small in
       let low = accepts .read .low in
       let high : h′ ≤ bookHeights book = rw (last-observed book) at (accepts .read .high) in
-      keep-cases digest s frame (accepts .read) Kept
-      (never 1 (omega arith)) (never 2 (omega arith)) (never 3 (omega arith)) (never 4 (omega arith))
+      certificate-cases digest s frame (accepts .certificate) (accepts .read) Kept
       (λ _. unless-known _ (isNotarized (at s h′)) (λ _.
       block-writes book exact whole h′ low high (signerMask frame) (frameBlock frame) (block-size (accepts .read))))
       (λ _. unless-known _ (eqb (union (s .n) (at s h′ .dummyMask) (signerMask frame)) (at s h′ .dummyMask))

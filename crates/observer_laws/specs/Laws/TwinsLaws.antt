@@ -225,8 +225,11 @@ module _ (digest : Bytes → Bytes) where
       (λ unsound. absurd (true≢false (sym is ∙ unsound))) (λ _ _. refl)
       (λ _ applies. absurd (true≢false (sym applies ∙ rests)))
 
+  abbrev Rests : State → Type 0
+  Rests t = outputApplies digest t ≡ false
+
   -- after an output no other one applies
-  output-rests : (t : State) → outputApplies digest (withHead t (t .flags) (t .current) (newFinalized digest t)) ≡ false
+  output-rests : (t : State) → Rests (withHead t (t .flags) (t .current) (newFinalized digest t))
   unfolding outputApplies newFinalized withHead view at last
   output-rests t = none-below-itself (largestFinalized digest (view t) (last t))
     where
@@ -241,11 +244,10 @@ module _ (digest : Bytes → Bytes) where
       (λ (o : Outcome Move). o .answer ≡ accepted move →
       (observerSound digest book ≡ true) × (outputApplies digest (observerState (o .book)) ≡ false))
       (λ _ e. absurd (refused≢accepted 1 move e))
-      (λ is rests _. (is, subst (λ (t : State). outputApplies digest t ≡ false) (sym (state-back digest book is)) rests))
+      (λ is rests _. (is, subst Rests (sym (state-back digest book is)) rests))
       (λ is _ _. (
         is,
-        subst (λ (t : State). outputApplies digest t ≡ false)
-            (sym (observer-output digest book is (newFinalized digest (observerState book))))
+        subst Rests (sym (observer-output digest book is (newFinalized digest (observerState book))))
             (output-rests (observerState book)),
       ))
 
