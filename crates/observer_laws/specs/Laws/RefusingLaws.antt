@@ -1,18 +1,22 @@
 -- Every call of an observer refuses as `Refusing` and `Refusals` say.
 use Prim.Native.Nat.{ℕ}
 use native.Mathlib.Omega.{arith}
-use mathlib.Core.Path.{_≡_, refl, sym, _∙_}
-use mathlib.Core.Bool.{Bool, true, false, cond}
+use mathlib.Core.Path.{_≡_, refl, sym, ap, _∙_}
+use mathlib.Core.Bool.{Bool, true, false, cond, true≢false}
 use mathlib.Core.List.{List, [], _∷_, _++_}
 use mathlib.Core.Option.{Option, some, none}
 use Rattle.protocol.specs.Bytes.{Bytes}
 use Rattle.protocol.specs.Tests.{Row, firstRefusal}
 use Rattle.protocol.specs.Frame.{kind, frameWellFormed, isCertificate, isStatement}
-use Rattle.protocol.specs.Answer.{Answer, Done, Delivery, Move, accepted, known, fresh, unlessRefused}
+use Rattle.protocol.specs.Answer.{Answer, Outcome, Done, Delivery, Move, refused, accepted, known, fresh, isAccepted}
+use Rattle.protocol.specs.Answer.{unlessRefused}
 use Rattle.protocol.specs.State.{State, Height, isNotarized}
 use Rattle.protocol.specs.Deliver.{readRows, clashRows, keep}
 use Rattle.protocol.specs.Observer.{observerState, observedHeight}
 use Rattle.protocol.specs.ObserverSound.{observerSound}
+use Rattle.protocol.specs.ObserverCall.{ObserverCall, Observation, observation, observesBook, observesOpening}
+use Rattle.protocol.specs.ObserverCall.{observesDelivery, observesMove, observerOpening, observerDelivery}
+use Rattle.protocol.specs.ObserverCall.{observerMoving, observerSizing, observerReading}
 use Rattle.protocol.specs.ObserverCalls.{observerOpenRows, observerOpenCall, observerKept, observerLogSize}
 use Rattle.protocol.specs.ObserverCalls.{observerDeliverRows, observerDeliverCall, observerMoveRows, observerMoveCall}
 use Rattle.protocol.specs.ObserverCalls.{observerMoved, observerSizeCall}
@@ -110,3 +114,28 @@ module _ (digest : Bytes → Bytes) where
   unfolding RefusesStatements observerDeliverCall observerDeliverRows firstRefusal unlessRefused
   refuses-statements book frame was-sound formed statement =
       rw (was-sound, formed, no-certificate (kind frame) statement)
+
+  -- ---- a refused call does nothing: it leaves the book as it was, opens none, delivers no frame and reads nothing
+  nothing-done : {A : Type 0} (observes : Outcome A → Observation) (book : Bytes) →
+      ((number : ℕ) → observes (record { answer = refused number; book = book }) ≡ observesBook book false) →
+      (outcome : Outcome A) → observes outcome .accepted ≡ true → (r : Option ℕ) →
+      observes (unlessRefused r book outcome) .accepted ≡ false →
+      observes (unlessRefused r book outcome) ≡ observesBook book false
+  unfolding unlessRefused
+  nothing-done observes book none-done outcome accepts none e = absurd (true≢false (sym accepts ∙ e))
+  nothing-done observes book none-done outcome accepts (some number) e = none-done number
+
+  pub observer-refused-does-nothing : (book : Bytes) (call : ObserverCall) →
+      observation digest book call .accepted ≡ false → observation digest book call ≡ observesBook book false
+  unfolding observation isAccepted observerOpenCall observerDeliverCall observerMoveCall observerMoved
+  observer-refused-does-nothing book (observerOpening n heights) =
+      nothing-done (observesOpening n) book (λ number. refl) _ refl (firstRefusal (observerOpenRows book n heights))
+  observer-refused-does-nothing book (observerDelivery frame) =
+      nothing-done (observesDelivery frame) book (λ number. refl)
+      (observerKept book frame (keep digest (observerState book) frame))
+      (ap isAccepted (kept-accepted book frame (keep digest (observerState book) frame) .1))
+      (firstRefusal (observerDeliverRows digest book frame))
+  observer-refused-does-nothing book observerMoving =
+      nothing-done observesMove book (λ number. refl) _ refl (firstRefusal (observerMoveRows digest book))
+  observer-refused-does-nothing book observerSizing = λ e. rw e refl
+  observer-refused-does-nothing book (observerReading buffer) = λ e. absurd (true≢false e)
