@@ -17,3 +17,4 @@ pub mod ObserverKeepsLaws
 pub mod ObserverExactLaws
 pub mod TwinsMetLaws
 pub mod ObserverBytesLaws
+pub mod TwinsMovedLaws

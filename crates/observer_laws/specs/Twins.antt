@@ -2,11 +2,11 @@
 -- certificates in the same order read the same log after each has moved until idle; and on the way the next certificate
 -- gets the same answer from both. The old bytes of both books, the own number and the leaders are any; so is what else
 -- is called in between, moves of either and signals among it. No one need be honest, and the digest is any function.
-use Prim.Native.Nat.{ℕ, _%_}
+use Prim.Native.Nat.{ℕ, _%_, _≤_}
 use mathlib.Core.Path.{_≡_}
 use mathlib.Core.Bool.{Bool, true, false, cond}
 use mathlib.Core.List.{List, [], _∷_, _++_}
-use lib.ListN.{length}
+use lib.ListN.{length, replicate}
 use lib.Dec.{eqb}
 use Rattle.protocol.specs.Bytes.{Bytes}
 use Rattle.protocol.specs.Every.{Every}
@@ -15,7 +15,8 @@ use Rattle.protocol.specs.Answer.{Move, accepted, done, idle}
 use Rattle.protocol.specs.Open.{openCall}
 use Rattle.protocol.specs.Deliver.{deliverCall}
 use Rattle.protocol.specs.Packet.{packetFrames}
-use Rattle.protocol.specs.Move.{moveCall}
+use Rattle.protocol.specs.State.{decode}
+use Rattle.protocol.specs.Move.{step, afterMoves, moveCall}
 use Rattle.protocol.specs.Read.{sizeCall, readPart, readBuffer}
 use Rattle.protocol.specs.Call.{Call, opening, delivery, packetDelivery, moving, signalling, submitting, sizing}
 use Rattle.protocol.specs.Call.{reading, fetching, bookAfterAll}
@@ -113,6 +114,18 @@ module _ (digest : Bytes → Bytes) where
       let observerBook : Bytes =
       observerBookAfterAll digest (observerOpenCall observerOld n heights .book) observerCalls in
       SameAnswers book observerBook × SameLogWhenIdle book observerBook
+
+  -- the same with the moves told: the replica makes `k`, after which none applies (that there is such a number, at most
+  -- H + 3, is `paper Idle.MovesEnd`), and the observer makes one
+  unfoldable pub TwinsMoved : Type 0
+  TwinsMoved = (n heights own : ℕ) (leaders old observerOld : Bytes) (calls : List Call)
+      (observerCalls : List ObserverCall) →
+      SameCertificates n heights own leaders old observerOld calls observerCalls →
+      let book : Bytes = bookAfterAll digest (openCall old n own heights leaders .book) calls in
+      let observerBook : Bytes =
+      observerBookAfterAll digest (observerOpenCall observerOld n heights .book) observerCalls in
+      (reply : Bytes) → 448 ≤ length reply → (k : ℕ) → step digest (afterMoves digest k (decode book)) .move ≡ idle →
+      SameLog (bookAfterAll digest book (replicate k (moving reply))) (observerMoveCall digest observerBook .book)
 
   -- an observer is idle after one move: a second one right after it answers idle
   unfoldable pub ObserverIdles : Type 0

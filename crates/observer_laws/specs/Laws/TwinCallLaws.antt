@@ -48,7 +48,7 @@ every-front : {A : Type 0} {P : A → Type 0} (xs ys : List A) → Every P (xs +
 every-front [] ys all = (none, all)
 every-front (x ∷ xs) ys (one p all) = let (front, back) = every-front xs ys all in (one p front, back)
 
-body-alike : {s t : State} → SameBody s t → Alike s t
+pub body-alike : {s t : State} → SameBody s t → Alike s t
 body-alike same = record { same-n = same .same-n; same-heights = ap (map observedHeight) (same .same-heights) }
 
 module _ (digest : Bytes → Bytes) where
@@ -157,7 +157,7 @@ module _ (digest : Bytes → Bytes) where
     state-back = ap asReplica (decode-encode-observer (decodeObserver book)
         (as-shaped (decodeObserver book) (sound-observer digest book was .shaped)))
 
-    observer-move-same : Alike t (observerState (observerMoveCall digest book .book))
+    pub observer-move-same : Alike t (observerState (observerMoveCall digest book .book))
     observer-move-same = observer-move-cases digest book (λ (o : Outcome Move). Alike t (observerState (o .book)))
         (λ _. alike-self t)
         (λ _ _. subst (Alike t) (sym state-back) (alike-self t))

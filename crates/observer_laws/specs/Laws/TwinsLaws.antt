@@ -162,7 +162,7 @@ module _ (digest : Bytes → Bytes) where
             (isFinalized digest (view (observerState observerBook)) (observerState observerBook .finalized) ≡ true)
         observer-final = unfold asReplica in sound-observer digest observerBook observer-was .final
 
-    idle-same : SameLogWhenIdle digest book observerBook
+    pub idle-same : SameLogWhenIdle digest book observerBook
     unfolding SameLogWhenIdle observerSizeCall sizeCall observerLogSize logSize observerReadPart readPart
         observerReadBuffer readBuffer
     idle-same reply rests observer-rests =
@@ -183,10 +183,10 @@ module _ (digest : Bytes → Bytes) where
     abbrev observerOpened : Bytes
     observerOpened = observerOpenCall observerOld n heights .book
 
-    was : sound digest opened ≡ true
+    pub was : sound digest opened ≡ true
     was = sound-opened digest old n own heights leaders (is .opened)
 
-    observer-was : observerSound digest observerOpened ≡ true
+    pub observer-was : observerSound digest observerOpened ≡ true
     observer-was = observer-sound-opened digest observerOld n heights (is .observer-opened)
 
     -- what the observer shows, by the replica's certificates
@@ -198,7 +198,7 @@ module _ (digest : Bytes → Bytes) where
         (observer-calls-show digest observerOpened observer-was observerCalls (is .observer-opened-once)
         (subst (Every IsCertificate) (sym (is .same)) (is .certificates)))
 
-    alike : Alike (decode (bookAfterAll digest opened calls))
+    pub alike : Alike (decode (bookAfterAll digest opened calls))
         (observerState (observerBookAfterAll digest observerOpened observerCalls))
     alike =
         alike-over (alike-back (calls-show digest opened was calls (is .opened-once) (is .certificates)))
