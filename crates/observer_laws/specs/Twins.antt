@@ -11,7 +11,7 @@ use lib.Dec.{eqb}
 use Rattle.protocol.specs.Bytes.{Bytes}
 use Rattle.protocol.specs.Every.{Every}
 use Rattle.protocol.specs.Frame.{kind, frameSize, isCertificate}
-use Rattle.protocol.specs.Answer.{Move, accepted, done, idle}
+use Rattle.protocol.specs.Answer.{Outcome, Done, Move, accepted, done, idle}
 use Rattle.protocol.specs.Open.{openCall}
 use Rattle.protocol.specs.Deliver.{deliverCall}
 use Rattle.protocol.specs.Packet.{packetFrames}
@@ -77,17 +77,40 @@ abbrev pub IsCertificate : Bytes → Type 0
 IsCertificate frame = isCertificate (kind frame) ≡ true
 
 -- ---- a replica's and an observer's calls
--- both books are opened with one n and H, not refused, and not again; and both are given the same certificates
-pub record SameCertificates (n heights own : ℕ) (leaders old observerOld : Bytes) (calls : List Call)
-    (observerCalls : List ObserverCall) : Type 0 where
-  pub opened : openCall old n own heights leaders .answer ≡ accepted done
-  pub observer-opened : observerOpenCall observerOld n heights .answer ≡ accepted done
-  pub opened-once : Every (λ (call : Call). isOpening call ≡ false) calls
-  pub observer-opened-once : Every (λ (call : ObserverCall). isObserverOpening call ≡ false) observerCalls
-  pub certificates : Every IsCertificate (allGiven calls)
-  pub same : allGivenToObserver observerCalls ≡ allGiven calls
+-- the openings, with one n and H and over any old bytes, and the calls after them
+pub record Histories : Type 0 where
+  pub n : ℕ
+  pub heights : ℕ
+  pub own : ℕ
+  pub leaders : Bytes
+  pub old : Bytes
+  pub calls : List Call
+  pub observerOld : Bytes
+  pub observerCalls : List ObserverCall
+
+abbrev pub opens : Histories → Outcome Done
+opens both = openCall (both .old) (both .n) (both .own) (both .heights) (both .leaders)
+
+abbrev pub observerOpens : Histories → Outcome Done
+observerOpens both = observerOpenCall (both .observerOld) (both .n) (both .heights)
+
+-- both openings are not refused, no other one follows, and both books are given the same certificates
+pub record SameCertificates (both : Histories) : Type 0 where
+  pub opened : opens both .answer ≡ accepted done
+  pub observer-opened : observerOpens both .answer ≡ accepted done
+  pub opened-once : Every (λ (call : Call). isOpening call ≡ false) (both .calls)
+  pub observer-opened-once : Every (λ (call : ObserverCall). isObserverOpening call ≡ false) (both .observerCalls)
+  pub certificates : Every IsCertificate (allGiven (both .calls))
+  pub same : allGivenToObserver (both .observerCalls) ≡ allGiven (both .calls)
 
 module _ (digest : Bytes → Bytes) where
+  -- the books after all calls
+  abbrev pub bookOf : Histories → Bytes
+  bookOf both = bookAfterAll digest (opens both .book) (both .calls)
+
+  abbrev pub observerBookOf : Histories → Bytes
+  observerBookOf both = observerBookAfterAll digest (observerOpens both .book) (both .observerCalls)
+
   -- ---- two books, a replica's and an observer's
   -- each certificate gets the same answer from both: fresh, known, or refused with the same number
   unfoldable pub SameAnswers : (book observerBook : Bytes) → Type 0
@@ -107,25 +130,16 @@ module _ (digest : Bytes → Bytes) where
 
   -- ---- the claim
   unfoldable pub Twins : Type 0
-  Twins = (n heights own : ℕ) (leaders old observerOld : Bytes) (calls : List Call)
-      (observerCalls : List ObserverCall) →
-      SameCertificates n heights own leaders old observerOld calls observerCalls →
-      let book : Bytes = bookAfterAll digest (openCall old n own heights leaders .book) calls in
-      let observerBook : Bytes =
-      observerBookAfterAll digest (observerOpenCall observerOld n heights .book) observerCalls in
-      SameAnswers book observerBook × SameLogWhenIdle book observerBook
+  Twins = (both : Histories) → SameCertificates both →
+      SameAnswers (bookOf both) (observerBookOf both) × SameLogWhenIdle (bookOf both) (observerBookOf both)
 
   -- the same with the moves told: the replica makes `k`, after which none applies (that there is such a number, at most
   -- H + 3, is `paper Idle.MovesEnd`), and the observer makes one
   unfoldable pub TwinsMoved : Type 0
-  TwinsMoved = (n heights own : ℕ) (leaders old observerOld : Bytes) (calls : List Call)
-      (observerCalls : List ObserverCall) →
-      SameCertificates n heights own leaders old observerOld calls observerCalls →
-      let book : Bytes = bookAfterAll digest (openCall old n own heights leaders .book) calls in
-      let observerBook : Bytes =
-      observerBookAfterAll digest (observerOpenCall observerOld n heights .book) observerCalls in
-      (reply : Bytes) → 448 ≤ length reply → (k : ℕ) → step digest (afterMoves digest k (decode book)) .move ≡ idle →
-      SameLog (bookAfterAll digest book (replicate k (moving reply))) (observerMoveCall digest observerBook .book)
+  TwinsMoved = (both : Histories) → SameCertificates both → (reply : Bytes) → 448 ≤ length reply → (k : ℕ) →
+      step digest (afterMoves digest k (decode (bookOf both))) .move ≡ idle →
+      SameLog (bookAfterAll digest (bookOf both) (replicate k (moving reply)))
+      (observerMoveCall digest (observerBookOf both) .book)
 
   -- an observer is idle after one move: a second one right after it answers idle
   unfoldable pub ObserverIdles : Type 0

@@ -8,13 +8,12 @@ use Rattle.protocol.specs.Bytes.{Bytes, zeros}
 use Rattle.protocol.specs.Block.{newBlock}
 use Rattle.protocol.specs.Frame.{blockCertificate, dummyCertificate, finalizeCertificate}
 use Rattle.protocol.specs.Answer.{accepted, idle}
-use Rattle.protocol.specs.Open.{openCall}
 use Rattle.protocol.specs.Move.{moveCall}
 use Rattle.protocol.specs.Read.{readPart}
-use Rattle.protocol.specs.Call.{Call, delivery, packetDelivery, moving, signalling, bookAfterAll}
-use Rattle.protocol.specs.ObserverCalls.{observerOpenCall, observerMoveCall, observerReadPart}
-use Rattle.protocol.specs.ObserverCall.{ObserverCall, observerDelivery, observerMoving, observerBookAfterAll}
-use Rattle.observer_laws.specs.Twins.{SameCertificates, SameLog}
+use Rattle.protocol.specs.Call.{Call, delivery, packetDelivery, moving, signalling}
+use Rattle.protocol.specs.ObserverCalls.{observerMoveCall, observerReadPart}
+use Rattle.protocol.specs.ObserverCall.{ObserverCall, observerDelivery, observerMoving}
+use Rattle.observer_laws.specs.Twins.{Histories, SameCertificates, bookOf, observerBookOf, SameLog}
 
 -- ---- what is said
 unfoldable pub entry : Bytes
@@ -28,9 +27,6 @@ unfoldable pub otherBlock : Bytes
 otherBlock = newBlock 2 0 (zeros 32) []
 
 -- ---- what is called, over old bytes
-abbrev pub leaders : Bytes
-leaders = 0 ∷ 1 ∷ []
-
 unfoldable pub old : Bytes
 old = replicate 2336 9
 
@@ -54,18 +50,25 @@ observerCalls =
     observerDelivery (blockCertificate 2 11 otherBlock) ∷ observerDelivery (finalizeCertificate 2 14) ∷
     observerMoving ∷ []
 
+-- n 4 and H 2, the replica's own number 2
+unfoldable pub histories : Histories
+histories = record {
+  n = 4;
+  heights = 2;
+  own = 2;
+  leaders = 0 ∷ 1 ∷ [];
+  old = old;
+  calls = calls;
+  observerOld = observerOld;
+  observerCalls = observerCalls;
+}
+
 module _ (digest : Bytes → Bytes) where
-  unfoldable pub book : Bytes
-  book = bookAfterAll digest (openCall old 4 2 2 leaders .book) calls
-
-  unfoldable pub observerBook : Bytes
-  observerBook = observerBookAfterAll digest (observerOpenCall observerOld 4 2 .book) observerCalls
-
   pub record TwinsMet : Type 0 where
-    pub premises : SameCertificates 4 2 2 leaders old observerOld calls observerCalls
-    pub rests : moveCall digest book (zeros 448) .answer ≡ accepted idle
-    pub observer-rests : observerMoveCall digest observerBook .answer ≡ accepted idle
-    pub reads : readPart digest book (zeros 16) ≡ entry
-    pub observer-reads : observerReadPart digest observerBook (zeros 16) ≡ entry
+    pub premises : SameCertificates histories
+    pub rests : moveCall digest (bookOf digest histories) (zeros 448) .answer ≡ accepted idle
+    pub observer-rests : observerMoveCall digest (observerBookOf digest histories) .answer ≡ accepted idle
+    pub reads : readPart digest (bookOf digest histories) (zeros 16) ≡ entry
+    pub observer-reads : observerReadPart digest (observerBookOf digest histories) (zeros 16) ≡ entry
     -- the claim applied to them
-    pub applied : SameLog digest book observerBook
+    pub applied : SameLog digest (bookOf digest histories) (observerBookOf digest histories)

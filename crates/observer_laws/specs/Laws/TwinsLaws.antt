@@ -21,13 +21,11 @@ use Rattle.protocol.specs.Open.{newState, openRows, openCall}
 use Rattle.protocol.specs.Move.{Step, step, moved, unlessMoveRefused, moveRows, moveCall, newFinalized, outputApplies}
 use Rattle.protocol.specs.Move.{dummyVoteStep, outputStep, passStep, proposeStep, blockVoteStep}
 use Rattle.protocol.specs.Read.{logSize, sizeCall, readPart, readBuffer}
-use Rattle.protocol.specs.Call.{Call, bookAfterAll}
 use Rattle.protocol.specs.Observer.{Observer, asReplica, observed, observerState}
 use Rattle.protocol.specs.ObserverSound.{observerSound}
 use Rattle.protocol.specs.ObserverCalls.{newObserver, newObservedHeight, observerOpenCall}
 use Rattle.protocol.specs.ObserverCalls.{observerMoveCall, observerLogSize, observerSizeCall, observerReadPart}
 use Rattle.protocol.specs.ObserverCalls.{observerReadBuffer}
-use Rattle.protocol.specs.ObserverCall.{ObserverCall, observerBookAfterAll}
 use Rattle.protocol.specs.Laws.RowLaws.{not-passed}
 use Rattle.protocol.specs.Laws.StateLaws.{decode-encode}
 use Rattle.protocol.specs.Laws.SoundLaws.{sound-decode, zero-or-settled-in}
@@ -41,8 +39,8 @@ use Rattle.protocol.specs.Laws.ObserverSoundLaws.{sound-observer}
 use Rattle.protocol.specs.Laws.ObserverDeliverLaws.{observer-move-cases, observer-output}
 use Rattle.call_laws.specs.Laws.SoundStays.{sound-stays-all, sound-opened}
 use Rattle.call_laws.specs.Laws.RefusalsLaws.{refused≢accepted}
-use Rattle.observer_laws.specs.Twins.{SameCertificates, SameAnswers, SameLogWhenIdle, Twins, IsCertificate}
-use Rattle.observer_laws.specs.Twins.{allGiven, ObserverIdles}
+use Rattle.observer_laws.specs.Twins.{Histories, opens, observerOpens, bookOf, observerBookOf, SameCertificates}
+use Rattle.observer_laws.specs.Twins.{SameAnswers, SameLogWhenIdle, Twins, IsCertificate, allGiven, ObserverIdles}
 use Rattle.observer_laws.specs.Laws.AlikeLaws.{Alike, same-last, same-view, same-log}
 use Rattle.observer_laws.specs.Laws.HearLaws.{alike-over, alike-back, hearAll, hear-all-alike}
 use Rattle.observer_laws.specs.Laws.TwinDeliverLaws.{same-answer}
@@ -175,47 +173,43 @@ module _ (digest : Bytes → Bytes) where
         }
 
   -- ---- the claim
-  module _ (n heights own : ℕ) (leaders old observerOld : Bytes) (calls : List Call) (observerCalls : List ObserverCall)
-      (is : SameCertificates n heights own leaders old observerOld calls observerCalls) where
-    abbrev opened : Bytes
-    opened = openCall old n own heights leaders .book
+  module _ (both : Histories) (is : SameCertificates both) where
+    was : sound digest (opens both .book) ≡ true
+    was = sound-opened digest (both .old) (both .n) (both .own) (both .heights) (both .leaders) (is .opened)
 
-    abbrev observerOpened : Bytes
-    observerOpened = observerOpenCall observerOld n heights .book
+    observer-was : observerSound digest (observerOpens both .book) ≡ true
+    observer-was = observer-sound-opened digest (both .observerOld) (both .n) (both .heights) (is .observer-opened)
 
-    pub was : sound digest opened ≡ true
-    was = sound-opened digest old n own heights leaders (is .opened)
+    pub book-sound : sound digest (bookOf digest both) ≡ true
+    book-sound = sound-stays-all digest (opens both .book) (both .calls) was
 
-    pub observer-was : observerSound digest observerOpened ≡ true
-    observer-was = observer-sound-opened digest observerOld n heights (is .observer-opened)
+    pub observer-book-sound : observerSound digest (observerBookOf digest both) ≡ true
+    observer-book-sound = observer-sound-stays-all digest (observerOpens both .book) (both .observerCalls) observer-was
 
     -- what the observer shows, by the replica's certificates
-    observer-shows : Alike (hearAll digest (observerState observerOpened) (allGiven calls))
-        (observerState (observerBookAfterAll digest observerOpened observerCalls))
+    observer-shows : Alike (hearAll digest (observerState (observerOpens both .book)) (allGiven (both .calls)))
+        (observerState (observerBookOf digest both))
     observer-shows =
-        subst (λ (frames : List Bytes). Alike (hearAll digest (observerState observerOpened) frames)
-        (observerState (observerBookAfterAll digest observerOpened observerCalls))) (is .same)
-        (observer-calls-show digest observerOpened observer-was observerCalls (is .observer-opened-once)
-        (subst (Every IsCertificate) (sym (is .same)) (is .certificates)))
+        subst (λ (frames : List Bytes). Alike (hearAll digest (observerState (observerOpens both .book)) frames)
+        (observerState (observerBookOf digest both))) (is .same)
+        (observer-calls-show digest (observerOpens both .book) observer-was (both .observerCalls)
+        (is .observer-opened-once) (subst (Every IsCertificate) (sym (is .same)) (is .certificates)))
 
-    pub alike : Alike (decode (bookAfterAll digest opened calls))
-        (observerState (observerBookAfterAll digest observerOpened observerCalls))
+    pub alike : Alike (decode (bookOf digest both)) (observerState (observerBookOf digest both))
     alike =
-        alike-over (alike-back (calls-show digest opened was calls (is .opened-once) (is .certificates)))
+        alike-over
+        (alike-back (calls-show digest (opens both .book) was (both .calls) (is .opened-once) (is .certificates)))
         (alike-over
         (hear-all-alike digest
-        (opened-alike n heights own leaders old observerOld (is .opened) (is .observer-opened))
-        (allGiven calls) (is .certificates)) observer-shows)
+        (opened-alike (both .n) (both .heights) (both .own) (both .leaders) (both .old) (both .observerOld) (is .opened)
+        (is .observer-opened)) (allGiven (both .calls)) (is .certificates)) observer-shows)
 
   pub twins : Twins digest
   unfolding Twins SameAnswers
-  twins n heights own leaders old observerOld calls observerCalls is =
-      let first = sound-stays-all digest (openCall old n own heights leaders .book) calls
-      (was n heights own leaders old observerOld calls observerCalls is) in
-      let second = observer-sound-stays-all digest (observerOpenCall observerOld n heights .book) observerCalls
-      (observer-was n heights own leaders old observerOld calls observerCalls is) in
-      let both = alike n heights own leaders old observerOld calls observerCalls is in
-      (same-answer digest _ _ first second both, idle-same _ _ first second both)
+  twins both is = (
+    same-answer digest _ _ (book-sound both is) (observer-book-sound both is) (alike both is),
+    idle-same _ _ (book-sound both is) (observer-book-sound both is) (alike both is),
+  )
 
   -- ---- an observer's moves
   -- where no output applies, a move answers idle

@@ -8,14 +8,15 @@ use Rattle.protocol.specs.Move.{moveCall}
 use Rattle.protocol.specs.Read.{readPart}
 use Rattle.protocol.specs.ObserverCalls.{observerMoveCall, observerReadPart}
 use Rattle.observer_laws.specs.Twins.{SameCertificates, Twins, SameLogWhenIdle, given, allGiven}
+use Rattle.observer_laws.specs.Twins.{bookOf, observerBookOf}
 use Rattle.observer_laws.specs.Twins.{givenToObserver, allGivenToObserver, isOpening, isObserverOpening}
-use Rattle.observer_laws.specs.TwinsMet.{TwinsMet, entry, block, otherBlock, leaders, old, observerOld, calls}
-use Rattle.observer_laws.specs.TwinsMet.{observerCalls, book, observerBook}
+use Rattle.observer_laws.specs.TwinsMet.{TwinsMet, entry, block, otherBlock, old, observerOld, calls}
+use Rattle.observer_laws.specs.TwinsMet.{observerCalls, histories}
 use Rattle.observer_laws.specs.Laws.TwinsLaws.{twins}
 
-premises : SameCertificates 4 2 2 leaders old observerOld calls observerCalls
-unfolding everything old observerOld calls observerCalls given allGiven givenToObserver allGivenToObserver isOpening
-    isObserverOpening block otherBlock entry
+premises : SameCertificates histories
+unfolding everything histories old observerOld calls observerCalls given allGiven givenToObserver allGivenToObserver
+    isOpening isObserverOpening block otherBlock entry
 premises = record {
   opened = refl;
   observer-opened = refl;
@@ -27,30 +28,29 @@ premises = record {
 }
 
 module _ (digest : Bytes → Bytes) where
-  rests : moveCall digest (book digest) (zeros 448) .answer ≡ accepted idle
-  unfolding everything book old calls block otherBlock entry
+  rests : moveCall digest (bookOf digest histories) (zeros 448) .answer ≡ accepted idle
+  unfolding everything histories old calls block otherBlock entry
   rests = refl
 
-  observer-rests : observerMoveCall digest (observerBook digest) .answer ≡ accepted idle
-  unfolding everything observerBook observerOld observerCalls block otherBlock entry
+  observer-rests : observerMoveCall digest (observerBookOf digest histories) .answer ≡ accepted idle
+  unfolding everything histories observerOld observerCalls block otherBlock entry
   observer-rests = refl
 
-  reads : readPart digest (book digest) (zeros 16) ≡ entry
-  unfolding everything book old calls block otherBlock entry
+  reads : readPart digest (bookOf digest histories) (zeros 16) ≡ entry
+  unfolding everything histories old calls block otherBlock entry
   reads = refl
 
-  observer-reads : observerReadPart digest (observerBook digest) (zeros 16) ≡ entry
-  unfolding everything observerBook observerOld observerCalls block otherBlock entry
+  observer-reads : observerReadPart digest (observerBookOf digest histories) (zeros 16) ≡ entry
+  unfolding everything histories observerOld observerCalls block otherBlock entry
   observer-reads = refl
 
   pub twins-met : TwinsMet digest
-  unfolding Twins SameLogWhenIdle book observerBook
+  unfolding Twins SameLogWhenIdle
   twins-met = record {
     premises = premises;
     rests = rests;
     observer-rests = observer-rests;
     reads = reads;
     observer-reads = observer-reads;
-    applied = twins digest 4 2 2 leaders old observerOld calls observerCalls premises .1 (zeros 448) rests
-        observer-rests;
+    applied = twins digest histories premises .1 (zeros 448) rests observer-rests;
   }

@@ -2,7 +2,6 @@
 use Prim.Native.Nat.{ℕ, zero, suc, _≤_}
 use mathlib.Core.Path.{_≡_, refl, sym, ap, subst, _∙_}
 use mathlib.Core.Bool.{true, true≢false}
-use mathlib.Core.List.{List, [], _∷_}
 use lib.ListN.{length, replicate}
 use borrow.Author.Tests.{le-leb}
 use Rattle.protocol.specs.Bytes.{Bytes}
@@ -10,25 +9,22 @@ use Rattle.protocol.specs.Tests.{firstRefusal}
 use Rattle.protocol.specs.State.{State, decode}
 use Rattle.protocol.specs.Sound.{sound}
 use Rattle.protocol.specs.Answer.{Move, Outcome, accepted, idle}
-use Rattle.protocol.specs.Open.{openCall}
 use Rattle.protocol.specs.Move.{MoveOutcome, step, afterMoves, moved, unlessMoveRefused, moveRows, moveCall}
 use Rattle.protocol.specs.Call.{moving, effect, bookAfterAll}
-use Rattle.protocol.specs.Observer.{observerState}
 use Rattle.protocol.specs.ObserverSound.{observerSound}
-use Rattle.protocol.specs.ObserverCalls.{observerOpenCall, observerMoveCall}
-use Rattle.protocol.specs.ObserverCall.{observerBookAfterAll}
+use Rattle.protocol.specs.ObserverCalls.{observerMoveCall}
 use Rattle.protocol.specs.Laws.StateLaws.{decode-encode}
 use Rattle.protocol.specs.Laws.SoundLaws.{sound-decode}
 use Rattle.protocol.specs.Laws.MoveLaws.{moves-body}
 use Rattle.protocol.specs.Laws.ObserverDeliverLaws.{observer-move-cases}
 use Rattle.call_laws.specs.Laws.MoveSoundLaws.{step-sound}
 use Rattle.call_laws.specs.Laws.SoundStays.{sound-stays, sound-stays-all}
-use Rattle.observer_laws.specs.Twins.{SameCertificates, SameLogWhenIdle, TwinsMoved, ObserverIdles}
+use Rattle.observer_laws.specs.Twins.{bookOf, observerBookOf, SameLogWhenIdle, TwinsMoved, ObserverIdles}
 use Rattle.observer_laws.specs.Laws.AlikeLaws.{Alike}
 use Rattle.observer_laws.specs.Laws.HearLaws.{alike-over, alike-back}
 use Rattle.observer_laws.specs.Laws.TwinCallLaws.{body-alike, observer-move-same}
-use Rattle.observer_laws.specs.Laws.TwinsLaws.{was, observer-was, alike, idle-same, observer-idles}
-use Rattle.observer_laws.specs.Laws.ObserverSoundStays.{observer-sound-stays-all}
+use Rattle.observer_laws.specs.Laws.TwinsLaws.{book-sound, observer-book-sound, alike, idle-same}
+use Rattle.observer_laws.specs.Laws.TwinsLaws.{observer-idles}
 use Rattle.observer_laws.specs.Laws.ObserverSoundStaysLaws.{observer-move-stays}
 
 module _ (digest : Bytes → Bytes) (reply : Bytes) (room : 448 ≤ length reply) where
@@ -78,20 +74,15 @@ move-accepted digest book is = observer-move-cases digest book
 -- ---- both
 pub twins-moved : (digest : Bytes → Bytes) → TwinsMoved digest
 unfolding TwinsMoved SameLogWhenIdle ObserverIdles
-twins-moved digest n heights own leaders old observerOld calls observerCalls is reply room k rests =
-    let book : Bytes = bookAfterAll digest (openCall old n own heights leaders .book) calls in
-    let observerBook : Bytes =
-    observerBookAfterAll digest (observerOpenCall observerOld n heights .book) observerCalls in
-    let first : sound digest book ≡ true = sound-stays-all digest (openCall old n own heights leaders .book) calls
-    (was digest n heights own leaders old observerOld calls observerCalls is) in
-    let second : observerSound digest observerBook ≡ true =
-    observer-sound-stays-all digest (observerOpenCall observerOld n heights .book) observerCalls
-    (observer-was digest n heights own leaders old observerOld calls observerCalls is) in
+twins-moved digest both is reply room k rests =
+    let book : Bytes = bookOf digest both in
+    let observerBook : Bytes = observerBookOf digest both in
+    let first : sound digest book ≡ true = book-sound digest both is in
+    let second : observerSound digest observerBook ≡ true = observer-book-sound digest both is in
     let (move, answer) = move-accepted digest observerBook second in
     idle-same digest (bookAfterAll digest book (replicate k (moving reply)))
     (observerMoveCall digest observerBook .book)
     (sound-stays-all digest book (replicate k (moving reply)) first) (observer-move-stays digest observerBook second)
     (alike-over (alike-back (same-after digest reply room k book first))
-    (alike-over (alike digest n heights own leaders old observerOld calls observerCalls is)
-    (observer-move-same digest observerBook second))) reply (idle-after digest reply room k book first rests)
-    (observer-idles digest observerBook move answer)
+    (alike-over (alike digest both is) (observer-move-same digest observerBook second))) reply
+    (idle-after digest reply room k book first rests) (observer-idles digest observerBook move answer)
