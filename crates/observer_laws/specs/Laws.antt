@@ -18,3 +18,4 @@ pub mod ObserverExactLaws
 pub mod TwinsMetLaws
 pub mod ObserverBytesLaws
 pub mod TwinsMovedLaws
+pub mod KindsApartLaws

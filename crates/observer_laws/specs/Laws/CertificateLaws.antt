@@ -37,6 +37,12 @@ module _ (k : ℕ) (is : isCertificate k ≡ true) where
   no-statement = certificate-kind k (kind-range .0)
 
 -- ---- rows
+-- a row that stands twice fails as if it stood once
+pub again : (test : Bool) (number : ℕ) (later : Option ℕ) →
+    cond test (cond test later (some number)) (some number) ≡ cond test later (some number)
+again true number later = refl
+again false number later = refl
+
 -- the rows of reading a certificate, among `n` replicas and over `H` heights
 unfoldable pub readRowsOf : ℕ → ℕ → View → Bytes → List Row
 readRowsOf n heights v frame =

@@ -67,10 +67,10 @@ module _ (digest : Bytes → Bytes) where
   hear-append s [] more = refl
   hear-append s (frame ∷ frames) more = hear-append (hear s frame) frames more
 
-  left-alike : {s t : State} → Alike s t → (frame : Bytes) (r : Option ℕ) (o q : Option Height) →
-      shownKept q ≡ shownKept o → Alike (leftBy s frame r o) (leftBy t frame r q)
+  left-alike : {s t : State} → Alike s t → (frame : Bytes) (refusal : Option ℕ) (kept kept′ : Option Height) →
+      shownKept kept′ ≡ shownKept kept → Alike (leftBy s frame refusal kept) (leftBy t frame refusal kept′)
   unfolding leftBy shownKept
-  left-alike alike frame (some number) o q e = alike
+  left-alike alike frame (some number) kept kept′ e = alike
   left-alike alike frame none none none e = alike
   left-alike alike frame none (some y) (some z) e = alike-with alike (frameHeight frame) y z (some-same e)
   left-alike alike frame none none (some z) e = let z : _≡_ {A = ℕ} 0 1 = cc in absurd (omega arith)

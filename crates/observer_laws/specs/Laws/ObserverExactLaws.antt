@@ -56,12 +56,12 @@ module _ (n : ℕ) (frame : Bytes) (x y z : Height) (is : KeepsCertificate n fra
   alike-height : y .dummyMask < 2 ^ n → z .dummyMask < 2 ^ n → y .finalizeMask < 2 ^ n → z .finalizeMask < 2 ^ n →
       observedHeight y ≡ observedHeight z
   unfolding observedHeight
-  alike-height a b c d =
+  alike-height dummies-y dummies-z finalizes-y finalizes-z =
       let blocks = alike-block in
       let dummies : y .dummyMask ≡ z .dummyMask =
-      mask-same n (y .dummyMask) (z .dummyMask) a b (λ t l. is .dummies t l ∙ sym (is′ .dummies t l)) in
+      mask-same n (y .dummyMask) (z .dummyMask) dummies-y dummies-z (λ t l. is .dummies t l ∙ sym (is′ .dummies t l)) in
       let finalizes : y .finalizeMask ≡ z .finalizeMask =
-      mask-same n (y .finalizeMask) (z .finalizeMask) c d (λ t l. is .finalizes t l ∙ sym (is′ .finalizes t l)) in
+      mask-same n (y .finalizeMask) (z .finalizeMask) finalizes-y finalizes-z (λ t l. is .finalizes t l ∙ sym (is′ .finalizes t l)) in
       λ i. record {
         status = blocks .status i;
         certificateMask = blocks .certificate i;

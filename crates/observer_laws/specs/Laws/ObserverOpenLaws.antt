@@ -13,7 +13,7 @@ use Rattle.protocol.specs.SoundState.{SoundState}
 use Rattle.protocol.specs.SoundObserver.{SoundObserver}
 use Rattle.protocol.specs.Bytes.{Bytes, Sized, all}
 use Rattle.protocol.specs.Every.{Every, none, one}
-use Rattle.protocol.specs.Tests.{firstRefusal, inRange}
+use Rattle.protocol.specs.Tests.{Row, firstRefusal, inRange}
 use Rattle.protocol.specs.Block.{maximumHeights}
 use Rattle.protocol.specs.State.{Height, noHeight, last, withHead, maximumReplicas}
 use Rattle.protocol.specs.Answer.{done, accepted, unlessRefused}
@@ -129,22 +129,26 @@ module _ (digest : Bytes → Bytes) (book : Bytes) (n heights : ℕ) where
   observer-open-stays was = unless-refused Sound (observerOpenRows book n heights) book
       (record { answer = accepted done; book = encodeObserver (newObserver n heights) }) was made
 
+-- an opening that is not refused passed its rows, and made the new book
+pub opened-by : (rows : List Row) (book new : Bytes) →
+    unlessRefused (firstRefusal rows) book (record { answer = accepted done; book = new }) .answer ≡ accepted done →
+    (firstRefusal rows ≡ none) ×
+    (unlessRefused (firstRefusal rows) book (record { answer = accepted done; book = new }) .book ≡ new)
+opened-by rows book new = go (firstRefusal rows)
+  where
+    go : (refusal : Option ℕ) →
+        unlessRefused refusal book (record { answer = accepted done; book = new }) .answer ≡ accepted done →
+        (refusal ≡ none) ×
+        (unlessRefused refusal book (record { answer = accepted done; book = new }) .book ≡ new)
+    go none e = unfold unlessRefused in (refl, refl)
+    go (some number) e = unfold unlessRefused in absurd (refused≢accepted number done e)
+
 module _ (book : Bytes) (n heights : ℕ) where
-  -- what an opening that is not refused has passed, and the book that it makes
   pub observer-opened : observerOpenCall book n heights .answer ≡ accepted done →
       (firstRefusal (observerOpenRows book n heights) ≡ none) ×
       (observerOpenCall book n heights .book ≡ encodeObserver (newObserver n heights))
   unfolding observerOpenCall
-  observer-opened opened = go (firstRefusal (observerOpenRows book n heights)) opened
-    where
-      go : (r : Option ℕ) →
-          unlessRefused r book (record { answer = accepted done; book = encodeObserver (newObserver n heights) })
-          .answer ≡ accepted done →
-          (r ≡ none) ×
-          (unlessRefused r book (record { answer = accepted done; book = encodeObserver (newObserver n heights) })
-          .book ≡ encodeObserver (newObserver n heights))
-      go none e = unfold unlessRefused in (refl, refl)
-      go (some number) e = unfold unlessRefused in absurd (refused≢accepted number done e)
+  observer-opened = opened-by (observerOpenRows book n heights) book (encodeObserver (newObserver n heights))
 
   pub observer-open-made : (digest : Bytes → Bytes) → observerOpenCall book n heights .answer ≡ accepted done →
       observerSound digest (observerOpenCall book n heights .book) ≡ true

@@ -30,11 +30,11 @@ module _ (book : Bytes) (exact : ExactObserver book) (whole : encodeObserver (de
   abbrev H : ℕ
   H = bookHeights book
 
-  abbrev c : ℕ
-  c = observedContentAt H h
+  abbrev contentHere : ℕ
+  contentHere = observedContentAt H h
 
-  abbrev d : ℕ
-  d = observedBlockAt H h
+  abbrev blockHere : ℕ
+  blockHere = observedBlockAt H h
 
   abbrev x : Height
   x = at (observerState book) h
@@ -55,9 +55,9 @@ module _ (book : Bytes) (exact : ExactObserver book) (whole : encodeObserver (de
   size : length book ≡ 64 + 184 * H
   size = exact
 
-  mask-writes : (j mask : ℕ) → j ≤ 6 → SameOutside ((c + j, 2) ∷ []) book (put book (c + j) (le16 mask))
+  mask-writes : (j mask : ℕ) → j ≤ 6 → SameOutside ((contentHere + j, 2) ∷ []) book (put book (contentHere + j) (le16 mask))
   unfolding le16
-  mask-writes j mask few = put-outside book (c + j) (le16 mask) (omega (arith, size))
+  mask-writes j mask few = put-outside book (contentHere + j) (le16 mask) (omega (arith, size))
 
   pub dummy-writes : (mask : ℕ) → Writes 6 (withMasks x mask (x .finalizeMask))
   unfolding certificateParts
@@ -75,15 +75,15 @@ module _ (book : Bytes) (exact : ExactObserver book) (whole : encodeObserver (de
   unfolding certificateParts le16
   block-writes mask block sized =
       let e = rw there at (book-observed-notarized book exact whole (h - 1) inside mask block sized) in
-      let room : d + length block ≤ length book = omega (arith, size) in
-      let copied : Bytes = put book d block in
-      let marked : Bytes = set copied c (x .status + 2) in
+      let room : blockHere + length block ≤ length book = omega (arith, size) in
+      let copied : Bytes = put book blockHere block in
+      let marked : Bytes = set copied contentHere (x .status + 2) in
       let long : length marked ≡ 64 + 184 * H =
-      length-set copied c (x .status + 2) ∙ length-put book d block room ∙ size in
+      length-set copied contentHere (x .status + 2) ∙ length-put book blockHere block room ∙ size in
       subst (SameOutside _ book) e
-      (both-outside (rw sized at (put-outside book d block room))
-      (both-outside (set-outside copied c (x .status + 2))
-      (put-outside marked (c + 2) (le16 mask) (omega arith))))
+      (both-outside (rw sized at (put-outside book blockHere block room))
+      (both-outside (set-outside copied contentHere (x .status + 2))
+      (put-outside marked (contentHere + 2) (le16 mask) (omega arith))))
 
 module _ (digest : Bytes → Bytes) (book frame : Bytes) (accepts : ObserverAccepts digest book frame)
     (small : AreBytes book) where

@@ -2,7 +2,7 @@
 use Prim.Native.Nat.{ℕ}
 use native.Mathlib.Omega.{arith}
 use mathlib.Core.Path.{_≡_, refl, sym, ap, _∙_}
-use mathlib.Core.Bool.{Bool, true, false, cond, true≢false}
+use mathlib.Core.Bool.{Bool, true, false, true≢false}
 use mathlib.Core.List.{List, [], _∷_, _++_}
 use mathlib.Core.Option.{Option, some, none}
 use Rattle.protocol.specs.Bytes.{Bytes}
@@ -25,6 +25,7 @@ use Rattle.call_laws.specs.Refusals.{Refuses}
 use Rattle.call_laws.specs.Laws.RefusalsLaws.{outcome-refuses, test-refuses}
 use Rattle.observer_laws.specs.Refusing.{certificateRows, notarizedRow, refusalRows, RefusesStatements}
 use Rattle.observer_laws.specs.Laws.CertificateLaws.{readRowsOf, clashRowsOf, read-rows-are, clash-rows-are}
+use Rattle.observer_laws.specs.Laws.CertificateLaws.{again}
 
 pub observer-open-refuses : (book : Bytes) (n heights : ℕ) →
     Refuses Done (observerOpenRows book n heights) (observerOpenCall book n heights .answer) (book ∷ [])
@@ -43,11 +44,7 @@ module _ (s : State) (frame : Bytes) where
       firstRefusal (certificateRows s frame ++ (notarizedRow s frame ∷ []))
   unfolding certificateRows notarizedRow firstRefusal readRowsOf clashRowsOf observedHeight isNotarized
   certificate-refusal is =
-      rw (is, read-rows-are frame is s, clash-rows-are frame is s) (again (frameWellFormed frame) _)
-    where
-      again : (b : Bool) (x : Option ℕ) → cond b (cond b x (some 4)) (some 4) ≡ cond b x (some 4)
-      again true x = refl
-      again false x = refl
+      rw (is, read-rows-are frame is s, clash-rows-are frame is s) (again (frameWellFormed frame) 4 _)
 
   -- another frame
   other-refusal : (c : Bool) → isCertificate (kind frame) ≡ c →
@@ -118,9 +115,9 @@ module _ (digest : Bytes → Bytes) where
   -- ---- a refused call does nothing: it leaves the book as it was, opens none, delivers no frame and reads nothing
   nothing-done : {A : Type 0} (observes : Outcome A → Observation) (book : Bytes) →
       ((number : ℕ) → observes (record { answer = refused number; book = book }) ≡ observesBook book false) →
-      (outcome : Outcome A) → observes outcome .accepted ≡ true → (r : Option ℕ) →
-      observes (unlessRefused r book outcome) .accepted ≡ false →
-      observes (unlessRefused r book outcome) ≡ observesBook book false
+      (outcome : Outcome A) → observes outcome .accepted ≡ true → (refusal : Option ℕ) →
+      observes (unlessRefused refusal book outcome) .accepted ≡ false →
+      observes (unlessRefused refusal book outcome) ≡ observesBook book false
   unfolding unlessRefused
   nothing-done observes book none-done outcome accepts none e = absurd (true≢false (sym accepts ∙ e))
   nothing-done observes book none-done outcome accepts (some number) e = none-done number

@@ -52,6 +52,13 @@ pub body-alike : {s t : State} → SameBody s t → Alike s t
 body-alike same = record { same-n = same .same-n; same-heights = ap (map observedHeight) (same .same-heights) }
 
 module _ (digest : Bytes → Bytes) where
+  -- frames, and then more of them
+  one-more : (s : State) {t u : State} (frames more : List Bytes) → Every IsCertificate more →
+      Alike (hearAll digest s frames) t → Alike (hearAll digest t more) u → Alike (hearAll digest s (frames ++ more)) u
+  one-more s {u = u} frames more are first second =
+      subst (λ (z : State). Alike z u) (sym (hear-append digest s frames more))
+      (alike-over (hear-all-alike digest first more are) second)
+
   -- ---- a replica
   -- what it shows after the frames
   abbrev Shows : State → List Bytes → Bytes → Type 0
@@ -84,7 +91,7 @@ module _ (digest : Bytes → Bytes) where
     unfolding moveCall
     move-same reply = go (firstRefusal (moveRows digest book reply))
       where
-        go : (r : Option ℕ) → Same (unlessMoveRefused r book reply (step digest s) .book)
+        go : (refusal : Option ℕ) → Same (unlessMoveRefused refusal book reply (step digest s) .book)
         go none = unfold unlessMoveRefused moved in
             same-encoded (step digest s .after) (step-sound digest s state) (step-body digest s)
         go (some number) = unfold unlessMoveRefused in alike-self s
@@ -139,11 +146,8 @@ module _ (digest : Bytes → Bytes) where
   calls-show book was [] no-openings are = alike-self (decode book)
   calls-show book was (call ∷ calls) (one no-opening no-openings) are =
       let (here, later) = every-front (given call) (allGiven calls) are in
-      let after : Bytes = bookAfter digest book call in
-      subst (λ (t : State). Alike t (decode (bookAfterAll digest after calls)))
-      (sym (hear-append digest (decode book) (given call) (allGiven calls)))
-      (alike-over (hear-all-alike digest (call-shows book was call no-opening here) (allGiven calls) later)
-      (calls-show after (sound-stays digest book call was) calls no-openings later))
+      one-more (decode book) (given call) (allGiven calls) later (call-shows book was call no-opening here)
+      (calls-show (bookAfter digest book call) (sound-stays digest book call was) calls no-openings later)
 
   -- ---- an observer
   abbrev ObserverShows : State → List Bytes → Bytes → Type 0
@@ -185,9 +189,7 @@ module _ (digest : Bytes → Bytes) where
   observer-calls-show book was [] no-openings are = alike-self (observerState book)
   observer-calls-show book was (call ∷ calls) (one no-opening no-openings) are =
       let (here, later) = every-front (givenToObserver call) (allGivenToObserver calls) are in
-      let after : Bytes = observation digest book call .book in
-      subst (λ (s : State). Alike s (observerState (observerBookAfterAll digest after calls)))
-      (sym (hear-append digest (observerState book) (givenToObserver call) (allGivenToObserver calls)))
-      (alike-over (hear-all-alike digest (observer-call-shows book was call no-opening here) (allGivenToObserver calls)
-      later)
-      (observer-calls-show after (observer-sound-stays digest book call was) calls no-openings later))
+      one-more (observerState book) (givenToObserver call) (allGivenToObserver calls) later
+      (observer-call-shows book was call no-opening here)
+      (observer-calls-show (observation digest book call .book) (observer-sound-stays digest book call was) calls
+      no-openings later)

@@ -16,7 +16,7 @@ use Rattle.protocol.specs.Tests.{firstRefusal}
 use Rattle.protocol.specs.State.{State, at, last, encode, decode, withHead}
 use Rattle.protocol.specs.View.{isFinalized, largestFinalized}
 use Rattle.protocol.specs.Sound.{view, sound, log}
-use Rattle.protocol.specs.Answer.{Outcome, Move, accepted, done, idle, moveNumber, unlessRefused}
+use Rattle.protocol.specs.Answer.{Outcome, Move, accepted, done, idle, moveNumber}
 use Rattle.protocol.specs.Open.{newState, openRows, openCall}
 use Rattle.protocol.specs.Move.{Step, step, moved, unlessMoveRefused, moveRows, moveCall, newFinalized, outputApplies}
 use Rattle.protocol.specs.Move.{dummyVoteStep, outputStep, passStep, proposeStep, blockVoteStep}
@@ -47,7 +47,7 @@ use Rattle.observer_laws.specs.Laws.TwinDeliverLaws.{same-answer}
 use Rattle.observer_laws.specs.Laws.TwinCallLaws.{calls-show, observer-calls-show, state-back}
 use Rattle.observer_laws.specs.Laws.ObserverSoundStays.{observer-sound-stays-all, observer-sound-opened}
 use Rattle.observer_laws.specs.Laws.ObserverSoundStaysLaws.{observer-move-stays}
-use Rattle.observer_laws.specs.Laws.ObserverOpenLaws.{new-shown, observer-opened, new-observer-shaped}
+use Rattle.observer_laws.specs.Laws.ObserverOpenLaws.{new-shown, opened-by, observer-opened, new-observer-shaped}
 
 -- ---- new books
 module _ (n heights own : ℕ) (leaders : Bytes) where
@@ -64,19 +64,9 @@ module _ (n heights own : ℕ) (leaders : Bytes) where
   opened-new : (old : Bytes) → openCall old n own heights leaders .answer ≡ accepted done →
       (length leaders ≡ heights) × (openCall old n own heights leaders .book ≡ encode (newState n own leaders))
   unfolding openCall
-  opened-new old opened = go (firstRefusal (openRows old n own heights leaders)) refl opened
-    where
-      go : (r : Option ℕ) → firstRefusal (openRows old n own heights leaders) ≡ r →
-          unlessRefused r old (record { answer = accepted done; book = encode (newState n own leaders) }) .answer ≡
-          accepted done →
-          (length leaders ≡ heights) ×
-          (unlessRefused r old (record { answer = accepted done; book = encode (newState n own leaders) }) .book ≡
-          encode (newState n own leaders))
-      go none e is = unfold unlessRefused in (
-        open-ranges n own heights leaders (open-tested n own heights leaders old e .in-ranges) .listed,
-        refl,
-      )
-      go (some number) e is = unfold unlessRefused in absurd (refused≢accepted number done is)
+  opened-new old opened =
+      let (passes, is) = opened-by (openRows old n own heights leaders) old (encode (newState n own leaders)) opened in
+      (open-ranges n own heights leaders (open-tested n own heights leaders old passes .in-ranges) .listed, is)
 
   opened-alike : (old observerOld : Bytes) → openCall old n own heights leaders .answer ≡ accepted done →
       observerOpenCall observerOld n heights .answer ≡ accepted done →
@@ -131,7 +121,7 @@ module _ (digest : Bytes → Bytes) where
   unfolding moveCall
   idle-replica book reply is = go (firstRefusal (moveRows digest book reply)) is
     where
-      go : (r : Option ℕ) → unlessMoveRefused r book reply (step digest (decode book)) .answer ≡ accepted idle →
+      go : (refusal : Option ℕ) → unlessMoveRefused refusal book reply (step digest (decode book)) .answer ≡ accepted idle →
           outputApplies digest (decode book) ≡ false
       go none e = unfold unlessMoveRefused moved in idle-step (decode book) (same-move e)
       go (some number) e = unfold unlessMoveRefused in absurd (refused≢accepted number idle e)
