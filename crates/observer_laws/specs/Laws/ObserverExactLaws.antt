@@ -61,7 +61,8 @@ module _ (n : ℕ) (frame : Bytes) (x y z : Height) (is : KeepsCertificate n fra
       let dummies : y .dummyMask ≡ z .dummyMask =
       mask-same n (y .dummyMask) (z .dummyMask) dummies-y dummies-z (λ t l. is .dummies t l ∙ sym (is′ .dummies t l)) in
       let finalizes : y .finalizeMask ≡ z .finalizeMask =
-      mask-same n (y .finalizeMask) (z .finalizeMask) finalizes-y finalizes-z (λ t l. is .finalizes t l ∙ sym (is′ .finalizes t l)) in
+      mask-same n (y .finalizeMask) (z .finalizeMask) finalizes-y finalizes-z
+      (λ t l. is .finalizes t l ∙ sym (is′ .finalizes t l)) in
       λ i. record {
         status = blocks .status i;
         certificateMask = blocks .certificate i;

@@ -55,7 +55,8 @@ module _ (book : Bytes) (exact : ExactObserver book) (whole : encodeObserver (de
   size : length book ≡ 64 + 184 * H
   size = exact
 
-  mask-writes : (j mask : ℕ) → j ≤ 6 → SameOutside ((contentHere + j, 2) ∷ []) book (put book (contentHere + j) (le16 mask))
+  mask-writes : (j mask : ℕ) → j ≤ 6 →
+      SameOutside ((contentHere + j, 2) ∷ []) book (put book (contentHere + j) (le16 mask))
   unfolding le16
   mask-writes j mask few = put-outside book (contentHere + j) (le16 mask) (omega (arith, size))
 

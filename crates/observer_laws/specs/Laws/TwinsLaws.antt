@@ -121,7 +121,8 @@ module _ (digest : Bytes → Bytes) where
   unfolding moveCall
   idle-replica book reply is = go (firstRefusal (moveRows digest book reply)) is
     where
-      go : (refusal : Option ℕ) → unlessMoveRefused refusal book reply (step digest (decode book)) .answer ≡ accepted idle →
+      go : (refusal : Option ℕ) →
+          unlessMoveRefused refusal book reply (step digest (decode book)) .answer ≡ accepted idle →
           outputApplies digest (decode book) ≡ false
       go none e = unfold unlessMoveRefused moved in idle-step (decode book) (same-move e)
       go (some number) e = unfold unlessMoveRefused in absurd (refused≢accepted number idle e)
