@@ -1,5 +1,6 @@
 -- The calls of `TwinsMet` do what it says, by computation.
 use mathlib.Core.Path.{_≡_, refl}
+use mathlib.Core.List.{[], _∷_}
 use Rattle.protocol.specs.Bytes.{Bytes, zeros}
 use Rattle.protocol.specs.Every.{none, one}
 use Rattle.protocol.specs.Computing.{everything}
@@ -8,10 +9,10 @@ use Rattle.protocol.specs.Move.{moveCall}
 use Rattle.protocol.specs.Read.{readPart}
 use Rattle.protocol.specs.ObserverCalls.{observerMoveCall, observerReadPart}
 use Rattle.observer_laws.specs.Twins.{SameCertificates, Twins, SameLogWhenIdle, given, allGiven}
-use Rattle.observer_laws.specs.Twins.{bookOf, observerBookOf}
+use Rattle.observer_laws.specs.Twins.{bookOf, observerBookOf, observerOpens}
 use Rattle.observer_laws.specs.Twins.{givenToObserver, allGivenToObserver, isOpening, isObserverOpening}
 use Rattle.observer_laws.specs.TwinsMet.{TwinsMet, entry, block, otherBlock, old, observerOld, calls}
-use Rattle.observer_laws.specs.TwinsMet.{observerCalls, histories}
+use Rattle.observer_laws.specs.TwinsMet.{observerCalls, histories, numbers}
 use Rattle.observer_laws.specs.Laws.TwinsLaws.{twins}
 
 premises : SameCertificates histories
@@ -28,6 +29,12 @@ premises = record {
 }
 
 module _ (digest : Bytes → Bytes) where
+  refusals : numbers digest (observerOpens histories .book) (allGivenToObserver observerCalls) ≡
+      4 ∷ 9 ∷ 0 ∷ 0 ∷ 10 ∷ 0 ∷ []
+  unfolding everything numbers histories observerOld observerCalls givenToObserver allGivenToObserver block otherBlock
+      entry
+  refusals = refl
+
   rests : moveCall digest (bookOf digest histories) (zeros 448) .answer ≡ accepted idle
   unfolding everything histories old calls block otherBlock entry
   rests = refl
@@ -48,6 +55,7 @@ module _ (digest : Bytes → Bytes) where
   unfolding Twins SameLogWhenIdle
   twins-met = record {
     premises = premises;
+    refusals = refusals;
     rests = rests;
     observer-rests = observer-rests;
     reads = reads;
