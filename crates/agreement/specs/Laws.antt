@@ -14,6 +14,8 @@ pub mod ChainsLaws
 pub mod AgreementLaws
 pub mod MetLaws
 pub mod ListTestsLaws
+pub mod ObserverListsLaws
+pub mod ObserverGrantsLaws
 pub mod NotForgedLaws
 pub mod AlongLaws
 pub mod StandsForLaws

@@ -1,5 +1,6 @@
 -- Demand 3: the claim over lists of calls, its proof, and two lists that meet every premise.
 pub mod Lists
+pub mod ObserverLists
 pub mod Unpacked
 pub mod Met
 pub mod ListTests
