@@ -3,6 +3,8 @@ pub mod EveryLaws
 pub mod TestsLaws
 pub mod MaskLaws
 pub mod StateLaws
+pub mod ObserverStateLaws
+pub mod ObserverCodecLaws
 pub mod QuorumLaws
 pub mod FlagLaws
 pub mod MoveLaws
