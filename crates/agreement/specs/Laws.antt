@@ -16,6 +16,7 @@ pub mod MetLaws
 pub mod ListTestsLaws
 pub mod ObserverListsLaws
 pub mod ObserverGrantsLaws
+pub mod ObserverRunLaws
 pub mod NotForgedLaws
 pub mod AlongLaws
 pub mod StandsForLaws

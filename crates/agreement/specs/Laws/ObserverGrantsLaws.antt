@@ -1,18 +1,16 @@
 -- What the proof of agreement takes from the soundness of an observer's book.
-use Prim.Native.Nat.{ℕ, suc, _%_, _≤_, _<_, zero}
+use Prim.Native.Nat.{ℕ, suc, _%_, _≤_, _<_}
 use native.Mathlib.Omega.{arith}
-use mathlib.Core.Path.{_≡_, refl, ap, _∙_}
+use mathlib.Core.Path.{_≡_}
 use mathlib.Core.Logic.{_⊎_, inl, inr}
-use mathlib.Core.Bool.{true, false, false≢true}
-use mathlib.Core.List.{List, [], _∷_, map}
-use lib.ListN.{length, drop, length-map}
+use mathlib.Core.Bool.{true}
 use lib.Dec.{eqb}
 use borrow.Author.Tests.{eqb-true}
-use Rattle.protocol.specs.Bytes.{Bytes, pieces}
+use Rattle.protocol.specs.Bytes.{Bytes}
 use Rattle.protocol.specs.Laws.CodecLaws.{notarized-in}
+use Rattle.protocol.specs.Laws.ObserverCodecLaws.{last-observed}
 use Rattle.protocol.specs.Laws.RowLaws.{by-rows, every-height-at, implies-true, in-range}
 use Rattle.protocol.specs.Laws.TestsLaws.{or-either}
-use Rattle.protocol.specs.Observer.{asReplica, asReplicaHeight, decodeObservedHeights, decodeObserver}
 use Rattle.protocol.specs.Observer.{observerState}
 use Rattle.protocol.specs.ObserverSound.{observerSound}
 use Rattle.protocol.specs.Sound.{view}
@@ -27,19 +25,9 @@ pub record ObserverGrants (digest : Bytes → Bytes) (s : State) : Type 0 where
       quorum (view s) (at s (suc i) .certificateMask) ≡ true
   pub finalizes : (s .finalized ≡ 0) ⊎ (isFinalized digest (view s) (s .finalized) ≡ true)
 
-observed-length : (count : ℕ) (contents bodies : Bytes) →
-    length (decodeObservedHeights (pieces 8 count contents) (pieces 176 count bodies)) ≡ count
-unfolding decodeObservedHeights pieces
-observed-length zero contents bodies = refl
-observed-length (suc count) contents bodies = ap suc (observed-length count (drop 8 contents) (drop 176 bodies))
-
 module _ (digest : Bytes → Bytes) (book : Bytes) where
   abbrev b : State
   b = observerState book
-
-  last-is : last b ≡ bookHeights book
-  unfolding last asReplica decodeObserver
-  last-is = length-map _ asReplicaHeight ∙ observed-length (bookHeights book) _ _
 
   pub observer-grants : observerSound digest book ≡ true → ObserverGrants digest b
   unfolding observerSound holdsProposal
@@ -47,17 +35,17 @@ module _ (digest : Bytes → Bytes) (book : Bytes) where
       record {
         few = in-range 1 16 (b .n) replicas .1;
         none-held = λ h low high holds.
-            odd (at b h .status) (or-either _ _ (every-height-at _ (bookHeights book) h status low (rw last-is at high)))
+            odd (at b h .status) (or-either _ _ (every-height-at _ (bookHeights book) h status low (rw (last-observed book) at high)))
             holds;
         certificates = λ i q.
-            let inside : i < bookHeights book = rw last-is at (notarized-in b i q) in
+            let inside : i < bookHeights book = rw (last-observed book) at (notarized-in b i q) in
             implies-true _ _ (every-height-at _ (bookHeights book) (suc i) certified (omega arith) inside) q;
         finalizes = settled (or-either (eqb (b .finalized) 0) _ final);
       }
     where
       odd : (status : ℕ) → (eqb status 0 ≡ true) ⊎ (eqb status 2 ≡ true) → eqb (status % 2) 1 ≡ true → ⊥
-      odd status (inl z) holds = let zero-status = eqb-true _ _ z in let one = eqb-true _ _ holds in omega arith
-      odd status (inr z) holds = let two-status = eqb-true _ _ z in let one = eqb-true _ _ holds in omega arith
+      odd status (inl z) holds = omega (arith, eqb-true status 0 z, eqb-true (status % 2) 1 holds)
+      odd status (inr z) holds = omega (arith, eqb-true status 2 z, eqb-true (status % 2) 1 holds)
 
       settled : (eqb (b .finalized) 0 ≡ true) ⊎ (isFinalized digest (view b) (b .finalized) ≡ true) →
           (b .finalized ≡ 0) ⊎ (isFinalized digest (view b) (b .finalized) ≡ true)
