@@ -9,6 +9,7 @@ pub mod QuorumLaws
 pub mod FlagLaws
 pub mod MoveLaws
 pub mod DeliverLaws
+pub mod ObserverDeliverLaws
 pub mod PacketLaws
 pub mod FetchLaws
 pub mod TestedLaws
@@ -23,6 +24,7 @@ pub mod ChainLaws
 pub mod BlockLaws
 pub mod ParentLaws
 pub mod SoundLaws
+pub mod ObserverSoundLaws
 pub mod GrantedLaws
 pub mod PlaceLaws
 pub mod PoolLaws

@@ -27,5 +27,6 @@ pub mod Examples
 pub mod Computing
 pub mod Every
 pub mod SoundState
+pub mod SoundObserver
 pub mod ReadFrame
 pub mod Laws

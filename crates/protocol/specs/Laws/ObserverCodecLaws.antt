@@ -1,19 +1,18 @@
 -- What the bytes of an observer's book say, place by place, and when they are the bytes of the state that they say.
-use Prim.Native.Nat.{ℕ, zero, suc, _+_, _-_, _*_, _≤_, _<_}
+use Prim.Native.Nat.{ℕ, zero, suc, _+_, _*_, _≤_, _<_}
 use native.Mathlib.Omega.{arith}
 use native.Mathlib.Nat.{add-assoc, le-of-suc-le-suc, not-suc-le-zero}
-use mathlib.Core.Path.{_≡_, refl, sym, ap, ap₂, _∙_}
+use mathlib.Core.Path.{_≡_, refl, sym, ap, _∙_}
 use mathlib.Core.List.{List, [], _∷_, _++_, map}
 use lib.ListN.{length, getD, take, drop, length-drop, length-map, take-append-drop, drop-of-length-le}
 use lib.Seq.{take-all, take-add, drop-drop, getD-drop, length-take-le}
 use Rattle.protocol.specs.SoundState.{Shaped}
 use Rattle.protocol.specs.Every.{Every, none, one}
 use Rattle.protocol.specs.Bytes.{Bytes, byteAt, le16, part, zeros, join, pieces, AreBytes, Sized}
-use Rattle.protocol.specs.State.{State, at, last, headBytes, bookHeights}
+use Rattle.protocol.specs.State.{at, last, headBytes, bookHeights}
 use Rattle.protocol.specs.Observer.{Observer, ObservedHeight, asReplica, asReplicaHeight, decodeObserver}
 use Rattle.protocol.specs.Observer.{decodeObservedHeight, decodeObservedHeights, encodeObserver}
 use Rattle.protocol.specs.Observer.{observedContentBytes, observedBodyBytes, observerState}
-use Rattle.protocol.specs.ObserverSound.{observedZero}
 use Rattle.protocol.specs.ObserverCalls.{newObservedHeight}
 use Rattle.protocol.specs.Laws.BytesLaws.{are-bytes-take, are-bytes-drop, word-low, word-high, byte-part}
 use Rattle.protocol.specs.Laws.BytesLaws.{firsts, spell}

@@ -3,7 +3,7 @@ use Prim.Native.Nat.{ℕ, zero, suc, _+_, _-_, _*_, _<_}
 use native.Mathlib.Omega.{arith}
 use mathlib.Core.Path.{_≡_, refl, sym, ap, ap₂, subst, _∙_}
 use mathlib.Core.List.{List, [], _∷_, _++_, map, append-nil}
-use lib.ListN.{length, getD, drop, set, length-append, length-map, length-replicate}
+use lib.ListN.{length, getD, drop, set, length-append, length-map}
 use lib.Seq.{drop-at, drop-drop}
 use Rattle.protocol.specs.SoundState.{ShapedHeight, Shaped}
 use Rattle.protocol.specs.Every.{Every, none, one}
@@ -14,7 +14,6 @@ use Rattle.protocol.specs.Observer.{Observer, ObservedHeight, asReplica,
 use Rattle.protocol.specs.Observer.{observedHeight, observedContentBytes, observedBodyBytes, encodeObserver}
 use Rattle.protocol.specs.Observer.{decodeObserver, decodeObservedHeight, decodeObservedHeights, observerState}
 use Rattle.protocol.specs.Laws.BytesLaws.{length-zeros, word16-le16}
-use Rattle.protocol.specs.Laws.EveryLaws.{every-map}
 use Rattle.protocol.specs.Laws.PiecesLaws.{length-join, pieces-join}
 use Rattle.protocol.specs.Laws.StateLaws.{head-size}
 

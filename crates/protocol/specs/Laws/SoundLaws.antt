@@ -48,14 +48,14 @@ module _ (digest : Bytes → Bytes) (s : State) where
   unfolding isFinalized
   not-finalized-past h past = rw (not-linked-past h past)
 
-  pub finalized-in : SoundState digest s → s .finalized ≤ last s
+  pub zero-or-settled-in : (s .finalized ≡ 0) ⊎ (isFinalized digest (view s) (s .finalized) ≡ true) →
+      s .finalized ≤ last s
   unfolding isFinalized
-  finalized-in facts = go (facts .final)
-    where
-      go : (s .finalized ≡ 0) ⊎ ((linked digest (view s) (s .finalized) && quorum (view s)
-          (view s .finalizeMask (s .finalized))) ≡ true) → s .finalized ≤ last s
-      go (inl z) = omega arith
-      go (inr z) = linked-in (s .finalized) (and-both _ _ z .0)
+  zero-or-settled-in (inl z) = omega arith
+  zero-or-settled-in (inr z) = linked-in (s .finalized) (and-both _ _ z .0)
+
+  pub finalized-in : SoundState digest s → s .finalized ≤ last s
+  finalized-in facts = zero-or-settled-in (facts .final)
 
 -- ---- rows about one height, as facts
 module _ (v : View) (h : ℕ) (x : Height) where
@@ -80,7 +80,7 @@ module _ (v : View) (h : ℕ) (x : Height) where
       formed = and-both _ _ blocks
 
   module _ (facts : SoundHeight v h x) where
-    masks-row : masksBelow (v .n) x ≡ true
+    pub masks-row : masksBelow (v .n) x ≡ true
     unfolding masksBelow belowBit
     masks-row = all-of
         (one (lt-ltb _ _ (facts .certificate-below)) (one (lt-ltb _ _ (facts .dummy-below))
@@ -90,7 +90,7 @@ module _ (v : View) (h : ℕ) (x : Height) where
     unfolding blocksWellFormed
     blocks-row = true-and _ _ (true-implies _ _ (facts .proposal-formed)) (true-implies _ _ (facts .notarized-formed))
 
-    certificate-row : implies (isNotarized x) (quorum v (x .certificateMask)) ≡ true
+    pub certificate-row : implies (isNotarized x) (quorum v (x .certificateMask)) ≡ true
     certificate-row = true-implies _ _ (facts .certified)
 
 module _ (digest : Bytes → Bytes) where
