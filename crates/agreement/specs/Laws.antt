@@ -11,12 +11,15 @@ pub mod OpeningLaws
 pub mod FetchingLaws
 pub mod ReplicaLaws
 pub mod ChainsLaws
+pub mod ViewsLaws
+pub mod WithoutObserversLaws
 pub mod AgreementLaws
 pub mod MetLaws
 pub mod ListTestsLaws
 pub mod ObserverListsLaws
 pub mod ObserverGrantsLaws
 pub mod ObserverRunLaws
+pub mod ObserverBookLaws
 pub mod NotForgedLaws
 pub mod AlongLaws
 pub mod StandsForLaws

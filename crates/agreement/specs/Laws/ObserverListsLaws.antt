@@ -1,17 +1,17 @@
 -- Lists with observers: the replicas' and the observers' calls of them, and what is granted of these.
 use Prim.Native.Nat.{ℕ}
 use native.Mathlib.Omega.{arith}
-use mathlib.Core.Path.{_≡_, refl, sym, ap, _∙_}
+use mathlib.Core.Path.{_≡_, refl, ap}
 use mathlib.Core.Logic.{_⊎_, inl, inr}
 use mathlib.Core.List.{List, [], _∷_, _++_, List·Memᴰ, List·Memᴰ·head, List·Memᴰ·tail, List·Memᴰ·not-nil}
 use mathlib.Core.List.{List·Memᴰ·cases-cons}
-use mathlib.Core.Option.{Option, some, none}
 use Rattle.protocol.specs.Bytes.{Bytes}
 use Rattle.agreement.specs.Laws.ListTestsLaws.{split-head, split-never}
 use Rattle.agreement.specs.Laws.ListsLaws.{or-else-assoc, or-else-none}
 use Rattle.agreement.specs.Lists.{Member, NotForged, orElse}
-use Rattle.agreement.specs.ObserverLists.{AnyMember, Meant, NoneForged, ObserverMember, anyDelivers, observerCalls}
-use Rattle.agreement.specs.ObserverLists.{observerLastLeft, observerLeftBy, ofObserver, ofReplica, replicaCalls}
+use Rattle.agreement.specs.ObserverLists.{AnyMember, Meant, NoneForged, ObserverMember, anyDelivers}
+use Rattle.agreement.specs.ObserverLists.{observerCalls, observerLastLeft, observerLeftBy, ofObserver, ofReplica}
+use Rattle.agreement.specs.ObserverLists.{replicaCalls}
 
 -- ---- one list after another
 pub replicas-append : (xs ys : List AnyMember) → replicaCalls (xs ++ ys) ≡ replicaCalls xs ++ replicaCalls ys

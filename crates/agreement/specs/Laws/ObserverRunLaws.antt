@@ -1,52 +1,37 @@
 -- The book of an observer along a list of calls: all that it shows is backed by what was stated and seen.
 use Prim.Native.Nat.{ℕ, zero, suc, _-_, _<_}
 use native.Mathlib.Omega.{arith}
-use mathlib.Core.Path.{_≡_, refl, sym, ap, subst, _∙_}
-use mathlib.Core.Logic.{_≢_}
-use mathlib.Core.Bool.{Bool, true, false, cond, true≢false, false≢true}
-use mathlib.Core.List.{List, [], _∷_, _++_, map, append-nil, List·Memᴰ, List·Memᴰ·head, Memᴰ·append-left}
-use mathlib.Core.List.{Memᴰ·append-right}
+use mathlib.Core.Path.{_≡_, refl, sym, subst}
+use mathlib.Core.Bool.{true}
+use mathlib.Core.List.{List, [], _∷_, _++_, map, List·Memᴰ, Memᴰ·append-left}
 use mathlib.Core.Option.{Option, some, none}
-use lib.ListN.{length, getD, set, replicate}
-use lib.Seq.{append-snoc, getD-set-same, getD-set-other}
-use lib.Dec.{eqb}
-use borrow.Author.Tests.{eqb-true, eqb-false}
-use Rattle.protocol.specs.Answer.{Delivery, Done, Outcome, accepted, done, fresh, isAccepted, known, unlessRefused}
-use Rattle.protocol.specs.Bytes.{Bytes, Sized}
-use Rattle.protocol.specs.Deliver.{clashRows, keep, readRows}
+use lib.ListN.{length, getD, replicate}
+use Rattle.protocol.specs.Bytes.{Bytes}
+use Rattle.protocol.specs.Deliver.{keep}
 use Rattle.protocol.specs.Every.{Every, none as no-more, one}
 use Rattle.protocol.specs.Frame.{frameHeight}
 use Rattle.protocol.specs.Laws.BytesLaws.{length-zeros}
-use Rattle.protocol.specs.Laws.DeliverLaws.{rows-read}
 use Rattle.protocol.specs.Laws.EveryLaws.{every-at, every-set}
 use Rattle.protocol.specs.Laws.ObserverStateLaws.{as-shaped, decode-encode-observer}
-use Rattle.protocol.specs.Laws.RowLaws.{row-passes, split-rows}
 use Rattle.protocol.specs.Laws.TestsLaws.{cond-elim}
 use Rattle.protocol.specs.Move.{Step, outputApplies, outputStep, idleStep, firstStep}
-use Rattle.protocol.specs.Observer.{Observer, ObservedHeight, asReplica, asReplicaHeight, decodeObserver, encodeObserver}
-use Rattle.protocol.specs.Observer.{observed, observedHeight, observerState}
-use Rattle.protocol.specs.ObserverCall.{ObserverCall, observation, observerDelivery, observerMoving, observerOpening}
-use Rattle.protocol.specs.ObserverCall.{observerReading, observerSizing}
-use Rattle.protocol.specs.ObserverCalls.{newObservedHeight, newObserver, observerDeliverCall, observerDeliverRows}
-use Rattle.protocol.specs.ObserverCalls.{observerKept, observerMoveCall, observerMoveRows, observerMoved}
-use Rattle.protocol.specs.ObserverCalls.{observerOpenCall, observerOpenRows, observerStep}
+use Rattle.protocol.specs.Observer.{Observer, ObservedHeight, asReplica, asReplicaHeight, decodeObserver}
+use Rattle.protocol.specs.Observer.{encodeObserver, observed, observedHeight, observerState}
+use Rattle.protocol.specs.ObserverCalls.{newObservedHeight, newObserver, observerStep}
 use Rattle.protocol.specs.ObserverSound.{observerSound}
 use Rattle.protocol.specs.ReadFrame.{ReadFrame}
 use Rattle.protocol.specs.SoundState.{Shaped, ShapedHeight}
 use Rattle.protocol.specs.State.{Height, State, at, last, noHeight, withHead, withHeight, isNotarized}
-use Rattle.protocol.specs.Tests.{firstRefusal}
 use Rattle.agreement.specs.Laws.BackingLaws.{Backed, ShownOf, shown-later}
 use Rattle.agreement.specs.Laws.KeepingLaws.{keep-good}
 use Rattle.agreement.specs.Laws.ListsLaws.{wrote-more}
 use Rattle.agreement.specs.Laws.ObserverGrantsLaws.{observer-grants}
-use Rattle.agreement.specs.Laws.ObserverListsLaws.{observer-left-snoc, observers-append, replicas-append}
+use Rattle.agreement.specs.Laws.ObserverListsLaws.{replicas-append}
 use Rattle.agreement.specs.Laws.OpeningLaws.{backed-nothing, nobody}
 use Rattle.agreement.specs.Laws.RunLaws.{each-set}
-use Rattle.agreement.specs.Lists.{Statement, Wrote, blockIn, statementOf, orElse}
-use Rattle.agreement.specs.ObserverLists.{AnyMember, AnyShows, Meant, NoneForged, ObserverFollows}
-use Rattle.agreement.specs.ObserverLists.{ObserverKeepsOneBook, ObserverMember, anyDelivers, anyShows}
-use Rattle.agreement.specs.ObserverLists.{observerCalls, observerLastLeft, observerLeftBy, observes, ofObserver}
-use Rattle.agreement.specs.ObserverLists.{ofReplica, replicaCalls}
+use Rattle.agreement.specs.Lists.{Statement, Wrote, blockIn, statementOf}
+use Rattle.agreement.specs.ObserverLists.{AnyMember, AnyShows, Meant, ObserverMember, anyShows, observes}
+use Rattle.agreement.specs.ObserverLists.{ofObserver, replicaCalls}
 
 -- ---- what an observer keeps of the heights of a state
 observed-shaped : {heights : List Height} → Every ShapedHeight heights →
@@ -215,148 +200,3 @@ module _ (digest : Bytes → Bytes) (n : ℕ) (books names observers : ℕ → T
       shown = each-set (ShownBy P) (was .heights) (place - 1) new inside
           (subst (λ (j : ℕ). ShownBy P j new) (sym number) (new-good .0 .shown)) (f .shown);
     }
-
--- what an unrefused delivery has tested
-delivery-facts : (digest : Bytes → Bytes) (book frame : Bytes) →
-    firstRefusal (observerDeliverRows digest book frame) ≡ none →
-    (observerSound digest book ≡ true) × ReadFrame (observerState book) frame
-unfolding observerDeliverRows
-delivery-facts digest book frame e =
-    let (is-sound, formed) = row-passes _ _ e in
-    let (passes, certificate) = row-passes _ _ formed in
-    let (carries, rest) = row-passes _ _ certificate in
-    let (reads, clash) = split-rows (readRows (observerState book) frame) (clashRows (observerState book) frame) rest in
-    (is-sound, rows-read (observerState book) frame reads)
-
--- a call that is refused by its rows leaves the book
-refused-or : {A : Type 0} (Q : Bytes → Type 0) (r : Option ℕ) (book : Bytes) (outcome : Outcome A) → Q book →
-    Q (outcome .book) → Q (unlessRefused r book outcome .book)
-unfolding unlessRefused
-refused-or Q none book outcome stays changes = changes
-refused-or Q (some number) book outcome stays changes = stays
-
--- ---- openings
-opened-as : (b : Bool) (k n : ℕ) → cond b (some k) none ≡ some n → (b ≡ true) × (k ≡ n)
-opened-as true k n e = (refl, cc)
-opened-as false k n e = let z : _≡_ {A = ℕ} 0 1 = cc in absurd (omega arith)
-
-not-opened : (b : Bool) (k : ℕ) → cond b (some k) none ≡ none → b ≡ false
-not-opened true k e = let z : _≡_ {A = ℕ} 0 1 = cc in absurd (omega arith)
-not-opened false k e = refl
-
-opening-leaves : (book : Bytes) (n heights : ℕ) (Q : Bytes → Type 0) →
-    (isAccepted (observerOpenCall book n heights .answer) ≡ true → Q (encodeObserver (newObserver n heights))) →
-    (isAccepted (observerOpenCall book n heights .answer) ≡ false → Q book) → Q (observerOpenCall book n heights .book)
-unfolding observerOpenCall unlessRefused isAccepted
-opening-leaves book n heights Q = go (firstRefusal (observerOpenRows book n heights))
-  where
-    opened : Outcome Done
-    opened = record { answer = accepted done; book = encodeObserver (newObserver n heights) }
-
-    go : (r : Option ℕ) →
-        (isAccepted (unlessRefused r book opened .answer) ≡ true → Q (encodeObserver (newObserver n heights))) →
-        (isAccepted (unlessRefused r book opened .answer) ≡ false → Q book) → Q (unlessRefused r book opened .book)
-    go none makes stays = makes refl
-    go (some number) makes stays = stays refl
-
--- ---- one call more in the list
-module _ (digest : Bytes → Bytes) (n : ℕ) (books names observers : ℕ → Type 0) (l : List AnyMember)
-    (unforged : NoneForged digest (Meant books observers) names l) where
-  module _ (P after : List AnyMember) (m : ObserverMember) (here : l ≡ P ++ (ofObserver m ∷ after))
-      (ours : observers (m .observer)) where
-    abbrev P′ : List AnyMember
-    P′ = P ++ (ofObserver m ∷ [])
-
-    abbrev FollowedIn : List AnyMember → State → Type 0
-    FollowedIn Q = Followed digest n books names observers Q
-
-    among : List·Memᴰ (ofObserver m) P′
-    among = Memᴰ·append-right P (List·Memᴰ·head refl)
-
-    still : (book : Bytes) → FollowedIn P (observerState book) → FollowedIn P′ (observerState book)
-    still book f = followed-more digest n books names observers P (ofObserver m ∷ []) (observerState book) f
-
-    delivery-followed : (book frame : Bytes) → FollowedIn P (observerState book) →
-        observes digest m .delivers ≡ cond (isAccepted (observerDeliverCall digest book frame .answer)) (frame ∷ []) [] →
-        FollowedIn P′ (observerState (observerDeliverCall digest book frame .book))
-    unfolding observerDeliverCall unlessRefused observerKept isAccepted NoneForged Meant anyDelivers
-    delivery-followed book frame f =
-        go (firstRefusal (observerDeliverRows digest book frame)) refl (keep digest (observerState book) frame) refl
-      where
-        go : (r : Option ℕ) → firstRefusal (observerDeliverRows digest book frame) ≡ r →
-            (o : Option Height) → keep digest (observerState book) frame ≡ o →
-            observes digest m .delivers ≡
-            cond (isAccepted (unlessRefused r book (observerKept book frame o) .answer)) (frame ∷ []) [] →
-            FollowedIn P′ (observerState (unlessRefused r book (observerKept book frame o) .book))
-        go (some number) e o k d = still book f
-        go none e none k d = still book f
-        go none e (some new) k d =
-            let (is-sound, read) = delivery-facts digest book frame e in
-            let delivered = rw d (List·Memᴰ·head refl) in
-            observed-followed digest n books names observers P′ _
-            (changed-followed digest n books names observers P′ m among ours book frame (still book f) delivered
-            (λ t st says. states-more digest n books names observers P (ofObserver m ∷ []) t st
-            (λ named. unforged P (ofObserver m) after frame t st here ours named delivered says))
-            is-sound read new k)
-
-    move-left : (book : Bytes) → FollowedIn P (observerState book) →
-        FollowedIn P′ (observerState (observerMoveCall digest book .book))
-    unfolding observerMoveCall observerMoved
-    move-left book f =
-        refused-or (λ (z : Bytes). FollowedIn P′ (observerState z)) (firstRefusal (observerMoveRows digest book)) book _
-        (still book f)
-        (observed-followed digest n books names observers P′ _
-        (move-followed digest n books names observers P′ (observerState book) (still book f)))
-
-    call-followed : (book : Bytes) → m .book ≡ book → observes digest m .opens ≡ none → (call : ObserverCall) →
-        m .call ≡ call → FollowedIn P (observerState book) →
-        FollowedIn P′ (observerState (observation digest book call .book))
-    unfolding observation
-    call-followed book got fixed (observerOpening n′ heights) e f =
-        opening-leaves book n′ heights (λ (z : Bytes). FollowedIn P′ (observerState z))
-        (λ ok. absurd (true≢false (sym ok ∙ not-opened _ n′ (rw (e, got) at fixed)))) (λ _. still book f)
-    call-followed book got fixed (observerDelivery frame) e f = delivery-followed book frame f (rw (e, got))
-    call-followed book got fixed observerMoving e f =
-        move-left book f
-    call-followed book got fixed observerSizing e f = still book f
-    call-followed book got fixed (observerReading buffer) e f = still book f
-
-    next-followed : (o : Option Bytes) → ObserverFollows digest n m o →
-        FollowedBytes digest n books names observers P o → FollowedIn P′ (observerState (observes digest m .book))
-    unfolding ObserverFollows
-    next-followed none opens f = opened (m .call) refl opens
-      where
-        nothing : {A : Type 0} → none ≡ some n → A
-        nothing e = let z : _≡_ {A = ℕ} 0 1 = cc in absurd (omega arith)
-
-        opened : (call : ObserverCall) → m .call ≡ call → observation digest (m .book) call .opens ≡ some n →
-            FollowedIn P′ (observerState (observation digest (m .book) call .book))
-        opened (observerOpening n′ heights) e opens = ?
-        opened (observerDelivery frame) e opens = unfold observation in nothing opens
-        opened observerMoving e opens = unfold observation in nothing opens
-        opened observerSizing e opens = unfold observation in nothing opens
-        opened (observerReading buffer) e opens = unfold observation in nothing opens
-    next-followed (some book) (got, fixed) f =
-        subst (λ (z : Bytes). FollowedIn P′ (observerState (observation digest z (m .call) .book))) (sym got)
-        (call-followed book got fixed (m .call) refl f)
-
-  -- ---- the book of one observer along the list
-  module _ (s : ℕ) (keeps : ObserverKeepsOneBook digest n (observerCalls l) s) (ours : observers s) where
-    abbrev LeftIn : List AnyMember → Type 0
-    LeftIn P = FollowedBytes digest n books names observers P (observerLastLeft digest s (observerCalls P))
-
-    one-more : (P after : List AnyMember) (m : AnyMember) → l ≡ P ++ (m ∷ after) → LeftIn P → LeftIn (P ++ (m ∷ []))
-    unfolding observerCalls
-    one-more P after (ofReplica m) here f = ?
-    one-more P after (ofObserver m) here f = ?
-
-    walk : (P Q after : List AnyMember) → l ≡ P ++ (Q ++ after) → LeftIn P → LeftIn (P ++ Q)
-    walk P [] after here f = rw append-nil f
-    walk P (m ∷ Q) after here f =
-        rw (← append-snoc P m Q)
-        (walk (P ++ (m ∷ [])) Q after (here ∙ sym (append-snoc P m (Q ++ after))) (one-more P (Q ++ after) m here f))
-
-    -- the book that a meant observer has after the calls of `P`
-    pub followed-after : (P after : List AnyMember) → l ≡ P ++ after → LeftIn P
-    unfolding observerCalls observerLastLeft
-    followed-after P after here = walk [] P after here tt
