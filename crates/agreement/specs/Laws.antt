@@ -31,3 +31,7 @@ pub mod OneBookLaws
 pub mod TurnsLaws
 pub mod WitnessLaws
 pub mod AnyDigestLaws
+pub mod ObserverMetLaws
+pub mod EchoLaws
+pub mod ObserverListTestsLaws
+pub mod ObserverWitnessLaws

@@ -7,4 +7,7 @@ pub mod ListTests
 pub mod Turns
 pub mod Witness
 pub mod AnyDigest
+pub mod ObserverMet
+pub mod ObserverListTests
+pub mod ObserverWitness
 pub mod Laws

@@ -121,7 +121,7 @@ module _ (digest : Bytes → Bytes) where
         q ∙ sym q′
 
   -- ---- readings
-  reads-part : (part : Bytes) (o : Option Bytes) → readsPart part o ≡ true → o ≡ some part
+  pub reads-part : (part : Bytes) (o : Option Bytes) → readsPart part o ≡ true → o ≡ some part
   unfolding readsPart
   reads-part part none e = absurd (false≢true e)
   reads-part part (some read) e = ap some (sym (same-eq part read e))
