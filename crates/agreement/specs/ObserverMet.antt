@@ -1,5 +1,5 @@
--- What a list must show so that demand 3 with observers is not vacuous: it meets every premise, and two observers and an
--- honest replica read an entry or more.
+-- What a list must show so that demand 3 with observers is not vacuous: it meets every premise, and two observers and
+-- an honest replica read an entry or more.
 use Prim.Native.Nat.{ℕ}
 use mathlib.Core.Path.{_≡_}
 use mathlib.Core.Logic.{_≢_}

@@ -132,8 +132,8 @@ module _ (digest : Bytes → Bytes) where
         delivered)))
     echoes-from P heard (ofObserver x ∷ xs) h test (y ∷ before) m after frame here ours delivered =
         let rest = echoes-from (P ++ (ofObserver x ∷ [])) heard xs (heard-more P (ofObserver x ∷ []) heard h)
-        (and-both (hears heard x) (echoes digest n dishonest observers heard xs) test .1) before m after frame (split-head here .1)
-        ours delivered in
+        (and-both (hears heard x) (echoes digest n dishonest observers heard xs) test .1) before m after frame
+        (split-head here .1) ours delivered in
         subst (λ (z : List AnyMember). HeardBy (HonestIn n dishonest) (replicaCalls z) frame)
         (append-snoc P (ofObserver x) before ∙ ap (λ (z : AnyMember). P ++ (z ∷ before)) (split-head here .0)) rest
 

@@ -68,7 +68,8 @@ module _ (digest : Bytes → Bytes) (n : ℕ) (books names observers : ℕ → T
     still book f = followed-more digest n books names observers P (ofObserver m ∷ []) (observerState book) f
 
     delivery-followed : (book frame : Bytes) → FollowedIn P (observerState book) →
-        observes digest m .delivers ≡ cond (isAccepted (observerDeliverCall digest book frame .answer)) (frame ∷ []) [] →
+        observes digest m .delivers ≡
+        cond (isAccepted (observerDeliverCall digest book frame .answer)) (frame ∷ []) [] →
         FollowedIn P′ (observerState (observerDeliverCall digest book frame .book))
     unfolding observerDeliverCall unlessRefused observerKept isAccepted NoneForged Meant anyDelivers
     delivery-followed book frame f =
@@ -142,7 +143,8 @@ module _ (digest : Bytes → Bytes) (n : ℕ) (books names observers : ℕ → T
             next-followed P after m here (rw own ours) (observerLastLeft digest s (observerCalls P))
             (keeps (observerCalls P) m (observerCalls after) split own) f
         go false e =
-            bytes-more digest n books names observers P (ofObserver m ∷ []) (observerLastLeft digest s (observerCalls P)) f
+            bytes-more digest n books names observers P (ofObserver m ∷ [])
+            (observerLastLeft digest s (observerCalls P)) f
 
     one-more : (P after : List AnyMember) (m : AnyMember) → l ≡ P ++ (m ∷ after) → LeftIn P → LeftIn (P ++ (m ∷ []))
     unfolding observerCalls

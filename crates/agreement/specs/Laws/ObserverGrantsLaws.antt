@@ -35,8 +35,8 @@ module _ (digest : Bytes → Bytes) (book : Bytes) where
       record {
         few = in-range 1 16 (b .n) replicas .1;
         none-held = λ h low high holds.
-            odd (at b h .status) (or-either _ _ (every-height-at _ (bookHeights book) h status low (rw (last-observed book) at high)))
-            holds;
+            let inside : h ≤ bookHeights book = rw (last-observed book) at high in
+            odd (at b h .status) (or-either _ _ (every-height-at _ (bookHeights book) h status low inside)) holds;
         certificates = λ i q.
             let inside : i < bookHeights book = rw (last-observed book) at (notarized-in b i q) in
             implies-true _ _ (every-height-at _ (bookHeights book) (suc i) certified (omega arith) inside) q;

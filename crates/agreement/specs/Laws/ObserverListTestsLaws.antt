@@ -43,6 +43,9 @@ module _ (digest : Bytes → Bytes) where
     abbrev mine : Option Bytes → ObserverMember → Bool
     mine left m = implies (eqb (m .observer) s) (observerFollows digest n m left)
 
+    abbrev later : Option Bytes → ObserverMember → List ObserverMember → Bool
+    later left m ms = observerKeeps digest n s (orElse (observerLeftBy digest s m) left) ms
+
     keeps-from : (left : Option Bytes) (list : List ObserverMember) → observerKeeps digest n s left list ≡ true →
         (before : List ObserverMember) (m : ObserverMember) (after : List ObserverMember) →
         list ≡ before ++ (m ∷ after) → m .observer ≡ s →
@@ -51,21 +54,21 @@ module _ (digest : Bytes → Bytes) where
     keeps-from left [] test before m after e own = absurd (split-never m before after e)
     keeps-from left (x ∷ xs) test [] m after e own =
         let q = subst (λ (y : ObserverMember). mine left y ≡ true) (split-head e .0)
-        (and-both (mine left x) (observerKeeps digest n s (orElse (observerLeftBy digest s x) left) xs) test .0) in
+        (and-both (mine left x) (later left x xs) test .0) in
         follows-sound m left (implies-true _ _ q (eq-eqb (m .observer) s own))
     keeps-from left (x ∷ xs) test (y ∷ before) m after e own =
-        let q = and-both (mine left x) (observerKeeps digest n s (orElse (observerLeftBy digest s x) left) xs) test .1 in
+        let q = and-both (mine left x) (later left x xs) test .1 in
         let r = keeps-from (orElse (observerLeftBy digest s x) left) xs q before m after (split-head e .1) own in
         subst (λ (o : Option Bytes). ObserverFollows digest n m o)
-        (ap (λ (z : ObserverMember). orElse (observerLastLeft digest s before) (orElse (observerLeftBy digest s z) left))
-        (split-head e .0)
-        ∙ sym (or-else-assoc (observerLastLeft digest s before) (observerLeftBy digest s y) left)) r
+        (ap (λ (z : ObserverMember). orElse (observerLastLeft digest s before)
+        (orElse (observerLeftBy digest s z) left)) (split-head e .0) ∙ sym (or-else-assoc (observerLastLeft digest s before) (observerLeftBy digest s y) left)) r
 
     pub observer-keeps : (list : List ObserverMember) → observerKeeps digest n s none list ≡ true →
         ObserverKeepsOneBook digest n list s
     unfolding ObserverKeepsOneBook
     observer-keeps list test before m after e own =
-        subst (λ (o : Option Bytes). ObserverFollows digest n m o) (sym (or-else-none (observerLastLeft digest s before)))
+        subst (λ (o : Option Bytes). ObserverFollows digest n m o)
+        (sym (or-else-none (observerLastLeft digest s before)))
         (keeps-from none list test before m after e own)
 
   pub observer-reads-found : (list : List AnyMember) (part : Bytes) (s : ℕ) →

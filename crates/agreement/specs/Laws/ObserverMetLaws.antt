@@ -1,7 +1,7 @@
 -- The claim with observers is applied to the lists that meet its premises, so that a premise more would have to be met
 -- by them.
 use Prim.Native.Nat.{ℕ}
-use mathlib.Core.Path.{refl}
+use mathlib.Core.Path.{_≡_, refl}
 use mathlib.Core.List.{List}
 use Rattle.protocol.specs.Bytes.{Bytes}
 use Rattle.agreement.specs.Laws.AgreementLaws.{observed-agreement}

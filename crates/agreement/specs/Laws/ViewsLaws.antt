@@ -44,8 +44,8 @@ module _ (digest : Bytes → Bytes) (n : ℕ) (books names observers : ℕ → T
       (sym (append-nil calls)) t keeps mine named
 
   -- it votes for one block at a height
-  pub one-vote : (h : ℕ) (d d′ : Bytes) → Wrote digest t (votesBlock h d) calls → Wrote digest t (votesBlock h d′) calls →
-      d ≡ d′
+  pub one-vote : (h : ℕ) (d d′ : Bytes) → Wrote digest t (votesBlock h d) calls →
+      Wrote digest t (votesBlock h d′) calls → d ≡ d′
   one-vote h d d′ w w′ = go (lastLeft digest t calls) whole-list
     where
       go : (o : Option Bytes) → GoodBytes digest n books names calls t o → d ≡ d′
