@@ -4,7 +4,7 @@ use native.Mathlib.Omega.{arith}
 use mathlib.Core.Path.{_≡_, refl, sym, ap, subst, _∙_}
 use mathlib.Core.Logic.{_⊎_, inl, inr}
 use mathlib.Core.Bool.{true, _&&_}
-use mathlib.Core.List.{List, [], _∷_, _++_, List·Memᴰ, Memᴰ·append-left}
+use mathlib.Core.List.{List, [], _∷_, _++_, List·Memᴰ}
 use mathlib.Core.Option.{Option, some, none}
 use lib.ListN.{length, replicate}
 use lib.Dec.{leb}
@@ -20,24 +20,20 @@ use Rattle.protocol.specs.Read.{logSize, readPart}
 use Rattle.protocol.specs.Sound.{log, sound, view}
 use Rattle.protocol.specs.State.{decode}
 use Rattle.protocol.specs.View.{View, logOf}
-use Rattle.agreement.specs.Laws.BackingLaws.{shown-later}
 use Rattle.agreement.specs.Laws.GrantsLaws.{grants}
-use Rattle.agreement.specs.Laws.ListsLaws.{wrote-more}
 use Rattle.agreement.specs.Laws.ObserverBookLaws.{followed-after}
 use Rattle.agreement.specs.Laws.ObserverGrantsLaws.{observer-grants}
-use Rattle.agreement.specs.Laws.ObserverListsLaws.{forged-to-replicas, member-replica, observers-append}
-use Rattle.agreement.specs.Laws.ObserverListsLaws.{replica-member}
+use Rattle.agreement.specs.Laws.ObserverListsLaws.{forged-to-replicas, observers-append, replica-member}
 use Rattle.agreement.specs.Laws.ObserverRunLaws.{Followed, FollowedBytes, followed-more}
 use Rattle.agreement.specs.Laws.ReplicaLaws.{good-after}
 use Rattle.agreement.specs.Laws.RunLaws.{Good, GoodBytes}
-use Rattle.agreement.specs.Laws.ViewsLaws.{HadView, ShownIn, logs}
+use Rattle.agreement.specs.Laws.ViewsLaws.{HadView, kept-shown, logs}
 use Rattle.agreement.specs.Laws.WithoutObserversLaws.{without-observers}
 use Rattle.agreement.specs.Lists.{Agreement, Begins, Continues, FewDishonest, Follows, HonestIn, KeepsOneBook}
-use Rattle.agreement.specs.Lists.{Member, Opens, Reads, Shows, lastLeft}
-use Rattle.agreement.specs.ObserverLists.{AnyMember, AnyReads, AnyShows, Meant, NoneCollide, NoneForged}
-use Rattle.agreement.specs.ObserverLists.{ObservedAgreement, ObserverFollows, ObserverKeepsOneBook}
-use Rattle.agreement.specs.ObserverLists.{ObserverMember, anyShows, observerCalls, observerLastLeft, observes}
-use Rattle.agreement.specs.ObserverLists.{ofObserver, ofReplica, replicaCalls}
+use Rattle.agreement.specs.Lists.{Member, Opens, Reads, lastLeft}
+use Rattle.agreement.specs.ObserverLists.{AnyMember, AnyReads, Meant, NoneCollide, NoneForged, ObservedAgreement}
+use Rattle.agreement.specs.ObserverLists.{ObserverFollows, ObserverKeepsOneBook, ObserverMember, observerCalls}
+use Rattle.agreement.specs.ObserverLists.{observerLastLeft, observes, ofObserver, ofReplica, replicaCalls}
 
 module _ (digest : Bytes → Bytes) (n dishonest : ℕ) (observers : ℕ → Type 0) (l : List AnyMember)
     (third : FewDishonest n dishonest)
@@ -62,19 +58,10 @@ module _ (digest : Bytes → Bytes) (n dishonest : ℕ) (observers : ℕ → Typ
         (good-after digest n Honest Honest calls (forged-to-replicas digest Honest Honest observers l unforged) before
         after whole s (keeps s hs) hs hs)
 
-    shown : ShownIn digest n Honest Honest observers l (view (decode book))
-    unfolding view AnyShows anyShows Shows Meant
-    shown i =
-        rw (at-suc (decode book) i)
-        (shown-later digest
-        (λ t st w named. rw whole (wrote-more digest t st before after (w named)))
-        (λ block w. (ofReplica (w .0), member-replica l (w .0) (rw whole (Memᴰ·append-left after (w .1))), w .2, w .3))
-        (good .kept .backed i .shown))
-
     pub replica-had : sound digest book ≡ true → Had (view (decode book)) (decode book .finalized)
     unfolding view
     replica-had ok = let granted = grants digest book ok in record {
-      shown = shown;
+      shown = kept-shown digest n Honest Honest observers l before after whole (decode book) (good .kept);
       same-weights = ap (λ (k : ℕ). replicate k 1) (good .same-n);
       certificates = granted .certificates;
       finalizes = granted .finalizes;

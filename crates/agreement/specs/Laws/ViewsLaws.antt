@@ -4,22 +4,27 @@ use native.Mathlib.Omega.{arith}
 use mathlib.Core.Path.{_≡_, sym, ap, _∙_}
 use mathlib.Core.Logic.{_⊎_}
 use mathlib.Core.Bool.{true}
-use mathlib.Core.List.{List, [], append-nil}
+use mathlib.Core.List.{List, [], _++_, append-nil, Memᴰ·append-left}
 use mathlib.Core.Option.{Option, some, none}
 use lib.ListN.{length, replicate, length-replicate}
 use Rattle.protocol.specs.Bytes.{Bytes, join}
+use Rattle.protocol.specs.Laws.CodecLaws.{at-suc}
 use Rattle.protocol.specs.Laws.QuorumLaws.{ones-weigh, quorums-meet, total-equal}
 use Rattle.protocol.specs.Mask.{inMask}
+use Rattle.protocol.specs.Sound.{view}
+use Rattle.protocol.specs.State.{State}
 use Rattle.protocol.specs.View.{View, chain, isDummy, isFinalized, logAt, logOf, maskWeight, quorum, totalWeight}
-use Rattle.agreement.specs.Laws.BackingLaws.{Shown}
+use Rattle.agreement.specs.Laws.BackingLaws.{Shown, shown-later}
 use Rattle.agreement.specs.Laws.ChainsLaws.{Prefix, prefix-bytes, settled-chains}
-use Rattle.agreement.specs.Laws.ObserverListsLaws.{forged-to-replicas}
+use Rattle.agreement.specs.Laws.ListsLaws.{wrote-more}
+use Rattle.agreement.specs.Laws.ObserverListsLaws.{forged-to-replicas, member-replica}
 use Rattle.agreement.specs.Laws.ObserverRunLaws.{AnySeen, AnyStates}
 use Rattle.agreement.specs.Laws.ReplicaLaws.{good-after}
-use Rattle.agreement.specs.Laws.RunLaws.{GoodBytes}
-use Rattle.agreement.specs.Lists.{Begins, FewDishonest, HonestIn, KeepsOneBook, Member, Wrote, finalizes}
+use Rattle.agreement.specs.Laws.RunLaws.{GoodBytes, Kept}
+use Rattle.agreement.specs.Lists.{Begins, FewDishonest, HonestIn, KeepsOneBook, Member, Shows, Wrote, finalizes}
 use Rattle.agreement.specs.Lists.{lastLeft, votesBlock, votesDummy}
-use Rattle.agreement.specs.ObserverLists.{AnyMember, Meant, NoneCollide, NoneForged, replicaCalls}
+use Rattle.agreement.specs.ObserverLists.{AnyMember, AnyShows, Meant, NoneCollide, NoneForged, anyShows}
+use Rattle.agreement.specs.ObserverLists.{ofReplica, replicaCalls}
 
 -- ---- `books` and `observers` are those whose members are meant, `names` those whose statements are
 module _ (digest : Bytes → Bytes) (n : ℕ) (books names observers : ℕ → Type 0) (l : List AnyMember) where
@@ -29,6 +34,16 @@ module _ (digest : Bytes → Bytes) (n : ℕ) (books names observers : ℕ → T
       Shown digest (AnyStates digest n books names observers l) (AnySeen digest n books names observers l) (suc i)
       (v .dummyMask (suc i)) (v .finalizeMask (suc i)) (v .certificateMask (suc i)) (v .hasBlock (suc i))
       (v .block (suc i))
+
+  -- so does the view of a state that is backed by some first of the replicas' calls
+  pub kept-shown : (before after : List Member) → replicaCalls l ≡ before ++ after → (b : State) →
+      Kept digest n books names before b → ShownIn (view b)
+  unfolding view AnyShows anyShows Shows Meant
+  kept-shown before after whole b kept i =
+      rw (at-suc b i)
+      (shown-later digest (λ t st w named. rw whole (wrote-more digest t st before after (w named)))
+      (λ block w. (ofReplica (w .0), member-replica l (w .0) (rw whole (Memᴰ·append-left after (w .1))), w .2, w .3))
+      (kept .backed i .shown))
 
 -- ---- however many are dishonest
 module _ (digest : Bytes → Bytes) (n : ℕ) (books names observers : ℕ → Type 0) (l : List AnyMember)
