@@ -15,4 +15,5 @@ pub mod NextIterationLaws
 pub mod FinalizedOutputsLaws
 pub mod StepsLaws
 pub mod TimerLaws
+pub mod ObservingLaws
 pub mod EquivocationLaws

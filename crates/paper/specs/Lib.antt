@@ -5,4 +5,5 @@ pub mod Blockchains
 pub mod Register
 pub mod Steps
 pub mod Timer
+pub mod Observing
 pub mod Laws

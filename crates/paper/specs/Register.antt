@@ -7,26 +7,47 @@ use lib.ListN.{length, drop}
 use Rattle.protocol.specs.Bytes.{Bytes, byteAt, join}
 use Rattle.protocol.specs.Block.{entrySize}
 use Rattle.protocol.specs.State.{decode}
+use Rattle.protocol.specs.View.{View}
 use Rattle.protocol.specs.Sound.{view}
 use Rattle.protocol.specs.Answer.{refused, accepted}
 use Rattle.protocol.specs.Read.{sizeCall, readPart, readBuffer}
+use Rattle.protocol.specs.Observer.{observerState}
+use Rattle.protocol.specs.ObserverCalls.{observerSizeCall, observerReadPart, observerReadBuffer}
 use Rattle.paper.specs.Paper.{Sequence, height, linearize, FinalizedBlockchain}
 
--- a book whose register has `size` bytes, and a buffer that is long enough
-pub record ReadsChain (digest : Bytes → Bytes) (book buffer : Bytes) (size : ℕ) : Type 0 where
-  -- a finalized blockchain, of the height that byte 5 names
+-- a book with this view and this g, whose register has `size` bytes, and a buffer that is long enough: the part that
+-- Read returns, and the buffer after it
+pub record ReadsChainOf (digest : Bytes → Bytes) (v : View) (g : ℕ) (part buffer after : Bytes) (size : ℕ) : Type 0 where
+  -- a finalized blockchain of height g
   pub sequence : Sequence
-  pub finalized : FinalizedBlockchain digest (view (decode book)) sequence
-  pub its-height : height sequence ≡ byteAt book 5
-  -- the part that Read returns is its entries, oldest first, 16 bytes each, and the size is theirs
-  pub part-read : readPart digest book buffer ≡ join (linearize sequence)
+  pub finalized : FinalizedBlockchain digest v sequence
+  pub its-height : height sequence ≡ g
+  -- the part is its entries, oldest first, 16 bytes each, and the size is theirs
+  pub part-read : part ≡ join (linearize sequence)
   pub its-size : size ≡ entrySize * length (linearize sequence)
-  pub part-size : length (readPart digest book buffer) ≡ size
+  pub part-size : length part ≡ size
   -- it is written to the front of the buffer, and the bytes past it keep their values
-  pub buffer-after : readBuffer digest book buffer ≡ readPart digest book buffer ++ drop size buffer
+  pub buffer-after : after ≡ part ++ drop size buffer
+
+-- of a replica's book, whose byte 5 names g
+abbrev pub ReadsChain : (Bytes → Bytes) → Bytes → Bytes → ℕ → Type 0
+ReadsChain digest book buffer size =
+    ReadsChainOf digest (view (decode book)) (byteAt book 5) (readPart digest book buffer) buffer
+    (readBuffer digest book buffer) size
+
+-- of an observer's
+abbrev pub ObserverReadsChain : (Bytes → Bytes) → Bytes → Bytes → ℕ → Type 0
+ObserverReadsChain digest book buffer size =
+    ReadsChainOf digest (view (observerState book)) (byteAt book 5) (observerReadPart digest book buffer) buffer
+    (observerReadBuffer digest book buffer) size
 
 -- size refuses, or the buffer is shorter than the size
 unfoldable pub CannotRead : (Bytes → Bytes) → Bytes → Bytes → Type 0
 CannotRead digest book buffer =
     ((number : ℕ) × (sizeCall digest book ≡ refused number)) ⊎
     ((size : ℕ) × (sizeCall digest book ≡ accepted size) × (length buffer < size))
+
+unfoldable pub ObserverCannotRead : (Bytes → Bytes) → Bytes → Bytes → Type 0
+ObserverCannotRead digest book buffer =
+    ((number : ℕ) × (observerSizeCall digest book ≡ refused number)) ⊎
+    ((size : ℕ) × (observerSizeCall digest book ≡ accepted size) × (length buffer < size))

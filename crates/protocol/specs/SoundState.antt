@@ -49,6 +49,15 @@ pub record SoundState (digest : Bytes → Bytes) (s : State) : Type 0 where
   pub each : (h : ℕ) → 1 ≤ h → h ≤ last s → SoundHeight (view s) h (at s h)
   pub final : (s .finalized ≡ 0) ⊎ (isFinalized digest (view s) (s .finalized) ≡ true)
 
+-- what heights are linked, finalized and read by: of a sound replica, and of a sound observer as a replica
+pub record CertifiedState (digest : Bytes → Bytes) (s : State) : Type 0 where
+  pub last-high : last s ≤ maximumHeights
+  pub formed : (h : ℕ) → 1 ≤ h → h ≤ last s → isNotarized (at s h) ≡ true →
+      blockWellFormed h (at s h .notarized) ≡ true
+  pub certified : (h : ℕ) → 1 ≤ h → h ≤ last s → isNotarized (at s h) ≡ true →
+      quorum (view s) (at s h .certificateMask) ≡ true
+  pub final : (s .finalized ≡ 0) ⊎ (isFinalized digest (view s) (s .finalized) ≡ true)
+
 -- the numbers of a height, among `n` replicas
 pub record HeightRange (n : ℕ) (x : Height) : Type 0 where
   pub leader-below : x .leader < n

@@ -12,7 +12,7 @@ use Rattle.protocol.specs.Bytes.{Bytes, join, overFront}
 use Rattle.protocol.specs.State.{State, decode}
 use Rattle.protocol.specs.Sound.{view, sound, log}
 use Rattle.protocol.specs.View.{logAt}
-use Rattle.protocol.specs.Laws.SoundLaws.{sound-decode}
+use Rattle.protocol.specs.Laws.SoundLaws.{sound-decode, certified-state}
 use Rattle.protocol.specs.Laws.LogLaws.{view-formed, finalized-linked, log-bytes}
 use Rattle.protocol.specs.Read.{logSize, sizeCall, readPart, readBuffer}
 use Rattle.chains.specs.Walkable.{Walkable}
@@ -26,8 +26,8 @@ walkable book g s e =
     rw e (record {
       shown = s .ready .readable;
       high = s .finalized-high;
-      is-linked = finalized-linked sha256 (decode book) (s .state);
-      formed = view-formed sha256 (decode book) (s .state);
+      is-linked = finalized-linked sha256 (decode book) (certified-state (s .state));
+      formed = view-formed sha256 (decode book) (certified-state (s .state));
     })
 
 pub log-at : (s : State) (g : ℕ) → g ≡ s .finalized → logAt (view s) g ≡ log s
@@ -83,7 +83,7 @@ module _ (book buffer : Bytes) where
     read-done after g h f written =
         let whole : readPart sha256 book buffer ≡ join (log (decode book)) =
         part-whole e (le-leb (16 * length (log (decode book))) (length buffer) (rw counted at h)) in
-        let bytes = log-bytes sha256 (decode book) (sound-decode sha256 book e) in (
+        let bytes = log-bytes sha256 (decode book) (certified-state (sound-decode sha256 book e)) in (
           ap (λ (k : ℕ). 16 * k) counted ∙ sym bytes ∙ sym (ap length whole),
           written ∙ ap (λ (p : Bytes). overFront p buffer) (ap join (log-at (decode book) g f) ∙ sym whole),
         )

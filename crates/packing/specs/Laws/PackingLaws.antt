@@ -18,7 +18,7 @@ use Rattle.protocol.specs.Laws.TestsLaws.{and-both, cond-elim}
 use Rattle.protocol.specs.Laws.TestedLaws.{move-tested}
 use Rattle.protocol.specs.Laws.MoveLaws.{step-cases, dummy-vote-rows, propose-rows, block-vote-rows}
 use Rattle.protocol.specs.Laws.ParentLaws.{largestFinalized-is}
-use Rattle.protocol.specs.Laws.SoundLaws.{sound-decode}
+use Rattle.protocol.specs.Laws.SoundLaws.{sound-decode, certified-state}
 use Rattle.protocol.specs.Laws.LogLaws.{log-few}
 use Rattle.protocol.specs.Block.{maximumHeights}
 use Rattle.packing.specs.Packing.{answeredHeight, answeredSize}
@@ -65,5 +65,5 @@ module _ (digest : Bytes → Bytes) where
   unfolding sizeCall logSize answeredSize
   size-low book =
       cond-elim (λ (a : Answer ℕ). answeredSize a ≤ 8064) (sound digest book)
-      (λ e. omega (arith, log-few digest (decode book) (sound-decode digest book e)))
+      (λ e. omega (arith, log-few digest (decode book) (certified-state (sound-decode digest book e))))
       (λ _. omega arith)

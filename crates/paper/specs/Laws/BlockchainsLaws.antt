@@ -6,7 +6,7 @@ use mathlib.Core.Path.{_≡_, refl, sym, ap, subst, _∙_}
 use mathlib.Core.Logic.{_⊎_, inl, inr, _↔_}
 use mathlib.Core.Bool.{true, false≢true}
 use lib.ListN.{length, List·getD-eq-default}
-use Rattle.protocol.specs.SoundState.{SoundState}
+use Rattle.protocol.specs.SoundState.{CertifiedState}
 use Rattle.protocol.specs.Bytes.{Bytes}
 use Rattle.protocol.specs.Laws.FormedLaws.{formed}
 use Rattle.protocol.specs.State.{State, last, at, isNotarized, noHeight}
@@ -118,8 +118,8 @@ module _ (digest : Bytes → Bytes) (v : View) (proper : Proper v) where
       link-back q = let both : (linked digest v h ≡ true) ↔ SeenWithBlock digest v h = unfold LinkedIsSeen in
           linked-is h low in both .1 (q .0)
 
--- ---- every sound state
-module _ (digest : Bytes → Bytes) (s : State) (sound : SoundState digest s) where
+-- ---- every state of a sound book, a replica's or an observer's
+module _ (digest : Bytes → Bytes) (s : State) (facts : CertifiedState digest s) where
   -- a height that has a block is one of the state's
   here : (h : ℕ) → view s .hasBlock h ≡ true → h ≤ last s
   unfolding view at isNotarized noHeight last
@@ -133,13 +133,13 @@ module _ (digest : Bytes → Bytes) (s : State) (sound : SoundState digest s) wh
   proper : Proper (view s)
   unfolding view
   proper = record {
-    its-height = λ h low e. formed h _ (sound .each h low (here h e) .notarized-formed e) .height-is;
-    certified = λ h low e. sound .each h low (here h e) .certified e;
+    its-height = λ h low e. formed h _ (facts .formed h low (here h e) e) .height-is;
+    certified = λ h low e. facts .certified h low (here h e) e;
   }
 
   log-linearized : LogIsLinearized digest s
   unfolding log height linearize
-  log-linearized = go (s .finalized) refl (sound .final)
+  log-linearized = go (s .finalized) refl (facts .final)
     where
       go : (g : ℕ) → s .finalized ≡ g → (s .finalized ≡ 0) ⊎ (isFinalized digest (view s) (s .finalized) ≡ true) →
           LogIsLinearized digest s

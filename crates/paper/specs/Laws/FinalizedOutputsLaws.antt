@@ -6,7 +6,6 @@ use mathlib.Core.Logic.{_⊎_, inl, inr}
 use mathlib.Core.Bool.{true, false}
 use mathlib.Core.List.{[]}
 use borrow.Author.Tests.{ltb-true, lt-ltb}
-use Rattle.protocol.specs.SoundState.{SoundState}
 use Rattle.protocol.specs.Bytes.{Bytes}
 use Rattle.protocol.specs.State.{State, last, withHead}
 use Rattle.protocol.specs.Linked.{Finalized, Largest}
@@ -21,12 +20,12 @@ use Rattle.paper.specs.Steps.{Makes, MayOutput, FinalizedOutputs}
 use Rattle.paper.specs.Laws.TakenLaws.{taken, answers, makes}
 use Rattle.paper.specs.Laws.SeenLaws.{finalized-seen}
 
-module _ (digest : Bytes → Bytes) (s : State) (sound : SoundState digest s) (terms : InThePapersTerms digest s) where
-  largest : Largest digest (view s) (last s) (newFinalized digest s)
+module _ (digest : Bytes → Bytes) (s : State) (terms : InThePapersTerms digest s) where
+  pub largest : Largest digest (view s) (last s) (newFinalized digest s)
   unfolding newFinalized
   largest = largestFinalized-is digest (view s) (last s)
 
-  output-seen : outputApplies digest s ≡ true →
+  pub output-seen : outputApplies digest s ≡ true →
       (s .finalized < newFinalized digest s) × SeenWithBlock digest (view s) (newFinalized digest s) × Finalization
       (view s) (newFinalized digest s)
   unfolding outputApplies
@@ -44,7 +43,7 @@ module _ (digest : Bytes → Bytes) (s : State) (sound : SoundState digest s) (t
           (finalized-complete digest (view s) (newFinalized digest s) f) in
           (above, q .0, q .1)
 
-  not-above : (h : ℕ) → 1 ≤ h → h ≤ last s → SeenWithBlock digest (view s) h → Finalization (view s) h →
+  pub not-above : (h : ℕ) → 1 ≤ h → h ≤ last s → SeenWithBlock digest (view s) h → Finalization (view s) h →
       h ≤ newFinalized digest s
   not-above h low high seen final =
       largest .most h low high

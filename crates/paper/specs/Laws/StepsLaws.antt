@@ -6,6 +6,7 @@ use lib.ListN.{length}
 use Rattle.protocol.specs.SoundState.{SoundState}
 use Rattle.protocol.specs.Bytes.{Bytes}
 use Rattle.protocol.specs.Laws.RowLaws.{not-passed}
+use Rattle.protocol.specs.Laws.SoundLaws.{certified-state}
 use Rattle.protocol.specs.State.{State}
 use Rattle.protocol.specs.Move.{idleStep}
 use Rattle.paper.specs.Blockchains.{InThePapersTerms}
@@ -28,7 +29,7 @@ module _ (digest : Bytes → Bytes) (s : State) (sound : SoundState digest s) (t
     no-dummy-vote = λ may. never (dummy-applies digest s may) (q .no-dummy-vote);
     no-block-vote = λ may. never (block-applies digest s sound terms may) (q .no-block-vote);
     no-pass = λ may. never (pass-applies digest s sound terms (may .0) (may .1)) (q .no-pass);
-    no-output = λ may. never (output-applies digest s sound terms may) (q .no-output);
+    no-output = λ may. never (output-applies digest s terms may) (q .no-output);
   }
     where
       never : {b : Bool} → b ≡ true → b ≡ false → ⊥
@@ -37,7 +38,7 @@ module _ (digest : Bytes → Bytes) (s : State) (sound : SoundState digest s) (t
   no-move : NoStep digest s → NoMove digest s
   no-move q = record {
     no-dummy-vote = not-passed _ (λ e. q .no-dummy-vote (dummy-when digest s e));
-    no-output = not-passed _ (λ e. q .no-output (output-when digest s sound terms e));
+    no-output = not-passed _ (λ e. q .no-output (output-when digest s terms e));
     no-pass = not-passed _ (λ e. q .no-pass (pass-when digest s sound terms e));
     no-proposal = not-passed _ (λ e. q .no-proposal (propose-when digest s sound terms e));
     no-block-vote = not-passed _ (λ e. q .no-block-vote (block-when digest s sound terms e));
@@ -54,13 +55,13 @@ module _ (digest : Bytes → Bytes) (s : State) (sound : SoundState digest s) (t
 pub five-steps : (digest : Bytes → Bytes) → ((block : Bytes) → length (digest block) ≡ 32) → (s : State) →
     SoundState digest s → FiveSteps digest s
 five-steps digest size s sound =
-    let terms = in-the-papers-terms digest s sound in
+    let terms = in-the-papers-terms digest s (certified-state sound) in
     record {
       leader-proposal = leader-proposal digest s sound terms size;
       dummy-blocks = dummy-blocks digest s;
       notarizing-proposals = notarizing-proposals digest s sound terms;
       next-iteration = next-iteration digest s sound terms;
-      finalized-outputs = finalized-outputs digest s sound terms;
+      finalized-outputs = finalized-outputs digest s terms;
       idling = idling digest s sound terms;
       one-of-six = one-of-six digest s;
     }

@@ -5,7 +5,7 @@ use mathlib.Core.Path.{_≡_, ap, _∙_}
 use mathlib.Core.Logic.{_⊎_, inl, inr}
 use mathlib.Core.Bool.{true}
 use lib.ListN.{length}
-use Rattle.protocol.specs.SoundState.{SoundState}
+use Rattle.protocol.specs.SoundState.{CertifiedState}
 use Rattle.protocol.specs.Bytes.{Bytes, join}
 use Rattle.protocol.specs.Block.{blockWellFormed}
 use Rattle.protocol.specs.State.{State, maximumEntries}
@@ -17,12 +17,12 @@ use Rattle.protocol.specs.Laws.CodecLaws.{notarized-in}
 use Rattle.protocol.specs.Laws.LinkedLaws.{linked-zero}
 use Rattle.protocol.specs.Laws.ChainLaws.{log-length, log-bound}
 
-module _ (digest : Bytes → Bytes) (s : State) (facts : SoundState digest s) where
+module _ (digest : Bytes → Bytes) (s : State) (facts : CertifiedState digest s) where
   -- every notarized block is well formed
   pub view-formed : (h : ℕ) → 1 ≤ h → view s .hasBlock h ≡ true → blockWellFormed h (view s .block h) ≡ true
   unfolding view
   view-formed zero low e = absurd (omega arith)
-  view-formed (suc i) low e = facts .each (suc i) low (notarized-in s i e) .notarized-formed e
+  view-formed (suc i) low e = facts .formed (suc i) low (notarized-in s i e) e
 
   pub finalized-linked : linked digest (view s) (s .finalized) ≡ true
   finalized-linked = go (facts .final)

@@ -9,7 +9,7 @@ use mathlib.Core.List.{[], _∷_}
 use lib.ListN.{length}
 use lib.Dec.{eqb}
 use borrow.Author.Tests.{eqb-true, eq-eqb, ltb-true}
-use Rattle.protocol.specs.SoundState.{SoundHeight}
+use Rattle.protocol.specs.SoundState.{SoundHeight, CertifiedState}
 use Rattle.protocol.specs.SoundObserver.{SoundObserver}
 use Rattle.protocol.specs.Every.{none, one}
 use Rattle.protocol.specs.Bytes.{Bytes, byteAt, part, all, isZero, AreBytes}
@@ -28,7 +28,7 @@ use Rattle.protocol.specs.Laws.RowLaws.{by-rows, all-of, every-height-at
 use Rattle.protocol.specs.Laws.RowLaws.{true-implies, in-range, range-in, zeros-is-zero}
 use Rattle.protocol.specs.Laws.BytesLaws.{zero-part}
 use Rattle.protocol.specs.Laws.SoundLaws.{zero-or-settled-in, masks-row, certificate-row}
-use Rattle.protocol.specs.Laws.ObserverStateLaws.{decode-encode-observer, as-shaped}
+use Rattle.protocol.specs.Laws.ObserverStateLaws.{decode-encode-observer, as-shaped, last-as}
 use Rattle.protocol.specs.Laws.ObserverCodecLaws.{ExactObserver, CleanObserver, count-observed, at-observed}
 use Rattle.protocol.specs.Laws.ObserverCodecLaws.{observer-state-shaped, clean-observer-back, last-observed}
 use Rattle.protocol.specs.Laws.ObserverCodecLaws.{clean-encode-observer}
@@ -78,6 +78,19 @@ four-zeros a b c d e =
     let (second, rest) = and-both _ _ more in
     let (third, last) = and-both _ _ rest in
     (eqb-true a 0 first, eqb-true b 0 second, eqb-true c 0 third, eqb-true d 0 (and-both _ _ last .0))
+
+-- what a sound observer's heights are linked and read by
+pub certified-observer : {digest : Bytes → Bytes} {o : Observer} → SoundObserver digest o →
+    CertifiedState digest (asReplica o)
+unfolding asReplica
+certified-observer {o = o} facts =
+    let count = last-as o in
+    record {
+      last-high = rw count (facts .last-high);
+      formed = λ h low high. facts .each h low (rw count at high) .notarized-formed;
+      certified = λ h low high. facts .each h low (rw count at high) .certified;
+      final = facts .final;
+    }
 
 -- a height of an observer has no leader
 no-leader : (book : Bytes) (h : ℕ) → 1 ≤ h → h ≤ bookHeights book → at (observerState book) h .leader ≡ 0

@@ -230,3 +230,17 @@ module _ (o : Observer) (shaped : ShapedObserver o) where
 pub state-encode-observer : (s : State) → Observing s → Shaped s → observerState (encodeObserver (observed s)) ≡ s
 state-encode-observer s e shaped =
     ap asReplica (decode-encode-observer (observed s) (as-shaped (observed s) (rw e shaped))) ∙ e
+
+-- ---- the store of a move: byte 5 is the finalized height
+abbrev withFinalized : Observer → ℕ → Observer
+withFinalized o g = record { edition = o .edition; n = o .n; finalized = g; heights = o .heights }
+
+observed-output : (o : Observer) (g : ℕ) →
+    observed (withHead (asReplica o) (asReplica o .flags) (asReplica o .current) g) ≡ withFinalized o g
+unfolding asReplica observed withHead
+observed-output o g = ap (withObservedHeights (withFinalized o g)) (observed-heights (o .heights))
+
+pub output-set : (o : Observer) (g : ℕ) →
+    encodeObserver (observed (withHead (asReplica o) (asReplica o .flags) (asReplica o .current) g)) ≡
+    set (encodeObserver o) 5 g
+output-set o g = rw (observed-output o g) (unfold encodeObserver in unfold headBytes in unfold asReplica in refl)

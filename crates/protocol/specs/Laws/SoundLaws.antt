@@ -8,7 +8,7 @@ use mathlib.Core.Bool.{true, false, _&&_, _||_}
 use lib.ListN.{length}
 use lib.Dec.{eqb, leb, ltb}
 use borrow.Author.Tests.{eqb-true, eq-eqb, leb-true, le-leb, ltb-true, lt-ltb}
-use Rattle.protocol.specs.SoundState.{SoundHeight, SoundState}
+use Rattle.protocol.specs.SoundState.{SoundHeight, SoundState, CertifiedState}
 use Rattle.protocol.specs.Every.{none, one}
 use Rattle.protocol.specs.Bytes.{Bytes, part, isZero, AreBytes}
 use Rattle.protocol.specs.Tests.{implies}
@@ -92,6 +92,15 @@ module _ (v : View) (h : ℕ) (x : Height) where
 
     pub certificate-row : implies (isNotarized x) (quorum v (x .certificateMask)) ≡ true
     certificate-row = true-implies _ _ (facts .certified)
+
+-- what a sound state's heights are linked and read by
+pub certified-state : {digest : Bytes → Bytes} {s : State} → SoundState digest s → CertifiedState digest s
+certified-state facts = record {
+  last-high = facts .last-high;
+  formed = λ h low high. facts .each h low high .notarized-formed;
+  certified = λ h low high. facts .each h low high .certified;
+  final = facts .final;
+}
 
 module _ (digest : Bytes → Bytes) where
   -- ---- a sound book, row by row

@@ -23,6 +23,7 @@ use Rattle.protocol.specs.Laws.LinkedLaws.{linked-complete}
 use Rattle.protocol.specs.Laws.ParentLaws.{parent-some}
 use Rattle.protocol.specs.Move.{parentBelow, offered, proposedBlock}
 use Rattle.protocol.specs.Laws.LogLaws.{view-formed}
+use Rattle.protocol.specs.Laws.SoundLaws.{certified-state}
 use Rattle.book_fields.specs.Laws.BookLaws.{ready-state}
 use Rattle.book_fields.specs.Book.{SoundBook}
 use Rattle.chains.specs.Walkable.{Walkable}
@@ -40,7 +41,7 @@ module _ (book : Bytes) (m : SoundBook sha256 book) where
         shown = m .ready .readable;
         high = omega arith;
         is-linked = linked-complete sha256 (view s) (chain .isLinked);
-        formed = view-formed sha256 s (m .state);
+        formed = view-formed sha256 s (certified-state (m .state));
       }
 
   entries-sized : (j : ℕ) → Every (Sized 16) (offered s j)
