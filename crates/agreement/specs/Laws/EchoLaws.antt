@@ -13,8 +13,8 @@ use Rattle.protocol.specs.Tests.{implies}
 use Rattle.protocol.specs.Laws.RowLaws.{implies-true}
 use Rattle.protocol.specs.Laws.TestsLaws.{and-both, member-split}
 use Rattle.agreement.specs.ListTests.{everyIn, isHonest}
-use Rattle.agreement.specs.Laws.ListTestsLaws.{every-in, holds-member, honest-in, split-head, split-never}
-use Rattle.agreement.specs.Laws.ListsLaws.{wrote-more}
+use Rattle.agreement.specs.Laws.ListTestsLaws.{every-in, holds-member, honest-in}
+use Rattle.agreement.specs.Laws.ListsLaws.{split-head, split-never, wrote-more}
 use Rattle.agreement.specs.Laws.ObserverListsLaws.{replica-member, replicas-append}
 use Rattle.agreement.specs.Lists.{HonestIn, Member, NoCollision, NotForged, Shows, delivers, writes}
 use Rattle.agreement.specs.ObserverLists.{AnyMember, AnyShows, Meant, NoneCollide, NoneForged, ObserverMember}

@@ -11,8 +11,8 @@ use Rattle.protocol.specs.Laws.RowLaws.{implies-true, same-eq}
 use Rattle.protocol.specs.Laws.TestsLaws.{and-both}
 use Rattle.protocol.specs.Move.{isSome}
 use Rattle.protocol.specs.Tests.{implies}
-use Rattle.agreement.specs.Laws.ListTestsLaws.{reads-part, some-in, split-head, split-never}
-use Rattle.agreement.specs.Laws.ListsLaws.{or-else-assoc, or-else-none}
+use Rattle.agreement.specs.Laws.ListTestsLaws.{reads-part, some-in}
+use Rattle.agreement.specs.Laws.ListsLaws.{or-else-assoc, or-else-none, split-head, split-never}
 use Rattle.agreement.specs.ListTests.{readsPart, someIn}
 use Rattle.agreement.specs.Lists.{orElse}
 use Rattle.agreement.specs.ObserverListTests.{isNumber, observerFollows, observerKeeps, observerReadsAt}

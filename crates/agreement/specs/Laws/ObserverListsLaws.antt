@@ -6,8 +6,7 @@ use mathlib.Core.Logic.{_⊎_, inl, inr}
 use mathlib.Core.List.{List, [], _∷_, _++_, List·Memᴰ, List·Memᴰ·head, List·Memᴰ·tail, List·Memᴰ·not-nil}
 use mathlib.Core.List.{List·Memᴰ·cases-cons}
 use Rattle.protocol.specs.Bytes.{Bytes}
-use Rattle.agreement.specs.Laws.ListTestsLaws.{split-head, split-never}
-use Rattle.agreement.specs.Laws.ListsLaws.{or-else-assoc, or-else-none}
+use Rattle.agreement.specs.Laws.ListsLaws.{or-else-assoc, or-else-none, split-head, split-never}
 use Rattle.agreement.specs.Lists.{Member, NotForged, orElse}
 use Rattle.agreement.specs.ObserverLists.{AnyMember, Meant, NoneForged, ObserverMember, anyDelivers}
 use Rattle.agreement.specs.ObserverLists.{observerCalls, observerLastLeft, observerLeftBy, ofObserver, ofReplica}
