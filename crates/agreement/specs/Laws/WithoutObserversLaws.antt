@@ -28,13 +28,13 @@ module _ (digest : Bytes → Bytes) (books : ℕ → Type 0) (list : List Member
 
   none-collide : NoCollision digest books list → NoneCollide digest (Meant books Nobody) (map ofReplica list)
   unfolding NoCollision NoneCollide Meant Shows AnyShows anyShows
-  none-collide apart (ofReplica m) (ofReplica m′) block block′ here here′ ours ours′ =
-      apart m m′ block block′ (among m here) (among m′ here′) ours ours′
+  none-collide apart (ofReplica m) (ofReplica m′) block block′ here here′ ours ours′ shows shows′ e =
+      apart m m′ block block′ (among m here) (among m′ here′) ours ours′ shows shows′ e
     where
       among : (x : Member) → List·Memᴰ (ofReplica x) (map ofReplica list) → List·Memᴰ x list
       among x i = rw only-replicas at (replica-member (map ofReplica list) x i)
-  none-collide apart (ofReplica m) (ofObserver m′) block block′ here here′ ours never = absurd never
-  none-collide apart (ofObserver m) m′ block block′ here here′ never ours′ = absurd never
+  none-collide apart (ofReplica m) (ofObserver m′) block block′ here here′ ours never shows shows′ e = absurd never
+  none-collide apart (ofObserver m) m′ block block′ here here′ never ours′ shows shows′ e = absurd never
 
 -- demand 3 of a list without observers follows
 pub without-observers : (digest : Bytes → Bytes) → ObservedAgreement digest → Agreement digest
