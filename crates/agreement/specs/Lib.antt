@@ -1,4 +1,5 @@
--- Demand 3: the claim over lists of calls, its proof, and two lists that meet every premise.
+-- Demand 3: the claim over lists of calls, without observers and with them, its proof, and three lists that meet every
+-- premise.
 pub mod Lists
 pub mod ObserverLists
 pub mod Unpacked

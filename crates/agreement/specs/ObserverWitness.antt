@@ -3,6 +3,7 @@
 -- and of three heights, are opened for the four replicas, and read the entry that the honest replicas read. Observer 2
 -- is opened for one replica and reads another entry: so it is not meant.
 use Prim.Native.Nat.{ℕ, _<_}
+use mathlib.Core.Path.{_≡_}
 use mathlib.Core.Logic.{_≢_}
 use mathlib.Core.List.{List, [], _∷_, _++_, map}
 use lib.ListN.{getD, set, replicate}
@@ -92,6 +93,9 @@ module _ (digest : Bytes → Bytes) where
   -- ---- what it shows
   pub record ObserverWitness : Type 0 where
     pub met : ObservedMet digest 4 dishonest meantObservers list entry
+    -- observers 0 and 1 have books of different sizes
+    pub opens-0 : ObserverOf list 0 (λ m. m .call ≡ observerOpening 4 2)
+    pub opens-1 : ObserverOf list 1 (λ m. m .call ≡ observerOpening 4 3)
     -- an observer that is opened for another number of replicas reads another entry
     pub lonely-reads : ObserverOf list 2 (ObserverReads digest lonelyEntry)
     pub two-entries : lonelyEntry ≢ entry

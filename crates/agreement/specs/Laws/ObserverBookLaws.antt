@@ -31,7 +31,7 @@ use Rattle.agreement.specs.ObserverLists.{AnyMember, Meant, NoneForged, 
 use Rattle.agreement.specs.ObserverLists.{ObserverMember, anyDelivers, observerCalls, observerLastLeft}
 use Rattle.agreement.specs.ObserverLists.{observerLeftBy, observes, ofObserver, ofReplica}
 
--- what an unrefused delivery has tested
+-- what the proof of agreement takes from the rows of a delivery (ObserverDeliverLaws has all of them)
 delivery-facts : (digest : Bytes → Bytes) (book frame : Bytes) →
     firstRefusal (observerDeliverRows digest book frame) ≡ none →
     (observerSound digest book ≡ true) × ReadFrame (observerState book) frame
@@ -44,8 +44,8 @@ delivery-facts digest book frame e =
     (is-sound, rows-read (observerState book) frame reads)
 
 -- a call that is refused by its rows leaves the book
-refused-or : {A : Type 0} (Q : Bytes → Type 0) (r : Option ℕ) (book : Bytes) (outcome : Outcome A) → Q book →
-    Q (outcome .book) → Q (unlessRefused r book outcome .book)
+refused-or : {A : Type 0} (Q : Bytes → Type 0) (refusal : Option ℕ) (book : Bytes) (outcome : Outcome A) → Q book →
+    Q (outcome .book) → Q (unlessRefused refusal book outcome .book)
 unfolding unlessRefused
 refused-or Q none book outcome stays changes = changes
 refused-or Q (some number) book outcome stays changes = stays
@@ -75,11 +75,11 @@ module _ (digest : Bytes → Bytes) (n : ℕ) (books names observers : ℕ → T
     delivery-followed book frame f =
         go (firstRefusal (observerDeliverRows digest book frame)) refl (keep digest (observerState book) frame) refl
       where
-        go : (r : Option ℕ) → firstRefusal (observerDeliverRows digest book frame) ≡ r →
+        go : (refusal : Option ℕ) → firstRefusal (observerDeliverRows digest book frame) ≡ refusal →
             (o : Option Height) → keep digest (observerState book) frame ≡ o →
             observes digest m .delivers ≡
-            cond (isAccepted (unlessRefused r book (observerKept book frame o) .answer)) (frame ∷ []) [] →
-            FollowedIn P′ (observerState (unlessRefused r book (observerKept book frame o) .book))
+            cond (isAccepted (unlessRefused refusal book (observerKept book frame o) .answer)) (frame ∷ []) [] →
+            FollowedIn P′ (observerState (unlessRefused refusal book (observerKept book frame o) .book))
         go (some number) e o k d = still book f
         go none e none k d = still book f
         go none e (some new) k d =

@@ -26,12 +26,12 @@ module _ (digest : Bytes → Bytes) where
     observed-applies Conclusion claim =
         let (m, here, own, reads) = met .reads-0 in
         let (m′, here′, own′, reads′) = met .reads-1 in
-        let (r, among, own″, reads″) = met .reads-replica in
+        let (x, among, own″, reads″) = met .reads-replica in
         let granted = claim n dishonest observers list (met .few) (met .keeps) (met .observers-keep) (met .unforged)
         (met .collisionless) in (
           granted (ofObserver m) (ofObserver m′) part part here here′ (rw own (met .meant-0)) (rw own′ (met .meant-1))
               reads reads′,
-          granted (ofReplica r) (ofObserver m′) part part (member-replica list r among) here′
+          granted (ofReplica x) (ofObserver m′) part part (member-replica list x among) here′
               (rw own″ (met .honest-0)) (rw own′ (met .meant-1)) reads″ reads′,
         )
 

@@ -5,7 +5,7 @@ use native.Mathlib.Omega.{arith}
 use mathlib.Core.Path.{_≡_, refl, ap}
 use mathlib.Core.Logic.{_≢_}
 use mathlib.Core.Bool.{Bool, true}
-use mathlib.Core.List.{List, [], _∷_}
+use mathlib.Core.List.{List, [], _∷_, List·Memᴰ·head, List·Memᴰ·tail}
 use mathlib.Core.Option.{none}
 use lib.ListN.{getD, length, set}
 use lib.Dec.{ltb}
@@ -13,7 +13,7 @@ use borrow.Author.Tests.{lt-ltb}
 use Rattle.protocol.specs.Bytes.{Bytes, byteAt}
 use Rattle.protocol.specs.Call.{bookAfter}
 use Rattle.protocol.specs.Laws.RowLaws.{by-rows}
-use Rattle.protocol.specs.ObserverCall.{observation}
+use Rattle.protocol.specs.ObserverCall.{observation, observerOpening}
 use Rattle.protocol.specs.Tests.{allOf}
 use Rattle.agreement.specs.AnyDigest.{agreed, list as replicasList, oneDigest, otherDigest, split, timeouts}
 use Rattle.agreement.specs.Laws.AnyDigestLaws.{any-digest}
@@ -27,7 +27,7 @@ use Rattle.agreement.specs.Met.{Met}
 use Rattle.agreement.specs.ObserverListTests.{echoes, isNumber, observerFollows, observerKeeps, observerReadsAt}
 use Rattle.agreement.specs.ObserverLists.{AnyMember, ObserverKeepsOneBook, observerCalls, observerLeftBy}
 use Rattle.agreement.specs.ObserverLists.{replicaCalls}
-use Rattle.agreement.specs.ObserverMet.{ObservedMet}
+use Rattle.agreement.specs.ObserverMet.{ObservedMet, ObserverOf}
 use Rattle.agreement.specs.ObserverWitness.{AnyTurn, ObserverWitness, anyTurns, anythingObserved, buildAny}
 use Rattle.agreement.specs.ObserverWitness.{byObserver, byReplica, list, lonely, lonelyBlock, lonelyEntry}
 use Rattle.agreement.specs.ObserverWitness.{meantObservers, observerHearings, observerHears, observerOpenings}
@@ -106,6 +106,13 @@ module _ (digest : Bytes → Bytes) where
       echoes-sound digest 4 dishonest (λ s. ltb s 2) (list digest) (passes .echo) before m after frame here
       (lt-ltb (m .observer) 2 low) delivered
 
+  -- the first two calls
+  openings-found : ObserverOf (list digest) 0 (λ m. m .call ≡ observerOpening 4 2) ×
+      ObserverOf (list digest) 1 (λ m. m .call ≡ observerOpening 4 3)
+  unfolding list anyTurns observerOpenings buildAny
+  openings-found =
+      ((_, List·Memᴰ·head refl, refl, refl), (_, List·Memᴰ·tail (List·Memᴰ·head refl), refl, refl))
+
   -- the entries differ in their first byte
   two-entries : lonelyEntry ≢ entry
   unfolding lonelyEntry entry
@@ -136,6 +143,8 @@ module _ (digest : Bytes → Bytes) where
     pub observer-witness : ObserverWitness digest
     observer-witness = record {
       met = met;
+      opens-0 = openings-found .0;
+      opens-1 = openings-found .1;
       lonely-reads = observer-reads-found digest (list digest) lonelyEntry 2 (passes .lonely-reads);
       two-entries = two-entries;
     }

@@ -25,7 +25,8 @@ observer-opening-cases book n heights P makes stays = go (firstRefusal (observer
     opened : Outcome Done
     opened = record { answer = accepted done; book = encodeObserver (newObserver n heights) }
 
-    go : (r : Option ℕ) → P (isAccepted (unlessRefused r book opened .answer)) (unlessRefused r book opened .book)
+    go : (refusal : Option ℕ) →
+        P (isAccepted (unlessRefused refusal book opened .answer)) (unlessRefused refusal book opened .book)
     go none = makes
     go (some number) = stays
 
