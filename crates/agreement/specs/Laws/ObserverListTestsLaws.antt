@@ -61,7 +61,8 @@ module _ (digest : Bytes → Bytes) where
         let r = keeps-from (orElse (observerLeftBy digest s x) left) xs q before m after (split-head e .1) own in
         subst (λ (o : Option Bytes). ObserverFollows digest n m o)
         (ap (λ (z : ObserverMember). orElse (observerLastLeft digest s before)
-        (orElse (observerLeftBy digest s z) left)) (split-head e .0) ∙ sym (or-else-assoc (observerLastLeft digest s before) (observerLeftBy digest s y) left)) r
+        (orElse (observerLeftBy digest s z) left)) (split-head e .0)
+        ∙ sym (or-else-assoc (observerLastLeft digest s before) (observerLeftBy digest s y) left)) r
 
     pub observer-keeps : (list : List ObserverMember) → observerKeeps digest n s none list ≡ true →
         ObserverKeepsOneBook digest n list s
