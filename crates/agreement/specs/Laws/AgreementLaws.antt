@@ -170,11 +170,10 @@ module _ (digest : Bytes → Bytes) (n dishonest : ℕ) (observers : ℕ → Typ
 
 pub observed-agreement : (digest : Bytes → Bytes) → ObservedAgreement digest
 unfolding ObservedAgreement
-observed-agreement digest n dishonest observers l third keeps observers-keep unforged collisionless m m′ part part′ i i′
-    h h′ x x′ =
-    compare digest n dishonest observers l third keeps observers-keep unforged collisionless part part′
-    (read-of digest n dishonest observers l third keeps observers-keep unforged collisionless m part i h x)
-    (read-of digest n dishonest observers l third keeps observers-keep unforged collisionless m′ part′ i′ h′ x′)
+observed-agreement digest n dishonest observers l third keeps kept unforged apart m m′ part part′ i i′ h h′ x x′ =
+    compare digest n dishonest observers l third keeps kept unforged apart part part′
+    (read-of digest n dishonest observers l third keeps kept unforged apart m part i h x)
+    (read-of digest n dishonest observers l third keeps kept unforged apart m′ part′ i′ h′ x′)
 
 pub agreement : (digest : Bytes → Bytes) → Agreement digest
 agreement digest = without-observers digest (observed-agreement digest)
