@@ -1,7 +1,7 @@
 -- A list of calls that meets every premise of demand 3 with observers whatever the digest, if digests have 32 bytes, so
 -- at SHA-256: the calls of `AnyDigest`, with those of three observers among them. Observers 0 and 1 have books of two
 -- and of three heights, are opened for the four replicas, and read the entry that the honest replicas read. Observer 2
--- is opened for one replica and reads another entry: so it is not meant.
+-- is not meant: it is opened for one replica, hears what was forged in that one's name, and reads another entry.
 use Prim.Native.Nat.{ℕ, _<_}
 use mathlib.Core.Path.{_≡_}
 use mathlib.Core.Logic.{_≢_}
@@ -54,14 +54,14 @@ observerOpenings =
 -- that replica 1 never cast is refused
 unfoldable pub observerHearings : List AnyTurn
 observerHearings =
-    observerHears 0 (dummyVote 1 1) ∷ observerHears 0 (blockCertificate 2 11 nextBlock) ∷
+    observerHears 0 (dummyVote 1 2) ∷ observerHears 0 (blockCertificate 2 11 nextBlock) ∷
     observerHears 1 (finalizeCertificate 2 7) ∷ byObserver 1 observerMoving ∷
     observerHears 1 (blockCertificate 2 11 nextBlock) ∷ observerHears 1 (dummyCertificate 1 11) ∷
     observerHears 0 (finalizeCertificate 2 7) ∷
     byObserver 0 observerMoving ∷ byObserver 1 observerMoving ∷ byObserver 0 observerMoving ∷
     byObserver 0 observerSizing ∷ byObserver 0 (observerReading (zeros 16)) ∷ []
 
--- what observer 2 alone hears, and replica 0 has not signed
+-- observer 2 alone hears certificates that replica 0 never signed
 unfoldable pub lonelyEntry : Bytes
 lonelyEntry = replicate 16 4
 
@@ -96,6 +96,6 @@ module _ (digest : Bytes → Bytes) where
     -- observers 0 and 1 have books of different sizes
     pub opens-0 : ObserverOf list 0 (λ m. m .call ≡ observerOpening 4 2)
     pub opens-1 : ObserverOf list 1 (λ m. m .call ≡ observerOpening 4 3)
-    -- an observer that is opened for another number of replicas reads another entry
+    -- an observer that is not meant reads another entry
     pub lonely-reads : ObserverOf list 2 (ObserverReads digest lonelyEntry)
     pub two-entries : lonelyEntry ≢ entry
