@@ -5,6 +5,7 @@ pub mod MaskLaws
 pub mod StateLaws
 pub mod ObserverStateLaws
 pub mod ObserverCodecLaws
+pub mod ObserverOpensLaws
 pub mod QuorumLaws
 pub mod FlagLaws
 pub mod MoveLaws
