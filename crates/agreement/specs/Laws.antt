@@ -27,6 +27,7 @@ pub mod UnpackedLaws
 pub mod UnpackedBooksLaws
 pub mod UnpackedGrantsLaws
 pub mod UnpacksLaws
+pub mod ObserverUnpackedLaws
 pub mod OneBookLaws
 pub mod TurnsLaws
 pub mod WitnessLaws

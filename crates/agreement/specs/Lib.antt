@@ -3,6 +3,7 @@
 pub mod Lists
 pub mod ObserverLists
 pub mod Unpacked
+pub mod ObserverUnpacked
 pub mod Met
 pub mod ListTests
 pub mod Turns
