@@ -47,7 +47,7 @@ module _ (digest : Bytes → Bytes) where
   pub observed-deliveries-alone : ObservedAgreement digest → (list : List AnyMember) →
       ObservedAgreementOn digest (allUnpacked digest list) list
   unfolding ObservedAgreement ObservedAgreementOn
-  observed-deliveries-alone claim list n dishonest observers few keeps observed unforged collisionless m m′ part part′
-      here here′ meant meant′ reads reads′ =
+  observed-deliveries-alone claim list n dishonest observers few keeps observed unforged collisionless =
+      λ m m′ part part′ here here′ meant meant′ reads reads′.
       claim n dishonest observers (allUnpacked digest list) few keeps observed unforged collisionless m m′ part part′
       (reading-in list m part reads here) (reading-in list m′ part′ reads′ here′) meant meant′ reads reads′
