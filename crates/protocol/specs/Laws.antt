@@ -51,4 +51,5 @@ pub mod BuildLaws
 pub mod EditionLaws
 pub mod CallLaws
 pub mod SoundRowNames
+pub mod ObserverFieldLaws
 pub mod ObserverPlaceLaws

@@ -23,7 +23,7 @@ use Rattle.protocol.specs.Laws.WriteLaws.{withStatus}
 use Rattle.protocol.specs.Laws.WriteLaws.{withNotarizedBytes}
 use Rattle.protocol.specs.Laws.ObserverStateLaws.{ShapedObserver, withObservedHeights, map-set, observed-heights}
 use Rattle.protocol.specs.Laws.ObserverStateLaws.{observed-as, observed-contents-sized, observed-content-size}
-use Rattle.protocol.specs.Laws.ObserverStateLaws.{head-size-as, shaped-as, last-as}
+use Rattle.protocol.specs.Laws.ObserverStateLaws.{head-size-as, shaped-as, last-as, output-set}
 use Rattle.protocol.specs.Laws.ObserverCodecLaws.{ExactObserver, count-observed, decode-observer-shaped}
 
 -- ---- the bytes around height `suc i`
@@ -161,12 +161,6 @@ module _ (o : Observer) (shaped : ShapedObserver o) (i : ℕ) (inside : i < leng
         rw (block-put x copied old new refl, mark)
         (content-put marked (withNotarized x mask block) 2 (le16 mask) (omega arith) refl refl)
 
--- ---- the finalized height
-write-finalized : (o : Observer) (g : ℕ) →
-    set (encodeObserver o) 5 g ≡ encodeObserver (observed (withHead (asReplica o) 0 0 g))
-unfolding encodeObserver headBytes observed asReplica withHead
-write-finalized o g = rw (observed-heights (o .heights))
-
 -- ---- the same of a book that is the bytes of what it says
 module _ (book : Bytes) (exact : ExactObserver book) (whole : encodeObserver (decodeObserver book) ≡ book) where
   abbrev o : Observer
@@ -206,8 +200,7 @@ module _ (book : Bytes) (exact : ExactObserver book) (whole : encodeObserver (de
   pub book-observed-finalized : (g : ℕ) → set book 5 g ≡
       encodeObserver (observed (withHead (observerState book) (observerState book .flags)
       (observerState book .current) g))
-  unfolding asReplica
-  book-observed-finalized g = rw whole at (write-finalized o g)
+  book-observed-finalized g = ap (λ (bytes : Bytes). set bytes 5 g) (sym whole) ∙ sym (output-set o g)
 
 -- ---- a new observer
 zero-content : observedContentBytes newObservedHeight ≡ zeros 8
