@@ -1,14 +1,35 @@
--- A book's kind, taken apart: a replica's book has a state, and its view is that state's.
-use mathlib.Core.Path.{_≡_, refl}
-use Rattle.protocol.specs.Bytes.{Bytes}
-use Rattle.protocol.specs.State.{decode}
+-- What the readers of any kind of book need of it: the fact of one arm carried over to that kind, and the head, which
+-- all kinds have alike.
+use Prim.Native.Nat.{_≤_}
+use native.Mathlib.Omega.{arith}
+use mathlib.Core.Path.{_≡_, refl, sym, ap, subst}
+use lib.ListN.{length, replicate}
+use Rattle.protocol.specs.Bytes.{Bytes, byteAt}
 use Rattle.protocol.specs.Sound.{view}
-use Rattle.book_fields.specs.Book.{Shown, Readable, viewOf}
+use Rattle.protocol.specs.View.{View}
+use Rattle.book_fields.specs.Book.{Shown, viewOf}
 use Rattle.book_fields.specs.declared.kind.Kind.{Kind}
-use Rattle.book_fields.specs.declared.kind.Kind.the-variants.{Replica}
+use Rattle.book_fields.specs.declared.kind.Kind.the-variants.{Replica, Observer}
 
-pub replica-readable : (kind : Kind) (book : Bytes) → Shown kind book → Readable book
-replica-readable Replica book shown = shown
+-- ---- of the kind that an arm has found
+pub shown-as : (kind known : Kind) (book : Bytes) → kind ≡ known → Shown kind book → Shown known book
+shown-as kind known book e shown = subst (λ (k : Kind). Shown k book) e shown
 
-pub replica-view : (kind : Kind) (book : Bytes) → view (decode book) ≡ viewOf kind book
-replica-view Replica book = refl
+pub seen-as : (kind known : Kind) (book : Bytes) {A : Type 0} (field : View → A) → kind ≡ known →
+    field (viewOf known book) ≡ field (viewOf kind book)
+seen-as kind known book field e = ap (λ (k : Kind). field (viewOf k book)) (sym e)
+
+-- ---- the head of any kind
+pub head-room : (kind : Kind) (book : Bytes) → Shown kind book → 64 ≤ length book
+head-room Replica book shown = omega (arith, shown .sized .size)
+head-room Observer book shown = omega (arith, shown .sized .size)
+
+pub replicas-at : (kind : Kind) (book : Bytes) → Shown kind book → byteAt book 0 ≡ viewOf kind book .n
+unfolding view
+replicas-at Replica book shown = shown .sized .n-byte
+replicas-at Observer book shown = shown .sized .n-byte
+
+pub weights-even : (kind : Kind) (book : Bytes) → viewOf kind book .weights ≡ replicate (viewOf kind book .n) 1
+unfolding view
+weights-even Replica book = refl
+weights-even Observer book = refl

@@ -9,15 +9,22 @@ use Rattle.protocol.specs.Block.{maximumHeights}
 use Rattle.protocol.specs.State.{State, Height, at, last, decode, encode, withHeight, bookHeights, maximumReplicas}
 use Rattle.protocol.specs.View.{View}
 use Rattle.protocol.specs.Sound.{view, sound}
+use Rattle.protocol.specs.Observer.{observerState, decodeObserver, encodeObserver, observed}
+use Rattle.protocol.specs.ObserverSound.{observerSound}
+use Rattle.protocol.specs.SoundObserver.{SoundObserver}
 use Rattle.book_fields.specs.declared.kind.Kind.{Kind}
-use Rattle.book_fields.specs.declared.kind.Kind.the-variants.{Replica}
+use Rattle.book_fields.specs.declared.kind.Kind.the-variants.{Replica, Observer}
 
 -- ---- short names for what contracts speak of
 -- what a book keeps of height `h`
 abbrev pub heightIn : Bytes → ℕ → Height
 heightIn book h = at (decode book) h
 
--- the view that it gives
+-- what an observer's book keeps of height `h`
+abbrev pub observedIn : Bytes → ℕ → Height
+observedIn book h = at (observerState book) h
+
+-- the view that a replica's book gives
 abbrev pub bookView : Bytes → View
 bookView book = view (decode book)
 
@@ -29,12 +36,22 @@ recoded book change = encode (change (decode book))
 abbrev pub changed : Bytes → ℕ → (Height → Height) → Bytes
 changed book h change = encode (withHeight (decode book) h (change (heightIn book h)))
 
+-- an observer's book of a changed state
+abbrev pub observerRecoded : Bytes → (State → State) → Bytes
+observerRecoded book change = encodeObserver (observed (change (observerState book)))
+
+-- an observer's book with height `h` changed
+abbrev pub observerChanged : Bytes → ℕ → (Height → Height) → Bytes
+observerChanged book h change =
+    encodeObserver (observed (withHeight (observerState book) h (change (observedIn book h))))
+
 -- ---- the kinds of books
 -- the view that a book of this kind gives
 abbrev pub viewOf : Kind → Bytes → View
 viewOf Replica book = bookView book
+viewOf Observer book = view (observerState book)
 
--- the length is that of the H heights that the head says
+-- the length is that of the H heights that the head says: of a replica's book
 pub record Sized (book : Bytes) : Type 0 where
   pub size : length book ≡ 576 + 880 * bookHeights book
   -- these follow from the definition of `decode`, and stand here for the search to find
@@ -46,9 +63,18 @@ pub record Sized (book : Bytes) : Type 0 where
   pub finalized-byte : byteAt book 5 ≡ decode book .finalized
   pub pending-byte : byteAt book 6 ≡ decode book .pendingCount
 
+-- of an observer's book
+pub record SizedObserver (book : Bytes) : Type 0 where
+  pub size : length book ≡ 64 + 184 * bookHeights book
+  -- these follow from the definition of `decodeObserver`, and stand here for the search to find
+  pub count : last (observerState book) ≡ bookHeights book
+  pub n-byte : byteAt book 0 ≡ observerState book .n
+  pub finalized-byte : byteAt book 5 ≡ observerState book .finalized
+
 -- the same of each kind
 abbrev pub SizedAs : Kind → Bytes → Type 0
 SizedAs Replica book = Sized book
+SizedAs Observer book = SizedObserver book
 
 -- ---- the first rung: all that reading asks
 pub record Shown (kind : Kind) (book : Bytes) : Type 0 where
@@ -60,10 +86,19 @@ pub record Shown (kind : Kind) (book : Bytes) : Type 0 where
 abbrev pub Readable : Bytes → Type 0
 Readable book = Shown Replica book
 
+-- of an observer's book
+abbrev pub ObserverReadable : Bytes → Type 0
+ObserverReadable book = Shown Observer book
+
 -- ---- the second rung: the bytes are those of the state that they say, which writing asks besides
 pub record Ready (book : Bytes) : Type 0 where
   pub readable : Readable book
   pub whole : encode (decode book) ≡ book
+
+-- of an observer's book
+pub record ObserverReady (book : Bytes) : Type 0 where
+  pub readable : ObserverReadable book
+  pub whole : encodeObserver (decodeObserver book) ≡ book
 
 -- ---- the third rung: what a call has found, with what soundness says of the state
 pub record SoundBook (digest : Bytes → Bytes) (book : Bytes) : Type 0 where
@@ -71,6 +106,13 @@ pub record SoundBook (digest : Bytes → Bytes) (book : Bytes) : Type 0 where
   pub ready : Ready book
   pub state : SoundState digest (decode book)
   pub finalized-high : decode book .finalized ≤ bookHeights book
+
+-- of an observer's book
+pub record SoundObserverBook (digest : Bytes → Bytes) (book : Bytes) : Type 0 where
+  pub is-sound : observerSound digest book ≡ true
+  pub ready : ObserverReady book
+  pub state : SoundObserver digest (decodeObserver book)
+  pub finalized-high : observerState book .finalized ≤ bookHeights book
 
 -- ---- height `h` is one of the book's
 pub record Within (book : Bytes) (h : ℕ) : Type 0 where

@@ -1,14 +1,17 @@
 // The kinds of books, and what the view of a book shows, read where it lies. What walks over heights asks these readers
 // alone, so that a kind with other places is one more arm here.
 ghost use mathlib.Core.Path.{_≡_};
-ghost use Prim.Native.Nat.{_<_};
+ghost use Prim.Native.Nat.{_<_, _≤_};
 ghost use lib.ListN.{length};
 ghost use Rattle.protocol.specs.View.{quorum as isQuorum, isDummy};
 ghost use Rattle.protocol.specs.Mask.{maskLimit};
+ghost use Rattle.protocol.specs.Block.{maximumHeights};
+ghost use Rattle.protocol.specs.State.{bookHeights, maximumReplicas};
 ghost use Rattle.book_fields.specs.Book.{Within, Shown, viewOf};
 
 pub enum Kind {
     Replica,
+    Observer,
 }
 
 // Whether a block is notarized at height `h`.
@@ -19,6 +22,7 @@ pub fn has_block(kind: Kind, book: &[u8], h: usize) -> bool
 {
     match kind {
         Kind::Replica => crate::height::is_notarized(book, h),
+        Kind::Observer => crate::observed::is_notarized(book, h),
     }
 }
 
@@ -31,6 +35,7 @@ pub fn block(kind: Kind, book: &[u8], h: usize) -> &[u8]
 {
     match kind {
         Kind::Replica => crate::height::notarized(book, h),
+        Kind::Observer => crate::observed::notarized(book, h),
     }
 }
 
@@ -41,6 +46,7 @@ pub fn dummy_mask(kind: Kind, book: &[u8], h: usize) -> usize
 {
     match kind {
         Kind::Replica => crate::height::dummy_mask(book, h),
+        Kind::Observer => crate::observed::mask_at(book, h, 1),
     }
 }
 
@@ -51,7 +57,24 @@ pub fn finalize_mask(kind: Kind, book: &[u8], h: usize) -> usize
 {
     match kind {
         Kind::Replica => crate::height::finalize_mask(book, h),
+        Kind::Observer => crate::observed::mask_at(book, h, 2),
     }
+}
+
+// The number of replicas: the heads of all kinds are alike.
+pub fn replicas(kind: Kind, book: &[u8]) -> usize
+    requires { ⌜ Shown kind (now book) ⌝ }
+    ensures { λ r. ⌜ (r ≡ viewOf kind (now (book .entry)) .n) × (r ≤ maximumReplicas) ⌝ }
+{
+    wire::bytes::byte(book, 0)
+}
+
+// The number of heights.
+pub fn heights(kind: Kind, book: &[u8]) -> usize
+    requires { ⌜ Shown kind (now book) ⌝ }
+    ensures { λ r. ⌜ (r ≡ bookHeights (now (book .entry))) × (r ≤ maximumHeights) ⌝ }
+{
+    wire::bytes::byte(book, 2)
 }
 
 // Whether a mask holds two thirds of the book's replicas.
@@ -60,9 +83,8 @@ pub fn quorum(kind: Kind, book: &[u8], mask: usize) -> bool
     requires { ⌜ mask < maskLimit ⌝ }
     ensures { λ r. ⌜ r ≡ isQuorum (viewOf kind (now (book .entry))) mask ⌝ }
 {
-    match kind {
-        Kind::Replica => crate::quorum::quorum(book, mask),
-    }
+    let n = replicas(kind, book);
+    2 * n <= 3 * crate::quorum::count(n, mask)
 }
 
 // Whether the dummy block of height `h` is notarized.

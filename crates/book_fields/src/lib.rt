@@ -3,5 +3,6 @@ pub mod bounds;
 pub mod head;
 pub mod height;
 pub mod kind;
+pub mod observed;
 pub mod pool;
 pub mod quorum;

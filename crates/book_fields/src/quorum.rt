@@ -1,4 +1,5 @@
 // Quorums of masks, and the dummy blocks that they notarize.
+use crate::kind::Kind;
 ghost use mathlib.Core.Path.{_≡_};
 ghost use Prim.Native.Nat.{_<_, _≤_};
 ghost use Rattle.protocol.specs.Mask.{ones, maskLimit};
@@ -7,7 +8,7 @@ ghost use Rattle.protocol.specs.State.{maximumReplicas};
 ghost use Rattle.book_fields.specs.Book.{Readable, Within, bookView};
 
 // How many of the replicas below `n` are in a mask: one pass over its bits.
-fn count(n: usize, mask: usize) -> usize
+pub fn count(n: usize, mask: usize) -> usize
     requires { ⌜ (n ≤ maximumReplicas) × (mask < maskLimit) ⌝ }
     ensures { λ r. ⌜ (r ≡ ones mask n) × (r ≤ n) ⌝ }
 {
@@ -28,8 +29,7 @@ pub fn quorum(book: &[u8], mask: usize) -> bool
     requires { ⌜ mask < maskLimit ⌝ }
     ensures { λ r. ⌜ r ≡ isQuorum (bookView (now (book .entry))) mask ⌝ }
 {
-    let n = crate::head::replicas(book);
-    2 * n <= 3 * count(n, mask)
+    crate::kind::quorum(Kind::Replica, book, mask)
 }
 
 // Whether the dummy block of height `h` is notarized.

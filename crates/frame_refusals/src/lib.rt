@@ -5,4 +5,5 @@ mod read;
 
 pub use clash::agrees;
 pub use clash::clash_refusal;
+pub use first::first_refusal;
 pub use read::read_refusal;

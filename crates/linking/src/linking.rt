@@ -4,8 +4,10 @@
 use crate::links::Parent;
 use book_fields::kind::Kind;
 ghost use mathlib.Core.Path.{_≡_};
+ghost use mathlib.Core.Bool.{_||_};
 ghost use Prim.Native.Nat.{_≤_};
 ghost use lib.ListN.{length};
+ghost use lib.Dec.{eqb};
 ghost use Rattle.sha256.specs.Digest.{sha256 as sha};
 ghost use Rattle.protocol.specs.Bytes.{same};
 ghost use Rattle.protocol.specs.Block.{parentDigest};
@@ -128,6 +130,24 @@ pub fn is_finalized(kind: Kind, book: &[u8], h: usize, known: &mut [u8]) -> bool
         linked(kind, book, h, known)
     } else {
         false
+    }
+}
+
+// Whether `g` is 0 or finalized, as the finalized height of a sound book is. A height past the last is not.
+pub fn zero_or_finalized(kind: Kind, book: &[u8], g: usize, known: &mut [u8]) -> bool
+    requires { ⌜ Shown kind (now book) ⌝ }
+    requires { ⌜ MemoAs kind (now book) (now known) ⌝ }
+    ensures answer { λ r. ⌜ r ≡ (eqb g 0 || isFinalized sha (viewOf kind (now (book .entry))) g) ⌝ }
+    ensures memo { λ _. ⌜ MemoAs kind (now (book .entry)) (now (known .exit)) ⌝ }
+{
+    if g == 0 {
+        true
+    } else {
+        if g <= book_fields::kind::heights(kind, book) {
+            is_finalized(kind, book, g, known)
+        } else {
+            false
+        }
     }
 }
 

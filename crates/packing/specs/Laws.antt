@@ -4,3 +4,4 @@ pub mod NumberedLaws
 pub mod ReadBackLaws
 pub mod FrameCountLaws
 pub mod UnpackingLaws
+pub mod ObserverPackingLaws

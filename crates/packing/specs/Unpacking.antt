@@ -55,20 +55,20 @@ answeredFresh (accepted known) = 0
 answeredFresh (accepted fresh) = 1
 
 -- ---- what they are to give of the number that a call returned, for what the call answers
--- the last number of a refusal: document 01 has 1 to 14, and request 2.1 adds 15
+-- the last number of a refusal: document 01 has 1 to 14, request 2.1 adds 15, and request 2.3 adds 16
 abbrev pub lastRefusal : ℕ
-lastRefusal = 15
+lastRefusal = 16
 
 -- a refusal has one of these numbers: it fits the lowest byte, and it is not 0
 abbrev pub Numbered : {A : Type 0} → Answer A → Type 0
 Numbered a = (number : ℕ) → a ≡ refused number → (1 ≤ number) × (number ≤ lastRefusal)
 
--- Open, Signal, Submit, Fetch
+-- Open, Signal, Submit, Fetch; Open of an observer
 pub record DoneRead (returned : ℕ) (a : Answer Done) : Type 0 where
   pub numbered : Numbered a
   pub refusal : unpackedRefusal returned ≡ refusalNumber a
 
--- Deliver
+-- Deliver, and that of an observer
 pub record DeliveryRead (returned : ℕ) (a : Answer Delivery) : Type 0 where
   pub numbered : Numbered a
   pub refusal : unpackedRefusal returned ≡ refusalNumber a
@@ -79,7 +79,7 @@ pub record PacketRead (returned : ℕ) (a : Answer Counts) : Type 0 where
   pub numbered : Numbered a
   pub refusal : unpackedRefusal returned ≡ refusalNumber a
 
--- Move: the numbers that its contract gives
+-- Move, and that of an observer: the numbers that its contract gives
 pub record MoveRead (returned : ℕ) (a : Answer Move) : Type 0 where
   pub numbered : Numbered a
   pub refusal : unpackedRefusal returned ≡ answerNumbers a .refusal
@@ -88,7 +88,7 @@ pub record MoveRead (returned : ℕ) (a : Answer Move) : Type 0 where
   pub certificate : unpackedCertificate returned ≡ answerNumbers a .certificate
   pub finalize : unpackedFinalize returned ≡ answerNumbers a .finalize
 
--- Register size
+-- Register size, and that of an observer
 pub record SizeRead (returned : ℕ) (a : Answer ℕ) : Type 0 where
   pub numbered : Numbered a
   pub refusal : unpackedRefusal returned ≡ refusalNumber a

@@ -5,6 +5,7 @@ pub mod MaskLaws
 pub mod StateLaws
 pub mod ObserverStateLaws
 pub mod ObserverCodecLaws
+pub mod ObserverOpensLaws
 pub mod QuorumLaws
 pub mod FlagLaws
 pub mod MoveLaws
@@ -50,3 +51,5 @@ pub mod BuildLaws
 pub mod EditionLaws
 pub mod CallLaws
 pub mod SoundRowNames
+pub mod ObserverFieldLaws
+pub mod ObserverPlaceLaws

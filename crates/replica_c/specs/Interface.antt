@@ -4,4 +4,4 @@ use Prim.Native.Nat.{ℕ}
 -- goes up with each call that is added, and with each change to a call's arguments or to what it may answer; the
 -- header's MAVUNILAI_INTERFACE with it
 unfoldable pub interfaceNumber : ℕ
-interfaceNumber = 2
+interfaceNumber = 3

@@ -15,6 +15,8 @@ ghost use Rattle.protocol.specs.Signal.{signalCall};
 ghost use Rattle.protocol.specs.Submit.{submitCall};
 ghost use Rattle.protocol.specs.Fetch.{fetchCall};
 ghost use Rattle.protocol.specs.Read.{readPart, readBuffer, sizeCall};
+ghost use Rattle.protocol.specs.ObserverCalls.{observerOpenCall, observerDeliverCall, observerMoveCall};
+ghost use Rattle.protocol.specs.ObserverCalls.{observerSizeCall, observerReadPart, observerReadBuffer};
 ghost use Rattle.replica_c.specs.Interface.{interfaceNumber};
 ghost use Rattle.packing.specs.Packing.{packedDone, packedDelivery, packedPacket, countsAfter, packedMove, packedSize};
 
@@ -134,10 +136,65 @@ pub extern "C" fn mavunilai_size(book: &[u8]) -> usize
     packing::size_number(replica::read::size(book))
 }
 
+// Open of an observer: makes a new book for one who follows the log of `n` replicas and has no vote. The book's old
+// bytes do not matter.
+// Returns 0 where it is made. Refusals, the first that applies: 2, 1 (`observerOpenCall`).
+#[no_mangle]
+pub extern "C" fn mavunilai_observer_open(book: &mut [u8], n: usize, heights: usize) -> usize
+    ensures answer { λ r. ⌜ r ≡ packedDone (observerOpenCall (now (book .entry)) n heights .answer) ⌝ }
+    ensures book { λ _. ⌜ now (book .exit) ≡ observerOpenCall (now (book .entry)) n heights .book ⌝ }
+{
+    packing::done_number(observer::open::open(book, n, heights))
+}
+
+// Deliver to an observer: keeps what a certificate says, whose signatures the caller has checked.
+// Returns 256 where it was fresh, so that the book changed, and 0 where it was known. Refusals: 1, 4, 16, 6, 5, 9, 10
+// (`observerDeliverCall`).
+#[no_mangle]
+pub extern "C" fn mavunilai_observer_deliver(book: &mut [u8], frame: &[u8]) -> usize
+    ensures answer { λ r. ⌜ r ≡
+        packedDelivery (observerDeliverCall sha256 (now (book .entry)) (now (frame .entry)) .answer) ⌝ }
+    ensures book { λ _. ⌜ now (book .exit) ≡
+        observerDeliverCall sha256 (now (book .entry)) (now (frame .entry)) .book ⌝ }
+{
+    packing::delivered_number(observer::deliver::deliver(book, frame))
+}
+
+// Move of an observer: move 2 where it applies, which writes no frame. Returns in byte 1 the move's number and in bytes
+// 2 and 3 the new finalized height; 0 where it is idle (`packedMove`). Refusals: 1 (`observerMoveCall`).
+#[no_mangle]
+pub extern "C" fn mavunilai_observer_move(book: &mut [u8]) -> usize
+    ensures answer { λ r. ⌜ r ≡ packedMove (observerMoveCall sha256 (now (book .entry)) .answer) ⌝ }
+    ensures book { λ _. ⌜ now (book .exit) ≡ observerMoveCall sha256 (now (book .entry)) .book ⌝ }
+{
+    packing::moved_number(observer::make_move::make_move(book))
+}
+
+// Register size of an observer: the length of the log in bytes.
+// Returns 256 times the length (`packedSize`). Refusals: 1 (`observerSizeCall`).
+#[no_mangle]
+pub extern "C" fn mavunilai_observer_size(book: &[u8]) -> usize
+    ensures { λ r. ⌜ r ≡ packedSize (observerSizeCall sha256 (now (book .entry))) ⌝ }
+{
+    packing::size_number(observer::read::size(book))
+}
+
+// Read of an observer: copies the log to the front of the buffer.
+// Returns how many bytes it wrote, not a packed answer: 0 where the book is not sound, the buffer is too short or the
+// log is empty (`observerReadPart`).
+#[no_mangle]
+pub extern "C" fn mavunilai_observer_read(book: &[u8], buffer: &mut [u8]) -> usize
+    ensures length { λ r. ⌜ r ≡ length (observerReadPart sha256 (now (book .entry)) (now (buffer .entry))) ⌝ }
+    ensures buffer { λ _. ⌜ now (buffer .exit) ≡
+        observerReadBuffer sha256 (now (book .entry)) (now (buffer .entry)) ⌝ }
+{
+    observer::read::read_into(book, buffer)
+}
+
 // The number of this interface, which a program compares with its header's before it makes another call.
 #[no_mangle]
 pub extern "C" fn mavunilai_interface() -> usize
     ensures { λ r. ⌜ r ≡ interfaceNumber ⌝ }
 {
-    2
+    3
 }

@@ -1,9 +1,7 @@
 -- The tests that the code of soundness makes are the rows of the definition, group by group.
-use Prim.Native.Nat.{ℕ, suc, _+_, _-_, _*_, _<_}
+use Prim.Native.Nat.{ℕ, _+_, _-_, _*_, _<_}
 use native.Mathlib.Omega.{arith}
-use native.Mathlib.Numerals.{add-one}
 use mathlib.Core.Path.{_≡_, refl, sym, _∙_}
-use mathlib.Core.Logic.{_≢_}
 use mathlib.Core.Bool.{Bool, true, false, _&&_, and-true, true≢false}
 use lib.ListN.{length, take, drop}
 use lib.Dec.{eqb, leb, ltb}
@@ -13,11 +11,9 @@ use Rattle.protocol.specs.Tests.{allOf, implies, inRange, everyHeight}
 use Rattle.protocol.specs.Block.{blockWellFormed}
 use Rattle.protocol.specs.Mask.{belowBit}
 use Rattle.protocol.specs.State.{Height, at, decode, bookSize, holdsProposal, isNotarized, bookHeights}
-use Rattle.protocol.specs.View.{quorum, isFinalized}
+use Rattle.protocol.specs.View.{quorum}
 use Rattle.protocol.specs.Sound.{view, masksBelow, blocksWellFormed, contentZeros, sound}
-use Rattle.protocol.specs.Laws.RowLaws.{by-rows, true-and}
-use Rattle.protocol.specs.Laws.CodecLaws.{last-decode}
-use Rattle.protocol.specs.Laws.SoundLaws.{not-finalized-past}
+use Rattle.protocol.specs.Laws.RowLaws.{by-rows}
 use Rattle.soundness.specs.SoundRows.{numberRows, headRows, heightRows, bookRows, finalRow}
 use Rattle.soundness.specs.Laws.SoundRowsLaws.{sound-is}
 
@@ -49,15 +45,6 @@ pub masks-are : (n : ℕ) (x : Height) →
 unfolding masksBelow allOf
 masks-are n x = simp and-true
 
--- ---- what is tested only where something is held
-pub where-held : (a b : Bool) → a ≡ true → implies a b ≡ b
-unfolding implies
-where-held a b e = rw e
-
-pub where-none : (a b : Bool) → a ≡ false → implies a b ≡ true
-unfolding implies
-where-none a b e = rw e
-
 -- ---- one height
 pub unused-are : (book : Bytes) (h from : ℕ) → from ≡ 576 + 16 * (h - 1) →
     isZero (take (from + 10 + 6 - (from + 10)) (drop (from + 10) book)) ≡ isZero (contentZeros book h)
@@ -79,26 +66,11 @@ module _ (book : Bytes) (h : ℕ) where
   unfolding heightRows blocksWellFormed allOf
   height-are = simp and-true
 
--- ---- every height
-pub every-more : (test : ℕ → Bool) (h : ℕ) → everyHeight test h ≡ true → test (h + 1) ≡ true →
-    everyHeight test (h + 1) ≡ true
-unfolding everyHeight
-every-more test h before next = rw add-one (true-and (everyHeight test h) (test (suc h)) before (rw add-one at next))
-
 -- ---- the finalized height
 module _ (digest : Bytes → Bytes) (book : Bytes) where
   pub final-none : decode book .finalized ≡ 0 → finalRow digest book ≡ true
   unfolding finalRow
   final-none e = rw (eq-eqb (decode book .finalized) 0 e)
-
-  pub final-some : decode book .finalized ≢ 0 → finalRow digest book ≡ isFinalized digest (view (decode book))
-      (decode book .finalized)
-  unfolding finalRow
-  final-some f = rw (ne-eqb (decode book .finalized) 0 f)
-
-  pub final-past : decode book .finalized ≢ 0 → bookHeights book < decode book .finalized → finalRow digest book ≡ false
-  final-past f past = final-some f ∙ not-finalized-past digest (decode book) (decode book .finalized)
-      (rw (last-decode book) past)
 
   -- ---- the three groups
   abbrev every : Bool

@@ -6,6 +6,7 @@ use book_fields::height::holds_proposal;
 use book_fields::height::is_notarized;
 use book_fields::height::notarized;
 use book_fields::height::proposal;
+use book_fields::kind::Kind;
 use memory::SIZE;
 use wire::bytes::byte;
 use wire::bytes::is_zero;
@@ -149,15 +150,7 @@ fn finalized_sound(book: &[u8], known: &mut [u8]) -> bool
     ensures memo { λ _. ⌜ Memo (now (book .entry)) (now (known .exit)) ⌝ }
 {
     let g = book_fields::head::finalized(book);
-    if g == 0 {
-        true
-    } else {
-        if g <= book_fields::head::heights(book) {
-            linking::links::is_finalized(book, g, known)
-        } else {
-            false
-        }
-    }
+    linking::linking::zero_or_finalized(Kind::Replica, book, g, known)
 }
 
 // The same with a memory of its own, which is made only where there is a height to ask for.

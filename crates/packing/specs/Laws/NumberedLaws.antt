@@ -24,7 +24,7 @@ use Rattle.packing.specs.Unpacking.{lastRefusal, Numbered}
 
 -- ---- rows of refusals
 -- the number of every row is one of the documents'
-allNumbered : List Row → Bool
+unfoldable pub allNumbered : List Row → Bool
 allNumbered [] = true
 allNumbered (row ∷ rows) = inRange 1 lastRefusal (row .0) && allNumbered rows
 
@@ -40,14 +40,14 @@ first-numbered (row ∷ rows) e =
     (λ _. first-numbered rows (t .1))
     (λ _ number f. let same : row .0 ≡ number = cc in rw same at (in-range 1 lastRefusal (row .0) (t .0)))
 
-accepted-numbered : {A : Type 0} (x : A) → Numbered (accepted x)
+pub accepted-numbered : {A : Type 0} (x : A) → Numbered (accepted x)
 accepted-numbered x number e = let z : _≡_ {A = ℕ} 0 1 = cc in absurd (omega arith)
 
-refused-numbered : {A : Type 0} (number : ℕ) → (1 ≤ number) × (number ≤ lastRefusal) →
+pub refused-numbered : {A : Type 0} (number : ℕ) → (1 ≤ number) × (number ≤ lastRefusal) →
     Numbered {A = A} (refused number)
 refused-numbered number low other e = let same : number ≡ other = cc in rw same at low
 
-outcome-numbered : {A : Type 0} (rows : List Row) → allNumbered rows ≡ true → (book : Bytes) (o : Outcome A) →
+pub outcome-numbered : {A : Type 0} (rows : List Row) → allNumbered rows ≡ true → (book : Bytes) (o : Outcome A) →
     Numbered (o .answer) → Numbered (unlessRefused (firstRefusal rows) book o .answer)
 outcome-numbered rows all book o ok = go (firstRefusal rows) (first-numbered rows all)
   where

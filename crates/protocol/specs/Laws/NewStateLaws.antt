@@ -55,7 +55,7 @@ zero-join f k e (suc count) =
     let size : k + k * count ≡ k * suc count = omega arith in
     rw (e, zero-join f k e count) (zeros-add k (k * count) ∙ ap zeros size)
 
-eight-zeros : (k : ℕ) → zeros (8 + k) ≡ 0 ∷ 0 ∷ 0 ∷ 0 ∷ 0 ∷ 0 ∷ 0 ∷ 0 ∷ zeros k
+pub eight-zeros : (k : ℕ) → zeros (8 + k) ≡ 0 ∷ 0 ∷ 0 ∷ 0 ∷ 0 ∷ 0 ∷ 0 ∷ 0 ∷ zeros k
 unfolding zeros
 eight-zeros k = sym (zeros-add 8 k)
 

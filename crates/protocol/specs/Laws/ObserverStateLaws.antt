@@ -22,11 +22,11 @@ observed-height : (x : ObservedHeight) → observedHeight (asReplicaHeight x) �
 unfolding observedHeight asReplicaHeight
 observed-height x = refl
 
-observed-heights : (xs : List ObservedHeight) → map observedHeight (map asReplicaHeight xs) ≡ xs
+pub observed-heights : (xs : List ObservedHeight) → map observedHeight (map asReplicaHeight xs) ≡ xs
 observed-heights [] = refl
 observed-heights (x ∷ xs) = ap₂ _∷_ (observed-height x) (observed-heights xs)
 
-abbrev withObservedHeights : Observer → List ObservedHeight → Observer
+abbrev pub withObservedHeights : Observer → List ObservedHeight → Observer
 withObservedHeights o heights =
     record { edition = o .edition; n = o .n; finalized = o .finalized; heights = heights }
 
@@ -56,7 +56,7 @@ module _ (x : Height) (e : ObservingHeight x) where
       subst (λ (y : Height). ObservingHeight (withNotarized y mask block)) e
       (unfold asReplicaHeight in unfold observedHeight in unfold withNotarized in refl)
 
-map-set : {A B : Type 0} (f : A → B) (xs : List A) (i : ℕ) (y : A) → map f (set xs i y) ≡ set (map f xs) i (f y)
+pub map-set : {A B : Type 0} (f : A → B) (xs : List A) (i : ℕ) (y : A) → map f (set xs i y) ≡ set (map f xs) i (f y)
 map-set f [] i y = refl
 map-set f (x ∷ xs) zero y = refl
 map-set {B = B} f (x ∷ xs) (suc i) y = ap (λ (ys : List B). f x ∷ ys) (map-set f xs i y)

@@ -1,6 +1,7 @@
 -- Tests taken apart and put together: rows, heights, ranges, refusals, zero bytes and equal bytes.
-use Prim.Native.Nat.{ℕ, zero, suc, _≤_, _<_}
+use Prim.Native.Nat.{ℕ, zero, suc, _+_, _≤_, _<_}
 use native.Mathlib.Omega.{arith}
+use native.Mathlib.Numerals.{add-one}
 use mathlib.Core.Path.{_≡_, refl, sym, ap₂, _∙_}
 use mathlib.Core.Logic.{_⊎_, inl, inr}
 use mathlib.Core.Bool.{Bool, true, false, _&&_, cond, true≢false, false≢true}
@@ -74,7 +75,22 @@ pub every-height-fails : (test : ℕ → Bool) (last h : ℕ) → 1 ≤ h → h 
 every-height-fails test last h low high f =
     not-passed (everyHeight test last) (λ e. true≢false (sym (every-height-at test last h e low high) ∙ f))
 
+-- one height more
+pub every-more : (test : ℕ → Bool) (h : ℕ) → everyHeight test h ≡ true → test (h + 1) ≡ true →
+    everyHeight test (h + 1) ≡ true
+unfolding everyHeight
+every-more test h before next = rw add-one (true-and (everyHeight test h) (test (suc h)) before (rw add-one at next))
+
 -- ---- implications and ranges
+-- what is tested only where something is held
+pub where-held : (a b : Bool) → a ≡ true → implies a b ≡ b
+unfolding implies
+where-held a b e = rw e
+
+pub where-none : (a b : Bool) → a ≡ false → implies a b ≡ true
+unfolding implies
+where-none a b e = rw e
+
 pub implies-true : (a b : Bool) → implies a b ≡ true → a ≡ true → b ≡ true
 unfolding implies
 implies-true true b e p = e

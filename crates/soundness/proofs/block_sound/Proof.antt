@@ -1,6 +1,6 @@
 -- `block_sound` meets its contract: a block counts only where it is there.
 use mathlib.Core.Path.{sym, _∙_}
-use Rattle.soundness.proofs.SoundTests.{where-held, where-none}
+use Rattle.protocol.specs.Laws.RowLaws.{where-held, where-none}
 use borrow.Author.Needs.{needs}
 use Rattle.soundness.proofs.block_sound.Statement.{statement}
 use Rattle.soundness.proofs.block_sound.Tie as tie

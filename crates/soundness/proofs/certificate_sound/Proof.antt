@@ -4,7 +4,7 @@ use mathlib.Core.Path.{sym, ap, _∙_}
 use Rattle.protocol.specs.State.{decode}
 use Rattle.protocol.specs.View.{quorum}
 use Rattle.protocol.specs.Sound.{view}
-use Rattle.soundness.proofs.SoundTests.{where-held, where-none}
+use Rattle.protocol.specs.Laws.RowLaws.{where-held, where-none}
 use borrow.Author.Needs.{needs}
 use Rattle.soundness.proofs.certificate_sound.Statement.{statement}
 use Rattle.soundness.proofs.certificate_sound.Tie as tie

@@ -4,10 +4,9 @@ use native.Mathlib.Omega.{arith}
 use mathlib.Core.Path.{_≡_, refl, sym, ap, _∙_}
 use mathlib.Core.Bool.{true}
 use Rattle.protocol.specs.Tests.{allOf, everyHeight}
-use Rattle.protocol.specs.Laws.RowLaws.{every-height-fails}
+use Rattle.protocol.specs.Laws.RowLaws.{every-height-fails, every-more}
 use Rattle.protocol.specs.State.{bookHeights}
 use Rattle.soundness.specs.SoundRows.{heightRows}
-use Rattle.soundness.proofs.SoundTests.{every-more}
 use borrow.Author.Needs.{needs}
 use Rattle.soundness.proofs.heights_sound.Statement.{statement}
 use Rattle.soundness.proofs.heights_sound.Tie as tie

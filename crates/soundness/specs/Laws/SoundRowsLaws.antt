@@ -1,24 +1,22 @@
--- The groups of rows make soundness; a sound head can be read; a memory of zeros knows nothing.
+-- The groups of rows make soundness; a sound head can be read; a memory of zeros is one of a book.
 use Prim.Native.Nat.{ℕ, _+_, _*_, _≤_}
-use native.Mathlib.Omega.{arith}
 use mathlib.Core.Path.{_≡_}
 use mathlib.Core.Bool.{Bool, true, _&&_}
 use lib.ListN.{length}
 use lib.Dec.{eqb, leb, ltb}
 use borrow.Author.Tests.{eqb-true}
 use Rattle.protocol.specs.Every.{none, one}
-use Rattle.protocol.specs.Bytes.{Bytes, byteAt, word16, part, zeros, isZero}
+use Rattle.protocol.specs.Bytes.{Bytes, part, zeros, isZero}
 use Rattle.protocol.specs.Tests.{allOf, inRange, everyHeight}
 use Rattle.protocol.specs.Block.{maximumHeights}
 use Rattle.protocol.specs.State.{decode, bookSize, bookHeights, maximumReplicas, maximumPending}
 use Rattle.protocol.specs.Sound.{sound, masksBelow, blocksWellFormed, contentZeros}
 use Rattle.protocol.specs.Laws.TestsLaws.{and-both, both-ways}
 use Rattle.protocol.specs.Laws.RowLaws.{row, by-rows, all-of, true-and, every-height-at, every-height, in-range}
-use Rattle.protocol.specs.Laws.RowLaws.{is-zero-byte, zeros-is-zero}
-use Rattle.protocol.specs.Laws.BytesLaws.{length-zeros}
 use Rattle.book_fields.specs.Laws.BookLaws.{readable as make-readable}
-use Rattle.book_fields.specs.Book.{Readable, heightIn}
+use Rattle.book_fields.specs.Book.{Readable, heightIn, bookView}
 use Rattle.memory.specs.Memo.{Memo, memorySize}
+use Rattle.memory.specs.Laws.FreshLaws.{zero-known}
 use Rattle.soundness.specs.SoundRows.{numberRows, headRows, heightRows, certificateRow, finalRow}
 use Rattle.protocol.specs.Laws.SoundRowNames.{lengthRow, replicasRow, ownRow, heightsRow, editionRow, currentRow}
 use Rattle.protocol.specs.Laws.SoundRowNames.{flagsRow, pendingRow, leadersRow, masksRow, statusRow, blocksRow}
@@ -149,18 +147,4 @@ readable book e =
 
 -- zeros say nothing of any height
 pub zero-memo : (book known : Bytes) → Readable book → known ≡ zeros memorySize → Memo book known
-zero-memo book known readable e = record {
-  room = let size = length-zeros memorySize in let few = readable .heights in rw e (omega arith);
-  each = λ h high. record {
-    is-linked = λ seen. let none-seen = unseen (36 * h) in absurd (omega arith);
-    not-linked = λ seen. let none-seen = unseen (36 * h) in absurd (omega arith);
-    digest = λ seen. let none-seen = unseen (36 * h + 1) in absurd (omega arith);
-    run = λ seen. let none-seen = unseen-word (36 * h + 2) in absurd (omega arith);
-  };
-}
-  where
-    unseen : (k : ℕ) → byteAt known k ≡ 0
-    unseen k = rw e (is-zero-byte (zeros memorySize) k (zeros-is-zero memorySize))
-
-    unseen-word : (k : ℕ) → word16 known k ≡ 0
-    unseen-word k = unfold word16 in let low = unseen k in let high = unseen (k + 1) in omega arith
+zero-memo book known readable e = zero-known (bookHeights book) (bookView book) known (readable .heights) e

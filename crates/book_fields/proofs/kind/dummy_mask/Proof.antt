@@ -1,23 +1,33 @@
--- `dummy_mask` meets its contract.
-use mathlib.Core.Path.{_≡_, ap, _∙_}
+-- `dummy_mask` meets its contract: each arm reads the place of its kind of book.
+use mathlib.Core.Path.{_∙_}
+use native.Mathlib.Omega.{arith}
 use Rattle.protocol.specs.Sound.{view}
-use Rattle.protocol.specs.View.{View}
-use Rattle.book_fields.proofs.Showing.{replica-readable, replica-view}
+use Rattle.book_fields.proofs.Showing.{shown-as, seen-as}
+use borrow.Author.Needs.{needs}
 use Rattle.book_fields.proofs.kind.dummy_mask.Statement.{statement}
 use Rattle.book_fields.proofs.kind.dummy_mask.Tie as tie
 
 dummy-mask-requires : tie.Need-dummy-mask-requires
 dummy-mask-requires c κs =
-    let start = c .before in
-    (replica-readable (start .args .kind) (start .args .book .now) (start .pre .0), start .pre .1)
+    let start = c .before .before .before in
+    (shown-as (start .args .kind) _ (start .args .book .now) (c .enum-told .given .1) (start .pre .0), start .pre .1)
+
+mask-at-requires : tie.Need-mask-at-requires
+mask-at-requires c κs =
+    let start = c .before .before .before in
+    (shown-as (start .args .kind) _ (start .args .book .now) (c .enum-told2 .given .1) (start .pre .0), (start .pre .1, omega arith))
 
 returns : tie.Need-returns
 unfolding view
 returns c =
-    let start = c .before .before in
-    let shown = ap (λ (v : View). v .dummyMask (start .args .h))
-    (replica-view (start .args .kind) (start .args .book .now)) in
-    (c .dummy-mask .ensures .0 ∙ shown, c .dummy-mask .ensures .1)
+    let start = c .before .before .before .before in
+    (c .dummy-mask .ensures .0 ∙ seen-as (start .args .kind) _ (start .args .book .now) (λ v. v .dummyMask (start .args .h)) (c .before .enum-told .given .1), c .dummy-mask .ensures .1)
+
+returns-2 : tie.Need-returns-2
+unfolding view
+returns-2 c =
+    let start = c .before .before .before .before in
+    (c .mask-at .ensures .0 ∙ seen-as (start .args .kind) _ (start .args .book .now) (λ v. v .dummyMask (start .args .h)) (c .before .enum-told2 .given .1), c .mask-at .ensures .1)
 
 pub dummy-mask-spec : {M : Type 1} → statement M
-dummy-mask-spec = tie.close (tie.spec dummy-mask-requires returns)
+dummy-mask-spec = tie.close (tie.spec (λ c. search needs) dummy-mask-requires (λ c. search needs) mask-at-requires returns returns-2)

@@ -1,23 +1,33 @@
--- `finalize_mask` meets its contract.
-use mathlib.Core.Path.{_≡_, ap, _∙_}
+-- `finalize_mask` meets its contract: each arm reads the place of its kind of book.
+use mathlib.Core.Path.{_∙_}
+use native.Mathlib.Omega.{arith}
 use Rattle.protocol.specs.Sound.{view}
-use Rattle.protocol.specs.View.{View}
-use Rattle.book_fields.proofs.Showing.{replica-readable, replica-view}
+use Rattle.book_fields.proofs.Showing.{shown-as, seen-as}
+use borrow.Author.Needs.{needs}
 use Rattle.book_fields.proofs.kind.finalize_mask.Statement.{statement}
 use Rattle.book_fields.proofs.kind.finalize_mask.Tie as tie
 
 finalize-mask-requires : tie.Need-finalize-mask-requires
 finalize-mask-requires c κs =
-    let start = c .before in
-    (replica-readable (start .args .kind) (start .args .book .now) (start .pre .0), start .pre .1)
+    let start = c .before .before .before in
+    (shown-as (start .args .kind) _ (start .args .book .now) (c .enum-told .given .1) (start .pre .0), start .pre .1)
+
+mask-at-requires : tie.Need-mask-at-requires
+mask-at-requires c κs =
+    let start = c .before .before .before in
+    (shown-as (start .args .kind) _ (start .args .book .now) (c .enum-told2 .given .1) (start .pre .0), (start .pre .1, omega arith))
 
 returns : tie.Need-returns
 unfolding view
 returns c =
-    let start = c .before .before in
-    let shown = ap (λ (v : View). v .finalizeMask (start .args .h))
-    (replica-view (start .args .kind) (start .args .book .now)) in
-    (c .finalize-mask .ensures .0 ∙ shown, c .finalize-mask .ensures .1)
+    let start = c .before .before .before .before in
+    (c .finalize-mask .ensures .0 ∙ seen-as (start .args .kind) _ (start .args .book .now) (λ v. v .finalizeMask (start .args .h)) (c .before .enum-told .given .1), c .finalize-mask .ensures .1)
+
+returns-2 : tie.Need-returns-2
+unfolding view
+returns-2 c =
+    let start = c .before .before .before .before in
+    (c .mask-at .ensures .0 ∙ seen-as (start .args .kind) _ (start .args .book .now) (λ v. v .finalizeMask (start .args .h)) (c .before .enum-told2 .given .1), c .mask-at .ensures .1)
 
 pub finalize-mask-spec : {M : Type 1} → statement M
-finalize-mask-spec = tie.close (tie.spec finalize-mask-requires returns)
+finalize-mask-spec = tie.close (tie.spec (λ c. search needs) finalize-mask-requires (λ c. search needs) mask-at-requires returns returns-2)

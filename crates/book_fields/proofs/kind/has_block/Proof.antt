@@ -1,23 +1,32 @@
--- `has_block` meets its contract.
-use mathlib.Core.Path.{_≡_, ap, _∙_}
+-- `has_block` meets its contract: each arm reads the place of its kind of book.
+use mathlib.Core.Path.{_∙_}
 use Rattle.protocol.specs.Sound.{view}
-use Rattle.protocol.specs.View.{View}
-use Rattle.book_fields.proofs.Showing.{replica-readable, replica-view}
+use Rattle.book_fields.proofs.Showing.{shown-as, seen-as}
+use borrow.Author.Needs.{needs}
 use Rattle.book_fields.proofs.kind.has_block.Statement.{statement}
 use Rattle.book_fields.proofs.kind.has_block.Tie as tie
 
 is-notarized-requires : tie.Need-is-notarized-requires
 is-notarized-requires c κs =
-    let start = c .before in
-    (replica-readable (start .args .kind) (start .args .book .now) (start .pre .0), start .pre .1)
+    let start = c .before .before .before in
+    (shown-as (start .args .kind) _ (start .args .book .now) (c .enum-told .given .1) (start .pre .0), start .pre .1)
+
+is-notarized-requires-2 : tie.Need-is-notarized-requires-2
+is-notarized-requires-2 c κs =
+    let start = c .before .before .before in
+    (shown-as (start .args .kind) _ (start .args .book .now) (c .enum-told2 .given .1) (start .pre .0), start .pre .1)
 
 returns : tie.Need-returns
 unfolding view
 returns c =
-    let start = c .before .before in
-    let shown = ap (λ (v : View). v .hasBlock (start .args .h))
-    (replica-view (start .args .kind) (start .args .book .now)) in
-    c .is-notarized .ensures ∙ shown
+    let start = c .before .before .before .before in
+    c .is-notarized .ensures ∙ seen-as (start .args .kind) _ (start .args .book .now) (λ v. v .hasBlock (start .args .h)) (c .before .enum-told .given .1)
+
+returns-2 : tie.Need-returns-2
+unfolding view
+returns-2 c =
+    let start = c .before .before .before .before in
+    c .is-notarized2 .ensures ∙ seen-as (start .args .kind) _ (start .args .book .now) (λ v. v .hasBlock (start .args .h)) (c .before .enum-told2 .given .1)
 
 pub has-block-spec : {M : Type 1} → statement M
-has-block-spec = tie.close (tie.spec is-notarized-requires returns)
+has-block-spec = tie.close (tie.spec (λ c. search needs) is-notarized-requires (λ c. search needs) is-notarized-requires-2 returns returns-2)

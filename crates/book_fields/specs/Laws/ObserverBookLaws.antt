@@ -1,0 +1,47 @@
+-- Which books of observers stand on which rung: those of the right length, and the sound ones.
+use Prim.Native.Nat.{ℕ, _+_, _*_, _≤_}
+use mathlib.Core.Path.{_≡_}
+use mathlib.Core.Bool.{true}
+use lib.ListN.{length}
+use Rattle.protocol.specs.Bytes.{Bytes, AreBytes}
+use Rattle.protocol.specs.Block.{maximumHeights}
+use Rattle.protocol.specs.State.{bookHeights, maximumReplicas}
+use Rattle.protocol.specs.Observer.{asReplica, decodeObserver, observerState}
+use Rattle.protocol.specs.ObserverSound.{observerSound}
+use Rattle.protocol.specs.SoundObserver.{SoundObserver}
+use Rattle.protocol.specs.Laws.ObserverCodecLaws.{count-observed, last-observed}
+use Rattle.protocol.specs.Laws.ObserverFieldLaws.{read-observer-n, read-observer-finalized}
+use Rattle.protocol.specs.Laws.ObserverSoundLaws.{exact-observer, sound-observer, encode-decode-observer}
+use Rattle.protocol.specs.Laws.ObserverSoundLaws.{observer-finalized-in}
+use Rattle.book_fields.specs.Book.{ObserverReadable, SoundObserverBook}
+
+pub observer-readable : (book : Bytes) → length book ≡ 64 + 184 * bookHeights book →
+    observerState book .n ≤ maximumReplicas → bookHeights book ≤ maximumHeights → ObserverReadable book
+observer-readable book size replicas heights = record {
+  sized = record {
+    size = size;
+    count = last-observed book;
+    n-byte = read-observer-n book;
+    finalized-byte = read-observer-finalized book;
+  };
+  replicas = rw (read-observer-n book) replicas;
+  heights = heights;
+}
+
+-- a sound book, as every call is granted
+pub sound-observer-book : (digest : Bytes → Bytes) (book : Bytes) → AreBytes book → observerSound digest book ≡ true →
+    SoundObserverBook digest book
+unfolding asReplica
+sound-observer-book digest book small e =
+    let state : SoundObserver digest (decodeObserver book) = sound-observer digest book e in
+    let count = count-observed book in
+    record {
+      is-sound = e;
+      ready = record {
+        readable = observer-readable book (exact-observer digest book e) (state .n-high)
+            (rw count at (state .last-high));
+        whole = encode-decode-observer digest book e small;
+      };
+      state = state;
+      finalized-high = observer-finalized-in digest book e;
+    }

@@ -1,0 +1,38 @@
+// The log of a sound observer's book, by length and by bytes.
+use book_fields::kind::Kind;
+use book_fields::observed::finalized;
+ghost use mathlib.Core.Path.{_≡_};
+ghost use Prim.Native.Nat.{_≤_};
+ghost use lib.ListN.{length};
+ghost use Rattle.sha256.specs.Digest.{sha256 as sha};
+ghost use Rattle.protocol.specs.State.{maximumEntries};
+ghost use Rattle.protocol.specs.Sound.{log};
+ghost use Rattle.protocol.specs.Observer.{observerState};
+ghost use Rattle.protocol.specs.ObserverCalls.{observerReadPart, observerReadBuffer};
+ghost use Rattle.book_fields.specs.Book.{SoundObserverBook};
+
+// How many entries the log of a sound book has. Reads three bytes of each of its blocks, 63 at most.
+pub fn log_count(book: &[u8]) -> usize
+    requires { ⌜ SoundObserverBook sha (now book) ⌝ }
+    ensures { λ r. ⌜ (r ≡ length (log (observerState (now (book .entry))))) × (r ≤ maximumEntries) ⌝ }
+{
+    let g = finalized(book);
+    chains::chains::chain_entries(Kind::Observer, book, g)
+}
+
+// Copies the log of a sound book to the front of the buffer, if the buffer is long enough, and says how many bytes it
+// wrote.
+pub fn read_sound(book: &[u8], buffer: &mut [u8]) -> usize
+    requires { ⌜ SoundObserverBook sha (now book) ⌝ }
+    ensures length { λ r. ⌜ r ≡ length (observerReadPart sha (now (book .entry)) (now (buffer .entry))) ⌝ }
+    ensures buffer { λ _. ⌜ now (buffer .exit) ≡ observerReadBuffer sha (now (book .entry)) (now (buffer .entry)) ⌝ }
+{
+    let g = finalized(book);
+    let count = log_count(book);
+    if 16 * count <= buffer.len() {
+        chains::chains::copy_chain(Kind::Observer, book, g, count, buffer);
+        16 * count
+    } else {
+        0
+    }
+}

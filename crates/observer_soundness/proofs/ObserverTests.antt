@@ -1,0 +1,126 @@
+-- The tests that the code of an observer's soundness makes are the rows of the definition, group by group.
+use Prim.Native.Nat.{ℕ, _+_, _-_, _*_, _^_, _<_}
+use native.Mathlib.Omega.{arith}
+use mathlib.Core.Path.{_≡_, refl, sym, subst, _∙_}
+use mathlib.Core.Bool.{Bool, true, false, _&&_, _||_, and-true, and-assoc, true≢false}
+use lib.ListN.{length}
+use lib.Pow.{pow-pos}
+use lib.Dec.{eqb, leb}
+use borrow.Author.Tests.{eq-eqb, ne-eqb, lt-ltb}
+use Rattle.protocol.specs.Bytes.{Bytes, byteAt, part, all, isZero}
+use Rattle.protocol.specs.Tests.{allOf, inRange, everyHeight}
+use Rattle.protocol.specs.Block.{blockWellFormed}
+use Rattle.protocol.specs.Mask.{belowBit}
+use Rattle.protocol.specs.State.{Height, at, isNotarized, bookHeights}
+use Rattle.protocol.specs.View.{quorum}
+use Rattle.protocol.specs.Sound.{view, masksBelow}
+use Rattle.protocol.specs.Observer.{asReplica, asReplicaHeight, decodeObserver, observerState, observerBookSize}
+use Rattle.protocol.specs.ObserverSound.{observerSound, replicaHead, observedZero}
+use Rattle.protocol.specs.Laws.RowLaws.{by-rows, where-held, where-none}
+use Rattle.protocol.specs.Laws.PlaceLaws.{suc-pred}
+use Rattle.protocol.specs.Laws.ObserverCodecLaws.{at-observed}
+use Rattle.book_fields.specs.Book.{Within, observedIn}
+use Rattle.observer_soundness.specs.ObserverRows.{numberRows, headRows, heightRows, blockRow, certificateRow}
+use Rattle.observer_soundness.specs.ObserverRows.{bookRows, finalRow}
+use Rattle.observer_soundness.specs.Laws.ObserverRowsLaws.{observer-sound-is}
+
+-- ---- the head
+module _ (book : Bytes) where
+  pub numbers-are :
+      ((leb 1 (byteAt book 0) && leb (byteAt book 0) 16) &&
+      ((leb 1 (bookHeights book) && leb (bookHeights book) 63) && eqb (byteAt book 7) 1)) ≡ allOf (numberRows book)
+  unfolding numberRows asReplica decodeObserver inRange allOf
+  numbers-are = simp and-true
+
+  pub replica-are :
+      (eqb (byteAt book 1) 0 && (eqb (byteAt book 3) 0 && (eqb (byteAt book 4) 0 && eqb (byteAt book 6) 0))) ≡
+      isZero (replicaHead book)
+  unfolding replicaHead isZero all
+  replica-are = simp and-true
+
+  pub head-are : (eqb (length book) (64 + 184 * bookHeights book) &&
+      (allOf (numberRows book) && (isZero (replicaHead book) && isZero (part book 8 56)))) ≡ allOf (headRows book)
+  unfolding headRows observerBookSize allOf
+  head-are = simp and-true
+
+  pub head-short : length book < 64 → allOf (headRows book) ≡ false
+  unfolding headRows observerBookSize allOf
+  head-short short = rw (ne-eqb (length book) (64 + 184 * bookHeights book) (λ e. omega arith))
+
+-- ---- one height
+-- an observer keeps no voters
+no-voters : (book : Bytes) (h : ℕ) → Within book h → observedIn book h .voterMask ≡ 0
+unfolding asReplicaHeight
+no-voters book h within =
+    subst (λ (j : ℕ). at (observerState book) j .voterMask ≡ 0) (suc-pred h (within .low))
+    (rw (at-observed book (h - 1) (omega arith)))
+
+pub masks-are : (book : Bytes) (h n : ℕ) → Within book h →
+    (belowBit n (observedIn book h .certificateMask) &&
+    (belowBit n (observedIn book h .dummyMask) && belowBit n (observedIn book h .finalizeMask))) ≡
+    masksBelow n (observedIn book h)
+unfolding masksBelow allOf
+masks-are book h n within = rw (no-voters book h within, none-below) (simp and-true)
+  where
+    none-below : belowBit n 0 ≡ true
+    none-below = unfold belowBit in lt-ltb 0 (2 ^ n) (pow-pos n)
+
+module _ (book : Bytes) (h : ℕ) where
+  abbrev x : Height
+  x = observedIn book h
+
+  pub block-held : isNotarized x ≡ true →
+      (blockWellFormed h (x .notarized) && quorum (view (observerState book)) (x .certificateMask)) ≡
+      (blockRow book h && certificateRow book h)
+  unfolding blockRow certificateRow
+  block-held e = rw (
+    where-held (isNotarized x) (blockWellFormed h (x .notarized)) e,
+    where-held (isNotarized x) (quorum (view (observerState book)) (x .certificateMask)) e,
+  )
+
+  pub block-none : isNotarized x ≡ false → (blockRow book h && certificateRow book h) ≡ true
+  unfolding blockRow certificateRow
+  block-none e = rw (
+    where-none (isNotarized x) (blockWellFormed h (x .notarized)) e,
+    where-none (isNotarized x) (quorum (view (observerState book)) (x .certificateMask)) e,
+  )
+
+  pub height-are : (from : ℕ) → from ≡ 64 + 8 * (h - 1) →
+      (masksBelow (observerState book .n) x &&
+      ((eqb (x .status) 0 || eqb (x .status) 2) &&
+      ((blockRow book h && certificateRow book h) && eqb (byteAt book (from + 1)) 0))) ≡ allOf (heightRows book h)
+  unfolding heightRows allOf observedZero
+  height-are from place = rw place (simp (and-true, and-assoc))
+
+-- ---- the finalized height
+module _ (digest : Bytes → Bytes) (book : Bytes) where
+  pub final-none : observerState book .finalized ≡ 0 → finalRow digest book ≡ true
+  unfolding finalRow
+  final-none e = rw (eq-eqb (observerState book .finalized) 0 e)
+
+  -- ---- the three groups
+  abbrev every : Bool
+  every = everyHeight (λ h. allOf (heightRows book h)) (bookHeights book)
+
+  pub rows-by-heights : allOf (headRows book) ≡ true → every ≡ allOf (bookRows book)
+  unfolding bookRows allOf
+  rows-by-heights head = rw head (sym (and-true every))
+
+  pub rows-not-head : allOf (headRows book) ≡ false → false ≡ allOf (bookRows book)
+  unfolding bookRows allOf
+  rows-not-head head = rw head
+
+  pub sound-final : allOf (bookRows book) ≡ true → finalRow digest book ≡ observerSound digest book
+  unfolding bookRows
+  sound-final rows =
+      by-rows _ rows λ head heights. sym (observer-sound-is digest book ∙ rw (head, heights))
+
+  pub not-sound-rows : allOf (bookRows book) ≡ false → false ≡ observerSound digest book
+  unfolding bookRows allOf
+  not-sound-rows rows =
+      sym (observer-sound-is digest book ∙ neither (allOf (headRows book)) every (finalRow digest book) rows)
+    where
+      neither : (a b c : Bool) → (a && (b && true)) ≡ false → (a && (b && c)) ≡ false
+      neither true true c e = absurd (true≢false e)
+      neither true false c e = refl
+      neither false b c e = refl
