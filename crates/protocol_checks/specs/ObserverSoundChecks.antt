@@ -126,17 +126,17 @@ content-places = refl
 filled : ℕ → Bytes
 filled status = splice 72 (observedContent status 14 7 0) (splice 264 (firstBlock 2 9) season)
 
--- of a notarized block on no parent the count and the entries up to it; on a parent its height and digest too
-block-places : freePlaces observes (filled 2)
-    (counting 88 16 ++ (104 ∷ 135 ∷ 136 ∷ 151 ∷ 152 ∷ 263 ∷ (counting 264 5 ++ (327 ∷ 328 ∷ (counting 440 16 ++
-    (456 ∷ 487 ∷ 488 ∷ 519 ∷ 520 ∷ 615 ∷ [])))))) ≡
-    92 ∷ 136 ∷ 151 ∷ 266 ∷ 268 ∷ 327 ∷ 442 ∷ 444 ∷ 456 ∷ 487 ∷ 488 ∷ 519 ∷ []
+-- of a notarized block on no parent the count and the entries up to it, and from height 2 on the parent's height; of
+-- one on a parent the digest too
+block-places : freePlaces observes (filled 2) (counting 88 528) ≡
+    92 ∷
+    (counting 136 16 ++ (266 ∷ 268 ∷ (counting 312 16 ++ (442 ∷ 444 ∷ counting 456 64))))
 unfolding observerTools filled
 block-places = refl
 
--- where the log ends at height 3 its block's parent counts too, and all of the parent's bytes
-linked-places : freePlaces observes (seasonTo 3)
-    (92 ∷ 136 ∷ 151 ∷ 442 ∷ 444 ∷ 456 ∷ 487 ∷ 488 ∷ 519 ∷ []) ≡ 444 ∷ 488 ∷ 519 ∷ []
+-- where the log ends at height 3 its block's parent counts too, and all of the parent's bytes; the place of the block
+-- that is not there is free
+linked-places : freePlaces observes (seasonTo 3) (counting 88 528) ≡ counting 264 176 ++ (444 ∷ counting 488 32)
 unfolding observerTools
 linked-places = refl
 
