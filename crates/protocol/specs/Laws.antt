@@ -11,6 +11,7 @@ pub mod FlagLaws
 pub mod MoveLaws
 pub mod DeliverLaws
 pub mod ObserverDeliverLaws
+pub mod ObserverAfterLaws
 pub mod PacketLaws
 pub mod FetchLaws
 pub mod TestedLaws

@@ -7,20 +7,16 @@ use mathlib.Core.Option.{Option, some, none}
 use lib.Seq.{append-snoc}
 use lib.Dec.{eqb}
 use borrow.Author.Tests.{eqb-true}
-use Rattle.protocol.specs.Answer.{Outcome, isAccepted, unlessRefused}
+use Rattle.protocol.specs.Answer.{Delivery, Outcome, isAccepted, unlessRefused}
 use Rattle.protocol.specs.Bytes.{Bytes}
-use Rattle.protocol.specs.Deliver.{clashRows, keep, readRows}
-use Rattle.protocol.specs.Laws.DeliverLaws.{rows-read}
+use Rattle.protocol.specs.Laws.ObserverDeliverLaws.{observer-deliver-cases}
 use Rattle.protocol.specs.Laws.ObserverOpensLaws.{observer-opens-nothing, only-observer-opening}
-use Rattle.protocol.specs.Laws.RowLaws.{row-passes, split-rows}
 use Rattle.protocol.specs.Observer.{observerState}
 use Rattle.protocol.specs.ObserverCall.{ObserverCall, observation, observerDelivery, observerMoving, observerOpening}
 use Rattle.protocol.specs.ObserverCall.{observerReading, observerSizing}
-use Rattle.protocol.specs.ObserverCalls.{observerDeliverCall, observerDeliverRows, observerKept, observerMoveCall}
+use Rattle.protocol.specs.ObserverCalls.{observerDeliverCall, observerMoveCall}
 use Rattle.protocol.specs.ObserverCalls.{observerMoveRows, observerMoved}
-use Rattle.protocol.specs.ObserverSound.{observerSound}
-use Rattle.protocol.specs.ReadFrame.{ReadFrame}
-use Rattle.protocol.specs.State.{Height, State, at}
+use Rattle.protocol.specs.State.{State, at}
 use Rattle.protocol.specs.Tests.{firstRefusal}
 use Rattle.agreement.specs.Laws.ObserverListsLaws.{observer-left-snoc, observers-append}
 use Rattle.agreement.specs.Laws.ObserverRunLaws.{Followed, FollowedBytes, bytes-more, changed-followed}
@@ -30,18 +26,6 @@ use Rattle.agreement.specs.Lists.{orElse}
 use Rattle.agreement.specs.ObserverLists.{AnyMember, Meant, NoneForged, ObserverFollows, ObserverKeepsOneBook}
 use Rattle.agreement.specs.ObserverLists.{ObserverMember, anyDelivers, observerCalls, observerLastLeft}
 use Rattle.agreement.specs.ObserverLists.{observerLeftBy, observes, ofObserver, ofReplica}
-
--- what the proof of agreement takes from the rows of a delivery (ObserverDeliverLaws has all of them)
-delivery-facts : (digest : Bytes → Bytes) (book frame : Bytes) →
-    firstRefusal (observerDeliverRows digest book frame) ≡ none →
-    (observerSound digest book ≡ true) × ReadFrame (observerState book) frame
-unfolding observerDeliverRows
-delivery-facts digest book frame e =
-    let (is-sound, formed) = row-passes _ _ e in
-    let (passes, certificate) = row-passes _ _ formed in
-    let (carries, rest) = row-passes _ _ certificate in
-    let (reads, clash) = split-rows (readRows (observerState book) frame) (clashRows (observerState book) frame) rest in
-    (is-sound, rows-read (observerState book) frame reads)
 
 -- a call that is refused by its rows leaves the book
 refused-or : {A : Type 0} (Q : Bytes → Type 0) (refusal : Option ℕ) (book : Bytes) (outcome : Outcome A) → Q book →
@@ -71,25 +55,19 @@ module _ (digest : Bytes → Bytes) (n : ℕ) (books names observers : ℕ → T
         observes digest m .delivers ≡
         cond (isAccepted (observerDeliverCall digest book frame .answer)) (frame ∷ []) [] →
         FollowedIn P′ (observerState (observerDeliverCall digest book frame .book))
-    unfolding observerDeliverCall unlessRefused observerKept isAccepted NoneForged Meant anyDelivers
+    unfolding isAccepted NoneForged Meant anyDelivers
     delivery-followed book frame f =
-        go (firstRefusal (observerDeliverRows digest book frame)) refl (keep digest (observerState book) frame) refl
-      where
-        go : (refusal : Option ℕ) → firstRefusal (observerDeliverRows digest book frame) ≡ refusal →
-            (o : Option Height) → keep digest (observerState book) frame ≡ o →
-            observes digest m .delivers ≡
-            cond (isAccepted (unlessRefused refusal book (observerKept book frame o) .answer)) (frame ∷ []) [] →
-            FollowedIn P′ (observerState (unlessRefused refusal book (observerKept book frame o) .book))
-        go (some number) e o k d = still book f
-        go none e none k d = still book f
-        go none e (some new) k d =
-            let (is-sound, read) = delivery-facts digest book frame e in
-            let delivered : List·Memᴰ frame (observes digest m .delivers) = rw d (List·Memᴰ·head refl) in
-            observed-followed digest n books names observers P′ _
-            (changed-followed digest n books names observers P′ m among ours book frame (still book f) delivered
-            (λ t st says. states-more digest n books names observers P (ofObserver m ∷ []) t st
-            (λ named. unforged P (ofObserver m) after frame t st here ours named delivered says))
-            is-sound read new k)
+        observer-deliver-cases digest book frame (λ (o : Outcome Delivery).
+        observes digest m .delivers ≡ cond (isAccepted (o .answer)) (frame ∷ []) [] →
+        FollowedIn P′ (observerState (o .book)))
+        (λ _ _ _. still book f) (λ _ _ _. still book f)
+        (λ new accepts k d.
+        let delivered : List·Memᴰ frame (observes digest m .delivers) = rw d (List·Memᴰ·head refl) in
+        observed-followed digest n books names observers P′ _
+        (changed-followed digest n books names observers P′ m among ours book frame (still book f) delivered
+        (λ t st says. states-more digest n books names observers P (ofObserver m ∷ []) t st
+        (λ named. unforged P (ofObserver m) after frame t st here ours named delivered says))
+        (accepts .was-sound) (accepts .read) new k))
 
     move-left : (book : Bytes) → FollowedIn P (observerState book) →
         FollowedIn P′ (observerState (observerMoveCall digest book .book))

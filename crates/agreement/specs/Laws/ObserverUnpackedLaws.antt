@@ -1,7 +1,7 @@
 -- Demand 3 with observers holds where all that is granted is asked of the deliveries alone, and not of packets.
 use mathlib.Core.Path.{_≡_, refl, subst}
 use mathlib.Core.Logic.{_⊎_, inl, inr}
-use mathlib.Core.List.{List, [], _∷_, _++_, map, append-nil, List·Memᴰ, List·Memᴰ·head, List·Memᴰ·tail}
+use mathlib.Core.List.{List, [], _∷_, map, append-nil, List·Memᴰ, List·Memᴰ·head, List·Memᴰ·tail}
 use mathlib.Core.List.{List·Memᴰ·not-nil, List·Memᴰ·cases-cons, Memᴰ·map, Memᴰ·append-left, Memᴰ·append-right}
 use Rattle.protocol.specs.Bytes.{Bytes}
 use Rattle.agreement.specs.Lists.{Member, Reads}

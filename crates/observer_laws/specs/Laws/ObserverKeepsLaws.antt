@@ -17,7 +17,8 @@ use Rattle.protocol.specs.ObserverSound.{observerSound}
 use Rattle.protocol.specs.ObserverCalls.{observerDeliverCall}
 use Rattle.protocol.specs.Laws.ObserverCodecLaws.{last-observed}
 use Rattle.protocol.specs.Laws.ObserverSoundLaws.{exact-observer}
-use Rattle.protocol.specs.Laws.ObserverDeliverLaws.{ObserverAccepts, observer-deliver-cases, observer-delivered}
+use Rattle.protocol.specs.Laws.ObserverDeliverLaws.{ObserverAccepts, observer-deliver-cases}
+use Rattle.protocol.specs.Laws.ObserverAfterLaws.{observer-delivered}
 use Rattle.call_laws.specs.KeptBytes.{SameOutside}
 use Rattle.call_laws.specs.Laws.KeepingLaws.{differ, known≢fresh}
 use Rattle.call_laws.specs.Laws.KeepsKindLaws.{left}

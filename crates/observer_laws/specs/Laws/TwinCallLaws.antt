@@ -32,7 +32,8 @@ use Rattle.protocol.specs.Laws.MoveLaws.{SameBody, step-body}
 use Rattle.protocol.specs.Laws.TestedLaws.{signal-tested, submit-tested}
 use Rattle.protocol.specs.Laws.ObserverStateLaws.{decode-encode-observer, as-shaped}
 use Rattle.protocol.specs.Laws.ObserverSoundLaws.{sound-observer}
-use Rattle.protocol.specs.Laws.ObserverDeliverLaws.{observer-move-cases, observer-output}
+use Rattle.protocol.specs.Laws.ObserverDeliverLaws.{observer-move-cases}
+use Rattle.protocol.specs.Laws.ObserverAfterLaws.{observer-output}
 use Rattle.call_laws.specs.Laws.MoveSoundLaws.{step-sound, timer-sound}
 use Rattle.call_laws.specs.Laws.SubmitSoundLaws.{submit-sound}
 use Rattle.call_laws.specs.Laws.SoundStaysLaws.{unless-refused, deliver-stays}

@@ -20,7 +20,8 @@ use Rattle.protocol.specs.Laws.RowLaws.{split-rows}
 use Rattle.protocol.specs.Laws.StateLaws.{decode-encode}
 use Rattle.protocol.specs.Laws.SoundLaws.{sound-decode}
 use Rattle.protocol.specs.Laws.DeliverLaws.{no-proposal, heard-single, rows-read}
-use Rattle.protocol.specs.Laws.ObserverDeliverLaws.{observer-accepts, observer-delivered}
+use Rattle.protocol.specs.Laws.ObserverDeliverLaws.{observer-accepts}
+use Rattle.protocol.specs.Laws.ObserverAfterLaws.{observer-delivered}
 use Rattle.call_laws.specs.Laws.DeliverSoundLaws.{keep-sound}
 use Rattle.observer_laws.specs.Twins.{IsCertificate}
 use Rattle.observer_laws.specs.Laws.AlikeLaws.{Alike}

@@ -36,7 +36,8 @@ use Rattle.protocol.specs.Laws.NewStateLaws.{new-shaped}
 use Rattle.protocol.specs.Laws.TestedLaws.{open-tested, open-ranges}
 use Rattle.protocol.specs.Laws.ObserverStateLaws.{observed-as, decode-encode-observer}
 use Rattle.protocol.specs.Laws.ObserverSoundLaws.{sound-observer}
-use Rattle.protocol.specs.Laws.ObserverDeliverLaws.{observer-move-cases, observer-output}
+use Rattle.protocol.specs.Laws.ObserverDeliverLaws.{observer-move-cases}
+use Rattle.protocol.specs.Laws.ObserverAfterLaws.{observer-output}
 use Rattle.call_laws.specs.Laws.SoundStays.{sound-stays-all, sound-opened}
 use Rattle.call_laws.specs.Laws.RefusalsLaws.{refused≢accepted}
 use Rattle.observer_laws.specs.Twins.{Histories, opens, observerOpens, bookOf, observerBookOf, SameCertificates}
