@@ -30,6 +30,29 @@ fn read(book: &[u8], buffer: &mut [u8]) {
     answered::part(part.len());
 }
 
+fn observer_open(line: &[u8], book: &mut [u8]) {
+    let n = number(line, 2);
+    let heights = number(line, 3);
+    answered::done(observer::open::open(book, n, heights));
+}
+
+fn observer_read(book: &[u8], buffer: &mut [u8]) {
+    let part = observer::read::read(book, buffer);
+    answered::part(part.len());
+}
+
+// The call of an observer's line.
+fn observer_answer(line: &[u8], book: &mut [u8], lent: &mut [u8]) {
+    match named(line) {
+        Call::ObserverOpen => observer_open(line, book),
+        Call::ObserverDeliver => answered::delivered(observer::deliver::deliver(book, lent)),
+        Call::ObserverMove => answered::moved(observer::make_move::make_move(book)),
+        Call::ObserverSize => answered::size(observer::read::size(book)),
+        Call::ObserverRead => observer_read(book, lent),
+        _ => {}
+    }
+}
+
 // The call of a line, on its book and on what else it is lent: the bytes that it has, or a second buffer.
 fn answer(line: &[u8], book: &mut [u8], lent: &mut [u8]) {
     match named(line) {
@@ -47,7 +70,7 @@ fn answer(line: &[u8], book: &mut [u8], lent: &mut [u8]) {
             number(line, 3),
             lent,
         )),
-        _ => {}
+        _ => observer_answer(line, book, lent),
     }
 }
 

@@ -6,6 +6,8 @@ use crate::literal::literal;
 use crate::words::is_number;
 use crate::words::name;
 use crate::words::word;
+ghost use Prim.Native.Nat.{_≤_};
+ghost use lib.ListN.{length};
 
 pub enum Call {
     Give,
@@ -18,12 +20,17 @@ pub enum Call {
     Size,
     Read,
     Fetch,
+    ObserverOpen,
+    ObserverDeliver,
+    ObserverMove,
+    ObserverSize,
+    ObserverRead,
     Unknown,
 }
 
-// The call of a line, by its name, whose letters are the bytes of the number (`words::name`).
-pub fn named(line: &[u8]) -> Call {
-    match name(word(line, 0)) {
+// The call of a replica, by its name, whose letters are the bytes of the number (`words::name`).
+fn replica_call(word: &[u8]) -> Call {
+    match name(word) {
         // give, open, deliver
         0x6769_7665 => Call::Give,
         0x6f70_656e => Call::Open,
@@ -41,16 +48,48 @@ pub fn named(line: &[u8]) -> Call {
     }
 }
 
+// The call of an observer, by what stands behind `observer-`.
+fn observer_call(word: &[u8]) -> Call {
+    match name(word) {
+        // open, deliver, move, size, read
+        0x6f70_656e => Call::ObserverOpen,
+        0x64_656c_6976_6572 => Call::ObserverDeliver,
+        0x6d6f_7665 => Call::ObserverMove,
+        0x7369_7a65 => Call::ObserverSize,
+        0x7265_6164 => Call::ObserverRead,
+        _ => Call::Unknown,
+    }
+}
+
+// Whether a word begins with `observer-`.
+fn is_observer(word: &[u8]) -> bool
+    requires { ⌜ 9 ≤ length (now word) ⌝ }
+{
+    name(&word[0..8]) == 0x6f62_7365_7276_6572 && word[8] == b'-'
+}
+
+// The call of a line, by its name.
+pub fn named(line: &[u8]) -> Call {
+    let first = word(line, 0);
+    if 9 <= first.len() {
+        if is_observer(first) {
+            return observer_call(&first[9..first.len()]);
+        }
+    }
+    replica_call(first)
+}
+
 // The words behind the name, a digit each, from the last digit on: 1 a buffer, 2 a number, 3 bytes. What a call is lent
 // besides its book is the last word.
 fn shape(call: Call) -> usize {
     match call {
         Call::Open => 32221,
-        Call::Give | Call::Deliver | Call::Packet | Call::Submit => 31,
-        Call::Move | Call::Read => 11,
+        Call::Give | Call::Deliver | Call::Packet | Call::Submit | Call::ObserverDeliver => 31,
+        Call::Move | Call::Read | Call::ObserverRead => 11,
         Call::Signal => 21,
-        Call::Size => 1,
+        Call::Size | Call::ObserverMove | Call::ObserverSize => 1,
         Call::Fetch => 1221,
+        Call::ObserverOpen => 221,
         Call::Unknown => 0,
     }
 }
@@ -59,7 +98,7 @@ fn shape(call: Call) -> usize {
 pub fn kept(line: &[u8]) -> usize {
     match named(line) {
         Call::Give => 1,
-        Call::Move | Call::Read => 2,
+        Call::Move | Call::Read | Call::ObserverRead => 2,
         Call::Fetch => 4,
         _ => 0,
     }
