@@ -10,7 +10,13 @@ pub mod CallingLaws
 pub mod OpeningLaws
 pub mod FetchingLaws
 pub mod ReplicaLaws
+pub mod ObserverListsLaws
+pub mod ObserverGrantsLaws
+pub mod ObserverRunLaws
+pub mod ObserverBookLaws
 pub mod ChainsLaws
+pub mod ViewsLaws
+pub mod WithoutObserversLaws
 pub mod AgreementLaws
 pub mod MetLaws
 pub mod ListTestsLaws
@@ -21,7 +27,12 @@ pub mod UnpackedLaws
 pub mod UnpackedBooksLaws
 pub mod UnpackedGrantsLaws
 pub mod UnpacksLaws
+pub mod ObserverUnpackedLaws
 pub mod OneBookLaws
 pub mod TurnsLaws
 pub mod WitnessLaws
 pub mod AnyDigestLaws
+pub mod ObserverMetLaws
+pub mod EchoLaws
+pub mod ObserverListTestsLaws
+pub mod ObserverWitnessLaws

@@ -15,6 +15,8 @@
 -- - Read, every byte: `Read.readBuffer sha256`; `read::read_into`
 -- - Fetch: `Fetch.fetchCall sha256`; `fetch::fetch`
 --
+-- Those of observers are on the page `ObserverDemands`.
+--
 -- What these definitions say follows, demand by demand. A premise `AreBytes book` says that each number of the book is
 -- below 256, as in a byte slice.
 use Prim.Native.Nat.{ℕ, _*_, _≤_}
@@ -43,10 +45,15 @@ use Rattle.protocol.specs.Read.{sizeCall, readPart, readBuffer}
 use Rattle.protocol.specs.Fetch.{fetchRows, fetchCall}
 use Rattle.protocol.specs.Call.{Call, delivery, bookAfter, bookAfterAll}
 use Rattle.agreement.specs.Lists.{Agreement, Member}
-use Rattle.agreement.specs.Laws.AgreementLaws.{agreement}
+use Rattle.agreement.specs.ObserverLists.{AnyMember, ObservedAgreement}
+use Rattle.agreement.specs.Laws.AgreementLaws.{agreement, observed-agreement}
 use Rattle.agreement.specs.AnyDigest.{AnyDigest}
 use Rattle.agreement.specs.Laws.AnyDigestLaws.{any-digest}
 use Rattle.agreement.specs.Turns.{nextBlock}
+use Rattle.agreement.specs.ObserverWitness.{ObserverWitness}
+use Rattle.agreement.specs.Laws.ObserverWitnessLaws.{observer-witness}
+use Rattle.agreement.specs.ObserverUnpacked.{ObservedAgreementOn, allUnpacked}
+use Rattle.agreement.specs.Laws.ObserverUnpackedLaws.{observed-deliveries-alone}
 use Rattle.agreement.specs.Unpacked.{AgreementOn, Unpacks, unpacked}
 use Rattle.agreement.specs.Laws.UnpacksLaws.{deliveries-alone, unpacks}
 use Rattle.call_laws.specs.Refusals.{Refuses}
@@ -246,7 +253,15 @@ pub fetches-are-read : (book : Bytes) (k h : ℕ) (reply other : Bytes) → Same
     FetchWritten sha256 book k h reply other
 fetches-are-read = fetch-written-read sha256
 
--- ---- demand 3: of two logs read in any list of calls from honest replicas one is a beginning of the other
+-- ---- demand 3: of two logs read in any list of calls from observers and honest replicas one is a beginning of the other
+pub no-fork-with-observers : ObservedAgreement sha256
+no-fork-with-observers = observed-agreement sha256
+
+-- .. and a list of calls with a dishonest replica meets every premise of it, with two observers that read an entry
+pub no-fork-with-observers-is-met : ObserverWitness sha256
+no-fork-with-observers-is-met = observer-witness sha256 (sha256-length nextBlock)
+
+-- the same of honest replicas alone, which follows from it
 pub no-fork : Agreement sha256
 no-fork = agreement sha256
 
@@ -262,3 +277,8 @@ packets-are-deliveries = unpacks sha256
 -- .. and no fork follows from what is granted of the deliveries alone
 pub no-fork-by-deliveries : (list : List Member) → AgreementOn sha256 (unpacked sha256 list) list
 no-fork-by-deliveries list = deliveries-alone sha256 list (agreement sha256)
+
+-- .. so too with observers
+pub no-fork-with-observers-by-deliveries : (list : List AnyMember) →
+    ObservedAgreementOn sha256 (allUnpacked sha256 list) list
+no-fork-with-observers-by-deliveries = observed-deliveries-alone sha256 (observed-agreement sha256)

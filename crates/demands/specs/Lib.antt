@@ -1,2 +1,3 @@
--- The three demands on one page.
+-- The three demands on one page, and those on observers on a second one.
 pub mod Demands
+pub mod ObserverDemands

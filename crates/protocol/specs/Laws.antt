@@ -5,11 +5,13 @@ pub mod MaskLaws
 pub mod StateLaws
 pub mod ObserverStateLaws
 pub mod ObserverCodecLaws
+pub mod ObserverOpensLaws
 pub mod QuorumLaws
 pub mod FlagLaws
 pub mod MoveLaws
 pub mod DeliverLaws
 pub mod ObserverDeliverLaws
+pub mod ObserverAfterLaws
 pub mod PacketLaws
 pub mod FetchLaws
 pub mod TestedLaws

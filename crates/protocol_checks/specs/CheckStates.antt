@@ -3,6 +3,7 @@ use Prim.Native.Nat.{ℕ, zero, suc, _%_}
 use mathlib.Core.Bool.{Bool, cond}
 use mathlib.Core.List.{List, [], _∷_, _++_}
 use lib.ListN.{replicate}
+use lib.Dec.{eqb}
 use Rattle.protocol.specs.Bytes.{Bytes}
 use Rattle.protocol.specs.State.{State, Height}
 use Rattle.protocol.specs.View.{View}
@@ -44,6 +45,15 @@ passing test [] = []
 passing test (x ∷ xs) =
     let rest : List ℕ = passing test xs in
     cond (test x) (x ∷ rest) rest
+
+-- the bytes of a second string that differ from the first one's, from a place on: place, byte, place, byte ..
+unfoldable pub differences : ℕ → Bytes → Bytes → List ℕ
+differences place [] [] = []
+differences place [] (y ∷ ys) = place ∷ y ∷ differences (suc place) [] ys
+differences place (x ∷ xs) [] = place ∷ 256 ∷ []
+differences place (x ∷ xs) (y ∷ ys) =
+    let rest : List ℕ = differences (suc place) xs ys in
+    cond (eqb x y) rest (place ∷ y ∷ rest)
 
 -- ---- heights and states
 -- a height with its leader, state, four masks, held proposal, notarized block and vote digests
@@ -105,6 +115,6 @@ unfoldable pub ofSixteen : Height → State
 ofSixteen x = state 16 0 0 2 0 0 [] (x ∷ [])
 
 unfoldable pub stateTools : Unit {0}
-unfolding tools entry counting entriesFrom raised freePlaces passing height vacant dummied notarizedBy7 finalizedBy
-    holding state viewOf ofFour ofSixteen
+unfolding tools entry counting entriesFrom raised freePlaces passing differences height vacant dummied notarizedBy7
+    finalizedBy holding state viewOf ofFour ofSixteen
 stateTools = tt

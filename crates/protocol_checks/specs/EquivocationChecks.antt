@@ -1,11 +1,10 @@
 -- A leader who equivocates (document 02, 2.2; footnote 10 of 004): its second proposal at the current height fires the
 -- timer and changes nothing else. Each condition where it alone decides, the book's bytes afterwards, and the moves.
-use Prim.Native.Nat.{ℕ, suc}
+use Prim.Native.Nat.{ℕ}
 use mathlib.Core.Path.{_≡_, refl}
-use mathlib.Core.Bool.{true, false, cond}
+use mathlib.Core.Bool.{true, false}
 use mathlib.Core.List.{List, [], _∷_, _++_, map}
 use lib.ListN.{replicate, take}
-use lib.Dec.{eqb}
 use Rattle.protocol.specs.Bytes.{Bytes, zeros, join}
 use Rattle.protocol.specs.Frame.{proposal, blockVote, dummyVote, finalize, blockCertificate, dummyCertificate}
 use Rattle.protocol.specs.Frame.{finalizeCertificate}
@@ -13,7 +12,7 @@ use Rattle.protocol.specs.State.{decode}
 use Rattle.protocol.specs.Deliver.{leaderEquivocates}
 use Rattle.protocol.specs.Call.{opening, delivery, packetDelivery, moving, signalling, effect}
 use Rattle.protocol_checks.specs.CheckCalls.{standIn, Result, perform, answers, splice, expect, disagreement}
-use Rattle.protocol_checks.specs.CheckStates.{entry, counting, stateTools}
+use Rattle.protocol_checks.specs.CheckStates.{entry, counting, differences, stateTools}
 
 -- ---- blocks and books, byte by byte
 -- the block of a height on no parent, with the entry of a number: 1 the leader's first, 2 its second, 3 its third
@@ -43,15 +42,6 @@ proposals : ℕ → List Bytes
 proposals number =
     proposal 1 1 (block 1 number) ∷ proposal 0 2 (block 2 number) ∷ proposal 3 3 (block 3 number) ∷ []
 
--- the bytes of a second string that differ from the first one's, from a place on: place, byte, place, byte ..
-differences : ℕ → Bytes → Bytes → List ℕ
-differences place [] [] = []
-differences place [] (y ∷ ys) = place ∷ y ∷ differences (suc place) [] ys
-differences place (x ∷ xs) [] = place ∷ 256 ∷ []
-differences place (x ∷ xs) (y ∷ ys) =
-    let rest : List ℕ = differences (suc place) xs ys in
-    cond (eqb x y) rest (place ∷ y ∷ rest)
-
 -- A delivery to a book: the refusal's number; or 0 0 (known) or 0 1 (fresh), and then each byte that it changed with
 -- its place. So 0 1 3 1 is fresh, and byte 3, the flags, has become 1 and no other byte anything else.
 outcome : Bytes → Bytes → List ℕ
@@ -67,7 +57,7 @@ movesAfter : Bytes → Bytes → List (List ℕ)
 movesAfter book frame = answers book (delivery frame ∷ replicate 3 (moving (zeros 448)))
 
 unfoldable equivocations : Unit {0}
-unfolding stateTools block content bookWith book proposals differences outcome outcomes movesAfter
+unfolding stateTools block content bookWith book proposals outcome outcomes movesAfter
 equivocations = tt
 
 -- ---- the height: only the current one, of 1 to H; 8 below it, above it, and everywhere once the season is full

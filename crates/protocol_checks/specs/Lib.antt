@@ -1,6 +1,7 @@
 -- The definitions of the protocol computed on document 01's numbers.
 pub mod CheckCalls
 pub mod CheckStates
+pub mod CheckObservers
 pub mod Checks
 pub mod RunChecks
 pub mod ReferenceChecks
@@ -18,3 +19,7 @@ pub mod MoveChecks
 pub mod MoveFrameChecks
 pub mod CallChecks
 pub mod EffectChecks
+pub mod ObserverSoundChecks
+pub mod ObserverDeliverChecks
+pub mod ObserverChecks
+pub mod ObserverExamples

@@ -2,8 +2,8 @@
 use mathlib.Core.Path.{_≡_, refl, ap, subst, _∙_}
 use mathlib.Core.List.{List, [], _∷_, _++_, append-nil}
 use lib.Seq.{append-snoc}
+use Rattle.agreement.specs.Laws.ListsLaws.{split-head, split-never}
 use Rattle.agreement.specs.Lists.{Member}
-use Rattle.agreement.specs.Laws.ListTestsLaws.{split-head, split-never}
 
 module _ (Q : List Member → Member → Type 0) where
   -- `P`: the members before the list

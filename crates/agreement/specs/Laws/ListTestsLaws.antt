@@ -81,14 +81,6 @@ holds-member x (y ∷ ys) e = go (same x y) refl (λ h. List·Memᴰ·tail (hold
     go true q below h = List·Memᴰ·head (same-eq x y q)
     go false q below h = below h
 
--- ---- splits of a list
-pub split-head : {A : Type 0} {x m : A} {xs after : List A} → x ∷ xs ≡ m ∷ after → (x ≡ m) × (xs ≡ after)
-split-head e = (cc, cc)
-
-pub split-never : {A : Type 0} (m : A) (before after : List A) → [] ≡ before ++ (m ∷ after) → ⊥
-split-never m [] after e = let z : _≡_ {A = ℕ} 0 1 = cc in omega arith
-split-never m (x ∷ before) after e = let z : _≡_ {A = ℕ} 0 1 = cc in omega arith
-
 module _ (digest : Bytes → Bytes) where
   module _ (n dishonest : ℕ) where
     -- ---- blocks
@@ -121,7 +113,7 @@ module _ (digest : Bytes → Bytes) where
         q ∙ sym q′
 
   -- ---- readings
-  reads-part : (part : Bytes) (o : Option Bytes) → readsPart part o ≡ true → o ≡ some part
+  pub reads-part : (part : Bytes) (o : Option Bytes) → readsPart part o ≡ true → o ≡ some part
   unfolding readsPart
   reads-part part none e = absurd (false≢true e)
   reads-part part (some read) e = ap some (sym (same-eq part read e))

@@ -1,5 +1,6 @@
--- How what was last left, and what was written, go on along a list.
+-- Splits of a list, and how what was last left and what was written go on along it.
 use Prim.Native.Nat.{ℕ}
+use native.Mathlib.Omega.{arith}
 use mathlib.Core.Path.{_≡_, refl}
 use mathlib.Core.Logic.{_⊎_, inl, inr}
 use mathlib.Core.List.{List, [], _∷_, _++_, List·Memᴰ, List·Memᴰ·eq-of-singleton, List·Memᴰ·append-cases}
@@ -8,6 +9,15 @@ use mathlib.Core.Option.{Option, some, none}
 use Rattle.protocol.specs.Bytes.{Bytes}
 use Rattle.agreement.specs.Lists.{Member, Statement, Wrote, lastLeft, leftBy, orElse, statementOf, writes}
 
+-- ---- splits of a list
+pub split-head : {A : Type 0} {x m : A} {xs after : List A} → x ∷ xs ≡ m ∷ after → (x ≡ m) × (xs ≡ after)
+split-head e = (cc, cc)
+
+pub split-never : {A : Type 0} (m : A) (before after : List A) → [] ≡ before ++ (m ∷ after) → ⊥
+split-never m [] after e = let z : _≡_ {A = ℕ} 0 1 = cc in omega arith
+split-never m (x ∷ before) after e = let z : _≡_ {A = ℕ} 0 1 = cc in omega arith
+
+-- ---- options and lists
 pub or-else-assoc : {A : Type 0} (x y z : Option A) → orElse (orElse x y) z ≡ orElse x (orElse y z)
 unfolding orElse
 or-else-assoc (some a) y z = refl

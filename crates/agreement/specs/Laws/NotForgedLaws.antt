@@ -16,9 +16,8 @@ use Rattle.agreement.specs.ListTests.{deliversBacked, everyIn, isBacked,
 use Rattle.agreement.specs.ListTests.{statementBytes}
 use Rattle.agreement.specs.Lists.{HonestIn, Member, NotForged, Statement, Wrote, delivers, finalizes, proposes}
 use Rattle.agreement.specs.Lists.{statementOf, votesBlock, votesDummy, writes}
-use Rattle.agreement.specs.Laws.ListTestsLaws.{every-honest, every-in, holds-member, is-honest, split-head}
-use Rattle.agreement.specs.Laws.ListTestsLaws.{split-never}
-use Rattle.agreement.specs.Laws.ListsLaws.{wrote-more}
+use Rattle.agreement.specs.Laws.ListTestsLaws.{every-honest, every-in, holds-member, is-honest}
+use Rattle.agreement.specs.Laws.ListsLaws.{split-head, split-never, wrote-more}
 
 -- ---- statements as bytes
 -- the statement that its bytes say

@@ -17,8 +17,7 @@ use Rattle.protocol.specs.Laws.RowLaws.{implies-true}
 use Rattle.protocol.specs.Laws.TestsLaws.{and-both}
 use Rattle.agreement.specs.ListTests.{opensInTurn, opensOnce, opensFor}
 use Rattle.agreement.specs.Lists.{Continues, Follows, KeepsOneBook, Member, Opens, does, lastLeft, leftBy, orElse}
-use Rattle.agreement.specs.Laws.ListsLaws.{or-else-assoc, or-else-none}
-use Rattle.agreement.specs.Laws.ListTestsLaws.{split-head, split-never}
+use Rattle.agreement.specs.Laws.ListsLaws.{or-else-assoc, or-else-none, split-head, split-never}
 use Rattle.agreement.specs.Turns.{Turn, build}
 
 opens-for : (n s : ℕ) (o : Option Opened) → opensFor n s o ≡ true → o ≡ some (record { n = n; own = s })

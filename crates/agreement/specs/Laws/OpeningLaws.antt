@@ -66,12 +66,12 @@ module _ (digest : Bytes → Bytes) (n : ℕ) (books names : ℕ → Type 0) (P 
           (λ i. backed-more digest n books names P m (g .kept .backed i))
 
 -- ---- a new book
-nobody : {A : Type 0} (mask t : ℕ) → mask ≡ 0 → inMask mask t ≡ true → A
+pub nobody : {A : Type 0} (mask t : ℕ) → mask ≡ 0 → inMask mask t ≡ true → A
 nobody mask t z e = absurd (true≢false (sym e ∙ ap (λ (x : ℕ). inMask x t) z ∙ inMask-zero t))
 
 module _ (digest : Bytes → Bytes) {W : ℕ → Statement → Type 0} {S : Bytes → Type 0} where
   -- a height where nothing is kept
-  backed-nothing : (h : ℕ) (x : Height) → x .status ≡ 0 → x .certificateMask ≡ 0 → x .dummyMask ≡ 0 →
+  pub backed-nothing : (h : ℕ) (x : Height) → x .status ≡ 0 → x .certificateMask ≡ 0 → x .dummyMask ≡ 0 →
       x .finalizeMask ≡ 0 → x .voterMask ≡ 0 →
       Backed digest W S h x
   unfolding holdsProposal isNotarized

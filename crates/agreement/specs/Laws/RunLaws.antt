@@ -27,6 +27,16 @@ use Rattle.agreement.specs.Laws.KeepingLaws.{keep-good}
 use Rattle.agreement.specs.Lists.{Member, Shows, Statement, Wrote, blockIn, delivers, statementOf, writes}
 use Rattle.agreement.specs.Laws.StatementsLaws.{Consistent, stated-nothing}
 
+-- ---- another height in the place of one: what holds of each height and of that one holds of each
+pub each-set : (Q : ℕ → Height → Type 0) (heights : List Height) (k : ℕ) (new : Height) → k < length heights →
+    Q (suc k) new → ((i : ℕ) → Q (suc i) (getD heights i noHeight)) →
+    (i : ℕ) → Q (suc i) (getD (set heights k new) i noHeight)
+each-set Q heights k new inside is each i = go (eqb i k) refl
+  where
+    go : (e : Bool) → eqb i k ≡ e → Q (suc i) (getD (set heights k new) i noHeight)
+    go true e = rw (eqb-true i k e, getD-set-same heights k new noHeight inside) is
+    go false e = rw (getD-set-other heights k i new noHeight (eqb-false i k e)) (each i)
+
 module _ (digest : Bytes → Bytes) where
   -- `books`: whose books are meant; `names`: whose statements. An honest replica is among both
   module _ (n : ℕ) (books names : ℕ → Type 0) where
@@ -112,17 +122,6 @@ module _ (digest : Bytes → Bytes) where
         new-good = rw was-kept at (keep-good digest was f backed-at shaped-at said shown (accepts .read)
             (grants digest book (accepts .was-sound) .few))
 
-        backed-set : (i : ℕ) → BackedBy P (suc i) (getD (set (was .heights) (place - 1) new) i noHeight)
-        backed-set i = go (eqb i (place - 1)) refl
-          where
-            go : (e : Bool) → eqb i (place - 1) ≡ e →
-                BackedBy P (suc i) (getD (set (was .heights) (place - 1) new) i noHeight)
-            go true e =
-                rw (eqb-true i (place - 1) e, getD-set-same (was .heights) (place - 1) new noHeight inside)
-                (subst (λ (j : ℕ). BackedBy P j new) (sym number) (new-good .0))
-            go false e =
-                rw (getD-set-other (was .heights) (place - 1) i new noHeight (eqb-false i (place - 1) e)) (k .backed i)
-
         changed : Kept P (withHeight was place new)
         unfolding withHeight
         changed = record {
@@ -130,7 +129,8 @@ module _ (digest : Bytes → Bytes) where
             pool-size = k .shaped .pool-size;
             heights = every-set (place - 1) new (new-good .1) (k .shaped .heights);
           };
-          backed = backed-set;
+          backed = each-set (BackedBy P) (was .heights) (place - 1) new inside
+              (subst (λ (j : ℕ). BackedBy P j new) (sym number) (new-good .0)) (k .backed);
         }
 
         changed-good : (s : ℕ) → Good P s was → Good P s (withHeight was place new)

@@ -29,7 +29,7 @@ use Rattle.call_laws.specs.Laws.EquivocatingLaws.{equivocation, passes-t
 use Rattle.call_laws.specs.Keeping.{Keeps, KeepsStatement, FiresTimer}
 
 -- two byte strings of the same length that are not the same differ at a byte
-differ : (a b : Bytes) → length a ≡ length b → a ≢ b → (i : ℕ) × (i < length b) × (byteAt a i ≢ byteAt b i)
+pub differ : (a b : Bytes) → length a ≡ length b → a ≢ b → (i : ℕ) × (i < length b) × (byteAt a i ≢ byteAt b i)
 differ [] [] size other = absurd (other refl)
 differ [] (y ∷ ys) size other = absurd (omega arith)
 differ (x ∷ xs) [] size other = absurd (omega arith)

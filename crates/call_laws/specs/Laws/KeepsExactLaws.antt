@@ -44,6 +44,21 @@ not-refused digest book frame news =
     (λ number _ e. absurd (refused≢accepted number news e)) (λ accepts _ _ _. accepts)
     (λ _ accepts _ _ _. accepts) (λ accepts _ _ _. accepts)
 
+-- ---- the answer goes by the bytes
+abbrev Changed : Bytes → Bytes → Type 0
+Changed book after = (i : ℕ) × (i < length book) × (byteAt after i ≢ byteAt book i)
+
+never-changed : {book after : Bytes} → after ≡ book → Changed book after → ⊥
+never-changed e (i, l, differs) = differs (ap (λ (b : Bytes). byteAt b i) e)
+
+pub news-of-same : (book after after′ : Bytes) (news news′ : Delivery) → after ≡ after′ →
+    (news ≡ known → after ≡ book) → (news′ ≡ known → after′ ≡ book) →
+    (news ≡ fresh → Changed book after) → (news′ ≡ fresh → Changed book after′) → news ≡ news′
+news-of-same book after after′ known known same k k′ f f′ = refl
+news-of-same book after after′ fresh fresh same k k′ f f′ = refl
+news-of-same book after after′ known fresh same k k′ f f′ = absurd (never-changed (sym same ∙ k refl) (f′ refl))
+news-of-same book after after′ fresh known same k k′ f f′ = absurd (never-changed (same ∙ k′ refl) (f refl))
+
 -- ---- two books that keep a frame's statement
 module _ (digest : Bytes → Bytes) (book frame : Bytes) (accepts : Accepts digest book frame)
     (news news′ : Delivery) (after after′ : Bytes) (is : KeepsStatement digest book frame news after)
@@ -202,20 +217,8 @@ module _ (digest : Bytes → Bytes) (book frame : Bytes) (accepts : Accepts dige
       (is .same-length ∙ sym (is′ .same-length))
 
   same-news : news ≡ news′
-  same-news = go news news′ (is .known-same) (is′ .known-same) (is .fresh-differs) (is′ .fresh-differs)
-    where
-      Changed : Bytes → Type 0
-      Changed b = (i : ℕ) × (i < length book) × (byteAt b i ≢ byteAt book i)
-
-      never : {b : Bytes} → b ≡ book → Changed b → ⊥
-      never e (i, l, differs) = differs (ap (λ (b : Bytes). byteAt b i) e)
-
-      go : (a b : Delivery) → (a ≡ known → after ≡ book) → (b ≡ known → after′ ≡ book) →
-          (a ≡ fresh → Changed after) → (b ≡ fresh → Changed after′) → a ≡ b
-      go known known k k′ f f′ = refl
-      go fresh fresh k k′ f f′ = refl
-      go known fresh k k′ f f′ = absurd (never (sym same-after ∙ k refl) (f′ refl))
-      go fresh known k k′ f f′ = absurd (never (same-after ∙ k′ refl) (f refl))
+  same-news = news-of-same book after after′ news news′ same-after (is .known-same) (is′ .known-same)
+      (is .fresh-differs) (is′ .fresh-differs)
 
 -- ---- two books in which the timer fires
 same-firing : (book : Bytes) (news news′ : Delivery) (after after′ : Bytes) → AreBytes book →

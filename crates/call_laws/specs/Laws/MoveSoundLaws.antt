@@ -43,7 +43,7 @@ module _ (digest : Bytes → Bytes) (s : State) (is : SoundState digest s) where
   unfolding dummyVoteStep
   dummy-vote e = flag-sound 1 (omega arith) (dummy-vote-rows s e .not-yet)
 
-  output-sound : After (outputStep digest s)
+  pub output-sound : After (outputStep digest s)
   unfolding outputStep newFinalized
   output-sound = with-head-sound (s .flags) (s .current) (newFinalized digest s) (is .flags-small) (is .current-low)
       (is .current-high)

@@ -49,7 +49,7 @@ by-row rows answer before after a passes refuses stays = record {
     same number none e = absurd (refused≢accepted number a (sym e ∙ passes))
     same number (some other) e = stays other
 
-outcome-refuses : {A : Type 0} (rows : List Row) (book : Bytes) (outcome : Outcome A) (a : A) →
+pub outcome-refuses : {A : Type 0} (rows : List Row) (book : Bytes) (outcome : Outcome A) (a : A) →
     outcome .answer ≡ accepted a →
     Refuses A rows (unlessRefused (firstRefusal rows) book outcome .answer) (book ∷ [])
     (unlessRefused (firstRefusal rows) book outcome .book ∷ [])
@@ -57,6 +57,21 @@ unfolding unlessRefused
 outcome-refuses rows book outcome a e =
     by-row rows (λ r. unlessRefused r book outcome .answer) (book ∷ [])
     (λ r. unlessRefused r book outcome .book ∷ []) a e (λ _. refl) (λ _. refl)
+
+-- a call with one row, by whether it passes
+pub test-refuses : {A : Type 0} (test : Bool) (a : A) →
+    Refuses A ((1, test) ∷ []) (cond test (accepted a) (refused 1)) [] []
+unfolding firstRefusal
+test-refuses {A} test a = subst (λ (z : Answer A). Refuses A ((1, test) ∷ []) z [] []) (sym (by-test test))
+    (by-row ((1, test) ∷ []) answered [] (λ _. []) a refl (λ _. refl) (λ _. refl))
+  where
+    answered : Option ℕ → Answer A
+    answered none = accepted a
+    answered (some number) = refused number
+
+    by-test : (b : Bool) → cond b (accepted a) (refused 1) ≡ answered (firstRefusal ((1, b) ∷ []))
+    by-test true = refl
+    by-test false = refl
 
 pub open-refuses : (book : Bytes) (n own heights : ℕ) (leaders : Bytes) →
     Refuses Done (openRows book n own heights leaders) (openCall book n own heights leaders .answer) (book ∷ [])
@@ -113,15 +128,5 @@ module _ (digest : Bytes → Bytes) (book : Bytes) where
 
   -- Register size has one row, and nothing is lent to it that it could change
   pub size-refuses : Refuses ℕ ((1, sound digest book) ∷ []) (sizeCall digest book) [] []
-  unfolding sizeCall firstRefusal
-  size-refuses = subst (λ (z : Answer ℕ). Refuses ℕ ((1, sound digest book) ∷ []) z [] [])
-      (sym (by-test (sound digest book)))
-      (by-row ((1, sound digest book) ∷ []) sized [] (λ _. []) (logSize book) refl (λ _. refl) (λ _. refl))
-    where
-      sized : Option ℕ → Answer ℕ
-      sized none = accepted (logSize book)
-      sized (some number) = refused number
-
-      by-test : (b : Bool) → cond b (accepted (logSize book)) (refused 1) ≡ sized (firstRefusal ((1, b) ∷ []))
-      by-test true = refl
-      by-test false = refl
+  unfolding sizeCall
+  size-refuses = test-refuses (sound digest book) (logSize book)

@@ -1,5 +1,5 @@
 -- Deliver of an observer: what a certificate that is not refused has passed, what it keeps, and the three ways in which
--- a delivery ends. Move of an observer: the two ways in which it ends.
+-- a delivery ends. Move of an observer: the three ways in which it ends.
 use Prim.Native.Nat.{ℕ, _-_, _≤_}
 use native.Mathlib.Omega.{arith}
 use mathlib.Core.Path.{_≡_, refl, sym, subst}
@@ -12,7 +12,7 @@ use Rattle.protocol.specs.Bytes.{Bytes}
 use Rattle.protocol.specs.Tests.{firstRefusal}
 use Rattle.protocol.specs.Frame.{kind, frameHeight, frameBlock, isCertificate, signerMask}
 use Rattle.protocol.specs.Mask.{union}
-use Rattle.protocol.specs.State.{State, Height, at, last, withHead, withHeight, isNotarized}
+use Rattle.protocol.specs.State.{State, Height, at, last, withHeight, isNotarized}
 use Rattle.protocol.specs.Answer.{Outcome, Delivery, Move, refused, accepted, known, fresh, idle, output}
 use Rattle.protocol.specs.Answer.{unlessRefused}
 use Rattle.protocol.specs.Deliver.{readRows, clashRows, keep, keepBlockCertificate, keepDummyCertificate}
@@ -30,10 +30,8 @@ use Rattle.protocol.specs.Laws.DeliverLaws.{block-size}
 use Rattle.protocol.specs.Laws.PlaceLaws.{shaped-at, shaped-with, suc-pred}
 use Rattle.protocol.specs.Laws.ObserverStateLaws.{ObservingHeight, observing-as, observing-with, observing-masks}
 use Rattle.protocol.specs.Laws.ObserverStateLaws.{observed-as}
-use Rattle.protocol.specs.Laws.ObserverStateLaws.{observing-notarized, observing-finalized, last-as, at-as}
+use Rattle.protocol.specs.Laws.ObserverStateLaws.{observing-notarized, last-as, at-as}
 use Rattle.protocol.specs.Laws.ObserverStateLaws.{state-encode-observer}
-use Rattle.protocol.specs.Laws.ObserverCodecLaws.{observer-state-shaped}
-use Rattle.protocol.specs.Laws.ObserverSoundLaws.{exact-observer}
 
 -- ---- the rows
 -- what a delivery that is not refused has tested
@@ -148,27 +146,6 @@ module _ (digest : Bytes → Bytes) (book : Bytes) where
       go (some number) e y k = refusal number e
       go none e none k = same (observer-accepts digest book frame e) k
       go none e (some y) k = new y (observer-accepts digest book frame e) k
-
-  -- the state that a fresh certificate leaves
-  pub observer-delivered : (frame : Bytes) (y : Height) → ObserverAccepts digest book frame →
-      keep digest (observerState book) frame ≡ some y →
-      observerState (encodeObserver (observed (withHeight (observerState book) (frameHeight frame) y))) ≡
-      withHeight (observerState book) (frameHeight frame) y
-  observer-delivered frame y accepts e =
-      certificate-state digest (decodeObserver book) frame
-      (observer-state-shaped book (exact-observer digest book (accepts .was-sound))) (accepts .certificate)
-      (accepts .read) y e
-
-  -- the state after the output of height `g`
-  pub observer-output : observerSound digest book ≡ true → (g : ℕ) →
-      let s : State = observerState book in
-      let after : State = withHead s (s .flags) (s .current) g in observerState (encodeObserver (observed after)) ≡ after
-  observer-output was-sound g =
-      let s : State = observerState book in
-      let shaped : Shaped s = observer-state-shaped book (exact-observer digest book was-sound) in
-      state-encode-observer (withHead s (s .flags) (s .current) g)
-      (observing-finalized s (observing-as (decodeObserver book)) g)
-      (unfold withHead in record { pool-size = shaped .pool-size; heights = shaped .heights })
 
   -- a move is refused, or idle, or outputs
   pub observer-move-cases : (P : Outcome Move → Type 0) →

@@ -1,0 +1,85 @@
+-- Calls that meet every premise of `Twins`, whatever the digest, and after which both read an entry: among four
+-- replicas, replica 2 and an observer are given six certificates, of which three are refused, in deliveries and a
+-- packet and with moves at other times.
+use Prim.Native.Nat.{ℕ}
+use mathlib.Core.Path.{_≡_}
+use mathlib.Core.List.{List, [], _∷_, _++_}
+use lib.ListN.{replicate}
+use Rattle.protocol.specs.Bytes.{Bytes, zeros}
+use Rattle.protocol.specs.Block.{newBlock}
+use Rattle.protocol.specs.Frame.{blockCertificate, dummyCertificate, finalizeCertificate}
+use Rattle.protocol.specs.Answer.{Outcome, Delivery, accepted, idle, refusalNumber}
+use Rattle.protocol.specs.Move.{moveCall}
+use Rattle.protocol.specs.Read.{readPart}
+use Rattle.protocol.specs.Call.{Call, delivery, packetDelivery, moving, signalling}
+use Rattle.protocol.specs.ObserverCalls.{observerDeliverCall, observerMoveCall, observerReadPart}
+use Rattle.protocol.specs.ObserverCall.{ObserverCall, observerDelivery, observerMoving}
+use Rattle.observer_laws.specs.Twins.{allGivenToObserver, observerOpens}
+use Rattle.observer_laws.specs.Twins.{Histories, SameCertificates, bookOf, observerBookOf, SameLog}
+
+-- ---- what is said
+unfoldable pub entry : Bytes
+entry = replicate 16 7
+
+-- a block of height 2 on height 0, and another one
+unfoldable pub block : Bytes
+block = newBlock 2 0 (zeros 32) (entry ∷ [])
+
+unfoldable pub otherBlock : Bytes
+otherBlock = newBlock 2 0 (zeros 32) []
+
+-- ---- what is called, over old bytes
+unfoldable pub old : Bytes
+old = replicate 2336 9
+
+unfoldable pub observerOld : Bytes
+observerOld = replicate 432 9
+
+abbrev move : Call
+move = moving (zeros 448)
+
+unfoldable pub calls : List Call
+calls =
+    move ∷ delivery (5 ∷ []) ∷ signalling 1 ∷ delivery (dummyCertificate 1 3) ∷ move ∷ delivery (dummyCertificate 1 7) ∷
+    move ∷ move ∷ packetDelivery (blockCertificate 2 7 block ++ blockCertificate 2 11 otherBlock) ∷
+    delivery (finalizeCertificate 2 14) ∷ move ∷ move ∷ []
+
+unfoldable pub observerCalls : List ObserverCall
+observerCalls =
+    observerDelivery (5 ∷ []) ∷ observerDelivery (dummyCertificate 1 3) ∷ observerDelivery (dummyCertificate 1 7) ∷
+    observerDelivery (blockCertificate 2 7 block) ∷ observerMoving ∷
+    observerDelivery (blockCertificate 2 11 otherBlock) ∷ observerDelivery (finalizeCertificate 2 14) ∷
+    observerMoving ∷ []
+
+-- n 4 and H 2, the replica's own number 2
+unfoldable pub histories : Histories
+histories = record {
+  n = 4;
+  heights = 2;
+  own = 2;
+  leaders = 0 ∷ 1 ∷ [];
+  old = old;
+  calls = calls;
+  observerOld = observerOld;
+  observerCalls = observerCalls;
+}
+
+module _ (digest : Bytes → Bytes) where
+  -- by which numbers an observer refuses what it is given, in order, and 0 for what it takes
+  unfoldable pub numbers : Bytes → List Bytes → List ℕ
+  numbers bytes [] = []
+  numbers bytes (frame ∷ frames) =
+      let o : Outcome Delivery = observerDeliverCall digest bytes frame in
+      refusalNumber (o .answer) ∷ numbers (o .book) frames
+
+  pub record TwinsMet : Type 0 where
+    pub premises : SameCertificates histories
+    -- the frame of one byte is refused with 4, the mask of two replicas with 9, and the other block with 10
+    pub refusals : numbers (observerOpens histories .book) (allGivenToObserver observerCalls) ≡
+        4 ∷ 9 ∷ 0 ∷ 0 ∷ 10 ∷ 0 ∷ []
+    pub rests : moveCall digest (bookOf digest histories) (zeros 448) .answer ≡ accepted idle
+    pub observer-rests : observerMoveCall digest (observerBookOf digest histories) .answer ≡ accepted idle
+    pub reads : readPart digest (bookOf digest histories) (zeros 16) ≡ entry
+    pub observer-reads : observerReadPart digest (observerBookOf digest histories) (zeros 16) ≡ entry
+    -- the claim applied to them
+    pub applied : SameLog digest (bookOf digest histories) (observerBookOf digest histories)

@@ -1,0 +1,1 @@
+// Theorems on observers' calls: no code, all in specs/.
