@@ -55,4 +55,5 @@ bookRows book = allOf (headRows book) ∷ everyHeight (λ h. allOf (heightRows b
 -- the finalized height is 0 or finalized
 unfoldable pub finalRow : (Bytes → Bytes) → Bytes → Bool
 finalRow digest book =
-    eqb (observerState book .finalized) 0 || isFinalized digest (view (observerState book)) (observerState book .finalized)
+    eqb (observerState book .finalized) 0 ||
+    isFinalized digest (view (observerState book)) (observerState book .finalized)

@@ -161,8 +161,8 @@ fn rows_sound(book: &[u8]) -> bool
     }
 }
 
-// Whether an observer's book is sound, for a call that asks for no linked height afterwards. Reads it once, and computes
-// one digest for each block of the finalized chain. The book's bytes are below 256, as those of any slice.
+// Whether an observer's book is sound, for a call that asks for no linked height afterwards. Reads it once, and
+// computes one digest for each block of the finalized chain. The book's bytes are below 256, as those of any slice.
 pub fn is_sound(book: &[u8]) -> bool
     ensures answer { λ r. ⌜ r ≡ observerSound sha (now (book .entry)) ⌝ }
     ensures bytes { λ _. ⌜ AreBytes (now (book .entry)) ⌝ }

@@ -28,7 +28,7 @@ numbersFit n heights = ((leb 1 n && leb n maximumReplicas) && (leb 1 heights && 
 
 pub open-ranges : (n heights : ℕ) → numbersFit n heights → (n ≤ maximumReplicas) × (heights ≤ maximumHeights)
 open-ranges n heights e =
-    let (replicas, count) = and-both (leb 1 n && leb n maximumReplicas) (leb 1 heights && leb heights maximumHeights) e in
+    let (replicas, count) = and-both (leb 1 n && leb n maximumReplicas) _ e in
     (leb-true _ _ (and-both (leb 1 n) _ replicas .1), leb-true _ _ (and-both (leb 1 heights) _ count .1))
 
 abbrev opened : Bytes → Outcome Done

@@ -84,11 +84,13 @@ empty-status x (inr e) f = absurd (true≢false (rw e at f))
 module _ (digest : Bytes → Bytes) (book frame : Bytes) where
   pub deliver-unsound : observerSound digest book ≡ false → observerDeliverCall digest book frame ≡ refusedBy 1 book
   unfolding observerDeliverCall observerDeliverRows unlessRefused
-  deliver-unsound e = ap (λ (o : Option ℕ). unlessRefused o book (observerKept book frame (keep digest (observerState book) frame)))
+  deliver-unsound e =
+      ap (λ (o : Option ℕ). unlessRefused o book (observerKept book frame (keep digest (observerState book) frame)))
       (refuse-row (1, observerSound digest book) _ e)
 
   module _ (is : SoundObserverBook digest book) where
-    rows-are : firstRefusal (observerDeliverRows digest book frame) ≡ firstRefusal (frameRows (observerState book) frame)
+    rows-are : firstRefusal (observerDeliverRows digest book frame) ≡
+        firstRefusal (frameRows (observerState book) frame)
     unfolding observerDeliverRows frameRows
     rows-are = pass-row (1, observerSound digest book) _ (is .is-sound)
 

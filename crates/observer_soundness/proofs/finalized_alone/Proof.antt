@@ -21,7 +21,8 @@ finalized-sound-requires : tie.Need-finalized-sound-requires
 finalized-sound-requires c κs =
     let start = c .before .before .before .before in
     let book = start .args .book .now in
-    (start .pre, zero-known (bookHeights book) (view (observerState book)) _ (start .pre .heights) (unfold zeros in refl))
+    let v = view (observerState book) in
+    (start .pre, zero-known (bookHeights book) v _ (start .pre .heights) (unfold zeros in refl))
 
 returns-2 : tie.Need-returns-2
 returns-2 c = c .before .finalized-sound .ensures .0

@@ -29,16 +29,16 @@ returns c =
     let after-log-count = after-if1 .before in
     let after-finalized = after-log-count .before in
     let z = after-finalized .before .before .before in
-    observer-read-done (z .args .book .now) (z .args .buffer .now) (z .pre .is-sound) _ (after-log-count .log-count .ensures .0)
-    _ _ (after-if1 .if1 .taken) (after-finalized .finalized .ensures .0)
+    observer-read-done (z .args .book .now) (z .args .buffer .now) (z .pre .is-sound) _
+    (after-log-count .log-count .ensures .0) _ _ (after-if1 .if1 .taken) (after-finalized .finalized .ensures .0)
     (after-copy-chain .copy-chain .ensures)
 
 returns-2 : tie.Need-returns-2
 returns-2 c =
     let after-log-count = c .before in
     let z = after-log-count .before .before .before .before in
-    observer-read-short (z .args .book .now) (z .args .buffer .now) (z .pre .is-sound) _ (after-log-count .log-count .ensures .0)
-    (c .if1 .left)
+    observer-read-short (z .args .book .now) (z .args .buffer .now) (z .pre .is-sound) _
+    (after-log-count .log-count .ensures .0) (c .if1 .left)
 
 pub read-sound-spec : {M : Type 1} → statement M
 read-sound-spec =

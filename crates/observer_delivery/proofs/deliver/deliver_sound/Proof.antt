@@ -1,4 +1,4 @@
--- `deliver_sound` meets its contract: a certificate that passes the rows is kept, and is fresh if that changes the book.
+-- `deliver_sound` meets its contract: a certificate that passes the rows is kept, and fresh if that changes the book.
 use mathlib.Core.Path.{refl}
 use Rattle.sha256.specs.Digest.{sha256}
 use Rattle.answers.specs.Answers.{deliveredAnswer}
