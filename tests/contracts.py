@@ -4,7 +4,7 @@ import re
 from specs import Unreadable, Use, Words, readable
 
 # the crates whose public functions are for others to call
-PUBLIC = ("replica", "replica_c", "sha256", "sha256_c")
+PUBLIC = ("replica", "observer", "replica_c", "sha256", "sha256_c")
 
 ITEM = re.compile(
     r"(?P<head>(?:^[ ]*(?://|#\[).*\n)*)^[ ]*(?P<pub>pub )?(?P<extern>extern \"C\" )?"
