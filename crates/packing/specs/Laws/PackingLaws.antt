@@ -33,7 +33,7 @@ module _ (digest : Bytes → Bytes) where
     unfolding isRunning
     running = leb-true _ _
 
-    pub output-within : newFinalized digest s ≤ last s
+    output-within : newFinalized digest s ≤ last s
     unfolding newFinalized
     output-within = largestFinalized-is digest (view s) (last s) .within
 
