@@ -34,7 +34,9 @@ fn a_new_book_has_n_heights_and_edition_alone() {
 #[test]
 fn open_2_then_1() {
     let mut book = [0x5a; 248];
-    for (n, heights) in [(0, 1), (17, 1), (4, 0), (4, 64), (260, 1), (4, 257), (u64::MAX, 1)] {
+    for (n, heights) in
+        [(0, 1), (17, 1), (4, 0), (4, 64), (260, 1), (4, 257), (u64::MAX, 1), (4, u64::MAX)]
+    {
         assert_eq!(RULES.observer_open(&mut book, n, heights), Err(2), "{n} {heights}");
         assert_eq!(RULES.observer_open(&mut [], n, heights), Err(2), "{n} {heights}");
     }

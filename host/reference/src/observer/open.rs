@@ -22,12 +22,11 @@ impl Rules {
 
 /// The state that an observer begins with, if both numbers are in range.
 fn new_state(n: u64, heights: u64) -> Option<ObserverState> {
-    let in_range = (1..=MOST_REPLICAS).contains(&n) && (1..=MOST_HEIGHTS).contains(&heights);
+    if !(1..=MOST_REPLICAS).contains(&n) || !(1..=MOST_HEIGHTS).contains(&heights) {
+        return None;
+    }
     let nothing =
         Observed { marks: 0, certificate: 0, dummies: 0, finalizes: 0, block: [0; BLOCK] };
-    in_range.then_some(ObserverState {
-        n: u8::try_from(n).ok()?,
-        finalized: 0,
-        slots: vec![nothing; usize::try_from(heights).ok()?],
-    })
+    let slots = vec![nothing; usize::try_from(heights).ok()?];
+    Some(ObserverState { n: u8::try_from(n).ok()?, finalized: 0, slots })
 }
