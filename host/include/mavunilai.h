@@ -289,9 +289,9 @@ mavunilai_answer mavunilai_packet(uint8_t *book, size_t book_len, const uint8_t 
 /* Makes the first move that applies; call it until it is idle. The reply needs 448 bytes or more.
  * Refusals: 1, 3. Else the answer's bytes are
  *   1 (mavunilai_made)         the move, 0 to 5
- *   2 (mavunilai_height)       its height; for move 2 the new settled height; 0 if idle
- *   3 (mavunilai_certificate)  for a pass the kind of the first frame, 5 page or 6 blank certificate; else 0
- *   4 (mavunilai_finalise)     for a pass 4 if the second frame is a finalise, else 0
+ *   2, 3 (mavunilai_height)    its height; for move 2 the new settled height; 0 if idle
+ *   4 (mavunilai_certificate)  for a pass the kind of the first frame, 5 page or 6 blank certificate; else 0
+ *   5 (mavunilai_finalise)     for a pass 4 if the second frame is a finalise, else 0
  * Moves 1, 4 and 5 write bytes 0 to 223 of the reply, one frame. Move 3 writes bytes 0 to 447: the certificate, then
  * the finalise or zeros, which are no frame. Moves 0 and 2 write none. Of the book only bytes of the head change: the
  * flags (moves 1, 4, 5), the settled height (2), the current height and the flags (3), none if idle. What a move wrote

@@ -122,7 +122,7 @@ fn the_observer_of_the_season_is_given_certificates_and_follows() {
     assert_eq!(moved, ["final 1", "final 4"]);
     let refused = watched().filter(|(.., answer)| matches!(answer, Answer::Deny(_)));
     assert!(refused.map(|(.., answer)| *answer).eq([Answer::Deny(16), Answer::Deny(16)]));
-    assert_eq!(watched().last().unwrap().3, Answer::Part(64));
+    assert_eq!(watched().next_back().unwrap().3, Answer::Part(64));
 }
 
 /// The program `calls`, which plays a list on the proved code, has room for so many buffers of such names and lengths.

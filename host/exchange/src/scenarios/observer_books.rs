@@ -87,7 +87,7 @@ fn rows<C: Calls>(to: &mut Recorder<C>, sound: &[u8]) {
     to.remark("More signers of the page, and masks that are no quorum, are sound");
     ask_each(to, sound, row, &[(2, 15), (4, 1), (6, 8)]);
     to.remark("With no page: the state alone, the zero, a bit from n up; a certificate mask without a page is free");
-    let none = vec![(row, 0), (row.saturating_add(2), 0)];
+    let none = [(row, 0), (row.saturating_add(2), 0)];
     for edit in [(0, 1), (0, 2), (1, 1), (2, 16), (3, 128), (2, 1), (2, 15)] {
         let edit = (row.saturating_add(edit.0), edit.1);
         ask(to, sound, &none.iter().copied().chain([edit]).collect::<Vec<Edit>>());
