@@ -38,7 +38,7 @@ pub fn walk<A: Calls, B: Second>(
             true => network(pair, &mut random, &mut report),
             false => {
                 report.lists += 1;
-                single::list(pair, &mut random).map(|()| None)
+                single::list(pair, &mut random)
             }
         };
         match outcome {

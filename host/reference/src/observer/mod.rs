@@ -4,6 +4,7 @@
 
 mod codec;
 mod deliver;
+pub mod inspect;
 mod log;
 mod make_move;
 mod open;
