@@ -19,6 +19,7 @@ pub fn print(name: &str, output: &mut Vec<u8>) -> Result<(), Problem> {
         "show" => SHOW,
         "open" => OPEN,
         "call" => CALL,
+        "observer" => OBSERVER,
         "replay" => REPLAY,
         "record" => RECORD,
         "rehearsal" => REHEARSAL,
@@ -38,6 +39,7 @@ mavunilai COMMAND ..
   show       show a frame or a book in words
   open       keep a new book in a file
   call       make calls on a book that is kept in a file
+  observer   follow the register without a vote: calls on an observer's book in a file
   replay     make the calls of a list and compare answers and digests
   record     write a list with its answers and digests
   diff       tell the fields in which two books differ
@@ -90,7 +92,8 @@ entries and those of its pages, the reason why the current height is where it is
 the next move of the replica at hand. Pages and votes are named by the first eight
 digits of the digest. Of a book that is not sound the first byte is told that breaks a
 rule. Several books, of stations with the same roll, are shown side by side: a row for
-each height, a column for each station, <- at its current height.
+each height, a column for each station, <- at its current height. An observer's book is
+told from a station's by its length, and shown by itself.
 ";
 
 const OPEN: &str = "\
@@ -147,6 +150,31 @@ once it takes them, read or not: --out is safer.
 Example: mavunilai frame blank-vote --signer 0 --height 1 | mavunilai call book deliver -
 ";
 
+const OBSERVER: &str = "\
+mavunilai observer BOOK open --n N --heights H [--force]
+mavunilai observer BOOK deliver FRAMES
+mavunilai observer BOOK move
+mavunilai observer BOOK size
+mavunilai observer BOOK read
+
+An observer follows the register of N stations without a vote: it is given certificates,
+frames of kinds 5 to 7, settles, and reads. It has no timer and sends nothing. open keeps
+a new book in the file BOOK (- is standard output), for H heights, those of the stations;
+a file that is there is left alone unless --force begins anew. deliver takes the frames of
+the file FRAMES (- is standard input; bytes or digits, one or several), in order: each has
+its line, fresh, known, or `deny` and a number; 16 is a frame that is no certificate, and
+any refusal makes the status 3, while the others are taken all the same. move prints
+`final` and the settled height if it grew, else `idle`; after deliver one move is enough.
+size and read print what the register holds by then.
+
+What a call prints is synced to the file first, however many frames it was given, and the
+book is locked meanwhile (BOOK.lock, which stays). Only deliver certificates whose
+signatures you have checked, each signer's. `mavunilai call` does not take an observer's
+book, nor this command a station's: both refuse with 1.
+
+Example: mavunilai call book fetch 5 1 | tail -n 1 | mavunilai observer watch deliver -
+";
+
 const REPLAY: &str = "\
 mavunilai replay FILE .. [--counts]
 mavunilai replay FILE [--stop-at LINE] [--keep FOLDER] [--counts]
@@ -168,9 +196,9 @@ mavunilai record --folder FOLDER
 
 Prints the list of FILE (- is standard input) with the answers and digests that the
 replica gives now; the calls may stand there without any. --scenario prints a ready list:
-refusals, orders, moves, corners, rehearsal, season or books. --random prints N calls
-(1000 if not said) as `try` makes them from this seed. With --full the list has the bytes
-of the buffers and not their digests. --folder writes all ready lists there.
+refusals, orders, moves, corners, rehearsal, season, books or observers. --random prints
+N calls (1000 if not said) as `try` makes them from this seed. With --full the list has
+the bytes of the buffers and not their digests. --folder writes all ready lists there.
 ";
 
 const REHEARSAL: &str = "\
@@ -188,7 +216,7 @@ mavunilai try [--seed S] [--count N] [--seconds T] -- PROGRAM WORDS ..
 Starts PROGRAM, a replica of your own, and asks it for N calls (10000 if not said), one
 to a line; it answers each with one line. docs/EXCHANGE.md has the form of both. The
 seed S (1 if not said) decides the calls: lists on single books, sound, damaged and
-others, and whole networks with dishonest stations. Every answer and every byte of the
+others, observers' too, and whole networks with dishonest stations and observers. Every answer and every byte of the
 book and of the reply is held against the replica at hand. At the first difference it
 says the case and the call, both answers and the fields in which the books and replies
 differ, prints a list of that one call that `replay` takes, and ends with status 1; so it

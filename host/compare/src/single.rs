@@ -1,9 +1,9 @@
-//! Lists of calls on single books.
+//! Lists of calls on single books of stations.
 
 use crate::books::{any_heights, arguments_for, damage, garbage, strange_book};
 use crate::choose::{any_call, any_open, Recent};
 use crate::Random;
-use crate::{observer_single, traits, two_pages, Halt, Pair, Second};
+use crate::{traits, two_pages, Halt, Pair, Second};
 use exchange::Call;
 use reference::Rules;
 use types::{book_length, field, head_height, Calls, Height, MOST_HEIGHTS};
@@ -11,20 +11,8 @@ use types::{book_length, field, head_height, Calls, Height, MOST_HEIGHTS};
 /// Nothing, or why it ends here.
 type Outcome = Result<(), Halt>;
 
-/// Runs one list of calls on one book, of whatever sort, one in five times on an observer's; a sentence if something is
-/// not as it must be.
-pub fn list<A: Calls, B: Second>(
-    pair: &mut Pair<A, B>,
-    random: &mut Random,
-) -> Result<Option<&'static str>, Halt> {
-    match random.one_in(5) {
-        true => observer_single::list(pair, random),
-        false => stations(pair, random).map(|()| None),
-    }
-}
-
-/// Runs one list of calls on a station's book; now and then a short list for every number of heights.
-fn stations<A: Calls, B: Second>(pair: &mut Pair<A, B>, random: &mut Random) -> Outcome {
+/// Runs one list of calls on one book, of whatever sort; now and then a short list for every number of heights.
+pub fn list<A: Calls, B: Second>(pair: &mut Pair<A, B>, random: &mut Random) -> Outcome {
     let heights = any_heights(random);
     match random.below(40) {
         0 => {

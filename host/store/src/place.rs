@@ -10,6 +10,9 @@ pub const FRAMES: &str = ".frames";
 /// The endings of the files beside one that is replaced.
 const BESIDE: [&str; 3] = [".lock", ".new", FRAMES];
 
+/// A place that is locked, with the bytes that are there.
+pub type Held<F> = (Place<F>, <F as Files>::Lock, Vec<u8>);
+
 /// A file, by its one path, in a file system.
 #[derive(Clone, Debug)]
 pub struct Place<F> {
@@ -43,7 +46,7 @@ impl<F: Files> Place<F> {
     }
 
     /// Locks the place of a book that is there, and reads it.
-    pub fn hold(files: F, path: &Path) -> Result<(Place<F>, F::Lock, Vec<u8>), Error> {
+    pub fn hold(files: F, path: &Path) -> Result<Held<F>, Error> {
         let place = Place::resolve(files, path)?;
         place.read_book()?;
         let lock = place.lock()?;

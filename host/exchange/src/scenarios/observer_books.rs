@@ -54,14 +54,12 @@ fn one_page<C: Calls>(to: &mut Recorder<C>) -> Vec<u8> {
 
 fn head<C: Calls>(to: &mut Recorder<C>, sound: &[u8]) {
     to.part("Each edit breaks one rule of the head: n, H, edition; own number, flags, c, pending count not zero; a zero");
-    let numbers = [
-        (field::N, 0),
-        (field::N, 17),
-        (field::HEIGHTS, 0),
-        (field::HEIGHTS, 2),
-        (field::EDITION, 0),
-        (field::EDITION, 255),
-    ];
+    let row = ObserverLayout::new(1).area(1, ObserverArea::Row).start;
+    for n in [0, 17, 255] {
+        ask(to, sound, &[(row, 0), (row.saturating_add(2), 0), (field::N, n)]);
+    }
+    let numbers =
+        [(field::HEIGHTS, 0), (field::HEIGHTS, 2), (field::EDITION, 0), (field::EDITION, 255)];
     let zeros = [
         (field::OWN, 1),
         (field::OWN, 255),
