@@ -93,7 +93,7 @@ fn expected() -> Vec<String> {
     let named = named.map(str::to_string);
     let mut all: Vec<String> = REFUSALS.into_iter().flat_map(refused).collect();
     all.extend(done.into_iter().chain(kinds).chain(lengths).chain(timers).chain(named));
-    all.extend(second_page_kinds::by_flags().into_iter().chain(observer_kinds::by_kind()));
+    all.extend(second_page_kinds::by_flags().chain(observer_kinds::by_kind()));
     all
 }
 

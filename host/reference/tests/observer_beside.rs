@@ -90,7 +90,7 @@ fn an_observer_of_other_heights_reads_a_beginning() {
 }
 
 /// One move of the replica, whose frames both get, until its height is passed; whether more may follow.
-fn one_round(station: &mut Vec<u8>, observer: &mut Vec<u8>) -> bool {
+fn one_round(station: &mut Vec<u8>, observer: &mut [u8]) -> bool {
     let (made, reply) = one_move(station);
     let pass = matches!(made, reference::Move::Pass { .. });
     for frame in reply.chunks(224).filter(|frame| frame[0] != 0 && frame[0] != 0xaa) {

@@ -22,7 +22,7 @@ impl ObserverState {
         }
         let (rows, blocks) = rest.split_at_checked(ROW.checked_mul(usize::from(heights))?)?;
         let both = rows.as_chunks::<ROW>().0.iter().zip(blocks.as_chunks::<BLOCK>().0);
-        let slots = both.map(|(row, block)| Observed::decode(row, block)).collect();
+        let slots = both.map(|(row, block)| Observed::decode(row, block)).collect::<Option<_>>()?;
         let state = ObserverState { n, finalized, slots };
         (state.encode() == book).then_some(state)
     }
@@ -45,22 +45,25 @@ impl ObserverState {
 
 impl Observed {
     /// The slot in a row and its block.
-    fn decode(row: &[u8; ROW], block: &[u8; BLOCK]) -> Observed {
-        let [marks, _, certificate @ .., d0, d1, f0, f1] = *row;
-        Observed {
+    fn decode(row: &[u8; ROW], block: &[u8; BLOCK]) -> Option<Observed> {
+        let [[marks, _], certificate, dummies, finalizes] = *row.as_chunks::<2>().0.as_array()?;
+        Some(Observed {
             marks,
             certificate: u16::from_le_bytes(certificate),
-            dummies: u16::from_le_bytes([d0, d1]),
-            finalizes: u16::from_le_bytes([f0, f1]),
+            dummies: u16::from_le_bytes(dummies),
+            finalizes: u16::from_le_bytes(finalizes),
             block: *block,
-        }
+        })
     }
 
     /// The slot's row: the byte after the state is zero.
     fn encode_row(&self) -> [u8; ROW] {
-        let [c0, c1] = self.certificate.to_le_bytes();
-        let [d0, d1] = self.dummies.to_le_bytes();
-        let [f0, f1] = self.finalizes.to_le_bytes();
-        [self.marks, 0, c0, c1, d0, d1, f0, f1]
+        let mut row = [0; ROW];
+        row[0] = self.marks;
+        let masks = [self.certificate, self.dummies, self.finalizes];
+        for (to, mask) in row[2..].as_chunks_mut::<2>().0.iter_mut().zip(masks) {
+            *to = mask.to_le_bytes();
+        }
+        row
     }
 }
