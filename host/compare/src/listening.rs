@@ -39,7 +39,7 @@ impl<A: Calls, B: Second> Network<'_, A, B> {
         Ok(())
     }
 
-    /// Where a frame goes that is said to all: to the replicas, and to observers if it is a certificate; seldom another.
+    /// Where a frame goes that is said to all: to the replicas, and to observers if it is a certificate, or seldom.
     pub fn listeners(&mut self, frame: &[u8; FRAME]) -> std::ops::Range<usize> {
         let heard = frame[0] >= 5 || self.random.one_in(40);
         let observers = if heard { self.observers.len() } else { 0 };

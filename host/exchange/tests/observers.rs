@@ -1,4 +1,4 @@
-//! The lists of the folder on observers: every refusal, answer and kind of frame occurs, and the observer of the season.
+//! The lists of the folder on observers: every refusal, answer and kind of frame occurs; the observer of the season.
 
 use exchange::{scenarios, Answer, Call, Line, List, ObserverCall, Stage};
 use reference::Rules;

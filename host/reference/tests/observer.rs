@@ -95,15 +95,24 @@ fn spoilt(mut frame: FrameBytes) -> FrameBytes {
     frame
 }
 
-#[test]
-fn deliver_1_4_16_6_5_9_10() {
-    let (mut book, first, _) = followed();
+/// Delivers frames that must be refused with these numbers, and change nothing.
+#[track_caller]
+fn assert_refused(cases: &[(FrameBytes, u8)]) {
+    let (mut book, ..) = followed();
     let before = book.clone();
-    let other = block(1, 0, ZERO, &[entry(9)]);
+    for (at, (frame, number)) in cases.iter().enumerate() {
+        assert_eq!(RULES.observer_deliver(&mut book, frame), Err(*number), "case {at}");
+        assert_eq!(book, before, "case {at}");
+    }
+}
+
+#[test]
+fn deliver_4_then_16() {
+    let (_, first, _) = followed();
     let (nowhere, high) = (block(0, 0, ZERO, &[]), block(4, 0, ZERO, &[]));
     let mut odd = first;
     odd[4] = 9;
-    let cases = [
+    assert_refused(&[
         (spoilt(dummy_vote(0, 1)), 4),
         (frame(0, 0, 1, 0), 4),
         (frame(8, 0, 1, 7), 4),
@@ -120,6 +129,14 @@ fn deliver_1_4_16_6_5_9_10() {
         (dummy_vote(99, 1), 16),
         (finalize(0, 1), 16),
         (finalize(99, 99), 16),
+    ]);
+}
+
+#[test]
+fn deliver_6_5_9_10() {
+    let other = block(1, 0, ZERO, &[entry(9)]);
+    let high = block(4, 0, ZERO, &[]);
+    assert_refused(&[
         (dummy_certificate(7, 0), 6),
         (dummy_certificate(16, 4), 6),
         (finalize_certificate(0, 4), 6),
@@ -131,11 +148,12 @@ fn deliver_1_4_16_6_5_9_10() {
         (finalize_certificate(0, 1), 9),
         (block_certificate(3, &other), 9),
         (block_certificate(7, &other), 10),
-    ];
-    for (at, (frame, number)) in cases.into_iter().enumerate() {
-        assert_eq!(RULES.observer_deliver(&mut book, &frame), Err(number), "case {at}");
-        assert_eq!(book, before, "case {at}");
-    }
+    ]);
+}
+
+#[test]
+fn other_lengths_are_4_and_1_comes_before_all() {
+    let (mut book, ..) = followed();
     for length in [0, 223, 225, 448] {
         let frame = [&dummy_certificate(7, 1)[..], &[0; 224]].concat();
         assert_eq!(RULES.observer_deliver(&mut book, &frame[..length]), Err(4), "{length}");

@@ -53,7 +53,7 @@ fn one_page<C: Calls>(to: &mut Recorder<C>) -> Vec<u8> {
 }
 
 fn head<C: Calls>(to: &mut Recorder<C>, sound: &[u8]) {
-    to.part("Each edit breaks one rule of the head: n, H, edition; own number, flags, c, pending count not zero; a zero");
+    to.part("Each edit breaks a rule of the head: n, H, edition; own number, flags, c, pending count not zero; a zero");
     let row = ObserverLayout::new(1).area(1, ObserverArea::Row).start;
     for n in [0, 17, 255] {
         ask(to, sound, &[(row, 0), (row.saturating_add(2), 0), (field::N, n)]);
@@ -77,7 +77,7 @@ fn head<C: Calls>(to: &mut Recorder<C>, sound: &[u8]) {
 }
 
 fn rows<C: Calls>(to: &mut Recorder<C>, sound: &[u8]) {
-    to.part("Each edit breaks one rule of a row: a state of 1, 3 or more, the zero behind it, a bit from n up, no quorum");
+    to.part("Each edit breaks a rule of a row: a state of 1, 3 or more, the zero behind it, a bit from n up, no quorum");
     let row = ObserverLayout::new(1).area(1, ObserverArea::Row).start;
     ask_each(to, sound, row, &[(0, 1), (0, 3), (0, 4), (0, 255), (1, 1), (1, 128)]);
     ask_each(to, sound, row, &[(2, 23), (3, 1), (4, 16), (5, 128), (6, 16), (7, 1)]);
@@ -93,7 +93,7 @@ fn rows<C: Calls>(to: &mut Recorder<C>, sound: &[u8]) {
 }
 
 fn pages<C: Calls>(to: &mut Recorder<C>, sound: &[u8]) {
-    to.part("Each edit breaks the form of a notarised page: height, back height, count, zeros, back digest of height 0");
+    to.part("Each edit breaks the form of a notarised page: height, back height, count, zeros, back digest");
     let page = ObserverLayout::new(1).area(1, ObserverArea::Notarized).start;
     ask_each(to, sound, page, &[(0, 0), (0, 2), (1, 1), (2, 1), (3, 1), (4, 9), (5, 1), (15, 1)]);
     ask_each(to, sound, page, &[(16, 1), (47, 1), (48, 1), (175, 1)]);
@@ -113,7 +113,7 @@ fn two_pages<C: Calls>(to: &mut Recorder<C>) -> Vec<u8> {
 }
 
 fn free_bytes<C: Calls>(to: &mut Recorder<C>, sound: &[u8]) {
-    to.part("The page area and the certificate mask of a height with no page are free; a page certificate writes over both");
+    to.part("Page and certificate mask of a height with no page are free; a page certificate writes over both");
     let (row, area) = (start(2, ObserverArea::Row), start(2, ObserverArea::Notarized));
     let filled = (area..area.saturating_add(types::BLOCK)).map(|at| (at, 0x73));
     ask(to, sound, &filled.chain([(row.saturating_add(2), 9)]).collect::<Vec<Edit>>());

@@ -1,4 +1,4 @@
-//! The list of observers: their refusals with neighbours and orders, what certificates leave, and calls of the other kind.
+//! The list of observers: their refusals with neighbours and orders, what certificates leave, calls of the other kind.
 
 use super::observer_chains;
 use super::parts::*;

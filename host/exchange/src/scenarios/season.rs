@@ -1,4 +1,4 @@
-//! The list of a season: four replicas through five heights, one of them dishonest, none of them in step, and an observer.
+//! The list of a season: four replicas through five heights, one of them dishonest, none in step, and an observer.
 
 use super::observer_chains::settle;
 use super::observers::WATCH;

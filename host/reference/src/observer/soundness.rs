@@ -19,7 +19,7 @@ impl Rules {
     }
 }
 
-/// Whether what the book keeps of a height is in order by itself. No proposal is ever held, so that the state is 0 or 2.
+/// Whether what the book keeps of a height is in order by itself. No proposal is ever held, so the state is 0 or 2.
 fn slot_is_sound(slot: &Observed, height: Height, n: u8) -> bool {
     let masks = [slot.certificate, slot.dummies, slot.finalizes];
     masks.into_iter().all(|mask| quorum::is_within(mask, n))
