@@ -3,6 +3,8 @@
 
 mod common;
 
+#[cfg(feature = "proved")]
+use common::prints_of;
 use common::{compiler, compiles, host, prints, scratch, LANGUAGES};
 use std::collections::BTreeMap;
 use types::refusal::meaning;
@@ -31,7 +33,9 @@ fn numbers() -> BTreeMap<String, u64> {
 fn header_example_and_tests_compile_without_warnings() {
     for language in LANGUAGES {
         assert!(compiles(language, &["-include", "mavunilai.h", "-fsyntax-only", "/dev/null"]));
-        assert!(compiles(language, &["-fsyntax-only", &word("example/first_call.c")]));
+        for example in ["example/first_call.c", "example/observer.c"] {
+            assert!(compiles(language, &["-fsyntax-only", &word(example)]));
+        }
         for program in ["promises", "observers", "texts"] {
             let program = word(&format!("mavunilai/tests/c/{program}.c"));
             assert!(compiles(language, &["-fsyntax-only", &program]));
@@ -285,5 +289,29 @@ current height 2, settled height 0
 ";
     let files = [&word("example/first_call.c"), "-x", "none", env!("MAVUNILAI_ARCHIVE")];
     let printed = prints(LANGUAGES[0], "first_call", &files);
+    assert!(printed.is_none_or(|printed| printed == (expected.to_string(), true)));
+}
+
+#[test]
+#[cfg(feature = "proved")]
+fn observer_example_runs() {
+    let block = Block { height: 1, entries: vec![*b"\0swap A12 to B40"], ..Block::default() };
+    let frames = [
+        Frame::BlockCertificate { mask: 7, block }.bytes(),
+        Frame::FinalizeCertificate { mask: 13, height: 1 }.bytes(),
+        Frame::DummyVote { signer: 0, height: 1 }.bytes(),
+        Frame::FinalizeCertificate { mask: 12, height: 1 }.bytes(),
+    ];
+    let expected = "\
+frame 1: fresh
+frame 2: fresh
+frame 3: refused with 16: the frame is no certificate, and an observer takes no other
+frame 4: refused with 9: the certificate's signers are no quorum
+move 2: settled height 1
+settled height 1, 16 bytes of register
+.swap A12 to B40
+";
+    let files = [&word("example/observer.c"), "-x", "none", env!("MAVUNILAI_ARCHIVE")];
+    let printed = prints_of(LANGUAGES[0], "observer", &files, frames.as_flattened());
     assert!(printed.is_none_or(|printed| printed == (expected.to_string(), true)));
 }
