@@ -91,9 +91,9 @@ finalise signers, whether it is linked, settled and in the register), with its p
 entries and those of its pages, the reason why the current height is where it is, and
 the next move of the replica at hand. Pages and votes are named by the first eight
 digits of the digest. Of a book that is not sound the first byte is told that breaks a
-rule. Several books, of stations with the same roll, are shown side by side: a row for
-each height, a column for each station, <- at its current height. An observer's book is
-told from a station's by its length, and shown by itself.
+rule. Several books, of stations with the same roll and of observers, are shown side by
+side: a row for each height, a column for each book, <- at a station's current height.
+An observer's book is told from a station's by its length.
 ";
 
 const OPEN: &str = "\

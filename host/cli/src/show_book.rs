@@ -36,11 +36,8 @@ pub fn told(bytes: &[u8]) -> Result<Inspection, Problem> {
 
 /// The sentence about bytes that are refused with this number.
 pub fn not_sound(bytes: &[u8], number: u8) -> Problem {
-    let why = match unsound::reason(bytes) {
-        None => "it is an observer's book".to_string(),
-        Some(why) => why,
-    };
-    let (length, meaning) = (bytes.len(), meaning(number));
+    let (length, why) = (bytes.len(), unsound::reason(bytes).unwrap_or_default());
+    let meaning = meaning(number);
     Problem::input(format!("refused with {number}: {meaning} ({length} bytes): {why}"))
 }
 

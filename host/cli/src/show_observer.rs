@@ -10,7 +10,7 @@ use types::{quorum, Area, Calls, Height};
 
 /// The lines about an observer's book.
 pub fn text(bytes: &[u8]) -> Result<String, Problem> {
-    let book = inspect_observer(bytes).map_err(|number| show_book::not_sound(bytes, number))?;
+    let book = told(bytes)?;
     let register = pages::register(bytes);
     let mut rows = vec![HEADINGS.map(str::to_string).to_vec()];
     rows.extend((1..).zip(&book.heights).map(|(height, slot)| {
@@ -24,6 +24,11 @@ pub fn text(bytes: &[u8]) -> Result<String, Problem> {
         vec![next_move(bytes)],
     ];
     Ok(parts.concat().join("\n") + "\n")
+}
+
+/// What an observer's book tells; a sentence about the first rule that it breaks, if it is not sound.
+pub fn told(bytes: &[u8]) -> Result<ObserverInspection, Problem> {
+    inspect_observer(bytes).map_err(|number| show_book::not_sound(bytes, number))
 }
 
 /// The first line.

@@ -109,7 +109,46 @@ fn neither_command_takes_the_others_book() {
         denied(&format!("observer {station} {words}"), &page, "refused with 1: ");
         denied(&format!("call {book} {words}"), &page, "refused with 1: ");
     }
-    refused(&format!("show books {station} {book}"), &[], "it is an observer's book");
+}
+
+/// Beside a station's book: the same n and H, no roll to compare, and the registers are held against each other.
+#[test]
+fn books_of_both_kinds_side_by_side() {
+    let kept = folder("observers").join("beside");
+    let kept = kept.to_str().unwrap();
+    fine(&format!("replay {} --keep {kept}", list("season.txt")), &[]);
+    let shown = text(&format!("show books {kept}/watch {kept}/book3"), &[]);
+    let expected = "\
+2 books of 4 stations: 5 heights; a quorum is 3 or more.
+Observer (watch): settled height 4.
+Station 3 (book3): current height 5, settled height 4, 1 pending entry.
+
+height  leader  observer                   station 3
+1       0       page 0d4594f8 in register  page 0d4594f8 in register
+2       1       page 7173bee7 in register  page 7173bee7 in register
+3       3       blank                      blank
+4       2       page 3a1b0ed7 in register  page 3a1b0ed7 in register
+5       0       -                          - <-
+
+Of any two registers one begins the other.
+";
+    assert_eq!(shown.replace(&format!("{kept}/"), ""), expected);
+    let alone = text(&format!("show books {kept}/watch"), &[]);
+    assert!(alone.contains("\n4       -       page 3a1b0ed7 in register\n"), "{alone}");
+    let (other, words) = (watch("other"), "have not the same number of heights");
+    refused(&format!("show books {kept}/book0 {other}"), &[], words);
+    let block = Block { height: 1, entries: vec![[1; 16]], ..Block::default() };
+    let fork = [
+        Frame::BlockCertificate { mask: 7, block }.bytes(),
+        Frame::FinalizeCertificate { mask: 7, height: 1 }.bytes(),
+    ];
+    let path = folder("observers").join("forked");
+    let path = path.to_str().unwrap();
+    fine(&format!("observer {path} open --n 4 --heights 5 --force"), &[]);
+    fine(&format!("observer {path} deliver -"), &fork.concat());
+    fine(&format!("observer {path} move"), &[]);
+    let shown = text(&format!("show books {kept}/book0 {path}"), &[]);
+    assert!(shown.contains("THE REGISTERS FORK: "), "{shown}");
 }
 
 /// The observer's book at the end of the season, as it is shown.
