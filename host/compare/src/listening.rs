@@ -31,9 +31,9 @@ impl<A: Calls, B: Second> Network<'_, A, B> {
             self.observers.push(book);
             self.logs.push(Vec::new());
             self.pair.kinds.saw(match own.cmp(&heights) {
-                std::cmp::Ordering::Less => NAMES[1],
-                std::cmp::Ordering::Equal => NAMES[0],
-                std::cmp::Ordering::Greater => NAMES[2],
+                std::cmp::Ordering::Less => "network: an observer of fewer heights listens",
+                std::cmp::Ordering::Equal => "network: an observer listens",
+                std::cmp::Ordering::Greater => "network: an observer of more heights listens",
             });
         }
         Ok(())
@@ -51,7 +51,7 @@ impl<A: Calls, B: Second> Network<'_, A, B> {
         let Some(book) = self.observers.get_mut(observer) else { return Ok(()) };
         let deliver = Call::Observer(ObserverCall::Deliver { frame: frame.to_vec() });
         if self.pair.make(&deliver, book, &mut [])? == Answer::Deny(16) {
-            self.pair.kinds.saw(NAMES[4]);
+            self.pair.kinds.saw("network: an observer refuses a vote");
         }
         Ok(())
     }
@@ -62,7 +62,7 @@ impl<A: Calls, B: Second> Network<'_, A, B> {
         let Some(book) = self.observers.get_mut(observer) else { return Ok(()) };
         let answer = self.pair.make(&Call::Observer(ObserverCall::Move), book, &mut [])?;
         if let Answer::Moved(Move::Final { .. }) = answer {
-            self.pair.kinds.saw(NAMES[3]);
+            self.pair.kinds.saw("network: an observer settles");
         }
         Ok(())
     }
@@ -73,7 +73,7 @@ impl<A: Calls, B: Second> Network<'_, A, B> {
         let answer = self.pair.make(&Call::Observer(ObserverCall::Read), book, buffer)?;
         let Answer::Part(length) = answer else { return Ok(Vec::new()) };
         if length > 0 {
-            self.pair.kinds.saw(NAMES[5]);
+            self.pair.kinds.saw("network: an observer reads a log that is not empty");
         }
         Ok(buffer.iter().copied().take(usize::try_from(length).unwrap_or(0)).collect())
     }

@@ -21,10 +21,15 @@ pub const NAMES: [&str; 10] = [
 pub fn kinds(call: &Call, book: &[u8], answer: Answer) -> Vec<String> {
     let Call::Observer(call) = call else {
         let other = is_observers(book) && answer == Answer::Deny(1);
-        return if other { vec![NAMES[9].to_string()] } else { Vec::new() };
+        return if other {
+            vec!["observer: a station's call on its book".to_string()]
+        } else {
+            Vec::new()
+        };
     };
     let stations = book.len() == types::book_length(head_height(book, field::HEIGHTS));
-    let other = (stations && answer == Answer::Deny(1)).then(|| NAMES[8].to_string());
+    let other = (stations && answer == Answer::Deny(1))
+        .then(|| "observer: a call on a station's book".to_string());
     let own = match (call, answer) {
         (ObserverCall::Deliver { frame }, _) => delivered(frame, book, answer),
         (ObserverCall::Move, Answer::Moved(made)) => moved(made, book),
@@ -41,19 +46,19 @@ fn delivered(frame: &[u8], book: &[u8], answer: Answer) -> Vec<String> {
     };
     let last = head_height(book, field::HEIGHTS);
     let place = match height_at(frame, FRAME_HEIGHT) {
-        0 => NAMES[4],
-        height if height > last => NAMES[5],
-        _ => NAMES[3],
+        0 => "observer: 16, at height 0",
+        height if height > last => "observer: 16, above the last height",
+        _ => "observer: 16, at a height of the book",
     };
     let stranger = book.get(field::N).is_some_and(|n| signer >= *n);
     match answer {
         Answer::Deny(16) => {
             let kind = format!("call: observer-deliver, kind {kind}, refused with 16");
-            let signer = stranger.then(|| NAMES[6].to_string());
+            let signer = stranger.then(|| "observer: 16, of a signer that is none".to_string());
             [kind, place.to_string()].into_iter().chain(signer).collect()
         }
         Answer::Deny(4) if frame.len() == FRAME && (1..=4).contains(&kind) => {
-            vec![NAMES[7].to_string()]
+            vec!["observer: 4, where the kind is one of 1 to 4".to_string()]
         }
         Answer::Delivered(what) => {
             let word = if what == Delivered::Fresh { "fresh" } else { "known" };
@@ -68,9 +73,12 @@ fn moved(made: Move, book: &[u8]) -> Vec<String> {
     let before = head_height(book, field::FINALIZED);
     let jumps = made.height() > before.saturating_add(1);
     match made {
-        Move::Idle => vec![NAMES[2].to_string()],
-        _ if jumps => vec![NAMES[0].to_string(), NAMES[1].to_string()],
-        _ => vec![NAMES[0].to_string()],
+        Move::Idle => vec!["observer: idle".to_string()],
+        _ if jumps => vec![
+            "observer: settles a height".to_string(),
+            "observer: settles and leaves out heights between".to_string(),
+        ],
+        _ => vec!["observer: settles a height".to_string()],
     }
 }
 

@@ -1,8 +1,7 @@
 //! Lists of calls on a single observer's book, and on a station and an observer side by side.
 
 use crate::books::{any_heights, any_replicas, arguments_for};
-use crate::choose::any_call;
-use crate::choose::Recent;
+use crate::choose::{any_call, Recent};
 use crate::observer_books::{damage, garbage, strange_observer, traits};
 use crate::observer_frames::{any_certificate, any_observed_bytes};
 use crate::Random;
@@ -101,7 +100,7 @@ fn from_new<A: Calls, B: Second>(
 ) -> Outcome {
     let n = any_replicas(random);
     let mut book = open(pair, random, n, heights)?;
-    pair.kinds.saw(NAMES[0]);
+    pair.kinds.saw("observer's book: new, opened over junk");
     calls(pair, random, &mut book, count)
 }
 
@@ -113,7 +112,7 @@ fn from_strange<A: Calls, B: Second>(
     count: u64,
 ) -> Outcome {
     let mut book = strange_observer(random, heights);
-    pair.kinds.saw(NAMES[1]);
+    pair.kinds.saw("observer's book: sound, that no run makes");
     traits(&book).into_iter().for_each(|name| pair.kinds.saw(name));
     calls(pair, random, &mut book, count)
 }

@@ -3,7 +3,7 @@
 use super::observer_chains;
 use super::parts::*;
 use crate::{Call, ObserverCall, Recorder};
-use types::{Block, Calls, Frame, MOST_HEIGHTS, MOST_REPLICAS};
+use types::{Block, Calls, Frame, Height, MOST_HEIGHTS, MOST_REPLICAS};
 
 /// The book of most lines: an observer of 4 stations.
 pub const WATCH: &str = "watch";
@@ -33,13 +33,13 @@ fn observe_bytes<C: Calls>(to: &mut Recorder<C>, book: &str, frame: &[u8]) {
     to.observer(book, ObserverCall::Deliver { frame: frame.to_vec() });
 }
 
-/// Certificates of a blank and of finalises, by four stations' mask and height.
-pub fn blank(mask: u16, height: types::Height) -> Frame {
+/// A blank certificate.
+pub fn blank(mask: u16, height: Height) -> Frame {
     Frame::DummyCertificate { mask, height }
 }
 
-/// A certificate of finalises.
-pub fn finalise(mask: u16, height: types::Height) -> Frame {
+/// A finalise certificate.
+pub fn finalise(mask: u16, height: Height) -> Frame {
     Frame::FinalizeCertificate { mask, height }
 }
 
@@ -170,7 +170,7 @@ fn joined<C: Calls>(to: &mut Recorder<C>) {
     to.observer(WATCH, ObserverCall::Move);
 }
 
-fn other_page(to: &mut Recorder<impl Calls>) {
+fn other_page<C: Calls>(to: &mut Recorder<C>) {
     to.part("A page certificate sets page and mask once: the same page is known whoever signed it, another one is 10");
     to.open_observer(WATCH, 4, 2);
     let (one, two) = (first(1, &[[1; types::ENTRY]]), first(1, &[[2; types::ENTRY]]));
