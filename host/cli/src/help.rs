@@ -117,11 +117,14 @@ mavunilai call BOOK run [--out FILE]
 mavunilai call BOOK size
 mavunilai call BOOK read
 mavunilai call BOOK fetch KIND HEIGHT
+mavunilai call BOOK certificates
 
 Makes a call on the book in the file BOOK, prints the answer in the words of a list
 (docs/EXCHANGE.md), and keeps the book in its file if it changed. The frames that move
 and fetch write follow as hexadecimal digits, one to a line; read prints the entries.
-run moves until idle, and delivers what it writes to the book itself.
+run moves until idle, and delivers what it writes to the book itself. certificates
+prints all that fetch gives, kinds 5, 6 and 7 of each height, as digits and nothing else:
+what goes out with each pass and each proposal, and what an observer is given.
 FRAMES is a file, or - for standard input, with the bytes or the digits of a frame, or
 of several one behind the other (`cat` puts them so), which are delivered in order;
 ENTRY is as for `frame`: 32 hexadecimal digits, or text of 1 to 16 bytes, which is
@@ -143,8 +146,8 @@ A process may end at any time, and others may call at the same time. The book is
 (BOOK.lock, which stays) from reading to writing, after all input is there; a call waits
 while another program has it. Frames wait in BOOK.frames from before the book is
 replaced until they are printed or in FILE. If that fails the next deliver, packet,
-signal, submit, move or run begins with the line `unsent` and these frames; size, read
-and fetch leave them alone. Frames may go out twice, which is harmless. A pipe has them
+signal, submit, move or run begins with the line `unsent` and these frames; size, read,
+fetch and certificates leave them alone. Frames may go out twice, which is harmless. A pipe has them
 once it takes them, read or not: --out is safer.
 
 Example: mavunilai frame blank-vote --signer 0 --height 1 | mavunilai call book deliver -
@@ -172,7 +175,7 @@ book is locked meanwhile (BOOK.lock, which stays). Only deliver certificates who
 signatures you have checked, each signer's. `mavunilai call` does not take an observer's
 book, nor this command a station's: both refuse with 1.
 
-Example: mavunilai call book fetch 5 1 | tail -n 1 | mavunilai observer watch deliver -
+Example: mavunilai call book certificates | mavunilai observer watch deliver -
 ";
 
 const REPLAY: &str = "\

@@ -166,6 +166,30 @@ fn the_book_of_the_season_is_shown() {
     assert_eq!(registers[0], registers[1]);
 }
 
+/// All certificates of a station's book, one to a line, go into an observer's as they are printed.
+#[test]
+fn certificates_of_a_station_are_handed_on() {
+    let kept = folder("observers").join("handed");
+    let kept = kept.to_str().unwrap();
+    fine(&format!("replay {} --keep {kept}", list("season.txt")), &[]);
+    let station = format!("{kept}/book1");
+    let before = std::fs::read(&station).unwrap();
+    let certificates = text(&format!("call {station} certificates"), &[]);
+    assert_eq!(std::fs::read(&station).unwrap(), before);
+    let kinds: Vec<&str> = certificates.lines().map(|line| &line[..6]).collect();
+    assert_eq!(kinds, ["050001", "070001", "050002", "060003", "050004", "070004"]);
+    let path = folder("observers").join("given");
+    let path = path.to_str().unwrap();
+    fine(&format!("observer {path} open --n 4 --heights 5 --force"), &[]);
+    let answers = text(&format!("observer {path} deliver -"), certificates.as_bytes());
+    assert_eq!(answers, "fresh\n".repeat(6));
+    assert_eq!(text(&format!("observer {path} move"), &[]), "final 4\n");
+    let read = text(&format!("observer {path} read"), &[]);
+    assert_eq!(read, text(&format!("call {station} read"), &[]));
+    refused(&format!("call {station} certificates --out {path}"), &[], "certificates has no --out");
+    denied(&format!("call {path} certificates"), &[], "refused with 1: ");
+}
+
 #[test]
 fn what_is_wrong_with_a_book_is_told() {
     let book = watch("wrong");
