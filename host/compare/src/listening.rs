@@ -1,10 +1,9 @@
 //! The observers of a network: they hear certificates, settle now and then, and their logs are read like all others.
 
-use crate::books::any_heights;
 use crate::network::{Network, Outcome};
 use crate::{Halt, Second};
 use exchange::{Answer, Call, ObserverCall};
-use types::{observer_book_length, Calls, Height, Move, FRAME};
+use types::{observer_book_length, Calls, Height, Move, FRAME, MOST_HEIGHTS};
 
 /// The names of what must have happened.
 pub const NAMES: [&str; 6] = [
@@ -17,12 +16,14 @@ pub const NAMES: [&str; 6] = [
 ];
 
 impl<A: Calls, B: Second> Network<'_, A, B> {
-    /// Opens up to two observers over junk, some with another number of heights.
+    /// Opens one or two observers over junk, mostly, some with another number of heights.
     pub fn open_observers(&mut self, heights: Height) -> Outcome {
-        for _ in 0..self.random.below(3) {
-            let own = match self.random.one_in(3) {
-                true => any_heights(self.random),
-                false => heights,
+        let observers = if self.random.one_in(6) { 0 } else { self.random.below(2) + 1 };
+        for _ in 0..observers {
+            let own = match self.random.below(4) {
+                0 => self.random.height_below(heights.saturating_sub(1)).saturating_add(1),
+                1 => heights.saturating_add(self.random.height_below(9)).min(MOST_HEIGHTS),
+                _ => heights,
             };
             let mut book = vec![0; observer_book_length(own)];
             self.random.fill(&mut book);

@@ -59,7 +59,7 @@ pub fn list<A: Calls, B: Second>(pair: &mut Pair<A, B>, random: &mut Random) -> 
         }
         14 | 15 => {
             pair.begin("bytes that are no observer's book");
-            from_garbage(pair, random)?;
+            (0..6).try_for_each(|_| from_garbage(pair, random))?;
         }
         _ => {
             pair.begin("a station and an observer side by side");

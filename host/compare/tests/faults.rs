@@ -239,7 +239,7 @@ fn faults_that_both_have_are_found_by_the_rules_of_calls() {
         |fault, seed| run(Faulty(fault), Faulty(fault), seed, CALLS).err().unwrap_or_default();
     assert!(both(Fault::DropsOnRefusal, 3).contains("a call that may not has changed the book"));
     // What a network and what a station beside an observer show; the seed decides which comes first.
-    let found: Vec<String> = (1..=6).map(|seed| both(Fault::OwnLog, seed)).collect();
+    let found: Vec<String> = (1..=16).map(|seed| both(Fault::OwnLog, seed)).collect();
     for sentence in ["two honest logs fork", "a station and an observer beside it read different"] {
         assert!(found.iter().any(|found| found.contains(sentence)), "{found:?}");
     }
