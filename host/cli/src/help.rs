@@ -214,7 +214,7 @@ with kind, height and signer, or `deny` and a number; then `dummy`, `final`, `pa
 ";
 
 const TRY: &str = "\
-mavunilai try [--seed S] [--count N] [--seconds T] -- PROGRAM WORDS ..
+mavunilai try [--seed S] [--count N] [--seconds T] [--stations] -- PROGRAM WORDS ..
 
 Starts PROGRAM, a replica of your own, and asks it for N calls (10000 if not said), one
 to a line; it answers each with one line. docs/EXCHANGE.md has the form of both. The
@@ -224,7 +224,8 @@ book and of the reply is held against the replica at hand. At the first differen
 says the case and the call, both answers and the fields in which the books and replies
 differ, prints a list of that one call that `replay` takes, and ends with status 1; so it
 does if PROGRAM ends, prints what is no answer or too much, or says nothing for T seconds
-(10 if not said). What PROGRAM writes to its standard error goes by.
+(10 if not said). What PROGRAM writes to its standard error goes by. With --stations no
+call of an observer is made, for a replica that has none.
 
 Example: mavunilai try --count 1000 -- mavunilai answer
 ";

@@ -18,7 +18,8 @@ pub const NAMES: [&str; 6] = [
 impl<A: Calls, B: Second> Network<'_, A, B> {
     /// Opens one or two observers over junk, mostly, some with another number of heights.
     pub fn open_observers(&mut self, heights: Height) -> Outcome {
-        let observers = if self.random.one_in(6) { 0 } else { self.random.below(2) + 1 };
+        let none = !self.pair.has_observers() || self.random.one_in(6);
+        let observers = if none { 0 } else { self.random.below(2) + 1 };
         for _ in 0..observers {
             let own = match self.random.below(4) {
                 0 => self.random.height_below(heights.saturating_sub(1)).saturating_add(1),

@@ -42,7 +42,7 @@ pub fn walk<A: Calls, B: Second>(
             false => {
                 report.lists += 1;
                 match part % OBSERVERS {
-                    0 => observer_single::list(pair, &mut random),
+                    0 if pair.has_observers() => observer_single::list(pair, &mut random),
                     _ => single::list(pair, &mut random).map(|()| None),
                 }
             }
