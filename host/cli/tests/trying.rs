@@ -32,9 +32,9 @@ fn the_command_answers_as_it_does_itself() {
 #[test]
 fn a_replica_without_observers_is_asked_for_stations_calls_alone() {
     let without = "sed -u 's/^observer-[a-z]*/dance/' | M answer";
-    let ended = tried("--count 6000 --stations", without);
+    let ended = tried("--count 1000 --stations", without);
     assert_eq!((ended.status, ended.complaint.as_str()), (0, ""));
-    let ended = tried("--count 6000", without);
+    let ended = tried("--count 1000", without);
     assert_eq!(ended.status, 1);
     assert!(ended.complaint.contains("\nthe call: observer-"), "{}", ended.complaint);
 }
