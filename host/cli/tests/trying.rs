@@ -31,7 +31,8 @@ fn the_command_answers_as_it_does_itself() {
 
 #[test]
 fn a_replica_without_observers_is_asked_for_stations_calls_alone() {
-    let without = "sed -u 's/^observer-[a-z]*/dance/' | M answer";
+    // A program that takes every call of an observer for the size of a station's register.
+    let without = "sed -u 's/^observer-[a-z]* \\([^ ]*\\).*/size \\1/' | M answer";
     let ended = tried("--count 1000 --stations", without);
     assert_eq!((ended.status, ended.complaint.as_str()), (0, ""));
     let ended = tried("--count 1000", without);
