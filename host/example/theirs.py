@@ -8,7 +8,8 @@ difference soon.
 """
 import sys
 
-LENT = {"move": 2, "read": 2, "fetch": 4}  # where a reply or reading buffer stands among the words of a call
+# Where a reply or reading buffer stands among the words of a call.
+LENT = {"move": 2, "read": 2, "fetch": 4, "observer-read": 2}
 
 
 def parse(text):
@@ -24,7 +25,7 @@ def literal(data):
 def replica(name, book, buffer, words):
     """Makes the call on two bytearrays and returns its answer in words; words are its other arguments as text."""
     if name != "open":
-        return "part 0" if name == "read" else "deny 1"
+        return "part 0" if name.endswith("read") else "deny 1"
     n, own, heights, roll = int(words[0]), int(words[1]), int(words[2]), parse(words[3])
     in_range = 1 <= n <= 16 and own < n and 1 <= heights <= 63 and len(roll) == heights
     if not in_range or any(leader >= n for leader in roll):

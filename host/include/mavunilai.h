@@ -2,7 +2,8 @@
  *
  * A book is 576 + 880 * H bytes that you own and keep (H heights, 1 to 63). Lend it to every call; nothing else is
  * remembered between calls, nothing is allocated, and no call keeps a pointer. So threads may call at the same time, as
- * long as each has a book and buffers of its own.
+ * long as each has a book and buffers of its own. An observer, which follows the register without a vote, has a book of
+ * 64 + 184 * H bytes and calls of its own, mavunilai_observer_..; neither's calls take the other's book.
  *
  * What you owe for each pointer and the length behind it, and nothing checks:
  *   - So many bytes are there, readable, and writable too where the pointer is not const. No alignment is needed.
@@ -22,11 +23,11 @@
  * answers the first in the order given with it. What stands above the lowest byte is told at each call; where nothing
  * is told it is 0.
  *
- * The packing is defined in crates/packing/specs/Packing.antt, and the contracts in crates/replica_c/src/lib.rt say that
- * each call returns the packed answer of document 01's call and leaves its bytes; docs/GUIDE.md leads there. That the
- * functions below which take an answer apart give back what was packed is proved of their counterparts in
- * Unpacking.antt beside it; names and bodies of this file itself are not proved, the host's tests hold them to the
- * library.
+ * The packing is defined in crates/packing/specs/Packing.antt, and the contracts in crates/replica_c/src/lib.rt say
+ * that each call returns the packed answer of its definition, after documents 01 and 02, and leaves its bytes;
+ * docs/GUIDE.md leads there. That the functions below which take an answer apart give back what was packed is proved of
+ * their counterparts in Unpacking.antt beside it; names and bodies of this file itself are not proved, the host's tests
+ * hold them to the library.
  */
 #ifndef MAVUNILAI_H
 #define MAVUNILAI_H
@@ -41,7 +42,7 @@ extern "C" {
 /* The number of the interface that this header declares. It goes up with each call that is added, and with each change
  * to a call's arguments or to the set of its answers. A change of a rule by which a call chooses another of the answers
  * that it had leaves the number as it is: a program that was built before still fits. */
-#define MAVUNILAI_INTERFACE 2u
+#define MAVUNILAI_INTERFACE 3u
 
 /* The number of the interface that the library has. */
 uint64_t mavunilai_interface(void);
@@ -54,6 +55,7 @@ static inline int mavunilai_fits(void) {
 /* ---- Lengths in bytes ---- */
 
 #define MAVUNILAI_BOOK(heights) (576u + 880u * (size_t)(heights))
+#define MAVUNILAI_OBSERVER_BOOK(heights) (64u + 184u * (size_t)(heights))
 #define MAVUNILAI_FRAME 224u
 #define MAVUNILAI_PAGE 176u
 #define MAVUNILAI_ENTRY 16u
@@ -69,6 +71,7 @@ static inline int mavunilai_fits(void) {
 #define MAVUNILAI_MOST_PAGE_ENTRIES 8u /* entries of one page */
 #define MAVUNILAI_MOST_REGISTER 8064u  /* bytes: 63 pages of 8 entries of 16 */
 #define MAVUNILAI_MOST_BOOK 56016u     /* bytes: MAVUNILAI_BOOK(63) */
+#define MAVUNILAI_MOST_OBSERVER_BOOK 11656u /* bytes: MAVUNILAI_OBSERVER_BOOK(63) */
 
 /* ---- Refusals ---- */
 
@@ -87,6 +90,7 @@ static inline int mavunilai_fits(void) {
 #define MAVUNILAI_REFUSED_ENTRY_KNOWN 13u     /* the entry is pending or in the register */
 #define MAVUNILAI_REFUSED_NOT_DUE 14u         /* signal not for the current height, or its timer fired before */
 #define MAVUNILAI_REFUSED_UNEVEN_PACKET 15u   /* the packet's length is not a multiple of 224 */
+#define MAVUNILAI_REFUSED_NOT_A_CERTIFICATE 16u /* an observer was given a frame of kinds 1 to 4 */
 
 /* What a refusal means, for people: one sentence without the full stop. */
 static inline const char *mavunilai_refusal_text(unsigned refusal) {
@@ -107,6 +111,7 @@ static inline const char *mavunilai_refusal_text(unsigned refusal) {
     case MAVUNILAI_REFUSED_ENTRY_KNOWN: return "the entry is pending or in the register already";
     case MAVUNILAI_REFUSED_NOT_DUE: return "the signal is not for the current height, or its timer fired before";
     case MAVUNILAI_REFUSED_UNEVEN_PACKET: return "the packet's length is not a multiple of 224";
+    case MAVUNILAI_REFUSED_NOT_A_CERTIFICATE: return "the frame is no certificate, and an observer takes no other";
     default: return "this is no number of the table of refusals";
     }
 }
@@ -157,6 +162,15 @@ static inline const char *mavunilai_refusal_text(unsigned refusal) {
 #define MAVUNILAI_FLAG_PAGE_VOTE 4u
 #define MAVUNILAI_FLAG_PROPOSED 8u
 
+/* An observer's book: its head is laid out so too, with own number, flags, current height and pending count 0. Then
+ * come rows of 8 bytes, one for each height, then the notarised pages, 176 bytes for each height. */
+#define MAVUNILAI_OBSERVER_ROWS_AT 64u
+#define MAVUNILAI_OBSERVER_ROW 8u           /* state, 0 or 2; a zero; three masks of two bytes, the low one first */
+#define MAVUNILAI_OBSERVER_ROW_PAGE 2u      /* within a row: signers of the page certificate */
+#define MAVUNILAI_OBSERVER_ROW_BLANK 4u     /* signers of blank certificates */
+#define MAVUNILAI_OBSERVER_ROW_FINALISE 6u  /* signers of finalise certificates */
+#define MAVUNILAI_STATE_NOTARISED 2u        /* a page is notarised; of a station's row as well */
+
 /* These four read bytes of a book and check nothing of it: they are for a book that a call has taken, so not refused
  * with 1, and that no other hand has changed since. Bytes that no call has taken may be too few to be read at all. */
 
@@ -165,7 +179,7 @@ static inline unsigned mavunilai_current(const uint8_t *book) {
     return book[MAVUNILAI_HEAD_CURRENT];
 }
 
-/* The settled height, 0 to H. */
+/* The settled height, 0 to H; of a station's book and of an observer's. */
 static inline unsigned mavunilai_settled(const uint8_t *book) {
     return book[MAVUNILAI_HEAD_SETTLED];
 }
@@ -289,9 +303,9 @@ mavunilai_answer mavunilai_packet(uint8_t *book, size_t book_len, const uint8_t 
 /* Makes the first move that applies; call it until it is idle. The reply needs 448 bytes or more.
  * Refusals: 1, 3. Else the answer's bytes are
  *   1 (mavunilai_made)         the move, 0 to 5
- *   2 (mavunilai_height)       its height; for move 2 the new settled height; 0 if idle
- *   3 (mavunilai_certificate)  for a pass the kind of the first frame, 5 page or 6 blank certificate; else 0
- *   4 (mavunilai_finalise)     for a pass 4 if the second frame is a finalise, else 0
+ *   2, 3 (mavunilai_height)    its height; for move 2 the new settled height; 0 if idle
+ *   4 (mavunilai_certificate)  for a pass the kind of the first frame, 5 page or 6 blank certificate; else 0
+ *   5 (mavunilai_finalise)     for a pass 4 if the second frame is a finalise, else 0
  * Moves 1, 4 and 5 write bytes 0 to 223 of the reply, one frame. Move 3 writes bytes 0 to 447: the certificate, then
  * the finalise or zeros, which are no frame. Moves 0 and 2 write none. Of the book only bytes of the head change: the
  * flags (moves 1, 4, 5), the settled height (2), the current height and the flags (3), none if idle. What a move wrote
@@ -321,6 +335,36 @@ uint64_t mavunilai_read(const uint8_t *book, size_t book_len, uint8_t *buffer, s
  * Refusals: 1, 4, 6, 3, 11. Bytes of the reply past 223 keep their values. */
 mavunilai_answer mavunilai_fetch(const uint8_t *book, size_t book_len, uint64_t kind, uint64_t height, uint8_t *reply,
                                  size_t reply_len);
+
+/* ---- The calls of an observer ----
+ *
+ * An observer has no vote, no timer and nothing to send. It is given certificates, settles, and reads: the registers
+ * that it and honest stations read are beginnings of one another. These calls take an observer's book alone; to them a
+ * station's book is not sound, and to the calls above an observer's is not. */
+
+/* Makes a new observer's book over `n` stations, with `heights` heights: `book_len` must be
+ * MAVUNILAI_OBSERVER_BOOK(heights). The book's old bytes do not matter.
+ * Refusals: 2, 1. After 0 the book is new: n, heights and edition 1 stand in it, and every other byte is 0. */
+mavunilai_answer mavunilai_observer_open(uint8_t *book, size_t book_len, uint64_t n, uint64_t heights);
+
+/* Takes one certificate, a frame of kind 5, 6 or 7, whose signatures you have checked, each one's.
+ * Refusals: 1, 4, 16, 6, 5, 9, 10. A frame of kinds 1 to 4 that is well formed is 16, whatever its height and signer.
+ * Else byte 1 of the answer (mavunilai_fresh) is 1 if the frame was fresh: the book now holds what it states; 0 if it
+ * was known: the book is as before. Of the book only the frame's height changes: its row and its page. */
+mavunilai_answer mavunilai_observer_deliver(uint8_t *book, size_t book_len, const uint8_t *frame, size_t frame_len);
+
+/* Lets the settled height follow the certificates; nothing but the book is written, so that no reply is lent.
+ * Refusals: 1. Else the answer is packed as that of mavunilai_move: move MAVUNILAI_MOVE_SETTLE with the new settled
+ * height, the one byte of the book that changes, or MAVUNILAI_MOVE_IDLE. After the first the next one is idle, until a
+ * certificate comes. */
+mavunilai_answer mavunilai_observer_move(uint8_t *book, size_t book_len);
+
+/* The register's length in bytes, as mavunilai_size: mavunilai_bytes of the answer. Refusals: 1. No byte changes. */
+mavunilai_answer mavunilai_observer_size(const uint8_t *book, size_t book_len);
+
+/* Writes the register to the front of the buffer and returns the number of bytes of the part read, as mavunilai_read:
+ * no packed answer, and 0, with nothing written, where the book is not sound or the buffer is too short. */
+uint64_t mavunilai_observer_read(const uint8_t *book, size_t book_len, uint8_t *buffer, size_t buffer_len);
 
 #ifdef __cplusplus
 }

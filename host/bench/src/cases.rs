@@ -1,5 +1,6 @@
-//! The cases: every call, on a book of some size and filling.
+//! The cases: every call, on a book of some size and filling; then those of an observer beside it.
 
+use crate::observer_cases::observer_cases;
 use crate::station::{entry, Fill, Size, Station};
 use crate::Case;
 use exchange::Call;
@@ -18,6 +19,8 @@ pub fn cases(size: Size, fill: Fill) -> Result<Vec<Case>, String> {
     cases.extend(start.deliveries()?);
     cases.extend(start.moves()?);
     cases.extend(start.others()?);
+    let stations = [start.with_open_height(None)?, start.closed()?, start.behind()?];
+    cases.extend(observer_cases(size, fill, stations.each_ref())?);
     Ok(cases)
 }
 

@@ -1,8 +1,8 @@
-//! Measures two replicas side by side: every call, on empty and on full books, at few and at many heights, and packets
-//! beside single deliveries.
+//! Measures two replicas side by side: every call, a station's and an observer's, on empty and on full books, at few
+//! and at many heights, and packets beside single deliveries.
 //!
-//! Both replicas make the same call on copies of the same book, in rounds that alternate. What counts is the ratio of the
-//! medians, so that a busy machine disturbs both alike.
+//! Both replicas make the same call on copies of the same book, in rounds that alternate. What counts is the ratio of
+//! the medians, so that a busy machine disturbs both alike.
 
 #![warn(clippy::unwrap_used, clippy::expect_used, clippy::panic)]
 
@@ -10,6 +10,7 @@ mod case;
 mod cases;
 mod measure;
 mod median;
+mod observer_cases;
 mod packet_case;
 mod packet_table;
 mod run;

@@ -7,12 +7,12 @@ use std::process::ExitCode;
 const HELP: &str = "\
 bench [--rounds N] [--only TEXT]
 
-Makes every call on the proved replica and on the reference in N rounds that
-alternate (1001 if not said), on empty and on full books of 8 and of 63 heights with
-4 and with 16 replicas, and prints tables in Markdown. A cell has how many times as
-fast the proved replica is, above 1 where it is faster, and its microseconds for a
-call in brackets. Growth is the time at 63 heights over that at 8, the reference's
-in brackets. A last table has packets of 1 to 400 frames on a full book of 63 heights,
+Makes every call, a station's and an observer's, on the proved replica and on the
+reference in N rounds that alternate (1001 if not said), on empty and on full books of
+8 and of 63 heights with 4 and with 16 replicas, and prints tables in Markdown. A cell
+has how many times as fast the proved replica is, above 1 where it is faster, and its
+microseconds for a call in brackets. Growth is the time at 63 heights over that at 8,
+the reference's in brackets. A last table has packets of 1 to 400 frames on a full book of 63 heights,
 in N / 10 rounds: the proved replica's microseconds, how many times as long it takes
 to deliver the frames one by one, and how many times as long the reference takes for
 the packet. All are medians over the rounds. With --only, cases whose name has TEXT in

@@ -6,7 +6,7 @@ use crate::page_options::entry;
 use crate::problem::Problem;
 use crate::{files, station, words};
 use exchange::{Answer, Call};
-use types::{Calls, ENTRY, FRAME};
+use types::{Book, Calls, ENTRY, FRAME};
 
 /// What is asked for; all input is read before the book is.
 enum Request {
@@ -20,6 +20,8 @@ enum Request {
     Submit([u8; ENTRY]),
     /// Moves until idle, own frames delivered.
     Run,
+    /// All that fetch gives.
+    Certificates,
 }
 
 /// Makes the calls, prints what they answer and write, and keeps the book if it changed.
@@ -36,7 +38,10 @@ pub fn run(words: &[String], output: &mut Vec<u8>) -> Result<(), Problem> {
         (Request::One(Call::Move), _) => station::open(file, out)?.make_move(),
         (Request::One(Call::Signal { height }), _) => station::open(file, out)?.signal(height),
         (Request::Submit(entry), _) => station::open(file, out)?.submit(&entry),
-        (Request::One(_), Some(_)) => Err(Problem::input(format!("{name} has no --out"))),
+        (Request::One(_) | Request::Certificates, Some(_)) => {
+            Err(Problem::input(format!("{name} has no --out")))
+        }
+        (Request::Certificates, None) => certificates(file, output),
         (Request::One(call), None) => ask(&call, file, output),
     }
 }
@@ -45,6 +50,7 @@ pub fn run(words: &[String], output: &mut Vec<u8>) -> Result<(), Problem> {
 fn request(name: &str, rest: &[String]) -> Result<Request, Problem> {
     Ok(Request::One(match (name, rest) {
         ("run", []) => return Ok(Request::Run),
+        ("certificates", []) => return Ok(Request::Certificates),
         ("submit", [text]) => return Ok(Request::Submit(entry(text)?)),
         ("deliver", [file]) => return Ok(Request::Deliver(frames(files::read_bytes(file)?))),
         ("packet", [file]) => return Ok(Request::Packet(files::read_bytes(file)?)),
@@ -62,7 +68,7 @@ fn request(name: &str, rest: &[String]) -> Result<Request, Problem> {
 }
 
 /// The frames in some bytes: several if the length is theirs, else one, whatever it is.
-fn frames(bytes: Vec<u8>) -> Vec<Vec<u8>> {
+pub fn frames(bytes: Vec<u8>) -> Vec<Vec<u8>> {
     match bytes.as_chunks::<FRAME>() {
         (frames @ [_, ..], []) => frames.iter().map(|frame| frame.to_vec()).collect(),
         _ => vec![bytes],
@@ -86,6 +92,15 @@ fn ask(call: &Call, file: &str, output: &mut Vec<u8>) -> Result<(), Problem> {
     };
     output.extend(format!("{answer}\n").into_bytes());
     lines.iter().for_each(|line| output.extend(format!("{line}\n").into_bytes()));
+    Ok(())
+}
+
+/// Prints all certificates that the book holds, one to a line, and nothing else.
+fn certificates(file: &str, output: &mut Vec<u8>) -> Result<(), Problem> {
+    let book = Book::from_bytes(REPLICA, store::read(file)?)
+        .map_err(|refusal| Problem::refused(refusal.number()))?;
+    let lines = book.certificates().into_iter().map(|frame| words::hex(&frame) + "\n");
+    lines.for_each(|line| output.extend(line.into_bytes()));
     Ok(())
 }
 

@@ -19,6 +19,7 @@ pub fn print(name: &str, output: &mut Vec<u8>) -> Result<(), Problem> {
         "show" => SHOW,
         "open" => OPEN,
         "call" => CALL,
+        "observer" => OBSERVER,
         "replay" => REPLAY,
         "record" => RECORD,
         "rehearsal" => REHEARSAL,
@@ -38,6 +39,7 @@ mavunilai COMMAND ..
   show       show a frame or a book in words
   open       keep a new book in a file
   call       make calls on a book that is kept in a file
+  observer   follow the register without a vote: calls on an observer's book in a file
   replay     make the calls of a list and compare answers and digests
   record     write a list with its answers and digests
   diff       tell the fields in which two books differ
@@ -89,8 +91,9 @@ finalise signers, whether it is linked, settled and in the register), with its p
 entries and those of its pages, the reason why the current height is where it is, and
 the next move of the replica at hand. Pages and votes are named by the first eight
 digits of the digest. Of a book that is not sound the first byte is told that breaks a
-rule. Several books, of stations with the same roll, are shown side by side: a row for
-each height, a column for each station, <- at its current height.
+rule. Several books, of stations with the same roll and of observers, are shown side by
+side: a row for each height, a column for each book, <- at a station's current height.
+An observer's book is told from a station's by its length.
 ";
 
 const OPEN: &str = "\
@@ -114,11 +117,14 @@ mavunilai call BOOK run [--out FILE]
 mavunilai call BOOK size
 mavunilai call BOOK read
 mavunilai call BOOK fetch KIND HEIGHT
+mavunilai call BOOK certificates
 
 Makes a call on the book in the file BOOK, prints the answer in the words of a list
 (docs/EXCHANGE.md), and keeps the book in its file if it changed. The frames that move
 and fetch write follow as hexadecimal digits, one to a line; read prints the entries.
-run moves until idle, and delivers what it writes to the book itself.
+run moves until idle, and delivers what it writes to the book itself. certificates
+prints all that fetch gives, kinds 5, 6 and 7 of each height, as digits and nothing else:
+what goes out with each pass and each proposal, and what an observer is given.
 FRAMES is a file, or - for standard input, with the bytes or the digits of a frame, or
 of several one behind the other (`cat` puts them so), which are delivered in order;
 ENTRY is as for `frame`: 32 hexadecimal digits, or text of 1 to 16 bytes, which is
@@ -140,11 +146,36 @@ A process may end at any time, and others may call at the same time. The book is
 (BOOK.lock, which stays) from reading to writing, after all input is there; a call waits
 while another program has it. Frames wait in BOOK.frames from before the book is
 replaced until they are printed or in FILE. If that fails the next deliver, packet,
-signal, submit, move or run begins with the line `unsent` and these frames; size, read
-and fetch leave them alone. Frames may go out twice, which is harmless. A pipe has them
+signal, submit, move or run begins with the line `unsent` and these frames; size, read,
+fetch and certificates leave them alone. Frames may go out twice, which is harmless. A pipe has them
 once it takes them, read or not: --out is safer.
 
 Example: mavunilai frame blank-vote --signer 0 --height 1 | mavunilai call book deliver -
+";
+
+const OBSERVER: &str = "\
+mavunilai observer BOOK open --n N --heights H [--force]
+mavunilai observer BOOK deliver FRAMES
+mavunilai observer BOOK move
+mavunilai observer BOOK size
+mavunilai observer BOOK read
+
+An observer follows the register of N stations without a vote: it is given certificates,
+frames of kinds 5 to 7, settles, and reads. It has no timer and sends nothing. open keeps
+a new book in the file BOOK (- is standard output), for H heights, those of the stations;
+a file that is there is left alone unless --force begins anew. deliver takes the frames of
+the file FRAMES (- is standard input; bytes or digits, one or several), in order: each has
+its line, fresh, known, or `deny` and a number; 16 is a frame that is no certificate, and
+any refusal makes the status 3, while the others are taken all the same. move prints
+`final` and the settled height if it grew, else `idle`; after deliver one move is enough.
+size and read print what the register holds by then.
+
+What a call prints is synced to the file first, however many frames it was given, and the
+book is locked meanwhile (BOOK.lock, which stays). Only deliver certificates whose
+signatures you have checked, each signer's. `mavunilai call` does not take an observer's
+book, nor this command a station's: both refuse with 1.
+
+Example: mavunilai call book certificates | mavunilai observer watch deliver -
 ";
 
 const REPLAY: &str = "\
@@ -168,9 +199,9 @@ mavunilai record --folder FOLDER
 
 Prints the list of FILE (- is standard input) with the answers and digests that the
 replica gives now; the calls may stand there without any. --scenario prints a ready list:
-refusals, orders, moves, corners, rehearsal, season or books. --random prints N calls
-(1000 if not said) as `try` makes them from this seed. With --full the list has the bytes
-of the buffers and not their digests. --folder writes all ready lists there.
+refusals, orders, moves, corners, rehearsal, season, books or observers. --random prints
+N calls (1000 if not said) as `try` makes them from this seed. With --full the list has
+the bytes of the buffers and not their digests. --folder writes all ready lists there.
 ";
 
 const REHEARSAL: &str = "\
@@ -183,17 +214,18 @@ with kind, height and signer, or `deny` and a number; then `dummy`, `final`, `pa
 ";
 
 const TRY: &str = "\
-mavunilai try [--seed S] [--count N] [--seconds T] -- PROGRAM WORDS ..
+mavunilai try [--seed S] [--count N] [--seconds T] [--stations] -- PROGRAM WORDS ..
 
 Starts PROGRAM, a replica of your own, and asks it for N calls (10000 if not said), one
 to a line; it answers each with one line. docs/EXCHANGE.md has the form of both. The
 seed S (1 if not said) decides the calls: lists on single books, sound, damaged and
-others, and whole networks with dishonest stations. Every answer and every byte of the
+others, observers' too, and whole networks with dishonest stations and observers. Every answer and every byte of the
 book and of the reply is held against the replica at hand. At the first difference it
 says the case and the call, both answers and the fields in which the books and replies
 differ, prints a list of that one call that `replay` takes, and ends with status 1; so it
 does if PROGRAM ends, prints what is no answer or too much, or says nothing for T seconds
-(10 if not said). What PROGRAM writes to its standard error goes by.
+(10 if not said). What PROGRAM writes to its standard error goes by. With --stations no
+call of an observer is made, for a replica that has none.
 
 Example: mavunilai try --count 1000 -- mavunilai answer
 ";

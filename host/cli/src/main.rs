@@ -13,6 +13,7 @@ mod diff_command;
 mod files;
 mod frame_command;
 mod help;
+mod observer_command;
 mod open_command;
 mod page_options;
 mod pages;
@@ -24,6 +25,7 @@ mod show_book;
 mod show_books;
 mod show_command;
 mod show_frame;
+mod show_observer;
 mod station;
 mod table;
 mod theirs;
@@ -31,6 +33,7 @@ mod told;
 mod try_command;
 mod unmet;
 mod unsound;
+mod unsound_observer;
 mod why;
 mod words;
 
@@ -77,6 +80,7 @@ fn run(words: &[String], output: &mut Vec<u8>) -> Result<(), Problem> {
         "show" => show_command::run(rest, output),
         "open" => open_command::run(rest, output),
         "call" => call_command::run(rest, output),
+        "observer" => observer_command::run(rest, output),
         "replay" => replay_command::run(rest, output),
         "record" => record_command::run(rest, output),
         "rehearsal" => rehearsal_command::run(rest, output),

@@ -24,8 +24,13 @@ pub fn run(words: &[String], output: &mut Vec<u8>) -> Result<(), Problem> {
         (_, true) => FileBook::overwrite(book, file),
         (_, false) => FileBook::create(book, file),
     };
+    ended(kept.map(|_| ()))
+}
+
+/// What became of keeping a new book; where a file is there it says how to begin anew.
+pub fn ended(kept: Result<(), Error>) -> Result<(), Problem> {
     match kept {
-        Ok(_) => Ok(()),
+        Ok(()) => Ok(()),
         Err(error @ Error::Exists(_)) => {
             Err(Problem::input(format!("{error}; --force begins a new book in its place")))
         }

@@ -1,8 +1,9 @@
-//! The pages, votes and entries of a sound book, read from its bytes.
+//! The pages, votes and entries of a sound book, a station's or an observer's, read from its bytes.
 
 use crate::words::{count, members, short};
 use reference::sha256;
-use types::{field, head_height, Area, Block, Height, Layout, BLOCK, ENTRY};
+use types::{field, head_height, is_observers, Area, Block, Height, Layout, BLOCK, ENTRY};
+use types::{ObserverArea, ObserverLayout};
 
 /// A page with its digest.
 #[derive(Clone, Debug, PartialEq, Eq)]
@@ -24,16 +25,29 @@ impl Page {
     }
 }
 
-/// The bytes of an area of a height.
+/// The bytes of an area of a height, none where the book is an observer's and has no such area.
 fn area(book: &[u8], height: Height, area: Area) -> &[u8] {
     let heights = head_height(book, field::HEIGHTS);
-    book.get(Layout::new(heights).area(height, area)).unwrap_or(&[])
+    let observers = ObserverLayout::new(heights);
+    let range = match (is_observers(book), area) {
+        (false, _) => Layout::new(heights).area(height, area),
+        (true, Area::Row) => observers.area(height, ObserverArea::Row),
+        (true, Area::Notarized) => observers.area(height, ObserverArea::Notarized),
+        (true, Area::Held | Area::Votes) => 0..0,
+    };
+    book.get(range).unwrap_or(&[])
+}
+
+/// The state of a height; an observer's row begins with it, a station's with the leader.
+fn state(book: &[u8], height: Height) -> u8 {
+    let at = if is_observers(book) { 0 } else { 1 };
+    area(book, height, Area::Row).get(at).copied().unwrap_or(0)
 }
 
 /// The held proposal or the notarised page of a height, if it has one.
 pub fn page(book: &[u8], height: Height, which: Area) -> Option<Page> {
     let bit = if which == Area::Held { 1 } else { 2 };
-    let state = area(book, height, Area::Row).get(1).copied().unwrap_or(0);
+    let state = state(book, height);
     let bytes: &[u8; BLOCK] = area(book, height, which).try_into().ok()?;
     let page = Page { digest: sha256::digest(bytes), block: Block::parts(bytes) };
     (state & bit != 0).then_some(page)

@@ -3,13 +3,16 @@
 use crate::pages::{self, Page};
 use crate::problem::Problem;
 use crate::words::{count, entry, members};
-use crate::{table, unsound, why};
+use crate::{show_observer, table, unsound, why};
 use reference::inspect::{inspect, AtHeight, Inspection};
 use types::refusal::meaning;
-use types::{quorum, Area, Height};
+use types::{is_observers, quorum, Area, Height};
 
-/// The lines about a book.
+/// The lines about a book, a station's or an observer's.
 pub fn text(bytes: &[u8]) -> Result<String, Problem> {
+    if is_observers(bytes) {
+        return show_observer::text(bytes);
+    }
     let book = told(bytes)?;
     let mut rows = vec![HEADINGS.map(str::to_string).to_vec()];
     let register = pages::register(bytes);
@@ -20,7 +23,7 @@ pub fn text(bytes: &[u8]) -> Result<String, Problem> {
     let parts = [
         vec![head(&book), String::new(), table::print(&rows)],
         pending(&book, bytes),
-        entries(bytes, &book, &register),
+        entries(bytes, Height::try_from(book.heights.len()).unwrap_or(Height::MAX), &register),
         why::lines(&book, bytes),
     ];
     Ok(parts.concat().join("\n") + "\n")
@@ -28,11 +31,14 @@ pub fn text(bytes: &[u8]) -> Result<String, Problem> {
 
 /// What a book tells; a sentence about the first rule that it breaks, if it is not sound.
 pub fn told(bytes: &[u8]) -> Result<Inspection, Problem> {
-    inspect(bytes).map_err(|number| {
-        let (length, why) = (bytes.len(), unsound::reason(bytes).unwrap_or_default());
-        let meaning = meaning(number);
-        Problem::input(format!("refused with {number}: {meaning} ({length} bytes): {why}"))
-    })
+    inspect(bytes).map_err(|number| not_sound(bytes, number))
+}
+
+/// The sentence about bytes that are refused with this number.
+pub fn not_sound(bytes: &[u8], number: u8) -> Problem {
+    let (length, why) = (bytes.len(), unsound::reason(bytes).unwrap_or_default());
+    let meaning = meaning(number);
+    Problem::input(format!("refused with {number}: {meaning} ({length} bytes): {why}"))
 }
 
 /// The first line.
@@ -105,9 +111,9 @@ fn pending(book: &Inspection, bytes: &[u8]) -> Vec<String> {
 }
 
 /// The entries of all pages that have some, height by height; a page that is held and notarised stands once.
-fn entries(bytes: &[u8], book: &Inspection, register: &[Height]) -> Vec<String> {
+pub fn entries(bytes: &[u8], last: Height, register: &[Height]) -> Vec<String> {
     let mut lines = Vec::new();
-    for (height, _) in (1..).zip(&book.heights) {
+    for height in 1..=last {
         let [held, notarized] =
             [Area::Held, Area::Notarized].map(|area| pages::page(bytes, height, area));
         let held = held.filter(|held| notarized.as_ref() != Some(held));

@@ -1,17 +1,34 @@
-//! Books of several stations side by side: one row for each height, one column for each station.
+//! Books of several stations and observers side by side: one row for each height, one column for each book.
 
 use crate::chosen::REPLICA;
 use crate::problem::Problem;
 use crate::words::count;
-use crate::{files, pages, show_book, table};
-use reference::inspect::{AtHeight, Inspection};
-use types::{quorum, Area, Calls, Height};
+use crate::{files, pages, show_book, show_observer, table};
+use types::{is_observers, quorum, Area, Calls, Height};
+
+/// What a book says of a height.
+struct Slot {
+    dummy: bool,
+    linked: bool,
+    finalized: bool,
+}
+
+/// What a station's book has and an observer's has not.
+struct Station {
+    own: u8,
+    current: Height,
+    pending: u8,
+    roll: Vec<u8>,
+}
 
 /// A book with the name of its file.
 struct Shown {
     name: String,
     bytes: Vec<u8>,
-    told: Inspection,
+    n: u8,
+    finalized: Height,
+    station: Option<Station>,
+    heights: Vec<Slot>,
     register: Vec<Height>,
 }
 
@@ -21,33 +38,70 @@ pub fn text(names: &[String]) -> Result<String, Problem> {
     let Some(first) = books.first() else {
         return Err(Problem::input("the files of books are missing"));
     };
-    books.iter().try_for_each(|book| fits(first, book))?;
+    let station = books.iter().find(|book| book.station.is_some()).unwrap_or(first);
+    books.iter().try_for_each(|book| fits(station, book))?;
     let mut lines = vec![head(first, books.len())];
     lines.extend(books.iter().map(line));
     lines.push(String::new());
-    lines.push(table::print(&rows(first, &books)));
+    lines.push(table::print(&rows(station, &books)));
     lines.push(registers(&books));
     Ok(lines.join("\n") + "\n")
 }
 
-/// Reads a book.
+/// Reads a book of either kind.
 fn read(name: &str) -> Result<Shown, Problem> {
     let bytes = files::read_bytes(name)?;
-    let wrong =
-        |problem: Problem| Problem { sentence: format!("{name}: {}", problem.sentence), ..problem };
-    let told = show_book::told(&bytes).map_err(wrong)?;
-    let register = pages::register(&bytes);
-    Ok(Shown { name: name.to_string(), bytes, told, register })
+    let read = if is_observers(&bytes) { observer(name, bytes) } else { station(name, bytes) };
+    read.map_err(|problem| Problem { sentence: format!("{name}: {}", problem.sentence), ..problem })
 }
 
-/// Whether two books are of one season: the same n, H and roll.
+/// A station's book.
+fn station(name: &str, bytes: Vec<u8>) -> Result<Shown, Problem> {
+    let told = show_book::told(&bytes)?;
+    let slots = told.heights.iter().map(|height| Slot {
+        dummy: height.dummy,
+        linked: height.linked,
+        finalized: height.finalized,
+    });
+    let roll = told.heights.iter().map(|height| height.leader).collect();
+    let station = Station { own: told.own, current: told.current, pending: told.pending, roll };
+    Ok(Shown {
+        name: name.to_string(),
+        n: told.n,
+        finalized: told.finalized,
+        station: Some(station),
+        heights: slots.collect(),
+        register: pages::register(&bytes),
+        bytes,
+    })
+}
+
+/// An observer's book.
+fn observer(name: &str, bytes: Vec<u8>) -> Result<Shown, Problem> {
+    let told = show_observer::told(&bytes)?;
+    let slots = told.heights.iter().map(|height| Slot {
+        dummy: height.dummy,
+        linked: height.linked,
+        finalized: height.finalized,
+    });
+    Ok(Shown {
+        name: name.to_string(),
+        n: told.n,
+        finalized: told.finalized,
+        station: None,
+        heights: slots.collect(),
+        register: pages::register(&bytes),
+        bytes,
+    })
+}
+
+/// Whether two books are of one season: the same n and H, and the same roll where both are stations'.
 fn fits(one: &Shown, two: &Shown) -> Result<(), Problem> {
-    let roll =
-        |shown: &Shown| shown.told.heights.iter().map(|height| height.leader).collect::<Vec<_>>();
+    let rolls = [one, two].map(|book| book.station.as_ref().map(|station| &station.roll));
     let what = [
-        (one.told.n != two.told.n, "number of stations"),
-        (one.told.heights.len() != two.told.heights.len(), "number of heights"),
-        (roll(one) != roll(two), "roll"),
+        (one.n != two.n, "number of stations"),
+        (one.heights.len() != two.heights.len(), "number of heights"),
+        (rolls.iter().all(Option::is_some) && rolls[0] != rolls[1], "roll"),
     ];
     match what.into_iter().find(|(differs, _)| *differs) {
         Some((_, what)) => {
@@ -59,30 +113,39 @@ fn fits(one: &Shown, two: &Shown) -> Result<(), Problem> {
 
 /// The first line.
 fn head(first: &Shown, number: usize) -> String {
-    let (books, n) = (count(number, "book", "books"), first.told.n);
-    let heights = count(first.told.heights.len(), "height", "heights");
+    let (books, n) = (count(number, "book", "books"), first.n);
+    let heights = count(first.heights.len(), "height", "heights");
     format!("{books} of {n} stations: {heights}; a quorum is {} or more.", quorum(n))
 }
 
 /// A line about a book as a whole.
 fn line(book: &Shown) -> String {
-    let told = &book.told;
-    let current = match usize::from(told.current) > told.heights.len() {
-        true => "all heights passed".to_string(),
-        false => format!("current height {}", told.current),
+    let settled = book.finalized;
+    let Some(station) = &book.station else {
+        return format!("Observer ({}): settled height {settled}.", book.name);
     };
-    let pending = count(told.pending.into(), "pending entry", "pending entries");
-    let (own, settled) = (told.own, told.finalized);
+    let current = match usize::from(station.current) > book.heights.len() {
+        true => "all heights passed".to_string(),
+        false => format!("current height {}", station.current),
+    };
+    let pending = count(station.pending.into(), "pending entry", "pending entries");
+    let own = station.own;
     format!("Station {own} ({}): {current}, settled height {settled}, {pending}.", book.name)
 }
 
-/// The table.
+/// The table; leaders are told by a station's book, if there is one.
 fn rows(first: &Shown, books: &[Shown]) -> Vec<Vec<String>> {
+    let column = |book: &Shown| match &book.station {
+        Some(station) => format!("station {}", station.own),
+        None => "observer".to_string(),
+    };
     let mut heading = vec!["height".to_string(), "leader".to_string()];
-    heading.extend(books.iter().map(|book| format!("station {}", book.told.own)));
+    heading.extend(books.iter().map(column));
     let mut rows = vec![heading];
-    for (height, slot) in (1..).zip(&first.told.heights) {
-        let mut row = vec![height.to_string(), slot.leader.to_string()];
+    for (before, height) in (1..).take(first.heights.len()).enumerate() {
+        let leader = first.station.as_ref().and_then(|station| station.roll.get(before));
+        let leader = leader.map_or("-".to_string(), u8::to_string);
+        let mut row = vec![height.to_string(), leader];
         row.extend(books.iter().map(|book| cell(book, height)));
         rows.push(row);
     }
@@ -91,7 +154,7 @@ fn rows(first: &Shown, books: &[Shown]) -> Vec<Vec<String>> {
 
 /// What a book has at a height.
 fn cell(book: &Shown, height: Height) -> String {
-    let slot = book.told.heights.get(usize::from(height).saturating_sub(1));
+    let slot = book.heights.get(usize::from(height).saturating_sub(1));
     let short = |area| pages::page(&book.bytes, height, area).map(|page| page.short());
     let page = slot.and_then(|slot| {
         Some(format!("page {}{}", short(Area::Notarized)?, rank(book, height, slot)))
@@ -100,14 +163,14 @@ fn cell(book: &Shown, height: Height) -> String {
     let held = short(Area::Held).filter(|_| page.is_none()).map(|page| format!("proposal {page}"));
     let parts: Vec<String> = [page, held, blank].into_iter().flatten().collect();
     let told = if parts.is_empty() { "-".to_string() } else { parts.join(", ") };
-    match height == book.told.current {
+    match book.station.as_ref().is_some_and(|station| station.current == height) {
         true => format!("{told} <-"),
         false => told,
     }
 }
 
 /// How far a notarised page has come.
-fn rank(book: &Shown, height: Height, slot: &AtHeight) -> &'static str {
+fn rank(book: &Shown, height: Height, slot: &Slot) -> &'static str {
     match () {
         () if book.register.contains(&height) => " in register",
         () if slot.finalized => " settled",
@@ -116,15 +179,23 @@ fn rank(book: &Shown, height: Height, slot: &AtHeight) -> &'static str {
     }
 }
 
+/// The register that a book shows.
+fn register(book: &Shown) -> Vec<u8> {
+    let size = match book.station.is_some() {
+        true => Calls::size(&REPLICA, &book.bytes),
+        false => Calls::observer_size(&REPLICA, &book.bytes),
+    };
+    let mut log = vec![0; usize::try_from(size.unwrap_or(0)).unwrap_or(0)];
+    match book.station.is_some() {
+        true => Calls::read(&REPLICA, &book.bytes, &mut log),
+        false => Calls::observer_read(&REPLICA, &book.bytes, &mut log),
+    };
+    log
+}
+
 /// Whether of any two registers one begins the other.
 fn registers(books: &[Shown]) -> String {
-    let log = |book: &Shown| {
-        let size = Calls::size(&REPLICA, &book.bytes).unwrap_or(0);
-        let mut log = vec![0; usize::try_from(size).unwrap_or(0)];
-        Calls::read(&REPLICA, &book.bytes, &mut log);
-        log
-    };
-    let logs: Vec<Vec<u8>> = books.iter().map(log).collect();
+    let logs: Vec<Vec<u8>> = books.iter().map(register).collect();
     let mut pairs = (0..).zip(&logs).flat_map(|(at, one)| {
         logs.iter().enumerate().skip(at).map(move |(other, two)| (at, other, one, two))
     });

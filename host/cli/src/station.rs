@@ -157,7 +157,7 @@ fn lines(frames: &[[u8; FRAME]]) -> String {
 }
 
 /// Prints at once; a file that standard output is sent to is synced.
-fn print(text: &str) -> Result<(), Problem> {
+pub fn print(text: &str) -> Result<(), Problem> {
     let mut output = stdout().lock();
     let written = output.write_all(text.as_bytes()).and_then(|()| output.flush());
     let synced = written.and_then(|()| {

@@ -2,7 +2,7 @@
 
 use crate::{show_frame, words};
 use exchange::fields::{differences, Change, Shape};
-use exchange::Call;
+use exchange::{Call, ObserverCall};
 use types::FRAME;
 
 /// The most fields, or frames of a packet, that are told one by one.
@@ -12,7 +12,9 @@ const MOST: usize = 30;
 pub fn call(call: &Call, book: &str, buffer: &str) -> Vec<String> {
     let mut lines = vec![format!("the call: {}", call.words(book, buffer))];
     match call {
-        Call::Deliver { frame } => lines.push(format!("its frame: {}", one_line(frame))),
+        Call::Deliver { frame } | Call::Observer(ObserverCall::Deliver { frame }) => {
+            lines.push(format!("its frame: {}", one_line(frame)))
+        }
         Call::Packet { packet } => lines.extend(frames(packet)),
         _ => {}
     }
@@ -63,7 +65,9 @@ pub fn buffers(call: &Call, names: [&str; 2], [one, two]: [&[u8]; 2]) -> Vec<Str
         Call::Move | Call::Fetch { .. } => {
             lines("replies", names, &differences(Shape::Reply, one, two))
         }
-        Call::Read => lines("buffers", names, &differences(Shape::Register, one, two)),
+        Call::Read | Call::Observer(ObserverCall::Read) => {
+            lines("buffers", names, &differences(Shape::Register, one, two))
+        }
         _ => Vec::new(),
     }
 }

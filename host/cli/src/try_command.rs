@@ -20,14 +20,15 @@ pub fn run(words: &[String], output: &mut Vec<u8>) -> Result<(), Problem> {
     let expected =
         || Problem::input("expected here: options, then -- and a program with its words");
     let mut halves = words.splitn(2, |word| word == "--");
-    let arguments =
-        Arguments::sort(halves.next().unwrap_or(&[]), &["seed", "count", "seconds"], &[])?;
+    let options = ["seed", "count", "seconds"];
+    let arguments = Arguments::sort(halves.next().unwrap_or(&[]), &options, &["stations"])?;
     let (program, rest) = halves.next().and_then(<[_]>::split_first).ok_or_else(expected)?;
     let [] = arguments.plain("options, then -- and a program with its words")?;
     let seed = arguments.number("seed")?.unwrap_or(1);
     let count = positive(&arguments, "count", COUNT)?;
     let limit = Duration::from_secs(positive(&arguments, "seconds", SECONDS)?);
-    let mut pair = Pair::limited(REPLICA, Theirs::start(program, rest, limit)?, count);
+    let pair = Pair::limited(REPLICA, Theirs::start(program, rest, limit)?, count);
+    let mut pair = if arguments.has("stations") { pair.without_observers() } else { pair };
     match walk(&mut pair, seed, count) {
         Ok(report) => {
             let ended = pair.into_second().finish();

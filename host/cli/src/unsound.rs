@@ -1,26 +1,35 @@
 //! Why bytes are no sound book: the first rule that is broken, with its height and its byte.
 
+use crate::unsound_observer;
 use exchange::fields;
 use reference::inspect::inspect;
 use reference::is_quorum;
-use types::{book_length, field, head_height, height_at, mask_at, put_head_height};
-use types::{Area, Height, Layout, ALL_FLAGS, BLOCK, BLOCK_HEIGHT, BLOCK_PARENT, EDITION, ENTRY};
+use types::{book_length, field, head_height, height_at, mask_at, observer_book_length};
+use types::{
+    put_head_height, Area, Height, Layout, ALL_FLAGS, BLOCK, BLOCK_HEIGHT, BLOCK_PARENT, EDITION,
+    ENTRY,
+};
 use types::{MOST_ENTRIES, MOST_HEIGHTS, MOST_PENDING, MOST_REPLICAS};
 
 /// A byte, and what is wrong with it.
-type Fault = (usize, String);
+pub type Fault = (usize, String);
 
-/// A sentence about the first rule that these bytes break; none if they are a sound book.
+/// A sentence about the first rule that these bytes break; none if they are a sound book, a station's or an observer's.
+/// Which of the two they are meant to be is told by their length: no station's book has that of an observer's.
 pub fn reason(book: &[u8]) -> Option<String> {
-    let fitting = (1..=MOST_HEIGHTS).find(|heights| book_length(*heights) == book.len());
-    let Some(fitting) = fitting else {
-        let length = book.len();
-        let rule = format!("is not 576 + 880 H for any H from 1 to {MOST_HEIGHTS}");
-        return Some(format!("the length {length} {rule}"));
+    let fits = |length: fn(Height) -> usize| {
+        (1..=MOST_HEIGHTS).find(|heights| length(*heights) == book.len())
     };
-    let (byte, rule) = head(book, fitting)
-        .or_else(|| (1..=fitting).find_map(|height| slot(book, height)))
-        .or_else(|| settled(book))?;
+    let (fault, fitting) = match (fits(book_length), fits(observer_book_length)) {
+        (Some(fitting), _) => (station(book, fitting), fitting),
+        (None, Some(fitting)) => (unsound_observer::fault(book, fitting), fitting),
+        (None, None) => {
+            let length = book.len();
+            let rule = format!("for any H from 1 to {MOST_HEIGHTS}");
+            return Some(format!("the length {length} is not 576 + 880 H, nor 64 + 184 H, {rule}"));
+        }
+    };
+    let (byte, rule) = fault?;
     let place = match fields::place(book, byte) {
         Some((name, _)) if head_height(book, field::HEIGHTS) == fitting => format!(" ({name})"),
         _ => String::new(),
@@ -28,13 +37,20 @@ pub fn reason(book: &[u8]) -> Option<String> {
     Some(format!("byte {byte}{place}: {rule}"))
 }
 
+/// What is wrong with bytes of the length of a station's book with so many heights.
+fn station(book: &[u8], fitting: Height) -> Option<Fault> {
+    head(book, fitting)
+        .or_else(|| (1..=fitting).find_map(|height| slot(book, height)))
+        .or_else(|| settled(book))
+}
+
 /// A byte of the book.
-fn at(book: &[u8], byte: usize) -> u8 {
+pub fn at(book: &[u8], byte: usize) -> u8 {
     book.get(byte).copied().unwrap_or(0)
 }
 
 /// The first byte of a range that is not zero, as a fault.
-fn zeros(book: &[u8], mut range: std::ops::Range<usize>) -> Option<Fault> {
+pub fn zeros(book: &[u8], mut range: std::ops::Range<usize>) -> Option<Fault> {
     let byte = range.find(|byte| at(book, *byte) != 0)?;
     Some((byte, format!("it is {}, and must be zero", at(book, byte))))
 }
@@ -111,7 +127,7 @@ fn slot(book: &[u8], height: Height) -> Option<Fault> {
 }
 
 /// What is wrong with a page of a height that begins at a byte.
-fn page(book: &[u8], height: Height, start: usize) -> Option<Fault> {
+pub fn page(book: &[u8], height: Height, start: usize) -> Option<Fault> {
     let place = |offset: usize| start.saturating_add(offset);
     let [own, back] = [BLOCK_HEIGHT, BLOCK_PARENT].map(|at| height_at(book, place(at)));
     let count = at(book, place(4));
@@ -164,13 +180,14 @@ mod tests {
     use compare::{walk, Pair, Second};
     use exchange::{Answer, Call};
     use reference::Rules;
-    use types::Calls;
+    use types::{is_observers, Calls};
 
     /// Holds each book of a comparison against the reference: a reason is there where it is not sound, and only there.
+    /// The counts are of stations' books and others, then of observers'.
     #[derive(Default)]
     struct Reasons {
-        sound: u32,
-        not: u32,
+        sound: [u32; 2],
+        not: [u32; 2],
     }
 
     impl Second for Reasons {
@@ -180,9 +197,12 @@ mod tests {
             book: &mut [u8],
             buffer: &mut [u8],
         ) -> Result<Answer, String> {
-            match (reason(book), Calls::size(&Rules::SHA256, book)) {
-                (None, Ok(_)) => self.sound += 1,
-                (Some(_), Err(1)) => self.not += 1,
+            let sizes =
+                [Calls::size(&Rules::SHA256, book), Calls::observer_size(&Rules::SHA256, book)];
+            match (reason(book), sizes) {
+                (None, [Ok(_), Err(1)]) => self.sound[0] += 1,
+                (None, [Err(1), Ok(_)]) => self.sound[1] += 1,
+                (Some(_), [Err(1), Err(1)]) => self.not[usize::from(is_observers(book))] += 1,
                 (found, size) => return Err(format!("{found:?} and {size:?}")),
             }
             Ok(call.make(&Rules::SHA256, book, buffer))
@@ -196,6 +216,9 @@ mod tests {
             panic!("{}", stop.sentence);
         }
         let seen = pair.second();
-        assert!(seen.sound > 1000 && seen.not > 200, "{} {}", seen.sound, seen.not);
+        let enough =
+            |counts: [u32; 2], least: [u32; 2]| counts[0] > least[0] && counts[1] > least[1];
+        assert!(enough(seen.sound, [1000, 500]), "{:?}", seen.sound);
+        assert!(enough(seen.not, [200, 100]), "{:?}", seen.not);
     }
 }

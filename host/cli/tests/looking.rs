@@ -27,7 +27,7 @@ fn a_book_with_votes_pages_and_entries() {
 
 #[test]
 fn several_books_side_by_side() {
-    let kept = season("some", " --stop-at 40");
+    let kept = season("some", " --stop-at 43");
     let files = [0, 1, 2, 3].map(|station| format!("{kept}/book{station}"));
     let shown =
         text(&format!("show books {}", files.join(" ")), &[]).replace(&format!("{kept}/"), "");
@@ -119,7 +119,7 @@ fn the_rule_that_a_book_breaks_is_told_with_its_byte() {
     refused(
         "show book -",
         &sound[1..],
-        "the length 1455 is not 576 + 880 H for any H from 1 to 63",
+        "the length 1455 is not 576 + 880 H, nor 64 + 184 H, for any H from 1 to 63",
     );
 }
 

@@ -30,6 +30,17 @@ fn the_command_answers_as_it_does_itself() {
 }
 
 #[test]
+fn a_replica_without_observers_is_asked_for_stations_calls_alone() {
+    // A program that takes every call of an observer for the size of a station's register.
+    let without = "sed -u 's/^observer-[a-z]* \\([^ ]*\\).*/size \\1/' | M answer";
+    let ended = tried("--count 1000 --stations", without);
+    assert_eq!((ended.status, ended.complaint.as_str()), (0, ""));
+    let ended = tried("--count 1000", without);
+    assert_eq!(ended.status, 1);
+    assert!(ended.complaint.contains("\nthe call: observer-"), "{}", ended.complaint);
+}
+
+#[test]
 fn a_wrong_answer_is_told_with_the_call_and_can_be_replayed() {
     let ended = tried("--seed 1 --count 300", "M answer | sed -u 's/^known /fresh /'");
     assert_eq!(ended.status, 1);

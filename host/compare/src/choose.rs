@@ -2,6 +2,7 @@
 
 use crate::books::any_arguments;
 use crate::frames::{any_entry, any_frame_bytes, any_height};
+use crate::observer_single::any_observer_call;
 use crate::packets::any_packet;
 use crate::Random;
 use exchange::Call;
@@ -34,6 +35,10 @@ pub fn any_call(random: &mut Random, book: &[u8], recent: &mut Recent) -> (Call,
         29 => (Call::Read, reading_length(random, book)),
         30 => any_fetch(random, book),
         _ if random.one_in(8) => (any_open(random, book), 0),
+        _ if random.one_in(8) => {
+            let (call, length) = any_observer_call(random, book);
+            (Call::Observer(call), length)
+        }
         _ => (Call::Read, MOST_LOG),
     }
 }

@@ -1,14 +1,16 @@
 //! The kinds of input and of answers that a large comparison must have had, and how often each occurred.
 
-use crate::traits::{read_length, reply_length};
-use crate::{packet_kinds, second_page_kinds, two_pages};
-use exchange::{Answer, Call};
+use crate::traits::{observer_read_length, read_length, reply_length};
+use crate::{
+    listening, observer_kinds, observer_single, packet_kinds, second_page_kinds, two_pages,
+};
+use exchange::{Answer, Call, ObserverCall};
 use std::collections::{BTreeMap, BTreeSet};
 use std::fmt;
 use types::{field, head_height, Delivered, MOST_HEIGHTS, MOST_REPLICAS};
 
 /// The refusals of each call that has some.
-const REFUSALS: [(&str, &[u8]); 8] = [
+const REFUSALS: [(&str, &[u8]); 12] = [
     ("open", &[1, 2]),
     ("deliver", &[1, 4, 5, 6, 7, 8, 9, 10]),
     ("packet", &[1, 15]),
@@ -17,6 +19,10 @@ const REFUSALS: [(&str, &[u8]); 8] = [
     ("submit", &[1, 4, 12, 13]),
     ("size", &[1]),
     ("fetch", &[1, 3, 4, 6, 11]),
+    ("observer-open", &[1, 2]),
+    ("observer-deliver", &[1, 4, 5, 6, 9, 10, 16]),
+    ("observer-move", &[1]),
+    ("observer-size", &[1]),
 ];
 
 /// The kinds that the generators name, or that are seen by looking at a book.
@@ -56,8 +62,9 @@ const LENGTHS: [&str; 5] = ["far below", "one below", "exactly", "one above", "f
 #[derive(Clone, Debug)]
 pub struct Kinds {
     counts: BTreeMap<String, u64>,
-    /// The numbers of stations, the numbers of heights and the flags of the sound books that were called on.
-    sizes: [BTreeSet<u64>; 3],
+    /// The numbers of stations, the numbers of heights and the flags of the sound books that were called on; then the
+    /// two numbers of observers' books.
+    sizes: [BTreeSet<u64>; 5],
 }
 
 impl Default for Kinds {
@@ -73,16 +80,20 @@ fn expected() -> Vec<String> {
         let call = call.to_string();
         numbers.iter().map(move |number| format!("call: {call}, refused with {number}"))
     };
-    let done = ["open", "signal", "submit", "fetch"].map(|call| format!("call: {call}, done"));
+    let done = ["open", "signal", "submit", "fetch", "observer-open"];
+    let done = done.map(|call| format!("call: {call}, done"));
     let kinds = (1..=7).flat_map(|kind| ["fresh", "known"].map(|word| delivered(kind, word)));
-    let lengths = ["reply of move", "reply of fetch", "buffer of read"];
+    let lengths = ["reply of move", "reply of fetch", "buffer of read", "buffer of observer-read"];
     let lengths = lengths.into_iter().flat_map(|of| LENGTHS.map(|place| length(of, place)));
     let timers = (0..16).step_by(2).map(timer);
     let two_pages = second_page_kinds::NAMES.into_iter().chain(two_pages::NAMES);
-    let named = NAMED.into_iter().chain(packet_kinds::NAMES).chain(two_pages).map(str::to_string);
+    let observers = observer_kinds::NAMES.into_iter().chain(observer_single::NAMES);
+    let observers = observers.chain(listening::NAMES);
+    let named = NAMED.into_iter().chain(packet_kinds::NAMES).chain(two_pages).chain(observers);
+    let named = named.map(str::to_string);
     let mut all: Vec<String> = REFUSALS.into_iter().flat_map(refused).collect();
     all.extend(done.into_iter().chain(kinds).chain(lengths).chain(timers).chain(named));
-    all.extend(second_page_kinds::by_flags());
+    all.extend(second_page_kinds::by_flags().chain(observer_kinds::by_kind()));
     all
 }
 
@@ -130,15 +141,27 @@ impl Kinds {
             }
             _ => {}
         }
+        observer_kinds::kinds(call, book, answer).iter().for_each(|name| self.saw(name));
         let flags = book.get(field::FLAGS).copied().unwrap_or(0);
         if let (Call::Signal { .. }, Answer::Done) = (call, answer) {
             self.saw(&timer(flags));
         }
-        let sound = !matches!(call, Call::Open { .. } | Call::Read) && answer != Answer::Deny(1);
-        if let (true, Some(n)) = (sound, book.get(field::N)) {
+        self.see_sizes(call, book, answer, flags);
+    }
+
+    /// Notes the numbers of a book that a call shows to be sound.
+    fn see_sizes(&mut self, call: &Call, book: &[u8], answer: Answer, flags: u8) {
+        let (sound, first) = match call {
+            Call::Open { .. } | Call::Read => (false, 0),
+            Call::Observer(ObserverCall::Open { .. } | ObserverCall::Read) => (false, 0),
+            Call::Observer(_) => (true, 3),
+            _ => (true, 0),
+        };
+        if let (true, Some(n)) = (sound && answer != Answer::Deny(1), book.get(field::N)) {
             let heights = head_height(book, field::HEIGHTS);
             let values = [u64::from(*n), heights.into(), flags.into()];
-            self.sizes.iter_mut().zip(values).for_each(|(seen, value)| _ = seen.insert(value));
+            let sizes = self.sizes.iter_mut().skip(first);
+            sizes.zip(values).take(3).for_each(|(seen, value)| _ = seen.insert(value));
         }
     }
 
@@ -163,6 +186,9 @@ impl Kinds {
             Call::Move => ("reply of move", reply_length(answer, 448)),
             Call::Fetch { .. } => ("reply of fetch", reply_length(answer, 224)),
             Call::Read => ("buffer of read", read_length(book)),
+            Call::Observer(ObserverCall::Read) => {
+                ("buffer of observer-read", observer_read_length(book))
+            }
             _ => return,
         };
         let Some(limit) = limit else { return };
@@ -190,10 +216,12 @@ impl Kinds {
 }
 
 /// How many values each size has.
-const SIZES: [(usize, &str); 3] = [
+const SIZES: [(usize, &str); 5] = [
     (MOST_REPLICAS as usize, "numbers of stations"),
     (MOST_HEIGHTS as usize, "numbers of heights"),
     (16, "values of the flags"),
+    (MOST_REPLICAS as usize, "numbers of stations of observers"),
+    (MOST_HEIGHTS as usize, "numbers of heights of observers"),
 ];
 
 impl fmt::Display for Kinds {

@@ -1,8 +1,9 @@
 //! Compares two replicas on random lists of calls: every answer and every byte of every buffer, after every call.
 //!
-//! Half of the calls go to single books, new, strange, damaged and garbage ones, and ones whose leaders say two things;
-//! the other half run whole networks, with the check that no two honest logs fork. The seed decides everything. The
-//! second of the two may be a program that is asked line by line, or a [`Scribe`] that writes the calls down.
+//! Half of the calls go to single books, new, strange, damaged and garbage ones, ones whose leaders say two things, and
+//! those of observers, some beside a station; the other half run whole networks in which observers listen, with the
+//! check that no two logs of honest replicas and observers fork. The seed decides everything. The second of the two may
+//! be a program that is asked line by line, or a [`Scribe`] that writes the calls down.
 
 #![warn(clippy::unwrap_used, clippy::expect_used, clippy::panic)]
 
@@ -12,8 +13,13 @@ mod difference;
 mod frames;
 mod guarded;
 mod kinds;
+mod listening;
 mod mischief;
 mod network;
+mod observer_books;
+mod observer_frames;
+mod observer_kinds;
+mod observer_single;
 mod packet_kinds;
 mod packets;
 mod pair;

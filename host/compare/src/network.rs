@@ -1,4 +1,4 @@
-//! A network of replicas: what the honest ones do and say, and the check that their logs never fork.
+//! A network of replicas and observers: what the honest ones do and say, and the check that no two logs fork.
 
 use crate::books::{any_heights, any_replicas};
 use crate::frames::any_entry;
@@ -17,8 +17,11 @@ pub struct Network<'a, A, B> {
     pub honest: u8,
     pub leaders: Vec<u8>,
     pub books: Vec<Vec<u8>>,
+    /// The books of observers.
+    pub observers: Vec<Vec<u8>>,
+    /// The logs of the honest replicas, then those of the observers.
     pub logs: Vec<Vec<u8>>,
-    /// Frames on their way, each to a replica.
+    /// Frames on their way, each to a replica or, by the numbers after theirs, to an observer.
     pub wire: Vec<(usize, [u8; FRAME])>,
     /// All statements of honest replicas.
     pub spoken: Vec<[u8; FRAME]>,
@@ -46,7 +49,7 @@ impl<'a, A: Calls, B: Second> Network<'a, A, B> {
         let heights = any_heights(random).max(3);
         pair.begin(&format!("a network of {n} stations, {dishonest} of them dishonest"));
         let leaders: Vec<u8> = (0..heights).map(|_| random.byte_below(n)).collect();
-        let (books, logs) = (Vec::new(), vec![Vec::new(); honest.into()]);
+        let (books, observers, logs) = (Vec::new(), Vec::new(), vec![Vec::new(); honest.into()]);
         let (wire, spoken, blocks) = Default::default();
         let mut network = Network {
             pair,
@@ -55,6 +58,7 @@ impl<'a, A: Calls, B: Second> Network<'a, A, B> {
             honest,
             leaders,
             books,
+            observers,
             logs,
             wire,
             spoken,
@@ -65,6 +69,7 @@ impl<'a, A: Calls, B: Second> Network<'a, A, B> {
         for own in 0..honest {
             network.open_book(own, heights)?;
         }
+        network.open_observers(heights)?;
         if dishonest > 0 {
             network.saw("with dishonest stations");
         }
@@ -112,7 +117,7 @@ impl<'a, A: Calls, B: Second> Network<'a, A, B> {
     /// Something happens somewhere.
     pub fn event(&mut self) -> Outcome {
         let replica = self.random.index(self.books.len());
-        match self.random.below(20) {
+        match self.random.below(21) {
             0 if self.random.one_in(4) => self.arrive_together(replica),
             0..=10 => self.arrive(),
             11..=16 if self.idle[replica] && !self.random.one_in(6) => Ok(()),
@@ -129,6 +134,7 @@ impl<'a, A: Calls, B: Second> Network<'a, A, B> {
                 self.mischief();
                 Ok(())
             }
+            20 => self.follow(),
             _ => Ok(()),
         }
     }
@@ -157,6 +163,9 @@ impl<'a, A: Calls, B: Second> Network<'a, A, B> {
         if self.random.one_in(100) {
             self.saw("frame lost");
             return Ok(());
+        }
+        if let Some(observer) = replica.checked_sub(self.books.len()) {
+            return self.hear(observer, &frame);
         }
         self.call(replica, &Call::Deliver { frame: frame.to_vec() }, &mut []).map(|_| ())
     }
@@ -207,7 +216,7 @@ impl<'a, A: Calls, B: Second> Network<'a, A, B> {
         Ok(())
     }
 
-    /// An honest replica says something to all, itself among them.
+    /// An honest replica says something to all, itself among them, and certificates to observers too.
     fn say(&mut self, frame: [u8; FRAME]) {
         if frame[0] < 5 {
             self.spoken.push(frame);
@@ -215,30 +224,40 @@ impl<'a, A: Calls, B: Second> Network<'a, A, B> {
         if let (1, Some(block)) = (frame[0], frame.last_chunk::<BLOCK>()) {
             self.blocks.push(Block::parts(block));
         }
-        self.wire.extend((0..self.books.len()).map(|replica| (replica, frame)));
+        let all = self.listeners(&frame);
+        self.wire.extend(all.map(|listener| (listener, frame)));
     }
 
-    /// Something is sent to some of the honest replicas only.
+    /// Something is sent to some of the honest replicas and observers only.
     pub fn whisper(&mut self, frame: &Frame) {
         let frame = frame.bytes();
-        for replica in 0..self.books.len() {
+        for listener in self.listeners(&frame) {
             if self.random.one_in(2) {
-                self.wire.push((replica, frame));
+                self.wire.push((listener, frame));
             }
         }
     }
 
-    /// Reads all logs: none may have shrunk, and of any two one must begin the other.
+    /// The log that a replica reads.
+    fn read(&mut self, replica: usize, buffer: &mut [u8]) -> Result<Vec<u8>, Halt> {
+        let Answer::Part(length) = self.call(replica, &Call::Read, buffer)? else {
+            return Ok(Vec::new());
+        };
+        Ok(buffer[..usize::try_from(length).unwrap_or(0)].to_vec())
+    }
+
+    /// Reads all logs, observers' too: none may have shrunk, and of any two one must begin the other.
     pub fn check(&mut self) -> Result<Option<&'static str>, Halt> {
         let mut buffer = vec![0xbb; MOST_LOG];
-        for replica in 0..self.books.len() {
-            let answer = self.call(replica, &Call::Read, &mut buffer)?;
-            let Answer::Part(length) = answer else { continue };
-            let log = buffer[..usize::try_from(length).unwrap_or(0)].to_vec();
-            if !log.starts_with(&self.logs[replica]) {
+        for reader in 0..self.logs.len() {
+            let log = match reader.checked_sub(self.books.len()) {
+                Some(observer) => self.observed(observer, &mut buffer)?,
+                None => self.read(reader, &mut buffer)?,
+            };
+            if !log.starts_with(&self.logs[reader]) {
                 return Ok(Some("a log does not begin with what it was before"));
             }
-            self.logs[replica] = log;
+            self.logs[reader] = log;
         }
         let pairs = self
             .logs

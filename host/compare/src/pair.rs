@@ -11,6 +11,7 @@ pub struct Pair<A, B> {
     one: A,
     two: B,
     most: u64,
+    observers: bool,
     part: String,
     case: String,
     tally: Tally,
@@ -29,7 +30,18 @@ impl<A: Calls, B: Second> Pair<A, B> {
     /// The same, and after so many calls it is enough.
     pub fn limited(one: A, two: B, most: u64) -> Pair<A, B> {
         let (part, case, tally, kinds, before, other) = Default::default();
-        Pair { one, two, most, part, case, tally, kinds, before, other }
+        let observers = true;
+        Pair { one, two, most, observers, part, case, tally, kinds, before, other }
+    }
+
+    /// The same with no calls of observers, for a replica that has none.
+    pub fn without_observers(self) -> Pair<A, B> {
+        Pair { observers: false, ..self }
+    }
+
+    /// Whether calls of observers are made.
+    pub fn has_observers(&self) -> bool {
+        self.observers
     }
 
     /// The counts so far.

@@ -2,11 +2,14 @@
 
 use crate::network::Network;
 use crate::Random;
-use crate::{single, Difference, Halt, Pair, Report, Second, Stop};
+use crate::{observer_single, single, Difference, Halt, Pair, Report, Second, Stop};
 use types::Calls;
 
 /// From this many calls on everything must have occurred.
 pub const LARGE: u64 = 100_000;
+
+/// One in so many lists is on an observer's book.
+const OBSERVERS: u64 = 5;
 
 /// Events between two checks of the logs.
 const BETWEEN: u64 = 100;
@@ -38,7 +41,10 @@ pub fn walk<A: Calls, B: Second>(
             true => network(pair, &mut random, &mut report),
             false => {
                 report.lists += 1;
-                single::list(pair, &mut random).map(|()| None)
+                match part % OBSERVERS {
+                    0 if pair.has_observers() => observer_single::list(pair, &mut random),
+                    _ => single::list(pair, &mut random).map(|()| None),
+                }
             }
         };
         match outcome {

@@ -1,4 +1,4 @@
-//! Lists of calls on single books.
+//! Lists of calls on single books of stations.
 
 use crate::books::{any_heights, arguments_for, damage, garbage, strange_book};
 use crate::choose::{any_call, any_open, Recent};
@@ -131,7 +131,10 @@ fn calls<A: Calls, B: Second>(
     let mut recent = Recent::default();
     let mut buffer = Vec::new();
     for _ in 0..count {
-        let (call, length) = any_call(random, book, &mut recent);
+        let (call, length) = match any_call(random, book, &mut recent) {
+            (Call::Observer(_), _) if !pair.has_observers() => (Call::Size, 0),
+            chosen => chosen,
+        };
         buffer.resize(length, 0);
         random.fill(&mut buffer);
         pair.make(&call, book, &mut buffer)?;

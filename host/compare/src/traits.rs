@@ -20,6 +20,12 @@ pub fn read_length(book: &[u8]) -> Option<usize> {
     usize::try_from(size).ok().filter(|size| *size > 0)
 }
 
+/// The same of an observer's log.
+pub fn observer_read_length(book: &[u8]) -> Option<usize> {
+    let size = Calls::observer_size(&Rules::SHA256, book).ok()?;
+    usize::try_from(size).ok().filter(|size| *size > 0)
+}
+
 /// The kinds that a sound book is of.
 pub fn kinds(book: &[u8]) -> Vec<&'static str> {
     let Ok(told) = inspect(book) else { return Vec::new() };

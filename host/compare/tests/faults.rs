@@ -165,6 +165,32 @@ impl Calls for Faulty {
         }
         Ok(())
     }
+
+    fn observer_open(&self, book: &mut [u8], n: u64, heights: u64) -> Result<(), u8> {
+        Calls::observer_open(&RULES, book, n, heights)
+    }
+
+    fn observer_deliver(&self, book: &mut [u8], frame: &[u8]) -> Result<Delivered, u8> {
+        Calls::observer_deliver(&RULES, book, frame)
+    }
+
+    fn observer_move(&self, book: &mut [u8]) -> Result<Move, u8> {
+        let before = book.to_vec();
+        let made = Calls::observer_move(&RULES, book)?;
+        if self.is(Fault::NeverMoves) {
+            book.copy_from_slice(&before);
+            return Ok(Move::Idle);
+        }
+        Ok(made)
+    }
+
+    fn observer_size(&self, book: &[u8]) -> Result<u64, u8> {
+        Calls::observer_size(&RULES, book)
+    }
+
+    fn observer_read(&self, book: &[u8], buffer: &mut [u8]) -> u64 {
+        Calls::observer_read(&RULES, book, buffer)
+    }
 }
 
 /// The calls within which a fault must show.
@@ -209,9 +235,14 @@ fn each_fault_is_found() {
 
 #[test]
 fn faults_that_both_have_are_found_by_the_rules_of_calls() {
-    let both = |fault| run(Faulty(fault), Faulty(fault), 3, CALLS).err().unwrap_or_default();
-    assert!(both(Fault::DropsOnRefusal).contains("a call that may not has changed the book"));
-    assert!(both(Fault::OwnLog).contains("two honest logs fork"));
+    let both =
+        |fault, seed| run(Faulty(fault), Faulty(fault), seed, CALLS).err().unwrap_or_default();
+    assert!(both(Fault::DropsOnRefusal, 3).contains("a call that may not has changed the book"));
+    // What a network and what a station beside an observer show; the seed decides which comes first.
+    let found: Vec<String> = (1..=16).map(|seed| both(Fault::OwnLog, seed)).collect();
+    for sentence in ["two honest logs fork", "a station and an observer beside it read different"] {
+        assert!(found.iter().any(|found| found.contains(sentence)), "{found:?}");
+    }
 }
 
 #[test]

@@ -2,10 +2,12 @@
 
 mod formats {
     pub mod bench;
+    pub mod observer;
     pub mod page;
 }
 
 use formats::bench::{changed, shifted, Bench, HEIGHTS, N, OWN, ROLL};
+use formats::observer;
 use formats::page::Formats;
 use reference::{sha256, Rules};
 use types::{Calls, Move};
@@ -23,6 +25,7 @@ fn holds<C: Calls + Copy>(calls: C) {
     zeros_of_pages_and_frames(&bench);
     unused_fields(&bench);
     zeros_of_books(&bench);
+    observer::holds(&bench);
     formats.all_asked();
 }
 

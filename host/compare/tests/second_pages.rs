@@ -142,6 +142,26 @@ impl Calls for Faulty {
     fn fetch(&self, book: &[u8], kind: u64, height: u64, reply: &mut [u8]) -> Result<(), u8> {
         Calls::fetch(&RULES, book, kind, height, reply)
     }
+
+    fn observer_open(&self, book: &mut [u8], n: u64, heights: u64) -> Result<(), u8> {
+        Calls::observer_open(&RULES, book, n, heights)
+    }
+
+    fn observer_deliver(&self, book: &mut [u8], frame: &[u8]) -> Result<Delivered, u8> {
+        Calls::observer_deliver(&RULES, book, frame)
+    }
+
+    fn observer_move(&self, book: &mut [u8]) -> Result<Move, u8> {
+        Calls::observer_move(&RULES, book)
+    }
+
+    fn observer_size(&self, book: &[u8]) -> Result<u64, u8> {
+        Calls::observer_size(&RULES, book)
+    }
+
+    fn observer_read(&self, book: &[u8], buffer: &mut [u8]) -> u64 {
+        Calls::observer_read(&RULES, book, buffer)
+    }
 }
 
 /// The calls within which a fault must show.

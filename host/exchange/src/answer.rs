@@ -8,7 +8,7 @@ use types::{Certificate, Counts, Delivered, Height, Move};
 pub enum Answer {
     /// Open, signal, submit or fetch was not refused.
     Done,
-    /// What deliver says of a frame.
+    /// What deliver says of a frame, a replica's or an observer's.
     Delivered(Delivered),
     /// How many frames of a packet were fresh, known and refused.
     Counted(Counts),

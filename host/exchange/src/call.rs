@@ -1,7 +1,7 @@
 //! One call with its arguments, made on any replica.
 
 use crate::bytes::{self, shorten};
-use crate::Answer;
+use crate::{Answer, ObserverCall};
 use types::Calls;
 
 /// A call; the book and the reply or reading buffer are lent when it is made.
@@ -26,6 +26,8 @@ pub enum Call {
     Read,
     /// Gets a certificate.
     Fetch { kind: u64, height: u64 },
+    /// A call on an observer's book.
+    Observer(ObserverCall),
 }
 
 impl Call {
@@ -35,6 +37,7 @@ impl Call {
             Call::Move | Call::Read | Call::Fetch { .. } => true,
             Call::Open { .. } | Call::Deliver { .. } | Call::Packet { .. } => false,
             Call::Signal { .. } | Call::Submit { .. } | Call::Size => false,
+            Call::Observer(call) => call.lends(),
         }
     }
 
@@ -44,12 +47,12 @@ impl Call {
             Call::Open { .. } | Call::Deliver { .. } | Call::Packet { .. } => true,
             Call::Move | Call::Signal { .. } | Call::Submit { .. } => true,
             Call::Size | Call::Read | Call::Fetch { .. } => false,
+            Call::Observer(call) => call.writes(),
         }
     }
 
     /// Makes the call. Those that are lent no second buffer leave it alone.
     pub fn make(&self, calls: &impl Calls, book: &mut [u8], buffer: &mut [u8]) -> Answer {
-        let done = |answer: Result<(), u8>| answer.map_or_else(Answer::Deny, |()| Answer::Done);
         match self {
             Call::Open { n, own, heights, leaders } => {
                 done(calls.open(book, *n, *own, *heights, leaders))
@@ -66,6 +69,7 @@ impl Call {
             Call::Size => calls.size(book).map_or_else(Answer::Deny, Answer::Size),
             Call::Read => Answer::Part(calls.read(book, buffer)),
             Call::Fetch { kind, height } => done(calls.fetch(book, *kind, *height, buffer)),
+            Call::Observer(call) => call.make(calls, book, buffer),
         }
     }
 
@@ -83,6 +87,7 @@ impl Call {
             Call::Size => format!("size {book}"),
             Call::Read => format!("read {book} {buffer}"),
             Call::Fetch { kind, height } => format!("fetch {book} {kind} {height} {buffer}"),
+            Call::Observer(call) => call.words(book, buffer),
         }
     }
 
@@ -112,15 +117,23 @@ impl Call {
                 (Call::Fetch { kind: number(kind)?, height: number(height)? }, book)
             }
             _ => {
-                let words = shorten(&words.join(" "));
-                return Err(format!("'{words}' is no call with its arguments"));
+                let (call, book, buffer) = ObserverCall::parse(words)?.ok_or_else(|| {
+                    format!("'{}' is no call with its arguments", shorten(&words.join(" ")))
+                })?;
+                second = buffer;
+                (Call::Observer(call), book)
             }
         };
         Ok((call, book.to_string(), second.to_string()))
     }
 }
 
+/// The answer of a call that says nothing else.
+pub(crate) fn done(answer: Result<(), u8>) -> Answer {
+    answer.map_or_else(Answer::Deny, |()| Answer::Done)
+}
+
 /// A number of 64 bits.
-fn number(word: &str) -> Result<u64, String> {
+pub(crate) fn number(word: &str) -> Result<u64, String> {
     word.parse().map_err(|_| format!("'{word}' is no number"))
 }

@@ -2,7 +2,7 @@
 
 use crate::{bytes, words};
 use std::ops::Range;
-use types::{book_length, field, head_height, mask_at, Height};
+use types::{book_length, field, head_height, mask_at, observer_book_length, Height};
 use types::{BLOCK, ENTRY, FRAME, MOST_PENDING, MOST_REPLICAS};
 
 /// Of bytes that are no field of their own so many are told, from the first that differs.
@@ -11,7 +11,7 @@ const MOST_TOLD: usize = 32;
 /// What bytes stand for.
 #[derive(Clone, Copy, Debug, PartialEq, Eq)]
 pub enum Shape {
-    /// A book.
+    /// A book, a station's or an observer's: by its length.
     Book,
     /// The reply of move or fetch: frames.
     Reply,
@@ -97,12 +97,13 @@ fn fields(shape: Shape, one: &[u8], two: &[u8]) -> Vec<Field> {
     let mut fields = Fields::default();
     let heights = [one, two].map(|book| head_height(book, field::HEIGHTS));
     match (shape, heights) {
-        (Shape::Book, [h, other])
-            if h == other && [one.len(), two.len()] == [book_length(h); 2] =>
-        {
-            fields.book(h)
-        }
-        (Shape::Book, _) => {}
+        (Shape::Book, [h, other]) => match [one.len(), two.len()] {
+            lengths if h == other && lengths == [book_length(h); 2] => fields.book(h),
+            lengths if h == other && lengths == [observer_book_length(h); 2] => {
+                fields.observer_book(h)
+            }
+            _ => {}
+        },
         (Shape::Reply, _) => {
             let names = ["first frame", "second frame"].into_iter().take(length / FRAME);
             names.for_each(|name| fields.frame(name));
@@ -132,8 +133,8 @@ impl Fields {
         self.end = end;
     }
 
-    /// The fields of a book.
-    fn book(&mut self, heights: Height) {
+    /// The fields of a head.
+    fn head(&mut self) {
         self.add("number of stations", 1, Sort::Number);
         self.add("own number", 1, Sort::Number);
         self.add("number of heights", 1, Sort::Number);
@@ -143,19 +144,41 @@ impl Fields {
         self.add("number of pending entries", 1, Sort::Number);
         self.add("edition", 1, Sort::Number);
         self.add("zeros of the head", 56, Sort::Bytes);
+    }
+
+    /// The fields of a book.
+    fn book(&mut self, heights: Height) {
+        self.head();
         (1..=MOST_PENDING)
             .for_each(|at| self.add(format!("pending place {at}"), ENTRY, Sort::Entry));
         (1..=heights).for_each(|height| self.row(&format!("height {height}")));
         (1..=heights).for_each(|height| self.body(&format!("height {height}")));
     }
 
+    /// The fields of an observer's book; the head has names for its zeros.
+    fn observer_book(&mut self, heights: Height) {
+        self.head();
+        for height in 1..=heights {
+            let of = format!("height {height}");
+            self.add(format!("{of}, state"), 1, Sort::State);
+            self.add(format!("{of}, zero behind the state"), 1, Sort::Bytes);
+            self.certificates(&of);
+        }
+        (1..=heights).for_each(|height| self.page(&format!("height {height}, notarised page")));
+    }
+
+    /// The masks of the three certificates of a height.
+    fn certificates(&mut self, of: &str) {
+        self.add(format!("{of}, signers of the page certificate"), 2, Sort::Mask);
+        self.add(format!("{of}, blank votes"), 2, Sort::Mask);
+        self.add(format!("{of}, finalises"), 2, Sort::Mask);
+    }
+
     /// The row of a height in the contents.
     fn row(&mut self, of: &str) {
         self.add(format!("{of}, leader"), 1, Sort::Number);
         self.add(format!("{of}, state"), 1, Sort::State);
-        self.add(format!("{of}, signers of the page certificate"), 2, Sort::Mask);
-        self.add(format!("{of}, blank votes"), 2, Sort::Mask);
-        self.add(format!("{of}, finalises"), 2, Sort::Mask);
+        self.certificates(of);
         self.add(format!("{of}, page voters"), 2, Sort::Mask);
         self.add(format!("{of}, zeros of the contents"), 6, Sort::Bytes);
     }
@@ -226,7 +249,53 @@ fn told(sort: Sort, one: &[u8], two: &[u8]) -> [String; 2] {
 #[allow(clippy::unwrap_used, clippy::panic)]
 mod tests {
     use super::*;
-    use types::{put_head_height, Area, Layout, MOST_HEIGHTS};
+    use types::{put_head_height, Area, Layout, ObserverArea, ObserverLayout, MOST_HEIGHTS};
+
+    /// An observer's book of zeros but for its number of heights.
+    fn observer(heights: Height) -> Vec<u8> {
+        let mut book = vec![0; observer_book_length(heights)];
+        put_head_height(&mut book, field::HEIGHTS, heights);
+        book
+    }
+
+    #[test]
+    fn fields_fill_an_observers_book_and_lie_where_its_layout_has_them() {
+        for heights in [1, 3, MOST_HEIGHTS] {
+            let book = observer(heights);
+            let fields = fields(Shape::Book, &book, &book);
+            let ends: Vec<usize> = fields.iter().map(|field| field.range.end).collect();
+            assert!(fields.iter().skip(1).zip(&ends).all(|(field, end)| field.range.start == *end));
+            assert_eq!(ends.last(), Some(&book.len()));
+            for (area, name) in
+                [(ObserverArea::Row, "state"), (ObserverArea::Notarized, "notarised page, height")]
+            {
+                let at = ObserverLayout::new(heights).area(heights, area).start;
+                assert_eq!(place(&book, at), Some((format!("height {heights}, {name}"), at)));
+            }
+        }
+    }
+
+    #[test]
+    fn each_changed_field_of_an_observers_book_is_told() {
+        let one = observer(2);
+        let mut two = one.clone();
+        (two[field::CURRENT], two[72], two[73], two[76]) = (1, 2, 9, 7);
+        two[64 + 16 + 176] = 2;
+        let told: Vec<String> = differences(Shape::Book, &one, &two)
+            .iter()
+            .map(|c| format!("{} ({}): {} | {}", c.place, c.byte, c.one, c.two))
+            .collect();
+        assert_eq!(
+            told,
+            [
+                "current height (4): 0 | 1",
+                "height 2, state (72): 0 | 2 (page notarised)",
+                "height 2, zero behind the state (73): 00 | 09",
+                "height 2, blank votes (76): - | 0 1 2",
+                "height 2, notarised page, height (256): 0 | 2",
+            ]
+        );
+    }
 
     #[test]
     fn fields_fill_a_book_and_lie_where_the_layout_has_them() {
@@ -278,8 +347,9 @@ mod tests {
     }
 
     #[test]
-    fn every_byte_of_a_book_and_of_a_reply_counts() {
-        for (shape, length) in [(Shape::Book, book_length(2)), (Shape::Reply, 449)] {
+    fn every_byte_of_both_books_and_of_a_reply_counts() {
+        let lengths = [book_length(2), observer_book_length(2)].map(|length| (Shape::Book, length));
+        for (shape, length) in lengths.into_iter().chain([(Shape::Reply, 449)]) {
             let mut one = vec![0; length];
             put_head_height(&mut one, field::HEIGHTS, 2);
             for at in 0..length {

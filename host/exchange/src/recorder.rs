@@ -1,6 +1,6 @@
 //! Writes a list while it makes the calls.
 
-use crate::{Answer, Call, Line, List, Stage};
+use crate::{Answer, Call, Line, List, ObserverCall, Stage};
 use types::{Calls, Height, Move, FRAME};
 
 /// Calls on named buffers, kept as a list with their answers and digests.
@@ -60,6 +60,17 @@ impl<C: Calls> Recorder<C> {
         self.give(book, vec![0x5a; types::book_length(heights)]);
         let (heights, leaders) = (leaders.len() as u64, leaders.to_vec());
         self.make(Call::Open { n, own, heights, leaders }, book, "");
+    }
+
+    /// Opens an observer's book of the right length over bytes `5a`.
+    pub fn open_observer(&mut self, book: &str, n: u64, heights: Height) {
+        self.give(book, vec![0x5a; types::observer_book_length(heights)]);
+        self.observer(book, ObserverCall::Open { n, heights: heights.into() });
+    }
+
+    /// Makes a call of an observer that is lent no second buffer.
+    pub fn observer(&mut self, book: &str, call: ObserverCall) -> Option<Answer> {
+        self.make(Call::Observer(call), book, "")
     }
 
     /// Delivers a frame.

@@ -49,6 +49,7 @@ pub fn parse_answer(call: &Call, text: &str) -> Result<Expected, String> {
 #[allow(clippy::unwrap_used, clippy::panic)]
 mod tests {
     use super::*;
+    use crate::ObserverCall;
     use types::{Counts, Move};
 
     #[test]
@@ -61,6 +62,11 @@ mod tests {
             Call::Move,
             Call::Read,
             Call::Fetch { kind: 5, height: u64::MAX },
+            Call::Observer(ObserverCall::Open { n: 4, heights: u64::MAX }),
+            Call::Observer(ObserverCall::Deliver { frame: vec![6; 224] }),
+            Call::Observer(ObserverCall::Move),
+            Call::Observer(ObserverCall::Size),
+            Call::Observer(ObserverCall::Read),
         ];
         for call in calls {
             let (book, buffer) = (vec![0; 32], if call.lends() { vec![1, 2] } else { vec![] });
@@ -105,5 +111,8 @@ mod tests {
         }
         assert!(parse("dance 00").is_err());
         assert!(parse("move 00").is_err());
+        for line in ["observer-move 00 00", "observer-open 00 4", "observer-fetch 00 5 1 00"] {
+            assert!(parse(line).is_err(), "{line}");
+        }
     }
 }

@@ -101,8 +101,8 @@ fn of_two_registers_of_the_season_one_begins_the_other() {
     let all: Vec<&Vec<u8>> = registers.values().flatten().collect();
     assert_eq!(
         (registers.len(), all.len()),
-        (4, 24),
-        "four stations, read after each of six stages"
+        (5, 25),
+        "four stations, read after each of six stages, and an observer at the end"
     );
     let agree = |one: &Vec<u8>, other: &Vec<u8>| one.starts_with(other) || other.starts_with(one);
     assert!(all.iter().all(|one| all.iter().all(|other| agree(one, other))));

@@ -38,10 +38,25 @@ unsafe extern "C" {
         reply: *mut u8,
         reply_len: usize,
     ) -> u64;
+    fn mavunilai_observer_open(book: *mut u8, book_len: usize, n: u64, heights: u64) -> u64;
+    fn mavunilai_observer_deliver(
+        book: *mut u8,
+        book_len: usize,
+        frame: *const u8,
+        frame_len: usize,
+    ) -> u64;
+    fn mavunilai_observer_move(book: *mut u8, book_len: usize) -> u64;
+    fn mavunilai_observer_size(book: *const u8, book_len: usize) -> u64;
+    fn mavunilai_observer_read(
+        book: *const u8,
+        book_len: usize,
+        buffer: *mut u8,
+        buffer_len: usize,
+    ) -> u64;
 }
 
 /// The number of the interface that this crate knows, as MAVUNILAI_INTERFACE of the header.
-pub const INTERFACE: u64 = 2;
+pub const INTERFACE: u64 = 3;
 
 /// Whether the library is of that interface. Each call of [`Proved`] asks this first.
 pub fn fits() -> bool {
@@ -137,5 +152,39 @@ impl Calls for Proved {
         unpack_done(fitting(|| unsafe {
             mavunilai_fetch(book.as_ptr(), book.len(), kind, height, at, length)
         }))
+    }
+
+    fn observer_open(&self, book: &mut [u8], n: u64, heights: u64) -> Result<(), u8> {
+        // SAFETY: see Proved.
+        unpack_done(fitting(|| unsafe {
+            mavunilai_observer_open(book.as_mut_ptr(), book.len(), n, heights)
+        }))
+    }
+
+    fn observer_deliver(&self, book: &mut [u8], frame: &[u8]) -> Result<Delivered, u8> {
+        let (at, length) = (frame.as_ptr(), frame.len());
+        // SAFETY: see Proved.
+        unpack_delivered(fitting(|| unsafe {
+            mavunilai_observer_deliver(book.as_mut_ptr(), book.len(), at, length)
+        }))
+    }
+
+    fn observer_move(&self, book: &mut [u8]) -> Result<Move, u8> {
+        // SAFETY: see Proved.
+        unpack_move(fitting(|| unsafe { mavunilai_observer_move(book.as_mut_ptr(), book.len()) }))
+    }
+
+    fn observer_size(&self, book: &[u8]) -> Result<u64, u8> {
+        // SAFETY: see Proved.
+        unpack_size(fitting(|| unsafe { mavunilai_observer_size(book.as_ptr(), book.len()) }))
+    }
+
+    fn observer_read(&self, book: &[u8], buffer: &mut [u8]) -> u64 {
+        if !fits() {
+            return 0;
+        }
+        let (at, length) = (buffer.as_mut_ptr(), buffer.len());
+        // SAFETY: see Proved.
+        unsafe { mavunilai_observer_read(book.as_ptr(), book.len(), at, length) }
     }
 }

@@ -21,6 +21,24 @@
 //! # Ok(())
 //! # }
 //! ```
+//!
+//! An observer has no vote: [`ObserverBook`] takes certificates alone, and reads the log.
+//!
+//! ```
+//! # fn main() -> Result<(), mavunilai::Refusal> {
+//! use mavunilai::{Block, Frame, Move, ObserverBook, Refusal};
+//! // With the feature: mavunilai::observe(4, 3)?
+//! let mut book = ObserverBook::open(reference::Rules::SHA256, 4, 3)?;
+//! let block = Block { height: 1, entries: vec![[1; 16]], ..Block::default() };
+//! let vote = Frame::Finalize { signer: 0, height: 1 }.bytes();
+//! assert_eq!(book.deliver(&vote), Err(Refusal::NotACertificate));
+//! book.deliver(&Frame::BlockCertificate { mask: 7, block }.bytes())?;
+//! book.deliver(&Frame::FinalizeCertificate { mask: 7, height: 1 }.bytes())?;
+//! assert_eq!(book.make_move()?, Move::Final { height: 1 });
+//! assert_eq!(book.log()?, [[1; 16]]);
+//! # Ok(())
+//! # }
+//! ```
 
 #![warn(clippy::indexing_slicing, clippy::arithmetic_side_effects)]
 #![warn(clippy::unwrap_used, clippy::expect_used, clippy::panic)]
@@ -33,12 +51,19 @@ pub use foreign::{fits, Proved, INTERFACE};
 /// A book in a file: locked while it is open, each call committed together with its frames.
 pub use store;
 pub use types::{
-    book_length, held_block, is_second_block, Block, Book, Calls, Certificate, Counts, Delivered,
-    Frame, Move, Refusal, Written, BLOCK, ENTRY, FRAME, MOST_HEIGHTS, MOST_REPLICAS,
+    book_length, held_block, is_second_block, observer_book_length, Block, Book, Calls,
+    Certificate, Counts, Delivered, Frame, Move, ObserverBook, Refusal, Written, BLOCK, ENTRY,
+    FRAME, MOST_HEIGHTS, MOST_REPLICAS,
 };
 
 /// A new book of the proved replica for replica `own` of `n`, with one leader for each height.
 #[cfg(feature = "proved")]
 pub fn open(n: u64, own: u64, leaders: &[u8]) -> Result<Book<Proved>, Refusal> {
     Book::open(Proved, n, own, leaders)
+}
+
+/// A new observer's book of the proved replica, over `n` replicas and so many heights.
+#[cfg(feature = "proved")]
+pub fn observe(n: u64, heights: u64) -> Result<ObserverBook<Proved>, Refusal> {
+    ObserverBook::open(Proved, n, heights)
 }

@@ -11,7 +11,9 @@ mod foreign;
 use foreign::{fits, Proved, INTERFACE};
 #[cfg(feature = "proved")]
 use mavunilai::{fits, Proved};
-use types::{Book, Calls, Certificate, Counts, Delivered, Frame, Move, Refusal};
+use types::{
+    Block, Book, Calls, Certificate, Counts, Delivered, Frame, Move, ObserverBook, Refusal,
+};
 
 /// Replica 2 of 4 with three heights.
 fn book() -> Book<Proved> {
@@ -94,6 +96,54 @@ fn refusals_come_through() {
     assert_eq!(Proved.read(&bytes, &mut []), 0);
 }
 
+/// An observer of four replicas and two heights, and a block of the first with its certificate.
+fn observer() -> (ObserverBook<Proved>, [u8; types::FRAME]) {
+    let block = Block { height: 1, entries: vec![[3; 16]], ..Block::default() };
+    let certificate = Frame::BlockCertificate { mask: 7, block }.bytes();
+    (ObserverBook::open(Proved, 4, 2).unwrap(), certificate)
+}
+
+#[test]
+fn an_observer_settles_and_reads() {
+    let (mut book, certificate) = observer();
+    assert_eq!((book.n(), book.heights(), book.finalized()), (4, 2, 0));
+    assert_eq!(book.deliver(&certificate), Ok(Delivered::Fresh));
+    assert_eq!(book.deliver(&certificate), Ok(Delivered::Known));
+    assert_eq!(book.make_move(), Ok(Move::Idle));
+    let finalizes = Frame::FinalizeCertificate { mask: 13, height: 1 }.bytes();
+    assert_eq!(book.deliver(&finalizes), Ok(Delivered::Fresh));
+    assert_eq!(book.log(), Ok(vec![]));
+    assert_eq!(book.make_move(), Ok(Move::Final { height: 1 }));
+    assert_eq!((book.make_move(), book.finalized()), (Ok(Move::Idle), 1));
+    assert_eq!(book.log(), Ok(vec![[3; 16]]));
+    assert_eq!(Proved.observer_size(book.bytes()), Ok(16));
+    assert_eq!(Proved.observer_read(book.bytes(), &mut [0; 15]), 0);
+    let mut buffer = [9; 17];
+    assert_eq!((Proved.observer_read(book.bytes(), &mut buffer), buffer[16]), (16, 9));
+    assert!(ObserverBook::from_bytes(Proved, book.bytes().to_vec()).is_ok());
+}
+
+#[test]
+fn refusals_of_an_observer_come_through() {
+    let (mut observer, certificate) = observer();
+    let vote = Frame::DummyVote { signer: 99, height: 99 }.bytes();
+    assert_eq!(observer.deliver(&vote), Err(Refusal::NotACertificate));
+    assert_eq!(observer.deliver(&[]), Err(Refusal::Malformed));
+    let high = Frame::DummyCertificate { mask: 7, height: 3 }.bytes();
+    assert_eq!(observer.deliver(&high), Err(Refusal::NoSuchHeight));
+    for (n, heights) in [(0, 1), (17, 1), (4, 0), (4, 64), (4, u64::MAX)] {
+        assert_eq!(ObserverBook::open(Proved, n, heights).err(), Some(Refusal::OutOfRange));
+    }
+    let mut station = book().bytes().to_vec();
+    assert_eq!(ObserverBook::from_bytes(Proved, station.clone()).err(), Some(Refusal::Unsound));
+    assert_eq!(Book::from_bytes(Proved, observer.bytes().to_vec()).err(), Some(Refusal::Unsound));
+    assert_eq!(Proved.observer_deliver(&mut station, &certificate), Err(1));
+    assert_eq!(Proved.observer_move(&mut station), Err(1));
+    assert_eq!(Proved.observer_open(&mut station, 4, 2), Err(1));
+    assert_eq!(Proved.observer_read(&station, &mut [0; 16]), 0);
+    assert_eq!(station, book().bytes());
+}
+
 /// One of many entries, which begin with 0 to 3 in turn.
 fn entry(number: u8) -> [u8; 16] {
     let mut entry = [number; 16];
@@ -124,7 +174,9 @@ fn the_library_fits() {
 #[cfg(not(feature = "proved"))]
 fn a_library_of_another_interface_is_not_called() {
     let (mut book, logged) = (book(), logged());
+    let (mut observer, certificate) = observer();
     let before = book.bytes().to_vec();
+    let observed = observer.bytes().to_vec();
     assert_eq!(Proved.read(logged.bytes(), &mut [0; 16]), 16);
     exports::CLAIMED.set(INTERFACE + 1);
     assert!(!fits());
@@ -139,6 +191,12 @@ fn a_library_of_another_interface_is_not_called() {
     assert_eq!(book.fetch(6, 1), Err(Refusal::OtherInterface));
     assert_eq!(Proved.read(logged.bytes(), &mut [0; 16]), 0);
     assert_eq!(book.bytes(), before);
+    assert_eq!(ObserverBook::open(Proved, 4, 2).err(), Some(Refusal::OtherInterface));
+    assert_eq!(observer.deliver(&certificate), Err(Refusal::OtherInterface));
+    assert_eq!(observer.make_move(), Err(Refusal::OtherInterface));
+    assert_eq!(observer.log(), Err(Refusal::OtherInterface));
+    assert_eq!(Proved.observer_read(observer.bytes(), &mut [0; 16]), 0);
+    assert_eq!(observer.bytes(), observed);
     exports::CLAIMED.set(INTERFACE);
     assert_eq!(book.deliver(&vote), Ok(Delivered::Fresh));
 }

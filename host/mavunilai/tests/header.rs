@@ -3,10 +3,15 @@
 
 mod common;
 
+#[cfg(feature = "proved")]
+use common::prints_of;
 use common::{compiler, compiles, host, prints, scratch, LANGUAGES};
 use std::collections::BTreeMap;
 use types::refusal::meaning;
-use types::{book_length, field, Area, Block, Book, Certificate, Frame, Layout, Move, Refusal};
+use types::{
+    book_length, field, observer_book_length, Area, Block, Book, Certificate, Frame, Layout,
+};
+use types::{Move, ObserverArea, ObserverBook, ObserverLayout, Refusal};
 
 /// A file of the host folder as a word.
 fn word(file: &str) -> String {
@@ -25,10 +30,16 @@ fn numbers() -> BTreeMap<String, u64> {
 }
 
 #[test]
-fn header_and_example_compile_without_warnings() {
+fn header_example_and_tests_compile_without_warnings() {
     for language in LANGUAGES {
         assert!(compiles(language, &["-include", "mavunilai.h", "-fsyntax-only", "/dev/null"]));
-        assert!(compiles(language, &["-fsyntax-only", &word("example/first_call.c")]));
+        for example in ["example/first_call.c", "example/observer.c"] {
+            assert!(compiles(language, &["-fsyntax-only", &word(example)]));
+        }
+        for program in ["promises", "observers", "texts"] {
+            let program = word(&format!("mavunilai/tests/c/{program}.c"));
+            assert!(compiles(language, &["-fsyntax-only", &program]));
+        }
     }
 }
 
@@ -36,7 +47,8 @@ fn header_and_example_compile_without_warnings() {
 #[test]
 fn read_is_told_apart() {
     let program = |call: &str| {
-        let file = scratch(&format!("apart_{call}.c"));
+        let name = call.split('(').next().unwrap();
+        let file = scratch(&format!("apart_{name}.c"));
         let text = format!(
             "#include \"mavunilai.h\"\nunsigned asked(const uint8_t *book, uint8_t *to);\n\
              unsigned asked(const uint8_t *book, uint8_t *to) {{\n    (void)to;\n    \
@@ -46,9 +58,12 @@ fn read_is_told_apart() {
         let words = ["-fsyntax-only", file.to_str().unwrap()];
         compiler(LANGUAGES[0], &words).map(|output| output.status.success())
     };
-    let (packed, plain) = (program("size(book, 576)"), program("read(book, 576, to, 16)"));
-    assert!(packed.is_none_or(|compiled| compiled));
-    assert!(plain.is_none_or(|compiled| !compiled));
+    for of in ["", "observer_"] {
+        let [packed, plain] = ["size(book, 64)", "read(book, 64, to, 16)"]
+            .map(|call| program(&format!("{of}{call}")));
+        assert!(packed.is_none_or(|compiled| compiled));
+        assert!(plain.is_none_or(|compiled| !compiled));
+    }
 }
 
 /// Bytes as a row of an array in C.
@@ -121,6 +136,7 @@ fn lengths_and_maxima_are_those_of_the_types() {
     is("MOST_HEIGHTS", types::MOST_HEIGHTS.into());
     is("MOST_PENDING", Layout::new(1).pending().len() / types::ENTRY);
     is("MOST_BOOK", book_length(types::MOST_HEIGHTS));
+    is("MOST_OBSERVER_BOOK", observer_book_length(types::MOST_HEIGHTS));
     let entries = vec![[1; types::ENTRY]; 100];
     let most = Block::parts(&Block { entries, ..Block::default() }.bytes()).entries.len();
     is("MOST_PAGE_ENTRIES", most);
@@ -144,6 +160,29 @@ fn fields_of_the_book_are_where_the_types_have_them() {
     is("ROW", Layout::new(1).area(1, Area::Row).len());
     let body = |height| Layout::new(2).area(height, Area::Held).start;
     is("BODY", body(2) - body(1));
+}
+
+/// Of a row the masks are found by certificates that an observer takes.
+#[test]
+fn fields_of_an_observers_book_are_where_the_types_have_them() {
+    let numbers = numbers();
+    let is = |name: &str, value: usize| assert_eq!(numbers[name], value as u64, "{name}");
+    let row = ObserverLayout::new(3).area(1, ObserverArea::Row);
+    is("OBSERVER_ROWS_AT", row.start);
+    is("OBSERVER_ROW", row.len());
+    let block = Block { height: 1, ..Block::default() };
+    let certificates = [
+        ("OBSERVER_ROW_PAGE", Frame::BlockCertificate { mask: 7, block }),
+        ("OBSERVER_ROW_BLANK", Frame::DummyCertificate { mask: 7, height: 1 }),
+        ("OBSERVER_ROW_FINALISE", Frame::FinalizeCertificate { mask: 7, height: 1 }),
+    ];
+    for (name, frame) in certificates {
+        let mut book = ObserverBook::open(reference::Rules::SHA256, 4, 3).unwrap();
+        book.deliver(&frame.bytes()).unwrap();
+        is(name, book.bytes()[row.clone()].iter().position(|byte| *byte == 7).unwrap());
+        let state = if name == "OBSERVER_ROW_PAGE" { numbers["STATE_NOTARISED"] } else { 0 };
+        assert_eq!(u64::from(book.bytes()[row.start]), state);
+    }
 }
 
 /// Where a frame or page with this one field set differs from one with no field set.
@@ -227,12 +266,14 @@ fn interface_is_that_of_the_wrapper() {
 #[test]
 #[cfg(feature = "proved")]
 fn promises_are_kept() {
-    let program = word("mavunilai/tests/c/promises.c");
-    for language in LANGUAGES {
-        let files = [&program, "-x", "none", env!("MAVUNILAI_ARCHIVE")];
-        let printed = prints(language, "promises", &files);
-        let kept = printed.as_ref().is_none_or(|(text, ended)| text.is_empty() && *ended);
-        assert!(kept, "{printed:?}");
+    for name in ["promises", "observers"] {
+        let program = word(&format!("mavunilai/tests/c/{name}.c"));
+        for language in LANGUAGES {
+            let files = [&program, "-x", "none", env!("MAVUNILAI_ARCHIVE")];
+            let printed = prints(language, name, &files);
+            let kept = printed.as_ref().is_none_or(|(text, ended)| text.is_empty() && *ended);
+            assert!(kept, "{name}: {printed:?}");
+        }
     }
 }
 
@@ -248,5 +289,29 @@ current height 2, settled height 0
 ";
     let files = [&word("example/first_call.c"), "-x", "none", env!("MAVUNILAI_ARCHIVE")];
     let printed = prints(LANGUAGES[0], "first_call", &files);
+    assert!(printed.is_none_or(|printed| printed == (expected.to_string(), true)));
+}
+
+#[test]
+#[cfg(feature = "proved")]
+fn observer_example_runs() {
+    let block = Block { height: 1, entries: vec![*b"\0swap A12 to B40"], ..Block::default() };
+    let frames = [
+        Frame::BlockCertificate { mask: 7, block }.bytes(),
+        Frame::FinalizeCertificate { mask: 13, height: 1 }.bytes(),
+        Frame::DummyVote { signer: 0, height: 1 }.bytes(),
+        Frame::FinalizeCertificate { mask: 12, height: 1 }.bytes(),
+    ];
+    let expected = "\
+frame 1: fresh
+frame 2: fresh
+frame 3: refused with 16: the frame is no certificate, and an observer takes no other
+frame 4: refused with 9: the certificate's signers are no quorum
+move 2: settled height 1
+settled height 1, 16 bytes of register
+.swap A12 to B40
+";
+    let files = [&word("example/observer.c"), "-x", "none", env!("MAVUNILAI_ARCHIVE")];
+    let printed = prints_of(LANGUAGES[0], "observer", &files, frames.as_flattened());
     assert!(printed.is_none_or(|printed| printed == (expected.to_string(), true)));
 }

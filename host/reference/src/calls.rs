@@ -46,4 +46,24 @@ impl Calls for Rules {
     fn fetch(&self, book: &[u8], kind: u64, height: u64, reply: &mut [u8]) -> Result<(), u8> {
         Rules::fetch(self, book, kind, height, reply)
     }
+
+    fn observer_open(&self, book: &mut [u8], n: u64, heights: u64) -> Result<(), u8> {
+        Rules::observer_open(self, book, n, heights)
+    }
+
+    fn observer_deliver(&self, book: &mut [u8], frame: &[u8]) -> Result<Delivered, u8> {
+        Rules::observer_deliver(self, book, frame)
+    }
+
+    fn observer_move(&self, book: &mut [u8]) -> Result<Move, u8> {
+        Rules::observer_move(self, book)
+    }
+
+    fn observer_size(&self, book: &[u8]) -> Result<u64, u8> {
+        Rules::observer_size(self, book).map(|size| size as u64)
+    }
+
+    fn observer_read(&self, book: &[u8], buffer: &mut [u8]) -> u64 {
+        Rules::observer_read(self, book, buffer).len() as u64
+    }
 }

@@ -2,33 +2,33 @@
 
 use crate::block::{self, Block};
 use crate::height::Height;
-use crate::state::State;
+use crate::view::View;
 use crate::{quorum, Digest, Rules};
 
-/// A state seen as chains of blocks, with the digest that ties a block to its parent.
+/// A state, a replica's or an observer's, seen as chains of blocks, with the digest that ties a block to its parent.
 #[derive(Clone, Copy)]
 pub(crate) struct Chain<'a> {
-    state: &'a State,
+    view: &'a dyn View,
     digest: Digest,
 }
 
 impl Rules {
     /// The chains of a state.
-    pub(crate) fn chain<'a>(&self, state: &'a State) -> Chain<'a> {
-        Chain { state, digest: self.digest }
+    pub(crate) fn chain<'a>(&self, view: &'a dyn View) -> Chain<'a> {
+        Chain { view, digest: self.digest }
     }
 }
 
 impl<'a> Chain<'a> {
     /// Whether a quorum voted for the dummy block of a height (document 01: blank).
     pub fn is_dummy(&self, height: Height) -> bool {
-        let slot = self.state.slot(height);
-        slot.is_some_and(|slot| quorum::is_quorum(slot.dummies, self.state.n))
+        let shown = self.view.shown(height);
+        shown.is_some_and(|shown| quorum::is_quorum(shown.dummies, self.view.n()))
     }
 
     /// The notarized block of a height.
     pub fn notarized(&self, height: Height) -> Option<&'a Block> {
-        self.state.slot(height)?.notarized()
+        self.view.shown(height)?.notarized
     }
 
     /// The digest that a child of this height names: zero for height 0.
@@ -55,14 +55,14 @@ impl<'a> Chain<'a> {
 
     /// Whether a height is linked and a quorum finalized it (document 01: settled).
     pub fn is_finalized(&self, height: Height) -> bool {
-        let slot = self.state.slot(height);
-        slot.is_some_and(|slot| quorum::is_quorum(slot.finalizes, self.state.n))
+        let shown = self.view.shown(height);
+        shown.is_some_and(|shown| quorum::is_quorum(shown.finalizes, self.view.n()))
             && self.is_linked(height)
     }
 
     /// The largest finalized height, 0 if there is none.
     pub fn largest_finalized(&self) -> Height {
-        let mut heights = (1..=self.state.heights()).rev();
+        let mut heights = (1..=self.view.heights()).rev();
         heights.find(|&height| self.is_finalized(height)).unwrap_or(0)
     }
 

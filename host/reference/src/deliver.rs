@@ -43,7 +43,7 @@ fn admit(state: &State, frame: &Frame) -> Result<(), u8> {
 }
 
 /// The refusal unless the condition holds.
-fn require(condition: bool, refusal: u8) -> Result<(), u8> {
+pub(crate) fn require(condition: bool, refusal: u8) -> Result<(), u8> {
     condition.then_some(()).ok_or(refusal)
 }
 
@@ -153,7 +153,7 @@ impl Slot {
 }
 
 /// Adds members to a mask; known if all were members before.
-fn join(mask: &mut u16, more: u16) -> Delivered {
+pub(crate) fn join(mask: &mut u16, more: u16) -> Delivered {
     let before = *mask;
     *mask |= more;
     if *mask == before {
@@ -164,6 +164,6 @@ fn join(mask: &mut u16, more: u16) -> Delivered {
 }
 
 /// Known for what is kept already, else the refusal.
-fn known_if(same: bool, refusal: u8) -> Result<Delivered, u8> {
+pub(crate) fn known_if(same: bool, refusal: u8) -> Result<Delivered, u8> {
     require(same, refusal).map(|()| Delivered::Known)
 }

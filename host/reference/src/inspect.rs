@@ -1,4 +1,6 @@
-//! A sound book told in parts, for programs that show it to people.
+//! A sound book told in parts, for programs that show it to people; an observer's book too.
+
+pub use crate::observer::inspect::{inspect_observer, ObservedHeight, ObserverInspection};
 
 use crate::block;
 use crate::height::Height;

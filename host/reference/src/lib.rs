@@ -1,4 +1,4 @@
-//! The reference replica: the rules of document 01, and of requests 2.1 and 2.2 of document 02, in plain Rust, apart
+//! The reference replica: the rules of document 01, and of requests 2.1 to 2.3 of document 02, in plain Rust, apart
 //! from the proved replica.
 //!
 //! Every call takes the bytes that it may read or write and answers with a value or with the number
@@ -25,6 +25,7 @@ mod height;
 pub mod inspect;
 mod log;
 mod make_move;
+mod observer;
 mod open;
 mod packet;
 mod quorum;
@@ -35,9 +36,11 @@ mod signal;
 mod soundness;
 mod state;
 mod submit;
+mod view;
 
 pub use entry::ENTRY;
 pub use frame::FRAME;
+pub use observer::observer_book_length;
 pub use quorum::is_quorum;
 pub use rules::{Digest, Rules};
 pub use sha256;

@@ -34,14 +34,19 @@ impl Rules {
         let Ok(state) = self.sound(book) else {
             return &mut [];
         };
-        let entries = self.chain(&state).log(state.finalized);
-        let size = entries.len().saturating_mul(ENTRY);
-        let Some((front, _)) = buffer.split_at_mut_checked(size) else {
-            return &mut [];
-        };
-        for (place, entry) in front.as_chunks_mut::<ENTRY>().0.iter_mut().zip(entries) {
-            *place = *entry;
-        }
-        front
+        write(&self.chain(&state).log(state.finalized), buffer)
     }
+}
+
+/// Writes entries to the front of a buffer and returns that part; the empty part, and nothing written, if they do not
+/// fit.
+pub(crate) fn write<'a>(entries: &[&Entry], buffer: &'a mut [u8]) -> &'a mut [u8] {
+    let size = entries.len().saturating_mul(ENTRY);
+    let Some((front, _)) = buffer.split_at_mut_checked(size) else {
+        return &mut [];
+    };
+    for (place, entry) in front.as_chunks_mut::<ENTRY>().0.iter_mut().zip(entries) {
+        *place = **entry;
+    }
+    front
 }

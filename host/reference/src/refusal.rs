@@ -1,4 +1,4 @@
-//! The fifteen refusals by number, as the calls return them.
+//! The sixteen refusals by number, as the calls return them.
 
 /// The book is not sound, or at open its length does not fit the number of heights.
 pub const UNSOUND: u8 = 1;
@@ -30,3 +30,5 @@ pub const REPEATED: u8 = 13;
 pub const STALE_SIGNAL: u8 = 14;
 /// The length of a packet is no multiple of a frame's.
 pub const UNEVEN_PACKET: u8 = 15;
+/// An observer was given a proposal, a vote or a finalize.
+pub const NOT_A_CERTIFICATE: u8 = 16;

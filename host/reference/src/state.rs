@@ -4,6 +4,7 @@ use crate::block::Block;
 use crate::entry::Entry;
 use crate::height::Height;
 use crate::quorum;
+use crate::view::{Shown, View};
 
 /// The places for pending entries.
 pub(crate) const PLACES: usize = 32;
@@ -81,6 +82,24 @@ impl State {
     /// The pending entries up to the count.
     pub fn pending(&self) -> impl Iterator<Item = &Entry> {
         self.pending.iter().take(usize::from(self.pending_count))
+    }
+}
+
+impl View for State {
+    fn n(&self) -> u8 {
+        self.n
+    }
+
+    fn heights(&self) -> Height {
+        State::heights(self)
+    }
+
+    fn shown(&self, height: Height) -> Option<Shown<'_>> {
+        self.slot(height).map(|slot| Shown {
+            notarized: slot.notarized(),
+            dummies: slot.dummies,
+            finalizes: slot.finalizes,
+        })
     }
 }
 

@@ -1,15 +1,10 @@
 //! A book in a file.
 
 use crate::outbox::Outbox;
-use crate::place::Place;
+use crate::place::{Place, FRAMES};
 use crate::{pile, Disk, Error, Files};
 use std::path::Path;
-use types::{
-    book_length, Book, Calls, Counts, Delivered, Move, Written, ENTRY, FRAME, MOST_HEIGHTS,
-};
-
-/// The ending of the file of the frames that wait.
-const FRAMES: &str = ".frames";
+use types::{Book, Calls, Counts, Delivered, Move, Written, ENTRY, FRAME};
 
 /// A book that is kept in a file and locked until this value is dropped. Every call that changes the book is
 /// committed when it returns; one that returns an error of [`Error::Files`] may be, which who opens the book again
@@ -32,7 +27,7 @@ pub fn read(path: impl AsRef<Path>) -> Result<Vec<u8>, Error> {
 /// [`read`] in another file system.
 pub fn read_in<F: Files>(files: F, path: &Path) -> Result<Vec<u8>, Error> {
     let place = Place::resolve(files, path)?;
-    let bytes = read_book(&place)?;
+    let bytes = place.read_book()?;
     // Who has it open may be between renaming and syncing: nothing is answered from a name that is not synced.
     place.sync_folder()?;
     Ok(bytes)
@@ -59,14 +54,7 @@ impl<C: Calls + Clone> FileBook<C> {
 impl<C: Calls + Clone, F: Files> FileBook<C, F> {
     /// [`FileBook::create`] in another file system.
     pub fn create_in(files: F, book: Book<C>, path: &Path) -> Result<FileBook<C, F>, Error> {
-        let place = Place::resolve(files, path)?;
-        let free = |place: &Place<F>| match place.read(0)? {
-            None => Ok(()),
-            Some(_) => Err(Error::Exists(path.to_path_buf())),
-        };
-        free(&place)?;
-        let lock = place.lock()?;
-        free(&place)?;
+        let (place, lock) = Place::claim(files, path)?;
         FileBook::begin(place, lock, book)
     }
 
@@ -79,21 +67,17 @@ impl<C: Calls + Clone, F: Files> FileBook<C, F> {
 
     /// [`FileBook::open`] in another file system.
     pub fn open_in(files: F, calls: C, path: &Path) -> Result<FileBook<C, F>, Error> {
-        let place = Place::resolve(files, path)?;
-        read_book(&place)?;
-        let lock = place.lock()?;
-        let book = Book::from_bytes(calls, read_book(&place)?)?;
+        let (place, lock, bytes) = Place::hold(files, path)?;
+        let book = Book::from_bytes(calls, bytes)?;
         // Who had it before may have ended between renaming and syncing: nothing is answered from a name that is not.
         place.sync_folder()?;
         let unsent = waiting(&place, book.bytes())?;
         Ok(FileBook { book, unsent, stale: false, place, _lock: lock })
     }
 
-    /// Puts the first bytes of a book in its place. Frames that waited belong to another book: they go after it has
-    /// gone, so that they are not lost while it is there.
+    /// Puts the first bytes of a book in its place.
     fn begin(place: Place<F>, lock: F::Lock, book: Book<C>) -> Result<FileBook<C, F>, Error> {
-        place.replace(book.bytes())?;
-        place.remove_beside(FRAMES)?;
+        place.begin(book.bytes())?;
         Ok(FileBook { book, unsent: Vec::new(), stale: false, place, _lock: lock })
     }
 
@@ -197,13 +181,6 @@ impl<C: Calls + Clone, F: Files> FileBook<C, F> {
         }
         self.place.replace(book.bytes())
     }
-}
-
-/// The book's bytes; a file that is longer than any book gives one byte too many.
-fn read_book<F: Files>(place: &Place<F>) -> Result<Vec<u8>, Error> {
-    let bytes = place.read(book_length(MOST_HEIGHTS).saturating_add(1))?;
-    let missing = || std::io::Error::from(std::io::ErrorKind::NotFound);
-    bytes.ok_or_else(|| Error::files("read", &place.path)(missing()))
 }
 
 /// The frames that an earlier life left beside this book. Those of another book were never cast: they are dropped.

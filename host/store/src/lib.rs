@@ -39,6 +39,9 @@
 //! # std::fs::remove_dir_all(&folder).unwrap();
 //! # Ok::<(), store::Error>(())
 //! ```
+//!
+//! An observer's book is kept by [`FileObserver`] in the same way. It writes no frames, so there is no `b.frames`, and
+//! a call is steps 2 and 3: what it answers is synced before it is told.
 
 #![warn(clippy::indexing_slicing, clippy::arithmetic_side_effects)]
 #![warn(clippy::unwrap_used, clippy::expect_used, clippy::panic)]
@@ -47,6 +50,7 @@ mod digits;
 mod disk;
 mod error;
 mod file_book;
+mod file_observer;
 mod files;
 mod outbox;
 mod pile;
@@ -55,4 +59,5 @@ mod place;
 pub use disk::Disk;
 pub use error::Error;
 pub use file_book::{read, read_in, FileBook};
+pub use file_observer::FileObserver;
 pub use files::Files;

@@ -2,9 +2,16 @@
 
 use crate::{Error, Files};
 use std::path::{Path, PathBuf};
+use types::{book_length, MOST_HEIGHTS};
+
+/// The ending of the file of the frames that wait.
+pub const FRAMES: &str = ".frames";
 
 /// The endings of the files beside one that is replaced.
-const BESIDE: [&str; 3] = [".lock", ".new", ".frames"];
+const BESIDE: [&str; 3] = [".lock", ".new", FRAMES];
+
+/// A place that is locked, with the bytes that are there.
+pub type Held<F> = (Place<F>, <F as Files>::Lock, Vec<u8>);
 
 /// A file, by its one path, in a file system.
 #[derive(Clone, Debug)]
@@ -23,6 +30,42 @@ impl<F: Files> Place<F> {
             return Err(Error::Reserved(path));
         }
         Ok(Place { files, path })
+    }
+
+    /// Locks the place of a file that is not there yet.
+    pub fn claim(files: F, path: &Path) -> Result<(Place<F>, F::Lock), Error> {
+        let place = Place::resolve(files, path)?;
+        let free = || match place.read(0)? {
+            None => Ok(()),
+            Some(_) => Err(Error::Exists(path.to_path_buf())),
+        };
+        free()?;
+        let lock = place.lock()?;
+        free()?;
+        Ok((place, lock))
+    }
+
+    /// Locks the place of a book that is there, and reads it.
+    pub fn hold(files: F, path: &Path) -> Result<Held<F>, Error> {
+        let place = Place::resolve(files, path)?;
+        place.read_book()?;
+        let lock = place.lock()?;
+        let bytes = place.read_book()?;
+        Ok((place, lock, bytes))
+    }
+
+    /// The bytes of a book; a file that is longer than any book gives one byte too many.
+    pub fn read_book(&self) -> Result<Vec<u8>, Error> {
+        let bytes = self.read(book_length(MOST_HEIGHTS).saturating_add(1))?;
+        let missing = || std::io::Error::from(std::io::ErrorKind::NotFound);
+        bytes.ok_or_else(|| Error::files("read", &self.path)(missing()))
+    }
+
+    /// Puts the first bytes of a book there. Frames that waited belong to another book: they go after it has gone, so
+    /// that they are not lost while it is there.
+    pub fn begin(&self, bytes: &[u8]) -> Result<(), Error> {
+        self.replace(bytes)?;
+        self.remove_beside(FRAMES)
     }
 
     /// The file beside it with this ending.

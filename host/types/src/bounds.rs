@@ -24,7 +24,7 @@ pub const EDITION: u8 = 1;
 pub const ALL_FLAGS: u8 = 15;
 
 /// The last number of the table of refusals.
-pub const LAST_REFUSAL: u8 = 15;
+pub const LAST_REFUSAL: u8 = 16;
 
 /// The fewest of n replicas that are a quorum.
 pub fn quorum(n: u8) -> u32 {

@@ -1,8 +1,9 @@
-//! The calls of a replica over byte slices, as one trait that each implementation fulfils.
+//! The calls of a replica and of an observer over byte slices, as one trait that each implementation fulfils.
 
 use crate::{Counts, Delivered, Move};
 
-/// A replica's calls. An error is the number of a refusal; a refused call changes no byte.
+/// A replica's calls, then those of an observer, on books of another length: a replica's call finds an observer's book
+/// not sound, and the other way round. An error is the number of a refusal; a refused call changes no byte.
 pub trait Calls {
     /// Makes a new book: 2, 1.
     fn open(
@@ -38,4 +39,19 @@ pub trait Calls {
 
     /// Writes a certificate of kind 5, 6 or 7 to the reply's front: 1, 4, 6, 3, 11.
     fn fetch(&self, book: &[u8], kind: u64, height: u64, reply: &mut [u8]) -> Result<(), u8>;
+
+    /// Makes a new observer's book: 2, 1.
+    fn observer_open(&self, book: &mut [u8], n: u64, heights: u64) -> Result<(), u8>;
+
+    /// Takes a certificate into an observer's book: 1, 4, 16, 6, 5, 9, 10.
+    fn observer_deliver(&self, book: &mut [u8], frame: &[u8]) -> Result<Delivered, u8>;
+
+    /// Makes the one move that an observer has, [`Move::Final`], or is idle; nothing is written but the book: 1.
+    fn observer_move(&self, book: &mut [u8]) -> Result<Move, u8>;
+
+    /// The length in bytes of the log that an observer reads: 1.
+    fn observer_size(&self, book: &[u8]) -> Result<u64, u8>;
+
+    /// Writes that log to the buffer's front and counts its bytes; 0, and nothing written, where it cannot.
+    fn observer_read(&self, book: &[u8], buffer: &mut [u8]) -> u64;
 }

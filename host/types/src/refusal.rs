@@ -6,7 +6,7 @@ use std::fmt;
 
 /// Why a call was refused. A refused call changes no byte.
 ///
-/// The number is that of document 01's table, and its text is what [`meaning`] says of it.
+/// The number is that of the table in documents 01 and 02, and its text is what [`meaning`] says of it.
 #[derive(Clone, Copy, Debug, PartialEq, Eq, Hash)]
 #[non_exhaustive]
 #[repr(u8)]
@@ -43,6 +43,8 @@ pub enum Refusal {
     NotDue = 14,
     /// The length of a packet is not a multiple of 224, so that it is not whole frames.
     UnevenPacket = 15,
+    /// The frame is a proposal, a vote or a finalize; an observer takes certificates alone.
+    NotACertificate = 16,
     /// No refusal of the table: the library has another interface number, or its answer is none that this one knows.
     OtherInterface = crate::packing::UNKNOWN,
 }
@@ -64,6 +66,7 @@ const TABLE: [Refusal; LAST_REFUSAL as usize] = [
     Refusal::EntryKnown,
     Refusal::NotDue,
     Refusal::UnevenPacket,
+    Refusal::NotACertificate,
 ];
 
 impl Refusal {
@@ -115,6 +118,7 @@ pub fn meaning(number: u8) -> &'static str {
         13 => "the entry is pending or in the register already",
         14 => "the signal is not for the current height, or its timer fired before",
         15 => "the packet's length is not a multiple of 224",
+        16 => "the frame is no certificate, and an observer takes no other",
         _ => "this is no number of the table of refusals",
     }
 }

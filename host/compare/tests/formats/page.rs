@@ -74,6 +74,8 @@ impl Formats {
             ("Head", 64),
             ("Row of a height", 16),
             ("Body of a height", 864),
+            ("Head of an observer's book", 64),
+            ("Row of a height in an observer's book", 8),
         ];
         for (heading, size) in wanted {
             let mut end = 0;

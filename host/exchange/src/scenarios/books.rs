@@ -1,5 +1,6 @@
-//! The list of strange books: sound ones that no run makes, and books damaged in one byte.
+//! The list of strange books: sound ones that no run makes, and books damaged in one byte; then those of observers.
 
+use super::observer_books;
 use super::parts::*;
 use crate::{Call, Recorder};
 use types::{field, Area, Calls, Frame, Layout};
@@ -20,6 +21,7 @@ pub fn run<C: Calls>(to: &mut Recorder<C>) {
     full_pending(to);
     second_page(to);
     damage(to);
+    observer_books::run(to);
 }
 
 /// The opened book with some bytes set.

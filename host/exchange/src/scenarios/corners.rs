@@ -28,11 +28,6 @@ pub fn run<C: Calls>(to: &mut Recorder<C>) {
     edges::run(to);
 }
 
-/// The mask of the first so many replicas.
-fn first_replicas(count: u32) -> u16 {
-    (0..count).fold(0, |mask, replica| mask | 1_u16.checked_shl(replica).unwrap_or(0))
-}
-
 fn quorums<C: Calls>(to: &mut Recorder<C>) {
     to.part("For n from 1 to 16: one signer fewer than a quorum is refused, a quorum is taken");
     for n in 1..=MOST_REPLICAS {

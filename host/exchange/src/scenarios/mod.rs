@@ -4,6 +4,9 @@ mod books;
 mod corners;
 mod edges;
 mod moves;
+mod observer_books;
+mod observer_chains;
+mod observers;
 mod orders;
 mod packets;
 mod parts;
@@ -19,8 +22,8 @@ use types::Calls;
 pub use vectors::vectors;
 
 /// The names of the lists; each is a file of the folder with `.txt` behind it.
-pub const NAMES: [&str; 7] =
-    ["refusals", "orders", "moves", "corners", "rehearsal", "season", "books"];
+pub const NAMES: [&str; 8] =
+    ["refusals", "orders", "moves", "corners", "rehearsal", "season", "books", "observers"];
 
 /// Records a list by its name.
 pub fn record(name: &str, calls: impl Calls) -> Option<List> {
@@ -33,6 +36,7 @@ pub fn record(name: &str, calls: impl Calls) -> Option<List> {
         "rehearsal" => rehearsal::run(&mut to),
         "season" => season::run(&mut to),
         "books" => books::run(&mut to),
+        "observers" => observers::run(&mut to),
         _ => return None,
     }
     Some(to.into_list())

@@ -51,6 +51,11 @@ pub fn child(height: Height, below: &Block, entries: &[[u8; ENTRY]]) -> Block {
     Block { height, parent: below.height, digest: digest(below), entries: entries.to_vec() }
 }
 
+/// The mask of the first so many replicas.
+pub fn first_replicas(count: u32) -> u16 {
+    (0..count).fold(0, |mask, replica| mask | 1_u16.checked_shl(replica).unwrap_or(0))
+}
+
 /// A vote for a block.
 pub fn vote(signer: u8, block: &Block) -> Frame {
     Frame::BlockVote { signer, height: block.height, digest: digest(block) }

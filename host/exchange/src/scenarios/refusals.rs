@@ -1,5 +1,6 @@
 //! The list of refusals: each number of the table, with its example and its neighbours.
 
+use super::observers::{blank, observe, WATCH};
 use super::parts::*;
 use crate::{Call, Recorder};
 use types::{Block, Calls, Frame, MOST_HEIGHTS};
@@ -19,6 +20,7 @@ pub fn run<C: Calls>(to: &mut Recorder<C>) {
     entries(to);
     packets(to);
     signals(to);
+    observer(to);
 }
 
 /// Open: 2, then 1.
@@ -205,6 +207,16 @@ fn signals<C: Calls>(to: &mut Recorder<C>) {
     to.make(Call::Size, BOOK, "");
     to.make(Call::Read, BOOK, REPLY);
     to.make(Call::Fetch { kind: 5, height: 1 }, BOOK, REPLY);
+}
+
+/// Observer's deliver: 16. The list `observers` has all others.
+fn observer<C: Calls>(to: &mut Recorder<C>) {
+    to.part("An observer takes certificates alone: a proposal, votes and a finalise are 16, as a station's are not");
+    to.open_observer(WATCH, 4, 1);
+    let block = first(1, &[]);
+    observe(to, WATCH, &[proposal(0, block.clone()), vote(0, &block)]);
+    observe(to, WATCH, &[Frame::DummyVote { signer: 0, height: 1 }]);
+    observe(to, WATCH, &[Frame::Finalize { signer: 0, height: 1 }, blank(7, 1)]);
 }
 
 /// A proposal.

@@ -1,7 +1,9 @@
-//! The list of a season: four replicas through five heights, one of them dishonest, none of them in step.
+//! The list of a season: four replicas through five heights, one of them dishonest, none in step, and an observer.
 
+use super::observer_chains::settle;
+use super::observers::WATCH;
 use super::parts::*;
-use crate::{Answer, Call, Recorder};
+use crate::{Answer, Call, ObserverCall, Recorder};
 use types::{Block, Calls, Frame, BLOCK};
 
 /// The books, by replica.
@@ -13,10 +15,12 @@ const LEADERS: [u8; 5] = [0, 1, 3, 2, 0];
 /// Records the list.
 pub fn run<C: Calls>(to: &mut Recorder<C>) {
     to.remark("A season of four stations. Station 3 is cut off at first, and later says two things at once.");
+    to.remark("A seed testing house follows it with an observer's book: it is given certificates, and has no vote.");
     to.give(REPLY, vec![0xaa; 448]);
     for (own, book) in (0..).zip(BOOKS) {
         to.open(book, 4, own, &LEADERS);
     }
+    to.open_observer(WATCH, 4, 5);
     first_height(to);
     second_height(to);
     catching_up(to);
@@ -44,17 +48,29 @@ fn send<C: Calls>(to: &mut Recorder<C>, frames: &[Vec<u8>], replicas: &[usize]) 
     }
 }
 
-/// Fetches certificates from one book and delivers them to another.
-fn hand_over<C: Calls>(to: &mut Recorder<C>, from: usize, into: usize, wanted: &[(u64, u64)]) {
-    for (kind, height) in wanted {
-        to.make(Call::Fetch { kind: *kind, height: *height }, book(from), REPLY);
-        let frame: Vec<u8> = to.bytes(REPLY).iter().copied().take(types::FRAME).collect();
-        to.deliver(book(into), &frame);
+/// Delivers frames to the observer, which then moves until idle.
+fn watch<C: Calls>(to: &mut Recorder<C>, frames: &[Vec<u8>]) {
+    for frame in frames {
+        to.observer(WATCH, ObserverCall::Deliver { frame: frame.clone() });
     }
+    settle(to, WATCH);
 }
 
-/// Fetches all certificates of one book and delivers them to another as one packet.
-fn catch_up<C: Calls>(to: &mut Recorder<C>, from: usize, into: usize) {
+/// Parts frames into certificates and all others.
+fn certificates(frames: Vec<Vec<u8>>) -> (Vec<Vec<u8>>, Vec<Vec<u8>>) {
+    frames.into_iter().partition(|frame| frame.first().is_some_and(|kind| *kind >= 5))
+}
+
+/// Fetches a certificate from one book and delivers it to another; returns it.
+fn hand_over<C: Calls>(to: &mut Recorder<C>, from: usize, into: usize, kind: u64) -> Vec<u8> {
+    to.make(Call::Fetch { kind, height: 3 }, book(from), REPLY);
+    let frame: Vec<u8> = to.bytes(REPLY).iter().copied().take(types::FRAME).collect();
+    to.deliver(book(into), &frame);
+    frame
+}
+
+/// Fetches all certificates of one book and delivers them to another as one packet; returns them.
+fn catch_up<C: Calls>(to: &mut Recorder<C>, from: usize, into: usize) -> Vec<Vec<u8>> {
     let mut frames: Vec<Vec<u8>> = Vec::new();
     for height in 1..=LEADERS.len() as u64 {
         for kind in 5..=7 {
@@ -64,6 +80,7 @@ fn catch_up<C: Calls>(to: &mut Recorder<C>, from: usize, into: usize) {
         }
     }
     to.packet(book(into), &frames);
+    frames
 }
 
 fn first_height<C: Calls>(to: &mut Recorder<C>) {
@@ -76,8 +93,11 @@ fn first_height<C: Calls>(to: &mut Recorder<C>) {
     to.remark("The swap was a mistake: an undo entry waits for the next page");
     submit(to, book(1), entry("undo A12 to B40"));
     send(to, &votes, &[0, 1, 2]);
-    let after = all_move(to, &[0, 1, 2], &[1, 4]);
+    let (passed, after) = certificates(all_move(to, &[0, 1, 2], &[1, 4, 5]));
     send(to, &after, &[0, 1, 2]);
+    to.remark("The observer gets the certificates that the three passes wrote; finalises one by one are not for it");
+    watch(to, &passed);
+    watch(to, after.get(..2).unwrap_or(&[]));
 }
 
 fn second_height<C: Calls>(to: &mut Recorder<C>) {
@@ -98,7 +118,9 @@ fn second_height<C: Calls>(to: &mut Recorder<C>) {
 
 fn catching_up<C: Calls>(to: &mut Recorder<C>) {
     to.part("Station 3 is back and catches up: all that fetch gives of station 0's book comes as one packet");
-    catch_up(to, 0, 3);
+    let fetched = catch_up(to, 0, 3);
+    to.remark("The observer gets the same certificates one by one, and settles page 1");
+    watch(to, &fetched);
     submit(to, book(3), entry("lot 9 to plot 5"));
 }
 
@@ -135,7 +157,7 @@ fn fourth_height<C: Calls>(to: &mut Recorder<C>, late: &[Vec<u8>]) {
         "Station 2 hears of the other page of height 3 once it has passed it, and refuses it",
     );
     send(to, late, &[2]);
-    hand_over(to, 0, 3, &[(6, 3)]);
+    let blank = hand_over(to, 0, 3, 6);
     send(to, &offer, &[0, 2, 3]);
     let votes = all_move(to, &[0, 2, 3], &[2]);
     send(to, &votes, &[0, 2]);
@@ -145,18 +167,25 @@ fn fourth_height<C: Calls>(to: &mut Recorder<C>, late: &[Vec<u8>]) {
     let last = all_move(to, &[1], &[4]);
     send(to, &last, &[0, 1, 2]);
     all_move(to, &[0, 1, 2], &[]);
-    to.remark("Station 3 catches up again, from station 1: it knows most of the packet");
-    catch_up(to, 1, 3);
+    to.remark("The observer hears of page 4 before the blank below it");
+    watch(to, &certificates(passed).0);
+    watch(to, &[blank]);
+    to.remark("Station 3 catches up again, from station 1: it knows most of the packet; the observer settles page 4");
+    let fetched = catch_up(to, 1, 3);
     all_move(to, &[3], &[]);
+    watch(to, &fetched);
 }
 
 fn reading<C: Calls>(to: &mut Recorder<C>) {
-    to.part("All four read the same register");
+    to.part("All four read the same register, and so does the observer");
     for book in BOOKS {
         to.make(Call::Size, book, "");
         to.give("register", vec![0xbb; 80]);
         to.make(Call::Read, book, "register");
     }
+    to.observer(WATCH, ObserverCall::Size);
+    to.give("register", vec![0xbb; 80]);
+    to.make(Call::Observer(ObserverCall::Read), WATCH, "register");
 }
 
 /// The block of the first proposal among these frames.

@@ -1,20 +1,23 @@
-//! Calls under any digest, to compare definitions with: one replica alone, a timer and dummies, votes that clash.
+//! Calls under any digest, to compare definitions with: one replica alone, a timer and dummies, votes that clash, and an
+//! observer.
 
+use super::observers::observe;
 use super::parts::{deliver, first, signal, submit, REPLY};
-use crate::{record_in_full, Call, List, Recorder};
+use crate::{record_in_full, Call, List, ObserverCall, Recorder};
 use reference::{Digest, Rules};
 use types::{Block, Frame, Move, ENTRY, FRAME};
 
 /// The one book, opened anew in each part.
 const BOOK: &str = "book";
 
-/// The calls with all bytes, one part of the list for each of the three.
+/// The calls with all bytes, one part of the list for each of the four.
 pub fn vectors(digest: Digest) -> List {
     let rules = Rules::new(digest);
     let mut to = Recorder::new(rules);
     alone(&mut to);
     timer_and_dummies(&mut to);
     votes_and_conflicts(&mut to, digest);
+    observing(&mut to, digest);
     let list = to.into_list();
     record_in_full(&list, &rules).unwrap_or(list)
 }
@@ -104,4 +107,28 @@ fn votes_and_conflicts(to: &mut Recorder<Rules>, digest: Digest) {
     turn(to);
     turn(to);
     lend(to, Call::Read, 64);
+}
+
+fn observing(to: &mut Recorder<Rules>, digest: Digest) {
+    to.part("observing n=4 H=3");
+    to.open_observer(BOOK, 4, 3);
+    let one = first(1, &[tagged(1)]);
+    let digest = digest(&one.bytes());
+    let three = Block { height: 3, parent: 1, digest, entries: vec![tagged(2), tagged(1)] };
+    let frames = [
+        Frame::DummyVote { signer: 0, height: 1 },
+        Frame::FinalizeCertificate { mask: 13, height: 3 },
+        Frame::BlockCertificate { mask: 7, block: three },
+        Frame::DummyCertificate { mask: 11, height: 2 },
+        Frame::BlockCertificate { mask: 14, block: first(1, &[tagged(1)]) },
+        Frame::BlockCertificate { mask: 7, block: first(1, &[tagged(3)]) },
+    ];
+    for frame in frames {
+        observe(to, BOOK, &[frame]);
+        to.observer(BOOK, ObserverCall::Move);
+    }
+    to.observer(BOOK, ObserverCall::Size);
+    for length in [47, 48, 50] {
+        lend(to, Call::Observer(ObserverCall::Read), length);
+    }
 }

@@ -1,6 +1,7 @@
 //! Files of the host folder, and the C compiler.
 #![allow(dead_code)] // each test takes what it needs
 
+use std::fs::File;
 use std::path::{Path, PathBuf};
 use std::process::{Command, Output};
 
@@ -42,10 +43,22 @@ pub fn compiles(language: [&str; 2], words: &[&str]) -> bool {
 
 /// What a program of these files prints and whether it ends well; none where there is no compiler.
 pub fn prints(language: [&str; 2], program: &str, files: &[&str]) -> Option<(String, bool)> {
+    prints_of(language, program, files, &[])
+}
+
+/// The same of an input.
+pub fn prints_of(
+    language: [&str; 2],
+    program: &str,
+    files: &[&str],
+    input: &[u8],
+) -> Option<(String, bool)> {
     let program = scratch(&format!("{program}{}", language.concat()));
     let words = [files, &["-o", program.to_str().unwrap()]].concat();
     let output = compiler(language, &words)?;
     assert!(output.status.success(), "{}", String::from_utf8_lossy(&output.stderr));
-    let ended = Command::new(program).output().unwrap();
+    let from = program.with_extension("input");
+    std::fs::write(&from, input).unwrap();
+    let ended = Command::new(program).stdin(File::open(from).unwrap()).output().unwrap();
     Some((String::from_utf8(ended.stdout).unwrap(), ended.status.success()))
 }

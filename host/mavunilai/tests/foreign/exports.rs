@@ -96,3 +96,41 @@ unsafe extern "C" fn mavunilai_fetch(
     let reply = unsafe { from_raw_parts_mut(reply, reply_length) };
     pack_done(Calls::fetch(&RULES, book, kind, height, reply))
 }
+
+#[unsafe(no_mangle)]
+unsafe extern "C" fn mavunilai_observer_open(book: *mut u8, length: usize, n: u64, h: u64) -> u64 {
+    pack_done(Calls::observer_open(&RULES, unsafe { from_raw_parts_mut(book, length) }, n, h))
+}
+
+#[unsafe(no_mangle)]
+unsafe extern "C" fn mavunilai_observer_deliver(
+    book: *mut u8,
+    length: usize,
+    frame: *const u8,
+    frame_length: usize,
+) -> u64 {
+    let book = unsafe { from_raw_parts_mut(book, length) };
+    let frame = unsafe { from_raw_parts(frame, frame_length) };
+    pack_delivered(Calls::observer_deliver(&RULES, book, frame))
+}
+
+#[unsafe(no_mangle)]
+unsafe extern "C" fn mavunilai_observer_move(book: *mut u8, length: usize) -> u64 {
+    pack_move(Calls::observer_move(&RULES, unsafe { from_raw_parts_mut(book, length) }))
+}
+
+#[unsafe(no_mangle)]
+unsafe extern "C" fn mavunilai_observer_size(book: *const u8, length: usize) -> u64 {
+    pack_size(Calls::observer_size(&RULES, unsafe { from_raw_parts(book, length) }))
+}
+
+#[unsafe(no_mangle)]
+unsafe extern "C" fn mavunilai_observer_read(
+    book: *const u8,
+    length: usize,
+    buffer: *mut u8,
+    buffer_length: usize,
+) -> u64 {
+    let book = unsafe { from_raw_parts(book, length) };
+    Calls::observer_read(&RULES, book, unsafe { from_raw_parts_mut(buffer, buffer_length) })
+}

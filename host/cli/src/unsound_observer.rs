@@ -1,0 +1,82 @@
+//! Why an observer's book is not sound: the first byte that breaks a rule.
+
+use crate::unsound::{at, page, zeros, Fault};
+use reference::inspect::inspect_observer;
+use reference::is_quorum;
+use types::{field, head_height, mask_at, put_head_height, Height};
+use types::{ObserverArea, ObserverLayout, EDITION, MOST_REPLICAS};
+
+/// What is wrong with bytes of the length of an observer's book with so many heights.
+pub fn fault(book: &[u8], fitting: Height) -> Option<Fault> {
+    head(book, fitting)
+        .or_else(|| (1..=fitting).find_map(|height| row(book, fitting, height)))
+        .or_else(|| settled(book))
+}
+
+/// What is wrong with the head; the settled height aside.
+fn head(book: &[u8], fitting: Height) -> Option<Fault> {
+    let heights = head_height(book, field::HEIGHTS);
+    let (n, edition) = (at(book, field::N), at(book, field::EDITION));
+    let rules = [
+        (
+            heights != fitting,
+            field::HEIGHTS,
+            format!("it says {heights} heights, the length is that of an observer's of {fitting}"),
+        ),
+        (
+            !(1..=MOST_REPLICAS).contains(&n),
+            field::N,
+            format!("n is {n}, not 1 to {MOST_REPLICAS}"),
+        ),
+        (edition != EDITION, field::EDITION, format!("the edition is {edition}, not {EDITION}")),
+    ];
+    let broken = rules.into_iter().find(|(broken, ..)| *broken);
+    let of_stations = [field::OWN, field::FLAGS, field::CURRENT, field::PENDING];
+    let unused = of_stations.into_iter().find(|byte| at(book, *byte) != 0).map(|byte| {
+        let value = at(book, byte);
+        (byte, format!("it is {value}, and must be zero in an observer's book"))
+    });
+    broken.map(|(_, byte, rule)| (byte, rule)).or(unused).or_else(|| zeros(book, 8..64))
+}
+
+/// What is wrong with a height by itself.
+fn row(book: &[u8], heights: Height, height: Height) -> Option<Fault> {
+    let layout = ObserverLayout::new(heights);
+    let [row, notarized] =
+        [ObserverArea::Row, ObserverArea::Notarized].map(|area| layout.area(height, area).start);
+    let (n, state) = (at(book, field::N), at(book, row));
+    let place = |offset: usize| row.saturating_add(offset);
+    if ![0, 2].contains(&state) {
+        return Some((row, format!("the state is {state}, neither 0 nor 2")));
+    }
+    let strange = |offset: &usize| mask_at(book, place(*offset)).checked_shr(n.into()) > Some(0);
+    if let Some(offset) = [2, 4, 6].into_iter().find(strange) {
+        let rule = format!("the mask has a bit that is not below n, which is {n}");
+        return Some((place(offset), rule));
+    }
+    let short = state == 2 && !is_quorum(mask_at(book, place(2)), n);
+    let quorum = || {
+        let rule = "a page is notarised, and the signers of its certificate are no quorum";
+        short.then(|| (place(2), rule.to_string()))
+    };
+    zeros(book, place(1)..place(2))
+        .or_else(|| if state == 2 { page(book, height, notarized) } else { None })
+        .or_else(quorum)
+}
+
+/// What is wrong with the settled height of a book in which all else is right.
+fn settled(book: &[u8]) -> Option<Fault> {
+    let settled = head_height(book, field::FINALIZED);
+    let mut copy = book.to_vec();
+    put_head_height(&mut copy, field::FINALIZED, 0);
+    let told = inspect_observer(&copy).ok()?;
+    let rule = match told.heights.get(usize::from(settled).checked_sub(1)?) {
+        Some(height) if height.finalized => return None,
+        None => format!("the settled height is {settled}, above the last one"),
+        Some(height) if !height.linked => {
+            format!("height {settled} is not settled: it is not linked")
+        }
+        Some(_) => format!("height {settled} is not settled: its finalises are no quorum"),
+    };
+    Some((field::FINALIZED, rule))
+}
