@@ -1,8 +1,8 @@
 -- The tests that the code of an observer's soundness makes are the rows of the definition, group by group.
 use Prim.Native.Nat.{ℕ, _+_, _-_, _*_, _^_, _<_}
 use native.Mathlib.Omega.{arith}
-use mathlib.Core.Path.{_≡_, refl, sym, subst, _∙_}
-use mathlib.Core.Bool.{Bool, true, false, _&&_, _||_, and-true, and-assoc, true≢false}
+use mathlib.Core.Path.{_≡_, subst}
+use mathlib.Core.Bool.{Bool, true, false, _&&_, _||_, and-true, and-assoc}
 use lib.ListN.{length}
 use lib.Pow.{pow-pos}
 use lib.Dec.{eqb, leb}
@@ -16,7 +16,7 @@ use Rattle.protocol.specs.View.{quorum}
 use Rattle.protocol.specs.Sound.{view, masksBelow}
 use Rattle.protocol.specs.Observer.{asReplica, asReplicaHeight, decodeObserver, observerState, observerBookSize}
 use Rattle.protocol.specs.ObserverSound.{observerSound, replicaHead, observedZero}
-use Rattle.protocol.specs.Laws.RowLaws.{by-rows, where-held, where-none}
+use Rattle.protocol.specs.Laws.RowLaws.{where-held, where-none, heads-pass, heads-fail, last-decides, rows-decide}
 use Rattle.protocol.specs.Laws.PlaceLaws.{suc-pred}
 use Rattle.protocol.specs.Laws.ObserverCodecLaws.{at-observed}
 use Rattle.book_fields.specs.Book.{Within, observedIn}
@@ -103,24 +103,17 @@ module _ (digest : Bytes → Bytes) (book : Bytes) where
   every = everyHeight (λ h. allOf (heightRows book h)) (bookHeights book)
 
   pub rows-by-heights : allOf (headRows book) ≡ true → every ≡ allOf (bookRows book)
-  unfolding bookRows allOf
-  rows-by-heights head = rw head (sym (and-true every))
+  unfolding bookRows
+  rows-by-heights head = heads-pass (allOf (headRows book)) every head
 
   pub rows-not-head : allOf (headRows book) ≡ false → false ≡ allOf (bookRows book)
-  unfolding bookRows allOf
-  rows-not-head head = rw head
+  unfolding bookRows
+  rows-not-head head = heads-fail (allOf (headRows book)) every head
 
   pub sound-final : allOf (bookRows book) ≡ true → finalRow digest book ≡ observerSound digest book
   unfolding bookRows
-  sound-final rows =
-      by-rows _ rows λ head heights. sym (observer-sound-is digest book ∙ rw (head, heights))
+  sound-final rows = last-decides (allOf (headRows book)) every _ _ (observer-sound-is digest book) rows
 
   pub not-sound-rows : allOf (bookRows book) ≡ false → false ≡ observerSound digest book
-  unfolding bookRows allOf
-  not-sound-rows rows =
-      sym (observer-sound-is digest book ∙ neither (allOf (headRows book)) every (finalRow digest book) rows)
-    where
-      neither : (a b c : Bool) → (a && (b && true)) ≡ false → (a && (b && c)) ≡ false
-      neither true true c e = absurd (true≢false e)
-      neither true false c e = refl
-      neither false b c e = refl
+  unfolding bookRows
+  not-sound-rows rows = rows-decide (allOf (headRows book)) every _ _ (observer-sound-is digest book) rows

@@ -1,8 +1,8 @@
 -- The tests that the code of soundness makes are the rows of the definition, group by group.
 use Prim.Native.Nat.{ℕ, _+_, _-_, _*_, _<_}
 use native.Mathlib.Omega.{arith}
-use mathlib.Core.Path.{_≡_, refl, sym, _∙_}
-use mathlib.Core.Bool.{Bool, true, false, _&&_, and-true, true≢false}
+use mathlib.Core.Path.{_≡_}
+use mathlib.Core.Bool.{Bool, true, false, _&&_, and-true}
 use lib.ListN.{length, take, drop}
 use lib.Dec.{eqb, leb, ltb}
 use borrow.Author.Tests.{eq-eqb, ne-eqb}
@@ -13,7 +13,7 @@ use Rattle.protocol.specs.Mask.{belowBit}
 use Rattle.protocol.specs.State.{Height, at, decode, bookSize, holdsProposal, isNotarized, bookHeights}
 use Rattle.protocol.specs.View.{quorum}
 use Rattle.protocol.specs.Sound.{view, masksBelow, blocksWellFormed, contentZeros, sound}
-use Rattle.protocol.specs.Laws.RowLaws.{by-rows}
+use Rattle.protocol.specs.Laws.RowLaws.{heads-pass, heads-fail, last-decides, rows-decide}
 use Rattle.soundness.specs.SoundRows.{numberRows, headRows, heightRows, bookRows, finalRow}
 use Rattle.soundness.specs.Laws.SoundRowsLaws.{sound-is}
 
@@ -77,23 +77,17 @@ module _ (digest : Bytes → Bytes) (book : Bytes) where
   every = everyHeight (λ h. allOf (heightRows book h)) (bookHeights book)
 
   pub rows-by-heights : allOf (headRows book) ≡ true → every ≡ allOf (bookRows book)
-  unfolding bookRows allOf
-  rows-by-heights head = rw head (sym (and-true every))
+  unfolding bookRows
+  rows-by-heights head = heads-pass (allOf (headRows book)) every head
 
   pub rows-not-head : allOf (headRows book) ≡ false → false ≡ allOf (bookRows book)
-  unfolding bookRows allOf
-  rows-not-head head = rw head
+  unfolding bookRows
+  rows-not-head head = heads-fail (allOf (headRows book)) every head
 
   pub sound-final : allOf (bookRows book) ≡ true → finalRow digest book ≡ sound digest book
   unfolding bookRows
-  sound-final rows =
-      by-rows _ rows λ head heights. sym (sound-is digest book ∙ rw (head, heights))
+  sound-final rows = last-decides (allOf (headRows book)) every _ _ (sound-is digest book) rows
 
   pub not-sound-rows : allOf (bookRows book) ≡ false → false ≡ sound digest book
-  unfolding bookRows allOf
-  not-sound-rows rows = sym (sound-is digest book ∙ neither (allOf (headRows book)) every (finalRow digest book) rows)
-    where
-      neither : (a b c : Bool) → (a && (b && true)) ≡ false → (a && (b && c)) ≡ false
-      neither true true c e = absurd (true≢false e)
-      neither true false c e = refl
-      neither false b c e = refl
+  unfolding bookRows
+  not-sound-rows rows = rows-decide (allOf (headRows book)) every _ _ (sound-is digest book) rows

@@ -4,7 +4,7 @@ use native.Mathlib.Omega.{arith}
 use native.Mathlib.Numerals.{add-one}
 use mathlib.Core.Path.{_≡_, refl, sym, ap₂, _∙_}
 use mathlib.Core.Logic.{_⊎_, inl, inr}
-use mathlib.Core.Bool.{Bool, true, false, _&&_, cond, true≢false, false≢true}
+use mathlib.Core.Bool.{Bool, true, false, _&&_, and-true, cond, true≢false, false≢true}
 use mathlib.Core.List.{List, [], _∷_, _++_}
 use mathlib.Core.Option.{some, none}
 use lib.ListN.{length, getD}
@@ -49,6 +49,29 @@ pub by-rows : {Fact : Type 0} (rows : List Bool) → allOf rows ≡ true → Fro
 unfolding allOf
 by-rows [] e fact = fact
 by-rows (x ∷ xs) e fact = let t = and-both x (allOf xs) e in by-rows xs (t .1) (fact (t .0))
+
+-- ---- rows in groups, of which the last is asked for where the others pass
+module _ (head every : Bool) where
+  pub heads-pass : head ≡ true → every ≡ allOf (head ∷ every ∷ [])
+  unfolding allOf
+  heads-pass e = rw e (sym (and-true every))
+
+  pub heads-fail : head ≡ false → false ≡ allOf (head ∷ every ∷ [])
+  unfolding allOf
+  heads-fail e = rw e
+
+  module _ (final all : Bool) (is : all ≡ (head && (every && final))) where
+    pub last-decides : allOf (head ∷ every ∷ []) ≡ true → final ≡ all
+    last-decides rows = by-rows _ rows λ first second. sym (is ∙ rw (first, second))
+
+    pub rows-decide : allOf (head ∷ every ∷ []) ≡ false → false ≡ all
+    unfolding allOf
+    rows-decide rows = sym (is ∙ neither head every final rows)
+      where
+        neither : (a b c : Bool) → (a && (b && true)) ≡ false → (a && (b && c)) ≡ false
+        neither true true c e = absurd (true≢false e)
+        neither true false c e = refl
+        neither false b c e = refl
 
 -- ---- heights
 pub every-height-at : (test : ℕ → Bool) (last h : ℕ) → everyHeight test last ≡ true → 1 ≤ h → h ≤ last → test h ≡ true
