@@ -43,10 +43,12 @@ pub fn frame_refusal(book: &[u8], frame: &[u8]) -> usize
 {
     if frame_well_formed(frame) {
         let kind = frame_kind(frame);
-        if (5 <= kind) & (kind <= 7) {
-            let h = frame_height(frame);
-            let top = book_fields::kind::heights(Kind::Observer, book);
-            if (1 <= h) & (h <= top) {
+        let certificate = (5 <= kind) & (kind <= 7);
+        let h = frame_height(frame);
+        let top = book_fields::kind::heights(Kind::Observer, book);
+        let inside = (1 <= h) & (h <= top);
+        if certificate {
+            if inside {
                 certificate_refusal(book, h, frame)
             } else {
                 6

@@ -22,7 +22,7 @@ frame-kind-requires c κs =
 
 frame-height-requires : tie.Need-frame-height-requires
 frame-height-requires c κs =
-    let branch = c .before .before in
+    let branch = c .before in
     let test = branch .before in
     let start = test .before .before .before in
     formed-size (start .args .frame .now) (sym (test .frame-well-formed .ensures) ∙ branch .if1 .taken)
@@ -30,8 +30,8 @@ frame-height-requires c κs =
 certificate-refusal-requires : tie.Need-certificate-refusal-requires
 unfolding inRange
 certificate-refusal-requires c κs =
-    let top = c .before in
-    let branch = top .before .before .before .before in
+    let top = c .before .before in
+    let branch = top .before .before .before in
     let test = branch .before in
     let start = test .before .before .before in
     let range = in-range 1 _ _ (c .if3 .taken) in (
@@ -46,10 +46,10 @@ returns : tie.Need-returns
 unfolding isCertificate inRange
 returns c =
     let inner = c .before in
-    let top = inner .before in
+    let outer = inner .before in
+    let top = outer .before in
     let height = top .before in
-    let outer = height .before in
-    let is-kind = outer .before in
+    let is-kind = height .before in
     let branch = is-kind .before in
     let start = branch .before .before .before .before in
     let s = observerState (start .args .book .now) in
@@ -64,10 +64,10 @@ returns c =
 returns-2 : tie.Need-returns-2
 unfolding refusalOf isCertificate inRange
 returns-2 c =
-    let top = c .before in
+    let outer = c .before in
+    let top = outer .before in
     let height = top .before in
-    let outer = height .before in
-    let is-kind = outer .before in
+    let is-kind = height .before in
     let branch = is-kind .before in
     let start = branch .before .before .before .before in
     let s = observerState (start .args .book .now) in
@@ -80,7 +80,7 @@ returns-2 c =
 returns-3 : tie.Need-returns-3
 unfolding refusalOf isCertificate inRange
 returns-3 c =
-    let is-kind = c .before in
+    let is-kind = c .before .before .before in
     let branch = is-kind .before in
     let start = branch .before .before .before .before in
     let formed = sym (branch .before .frame-well-formed .ensures) ∙ branch .if1 .taken in
