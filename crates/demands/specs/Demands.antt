@@ -253,7 +253,7 @@ pub fetches-are-read : (book : Bytes) (k h : ℕ) (reply other : Bytes) → Same
     FetchWritten sha256 book k h reply other
 fetches-are-read = fetch-written-read sha256
 
--- ---- demand 3: of two logs read in any list of calls from observers and honest replicas one is a beginning of the other
+-- ---- demand 3: of two logs read in any list of calls from observers and honest replicas one begins the other
 pub no-fork-with-observers : ObservedAgreement sha256
 no-fork-with-observers = observed-agreement sha256
 

@@ -36,8 +36,8 @@ use Rattle.observer_laws.specs.ObserverKeeping.{ObserverKeeps}
 use Rattle.observer_laws.specs.CertificatesRead.{MoveReadByObserver, FetchReadByObserver}
 use Rattle.observer_laws.specs.Twins.{Twins, TwinsMoved, ObserverIdles}
 use Rattle.observer_laws.specs.TwinsMet.{TwinsMet}
-use Rattle.observer_laws.specs.Laws.RefusingLaws.{observer-open-refuses, observer-deliver-refuses, observer-move-refuses}
-use Rattle.observer_laws.specs.Laws.RefusingLaws.{observer-size-refuses, refuses-statements}
+use Rattle.observer_laws.specs.Laws.RefusingLaws.{observer-open-refuses, observer-deliver-refuses}
+use Rattle.observer_laws.specs.Laws.RefusingLaws.{observer-move-refuses, observer-size-refuses, refuses-statements}
 use Rattle.observer_laws.specs.Laws.RefusingLaws.{observer-refused-does-nothing}
 use Rattle.observer_laws.specs.Laws.KindsApartLaws.{replica-no-observer, observer-no-replica}
 use Rattle.observer_laws.specs.Laws.ObserverBytesLaws.{observer-open-bytes}

@@ -7,6 +7,7 @@ ghost use Rattle.protocol.specs.Answer.{accepted};
 ghost use Rattle.protocol.specs.Observer.{observerState};
 ghost use Rattle.protocol.specs.ObserverCalls.{observerStep, observerMoved, observerMoveCall};
 ghost use Rattle.answers.specs.Answers.{movedAnswer};
+ghost use Rattle.answers.specs.MoveNumbers.{movedNumbers, answerNumbers};
 ghost use Rattle.book_fields.specs.Book.{SoundObserverBook};
 ghost use Rattle.book_fields.specs.declared.kind.Kind.the-variants.{Observer};
 ghost use Rattle.memory.specs.Memo.{MemoAs};
@@ -35,6 +36,7 @@ fn step(book: &mut [u8], known: &mut [u8]) -> Moved
 pub fn make_move(book: &mut [u8]) -> Moved
     ensures answer { λ r. ⌜ movedAnswer r ≡ observerMoveCall sha (now (book .entry)) .answer ⌝ }
     ensures book { λ _. ⌜ now (book .exit) ≡ observerMoveCall sha (now (book .entry)) .book ⌝ }
+    ensures numbers { λ r. ⌜ movedNumbers r ≡ answerNumbers (observerMoveCall sha (now (book .entry)) .answer) ⌝ }
 {
     let mut known = [0u8; memory::SIZE];
     if observer_soundness::sound(book, &mut known) {

@@ -35,8 +35,8 @@ fn numbers_sound(book: &[u8]) -> bool
     let heights = byte(book, 2);
     let edition = byte(book, 7);
     let replicas = (1 <= n) & (n <= MAXIMUM_REPLICAS);
-    let length = (1 <= heights) & (heights <= MAXIMUM_HEIGHTS);
-    replicas & (length & (edition == 1))
+    let count = (1 <= heights) & (heights <= MAXIMUM_HEIGHTS);
+    replicas & (count & (edition == 1))
 }
 
 // Whether the numbers that only a replica has are zero: own number, flags, current height and pending count.

@@ -17,7 +17,8 @@ use Rattle.paper.specs.Paper.{Sequence, height, linearize, FinalizedBloc
 
 -- a book with this view and this g, whose register has `size` bytes, and a buffer that is long enough: the part that
 -- Read returns, and the buffer after it
-pub record ReadsChainOf (digest : Bytes → Bytes) (v : View) (g : ℕ) (part buffer after : Bytes) (size : ℕ) : Type 0 where
+pub record ReadsChainOf (digest : Bytes → Bytes) (v : View) (g : ℕ)
+    (part buffer after : Bytes) (size : ℕ) : Type 0 where
   -- a finalized blockchain of height g
   pub sequence : Sequence
   pub finalized : FinalizedBlockchain digest v sequence

@@ -1,5 +1,5 @@
--- The nine calls as data, and what each one does: the book that it leaves, whether it is refused, the book that it
--- opens, the frames that it delivers and writes, and the part that it reads.
+-- The nine calls of a replica as data, and what each one does: the book that it leaves, whether it is refused, the book
+-- that it opens, the frames that it delivers and writes, and the part that it reads.
 use Prim.Native.Nat.{ℕ}
 use mathlib.Core.Bool.{Bool, true, cond}
 use mathlib.Core.List.{List, [], _∷_}

@@ -97,7 +97,8 @@ module _ (digest : Bytes → Bytes) where
   -- the part that a reading returns: the entries of the log, or the empty part
   unfoldable pub observerReadPart : Bytes → Bytes → Bytes
   observerReadPart book buffer =
-      cond (observerSound digest book && leb (observerLogSize book) (length buffer)) (join (log (observerState book))) []
+      cond (observerSound digest book && leb (observerLogSize book) (length buffer))
+      (join (log (observerState book))) []
 
   -- the lent buffer after a reading
   unfoldable pub observerReadBuffer : Bytes → Bytes → Bytes

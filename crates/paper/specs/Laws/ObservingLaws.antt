@@ -56,7 +56,9 @@ module _ (digest : Bytes → Bytes) (book : Bytes) (ok : observerSound digest bo
 
   same-output : (g : ℕ) → observerMoveCall digest book .answer ≡ accepted (output (newFinalized digest s)) →
       observerMoveCall digest book .answer ≡ accepted (output g) → newFinalized digest s ≡ g
-  same-output g answer e = let z : accepted (output (newFinalized digest s)) ≡ accepted (output g) = sym answer ∙ e in cc
+  same-output g answer e =
+      let z : accepted (output (newFinalized digest s)) ≡ accepted (output g) = sym answer ∙ e in
+      cc
 
   moves-out : AreBytes book → outputApplies digest s ≡ true →
       observerMoveCall digest book .answer ≡ accepted (output (newFinalized digest s)) →

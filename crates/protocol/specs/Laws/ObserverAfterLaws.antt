@@ -29,7 +29,8 @@ module _ (digest : Bytes → Bytes) (book : Bytes) where
   -- the state after the output of height `g`
   pub observer-output : observerSound digest book ≡ true → (g : ℕ) →
       let s : State = observerState book in
-      let after : State = withHead s (s .flags) (s .current) g in observerState (encodeObserver (observed after)) ≡ after
+      let after : State = withHead s (s .flags) (s .current) g in
+      observerState (encodeObserver (observed after)) ≡ after
   observer-output was-sound g =
       let s : State = observerState book in
       let shaped : Shaped s = observer-state-shaped book (exact-observer digest book was-sound) in

@@ -166,7 +166,8 @@ module _ (digest : Bytes → Bytes) (book : Bytes) where
       go : (is-sound : Bool) → observerSound digest book ≡ is-sound → (applies : Bool) →
           outputApplies digest (observerState book) ≡ applies →
           P (unlessRefused (cond is-sound none (some 1)) book
-          (observerMoved digest (cond applies (outputStep digest (observerState book)) (idleStep (observerState book)))))
+          (observerMoved digest
+          (cond applies (outputStep digest (observerState book)) (idleStep (observerState book)))))
       go false e applies a = refusal e
       go true e false a =
           subst (λ (o : Observer). P (record { answer = accepted idle; book = encodeObserver o }))

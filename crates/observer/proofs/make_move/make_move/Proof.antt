@@ -1,9 +1,11 @@
 -- `make_move` meets its contract: a book that is not sound is refused, and else the move is made that applies.
 use native.Mathlib.Omega.{arith}
-use mathlib.Core.Path.{refl, sym, _∙_}
+use mathlib.Core.Path.{refl, sym, ap, _∙_}
 use Rattle.protocol.specs.Bytes.{zeros}
 use Rattle.sha256.specs.Digest.{sha256}
 use Rattle.book_fields.specs.Laws.ObserverBookLaws.{sound-observer-book}
+use Rattle.answers.specs.MoveNumbers.{answerNumbers}
+use Rattle.answers.specs.Laws.MoveNumbersLaws.{moved-numbers}
 use Rattle.observer.specs.Laws.CallLaws.{move-unsound, move-sound}
 use borrow.Author.Needs.{needs}
 use Rattle.observer.proofs.make_move.make_move.Statement.{statement}
@@ -32,14 +34,16 @@ returns c =
     let branch = moved .before .before .before in
     let tested = branch .before .before in
     let start = tested .before .before .before .before in
-    rw (move-sound (start .args .book .now) (sym (tested .sound .ensures .0) ∙ branch .if1 .taken))
-    (moved .step .ensures)
+    let is = move-sound (start .args .book .now) (sym (tested .sound .ensures .0) ∙ branch .if1 .taken) in
+    let told = moved .step .ensures in
+    rw is (told .0, (told .1, moved-numbers _ ∙ ap answerNumbers (told .0)))
 
 returns-2 : tie.Need-returns-2
 returns-2 c =
     let tested = c .before .before in
     let start = tested .before .before .before .before in
-    move-unsound (start .args .book .now) (sym (tested .sound .ensures .0) ∙ c .if1 .left)
+    let told = move-unsound (start .args .book .now) (sym (tested .sound .ensures .0) ∙ c .if1 .left) in
+    (told .0, (told .1, moved-numbers _ ∙ ap answerNumbers (told .0)))
 
 pub make-move-spec : {M : Type 1} → statement M
 make-move-spec =
