@@ -164,11 +164,12 @@ An observer follows the register of N stations without a vote: it is given certi
 frames of kinds 5 to 7, settles, and reads. It has no timer and sends nothing. open keeps
 a new book in the file BOOK (- is standard output), for H heights, those of the stations;
 a file that is there is left alone unless --force begins anew. deliver takes the frames of
-the file FRAMES (- is standard input; bytes or digits, one or several), in order: each has
-its line, fresh, known, or `deny` and a number; 16 is a frame that is no certificate, and
-any refusal makes the status 3, while the others are taken all the same. move prints
-`final` and the settled height if it grew, else `idle`; after deliver one move is enough.
-size and read print what the register holds by then.
+the file FRAMES (- is standard input; bytes or digits), 224 bytes each, in order. Each has
+its line, fresh, known, or `deny` and a number: 16 for a frame that is no certificate, 4
+for a short last one. Any refusal makes the status 3, while the others are taken all the
+same; no bytes are no frames, with no line and status 0. move prints `final` and the
+settled height if it grew, else `idle`; after deliver one move is enough. size and read
+print what the register holds by then.
 
 What a call prints is synced to the file first, however many frames it was given, and the
 book is locked meanwhile (BOOK.lock, which stays). Only deliver certificates whose

@@ -50,14 +50,59 @@ fn frames_that_are_no_certificates_are_refused() {
     let before = std::fs::read(&book).unwrap();
     let vote = Frame::DummyVote { signer: 9, height: 9 }.bytes();
     let words = format!("observer {book} deliver -");
-    denied(&words, &vote, "refused with 16: the frame is no certificate");
-    denied(&words, &[6; 9], "refused with 4: ");
+    for (frame, line, sentence) in [
+        (&vote[..], "deny 16\n", "mavunilai: refused with 16: the frame is no certificate"),
+        (&[6; 9], "deny 4\n", "mavunilai: refused with 4: the frame, entry or kind does not have"),
+    ] {
+        let ended = run(&words, frame);
+        assert_eq!((ended.status, ended.text().as_str()), (3, line));
+        assert!(ended.complaint.starts_with(sentence), "{}", ended.complaint);
+    }
     assert_eq!(std::fs::read(&book).unwrap(), before);
     let [page, finalises] = certificates();
     let ended = run(&words, &[page, vote, finalises, [8; FRAME]].concat());
     assert_eq!((ended.status, ended.text().as_str()), (3, "fresh\ndeny 16\nfresh\ndeny 4\n"));
     assert_eq!(ended.complaint, "mavunilai: 2 of 4 frames were refused\n");
     assert_eq!(text(&format!("observer {book} move"), &[]), "final 1\n");
+}
+
+/// A station that has no certificate yet prints none, and that is no frame, not a malformed one.
+#[test]
+fn no_bytes_are_no_frames() {
+    let book = watch("nothing");
+    let station = folder("observers").join("new");
+    let station = station.to_str().unwrap();
+    fine(&format!("open {station} --n 4 --own 0 --roll 0,0 --force"), &[]);
+    let before = std::fs::read(&book).unwrap();
+    let certificates = fine(&format!("call {station} certificates"), &[]);
+    assert_eq!(certificates, b"");
+    assert_eq!(text(&format!("observer {book} deliver -"), &certificates), "");
+    assert_eq!(std::fs::read(&book).unwrap(), before);
+    denied(&format!("observer {station} deliver -"), &[], "refused with 1: ");
+    refused("observer nowhere deliver -", &[], "nowhere cannot be read");
+}
+
+/// Of an input that was cut the whole frames are taken, and the rest is a frame that is malformed.
+#[test]
+fn whole_frames_before_a_cut_are_taken() {
+    let both = certificates().concat();
+    let digits: String = both.iter().map(|byte| format!("{byte:02x}")).collect();
+    for (name, input, lines) in [
+        ("cut-1", &both[..1], "deny 4\n"),
+        ("cut-223", &both[..223], "deny 4\n"),
+        ("cut-225", &both[..225], "fresh\ndeny 4\n"),
+        ("cut-324", &both[..324], "fresh\ndeny 4\n"),
+        ("cut-digits", &digits.as_bytes()[..648], "fresh\ndeny 4\n"),
+    ] {
+        let (book, whole) = (watch(name), watch("whole"));
+        let ended = run(&format!("observer {book} deliver -"), input);
+        assert_eq!((ended.status, ended.text().as_str()), (3, lines), "{name}");
+        if lines.starts_with("fresh") {
+            assert_eq!(ended.complaint, "mavunilai: 1 of 2 frames were refused\n", "{name}");
+            fine(&format!("observer {whole} deliver -"), &both[..FRAME]);
+        }
+        assert_eq!(std::fs::read(&book).unwrap(), std::fs::read(&whole).unwrap(), "{name}");
+    }
 }
 
 #[test]
