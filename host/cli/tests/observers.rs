@@ -250,8 +250,8 @@ fn what_is_wrong_with_a_book_is_told() {
         (2, 3, "byte 2: it says 3 heights, the length is that of an observer's of 2"),
         (64, 1, "byte 64 (height 1, state): the state is 1, neither 0 nor 2"),
         (65, 1, "byte 65 (height 1, zero behind the state): it is 1, and must be zero"),
-        (66, 1, "byte 66 (height 1, signers of the page certificate): a page is notarised"),
-        (76, 16, "byte 76 (height 2, blank votes): the mask has a bit that is not below n"),
+        (66, 1, "byte 66 (height 1, page certificate): a page is notarised"),
+        (76, 16, "byte 76 (height 2, blank): the mask has a bit that is not below n"),
         (80, 2, "byte 80 (height 1, notarised page, height): the page says height 2"),
     ] {
         let mut damaged = sound.clone();
