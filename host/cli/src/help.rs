@@ -93,7 +93,8 @@ the next move of the replica at hand. Pages and votes are named by the first eig
 digits of the digest. Of a book that is not sound the first byte is told that breaks a
 rule. Several books, of stations with the same roll and of observers, are shown side by
 side: a row for each height, a column for each book, <- at a station's current height.
-An observer's book is told from a station's by its length.
+A station's column has its number, an observer's its file. An observer's book is told
+from a station's by its length.
 ";
 
 const OPEN: &str = "\

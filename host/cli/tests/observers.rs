@@ -156,6 +156,15 @@ fn neither_command_takes_the_others_book() {
     }
 }
 
+/// A text with the cells of its tables parted by bars: how wide they are depends on the names of files.
+fn cells(text: &str) -> String {
+    let line = |line: &str| {
+        let cells = line.split("  ").map(str::trim).filter(|cell| !cell.is_empty());
+        cells.collect::<Vec<_>>().join(" | ") + "\n"
+    };
+    text.lines().map(line).collect()
+}
+
 /// Beside a station's book: the same n and H, no roll to compare, and the registers are held against each other.
 #[test]
 fn books_of_both_kinds_side_by_side() {
@@ -168,16 +177,16 @@ fn books_of_both_kinds_side_by_side() {
 Observer (watch): settled height 4.
 Station 3 (book3): current height 5, settled height 4, 1 pending entry.
 
-height  leader  observer                   station 3
-1       0       page 0d4594f8 in register  page 0d4594f8 in register
-2       1       page 7173bee7 in register  page 7173bee7 in register
-3       3       blank                      blank
-4       2       page 3a1b0ed7 in register  page 3a1b0ed7 in register
-5       0       -                          - <-
+height | leader | observer watch | station 3
+1 | 0 | page 0d4594f8 in register | page 0d4594f8 in register
+2 | 1 | page 7173bee7 in register | page 7173bee7 in register
+3 | 3 | blank | blank
+4 | 2 | page 3a1b0ed7 in register | page 3a1b0ed7 in register
+5 | 0 | - | - <-
 
 Of any two registers one begins the other.
 ";
-    assert_eq!(shown.replace(&format!("{kept}/"), ""), expected);
+    assert_eq!(cells(&shown).replace(&format!("{kept}/"), ""), expected);
     let alone = text(&format!("show books {kept}/watch"), &[]);
     assert!(alone.contains("\n4       -       page 3a1b0ed7 in register\n"), "{alone}");
     let (other, words) = (watch("other"), "have not the same number of heights");
@@ -194,6 +203,9 @@ Of any two registers one begins the other.
     fine(&format!("observer {path} move"), &[]);
     let shown = text(&format!("show books {kept}/book0 {path}"), &[]);
     assert!(shown.contains("THE REGISTERS FORK: "), "{shown}");
+    let shown = cells(&text(&format!("show books {kept}/watch {path}"), &[]));
+    let heading = format!("\nheight | leader | observer {kept}/watch | observer {path}\n");
+    assert!(shown.contains(&heading), "{shown}");
 }
 
 /// The observer's book at the end of the season, as it is shown.
