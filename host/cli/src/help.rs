@@ -148,8 +148,8 @@ A process may end at any time, and others may call at the same time. The book is
 while another program has it. Frames wait in BOOK.frames from before the book is
 replaced until they are printed or in FILE. If that fails the next deliver, packet,
 signal, submit, move or run begins with the line `unsent` and these frames; size, read,
-fetch and certificates leave them alone. Frames may go out twice, which is harmless. A pipe has them
-once it takes them, read or not: --out is safer.
+fetch and certificates leave them alone. Frames may go out twice, which is harmless. A
+pipe has them once it takes them, read or not: --out is safer.
 
 Example: mavunilai frame blank-vote --signer 0 --height 1 | mavunilai call book deliver -
 ";
@@ -221,13 +221,13 @@ mavunilai try [--seed S] [--count N] [--seconds T] [--stations] -- PROGRAM WORDS
 Starts PROGRAM, a replica of your own, and asks it for N calls (10000 if not said), one
 to a line; it answers each with one line. docs/EXCHANGE.md has the form of both. The
 seed S (1 if not said) decides the calls: lists on single books, sound, damaged and
-others, observers' too, and whole networks with dishonest stations and observers. Every answer and every byte of the
-book and of the reply is held against the replica at hand. At the first difference it
-says the case and the call, both answers and the fields in which the books and replies
-differ, prints a list of that one call that `replay` takes, and ends with status 1; so it
-does if PROGRAM ends, prints what is no answer or too much, or says nothing for T seconds
-(10 if not said). What PROGRAM writes to its standard error goes by. With --stations no
-call of an observer is made, for a replica that has none.
+others, observers' too, and whole networks with dishonest stations and observers. Every
+answer and every byte of the book and of the reply is held against the replica at hand.
+At the first difference it says the case and the call, both answers and the fields in
+which the books and replies differ, prints a list of that one call that `replay` takes,
+and ends with status 1; so it does if PROGRAM ends, prints what is no answer or too much,
+or says nothing for T seconds (10 if not said). What PROGRAM writes to its standard error
+goes by. With --stations no call of an observer is made, for a replica that has none.
 
 Example: mavunilai try --count 1000 -- mavunilai answer
 ";
