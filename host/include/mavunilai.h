@@ -153,7 +153,7 @@ static inline const char *mavunilai_refusal_text(unsigned refusal) {
 #define MAVUNILAI_PENDING_AT 64u   /* the pending entries, 16 bytes each */
 #define MAVUNILAI_CONTENTS_AT 576u /* the rows, 16 bytes for each height; a row's first byte is the leader */
 #define MAVUNILAI_ROW 16u
-#define MAVUNILAI_ROW_STATE 1u     /* within a row */
+#define MAVUNILAI_ROW_STATE 1u     /* within a row: the bits held, 1, and notarised, 2; so 3 if the height has both */
 #define MAVUNILAI_STATE_HELD 1u    /* a proposal is held: its page begins the height's body */
 #define MAVUNILAI_BODY 864u        /* the bodies, one for each height, follow the rows */
 
@@ -169,7 +169,7 @@ static inline const char *mavunilai_refusal_text(unsigned refusal) {
 #define MAVUNILAI_OBSERVER_ROW_PAGE 2u      /* within a row: signers of the page certificate */
 #define MAVUNILAI_OBSERVER_ROW_BLANK 4u     /* signers of blank certificates */
 #define MAVUNILAI_OBSERVER_ROW_FINALISE 6u  /* signers of finalise certificates */
-#define MAVUNILAI_STATE_NOTARISED 2u        /* a page is notarised; of a station's row as well */
+#define MAVUNILAI_STATE_NOTARISED 2u        /* a page is notarised; in a station's row a bit: & and not == */
 
 /* These four read bytes of a book and check nothing of it: they are for a book that a call has taken, so not refused
  * with 1, and that no other hand has changed since. Bytes that no call has taken may be too few to be read at all. */
@@ -338,9 +338,10 @@ mavunilai_answer mavunilai_fetch(const uint8_t *book, size_t book_len, uint64_t 
 
 /* ---- The calls of an observer ----
  *
- * An observer has no vote, no timer and nothing to send. It is given certificates, settles, and reads: the registers
- * that it and honest stations read are beginnings of one another. These calls take an observer's book alone; to them a
- * station's book is not sound, and to the calls above an observer's is not. */
+ * An observer has no vote, no timer and nothing to send. It is given certificates, settles, and reads. Of any two
+ * registers that it and honest stations read, one begins the other, on the premises that docs/HOST.md names: among them
+ * that fewer than a third of the stations are dishonest, and that you have checked the signatures. These calls take an
+ * observer's book alone; to them a station's book is not sound, and to the calls above an observer's is not. */
 
 /* Makes a new observer's book over `n` stations, with `heights` heights: `book_len` must be
  * MAVUNILAI_OBSERVER_BOOK(heights). The book's old bytes do not matter.

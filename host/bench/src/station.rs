@@ -56,8 +56,8 @@ impl Station {
         }
     }
 
-    /// A book where every page but the first names page 1 with a wrong digest, so that none of them stands. Every height
-    /// has all finalizes, and all dummy votes too if the book is full. No move is left.
+    /// A book where every page but the first names page 1 with a wrong digest, so that none of them stands. Every
+    /// height has all finalizes, and all dummy votes too if the book is full. No move is left.
     pub fn forked(size: Size, fill: Fill) -> Result<Station, String> {
         let mut station = Station::open(size, None)?;
         let mask = station.everyone();

@@ -68,7 +68,7 @@ fn request(name: &str, rest: &[String]) -> Result<Request, Problem> {
 }
 
 /// The frames in some bytes: several if the length is theirs, else one, whatever it is.
-pub fn frames(bytes: Vec<u8>) -> Vec<Vec<u8>> {
+fn frames(bytes: Vec<u8>) -> Vec<Vec<u8>> {
     match bytes.as_chunks::<FRAME>() {
         (frames @ [_, ..], []) => frames.iter().map(|frame| frame.to_vec()).collect(),
         _ => vec![bytes],

@@ -93,7 +93,8 @@ the next move of the replica at hand. Pages and votes are named by the first eig
 digits of the digest. Of a book that is not sound the first byte is told that breaks a
 rule. Several books, of stations with the same roll and of observers, are shown side by
 side: a row for each height, a column for each book, <- at a station's current height.
-An observer's book is told from a station's by its length.
+A station's column has its number, an observer's its file. An observer's book is told
+from a station's by its length.
 ";
 
 const OPEN: &str = "\
@@ -147,8 +148,8 @@ A process may end at any time, and others may call at the same time. The book is
 while another program has it. Frames wait in BOOK.frames from before the book is
 replaced until they are printed or in FILE. If that fails the next deliver, packet,
 signal, submit, move or run begins with the line `unsent` and these frames; size, read,
-fetch and certificates leave them alone. Frames may go out twice, which is harmless. A pipe has them
-once it takes them, read or not: --out is safer.
+fetch and certificates leave them alone. Frames may go out twice, which is harmless. A
+pipe has them once it takes them, read or not: --out is safer.
 
 Example: mavunilai frame blank-vote --signer 0 --height 1 | mavunilai call book deliver -
 ";
@@ -164,11 +165,12 @@ An observer follows the register of N stations without a vote: it is given certi
 frames of kinds 5 to 7, settles, and reads. It has no timer and sends nothing. open keeps
 a new book in the file BOOK (- is standard output), for H heights, those of the stations;
 a file that is there is left alone unless --force begins anew. deliver takes the frames of
-the file FRAMES (- is standard input; bytes or digits, one or several), in order: each has
-its line, fresh, known, or `deny` and a number; 16 is a frame that is no certificate, and
-any refusal makes the status 3, while the others are taken all the same. move prints
-`final` and the settled height if it grew, else `idle`; after deliver one move is enough.
-size and read print what the register holds by then.
+the file FRAMES (- is standard input; bytes or digits), 224 bytes each, in order. Each has
+its line, fresh, known, or `deny` and a number: 16 for a frame that is no certificate, 4
+for a short last one. Any refusal makes the status 3, while the others are taken all the
+same; no bytes are no frames, with no line and status 0. move prints `final` and the
+settled height if it grew, else `idle`; after deliver one move is enough. size and read
+print what the register holds by then.
 
 What a call prints is synced to the file first, however many frames it was given, and the
 book is locked meanwhile (BOOK.lock, which stays). Only deliver certificates whose
@@ -219,13 +221,13 @@ mavunilai try [--seed S] [--count N] [--seconds T] [--stations] -- PROGRAM WORDS
 Starts PROGRAM, a replica of your own, and asks it for N calls (10000 if not said), one
 to a line; it answers each with one line. docs/EXCHANGE.md has the form of both. The
 seed S (1 if not said) decides the calls: lists on single books, sound, damaged and
-others, observers' too, and whole networks with dishonest stations and observers. Every answer and every byte of the
-book and of the reply is held against the replica at hand. At the first difference it
-says the case and the call, both answers and the fields in which the books and replies
-differ, prints a list of that one call that `replay` takes, and ends with status 1; so it
-does if PROGRAM ends, prints what is no answer or too much, or says nothing for T seconds
-(10 if not said). What PROGRAM writes to its standard error goes by. With --stations no
-call of an observer is made, for a replica that has none.
+others, observers' too, and whole networks with dishonest stations and observers. Every
+answer and every byte of the book and of the reply is held against the replica at hand.
+At the first difference it says the case and the call, both answers and the fields in
+which the books and replies differ, prints a list of that one call that `replay` takes,
+and ends with status 1; so it does if PROGRAM ends, prints what is no answer or too much,
+or says nothing for T seconds (10 if not said). What PROGRAM writes to its standard error
+goes by. With --stations no call of an observer is made, for a replica that has none.
 
 Example: mavunilai try --count 1000 -- mavunilai answer
 ";

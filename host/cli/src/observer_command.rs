@@ -1,14 +1,13 @@
 //! `observer`: calls on an observer's book that is kept in a file.
 
 use crate::arguments::Arguments;
-use crate::call_command::frames;
 use crate::chosen::REPLICA;
 use crate::problem::Problem;
 use crate::station::print;
 use crate::{files, open_command, words};
 use exchange::{Answer, Call, ObserverCall};
 use store::FileObserver;
-use types::{Calls, Delivered, ObserverBook, Refusal, ENTRY};
+use types::{Calls, Delivered, ObserverBook, Refusal, ENTRY, FRAME};
 
 /// Makes a call, prints what it answers, and keeps the book if it changed.
 pub fn run(all: &[String], output: &mut Vec<u8>) -> Result<(), Problem> {
@@ -52,18 +51,20 @@ fn open(all: &[String], output: &mut Vec<u8>) -> Result<(), Problem> {
     open_command::ended(kept.map(|_| ()))
 }
 
-/// Delivers frames, all in one commit. A single one may be refused; of several the others are taken all the same.
+/// Delivers whole frames and a short last one, all in one commit; a refused one keeps no other back. No bytes are no
+/// frames: that is what a station's book prints which holds no certificate yet.
 fn deliver(file: &str, from: &str) -> Result<(), Problem> {
-    let frames = frames(files::read_bytes(from)?);
+    let bytes = files::read_bytes(from)?;
+    let frames: Vec<&[u8]> = bytes.chunks(FRAME).collect();
     let answers = FileObserver::open(REPLICA, file)?.deliver_all(&frames)?;
-    if let [Err(refusal)] = answers.as_slice() {
-        return Err(Problem::refused(refusal.number()));
-    }
     let line = |answer: &Result<Delivered, Refusal>| match answer {
         Ok(delivered) => format!("{}\n", Answer::Delivered(*delivered)),
         Err(refusal) => format!("{}\n", Answer::Deny(refusal.number())),
     };
     print(&answers.iter().map(line).collect::<String>())?;
+    if let [Err(refusal)] = answers.as_slice() {
+        return Err(Problem::refused(refusal.number()));
+    }
     match answers.iter().filter(|answer| answer.is_err()).count() {
         0 => Ok(()),
         refused => Err(Problem::some_refused(refused, frames.len())),

@@ -133,11 +133,11 @@ fn line(book: &Shown) -> String {
     format!("Station {own} ({}): {current}, settled height {settled}, {pending}.", book.name)
 }
 
-/// The table; leaders are told by a station's book, if there is one.
+/// The table; leaders are told by a station's book, if there is one. An observer has no number, so it has its file.
 fn rows(first: &Shown, books: &[Shown]) -> Vec<Vec<String>> {
     let column = |book: &Shown| match &book.station {
         Some(station) => format!("station {}", station.own),
-        None => "observer".to_string(),
+        None => format!("observer {}", book.name),
     };
     let mut heading = vec!["height".to_string(), "leader".to_string()];
     heading.extend(books.iter().map(column));

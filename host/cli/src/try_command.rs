@@ -58,7 +58,7 @@ fn summary(program: &str, report: &Report) -> String {
     let seed = report.seed;
     let lists = words::count(report.lists as usize, "list", "lists");
     let networks = words::count(report.networks as usize, "whole network", "whole networks");
-    let dishonest = report.kinds.count("network: with dishonest stations");
+    let dishonest = report.with_dishonest;
     format!(
         "{program}: {calls} as on {NAME} (seed {seed}: {lists} on single books, {networks}, \
          {dishonest} with dishonest stations)\n"

@@ -105,8 +105,8 @@ fn the_rule_that_a_book_breaks_is_told_with_its_byte() {
         (63, 1, "byte 63 (zeros of the head): it is 1, and must be zero"),
         (576, 4, "byte 576 (height 1, leader): leader 4 is not below n, which is 4"),
         (577, 4, "byte 577 (height 1, state): the state is 4, above 3"),
-        (581, 1, "byte 580 (height 1, blank votes): the mask has a bit that is not below n, which is 4"),
-        (578, 3, "byte 578 (height 1, signers of the page certificate): a page is notarised, and the signers"),
+        (581, 1, "byte 580 (height 1, blank): the mask has a bit that is not below n, which is 4"),
+        (578, 3, "byte 578 (height 1, page certificate): a page is notarised, and the signers"),
         (582, 3, "byte 5 (settled height): height 1 is not settled: its finalises are no quorum"),
         (page + 4, 0, "notarised page, entry 1): it is 111, and must be zero"),
         (page + 2, 1, "notarised page, back height): its back height 1 is not below 1"),
@@ -144,7 +144,7 @@ fn two_books_are_held_against_each_other() {
     };
     assert_eq!(cells(&rows[0]), format!("field | byte | {at}/one | {at}/two"));
     assert_eq!(cells(&rows[1]), "flags of the current height | 3 | 0 | 1 (timer fired)");
-    assert_eq!(cells(&rows[2]), "height 1, blank votes | 580 | - | 1");
+    assert_eq!(cells(&rows[2]), "height 1, blank | 580 | - | 1");
     assert_eq!(
         text(&format!("diff {at}/one {at}/one"), &[]),
         format!("{at}/one and {at}/one are the same\n")

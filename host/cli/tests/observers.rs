@@ -50,14 +50,59 @@ fn frames_that_are_no_certificates_are_refused() {
     let before = std::fs::read(&book).unwrap();
     let vote = Frame::DummyVote { signer: 9, height: 9 }.bytes();
     let words = format!("observer {book} deliver -");
-    denied(&words, &vote, "refused with 16: the frame is no certificate");
-    denied(&words, &[6; 9], "refused with 4: ");
+    for (frame, line, sentence) in [
+        (&vote[..], "deny 16\n", "mavunilai: refused with 16: the frame is no certificate"),
+        (&[6; 9], "deny 4\n", "mavunilai: refused with 4: the frame, entry or kind does not have"),
+    ] {
+        let ended = run(&words, frame);
+        assert_eq!((ended.status, ended.text().as_str()), (3, line));
+        assert!(ended.complaint.starts_with(sentence), "{}", ended.complaint);
+    }
     assert_eq!(std::fs::read(&book).unwrap(), before);
     let [page, finalises] = certificates();
     let ended = run(&words, &[page, vote, finalises, [8; FRAME]].concat());
     assert_eq!((ended.status, ended.text().as_str()), (3, "fresh\ndeny 16\nfresh\ndeny 4\n"));
     assert_eq!(ended.complaint, "mavunilai: 2 of 4 frames were refused\n");
     assert_eq!(text(&format!("observer {book} move"), &[]), "final 1\n");
+}
+
+/// A station that has no certificate yet prints none, and that is no frame, not a malformed one.
+#[test]
+fn no_bytes_are_no_frames() {
+    let book = watch("nothing");
+    let station = folder("observers").join("new");
+    let station = station.to_str().unwrap();
+    fine(&format!("open {station} --n 4 --own 0 --roll 0,0 --force"), &[]);
+    let before = std::fs::read(&book).unwrap();
+    let certificates = fine(&format!("call {station} certificates"), &[]);
+    assert_eq!(certificates, b"");
+    assert_eq!(text(&format!("observer {book} deliver -"), &certificates), "");
+    assert_eq!(std::fs::read(&book).unwrap(), before);
+    denied(&format!("observer {station} deliver -"), &[], "refused with 1: ");
+    refused("observer nowhere deliver -", &[], "nowhere cannot be read");
+}
+
+/// Of an input that was cut the whole frames are taken, and the rest is a frame that is malformed.
+#[test]
+fn whole_frames_before_a_cut_are_taken() {
+    let both = certificates().concat();
+    let digits: String = both.iter().map(|byte| format!("{byte:02x}")).collect();
+    for (name, input, lines) in [
+        ("cut-1", &both[..1], "deny 4\n"),
+        ("cut-223", &both[..223], "deny 4\n"),
+        ("cut-225", &both[..225], "fresh\ndeny 4\n"),
+        ("cut-324", &both[..324], "fresh\ndeny 4\n"),
+        ("cut-digits", &digits.as_bytes()[..648], "fresh\ndeny 4\n"),
+    ] {
+        let (book, whole) = (watch(name), watch("whole"));
+        let ended = run(&format!("observer {book} deliver -"), input);
+        assert_eq!((ended.status, ended.text().as_str()), (3, lines), "{name}");
+        if lines.starts_with("fresh") {
+            assert_eq!(ended.complaint, "mavunilai: 1 of 2 frames were refused\n", "{name}");
+            fine(&format!("observer {whole} deliver -"), &both[..FRAME]);
+        }
+        assert_eq!(std::fs::read(&book).unwrap(), std::fs::read(&whole).unwrap(), "{name}");
+    }
 }
 
 #[test]
@@ -111,6 +156,15 @@ fn neither_command_takes_the_others_book() {
     }
 }
 
+/// A text with the cells of its tables parted by bars: how wide they are depends on the names of files.
+fn cells(text: &str) -> String {
+    let line = |line: &str| {
+        let cells = line.split("  ").map(str::trim).filter(|cell| !cell.is_empty());
+        cells.collect::<Vec<_>>().join(" | ") + "\n"
+    };
+    text.lines().map(line).collect()
+}
+
 /// Beside a station's book: the same n and H, no roll to compare, and the registers are held against each other.
 #[test]
 fn books_of_both_kinds_side_by_side() {
@@ -123,16 +177,16 @@ fn books_of_both_kinds_side_by_side() {
 Observer (watch): settled height 4.
 Station 3 (book3): current height 5, settled height 4, 1 pending entry.
 
-height  leader  observer                   station 3
-1       0       page 0d4594f8 in register  page 0d4594f8 in register
-2       1       page 7173bee7 in register  page 7173bee7 in register
-3       3       blank                      blank
-4       2       page 3a1b0ed7 in register  page 3a1b0ed7 in register
-5       0       -                          - <-
+height | leader | observer watch | station 3
+1 | 0 | page 0d4594f8 in register | page 0d4594f8 in register
+2 | 1 | page 7173bee7 in register | page 7173bee7 in register
+3 | 3 | blank | blank
+4 | 2 | page 3a1b0ed7 in register | page 3a1b0ed7 in register
+5 | 0 | - | - <-
 
 Of any two registers one begins the other.
 ";
-    assert_eq!(shown.replace(&format!("{kept}/"), ""), expected);
+    assert_eq!(cells(&shown).replace(&format!("{kept}/"), ""), expected);
     let alone = text(&format!("show books {kept}/watch"), &[]);
     assert!(alone.contains("\n4       -       page 3a1b0ed7 in register\n"), "{alone}");
     let (other, words) = (watch("other"), "have not the same number of heights");
@@ -149,6 +203,9 @@ Of any two registers one begins the other.
     fine(&format!("observer {path} move"), &[]);
     let shown = text(&format!("show books {kept}/book0 {path}"), &[]);
     assert!(shown.contains("THE REGISTERS FORK: "), "{shown}");
+    let shown = cells(&text(&format!("show books {kept}/watch {path}"), &[]));
+    let heading = format!("\nheight | leader | observer {kept}/watch | observer {path}\n");
+    assert!(shown.contains(&heading), "{shown}");
 }
 
 /// The observer's book at the end of the season, as it is shown.
@@ -205,8 +262,8 @@ fn what_is_wrong_with_a_book_is_told() {
         (2, 3, "byte 2: it says 3 heights, the length is that of an observer's of 2"),
         (64, 1, "byte 64 (height 1, state): the state is 1, neither 0 nor 2"),
         (65, 1, "byte 65 (height 1, zero behind the state): it is 1, and must be zero"),
-        (66, 1, "byte 66 (height 1, signers of the page certificate): a page is notarised"),
-        (76, 16, "byte 76 (height 2, blank votes): the mask has a bit that is not below n"),
+        (66, 1, "byte 66 (height 1, page certificate): a page is notarised"),
+        (76, 16, "byte 76 (height 2, blank): the mask has a bit that is not below n"),
         (80, 2, "byte 80 (height 1, notarised page, height): the page says height 2"),
     ] {
         let mut damaged = sound.clone();

@@ -30,17 +30,26 @@ fn the_rehearsal_is_that_of_the_reference() {
     }
 }
 
+/// The commands that have a help text.
+const COMMANDS: &str = "frame show diff open call observer replay record try answer rehearsal";
+
 #[test]
 fn every_command_has_a_help_text() {
     let common = String::from_utf8(fine("help", &[])).unwrap();
     assert_eq!(fine("--help", &[]), common.as_bytes());
-    let names =
-        ["frame", "show", "diff", "open", "call", "replay", "record", "try", "answer", "rehearsal"];
-    for name in names {
+    for name in COMMANDS.split(' ') {
         assert!(common.contains(&format!("\n  {name} ")), "{name}");
         let text = fine(&format!("help {name}"), &[]);
         assert_eq!(fine(&format!("{name} --help"), &[]), text);
         assert!(text.starts_with(format!("mavunilai {name}").as_bytes()), "{name}");
+    }
+}
+
+#[test]
+fn no_line_of_a_help_text_has_more_than_90_columns() {
+    for name in COMMANDS.split(' ').chain([""]) {
+        let text = String::from_utf8(fine(&format!("help {name}"), &[])).unwrap();
+        assert_eq!(text.lines().find(|line| line.chars().count() > 90), None, "{name}");
     }
 }
 

@@ -40,6 +40,16 @@ fn a_replica_without_observers_is_asked_for_stations_calls_alone() {
     assert!(ended.complaint.contains("\nthe call: observer-"), "{}", ended.complaint);
 }
 
+/// The last network is often cut when there are calls enough; it counts neither as whole nor as one with dishonest
+/// stations.
+#[test]
+fn a_network_that_is_cut_is_not_counted() {
+    let ended = tried("--count 2000 --stations", "M answer");
+    assert_eq!((ended.status, ended.complaint.as_str()), (0, ""));
+    let told = ended.text();
+    assert!(told.ends_with(" 0 whole networks, 0 with dishonest stations)\n"), "{told}");
+}
+
 #[test]
 fn a_wrong_answer_is_told_with_the_call_and_can_be_replayed() {
     let ended = tried("--seed 1 --count 300", "M answer | sed -u 's/^known /fresh /'");

@@ -121,11 +121,6 @@ impl Kinds {
         }
     }
 
-    /// How often a kind occurred.
-    pub fn count(&self, name: &str) -> u64 {
-        self.counts.get(name).copied().unwrap_or(0)
-    }
-
     /// Sees a call, the book and the length of the buffer that it was lent, and its answer.
     pub fn see(&mut self, call: &Call, book: &[u8], lent: usize, answer: Answer) {
         self.see_answer(call, answer);

@@ -15,8 +15,10 @@ pub struct Report {
     pub kinds: Kinds,
     /// Lists of calls on single books.
     pub lists: u64,
-    /// Networks that were run.
+    /// Networks that were run to their end.
     pub networks: u64,
+    /// Those of them with dishonest stations.
+    pub with_dishonest: u64,
     /// Networks in which some honest log was not empty at the end.
     pub with_log: u64,
     /// Times that two honest logs of which neither was empty were held against each other.

@@ -88,6 +88,7 @@ fn network<A: Calls, B: Second>(
         }
     }
     report.networks += 1;
+    report.with_dishonest += u64::from(network.honest < network.n);
     report.with_log += u64::from(network.logs.iter().any(|log| !log.is_empty()));
     report.held_together += network.held_together;
     Ok(None)

@@ -1,4 +1,5 @@
-//! docs/FORMATS.md against the replicas: what a call writes is found at the places of the page, and no byte elsewhere changes.
+//! docs/FORMATS.md against the replicas: what a call writes is found at the places of the page, and no byte elsewhere
+//! changes.
 
 mod formats {
     pub mod bench;
@@ -125,7 +126,8 @@ fn votes<C: Calls + Copy>(bench: &Bench<C>) {
     assert_eq!(book[bench.body(3, "notarised page")], page);
 }
 
-/// A page on a page settles: the settled and the current height stand where the page says, the register is the pages' entries.
+/// A page on a page settles: the settled and the current height stand where the page says, the register is the pages'
+/// entries.
 fn settling<C: Calls + Copy>(bench: &Bench<C>) {
     let first = bench.page(1, None, &[[1; 16], [2; 16]]);
     let second = bench.page(2, Some(&first), &[[3; 16]; 8]);

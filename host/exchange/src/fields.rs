@@ -167,11 +167,11 @@ impl Fields {
         (1..=heights).for_each(|height| self.page(&format!("height {height}, notarised page")));
     }
 
-    /// The masks of the three certificates of a height.
+    /// The masks of the three certificates of a height, by their names in docs/FORMATS.md, which tables have too.
     fn certificates(&mut self, of: &str) {
-        self.add(format!("{of}, signers of the page certificate"), 2, Sort::Mask);
-        self.add(format!("{of}, blank votes"), 2, Sort::Mask);
-        self.add(format!("{of}, finalises"), 2, Sort::Mask);
+        self.add(format!("{of}, page certificate"), 2, Sort::Mask);
+        self.add(format!("{of}, blank"), 2, Sort::Mask);
+        self.add(format!("{of}, finalise"), 2, Sort::Mask);
     }
 
     /// The row of a height in the contents.
@@ -291,7 +291,7 @@ mod tests {
                 "current height (4): 0 | 1",
                 "height 2, state (72): 0 | 2 (page notarised)",
                 "height 2, zero behind the state (73): 00 | 09",
-                "height 2, blank votes (76): - | 0 1 2",
+                "height 2, blank (76): - | 0 1 2",
                 "height 2, notarised page, height (256): 0 | 2",
             ]
         );
@@ -339,7 +339,7 @@ mod tests {
                 "flags of the current height (3): 0 | 3 (timer fired, blank vote cast)",
                 "pending place 1 (64): 00000000000000000000000000000000 | \
                  737761702041313220746f2042343020  \"swap A12 to B40 \"",
-                "height 1, blank votes (580): - | 0 1 2",
+                "height 1, blank (580): - | 0 1 2",
                 "height 1, page vote of 0 (944): 00000000 | abababab",
             ]
         );

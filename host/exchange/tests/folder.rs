@@ -206,7 +206,8 @@ fn moves(list: &List, book: &str) -> Vec<String> {
 fn the_season_goes_as_told() {
     let list = list("season");
     let expected = [
-        "offer 1,vote 1,pass 1 5 4,final 1,vote 2,pass 2 5 4,vote 3,dummy 3,pass 3 6 0,vote 4,pass 4 5 4,offer 5,final 4",
+        "offer 1,vote 1,pass 1 5 4,final 1,vote 2,pass 2 5 4,vote 3,dummy 3,pass 3 6 0,vote 4,pass 4 5 4,\
+         offer 5,final 4",
         "vote 1,pass 1 5 4,offer 2,final 1,vote 2,pass 2 5 4,vote 3,dummy 3,pass 3 6 0,pass 4 5 4,final 4",
         "vote 1,pass 1 5 4,final 1,vote 2,dummy 2,pass 2 5 0,vote 3,pass 3 6 4,offer 4,vote 4,pass 4 5 4,final 4",
         "final 1,pass 1 5 4,pass 2 5 4,offer 3,pass 3 6 4,vote 4,final 4,pass 4 5 4",

@@ -4,7 +4,8 @@ mod common;
 
 use common::*;
 
-/// A book in which every later refusal of deliver can be met: a proposal and a block at height 2, above the current one.
+/// A book in which every later refusal of deliver can be met: a proposal and a block at height 2, above the current
+/// one.
 fn busy_book() -> Vec<u8> {
     let mut book = new_book(4, 2, &[1, 0]);
     let second = block(2, 0, ZERO, &[entry(1)]);

@@ -1,4 +1,5 @@
-//! The fifteen refusals by their examples; each leaves the book and the reply as they were.
+//! Refusals 1 to 14 by their examples; each leaves the book and the reply as they were. 15 is among the tests of
+//! packets, 16 among those of observers.
 
 mod common;
 

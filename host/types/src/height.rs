@@ -1,6 +1,7 @@
 //! Heights: their type, and their bytes in frames, in blocks and in the head of a book.
 //!
-//! Request 2.7 widens the type, makes the byte after each height its high byte, and moves the heights of the head: here.
+//! Request 2.7 widens the type, makes the byte after each height its high byte, and moves the heights of the head:
+//! here.
 
 /// A height of a book, or a number of heights.
 pub type Height = u8;

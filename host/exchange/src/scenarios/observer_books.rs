@@ -77,7 +77,10 @@ fn head<C: Calls>(to: &mut Recorder<C>, sound: &[u8]) {
 }
 
 fn rows<C: Calls>(to: &mut Recorder<C>, sound: &[u8]) {
-    to.part("Each edit breaks a rule of a row: a state of 1, 3 or more, the zero behind it, a bit from n up, no quorum");
+    to.part(
+        "Each edit breaks a rule of a row: a state of 1, 3 or more, the zero behind it, a bit from n up, \
+         no quorum",
+    );
     let row = ObserverLayout::new(1).area(1, ObserverArea::Row).start;
     ask_each(to, sound, row, &[(0, 1), (0, 3), (0, 4), (0, 255), (1, 1), (1, 128)]);
     ask_each(to, sound, row, &[(2, 23), (3, 1), (4, 16), (5, 128), (6, 16), (7, 1)]);

@@ -1,5 +1,5 @@
-//! Calls under any digest, to compare definitions with: one replica alone, a timer and dummies, votes that clash, and an
-//! observer.
+//! Calls under any digest, to compare definitions with: one replica alone, a timer and dummies, votes that clash, and
+//! an observer.
 
 use super::observers::observe;
 use super::parts::{deliver, first, signal, submit, REPLY};
