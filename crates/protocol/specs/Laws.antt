@@ -31,6 +31,7 @@ pub mod GrantedLaws
 pub mod PlaceLaws
 pub mod PoolLaws
 pub mod FieldLaws
+pub mod OneOrZeroLaws
 pub mod OnesLaws
 pub mod UnionLaws
 pub mod LogLaws

@@ -2,17 +2,17 @@
 -- that are written.
 use Prim.Native.Nat.{ℕ, zero, suc, _+_, _<_}
 use native.Mathlib.Omega.{arith}
-use mathlib.Core.Path.{_≡_, refl, sym, ap}
-use mathlib.Core.Bool.{Bool, true, false, _&&_, false≢true, and-assoc, and-true}
+use mathlib.Core.Path.{_≡_, refl, sym}
+use mathlib.Core.Bool.{Bool, _&&_, and-assoc, and-true}
 use mathlib.Core.List.{[], _∷_}
-use lib.Bits.{bitOr, bitXor, or-zero-l, xor-self, or-add-and, xor-add-and, and-le-l, and-le-r}
+use lib.Bits.{bitOr, or-zero-l, or-add-and, and-le-l, and-le-r}
 use lib.Dec.{eqb}
 use lib.ListN.{length, getD, take, set, replicate, length-replicate, getD-replicate}
 use lib.Seq.{paste, paste-suc}
 use borrow.Author.Tests.{eq-eqb, eqb-true}
-use Rattle.protocol.specs.Bytes.{Bytes, byteAt, all, isZero, same, zeros}
+use Rattle.protocol.specs.Bytes.{Bytes, byteAt, all, isZero, zeros}
 use Rattle.protocol.specs.Laws.TestsLaws.{and-both, both-ways}
-use Rattle.protocol.specs.Laws.RowLaws.{true-and, not-passed}
+use Rattle.protocol.specs.Laws.RowLaws.{true-and}
 
 or-zero : (a b : ℕ) → bitOr a b ≡ 0 → (a ≡ 0) × (b ≡ 0)
 or-zero a b e =
@@ -29,21 +29,8 @@ or-is-zero a b = both-ways (eqb (bitOr a b) 0) (eqb a 0 && eqb b 0)
     (λ e. let t = and-both (eqb a 0) (eqb b 0) e in
     eq-eqb (bitOr a b) 0 (rw (eqb-true a 0 (t .0), eqb-true b 0 (t .1)) (or-zero-l 0)))
 
-xor-zero : (a b : ℕ) → bitXor a b ≡ 0 → a ≡ b
-xor-zero a b e =
-    let s = xor-add-and a b in
-    let l = and-le-l a b in
-    let r = and-le-r a b in
-    omega arith
-
--- no bit differs where the numbers are equal
-pub xor-is-zero : (a b : ℕ) → eqb (bitXor a b) 0 ≡ eqb a b
-xor-is-zero a b = both-ways (eqb (bitXor a b) 0) (eqb a b)
-    (λ e. eq-eqb a b (xor-zero a b (eqb-true (bitXor a b) 0 e)))
-    (λ e. eq-eqb (bitXor a b) 0 (rw (eqb-true a b e) (xor-self b)))
-
--- ---- one more byte
-pub all-more : (test : ℕ → Bool) (bytes : Bytes) (i : ℕ) → i < length bytes →
+-- ---- one byte more
+all-more : (test : ℕ → Bool) (bytes : Bytes) (i : ℕ) → i < length bytes →
     all test (take (suc i) bytes) ≡ (all test (take i bytes) && test (byteAt bytes i))
 unfolding all
 all-more test [] i h = absurd (omega arith)
@@ -51,17 +38,7 @@ all-more test (x ∷ xs) zero h = and-true (test x)
 all-more test (x ∷ xs) (suc i) h =
     rw (all-more test xs i (omega arith)) (sym (and-assoc (test x) (all test (take i xs)) (test (byteAt xs i))))
 
-pub same-more : (a b : Bytes) (i : ℕ) → i < length a → i < length b →
-    same (take (suc i) a) (take (suc i) b) ≡ (same (take i a) (take i b) && eqb (byteAt a i) (byteAt b i))
-unfolding same
-same-more [] b i h k = absurd (omega arith)
-same-more (x ∷ xs) [] i h k = absurd (omega arith)
-same-more (x ∷ xs) (y ∷ ys) zero h k = and-true (eqb x y)
-same-more (x ∷ xs) (y ∷ ys) (suc i) h k =
-    rw (same-more xs ys i (omega arith) (omega arith))
-    (sym (and-assoc (eqb x y) (same (take i xs) (take i ys)) (eqb (byteAt xs i) (byteAt ys i))))
-
--- ---- the turns of the two scans
+-- ---- the turns of the scan
 pub scan-none : eqb 0 0 ≡ isZero []
 unfolding isZero all
 scan-none = refl
@@ -70,26 +47,6 @@ pub scan-more : (seen : ℕ) (bytes : Bytes) (i : ℕ) → i < length bytes → 
     eqb (bitOr seen (byteAt bytes i)) 0 ≡ isZero (take (suc i) bytes)
 unfolding isZero
 scan-more seen bytes i h e = rw (or-is-zero, e) (sym (all-more (λ x. eqb x 0) bytes i h))
-
-pub match-none : eqb 0 0 ≡ same [] []
-unfolding same
-match-none = refl
-
-pub match-more : (seen : ℕ) (a b : Bytes) (i : ℕ) → i < length a → i < length b →
-    eqb seen 0 ≡ same (take i a) (take i b)
-    → eqb (bitOr seen (bitXor (byteAt a i) (byteAt b i))) 0 ≡ same (take (suc i) a) (take (suc i) b)
-match-more seen a b i h k e = rw (or-is-zero, e, xor-is-zero) (sym (same-more a b i h k))
-
--- byte strings of different lengths differ
-pub same-length : (a b : Bytes) → same a b ≡ true → length a ≡ length b
-unfolding same
-same-length [] [] e = refl
-same-length [] (y ∷ ys) e = absurd (false≢true e)
-same-length (x ∷ xs) [] e = absurd (false≢true e)
-same-length (x ∷ xs) (y ∷ ys) e = ap suc (same-length xs ys (and-both (eqb x y) (same xs ys) e .1))
-
-pub different-lengths : (a b : Bytes) → (length a ≡ length b → ⊥) → same a b ≡ false
-different-lengths a b f = not-passed (same a b) (λ e. f (same-length a b e))
 
 -- ---- zeros that are written
 pub clear-more : (target : Bytes) (at count i : ℕ) → at + i < length target → i < count →

@@ -23,24 +23,10 @@ pub fn same_bytes(a: &[u8], b: &[u8]) -> bool
     ensures { λ r. ⌜ r ≡ same (now (a .entry)) (now (b .entry)) ⌝ }
 {
     if a.len() == b.len() {
-        same_values(a, b)
+        crate::difference::difference(a, b, a.len()) == 0
     } else {
         false
     }
-}
-
-// Whether two byte strings of one length are equal. Costs one pass, with no early end.
-fn same_values(a: &[u8], b: &[u8]) -> bool
-    requires { ⌜ length (now a) ≡ length (now b) ⌝ }
-    ensures { λ r. ⌜ r ≡ same (now (a .entry)) (now (b .entry)) ⌝ }
-{
-    let mut seen: u8 = 0;
-    let mut i = 0;
-    while i < a.len() {
-        seen = seen | (a[i] ^ b[i]);
-        i += 1;
-    }
-    seen == 0
 }
 
 // The byte at `at`, as a wide number. Costs one read.

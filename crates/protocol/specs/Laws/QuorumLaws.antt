@@ -63,7 +63,7 @@ unfolding weigh
 weigh-last p zero = omega arith
 weigh-last p (suc k) = let h = weigh-last (λ t. p (suc t)) k in omega arith
 
-bit-weight : (x : ℕ) → x < 2 → x ≡ cond (eqb x 1) 1 0
+pub bit-weight : (x : ℕ) → x < 2 → x ≡ cond (eqb x 1) 1 0
 bit-weight zero h = refl
 bit-weight (suc zero) h = refl
 bit-weight (suc (suc x)) h = absurd (omega arith)
