@@ -1,33 +1,31 @@
 -- The turns of the tally: a bit for each replica whose kept vote is for the digest.
-use Prim.Native.Nat.{ℕ, _+_, _*_, _^_, _≤_}
+use Prim.Native.Nat.{ℕ, _+_, _*_, _^_, _≤_, _<_}
 use native.Mathlib.Omega.{arith}
-use native.Mathlib.Nat.{pow-suc, pow-le-pow-right, add-zero}
+use native.Mathlib.Nat.{pow-le-pow-right}
 use native.Mathlib.Numerals.{add-one}
 use mathlib.Core.Path.{_≡_, ap₂, _∙_}
-use mathlib.Core.Bool.{Bool, true, false, _&&_}
+use mathlib.Core.Bool.{Bool, _&&_, cond}
 use Rattle.protocol.specs.Bytes.{Bytes, same}
 use Rattle.protocol.specs.Mask.{inMask, maskOf}
 use Rattle.protocol.specs.State.{Height, voteOf}
 use Rattle.protocol.specs.Deliver.{votersFor}
+use Rattle.protocol.specs.Laws.MaskLaws.{maskOf-below}
+use Rattle.protocol.specs.Laws.OneOrZeroLaws.{times-test}
 
 -- replica `s` is one of the voters, and its kept vote is for this digest
 abbrev pub votes : Height → ℕ → Bytes → ℕ → Bool
 votes x voters digest s = inMask voters s && same (voteOf x s) digest
 
-pub power-small : (s : ℕ) → s ≤ 16 → 2 ^ s ≤ 65536
-power-small s h = pow-le-pow-right {n = 2} (omega arith) {i = s} {j = 16} h
+pub mask-small : (test : ℕ → Bool) (s mask : ℕ) → s ≤ 16 → mask ≡ maskOf test s → mask < 65536
+mask-small test s mask h e =
+    let below = maskOf-below test s in
+    omega (arith, pow-le-pow-right {n = 2} (omega arith) {i = s} {j = 16} h)
 
-pub bit-next : (bit s : ℕ) → bit ≡ 2 ^ s → bit * 2 ≡ 2 ^ (s + 1)
-bit-next bit s e = rw (e, add-one s, pow-suc 2 s)
-
-module _ (test : ℕ → Bool) (s mask : ℕ) (so-far : mask ≡ maskOf test s) where
-  pub mask-with : (bit : ℕ) → bit ≡ 2 ^ s → test s ≡ true → mask + bit ≡ maskOf test (s + 1)
-  unfolding maskOf
-  mask-with bit b e = rw (add-one s, so-far, b, e)
-
-  pub mask-without : test s ≡ false → mask ≡ maskOf test (s + 1)
-  unfolding maskOf
-  mask-without e = rw (add-one s, e, add-zero) so-far
+-- one turn adds the bit of `s`, or nothing
+pub mask-next : (test : ℕ → Bool) (s mask bit one : ℕ) → mask ≡ maskOf test s → bit ≡ 2 ^ s → one ≡ cond (test s) 1 0 →
+    mask + bit * one ≡ maskOf test (s + 1)
+unfolding maskOf
+mask-next test s mask bit one e b o = rw (o, times-test (test s) bit, add-one s, e, b)
 
 pub tallied : (x : Height) (digest : Bytes) (voters mask s n : ℕ) → voters ≡ x .voterMask → s ≡ n →
     mask ≡ maskOf (votes x voters digest) s → mask ≡ votersFor x digest n

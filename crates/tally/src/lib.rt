@@ -1,26 +1,26 @@
-// The tally of the votes that a height keeps.
+// The tally of the votes that a height keeps. No byte of a vote decides which way it goes: what differs is gathered into
+// one number, and a 1 or 0 that is worked out from it is added. `tests/branch-free` reads it, and what it calls.
 ghost use mathlib.Core.Path.{_≡_};
-ghost use mathlib.Core.Bool.{_&&_};
-ghost use Prim.Native.Nat.{_<_};
+ghost use mathlib.Core.Bool.{_&&_, cond};
+ghost use Prim.Native.Nat.{_<_, _≤_};
 ghost use Rattle.protocol.specs.Bytes.{same};
 ghost use Rattle.protocol.specs.Mask.{inMask, maskLimit};
 ghost use Rattle.protocol.specs.State.{decode, at, voteOf, maximumReplicas};
 ghost use Rattle.protocol.specs.Deliver.{votersFor};
 ghost use Rattle.book_fields.specs.Book.{Readable, Within, heightIn};
 
-// Whether replica `s` is one of the voters and its kept vote is for this digest. Compares at most 32 bytes.
-fn votes_for(book: &[u8], h: usize, s: usize, voters: usize, digest: &[u8]) -> bool
+// 1 if replica `s` is one of the voters and its kept vote is for this digest, and 0 if not. Compares all 32 bytes,
+// whoever votes.
+fn votes_for(book: &[u8], h: usize, s: usize, voters: usize, digest: &[u8]) -> usize
     requires { ⌜ Readable (now book) ⌝ }
     requires { ⌜ Within (now book) h ⌝ }
     requires { ⌜ s < maximumReplicas ⌝ }
-    ensures { λ r. ⌜ r ≡
-        (inMask voters s && same (voteOf (heightIn (now (book .entry)) h) s) (now (digest .entry))) ⌝ }
+    ensures vote { λ r. ⌜ r ≡
+        cond (inMask voters s && same (voteOf (heightIn (now (book .entry)) h) s) (now (digest .entry))) 1 0 ⌝ }
+    ensures once { λ r. ⌜ r ≤ 1 ⌝ }
 {
-    if wire::mask::in_mask(voters, s) {
-        wire::bytes::same_bytes(book_fields::height::vote_digest(book, h, s), digest)
-    } else {
-        false
-    }
+    let vote = book_fields::height::vote_digest(book, h, s);
+    wire::mask::one_if_in(voters, s) * wire::difference::one_if_same(vote, digest)
 }
 
 // The mask of the replicas whose kept vote at height `h` is for this digest. One pass over the replicas, 16 at most.
@@ -34,17 +34,10 @@ pub fn voters_for(book: &[u8], h: usize, digest: &[u8]) -> usize
     let n = book_fields::head::replicas(book);
     let voters = book_fields::height::voter_mask(book, h);
     let mut mask = 0;
-    let mut bit = 1;
     let mut s = 0;
     while s < n {
-        if votes_for(book, h, s, voters, digest) {
-            mask += bit;
-            bit = bit * 2;
-            s += 1;
-        } else {
-            bit = bit * 2;
-            s += 1;
-        }
+        mask += wire::mask::bit(s) * votes_for(book, h, s, voters, digest);
+        s += 1;
     }
     mask
 }
