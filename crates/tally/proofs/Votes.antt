@@ -3,18 +3,26 @@ use Prim.Native.Nat.{ℕ, _+_, _*_, _^_, _≤_, _<_}
 use native.Mathlib.Omega.{arith}
 use native.Mathlib.Nat.{pow-le-pow-right}
 use native.Mathlib.Numerals.{add-one}
-use mathlib.Core.Path.{_≡_, ap₂, _∙_}
+use mathlib.Core.Path.{_≡_, ap, ap₂, _∙_}
 use mathlib.Core.Bool.{Bool, _&&_, cond}
 use Rattle.protocol.specs.Bytes.{Bytes, same}
 use Rattle.protocol.specs.Mask.{inMask, maskOf}
 use Rattle.protocol.specs.State.{Height, voteOf}
 use Rattle.protocol.specs.Deliver.{votersFor}
 use Rattle.protocol.specs.Laws.MaskLaws.{maskOf-below}
-use Rattle.protocol.specs.Laws.OneOrZeroLaws.{times-test}
+use Rattle.protocol.specs.Laws.OneOrZeroLaws.{one-of-both, times-test}
 
 -- replica `s` is one of the voters, and its kept vote is for this digest
 abbrev pub votes : Height → ℕ → Bytes → ℕ → Bool
 votes x voters digest s = inMask voters s && same (voteOf x s) digest
+
+-- what code finds of one replica: its bit, and whether the vote in its place is for the digest
+pub vote-number : (x : Height) (voters : ℕ) (digest : Bytes) (s : ℕ) (vote : Bytes) (bit one : ℕ) → vote ≡ voteOf x s →
+    bit ≡ cond (inMask voters s) 1 0 → one ≡ cond (same vote digest) 1 0 →
+    bit * one ≡ cond (votes x voters digest s) 1 0
+vote-number x voters digest s vote bit one v b o =
+    one-of-both (inMask voters s) (same (voteOf x s) digest) bit one b
+    (o ∙ ap (λ (d : Bytes). cond (same d digest) 1 0) v)
 
 pub mask-small : (test : ℕ → Bool) (s mask : ℕ) → s ≤ 16 → mask ≡ maskOf test s → mask < 65536
 mask-small test s mask h e =
