@@ -32,6 +32,8 @@ class Item:
         self.clauses, self.types = [], set()
         end = self.function(bare, m.end()) if self.sort == "fn" else self.type_of(bare, m.end())
         self.whole = text[m.start() : end].rstrip()
+        self.signature = bare[m.end() : end]
+        self.body = bare[end : closing(bare, end)] if self.sort == "fn" and bare[end] == "{" else ""
         self.used = Words(" ".join(body for sort, body in self.clauses))
 
     def function(self, text, at):
