@@ -13,6 +13,7 @@ mod parts;
 mod refusals;
 mod rehearsal;
 mod season;
+mod tallies;
 mod two_pages;
 mod vectors;
 
