@@ -1,6 +1,6 @@
-/* The calls whose instructions tests/tally-cost counts: a proposal that finds 16 kept votes, whatever they say, and
- * each call of a station over a new book and over one whose heights are settled but the last. For each counted call it
- * prints a line: the table, the row, and what the call did. */
+/* The calls whose instructions tests/tally-cost counts: a proposal that finds kept votes, whatever they say, and calls
+ * of a station over a new book and over one whose heights are settled but the last. For each counted call it prints a
+ * line: the table, the row, and what the call did. */
 #include <stdio.h>
 #include <string.h>
 
@@ -56,9 +56,9 @@ static void proposed(uint8_t *frame, uint8_t *digest) {
     memcpy(digest, reply + MAVUNILAI_FRAME_DIGEST, MAVUNILAI_DIGEST);
 }
 
-/* `votes` page votes of height 1 are kept, of which the last `other` differ from the digest in one byte; the proposal
- * comes last. */
-static void tallied(const char *row, unsigned votes, unsigned other, unsigned byte) {
+/* The first `votes` stations' page votes of height 1 are kept; those of the stations in the mask `others` differ from
+ * the digest in one byte. The proposal comes last. */
+static void tallied(const char *row, unsigned votes, unsigned others, unsigned byte) {
     uint8_t proposal[MAVUNILAI_FRAME], frame[MAVUNILAI_FRAME] = {MAVUNILAI_KIND_PAGE_VOTE, 0, 1};
     uint8_t digest[MAVUNILAI_DIGEST], state;
     unsigned signer;
@@ -68,7 +68,7 @@ static void tallied(const char *row, unsigned votes, unsigned other, unsigned by
     for (signer = 0; signer < votes; signer++) {
         frame[MAVUNILAI_FRAME_SIGNER] = (uint8_t)signer;
         memcpy(frame + MAVUNILAI_FRAME_DIGEST, digest, sizeof digest);
-        frame[MAVUNILAI_FRAME_DIGEST + byte] ^= signer < votes - other ? 0 : 1;
+        frame[MAVUNILAI_FRAME_DIGEST + byte] ^= (others >> signer) & 1u;
         mavunilai_deliver(book.bytes, SIZE, frame, sizeof frame);
     }
     counted(DELIVER, book.bytes, proposal);
@@ -161,12 +161,12 @@ int main(void) {
         return 1;
     }
     tallied("16 agree", 16, 0, 0);
-    tallied("11 agree, 5 differ in the first byte", 16, 5, 0);
-    tallied("11 agree, 5 differ in the last byte", 16, 5, 31);
-    tallied("10 agree, 6 differ in the first byte", 16, 6, 0);
-    tallied("10 agree, 6 differ in the last byte", 16, 6, 31);
-    tallied("16 differ in the first byte", 16, 16, 0);
-    tallied("16 differ in the last byte", 16, 16, 31);
+    tallied("11 agree, the last 5 differ in the first byte", 16, 0xf800, 0);
+    tallied("11 agree, the first 5 differ in the last byte", 16, 0x001f, 31);
+    tallied("10 agree, 6 here and there differ in the first byte", 16, 0x9254, 0);
+    tallied("10 agree, 6 here and there differ in the last byte", 16, 0x9254, 31);
+    tallied("16 differ in the first byte", 16, 0xffff, 0);
+    tallied("16 differ in the last byte", 16, 0xffff, 31);
     tallied("8 agree, no other is kept", 8, 0, 0);
     tallied("none is kept", 0, 0, 0);
     for (own = 0; own < STATIONS; own++) {

@@ -1,11 +1,12 @@
-// The tally of the votes that a height keeps. No byte of a vote decides which way it goes: what differs is gathered into
-// one number, and a 1 or 0 that is worked out from it is added. `tests/branch-free` reads it, and what it calls.
+// The tally of the votes that a height keeps. No byte of a vote decides which way it goes: what differs is gathered
+// into one number, and a 1 or 0 that is worked out from it is added. `tests/branch-free` reads this file, and what it
+// calls.
 ghost use mathlib.Core.Path.{_≡_};
 ghost use mathlib.Core.Bool.{_&&_, cond};
 ghost use Prim.Native.Nat.{_<_, _≤_};
 ghost use Rattle.protocol.specs.Bytes.{same};
 ghost use Rattle.protocol.specs.Mask.{inMask, maskLimit};
-ghost use Rattle.protocol.specs.State.{decode, at, voteOf, maximumReplicas};
+ghost use Rattle.protocol.specs.State.{decode, voteOf, maximumReplicas};
 ghost use Rattle.protocol.specs.Deliver.{votersFor};
 ghost use Rattle.book_fields.specs.Book.{Readable, Within, heightIn};
 

@@ -100,7 +100,7 @@ module _ (a b : Bytes) where
       go : (t : Bool) → eqb (length a) (length b) ≡ t →
           (boolByte t * length a ≤ length a) × (boolByte t * length a ≤ length b)
       go true e =
-          let same-length = eqb-true (length a) (length b) e in
+          let agree = eqb-true (length a) (length b) e in
           (omega arith, omega arith)
       go false e = (omega arith, omega arith)
 

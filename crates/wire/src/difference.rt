@@ -22,8 +22,8 @@ pub fn difference(a: &[u8], b: &[u8], count: usize) -> usize
     seen as usize
 }
 
-// 1 if two byte strings are equal and 0 if not: 1 over a number above 1 is 0. Costs one pass over strings of one length,
-// and none over others.
+// 1 if two byte strings are equal and 0 if not: 1 over a number above 1 is 0. Costs one pass over strings of one
+// length, and none over others.
 pub fn one_if_same(a: &[u8], b: &[u8]) -> usize
     ensures { λ r. ⌜ (r ≡ cond (same (now (a .entry)) (now (b .entry))) 1 0) × (r ≤ 1) ⌝ }
 {
