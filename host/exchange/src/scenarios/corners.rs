@@ -1,7 +1,7 @@
 //! The list of corners: quorums of every n, chains with two ways down, tallies that complete late.
 
 use super::parts::*;
-use super::{edges, packets, tallies, two_pages};
+use super::{edges, packets, two_pages};
 use crate::{Call, Recorder};
 use types::{field, put_head_height, Calls, Frame, MOST_REPLICAS};
 
@@ -20,7 +20,6 @@ pub fn run<C: Calls>(to: &mut Recorder<C>) {
     late_proposal(to);
     both_votes(to);
     vote_after_the_quorum(to);
-    tallies::run(to);
     joined_certificates(to);
     unlinked_certificate(to);
     unsettled_entry(to);

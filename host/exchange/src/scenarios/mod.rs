@@ -23,8 +23,17 @@ use types::Calls;
 pub use vectors::vectors;
 
 /// The names of the lists; each is a file of the folder with `.txt` behind it.
-pub const NAMES: [&str; 8] =
-    ["refusals", "orders", "moves", "corners", "rehearsal", "season", "books", "observers"];
+pub const NAMES: [&str; 9] = [
+    "refusals",
+    "orders",
+    "moves",
+    "corners",
+    "tallies",
+    "rehearsal",
+    "season",
+    "books",
+    "observers",
+];
 
 /// Records a list by its name.
 pub fn record(name: &str, calls: impl Calls) -> Option<List> {
@@ -34,6 +43,7 @@ pub fn record(name: &str, calls: impl Calls) -> Option<List> {
         "orders" => orders::run(&mut to),
         "moves" => moves::run(&mut to),
         "corners" => corners::run(&mut to),
+        "tallies" => tallies::run(&mut to),
         "rehearsal" => rehearsal::run(&mut to),
         "season" => season::run(&mut to),
         "books" => books::run(&mut to),

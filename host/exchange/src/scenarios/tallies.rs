@@ -1,4 +1,4 @@
-//! A part of the list of corners: which of the kept votes a tally counts.
+//! The list of tallies: which of the kept votes are for a page.
 
 use super::parts::*;
 use crate::{Call, Recorder};
@@ -7,8 +7,10 @@ use types::{Area, Block, Calls, Frame, Layout};
 /// The one book of the list, opened anew in each part.
 const BOOK: &str = "book";
 
-/// Records these parts.
+/// Records the list.
 pub fn run<C: Calls>(to: &mut Recorder<C>) {
+    to.remark("Kept votes that are for the held page's digest, and some that nearly are.");
+    to.give(REPLY, vec![0xaa; 448]);
     near_votes(to);
     bytes_without_a_vote(to);
     some_of_sixteen(to);
@@ -89,7 +91,7 @@ fn some_of_sixteen<C: Calls>(to: &mut Recorder<C>) {
         let near: Vec<_> = others.iter().map(|signer| (*signer, (31, 0x80))).collect();
         sixteen(to, &near);
     }
-    to.part("Ten of sixteen are for the page, six differ in one bit each, in every byte and bit in turn: no quorum");
+    to.part("Ten of sixteen are for the page, six are one bit off, in each byte and at each place in turn: no quorum");
     let turns: Vec<_> = (0..36).map(|at| (at % 32, 1 << (at % 8))).collect();
     for six in turns.chunks(6) {
         let near: Vec<_> = (10..16).zip(six.iter().copied()).collect();
