@@ -5,6 +5,7 @@ use mathlib.Core.Logic.{_↔_}
 use mathlib.Core.Bool.{true}
 use mathlib.Core.Option.{some}
 use Rattle.protocol.specs.Bytes.{Bytes}
+use Rattle.protocol.specs.Distinct.{distinct}
 use Rattle.protocol.specs.Block.{blockHeight}
 use Rattle.protocol.specs.State.{State}
 use Rattle.protocol.specs.View.{View, linked, extends, isFinalized, parentOf, digestAt, logAt, quorum}
@@ -59,12 +60,13 @@ module _ (digest : Bytes → Bytes) (v : View) where
   unfoldable pub FinalizedIsSeen : ℕ → Type 0
   FinalizedIsSeen h = 1 ≤ h → (isFinalized digest v h ≡ true) ↔ (SeenWithBlock digest v h × Finalization v h)
 
--- the log of a state is the linearization of a finalized blockchain that ends at its finalized height
+-- the log of a state is the linearization of a finalized blockchain that ends at its finalized height, each entry at its
+-- first place
 pub record LogIsLinearized (digest : Bytes → Bytes) (s : State) : Type 0 where
   pub sequence : Sequence
   pub finalized : FinalizedBlockchain digest (view s) sequence
   pub its-height : height sequence ≡ s .finalized
-  pub its-log : linearize sequence ≡ log s
+  pub its-log : distinct (linearize sequence) ≡ log s
 
 -- all of the above, for every height and block
 pub record InThePapersTerms (digest : Bytes → Bytes) (s : State) : Type 0 where

@@ -1,10 +1,12 @@
--- What Register size and Read give: the linearization of the finalized blockchain that ends at g, or nothing.
+-- What Register size and Read give: the linearization of the finalized blockchain that ends at g, each entry at its
+-- first place, or nothing.
 use Prim.Native.Nat.{ℕ, _*_, _<_}
 use mathlib.Core.Path.{_≡_}
 use mathlib.Core.Logic.{_⊎_}
 use mathlib.Core.List.{_++_}
 use lib.ListN.{length, drop}
 use Rattle.protocol.specs.Bytes.{Bytes, byteAt, join}
+use Rattle.protocol.specs.Distinct.{distinct}
 use Rattle.protocol.specs.Block.{entrySize}
 use Rattle.protocol.specs.State.{decode}
 use Rattle.protocol.specs.View.{View}
@@ -23,9 +25,9 @@ pub record ReadsChainOf (digest : Bytes → Bytes) (v : View) (g : ℕ)
   pub sequence : Sequence
   pub finalized : FinalizedBlockchain digest v sequence
   pub its-height : height sequence ≡ g
-  -- the part is its entries, oldest first, 16 bytes each, and the size is theirs
-  pub part-read : part ≡ join (linearize sequence)
-  pub its-size : size ≡ entrySize * length (linearize sequence)
+  -- the part is its entries, oldest first, without those equal to an earlier one, 16 bytes each, and the size is theirs
+  pub part-read : part ≡ join (distinct (linearize sequence))
+  pub its-size : size ≡ entrySize * length (distinct (linearize sequence))
   pub part-size : length part ≡ size
   -- it is written to the front of the buffer, and the bytes past it keep their values
   pub buffer-after : after ≡ part ++ drop size buffer

@@ -1,6 +1,7 @@
 -- One name that opens every definition, for checks that compute on whole books. tests/computing writes this file.
 use Rattle.protocol.specs.Bytes.{word16, le16, part, zeros, overFront, all, isZero, same, pieces, join, holds}
 use Rattle.protocol.specs.Bytes.{without, put}
+use Rattle.protocol.specs.Distinct.{distinctAfter, distinct, noneTwice}
 use Rattle.protocol.specs.Tests.{allOf, implies, inRange, everyHeight, firstRefusal}
 use Rattle.protocol.specs.Block.{blockHeight, parentHeight, entryCount, parentDigest, entries, blockWellFormed}
 use Rattle.protocol.specs.Block.{newBlock, allEntries}
@@ -46,27 +47,27 @@ use Rattle.protocol.specs.ObserverCalls.{observerSizeCall, observerReadP
 use Rattle.protocol.specs.ObserverCall.{observation, observerBookAfterAll}
 
 unfoldable pub everything : Unit {0}
-unfolding word16 le16 part zeros overFront all isZero same pieces join holds without put allOf implies inRange
-    everyHeight firstRefusal blockHeight parentHeight entryCount parentDigest entries blockWellFormed newBlock
-    allEntries kind signer frameHeight signerMask frameDigest frameBlock isStatement isCertificate carriesBlock
-    carriesDigest frameWellFormed frameOf proposal blockVote dummyVote finalize blockCertificate dummyCertificate
-    finalizeCertificate inMask maskOf ones union belowBit weigh total bookSize headBytes contentBytes bodyBytes encode
-    decodeHeight decodeHeights decode last noHeight at holdsProposal isNotarized voteOf withEdition withHeight withHead
-    withPool withTimerFired flag pending quorum isDummy dummyRun digestAt extendsOver linkedWithin linked extends
-    isFinalized largestFinalized parentOf chainWithin chain logAt view log masksBelow blocksWellFormed contentZeros
-    sound isAccepted unlessRefused refusalNumber certificateKind finalizeKind moveNumber moveHeight newHeight newState
-    openInRange openRows openCall withProposal withNotarized withMasks withVote votersFor keepDummyVote keepFinalize
-    keepBlockCertificate keepDummyCertificate keepFinalizeCertificate readRows secondProposal leaderEquivocates
-    timerFires clashRows notarize keepProposal keepBlockVote keep kept deliverRows heard deliverCall deliverAll
-    packetFrames noFrames countedIn countAll acceptedOf packetRows packetCall certificateFrame firstStep isSome someOr
-    isRunning idleStep dummyVoteApplies dummyVoteStep offered unused written moved unlessMoveRefused newFinalized
-    outputApplies outputStep passApplies passStep proposeApplies proposedBlock proposeStep blockVoteApplies
-    blockVoteStep step afterMoves moveRows moveCall signalRows signalCall withPending stillPending submitRows submitCall
-    logSize sizeCall readPart readBuffer hasCertificate certificateIf certificatesAt certificatesTo everyCertificate
-    unlessFetchRefused fetchRows fetchCall effect bookAfterAll asReplicaHeight asReplica observedHeight observed
-    observerBookSize observedContentBytes observedBodyBytes encodeObserver decodeObservedHeight decodeObservedHeights
-    decodeObserver replicaHead observedZero observerSound newObservedHeight newObserver observerOpenRows
-    observerOpenCall observerKept observerLogSize observerDeliverRows observerDeliverCall observerStep observerMoved
-    observerMoveRows observerMoveCall observerSizeCall observerReadPart observerReadBuffer observation
+unfolding word16 le16 part zeros overFront all isZero same pieces join holds without put distinctAfter distinct
+    noneTwice allOf implies inRange everyHeight firstRefusal blockHeight parentHeight entryCount parentDigest entries
+    blockWellFormed newBlock allEntries kind signer frameHeight signerMask frameDigest frameBlock isStatement
+    isCertificate carriesBlock carriesDigest frameWellFormed frameOf proposal blockVote dummyVote finalize
+    blockCertificate dummyCertificate finalizeCertificate inMask maskOf ones union belowBit weigh total bookSize
+    headBytes contentBytes bodyBytes encode decodeHeight decodeHeights decode last noHeight at holdsProposal isNotarized
+    voteOf withEdition withHeight withHead withPool withTimerFired flag pending quorum isDummy dummyRun digestAt
+    extendsOver linkedWithin linked extends isFinalized largestFinalized parentOf chainWithin chain logAt view log
+    masksBelow blocksWellFormed contentZeros sound isAccepted unlessRefused refusalNumber certificateKind finalizeKind
+    moveNumber moveHeight newHeight newState openInRange openRows openCall withProposal withNotarized withMasks withVote
+    votersFor keepDummyVote keepFinalize keepBlockCertificate keepDummyCertificate keepFinalizeCertificate readRows
+    secondProposal leaderEquivocates timerFires clashRows notarize keepProposal keepBlockVote keep kept deliverRows
+    heard deliverCall deliverAll packetFrames noFrames countedIn countAll acceptedOf packetRows packetCall
+    certificateFrame firstStep isSome someOr isRunning idleStep dummyVoteApplies dummyVoteStep offered unused written
+    moved unlessMoveRefused newFinalized outputApplies outputStep passApplies passStep proposeApplies proposedBlock
+    proposeStep blockVoteApplies blockVoteStep step afterMoves moveRows moveCall signalRows signalCall withPending
+    stillPending submitRows submitCall logSize sizeCall readPart readBuffer hasCertificate certificateIf certificatesAt
+    certificatesTo everyCertificate unlessFetchRefused fetchRows fetchCall effect bookAfterAll asReplicaHeight asReplica
+    observedHeight observed observerBookSize observedContentBytes observedBodyBytes encodeObserver decodeObservedHeight
+    decodeObservedHeights decodeObserver replicaHead observedZero observerSound newObservedHeight newObserver
+    observerOpenRows observerOpenCall observerKept observerLogSize observerDeliverRows observerDeliverCall observerStep
+    observerMoved observerMoveRows observerMoveCall observerSizeCall observerReadPart observerReadBuffer observation
     observerBookAfterAll
 everything = tt

@@ -37,6 +37,7 @@ pub mod UnionLaws
 pub mod LogLaws
 pub mod PendingLaws
 pub mod EntriesLaws
+pub mod DistinctLaws
 pub mod WriteLaws
 pub mod ChangeLaws
 pub mod VoteLaws

@@ -1,5 +1,6 @@
 -- Every rule of document 01 as a definition, and then the laws of these definitions.
 pub mod Bytes
+pub mod Distinct
 pub mod Tests
 pub mod Block
 pub mod Frame

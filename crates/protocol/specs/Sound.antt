@@ -23,7 +23,7 @@ view s = record {
   finalizeMask = λ h. at s h .finalizeMask;
 }
 
--- the entries of the finalized chain (document 01: the register)
+-- the distinct entries of the finalized chain (documents 01 and 02: the register)
 unfoldable pub log : State → List Bytes
 log s = logOf (view s) (s .finalized)
 

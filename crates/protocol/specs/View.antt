@@ -5,6 +5,7 @@ use mathlib.Core.List.{List, [], _∷_, _++_}
 use mathlib.Core.Option.{Option, some, none}
 use lib.Dec.{eqb, leb, ltb}
 use Rattle.protocol.specs.Bytes.{Bytes, zeros, same}
+use Rattle.protocol.specs.Distinct.{distinct}
 use Rattle.protocol.specs.Tests.{allOf}
 use Rattle.protocol.specs.Block.{digestSize, parentHeight, parentDigest, allEntries}
 use Rattle.protocol.specs.Mask.{inMask, weigh, total}
@@ -95,10 +96,12 @@ chainWithin (suc fuel) v h =
 unfoldable pub chain : View → ℕ → List Bytes
 chain v h = chainWithin h v h
 
--- the entries of the chain that ends in height `h`, oldest block first (document 01: the register, at h = g)
+-- the entries of the chain that ends in height `h`, oldest block first, with their repeats (document 02, at h = g: the
+-- register before shortening)
 unfoldable pub logAt : View → ℕ → List Bytes
 logAt v h = allEntries (chain v h)
 
--- the log of a view whose finalized height is `g`
+-- the log of a view whose finalized height is `g`: an entry equal to an earlier one in the chain is the same filing, so
+-- that each counts at its first place only
 abbrev pub logOf : View → ℕ → List Bytes
-logOf v g = logAt v g
+logOf v g = distinct (logAt v g)

@@ -9,6 +9,8 @@ use mathlib.Core.List.{List, [], _∷_, _++_, append-assoc, append-nil}
 use lib.Seq.{take-append-seam}
 use Rattle.protocol.specs.Block.{allEntries, parentHeight}
 use Rattle.protocol.specs.Bytes.{Bytes, join}
+use Rattle.protocol.specs.Distinct.{distinctAfter, distinct}
+use Rattle.protocol.specs.Laws.DistinctLaws.{distinct-append}
 use Rattle.protocol.specs.Laws.TestsLaws.{and-both, le-or-lt}
 use Rattle.protocol.specs.Laws.PiecesLaws.{join-append}
 use Rattle.protocol.specs.Laws.ChainLaws.{chain-suc}
@@ -101,9 +103,16 @@ module _ (digest : Bytes → Bytes) where
         let a′ = and-both (linked digest v′ g′) (quorum v′ (v′ .finalizeMask g′)) q′ in
         begins g′ (suc i) g′ (omega arith) (a .0) (a′ .0) (λ z. apart i (a .1) z) le
 
--- ---- from chains to bytes
-pub prefix-bytes : (xs ys : List Bytes) → Prefix xs ys → Begins (join (allEntries xs)) (join (allEntries ys))
+-- ---- from chains to bytes: a beginning gives a beginning of the distinct entries
+pub prefix-bytes : (xs ys : List Bytes) → Prefix xs ys →
+    Begins (join (distinct (allEntries xs))) (join (distinct (allEntries ys)))
 unfolding Begins Prefix
 prefix-bytes xs ys (zs, e) =
-    rw (e, allEntries-append xs zs, join-append (allEntries xs) (allEntries zs))
-    (sym (take-append-seam (join (allEntries xs)) (join (allEntries zs))))
+    let more = distinctAfter (allEntries xs) (allEntries zs) in
+    rw (
+      e,
+      allEntries-append xs zs,
+      distinct-append (allEntries xs) (allEntries zs),
+      join-append (distinct (allEntries xs)) more,
+    )
+    (sym (take-append-seam (join (distinct (allEntries xs))) (join more)))

@@ -8,6 +8,7 @@ use mathlib.Core.Bool.{true, false≢true}
 use lib.ListN.{length, List·getD-eq-default}
 use Rattle.protocol.specs.SoundState.{CertifiedState}
 use Rattle.protocol.specs.Bytes.{Bytes}
+use Rattle.protocol.specs.Distinct.{distinct}
 use Rattle.protocol.specs.Laws.FormedLaws.{formed}
 use Rattle.protocol.specs.State.{State, last, at, isNotarized, noHeight}
 use Rattle.protocol.specs.View.{View, linked, extends, isFinalized, parentOf, logAt}
@@ -147,7 +148,7 @@ module _ (digest : Bytes → Bytes) (s : State) (facts : CertifiedState digest s
         sequence = genesis;
         finalized = Paper.FinalizedBlockchain.start;
         its-height = sym z;
-        its-log = sym (ap (λ (k : ℕ). logAt (view s) k) z ∙ log-zero (view s));
+        its-log = ap distinct (sym (ap (λ (k : ℕ). logAt (view s) k) z ∙ log-zero (view s)));
       }
       go g e (inr z) =
           let f = finalized-sound digest (view s) (s .finalized) z in
@@ -156,7 +157,7 @@ module _ (digest : Bytes → Bytes) (s : State) (facts : CertifiedState digest s
             sequence = c .sequence;
             finalized = Paper.FinalizedBlockchain.ended (c .notarized) (rw (c .its-height) (f .hasQuorum));
             its-height = c .its-height;
-            its-log = c .its-log;
+            its-log = ap distinct (c .its-log);
           }
 
   pub in-the-papers-terms : InThePapersTerms digest s

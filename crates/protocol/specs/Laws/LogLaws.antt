@@ -1,12 +1,15 @@
--- The log of a sound state: it ends at a linked height, and how many entries and bytes it has.
+-- The log of a state: whose entries it has, and of a sound one, that it ends at a linked height, and how many entries
+-- and bytes it has.
 use Prim.Native.Nat.{ℕ, zero, suc, _*_, _≤_}
 use native.Mathlib.Omega.{arith}
 use mathlib.Core.Path.{_≡_, ap, _∙_}
 use mathlib.Core.Logic.{_⊎_, inl, inr}
 use mathlib.Core.Bool.{true}
+use mathlib.Core.List.{List}
 use lib.ListN.{length}
 use Rattle.protocol.specs.SoundState.{CertifiedState}
-use Rattle.protocol.specs.Bytes.{Bytes, join}
+use Rattle.protocol.specs.Bytes.{Bytes, join, holds, without}
+use Rattle.protocol.specs.Distinct.{noneTwice}
 use Rattle.protocol.specs.Block.{blockWellFormed}
 use Rattle.protocol.specs.State.{State, maximumEntries}
 use Rattle.protocol.specs.View.{linked, isFinalized, quorum, logAt}
@@ -15,8 +18,31 @@ use Rattle.protocol.specs.Laws.TestsLaws.{and-both}
 use Rattle.protocol.specs.Laws.SoundLaws.{linked-in}
 use Rattle.protocol.specs.Laws.CodecLaws.{notarized-in}
 use Rattle.protocol.specs.Laws.LinkedLaws.{linked-zero}
-use Rattle.protocol.specs.Laws.ChainLaws.{log-length, log-bound}
+use Rattle.protocol.specs.Laws.PiecesLaws.{length-join}
+use Rattle.protocol.specs.Laws.DistinctLaws.{distinct-short, every-distinct, holds-distinct, without-distinct}
+use Rattle.protocol.specs.Laws.DistinctLaws.{distinct-once, distinct-same}
+use Rattle.protocol.specs.Laws.ChainLaws.{log-sized, log-bound}
 
+-- ---- of any state: the log has the finalized chain's entries, none of them twice
+module _ (s : State) where
+  pub log-holds : (x : Bytes) → holds x (log s) ≡ holds x (logAt (view s) (s .finalized))
+  unfolding log
+  log-holds x = holds-distinct x (logAt (view s) (s .finalized))
+
+  pub log-lacks : (es : List Bytes) → without (log s) es ≡ without (logAt (view s) (s .finalized)) es
+  unfolding log
+  log-lacks es = without-distinct (logAt (view s) (s .finalized)) es
+
+  pub log-once : noneTwice (log s) ≡ true
+  unfolding log
+  log-once = distinct-once (logAt (view s) (s .finalized))
+
+  -- where the chain has none twice, the log is all its entries
+  pub log-whole : noneTwice (logAt (view s) (s .finalized)) ≡ true → log s ≡ logAt (view s) (s .finalized)
+  unfolding log
+  log-whole e = distinct-same (logAt (view s) (s .finalized)) e
+
+-- ---- of a sound state
 module _ (digest : Bytes → Bytes) (s : State) (facts : CertifiedState digest s) where
   -- every notarized block is well formed
   pub view-formed : (h : ℕ) → 1 ≤ h → view s .hasBlock h ≡ true → blockWellFormed h (view s .block h) ≡ true
@@ -32,12 +58,9 @@ module _ (digest : Bytes → Bytes) (s : State) (facts : CertifiedState digest s
       go (inl z) = ap (linked digest (view s)) z ∙ linked-zero digest (view s)
       go (inr z) = unfold isFinalized in and-both _ (quorum (view s) (view s .finalizeMask (s .finalized))) z .0
 
-  -- ---- the log that ends at any linked height: at most eight entries for each height
+  -- ---- the entries of the chain that ends at any linked height: at most eight for each height
   module _ (h : ℕ) (e : linked digest (view s) h ≡ true) where
-    pub log-bytes-at : length (join (logAt (view s) h)) ≡ 16 * length (logAt (view s) h)
-    log-bytes-at = log-length digest (view s) view-formed h e
-
-    pub log-few-at : length (logAt (view s) h) ≤ maximumEntries
+    log-few-at : length (logAt (view s) h) ≤ maximumEntries
     log-few-at =
         let bound = log-bound digest (view s) view-formed h e in
         let within = linked-in digest s h e in
@@ -47,8 +70,12 @@ module _ (digest : Bytes → Bytes) (s : State) (facts : CertifiedState digest s
   -- ---- the log
   pub log-bytes : length (join (log s)) ≡ 16 * length (log s)
   unfolding log
-  log-bytes = log-bytes-at (s .finalized) finalized-linked
+  log-bytes = length-join 16 (log s)
+      (every-distinct (log-sized digest (view s) view-formed (s .finalized) finalized-linked))
 
   pub log-few : length (log s) ≤ maximumEntries
   unfolding log
-  log-few = log-few-at (s .finalized) finalized-linked
+  log-few =
+      let all = log-few-at (s .finalized) finalized-linked in
+      let short = distinct-short (logAt (view s) (s .finalized)) in
+      omega arith
