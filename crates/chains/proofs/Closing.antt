@@ -7,7 +7,7 @@ use mathlib.Core.Bool.{true}
 use mathlib.Core.List.{List, [], _∷_, _++_}
 use lib.ListN.{length, take, length-take}
 use Rattle.protocol.specs.Every.{Every}
-use Rattle.protocol.specs.Bytes.{Bytes, part, pieces, without, put, Sized as SizedBytes}
+use Rattle.protocol.specs.Bytes.{Bytes, part, pieces, holds, without, put, Sized as SizedBytes}
 use Rattle.protocol.specs.Block.{blockWellFormed}
 use Rattle.protocol.specs.State.{State, decode, encode, last, pending, withPool, bookHeights, maximumPending}
 use Rattle.protocol.specs.Sound.{view, log}
@@ -17,6 +17,7 @@ use Rattle.protocol.specs.Laws.StateLaws.{decode-encode}
 use Rattle.protocol.specs.Laws.PoolLaws.{moved, moved-view, moved-last, moved-pending, moved-pieces, moved-shaped}
 use Rattle.protocol.specs.Laws.PoolLaws.{moved-entry, moved-more, without-short}
 use Rattle.protocol.specs.Laws.EntriesLaws.{lacked-sized, pending-all}
+use Rattle.protocol.specs.Laws.LogLaws.{log-holds}
 use Rattle.book_fields.specs.Book.{Ready}
 use Rattle.book_fields.specs.Laws.BookLaws.{ready-state, ready-moved}
 use Rattle.sha256.specs.Digest.{sha256}
@@ -84,10 +85,9 @@ module _ (book : Bytes) (r : Ready book) (few : decode book .pendingCount ≤ ma
               (sym closed-view) (w .formed);
         }
 
-    pub closed-log : (finalized : ℕ) → finalized ≡ decode book .finalized →
-        logAt (view (decode after)) finalized ≡ log (decode book)
-    unfolding log
-    closed-log finalized e = rw (closed-view, e)
+    pub closed-log : (x : Bytes) (finalized : ℕ) → finalized ≡ decode book .finalized →
+        holds x (logAt (view (decode after)) finalized) ≡ holds x (log (decode book))
+    closed-log x finalized e = rw (closed-view, e) (sym (log-holds (decode book) x))
 
     -- place `k` is still as it was
     pub closed-place : part (decode after .pool) (16 * k) 16 ≡ part (decode book .pool) (16 * k) 16

@@ -12,12 +12,13 @@ use Rattle.protocol.specs.Bytes.{Bytes, part, same, holds, overFront, without, 
 use Rattle.protocol.specs.Laws.BytesLaws.{length-part}
 use Rattle.protocol.specs.Block.{newBlock}
 use Rattle.protocol.specs.State.{State, decode, pending, maximumPending}
-use Rattle.protocol.specs.Sound.{view, log}
+use Rattle.protocol.specs.Sound.{view}
 use Rattle.protocol.specs.View.{logAt}
 use Rattle.protocol.specs.Submit.{stillPending}
 use Rattle.protocol.specs.Laws.CodecLaws.{decode-shaped}
 use Rattle.protocol.specs.Laws.EntriesLaws.{pending-next, pending-done, pending-all, holds-first, holds-next}
 use Rattle.protocol.specs.Laws.EntriesLaws.{holds-none}
+use Rattle.protocol.specs.Laws.LogLaws.{log-lacks}
 use Rattle.protocol.specs.Laws.BlockLaws.{new-block-size}
 use Rattle.protocol.specs.Laws.BuildLaws.{block-more}
 use Rattle.protocol.specs.Laws.FrontLaws.{front-again}
@@ -60,8 +61,8 @@ one-more es entry p q = rw p (sym (ap length q ∙ length-append es (entry ∷ [
 
 pub all-stay : (s : State) (finalized k : ℕ) → finalized ≡ s .finalized → s .pendingCount ≤ k →
     without (logAt (view s) finalized) (take k (pending s)) ≡ stillPending s
-unfolding stillPending log
-all-stay s finalized k p h = rw (p, pending-all s k h)
+unfolding stillPending
+all-stay s finalized k p h = rw (p, pending-all s k h) (sym (log-lacks s (pending s)))
 
 -- ---- a block that is filled
 pub begun-again : (new buffer : Bytes) {after : Bytes} → after ≡ overFront new buffer → after ≡ overFront new after

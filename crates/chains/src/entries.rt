@@ -4,22 +4,14 @@ ghost use mathlib.Core.Path.{_≡_};
 ghost use mathlib.Core.List.{[], _∷_, _++_};
 ghost use Prim.Native.Nat.{_*_, _<_, _≤_};
 ghost use lib.ListN.{length};
-ghost use Rattle.protocol.specs.Bytes.{join, holds, overFront};
+ghost use Rattle.protocol.specs.Bytes.{holds, overFront};
 ghost use Rattle.protocol.specs.Block.{entries, newBlock};
-ghost use Rattle.protocol.specs.State.{decode, pending, maximumPending, maximumEntries};
+ghost use Rattle.protocol.specs.State.{decode, pending, maximumPending};
 ghost use Rattle.protocol.specs.View.{logAt};
 ghost use Rattle.protocol.specs.Move.{offered};
 ghost use Rattle.protocol.specs.Submit.{stillPending, withPending};
 ghost use Rattle.book_fields.specs.Book.{Readable, Ready, bookView, recoded};
 ghost use Rattle.chains.specs.Walkable.{Walkable};
-
-// How many entries the chain that ends in height `h` has.
-pub fn chain_entries(book: &[u8], h: usize) -> usize
-    requires { ⌜ Walkable (now book) h ⌝ }
-    ensures { λ r. ⌜ (r ≡ length (logAt (bookView (now (book .entry))) h)) × (r ≤ maximumEntries) ⌝ }
-{
-    crate::chains::chain_entries(Kind::Replica, book, h)
-}
 
 // Whether the chain that ends in height `h` has this entry.
 pub fn chain_holds(book: &[u8], h: usize, entry: &[u8]) -> bool
@@ -27,17 +19,6 @@ pub fn chain_holds(book: &[u8], h: usize, entry: &[u8]) -> bool
     ensures { λ r. ⌜ r ≡ holds (now (entry .entry)) (logAt (bookView (now (book .entry))) h) ⌝ }
 {
     crate::chains::chain_holds(Kind::Replica, book, h, entry)
-}
-
-// Copies the `count` entries of the chain that ends in height `h` to the front of the buffer, oldest first.
-pub fn copy_chain(book: &[u8], h: usize, count: usize, buffer: &mut [u8])
-    requires { ⌜ Walkable (now book) h ⌝ }
-    requires { ⌜ count ≡ length (logAt (bookView (now book)) h) ⌝ }
-    requires { ⌜ 16 * count ≤ length (now buffer) ⌝ }
-    ensures { λ _. ⌜ now (buffer .exit) ≡
-        overFront (join (logAt (bookView (now (book .entry))) h)) (now (buffer .entry)) ⌝ }
-{
-    crate::chains::copy_chain(Kind::Replica, book, h, count, buffer)
 }
 
 // Makes the block of height `c` on the block of height `j`, with the first eight pending entries that the chain ending

@@ -91,10 +91,6 @@ module _ (digest : Bytes → Bytes) (v : View) (formed : (h : ℕ) → 1 ≤ h �
       log-induction (λ i log. Every (Sized 16) log) none
       (λ i j log l p w. every-append p (entries-sized (suc i) (v .block (suc i)) w)) h h (omega arith) e
 
-  -- the number of a log's bytes
-  pub log-length : (h : ℕ) → linked digest v h ≡ true → length (join (logAt v h)) ≡ 16 * length (logAt v h)
-  log-length h e = length-join 16 (logAt v h) (log-sized h e)
-
   pub log-bound : (h : ℕ) → linked digest v h ≡ true → length (logAt v h) ≤ 8 * h
   log-bound h e =
       log-induction (λ i log. length log ≤ 8 * i) (omega arith)

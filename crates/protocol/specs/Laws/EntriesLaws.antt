@@ -19,23 +19,9 @@ use Rattle.protocol.specs.Laws.ViewLaws.{log-zero}
 use Rattle.protocol.specs.Laws.PoolLaws.{without-append, entry-stays, entry-leaves, every-without}
 
 -- ---- the entries of a block
-pub entries-next : (block : Bytes) (k : ℕ) → k < entryCount block →
-    drop k (entries block) ≡ part block (48 + 16 * k) 16 ∷ drop (suc k) (entries block)
-unfolding entries
-entries-next block k h =
-    pieces-next 16 (entryCount block) (drop 48 block) k h ∙ unfold part in rw drop-drop
-
-pub entries-done : (block : Bytes) (k : ℕ) → entryCount block ≤ k → drop k (entries block) ≡ []
-unfolding entries
-entries-done block k h = pieces-done 16 (entryCount block) (drop 48 block) k h
-
 pub entries-length : (block : Bytes) → length (entries block) ≡ entryCount block
 unfolding entries
 entries-length block = length-pieces 16 (entryCount block) (drop 48 block)
-
-pub join-entries : (block : Bytes) → join (entries block) ≡ take (16 * entryCount block) (drop 48 block)
-unfolding entries
-join-entries block = join-pieces 16 (entryCount block) (drop 48 block)
 
 -- ---- whether a list has an entry
 pub holds-first : (x y : Bytes) (ys : List Bytes) → same x y ≡ true → holds x (y ∷ ys) ≡ true

@@ -30,14 +30,6 @@ pub goes-on : (front bytes before new after : Bytes) (k : ℕ) → before ≡ ov
     after ≡ put before k new → after ≡ overFront (front ++ new) bytes
 goes-on front bytes before new after k e size f = f ∙ rw e (put-next front bytes new k size)
 
--- writing before what is written
-pub front-join : (a b buffer : Bytes) (k : ℕ) → length a ≡ k → k ≤ length buffer →
-    overFront a (put buffer k b) ≡ overFront (a ++ b) buffer
-unfolding overFront put
-front-join a b buffer k size fits =
-    rw (length-append, size, drop-at (take k buffer) (b ++ drop (k + length b) buffer) k (length-take-le k buffer fits))
-    (sym (append-assoc a b (drop (k + length b) buffer)))
-
 -- writing over what is written
 pub front-again : (new old buffer : Bytes) → length new ≡ length old →
     overFront new (overFront old buffer) ≡ overFront new buffer

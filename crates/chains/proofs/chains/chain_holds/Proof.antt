@@ -9,7 +9,7 @@ use Rattle.protocol.specs.View.{logAt}
 use Rattle.chains.specs.Walkable.{WalkableAs}
 use Rattle.book_fields.specs.Book.{viewOf}
 use Rattle.protocol.specs.Laws.EntriesLaws.{log-start, holds-none}
-use Rattle.chains.proofs.ChainWalk.{walk-step, walk-parent, walk-found, walk-on}
+use Rattle.chains.proofs.ChainWalk.{walk-step, walk-parent, walk-found, walk-on, all-entries}
 use Rattle.chains.proofs.chains.chain_holds.Statement.{statement}
 use Rattle.chains.proofs.chains.chain_holds.Tie as tie
 
@@ -29,29 +29,39 @@ block-requires c κs =
     let high = w .high in
     (w .shown, record { low = omega arith; high = high })
 
+entry-count-requires : tie.Need-entry-count-requires Inv-loop μ-loop
+entry-count-requires c κs =
+    let step = walk-step (c .before .before .loop .inv .0) (c .before .loop-test .taken) (c .block .ensures .0) in
+    step .size
+
 block-holds-requires : tie.Need-block-holds-requires Inv-loop μ-loop
 block-holds-requires c κs =
-    let step = walk-step (c .before .before .loop .inv .0) (c .before .loop-test .taken) (c .block .ensures .0) in
-    (step .size, step .few)
+    let turn = c .before in
+    let step = walk-step (turn .before .before .loop .inv .0) (turn .before .loop-test .taken)
+    (turn .block .ensures .0) in
+    (step .size, omega arith)
 
 returns : tie.Need-returns Inv-loop μ-loop
 returns c =
-    let turn = c .before .before in
+    let counted = c .before .before in
+    let turn = counted .before in
     let loop = turn .before .before .loop in
     let entry = turn .before .before .before .before .before .args .entry .now in
     let step = walk-step (loop .inv .0) (turn .before .loop-test .taken) (turn .block .ensures .0) in
-    sym (loop .inv .1 ∙ walk-found entry step (sym (c .before .block-holds .ensures) ∙ c .if1 .taken))
+    let all = all-entries (turn .block .result .now) _ (counted .entry-count .ensures .0) in
+    sym (loop .inv .1 ∙ walk-found entry step
+    (ap (holds entry) (sym all) ∙ sym (c .before .block-holds .ensures) ∙ c .if1 .taken))
 
 parent-height-requires : tie.Need-parent-height-requires Inv-loop μ-loop
 parent-height-requires c κs =
-    let turn = c .before .before in
+    let turn = c .before .before .before in
     let step = walk-step (turn .before .before .loop .inv .0) (turn .before .loop-test .taken)
     (turn .block .ensures .0) in
     step .size
 
 loop-less : tie.Need-loop-less Inv-loop μ-loop
 loop-less c =
-    let turn = c .before .before .before in
+    let turn = c .before .before .before .before in
     let step = walk-step (turn .before .before .loop .inv .0) (turn .before .loop-test .taken)
     (turn .block .ensures .0) in
     omega arith
@@ -60,14 +70,16 @@ loop-again : tie.Need-loop-again Inv-loop μ-loop
 loop-again c =
     let after-if1 = c .before in
     let after-block-holds = after-if1 .before in
-    let turn = after-block-holds .before in
+    let counted = after-block-holds .before in
+    let turn = counted .before in
+    let all = all-entries (turn .block .result .now) _ (counted .entry-count .ensures .0) in
     let loop = turn .before .before .loop in
     let entry = turn .before .before .before .before .before .args .entry .now in
     let step = walk-step (loop .inv .0) (turn .before .loop-test .taken) (turn .block .ensures .0) in (
       walk-parent step (c .parent-height .ensures .0),
       loop .inv .1
           ∙ walk-on entry step (c .parent-height .ensures .0)
-          (sym (after-block-holds .block-holds .ensures) ∙ after-if1 .if1 .left),
+          (ap (holds entry) (sym all) ∙ sym (after-block-holds .block-holds .ensures) ∙ after-if1 .if1 .left),
     )
 
 returns-2 : tie.Need-returns-2 Inv-loop μ-loop
@@ -83,5 +95,5 @@ returns-2 c =
 pub chain-holds-spec : {M : Type 1} → statement M
 chain-holds-spec =
     tie.close
-    (tie.spec Inv-loop μ-loop loop-holds block-requires block-holds-requires returns parent-height-requires loop-less
+    (tie.spec Inv-loop μ-loop loop-holds block-requires entry-count-requires block-holds-requires returns parent-height-requires loop-less
     loop-again returns-2)

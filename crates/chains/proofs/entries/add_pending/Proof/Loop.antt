@@ -52,5 +52,5 @@ module _ (at : tie.At-loop Inv-loop μ-loop) where
       found ≡ holds entry (log s)
   found-now entry e =
       let finalized = at .before .before .before .finalized in
-      e ∙ ap (holds entry) (closed-log book (start .pre .0) few (at .loop .k) within (at .loop .book) (at .loop .inv .2)
-      (finalized .result) (finalized .ensures .0))
+      e ∙ closed-log book (start .pre .0) few (at .loop .k) within (at .loop .book) (at .loop .inv .2) entry
+      (finalized .result) (finalized .ensures .0)

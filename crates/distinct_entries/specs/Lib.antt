@@ -1,0 +1,3 @@
+-- What the contracts of the distinct entries speak of.
+pub mod Filter
+pub mod Taking
