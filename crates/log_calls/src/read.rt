@@ -1,4 +1,5 @@
 // Register size and Read: the log of a sound book, by length and by bytes.
+use book_fields::kind::Kind;
 ghost use mathlib.Core.Path.{_≡_};
 ghost use Prim.Native.Nat.{_≤_};
 ghost use lib.ListN.{length};
@@ -8,13 +9,13 @@ ghost use Rattle.protocol.specs.Sound.{log};
 ghost use Rattle.protocol.specs.Read.{readPart, readBuffer};
 ghost use Rattle.book_fields.specs.Book.{SoundBook};
 
-// How many entries the log of a sound book has. Reads two bytes of each of its blocks, 63 at most.
+// How many entries the log of a sound book has. Goes through the entries of its chain once.
 pub fn log_count(book: &[u8]) -> usize
     requires { ⌜ SoundBook sha (now book) ⌝ }
     ensures { λ r. ⌜ (r ≡ length (log (decode (now (book .entry))))) × (r ≤ maximumEntries) ⌝ }
 {
     let finalized = book_fields::head::finalized(book);
-    chains::entries::chain_entries(book, finalized)
+    distinct_entries::distinct::count_distinct(Kind::Replica, book, finalized)
 }
 
 // Copies the log of a sound book to the front of the buffer, if the buffer is long enough, and says how many bytes it
@@ -25,11 +26,5 @@ pub fn read_sound(book: &[u8], buffer: &mut [u8]) -> usize
     ensures buffer { λ _. ⌜ now (buffer .exit) ≡ readBuffer sha (now (book .entry)) (now (buffer .entry)) ⌝ }
 {
     let finalized = book_fields::head::finalized(book);
-    let count = log_count(book);
-    if 16 * count <= buffer.len() {
-        chains::entries::copy_chain(book, finalized, count, buffer);
-        16 * count
-    } else {
-        0
-    }
+    distinct_entries::distinct::read_distinct(Kind::Replica, book, finalized, buffer)
 }

@@ -11,13 +11,13 @@ ghost use Rattle.protocol.specs.Observer.{observerState};
 ghost use Rattle.protocol.specs.ObserverCalls.{observerReadPart, observerReadBuffer};
 ghost use Rattle.book_fields.specs.Book.{SoundObserverBook};
 
-// How many entries the log of a sound book has. Reads three bytes of each of its blocks, 63 at most.
+// How many entries the log of a sound book has. Goes through the entries of its chain once.
 pub fn log_count(book: &[u8]) -> usize
     requires { ⌜ SoundObserverBook sha (now book) ⌝ }
     ensures { λ r. ⌜ (r ≡ length (log (observerState (now (book .entry))))) × (r ≤ maximumEntries) ⌝ }
 {
     let g = finalized(book);
-    chains::chains::chain_entries(Kind::Observer, book, g)
+    distinct_entries::distinct::count_distinct(Kind::Observer, book, g)
 }
 
 // Copies the log of a sound book to the front of the buffer, if the buffer is long enough, and says how many bytes it
@@ -28,11 +28,5 @@ pub fn read_sound(book: &[u8], buffer: &mut [u8]) -> usize
     ensures buffer { λ _. ⌜ now (buffer .exit) ≡ observerReadBuffer sha (now (book .entry)) (now (buffer .entry)) ⌝ }
 {
     let g = finalized(book);
-    let count = log_count(book);
-    if 16 * count <= buffer.len() {
-        chains::chains::copy_chain(Kind::Observer, book, g, count, buffer);
-        16 * count
-    } else {
-        0
-    }
+    distinct_entries::distinct::read_distinct(Kind::Observer, book, g, buffer)
 }

@@ -18,6 +18,7 @@ pub mod PacketChecks
 pub mod MoveChecks
 pub mod MoveFrameChecks
 pub mod CallChecks
+pub mod RepeatChecks
 pub mod EffectChecks
 pub mod ObserverSoundChecks
 pub mod ObserverDeliverChecks

@@ -207,7 +207,7 @@ best-parents : map parents
 unfolding blocks parents
 best-parents = refl
 
--- ---- the log: oldest block first, repeats counted, nothing for the heights between
+-- ---- the entries of a chain: oldest block first, with their repeats, nothing for the heights between
 logs : logAt (chain 0 0 0) 0 ∷ logAt (chain 0 0 0) 1 ∷ logAt (chain 0 0 0) 2 ∷ logAt (chain 0 0 0) 3 ∷
     logAt (viewOf (notarizedBy7 first ∷ dummied 7 ∷ dummied 7 ∷ dummied 7 ∷ notarizedBy7 fifth ∷ [])) 5 ∷
     logAt (viewOf (notarizedBy7 first ∷ dummied 7 ∷ notarizedBy7 thirdAlone ∷ [])) 3 ∷ [] ≡

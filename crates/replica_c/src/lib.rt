@@ -196,5 +196,5 @@ pub extern "C" fn mavunilai_observer_read(book: &[u8], buffer: &mut [u8]) -> usi
 pub extern "C" fn mavunilai_interface() -> usize
     ensures { λ r. ⌜ r ≡ interfaceNumber ⌝ }
 {
-    3
+    4
 }

@@ -1,22 +1,21 @@
 -- What Register size and Read answer, and the chain that they walk.
-use Prim.Native.Nat.{ℕ, _*_, _≤_, _<_}
+use Prim.Native.Nat.{ℕ, _*_}
 use mathlib.Core.Path.{_≡_, sym, ap, _∙_}
 use mathlib.Core.Bool.{Bool, true, false, _&&_, cond}
-use mathlib.Core.List.{[]}
+use mathlib.Core.List.{List, []}
 use lib.ListN.{length, take, drop}
 use lib.Seq.{take-at}
 use lib.Dec.{leb}
-use borrow.Author.Tests.{le-leb, lt-leb}
 use Rattle.sha256.specs.Digest.{sha256}
-use Rattle.protocol.specs.SoundState.{CertifiedState}
 use Rattle.protocol.specs.Bytes.{Bytes, join, overFront}
 use Rattle.protocol.specs.State.{State, decode}
 use Rattle.protocol.specs.Sound.{view, sound, log}
-use Rattle.protocol.specs.View.{logAt}
-use Rattle.protocol.specs.Laws.SoundLaws.{sound-decode, certified-state}
-use Rattle.protocol.specs.Laws.LogLaws.{view-formed, finalized-linked, log-bytes}
+use Rattle.protocol.specs.View.{logOf}
+use Rattle.protocol.specs.Laws.SoundLaws.{certified-state}
+use Rattle.protocol.specs.Laws.LogLaws.{view-formed, finalized-linked}
 use Rattle.protocol.specs.Read.{logSize, sizeCall, readPart, readBuffer}
 use Rattle.chains.specs.Walkable.{Walkable}
+use Rattle.distinct_entries.specs.Taking.{partRead}
 use Rattle.answers.specs.declared.answer.Size.the-variants as Size
 use Rattle.answers.specs.Answers.{sizeAnswer}
 use Rattle.book_fields.specs.Book.{SoundBook}
@@ -31,9 +30,9 @@ walkable book g s e =
       formed = view-formed sha256 (decode book) (certified-state (s .state));
     })
 
-pub log-at : (s : State) (g : ℕ) → g ≡ s .finalized → logAt (view s) g ≡ log s
+pub log-at : (s : State) (g : ℕ) → g ≡ s .finalized → logOf (view s) g ≡ log s
 unfolding log
-log-at s g e = ap (λ (h : ℕ). logAt (view s) h) e
+log-at s g e = ap (λ (h : ℕ). logOf (view s) h) e
 
 -- ---- Register size
 module _ (book : Bytes) where
@@ -62,19 +61,14 @@ module _ (is-sound : Bool) (s : State) (buffer : Bytes) where
   pub unsound-reads : is-sound ≡ false → Reads (partOf is-sound s buffer) buffer 0 buffer
   unsound-reads e = none-read (rw e)
 
-  module _ (e : is-sound ≡ true) (count : ℕ) (counted : count ≡ length (log s)) where
-    pub short-reads : length buffer < 16 * count → Reads (partOf is-sound s buffer) buffer 0 buffer
-    short-reads h = none-read (rw (e, lt-leb (16 * length (log s)) (length buffer) (rw counted at h)))
-
-    pub log-reads : CertifiedState sha256 s → (after : Bytes) (g : ℕ) → 16 * count ≤ length buffer →
-        g ≡ s .finalized → after ≡ overFront (join (logAt (view s) g)) buffer →
-        Reads (partOf is-sound s buffer) buffer (16 * count) after
-    log-reads facts after g h f written =
-        let whole : partOf is-sound s buffer ≡ join (log s) =
-        rw (e, le-leb (16 * length (log s)) (length buffer) (rw counted at h)) in (
-          ap (λ (k : ℕ). 16 * k) counted ∙ sym (log-bytes sha256 s facts) ∙ sym (ap length whole),
-          written ∙ ap (λ (p : Bytes). overFront p buffer) (ap join (log-at s g f) ∙ sym whole),
-        )
+  -- a sound book's part is what is read of the chain that ends at its finalized height
+  pub sound-reads : is-sound ≡ true → (g : ℕ) → g ≡ s .finalized → (count : ℕ) (after : Bytes) →
+      count ≡ length (partRead (view s) g buffer) → after ≡ overFront (partRead (view s) g buffer) buffer →
+      Reads (partOf is-sound s buffer) buffer count after
+  sound-reads e g f count after counted written =
+      let same : partRead (view s) g buffer ≡ partOf is-sound s buffer =
+      ap (λ (l : List Bytes). cond (leb (16 * length l) (length buffer)) (join l) []) (log-at s g f) ∙ rw e in
+      (counted ∙ ap length same, written ∙ ap (λ (p : Bytes). overFront p buffer) same)
 
 -- the part at the buffer's front
 module _ (part buffer after : Bytes) (count : ℕ) (reads : Reads part buffer count after) where
@@ -92,19 +86,13 @@ module _ (book buffer : Bytes) where
   unfolding readPart readBuffer logSize
   read-unsound e = unsound-reads (sound sha256 book) (decode book) buffer e
 
-  module _ (e : sound sha256 book ≡ true) (count : ℕ) (counted : count ≡ length (log (decode book))) where
-    pub read-short : length buffer < 16 * count →
-        (0 ≡ length (readPart sha256 book buffer)) × (buffer ≡ readBuffer sha256 book buffer)
-    unfolding readPart readBuffer logSize
-    read-short h = short-reads (sound sha256 book) (decode book) buffer e count counted h
-
-    pub read-done : (after : Bytes) (g : ℕ) → 16 * count ≤ length buffer → g ≡ decode book .finalized →
-        after ≡ overFront (join (logAt (view (decode book)) g)) buffer →
-        (16 * count ≡ length (readPart sha256 book buffer)) × (after ≡ readBuffer sha256 book buffer)
-    unfolding readPart readBuffer logSize
-    read-done after g h f written =
-        log-reads (sound sha256 book) (decode book) buffer e count counted
-        (certified-state (sound-decode sha256 book e)) after g h f written
+  pub read-done : sound sha256 book ≡ true → (g : ℕ) → g ≡ decode book .finalized → (count : ℕ) (after : Bytes) →
+      count ≡ length (partRead (view (decode book)) g buffer) →
+      after ≡ overFront (partRead (view (decode book)) g buffer) buffer →
+      (count ≡ length (readPart sha256 book buffer)) × (after ≡ readBuffer sha256 book buffer)
+  unfolding readPart readBuffer logSize
+  read-done e g f count after counted written =
+      sound-reads (sound sha256 book) (decode book) buffer e g f count after counted written
 
 module _ (book buffer after : Bytes) (count : ℕ) (counted : count ≡ length (readPart sha256 book buffer))
     (written : after ≡ readBuffer sha256 book buffer) where

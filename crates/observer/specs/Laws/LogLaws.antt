@@ -1,23 +1,23 @@
 -- What Register size and Read of an observer answer, and the chain that they walk.
-use Prim.Native.Nat.{ℕ, _*_, _≤_, _<_}
+use Prim.Native.Nat.{ℕ, _*_}
 use mathlib.Core.Path.{_≡_}
 use mathlib.Core.Bool.{true, false}
 use lib.ListN.{length, take}
 use Rattle.sha256.specs.Digest.{sha256}
-use Rattle.protocol.specs.Bytes.{Bytes, join, overFront}
+use Rattle.protocol.specs.Bytes.{Bytes, overFront}
 use Rattle.protocol.specs.Sound.{view, log}
-use Rattle.protocol.specs.View.{logAt}
 use Rattle.protocol.specs.Observer.{observerState}
 use Rattle.protocol.specs.ObserverSound.{observerSound}
 use Rattle.protocol.specs.ObserverCalls.{observerLogSize, observerSizeCall, observerReadPart, observerReadBuffer}
-use Rattle.protocol.specs.Laws.ObserverSoundLaws.{sound-observer, certified-observer}
+use Rattle.protocol.specs.Laws.ObserverSoundLaws.{certified-observer}
 use Rattle.protocol.specs.Laws.LogLaws.{view-formed, finalized-linked}
 use Rattle.chains.specs.Walkable.{WalkableAs}
+use Rattle.distinct_entries.specs.Taking.{partRead}
 use Rattle.answers.specs.declared.answer.Size.the-variants as Size
 use Rattle.answers.specs.Answers.{sizeAnswer}
 use Rattle.book_fields.specs.Book.{SoundObserverBook}
 use Rattle.book_fields.specs.declared.kind.Kind.the-variants.{Observer}
-use Rattle.log_calls.specs.Laws.ReadLaws.{unsound-reads, short-reads, log-reads, part-front, part-length}
+use Rattle.log_calls.specs.Laws.ReadLaws.{unsound-reads, sound-reads, part-front, part-length}
 
 -- the log's chain
 pub observer-walkable : (book : Bytes) (g : ℕ) → SoundObserverBook sha256 book → g ≡ observerState book .finalized →
@@ -50,20 +50,13 @@ module _ (book buffer : Bytes) where
   unfolding observerReadPart observerReadBuffer observerLogSize
   observer-read-unsound e = unsound-reads (observerSound sha256 book) (observerState book) buffer e
 
-  module _ (e : observerSound sha256 book ≡ true) (count : ℕ) (counted : count ≡ length (log (observerState book)))
-    where
-      pub observer-read-short : length buffer < 16 * count →
-          (0 ≡ length (observerReadPart sha256 book buffer)) × (buffer ≡ observerReadBuffer sha256 book buffer)
-      unfolding observerReadPart observerReadBuffer observerLogSize
-      observer-read-short h = short-reads (observerSound sha256 book) (observerState book) buffer e count counted h
-
-      pub observer-read-done : (after : Bytes) (g : ℕ) → 16 * count ≤ length buffer →
-          g ≡ observerState book .finalized → after ≡ overFront (join (logAt (view (observerState book)) g)) buffer →
-          (16 * count ≡ length (observerReadPart sha256 book buffer)) × (after ≡ observerReadBuffer sha256 book buffer)
-      unfolding observerReadPart observerReadBuffer observerLogSize
-      observer-read-done after g h f written =
-          log-reads (observerSound sha256 book) (observerState book) buffer e count counted
-          (certified-observer (sound-observer sha256 book e)) after g h f written
+  pub observer-read-done : observerSound sha256 book ≡ true → (g : ℕ) → g ≡ observerState book .finalized →
+      (count : ℕ) (after : Bytes) → count ≡ length (partRead (view (observerState book)) g buffer) →
+      after ≡ overFront (partRead (view (observerState book)) g buffer) buffer →
+      (count ≡ length (observerReadPart sha256 book buffer)) × (after ≡ observerReadBuffer sha256 book buffer)
+  unfolding observerReadPart observerReadBuffer observerLogSize
+  observer-read-done e g f count after counted written =
+      sound-reads (observerSound sha256 book) (observerState book) buffer e g f count after counted written
 
 module _ (book buffer after : Bytes) (count : ℕ) (counted : count ≡ length (observerReadPart sha256 book buffer))
     (written : after ≡ observerReadBuffer sha256 book buffer) where

@@ -1,10 +1,13 @@
--- `is_known` meets its contract: pending or in the log, which ends at the finalized height.
+-- `is_known` meets its contract: pending or in the log, which has the entries of the chain that ends at the finalized
+-- height.
+use Prim.Native.Nat.{ℕ}
 use mathlib.Core.Path.{sym, ap, _∙_}
-use mathlib.Core.List.{List}
-use Rattle.protocol.specs.Bytes.{Bytes, holds}
+use Rattle.protocol.specs.Bytes.{holds}
 use Rattle.protocol.specs.State.{decode, pending}
-use Rattle.protocol.specs.Sound.{log}
-use Rattle.log_calls.specs.Laws.ReadLaws.{walkable, log-at}
+use Rattle.protocol.specs.View.{logAt}
+use Rattle.protocol.specs.Sound.{view, log}
+use Rattle.protocol.specs.Laws.LogLaws.{log-holds}
+use Rattle.log_calls.specs.Laws.ReadLaws.{walkable}
 use Rattle.log_calls.proofs.Numbers.{first-holds, second-holds}
 use borrow.Author.Needs.{needs}
 use Rattle.log_calls.proofs.submit.is_known.Statement.{statement}
@@ -29,8 +32,8 @@ returns-2 c =
     let entry = z .args .entry .now in
     second-holds (holds entry (pending s)) (holds entry (log s)) (c .chain-holds .result)
     (sym (after-is-pending .is-pending .ensures) ∙ after-if1 .if1 .left)
-    (c .chain-holds .ensures ∙ ap (λ (l : List Bytes). holds entry l)
-    (log-at s _ (after-finalized .finalized .ensures .0)))
+    (c .chain-holds .ensures ∙ ap (λ (h : ℕ). holds entry (logAt (view s) h)) (after-finalized .finalized .ensures .0)
+    ∙ sym (log-holds s entry))
 
 pub is-known-spec : {M : Type 1} → statement M
 is-known-spec =

@@ -8,8 +8,8 @@ use borrow.Author.Needs.{needs}
 use Rattle.observer.proofs.log.log_count.Statement.{statement}
 use Rattle.observer.proofs.log.log_count.Tie as tie
 
-chain-entries-requires : tie.Need-chain-entries-requires
-chain-entries-requires c κs =
+count-distinct-requires : tie.Need-count-distinct-requires
+count-distinct-requires c κs =
     let z = c .before .before in
     observer-walkable (z .args .book .now) (c .finalized .result) (z .pre) (c .finalized .ensures .0)
 
@@ -17,10 +17,10 @@ returns : tie.Need-returns
 returns c =
     let after-finalized = c .before in
     let z = after-finalized .before .before in (
-      c .chain-entries .ensures .0 ∙ ap length (log-at (observerState (z .args .book .now)) _
+      c .count-distinct .ensures .0 ∙ ap length (log-at (observerState (z .args .book .now)) _
           (after-finalized .finalized .ensures .0)),
-      c .chain-entries .ensures .1,
+      c .count-distinct .ensures .1,
     )
 
 pub log-count-spec : {M : Type 1} → statement M
-log-count-spec = tie.close (tie.spec (λ c κs. search needs) chain-entries-requires returns)
+log-count-spec = tie.close (tie.spec (λ c κs. search needs) count-distinct-requires returns)
