@@ -19,12 +19,25 @@ pub fn area(book: &[u8], height: Height, area: Area) -> &[u8] {
     book.get(range).unwrap_or(&[])
 }
 
-/// One of few entries, so that repeats are common. Its first byte is 0 to 3: request 2.13 takes no other.
+/// One of few entries, so that repeats are common, now and then one that differs from such a one in one byte. Its
+/// first byte is 0 to 3: request 2.13 takes no other.
 pub fn any_entry(random: &mut Random) -> [u8; ENTRY] {
-    let tag = random.byte_below(40);
-    let mut entry = [tag; ENTRY];
+    let tags = if random.one_in(4) { 2 } else { 40 };
+    let mut entry = [random.byte_below(tags); ENTRY];
     entry[0] %= 4;
+    if random.one_in(12) {
+        entry[random.index(ENTRY)] ^= 1;
+    }
     entry
+}
+
+/// The entries of a block, now and then one entry as often as it has places.
+pub fn any_entries(random: &mut Random) -> Vec<[u8; ENTRY]> {
+    let (count, alike) = (random.index(9), random.one_in(5));
+    match alike {
+        true => vec![any_entry(random); count],
+        false => (0..count).map(|_| any_entry(random)).collect(),
+    }
 }
 
 /// A mask: any, all, or all but one; seldom with a bit that names nobody.
@@ -64,8 +77,7 @@ pub fn any_block(random: &mut Random, book: &[u8], height: Height) -> Block {
         _ if random.one_in(24) => [random.byte(); 32],
         _ => sha256::digest(area(book, parent, Area::Notarized)),
     };
-    let entries = (0..random.below(9)).map(|_| any_entry(random)).collect();
-    Block { height, parent, digest, entries }
+    Block { height, parent, digest, entries: any_entries(random) }
 }
 
 /// A block for a height: the held one, the notarized one or another.

@@ -148,7 +148,7 @@ fn near_entries<C: Calls>(to: &mut Recorder<C>) {
         entry.iter_mut().skip(at).take(1).for_each(|byte| *byte ^= 1);
         entry
     };
-    let [low, high] = [0, 8].map(|from| (from..from + 8).map(other).collect::<Vec<_>>());
+    let [low, high] = [0..8, 8..16].map(|places| places.map(other).collect::<Vec<_>>());
     settled(to, &[vec![base, other(0), other(15), base]]);
     settled(to, &[vec![base], low, high, vec![other(15), base, other(0)]]);
     to.part("Nor are entries whose bytes stand in another order, or whose differences cancel out");

@@ -17,8 +17,9 @@ pub fn run<C: Calls>(to: &mut Recorder<C>) {
 /// Pages 1 and 2 of a station's book are certified, and one of them settles, if any.
 fn two_pages<C: Calls>(to: &mut Recorder<C>, leaders: &[u8], settled: Option<Height>) {
     to.open(BOOK, 4, 2, leaders);
-    let pages = pages(&[filings(&[1, 1, 2]), filings(&[2, 3, 1])]);
-    deliver(to, BOOK, &[page(7, &pages[0]), page(7, &pages[1])]);
+    for block in pages(&[filings(&[1, 1, 2]), filings(&[2, 3, 1])]) {
+        deliver(to, BOOK, &[page(7, &block)]);
+    }
     settled.into_iter().for_each(|height| deliver(to, BOOK, &[finalise(7, height)]));
 }
 
