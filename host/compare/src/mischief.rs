@@ -54,8 +54,8 @@ impl<A: Calls, B: Second> Network<'_, A, B> {
         }
     }
 
-    /// One proposal for a height, sent to all, that may carry entries again, if a dishonest replica leads the height and
-    /// nothing was proposed for it.
+    /// One proposal for a height, sent to all, that may carry entries again, if a dishonest replica leads the height
+    /// and nothing was proposed for it.
     fn carry_again(&mut self, height: Height) {
         let leader = self.leaders.get(usize::from(height).wrapping_sub(1)).copied().unwrap_or(0);
         if leader < self.honest || !self.blocks_at(height).is_empty() {
