@@ -1,5 +1,5 @@
-//! The lists of the folder on chains that carry entries again: every place of a buffer's length occurs, for stations and
-//! for observers, and what is read is each entry at its first place, worked out here once more.
+//! The lists of the folder on chains that carry entries again: buffers of every length beside the two sizes occur, for
+//! stations and for observers, and what is read is each entry at its first place, worked out here once more.
 
 use exchange::{scenarios, Call, Line, List, ObserverCall, Stage};
 use reference::inspect::{inspect, inspect_observer};

@@ -22,7 +22,7 @@ impl<'a> Chain<'a> {
 
     /// The log of that chain: an entry that equals an earlier one is the same filing, and has the first one's place.
     pub fn log(&self, height: Height) -> Vec<&'a Entry> {
-        let mut filed = HashSet::new();
+        let mut filed: HashSet<&Entry> = HashSet::new();
         let mut entries = self.entries(height);
         entries.retain(|entry| filed.insert(*entry));
         entries

@@ -197,7 +197,7 @@ fn growing<C: Calls>(to: &mut Recorder<C>) {
 /// The pages of the longest chain: each has five entries of its own, and repeats a near one, a far one and the first.
 fn longest_pages() -> Vec<Block> {
     let entries = |height: u8| {
-        let [far, near] = [height / 2, height.saturating_sub(1)].map(|height| height.max(1));
+        let [far, near] = [height / 3, height.saturating_sub(1)].map(|height| height.max(1));
         let places = [(height, 0), (far, 1), (height, 1), (height, 2)];
         let others = [(near, 4), (height, 3), (1, 0), (height, 4)];
         let all = places.into_iter().chain(others);
