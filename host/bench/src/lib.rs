@@ -8,7 +8,6 @@
 
 mod case;
 mod cases;
-mod colliding;
 mod measure;
 mod median;
 mod observer_cases;

@@ -1,10 +1,9 @@
 //! The cases of registers: their size and a read, on chains of full pages whose entries all differ, all agree, or
 //! collide.
 
-use crate::colliding::colliding;
 use crate::station::{entry, Size};
 use crate::Case;
-use exchange::{Call, ObserverCall};
+use exchange::{colliding, Call, ObserverCall};
 use reference::{sha256, Rules};
 use types::{Block, Book, Frame, Height, ObserverBook, Refusal, ENTRY, MOST_ENTRIES, MOST_LOG};
 

@@ -1,7 +1,9 @@
 //! Random frames for a book: mostly ones that it takes, some that it must refuse.
 
 use crate::Random;
+use exchange::colliding;
 use reference::sha256;
+use std::sync::LazyLock;
 use types::{field, head_height, height_at, put_height, Area, Block, Frame, Height, Layout};
 use types::{BLOCK, BLOCK_HEIGHT, ENTRY, FRAME, FRAME_HEIGHT, MOST_HEIGHTS};
 
@@ -31,12 +33,18 @@ pub fn any_entry(random: &mut Random) -> [u8; ENTRY] {
     entry
 }
 
-/// The entries of a block, now and then one entry as often as it has places.
+/// A few of the entries that differ and have one place in the table of the proved replica.
+static COLLIDING: LazyLock<[[u8; ENTRY]; 6]> = LazyLock::new(|| std::array::from_fn(colliding));
+
+/// The entries of a block, now and then one entry as often as it has places, or entries that collide.
 pub fn any_entries(random: &mut Random) -> Vec<[u8; ENTRY]> {
-    let (count, alike) = (random.index(9), random.one_in(5));
-    match alike {
-        true => vec![any_entry(random); count],
-        false => (0..count).map(|_| any_entry(random)).collect(),
+    let (count, sort) = (random.index(9), random.below(10));
+    let first = any_entry(random);
+    let other = |random: &mut Random| random.pick(&*COLLIDING).copied().unwrap_or(first);
+    match sort {
+        0 | 1 => vec![first; count],
+        2 => (0..count).map(|_| other(random)).collect(),
+        _ => (0..count).map(|_| any_entry(random)).collect(),
     }
 }
 

@@ -1,9 +1,10 @@
 //! The kinds of entries that a chain carries more than once, and of calls that meet them, that a large comparison must
 //! have had.
 
-use exchange::{Answer, Call, ObserverCall};
+use exchange::{place_in_table, Answer, Call, ObserverCall};
 use reference::inspect::{inspect, inspect_observer};
 use reference::Rules;
+use std::collections::BTreeSet;
 use types::{Calls, Height, Move, ENTRY};
 
 /// An entry.
@@ -13,13 +14,14 @@ type Entry = [u8; ENTRY];
 const CALLS: [&str; 4] = ["size", "read", "observer-size", "observer-read"];
 
 /// What a chain may have that one of these calls is made on.
-const SHAPES: [&str; 6] = [
+const SHAPES: [&str; 7] = [
     "a repeat in one page",
     "a repeat over pages",
     "a repeat side by side",
     "a repeat of an entry of zeros",
     "one entry alone, again and again",
     "a repeat, and entries that differ in one byte",
+    "a repeat, and entries that collide",
 ];
 
 /// Where the length of a reading buffer lies, if there are repeats.
@@ -111,6 +113,13 @@ fn is_near(one: &Entry, two: &Entry) -> bool {
     one.iter().zip(two).filter(|(one, two)| one != two).count() == 1
 }
 
+/// Whether two entries differ and have one place in the table of the proved replica.
+fn collide(carried: &[(Height, Entry)]) -> bool {
+    let entries: BTreeSet<Entry> = carried.iter().map(|(_, entry)| *entry).collect();
+    let places: BTreeSet<u64> = entries.iter().map(place_in_table).collect();
+    places.len() < entries.len()
+}
+
 /// The kinds of a call by what the chain carries.
 fn shapes(call: &str, carried: &[(Height, Entry)]) -> Vec<String> {
     let repeats = repeats(carried);
@@ -124,6 +133,7 @@ fn shapes(call: &str, carried: &[(Height, Entry)]) -> Vec<String> {
         repeats.iter().any(|(first, _)| zeros(*first)),
         !repeats.is_empty() && repeats.len().saturating_add(1) == carried.len(),
         !repeats.is_empty() && carried.iter().any(near),
+        !repeats.is_empty() && collide(carried),
     ];
     SHAPES.into_iter().zip(are).filter(|(_, is)| *is).map(|(shape, _)| name(call, shape)).collect()
 }
@@ -182,7 +192,7 @@ fn pending(book: &[u8]) -> Vec<Entry> {
 #[cfg(test)]
 mod tests {
     use super::*;
-    use std::collections::BTreeSet;
+    use exchange::colliding;
     use types::{Block, Book, Frame};
 
     /// A book in which a page with these entries, and one on it with these, are settled.
@@ -212,6 +222,8 @@ mod tests {
             told.extend(kinds(&Call::Read, &both, lent, Answer::Part(0)));
         }
         told.extend(kinds(&Call::Read, &book(&[a, a], &[a])?, 16, Answer::Part(16)));
+        let [one, two] = [0, 1].map(colliding);
+        told.extend(kinds(&Call::Read, &book(&[one], &[two, one])?, 32, Answer::Part(32)));
         let wanted = names().into_iter().filter(|name| name.starts_with("repeats: read"));
         assert_eq!(told, wanted.collect());
         Ok(())

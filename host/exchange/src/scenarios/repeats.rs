@@ -3,7 +3,7 @@
 use super::observers::{blank, finalise, observe, page, WATCH};
 use super::parts::*;
 use super::repeats_pool;
-use crate::{Call, ObserverCall, Recorder};
+use crate::{colliding, Call, ObserverCall, Recorder};
 use reference::Rules;
 use types::{Block, Book, Calls, Frame, Height, ObserverBook, ENTRY, MOST_HEIGHTS};
 
@@ -24,6 +24,7 @@ pub fn run<C: Calls>(to: &mut Recorder<C>) {
     over_pages(to);
     places(to);
     near_entries(to);
+    collisions(to);
     zeros(to);
     other_pages(to);
     growing(to);
@@ -157,6 +158,13 @@ fn near_entries<C: Calls>(to: &mut Recorder<C>) {
     turned.iter_mut().zip(one.iter().rev()).for_each(|(to, from)| *to = *from);
     even.iter_mut().zip([3, 0]).for_each(|(to, from)| *to = from);
     settled(to, &[vec![one, turned, even, filing(2)]]);
+}
+
+fn collisions<C: Calls>(to: &mut Recorder<C>) {
+    to.part("Entries that the table of the proved replica puts at one place are no repeats, until they come again");
+    let entries: Vec<Entry> = (0..5).map(colliding).collect();
+    let again = entries.iter().rev().copied().chain([colliding(5)]).collect();
+    settled(to, &[entries, again]);
 }
 
 fn zeros<C: Calls>(to: &mut Recorder<C>) {

@@ -14,13 +14,13 @@ pub fn run<C: Calls>(to: &mut Recorder<C>) {
     twice_in_the_pool(to);
 }
 
-/// Pages 1 and 2 of a station's book are certified, and one of them settles, if any.
-fn two_pages<C: Calls>(to: &mut Recorder<C>, leaders: &[u8], settled: Option<Height>) {
+/// Pages 1 and 2 of a station's book are certified, and a certificate settles one of them.
+fn two_pages<C: Calls>(to: &mut Recorder<C>, leaders: &[u8], settled: Height) {
     to.open(BOOK, 4, 2, leaders);
     for block in pages(&[filings(&[1, 1, 2]), filings(&[2, 3, 1])]) {
         deliver(to, BOOK, &[page(7, &block)]);
     }
-    settled.into_iter().for_each(|height| deliver(to, BOOK, &[finalise(7, height)]));
+    deliver(to, BOOK, &[finalise(7, settled)]);
 }
 
 /// Puts entries into the places for pending ones, as no run does.
@@ -36,13 +36,13 @@ fn pool<C: Calls>(to: &mut Recorder<C>, heights: Height, entries: &[Entry]) {
 
 fn submitting<C: Calls>(to: &mut Recorder<C>) {
     to.part("An entry that the chain carries twice and the register counts once is 13; another is taken");
-    two_pages(to, &[0, 1], Some(2));
+    two_pages(to, &[0, 1], 2);
     to.make_move(BOOK, REPLY);
     for number in [1, 2, 3, 4] {
         submit(to, BOOK, filing(number));
     }
     to.part("Where the page that repeats it is not settled, an entry is 13 if the register holds it, and else taken");
-    two_pages(to, &[0, 1], Some(1));
+    two_pages(to, &[0, 1], 1);
     to.make_move(BOOK, REPLY);
     for number in [1, 2, 3] {
         submit(to, BOOK, filing(number));
@@ -52,7 +52,7 @@ fn submitting<C: Calls>(to: &mut Recorder<C>) {
 
 fn dropping<C: Calls>(to: &mut Recorder<C>) {
     to.part("32 are pending, none of them in the register, which repeats some: 12");
-    two_pages(to, &[0, 1], Some(2));
+    two_pages(to, &[0, 1], 2);
     let mut pending: Vec<Entry> = (100..100 + MOST_PENDING).map(filing).collect();
     pool(to, 2, &pending);
     submit(to, BOOK, filing(4));
@@ -67,8 +67,8 @@ fn dropping<C: Calls>(to: &mut Recorder<C>) {
 }
 
 fn proposing<C: Calls>(to: &mut Recorder<C>) {
-    to.part("A proposal leaves out what its parent chain carries, once or twice, be it settled, in part or not");
-    for settled in [None, Some(1), Some(2)] {
+    to.part("A proposal leaves out what its parent chain carries, once or twice, be it settled in part or whole");
+    for settled in [1, 2] {
         two_pages(to, &[0, 1, 2], settled);
         pool(to, 3, &filings(&[1, 4, 2, 3, 5]));
         moves(to, BOOK);

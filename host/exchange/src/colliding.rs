@@ -5,7 +5,7 @@ use types::ENTRY;
 
 /// The factors by which the proved replica takes an entry's four words to a place: those of its source, to be changed
 /// here when they change there.
-pub const FACTORS: [u64; 4] = [326_128_379, 413_158_523, 265_443_577, 370_248_451];
+const FACTORS: [u64; 4] = [326_128_379, 413_158_523, 265_443_577, 370_248_451];
 
 /// The sum of the words, each by its factor, is divided by this.
 const DIVISOR: u64 = 1 << 28;
@@ -17,7 +17,7 @@ const PLACES: u64 = 8192;
 const PLACE: u64 = 1;
 
 /// The place of an entry, by its four words of 32 bits, the low byte first.
-pub fn place(entry: &[u8; ENTRY]) -> u64 {
+pub fn place_in_table(entry: &[u8; ENTRY]) -> u64 {
     let words = entry.as_chunks::<4>().0.iter().map(|word| u64::from(u32::from_le_bytes(*word)));
     let sum = words
         .zip(FACTORS)
@@ -35,7 +35,10 @@ pub fn colliding(number: usize) -> [u8; ENTRY] {
         entry.copy_from_slice(words.as_flattened());
         entry
     };
-    (0..u32::MAX).map(of).find(|entry| place(entry) == PLACE).unwrap_or_else(|| of(u32::MAX))
+    (0..u32::MAX)
+        .map(of)
+        .find(|entry| place_in_table(entry) == PLACE)
+        .unwrap_or_else(|| of(u32::MAX))
 }
 
 #[cfg(test)]
@@ -49,17 +52,17 @@ mod tests {
         let count = usize::from(MOST_HEIGHTS) * usize::from(MOST_ENTRIES);
         let entries: BTreeSet<_> = (0..count).map(colliding).collect();
         assert_eq!(entries.len(), count);
-        assert!(entries.iter().all(|entry| entry[0] < 4 && place(entry) == PLACE));
+        assert!(entries.iter().all(|entry| entry[0] < 4 && place_in_table(entry) == PLACE));
     }
 
     #[test]
     fn places_are_those_of_the_sum() {
         let mut entry = [0; ENTRY];
-        assert_eq!(place(&entry), 0);
+        assert_eq!(place_in_table(&entry), 0);
         (entry[0], entry[5]) = (3, 1);
-        assert_eq!(place(&entry), (3 * FACTORS[0] + 256 * FACTORS[1]) / DIVISOR);
+        assert_eq!(place_in_table(&entry), (3 * FACTORS[0] + 256 * FACTORS[1]) / DIVISOR);
         let most = FACTORS.iter().map(|factor| factor * u64::from(u32::MAX)).sum::<u64>();
         assert!(most / DIVISOR > PLACES);
-        assert_eq!(place(&[0xff; ENTRY]), (most >> 28) & 8191);
+        assert_eq!(place_in_table(&[0xff; ENTRY]), (most >> 28) & 8191);
     }
 }
