@@ -71,7 +71,7 @@ static inline int mavunilai_fits(void) {
 #define MAVUNILAI_MOST_HEIGHTS 63u
 #define MAVUNILAI_MOST_PENDING 32u     /* entries */
 #define MAVUNILAI_MOST_PAGE_ENTRIES 8u /* entries of one page */
-#define MAVUNILAI_MOST_REGISTER 8064u  /* bytes: 63 pages of 8 entries of 16 */
+#define MAVUNILAI_MOST_REGISTER 8064u  /* bytes: 63 pages of 8 entries of 16, none of which repeats another */
 #define MAVUNILAI_MOST_BOOK 56016u     /* bytes: MAVUNILAI_BOOK(63) */
 #define MAVUNILAI_MOST_OBSERVER_BOOK 11656u /* bytes: MAVUNILAI_OBSERVER_BOOK(63) */
 
