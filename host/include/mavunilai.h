@@ -39,10 +39,12 @@
 extern "C" {
 #endif
 
-/* The number of the interface that this header declares. It goes up with each call that is added, and with each change
- * to a call's arguments or to the set of its answers. A change of a rule by which a call chooses another of the answers
- * that it had leaves the number as it is: a program that was built before still fits. */
-#define MAVUNILAI_INTERFACE 3u
+/* The number of the interface that this header declares. It goes up with each call that is added, with each change to
+ * a call's arguments or to the set of its answers, and with a change after which stations would read other registers
+ * than before it: so with 4, where an entry that its chain repeats is read once. A change of another rule by which a
+ * call chooses another of the answers that it had leaves the number as it is: a program that was built before still
+ * fits. */
+#define MAVUNILAI_INTERFACE 4u
 
 /* The number of the interface that the library has. */
 uint64_t mavunilai_interface(void);
@@ -69,7 +71,7 @@ static inline int mavunilai_fits(void) {
 #define MAVUNILAI_MOST_HEIGHTS 63u
 #define MAVUNILAI_MOST_PENDING 32u     /* entries */
 #define MAVUNILAI_MOST_PAGE_ENTRIES 8u /* entries of one page */
-#define MAVUNILAI_MOST_REGISTER 8064u  /* bytes: 63 pages of 8 entries of 16 */
+#define MAVUNILAI_MOST_REGISTER 8064u  /* bytes: 63 pages of 8 entries of 16, none of which repeats another */
 #define MAVUNILAI_MOST_BOOK 56016u     /* bytes: MAVUNILAI_BOOK(63) */
 #define MAVUNILAI_MOST_OBSERVER_BOOK 11656u /* bytes: MAVUNILAI_OBSERVER_BOOK(63) */
 
@@ -269,7 +271,7 @@ static inline unsigned mavunilai_frames(mavunilai_answer answer) {
     return mavunilai_finalise(answer) != 0 ? 2 : 1;
 }
 
-/* Size: the register's length in bytes. */
+/* Size: the register's length in bytes, repeats not counted. */
 static inline uint64_t mavunilai_bytes(mavunilai_answer answer) {
     return answer.packed >> 8;
 }
@@ -321,14 +323,16 @@ mavunilai_answer mavunilai_signal(uint8_t *book, size_t book_len, uint64_t heigh
  * and no other byte has changed. */
 mavunilai_answer mavunilai_submit(uint8_t *book, size_t book_len, const uint8_t *entry, size_t entry_len);
 
-/* The register's length in bytes: mavunilai_bytes of the answer, which is the refusal plus 256 times the size.
- * Refusals: 1. No byte changes. The largest size is 63 * 8 * 16 = 8064. */
+/* The register's length in bytes: mavunilai_bytes of the answer, which is the refusal plus 256 times the size. The
+ * register is the entries of the chain that ends at the settled height, oldest page first; an entry that equals an
+ * earlier one, of the same page or of one before it, is the same filing and is not counted again.
+ * Refusals: 1. No byte changes. The largest size, where no entry repeats another, is 63 * 8 * 16 = 8064. */
 mavunilai_answer mavunilai_size(const uint8_t *book, size_t book_len);
 
-/* Writes the register to the front of the buffer, oldest page first, and returns the number of bytes of the part read.
- * This is no packed answer: it returns 0, and writes nothing, where the book is not sound or the buffer is shorter
- * than the register; it returns 0 for an empty register as well. Bytes of the buffer past the part keep their
- * values. */
+/* Writes the register to the front of the buffer, oldest page first, each entry once and at its first place, and
+ * returns the number of bytes of the part read. This is no packed answer: it returns 0, and writes nothing, where the
+ * book is not sound or the buffer is shorter than the register, whose length mavunilai_size gives; it returns 0 for an
+ * empty register as well. Bytes of the buffer past the part keep their values. */
 uint64_t mavunilai_read(const uint8_t *book, size_t book_len, uint8_t *buffer, size_t buffer_len);
 
 /* Writes the certificate of kind 5, 6 or 7 of a height to bytes 0 to 223 of the reply, which needs 224 or more.
@@ -360,11 +364,13 @@ mavunilai_answer mavunilai_observer_deliver(uint8_t *book, size_t book_len, cons
  * certificate comes. */
 mavunilai_answer mavunilai_observer_move(uint8_t *book, size_t book_len);
 
-/* The register's length in bytes, as mavunilai_size: mavunilai_bytes of the answer. Refusals: 1. No byte changes. */
+/* The register's length in bytes, as mavunilai_size, repeats not counted: mavunilai_bytes of the answer.
+ * Refusals: 1. No byte changes. */
 mavunilai_answer mavunilai_observer_size(const uint8_t *book, size_t book_len);
 
-/* Writes the register to the front of the buffer and returns the number of bytes of the part read, as mavunilai_read:
- * no packed answer, and 0, with nothing written, where the book is not sound or the buffer is too short. */
+/* Writes the register to the front of the buffer, each entry once and at its first place, and returns the number of
+ * bytes of the part read, as mavunilai_read: no packed answer, and 0, with nothing written, where the book is not sound
+ * or the buffer is too short. */
 uint64_t mavunilai_observer_read(const uint8_t *book, size_t book_len, uint8_t *buffer, size_t buffer_len);
 
 #ifdef __cplusplus

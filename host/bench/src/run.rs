@@ -2,7 +2,7 @@
 
 use crate::packet_table::packet_table;
 use crate::table::markdown;
-use crate::{cases, measure, Case, Fill, Measured, Size};
+use crate::{cases, measure, register_cases, Case, Fill, Measured, Size};
 use types::{Calls, Height, MOST_HEIGHTS, MOST_REPLICAS};
 
 /// The heights of the small and of the large book.
@@ -14,6 +14,9 @@ const REPLICAS: [u8; 2] = [4, MOST_REPLICAS];
 /// The heading of a table.
 const HEADING: [&str; 7] =
     ["call", "empty, H 8", "empty, H 63", "growth", "full, H 8", "full, H 63", "growth"];
+
+/// The heading of the table of registers.
+const REGISTERS: [&str; 4] = ["call", "H 8", "H 63", "growth"];
 
 /// Packets take long, so that one round in so many is enough for them.
 const SHARE: usize = 10;
@@ -27,7 +30,8 @@ pub struct Options {
     pub only: String,
 }
 
-/// Measures all cases that the options name and prints a table for each number of replicas, and one of packets.
+/// Measures all cases that the options name and prints a table for each number of replicas, one of registers and one of
+/// packets.
 pub fn run<A: Calls, B: Calls>(ours: &A, reference: &B, options: &Options) -> Result<(), String> {
     for n in REPLICAS {
         let empty = half(ours, reference, options, n, Fill::Empty)?;
@@ -36,6 +40,13 @@ pub fn run<A: Calls, B: Calls>(ours: &A, reference: &B, options: &Options) -> Re
         if !rows.is_empty() {
             println!("n {n}:\n\n{}", markdown(&HEADING, &rows));
         }
+    }
+    let registers =
+        both_sizes(|heights| register_cases(Size { n: REPLICAS[0], heights }), &options.only)?;
+    let rows = measured(ours, reference, options, &registers)?;
+    if !rows.is_empty() {
+        let rows: Vec<_> = rows.into_iter().map(|row| row.to_vec()).collect();
+        println!("registers:\n\n{}", markdown(&REGISTERS, &rows));
     }
     let sizes = REPLICAS.map(|n| Size { n, heights: MOST_HEIGHTS });
     let rounds = options.rounds.div_ceil(SHARE);
@@ -52,7 +63,17 @@ fn half<A: Calls, B: Calls>(
     n: u8,
     fill: Fill,
 ) -> Result<Vec<[String; 4]>, String> {
-    let cases = at_both_sizes(n, fill, &options.only)?;
+    let cases = both_sizes(|heights| cases(Size { n, heights }, fill), &options.only)?;
+    measured(ours, reference, options, &cases)
+}
+
+/// Measures cases: of each the name, the ratios at few and at many heights, and the growth.
+fn measured<A: Calls, B: Calls>(
+    ours: &A,
+    reference: &B,
+    options: &Options,
+    cases: &[[Case; 2]],
+) -> Result<Vec<[String; 4]>, String> {
     let rows = cases.iter().map(|sizes| {
         let measured = measure(ours, reference, sizes, options.rounds)?;
         Ok(row(sizes[0].name, &measured))
@@ -61,8 +82,11 @@ fn half<A: Calls, B: Calls>(
 }
 
 /// Each wanted case, on the small book and on the large one.
-fn at_both_sizes(n: u8, fill: Fill, only: &str) -> Result<Vec<[Case; 2]>, String> {
-    let [few, many] = HEIGHTS.map(|heights| cases(Size { n, heights }, fill));
+fn both_sizes(
+    cases: impl Fn(Height) -> Result<Vec<Case>, String>,
+    only: &str,
+) -> Result<Vec<[Case; 2]>, String> {
+    let [few, many] = HEIGHTS.map(cases);
     let both = few?.into_iter().zip(many?).map(|(few, many)| [few, many]);
     Ok(both.filter(|[case, _]| case.name.contains(only)).collect())
 }

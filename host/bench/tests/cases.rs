@@ -1,6 +1,7 @@
 //! The cases do what their names say, by the reference's answers.
 
-use bench::{cases, measure, measure_packet, packet_cases, Case, Fill, Size, LENGTHS};
+use bench::{cases, measure, measure_packet, packet_cases, register_cases};
+use bench::{Case, Fill, Size, LENGTHS};
 use reference::Rules;
 
 /// All cases of the measured sizes.
@@ -16,6 +17,22 @@ fn every_case_gets_the_answer_it_is_named_for() {
     assert_eq!(all.len(), 8 * 31);
     for case in &all {
         case.check(&Rules::SHA256, &Rules::SHA256).unwrap();
+    }
+}
+
+#[test]
+fn registers_whose_entries_differ_agree_and_collide() {
+    for heights in [8, 63] {
+        let cases = register_cases(Size { n: 4, heights }).unwrap();
+        assert_eq!(cases.len(), 12);
+        for case in &cases {
+            case.check(&Rules::SHA256, &Rules::SHA256).unwrap();
+        }
+        let all = format!("{}", 128 * usize::from(heights));
+        let of = |name: &'static str| cases.iter().filter(move |case| case.name.contains(name));
+        assert!(of("differ").chain(of("collide")).all(|case| case.answer.ends_with(&all)));
+        assert!(of("agree").all(|case| case.answer.ends_with(" 16")));
+        assert_eq!([of("differ"), of("agree"), of("collide")].map(Iterator::count), [4; 3]);
     }
 }
 

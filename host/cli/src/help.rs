@@ -89,12 +89,13 @@ several frames, one behind the other. A book is shown as a table of heights (lea
 held proposal, page votes, notarised page, signers of the page certificate, blank and
 finalise signers, whether it is linked, settled and in the register), with its pending
 entries and those of its pages, the reason why the current height is where it is, and
-the next move of the replica at hand. Pages and votes are named by the first eight
-digits of the digest. Of a book that is not sound the first byte is told that breaks a
-rule. Several books, of stations with the same roll and of observers, are shown side by
-side: a row for each height, a column for each book, <- at a station's current height.
-A station's column has its number, an observer's its file. An observer's book is told
-from a station's by its length.
+the next move of the replica at hand. An entry of a page in the register that equals an
+earlier one of the chain is marked `filed before`: it is not counted or read again. Pages
+and votes are named by the first eight digits of the digest. Of a book that is not sound
+the first byte is told that breaks a rule. Several books, of stations with the same roll
+and of observers, are shown side by side: a row for each height, a column for each book,
+<- at a station's current height. A station's column has its number, an observer's its
+file. An observer's book is told from a station's by its length.
 ";
 
 const OPEN: &str = "\
@@ -170,7 +171,7 @@ its line, fresh, known, or `deny` and a number: 16 for a frame that is no certif
 for a short last one. Any refusal makes the status 3, while the others are taken all the
 same; no bytes are no frames, with no line and status 0. move prints `final` and the
 settled height if it grew, else `idle`; after deliver one move is enough. size and read
-print what the register holds by then.
+print what the register holds by then, an entry that the chain repeats once.
 
 What a call prints is synced to the file first, however many frames it was given, and the
 book is locked meanwhile (BOOK.lock, which stays). Only deliver certificates whose
@@ -201,9 +202,10 @@ mavunilai record --folder FOLDER
 
 Prints the list of FILE (- is standard input) with the answers and digests that the
 replica gives now; the calls may stand there without any. --scenario prints a ready list:
-refusals, orders, moves, corners, tallies, rehearsal, season, books or observers. --random
-prints N calls (1000 if not said) as `try` makes them from this seed. With --full the list
-has the bytes of the buffers and not their digests. --folder writes all ready lists there.
+refusals, orders, moves, corners, tallies, repeats, rehearsal, season, books or observers.
+--random prints N calls (1000 if not said) as `try` makes them from this seed. With --full
+the list has the bytes of the buffers and not their digests. --folder writes all ready
+lists there.
 ";
 
 const REHEARSAL: &str = "\

@@ -2,6 +2,7 @@
 
 use crate::words::{count, members, short};
 use reference::sha256;
+use std::collections::BTreeSet;
 use types::{field, head_height, is_observers, Area, Block, Height, Layout, BLOCK, ENTRY};
 use types::{ObserverArea, ObserverLayout};
 
@@ -86,6 +87,20 @@ pub fn register(book: &[u8]) -> Vec<Height> {
         height = page.block.parent;
     }
     heights
+}
+
+/// The entries that the register does not count, because an earlier one of its chain equals them: each by the height of
+/// its page and its place there.
+pub fn filed_before(book: &[u8], register: &[Height]) -> BTreeSet<(Height, usize)> {
+    let chain = register.iter().rev();
+    let pages = chain.filter_map(|height| Some((*height, page(book, *height, Area::Notarized)?)));
+    let (mut filed, mut repeats) = (BTreeSet::new(), BTreeSet::new());
+    for (height, page) in pages {
+        let entries = page.block.entries.into_iter().enumerate();
+        repeats
+            .extend(entries.filter(|(_, entry)| !filed.insert(*entry)).map(|(at, _)| (height, at)));
+    }
+    repeats
 }
 
 /// The pending entries of a book that has so many.

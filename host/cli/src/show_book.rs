@@ -110,16 +110,25 @@ fn pending(book: &Inspection, bytes: &[u8]) -> Vec<String> {
     }
 }
 
-/// The entries of all pages that have some, height by height; a page that is held and notarised stands once.
+/// The entries of all pages that have some, height by height; a page that is held and notarised stands once. Of those
+/// in the register the ones are marked that it does not count, as an earlier one equals them.
 pub fn entries(bytes: &[u8], last: Height, register: &[Height]) -> Vec<String> {
     let mut lines = Vec::new();
+    let repeats = pages::filed_before(bytes, register);
+    let of = |wanted: Height| {
+        let places = repeats.iter().filter(move |(height, _)| *height == wanted);
+        places.map(|(_, at)| *at).collect::<Vec<usize>>()
+    };
     for height in 1..=last {
         let [held, notarized] =
             [Area::Held, Area::Notarized].map(|area| pages::page(bytes, height, area));
         let held = held.filter(|held| notarized.as_ref() != Some(held));
         let listed = if register.contains(&height) { ", in the register" } else { "" };
-        lines.extend(held.iter().flat_map(|page| page_lines(height, "proposal", page, "")));
-        lines.extend(notarized.iter().flat_map(|page| page_lines(height, "page", page, listed)));
+        let (proposal, page) =
+            (format!("height {height}, proposal"), format!("height {height}, page"));
+        lines.extend(held.iter().flat_map(|held| page_lines(&proposal, held, "", &[])));
+        let repeats = of(height);
+        lines.extend(notarized.iter().flat_map(|one| page_lines(&page, one, listed, &repeats)));
     }
     match lines.is_empty() {
         true => Vec::new(),
@@ -127,12 +136,14 @@ pub fn entries(bytes: &[u8], last: Height, register: &[Height]) -> Vec<String> {
     }
 }
 
-/// The entries of a page, if it has some.
-fn page_lines(height: Height, what: &str, page: &Page, listed: &str) -> Vec<String> {
+/// The entries of a page, if it has some, with a mark at those places that repeat an entry.
+fn page_lines(what: &str, page: &Page, listed: &str, repeats: &[usize]) -> Vec<String> {
     if page.block.entries.is_empty() {
         return Vec::new();
     }
-    let first = format!("  height {height}, {what} {}{listed}:", page.short());
-    let entries = page.block.entries.iter().map(|bytes| format!("    {}", entry(bytes)));
+    let first = format!("  {what} {}{listed}:", page.short());
+    let mark = |at: usize| if repeats.contains(&at) { " (filed before)" } else { "" };
+    let entries = page.block.entries.iter().enumerate();
+    let entries = entries.map(|(at, bytes)| format!("    {}{}", entry(bytes), mark(at)));
     [vec![first], entries.collect()].concat()
 }

@@ -4,7 +4,7 @@ mod common;
 
 use common::{fine, folder, list, refused, run};
 use reference::Rules;
-use types::{Area, Block, Book, Calls, Frame, Layout};
+use types::{Area, Block, Book, Calls, Frame, Layout, ObserverBook};
 
 /// The text that a command prints.
 fn text(words: &str, input: &[u8]) -> String {
@@ -86,6 +86,44 @@ fn books_of_another_season_and_forks_are_told() {
     write("e", &[0; 1456]);
     refused(&format!("show books {at}/a {at}/e"), &[], "/e: refused with 1");
     refused("show books", &[], "the files of books are missing");
+}
+
+/// Pages that repeat entries, in one page and over two, and the page of a third height that is not settled.
+fn repeating() -> Vec<Frame> {
+    let [a, b, c] = [b"\0one entry      ", b"\0another entry  ", b"\0a third entry  "];
+    let one = Block { height: 1, entries: vec![*a, *b, *a], ..Block::default() };
+    let digest = reference::sha256::digest(&one.bytes());
+    let two = Block { height: 2, parent: 1, digest, entries: vec![*b, *c] };
+    let digest = reference::sha256::digest(&two.bytes());
+    let three = Block { height: 3, parent: 2, digest, entries: vec![*a] };
+    let certificates = [one, two, three].map(|block| Frame::BlockCertificate { mask: 7, block });
+    certificates.into_iter().chain([Frame::FinalizeCertificate { mask: 7, height: 2 }]).collect()
+}
+
+#[test]
+fn entries_that_were_filed_before_are_marked() {
+    let mut station = Book::open(Rules::SHA256, 4, 0, &[0, 1, 2]).unwrap();
+    let mut observer = ObserverBook::open(Rules::SHA256, 4, 3).unwrap();
+    for frame in repeating() {
+        station.deliver(&frame.bytes()).unwrap();
+        observer.deliver(&frame.bytes()).unwrap();
+    }
+    station.make_move().unwrap();
+    observer.make_move().unwrap();
+    let expected = "
+    006f6e6520656e747279202020202020
+    00616e6f7468657220656e7472792020
+    006f6e6520656e747279202020202020 (filed before)
+    00616e6f7468657220656e7472792020 (filed before)
+    006120746869726420656e7472792020
+    006f6e6520656e747279202020202020
+";
+    for bytes in [station.bytes(), observer.bytes()] {
+        let shown = text("show book -", bytes);
+        let entries = shown.lines().filter(|line| line.starts_with("    "));
+        assert_eq!(entries.collect::<Vec<_>>().join("\n"), expected.trim_matches('\n'), "{shown}");
+    }
+    assert_eq!(text("show book -", station.bytes()).matches(", in the register:").count(), 2);
 }
 
 #[test]

@@ -55,9 +55,9 @@ fn a_wrong_answer_is_told_with_the_call_and_can_be_replayed() {
     let ended = tried("--seed 1 --count 300", "M answer | sed -u 's/^known /fresh /'");
     assert_eq!(ended.status, 1);
     let expected = format!("\
-mavunilai: sh, call 10 (case \"seed 1, part 1, a sound book that no run makes\"): it differs from {NAME}
-the call: deliver book 040004+00*221
-its frame: finalise (kind 4), signer 0, height 4
+mavunilai: sh, call 1 (case \"seed 1, part 1, a sound book that no run makes\"): it differs from {NAME}
+the call: deliver book 030002+00*221
+its frame: blank vote (kind 3), signer 0, height 2
 answers: ours 'known', theirs 'fresh'
 books: the same
 ");
@@ -66,7 +66,7 @@ books: the same
     let mut lines = shown.lines();
     assert_eq!(lines.next(), Some("mavunilai exchange 1"));
     assert_eq!(lines.next(), Some("# seed 1, part 1, a sound book that no run makes"));
-    assert!(shown.contains("\ndeliver book 040004+00*221 == known 01"), "{shown}");
+    assert!(shown.contains("\ndeliver book 030002+00*221 == known 01"), "{shown}");
     let replayed = run("replay -", shown.as_bytes());
     assert_eq!(replayed.text(), format!("-: 1 call on {NAME}, all as expected\n"));
 }
@@ -78,12 +78,13 @@ fn a_packet_is_told_with_its_frames() {
     assert_eq!(ended.status, 1);
     let told = ended.complaint;
     assert!(
-        told.contains("\nthe call: packet book 01") && told.contains("\nits packet: 2 frames\n")
+        told.contains("\nthe call: packet book 03") && told.contains("\nits packet: 6 frames\n")
     );
     assert!(
-        told.contains("\n  1: proposal (kind 1), ") && told.contains("\n  2: page vote (kind 2), ")
+        told.contains("\n  1: blank vote (kind 3), ")
+            && told.contains("\n  6: proposal (kind 1), ")
     );
-    let answers = "\nanswers: ours 'counts 1 0 1', theirs 'counts 0 1 1'\nbooks: the same\n";
+    let answers = "\nanswers: ours 'counts 0 2 4', theirs 'counts 2 0 4'\nbooks: the same\n";
     assert!(told.ends_with(answers), "{told}");
 }
 
@@ -140,7 +141,7 @@ fn what_a_program_may_do_but_answer() {
         assert_eq!(ended.status, 1, "{line}: {sentence}");
         assert!(sentence.starts_with(first) && sentence.contains(told), "{line}: {sentence}");
         assert!(
-            ended.complaint.contains("\nthe call: signal book 2\n"),
+            ended.complaint.contains("\nthe call: deliver book 030002+00*221\n"),
             "{line}: {}",
             ended.complaint
         );

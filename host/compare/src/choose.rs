@@ -4,10 +4,10 @@ use crate::books::any_arguments;
 use crate::frames::{any_entry, any_frame_bytes, any_height};
 use crate::observer_single::any_observer_call;
 use crate::packets::any_packet;
-use crate::Random;
+use crate::{repeat_kinds, Random};
 use exchange::Call;
 use reference::Rules;
-use types::{book_length, field, head_height, Calls, MOST_HEIGHTS, MOST_LOG};
+use types::{book_length, field, head_height, Calls, ENTRY, MOST_HEIGHTS, MOST_LOG};
 
 /// Lengths of replies far from the limits of move and fetch.
 const LENGTHS: [usize; 8] = [0, 1, 32, 256, 400, 600, 671, 672];
@@ -127,11 +127,17 @@ fn any_sixteen_bytes(random: &mut Random, entry: &mut [u8]) {
     entry.iter_mut().take(usize::from(odd)).for_each(|first| *first %= 4);
 }
 
-/// A length around that of the log.
+/// A length around that of the log, or around that which it would have with its repeats.
 fn reading_length(random: &mut Random, book: &[u8]) -> usize {
     let size = Calls::size(&Rules::SHA256, book).unwrap_or(0);
+    near_size(random, usize::try_from(size).unwrap_or(0), repeat_kinds::carried(book).len())
+}
+
+/// A length around the size of a log, or around that of so many entries.
+pub fn near_size(random: &mut Random, size: usize, entries: usize) -> usize {
+    let from = if random.one_in(4) { entries.saturating_mul(ENTRY) } else { size };
     let more = *random.pick(&[0, 0, 1, 15, 16, 17, 18, 32, 300]).unwrap_or(&0);
-    usize::try_from(size).unwrap_or(0).saturating_add(more).saturating_sub(16)
+    from.saturating_add(more).saturating_sub(16)
 }
 
 /// Opening, mostly with arguments that fit the book's length.

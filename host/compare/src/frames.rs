@@ -1,7 +1,9 @@
 //! Random frames for a book: mostly ones that it takes, some that it must refuse.
 
 use crate::Random;
+use exchange::colliding;
 use reference::sha256;
+use std::sync::LazyLock;
 use types::{field, head_height, height_at, put_height, Area, Block, Frame, Height, Layout};
 use types::{BLOCK, BLOCK_HEIGHT, ENTRY, FRAME, FRAME_HEIGHT, MOST_HEIGHTS};
 
@@ -19,12 +21,31 @@ pub fn area(book: &[u8], height: Height, area: Area) -> &[u8] {
     book.get(range).unwrap_or(&[])
 }
 
-/// One of few entries, so that repeats are common. Its first byte is 0 to 3: request 2.13 takes no other.
+/// One of few entries, so that repeats are common, now and then one that differs from such a one in one byte. Its
+/// first byte is 0 to 3: request 2.13 takes no other.
 pub fn any_entry(random: &mut Random) -> [u8; ENTRY] {
-    let tag = random.byte_below(40);
-    let mut entry = [tag; ENTRY];
+    let tags = if random.one_in(4) { 2 } else { 40 };
+    let mut entry = [random.byte_below(tags); ENTRY];
     entry[0] %= 4;
+    if random.one_in(12) {
+        entry[random.index(ENTRY)] ^= 1;
+    }
     entry
+}
+
+/// A few of the entries that differ and have one place in the table of the proved replica.
+static COLLIDING: LazyLock<[[u8; ENTRY]; 6]> = LazyLock::new(|| std::array::from_fn(colliding));
+
+/// The entries of a block, now and then one entry as often as it has places, or entries that collide.
+pub fn any_entries(random: &mut Random) -> Vec<[u8; ENTRY]> {
+    let (count, sort) = (random.index(9), random.below(10));
+    let first = any_entry(random);
+    let other = |random: &mut Random| random.pick(&*COLLIDING).copied().unwrap_or(first);
+    match sort {
+        0 | 1 => vec![first; count],
+        2 => (0..count).map(|_| other(random)).collect(),
+        _ => (0..count).map(|_| any_entry(random)).collect(),
+    }
 }
 
 /// A mask: any, all, or all but one; seldom with a bit that names nobody.
@@ -64,8 +85,7 @@ pub fn any_block(random: &mut Random, book: &[u8], height: Height) -> Block {
         _ if random.one_in(24) => [random.byte(); 32],
         _ => sha256::digest(area(book, parent, Area::Notarized)),
     };
-    let entries = (0..random.below(9)).map(|_| any_entry(random)).collect();
-    Block { height, parent, digest, entries }
+    Block { height, parent, digest, entries: any_entries(random) }
 }
 
 /// A block for a height: the held one, the notarized one or another.

@@ -2,7 +2,8 @@
 
 use crate::traits::{observer_read_length, read_length, reply_length};
 use crate::{
-    listening, observer_kinds, observer_single, packet_kinds, second_page_kinds, two_pages,
+    listening, observer_kinds, observer_single, packet_kinds, repeat_kinds, second_page_kinds,
+    two_pages,
 };
 use exchange::{Answer, Call, ObserverCall};
 use std::collections::{BTreeMap, BTreeSet};
@@ -26,7 +27,7 @@ const REFUSALS: [(&str, &[u8]); 12] = [
 ];
 
 /// The kinds that the generators name, or that are seen by looking at a book.
-const NAMED: [&str; 26] = [
+const NAMED: [&str; 28] = [
     "book: new, opened over junk",
     "book: sound, that no run makes",
     "book: with a free byte set",
@@ -53,6 +54,8 @@ const NAMED: [&str; 26] = [
     "network: a certificate fetched and sent",
     "network: the timer of a station fires",
     "network: an entry is submitted",
+    "network: a dishonest proposal carries an entry again",
+    "network: a log leaves out a repeat",
 ];
 
 /// The places of a lent buffer's length around its limit.
@@ -94,6 +97,7 @@ fn expected() -> Vec<String> {
     let mut all: Vec<String> = REFUSALS.into_iter().flat_map(refused).collect();
     all.extend(done.into_iter().chain(kinds).chain(lengths).chain(timers).chain(named));
     all.extend(second_page_kinds::by_flags().chain(observer_kinds::by_kind()));
+    all.extend(repeat_kinds::names());
     all
 }
 
@@ -137,6 +141,7 @@ impl Kinds {
             _ => {}
         }
         observer_kinds::kinds(call, book, answer).iter().for_each(|name| self.saw(name));
+        repeat_kinds::kinds(call, book, lent, answer).iter().for_each(|name| self.saw(name));
         let flags = book.get(field::FLAGS).copied().unwrap_or(0);
         if let (Call::Signal { .. }, Answer::Done) = (call, answer) {
             self.saw(&timer(flags));

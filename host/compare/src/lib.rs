@@ -24,6 +24,7 @@ mod packet_kinds;
 mod packets;
 mod pair;
 mod random;
+mod repeat_kinds;
 mod report;
 mod run;
 mod scribe;

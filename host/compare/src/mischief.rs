@@ -1,10 +1,11 @@
-//! What the dishonest replicas of a network do: two proposals, two votes, certificates sent to some only.
+//! What the dishonest replicas of a network do: two proposals, two votes, certificates sent to some only, entries that
+//! the chain carries already.
 
 use crate::frames::any_entry;
 use crate::network::Network;
 use crate::Second;
 use reference::{is_quorum, sha256};
-use types::{field, head_height, height_at, Block, Calls, Frame, Height, FRAME_HEIGHT};
+use types::{field, head_height, height_at, Block, Calls, Frame, Height, ENTRY, FRAME_HEIGHT};
 
 impl<A: Calls, B: Second> Network<'_, A, B> {
     /// One act of the dishonest replicas, at a height near an honest one's.
@@ -14,8 +15,9 @@ impl<A: Calls, B: Second> Network<'_, A, B> {
         let near = head_height(&self.books[seen], field::CURRENT).saturating_add(1).min(last);
         let height = self.random.height_below(near).saturating_add(1).max(near.saturating_sub(2));
         let signer = self.honest + self.random.byte_below(self.n - self.honest);
-        match self.random.below(6) {
+        match self.random.below(8) {
             0 => self.equivocate(height),
+            6 | 7 => self.carry_again(height),
             1 | 2 => self.vote_for_all(signer, height),
             3 => {
                 self.saw("a dishonest blank vote");
@@ -41,7 +43,7 @@ impl<A: Calls, B: Second> Network<'_, A, B> {
         let recent = below.len().saturating_sub(6);
         let parent = self.random.pick(&below[recent..]).cloned();
         for _ in 0..2 {
-            let entries = vec![any_entry(self.random)];
+            let entries = (0..=self.random.below(3)).map(|_| self.some_entry()).collect();
             let mut block = Block { height, entries, ..Block::default() };
             if let Some(parent) = &parent {
                 block.parent = parent.height;
@@ -49,6 +51,38 @@ impl<A: Calls, B: Second> Network<'_, A, B> {
             }
             self.blocks.push(block.clone());
             self.whisper(&Frame::Proposal { signer: leader, block });
+        }
+    }
+
+    /// One proposal for a height, sent to all, that may carry entries again, if a dishonest replica leads the height
+    /// and nothing was proposed for it.
+    fn carry_again(&mut self, height: Height) {
+        let leader = self.leaders.get(usize::from(height).wrapping_sub(1)).copied().unwrap_or(0);
+        if leader < self.honest || !self.blocks_at(height).is_empty() {
+            return;
+        }
+        let below = self.blocks.iter().filter(|block| block.height < height);
+        let Some(parent) = below.max_by_key(|block| block.height) else { return };
+        let (parent, digest) = (parent.height, sha256::digest(&parent.bytes()));
+        let entries = (0..3).map(|_| self.some_entry()).collect();
+        let block = Block { height, parent, digest, entries };
+        self.blocks.push(block.clone());
+        let frame = Frame::Proposal { signer: leader, block }.bytes();
+        let all = self.listeners(&frame);
+        self.wire.extend(all.map(|listener| (listener, frame)));
+    }
+
+    /// An entry for a dishonest proposal: every other time one that some block carries already.
+    fn some_entry(&mut self) -> [u8; ENTRY] {
+        let block = self.random.pick(&self.blocks).filter(|block| !block.entries.is_empty());
+        let entries = block.map_or(&[][..], |block| &block.entries);
+        let entry = self.random.pick(entries).copied();
+        match entry.filter(|_| self.random.one_in(2)) {
+            Some(entry) => {
+                self.saw("a dishonest proposal carries an entry again");
+                entry
+            }
+            None => any_entry(self.random),
         }
     }
 

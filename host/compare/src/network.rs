@@ -3,11 +3,11 @@
 use crate::books::{any_heights, any_replicas};
 use crate::frames::any_entry;
 use crate::Random;
-use crate::{Halt, Pair, Second};
+use crate::{repeat_kinds, Halt, Pair, Second};
 use exchange::{Answer, Call};
 use types::{book_length, field, head_height};
 use types::{Block, Calls, Counts, Delivered, Frame, Height, Move};
-use types::{BLOCK, FRAME, MOST_LOG};
+use types::{BLOCK, ENTRY, FRAME, MOST_LOG};
 
 /// The replicas and what is under way between them. The last few replicas are dishonest and have no book here.
 pub struct Network<'a, A, B> {
@@ -246,7 +246,19 @@ impl<'a, A: Calls, B: Second> Network<'a, A, B> {
         Ok(buffer[..usize::try_from(length).unwrap_or(0)].to_vec())
     }
 
-    /// Reads all logs, observers' too: none may have shrunk, and of any two one must begin the other.
+    /// Counts a log of so many bytes that is shorter than what its chain carries.
+    fn see_repeats(&mut self, reader: usize, length: usize) {
+        let carried = match reader.checked_sub(self.books.len()) {
+            Some(observer) => self.observers.get(observer).map(|book| repeat_kinds::observed(book)),
+            None => self.books.get(reader).map(|book| repeat_kinds::carried(book)),
+        };
+        if carried.is_some_and(|carried| carried.len().saturating_mul(ENTRY) > length) {
+            self.saw("a log leaves out a repeat");
+        }
+    }
+
+    /// Reads all logs, observers' too: none may have shrunk, and of any two one must begin the other. An entry that a
+    /// chain repeats stands in them once.
     pub fn check(&mut self) -> Result<Option<&'static str>, Halt> {
         let mut buffer = vec![0xbb; MOST_LOG];
         for reader in 0..self.logs.len() {
@@ -256,6 +268,9 @@ impl<'a, A: Calls, B: Second> Network<'a, A, B> {
             };
             if !log.starts_with(&self.logs[reader]) {
                 return Ok(Some("a log does not begin with what it was before"));
+            }
+            if log.len() > self.logs[reader].len() {
+                self.see_repeats(reader, log.len());
             }
             self.logs[reader] = log;
         }

@@ -1,6 +1,6 @@
 //! Random frames for an observer's book: mostly certificates that it takes, some that it must refuse.
 
-use crate::frames::{any_entry, any_frame_bytes, any_mask, byte};
+use crate::frames::{any_entries, any_frame_bytes, any_mask, byte};
 use crate::Random;
 use reference::{is_quorum, sha256};
 use types::{field, head_height, mask_at, put_height, Block, Frame, Height};
@@ -52,8 +52,7 @@ pub fn any_observed_block(random: &mut Random, book: &[u8], height: Height) -> B
         _ if random.one_in(24) => [random.byte(); 32],
         _ => sha256::digest(observed(book, parent, ObserverArea::Notarized)),
     };
-    let entries = (0..random.below(9)).map(|_| any_entry(random)).collect();
-    Block { height, parent, digest, entries }
+    Block { height, parent, digest, entries: any_entries(random) }
 }
 
 /// A certificate; of a page the notarized one now and then, or one that differs from it.

@@ -1,11 +1,11 @@
 //! Lists of calls on a single observer's book, and on a station and an observer side by side.
 
 use crate::books::{any_heights, any_replicas, arguments_for};
-use crate::choose::{any_call, Recent};
+use crate::choose::{any_call, near_size, Recent};
 use crate::observer_books::{damage, garbage, strange_observer, traits};
 use crate::observer_frames::{any_certificate, any_observed_bytes};
 use crate::Random;
-use crate::{Halt, Pair, Second};
+use crate::{repeat_kinds, Halt, Pair, Second};
 use exchange::{Answer, Call, ObserverCall};
 use reference::Rules;
 use types::{book_length, is_observers, observer_book_length, Calls, Height, Move};
@@ -186,11 +186,10 @@ pub fn any_observer_call(random: &mut Random, book: &[u8]) -> (ObserverCall, usi
     }
 }
 
-/// A length around that of the log.
+/// A length around that of the log, or around that which it would have with its repeats.
 fn reading_length(random: &mut Random, book: &[u8]) -> usize {
     let size = Calls::observer_size(&Rules::SHA256, book).unwrap_or(0);
-    let more = *random.pick(&[0, 0, 1, 15, 16, 17, 18, 32, 300]).unwrap_or(&0);
-    usize::try_from(size).unwrap_or(0).saturating_add(more).saturating_sub(16)
+    near_size(random, usize::try_from(size).unwrap_or(0), repeat_kinds::observed(book).len())
 }
 
 /// So many random calls on an observer's book, each with a buffer of junk; seldom one of a station's.

@@ -127,10 +127,11 @@ fn votes<C: Calls + Copy>(bench: &Bench<C>) {
 }
 
 /// A page on a page settles: the settled and the current height stand where the page says, the register is the pages'
-/// entries.
+/// entries, each once.
 fn settling<C: Calls + Copy>(bench: &Bench<C>) {
     let first = bench.page(1, None, &[[1; 16], [2; 16]]);
-    let second = bench.page(2, Some(&first), &[[3; 16]; 8]);
+    let more = [3, 4, 5, 6, 2, 7, 3, 8].map(|byte| [byte; 16]);
+    let second = bench.page(2, Some(&first), &more);
     let mut book = bench.new_book();
     for (height, page) in [(1, &first), (2, &second)] {
         bench.fresh(&mut book, &bench.frame(5, height, &[("mask", &[0b0111, 0]), ("page", page)]));
@@ -144,10 +145,9 @@ fn settling<C: Calls + Copy>(bench: &Bench<C>) {
     assert_eq!(book[bench.head("settled height").start], 2);
     bench.calls.make_move(&mut book, &mut reply).unwrap();
     assert_eq!(book[bench.head("current height").start], 2);
-    let mut register = [0; 16 * 10];
-    assert_eq!(bench.calls.read(&book, &mut register), 16 * 10);
-    assert_eq!(register[..32], [[1; 16], [2; 16]].concat());
-    assert_eq!(register[32..], [[3; 16]; 8].concat());
+    let mut register = [0; 16 * 8];
+    assert_eq!(bench.calls.read(&book, &mut register), 16 * 8);
+    assert_eq!(register[..], [1, 2, 3, 4, 5, 6, 7, 8].map(|byte| [byte; 16]).concat());
 }
 
 /// A byte that is not zero where the page says zero makes a frame refused with 4, in its own fields and in its page's.

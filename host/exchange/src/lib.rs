@@ -9,6 +9,7 @@
 mod answer;
 pub mod bytes;
 mod call;
+mod colliding;
 mod failure;
 pub mod fields;
 mod line;
@@ -25,6 +26,7 @@ pub mod words;
 
 pub use answer::Answer;
 pub use call::Call;
+pub use colliding::{colliding, place_in_table};
 pub use failure::{Failure, Unmet};
 pub use line::{Expected, Line};
 pub use list::{List, Problem, HEADING};

@@ -56,7 +56,7 @@ unsafe extern "C" {
 }
 
 /// The number of the interface that this crate knows, as MAVUNILAI_INTERFACE of the header.
-pub const INTERFACE: u64 = 3;
+pub const INTERFACE: u64 = 4;
 
 /// Whether the library is of that interface. Each call of [`Proved`] asks this first.
 pub fn fits() -> bool {

@@ -3,6 +3,7 @@
 pub use crate::observer::inspect::{inspect_observer, ObservedHeight, ObserverInspection};
 
 use crate::block;
+use crate::entry::ENTRY;
 use crate::height::Height;
 use crate::state::Slot;
 use crate::Rules;
@@ -24,6 +25,8 @@ pub struct Inspection {
     pub pending: u8,
     /// The height that a proposal at the current height would name as its parent, if a chain ends below.
     pub parent: Option<Height>,
+    /// All entries of the chain that ends at the finalized height, repeats among them: the log before it is shortened.
+    pub carried: Vec<[u8; ENTRY]>,
     /// The heights from 1 up.
     pub heights: Vec<AtHeight>,
 }
@@ -75,6 +78,7 @@ pub fn inspect(book: &[u8]) -> Result<Inspection, u8> {
         finalized: state.finalized,
         pending: state.pending_count,
         parent: chain.parent_for(state.current),
+        carried: chain.entries(state.finalized).into_iter().copied().collect(),
         heights: (1..).zip(&state.slots).map(tell).collect(),
     })
 }

@@ -1,26 +1,36 @@
-//! The log (document 01: register): the entries of a chain, their size, and reading them.
+//! The log (document 01: register): the entries of a chain, each once, their size, and reading them.
 
 use crate::block;
 use crate::chain::Chain;
 use crate::entry::{Entry, ENTRY};
 use crate::height::Height;
 use crate::Rules;
+use std::collections::HashSet;
 
 impl<'a> Chain<'a> {
-    /// The entries of the chain that ends in the block of a linked height, oldest block first.
-    pub fn log(&self, height: Height) -> Vec<&'a Entry> {
+    /// All entries of the chain that ends in the block of a linked height, oldest block first, as often as its blocks
+    /// carry them: the log before it is shortened.
+    pub fn entries(&self, height: Height) -> Vec<&'a Entry> {
         let Some(last) = self.notarized(height) else {
             return Vec::new();
         };
         let parent = block::parent_height(last);
-        let mut entries = if parent < height { self.log(parent) } else { Vec::new() };
+        let mut entries = if parent < height { self.entries(parent) } else { Vec::new() };
         entries.extend(block::entries(last));
+        entries
+    }
+
+    /// The log of that chain: an entry that equals an earlier one is the same filing, and has the first one's place.
+    pub fn log(&self, height: Height) -> Vec<&'a Entry> {
+        let mut filed: HashSet<&Entry> = HashSet::new();
+        let mut entries = self.entries(height);
+        entries.retain(|entry| filed.insert(*entry));
         entries
     }
 }
 
 impl Rules {
-    /// The length in bytes of the log: the entries of the chain that ends at the finalized height.
+    /// The length in bytes of the log: the entries of the chain that ends at the finalized height, each counted once.
     ///
     /// Refuses with 1.
     pub fn size(&self, book: &[u8]) -> Result<usize, u8> {
@@ -28,8 +38,8 @@ impl Rules {
         Ok(self.chain(&state).log(state.finalized).len().saturating_mul(ENTRY))
     }
 
-    /// Writes the log to the front of the buffer and returns that part. The part is empty, and
-    /// nothing is written, if the book is not sound or the log does not fit.
+    /// Writes the log to the front of the buffer, each entry at its first place, and returns that part. The part is
+    /// empty, and nothing is written, if the book is not sound or the log does not fit.
     pub fn read<'a>(&self, book: &[u8], buffer: &'a mut [u8]) -> &'a mut [u8] {
         let Ok(state) = self.sound(book) else {
             return &mut [];

@@ -85,8 +85,8 @@ impl Rules {
         }
         let chain = self.chain(state);
         let parent = chain.parent_for(height)?;
-        let logged = chain.log(parent);
-        let entries = state.pending().filter(|entry| !logged.contains(entry));
+        let carried = chain.entries(parent);
+        let entries = state.pending().filter(|entry| !carried.contains(entry));
         let block = block::compose(height, parent, &chain.digest_at(parent)?, entries);
         let statement = Statement::Proposal { signer: state.own, block: &block };
         Frame { height, statement }.write(first);

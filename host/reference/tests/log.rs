@@ -20,8 +20,8 @@ fn the_log_is_the_chain_at_the_finalized_height() {
     let mut book = logged_book();
     assert_eq!((RULES.size(&book), log_of(&book)), (Ok(0), vec![]));
     assert_eq!(one_move(&mut book).0, Move::Final { height: 3 });
-    assert_eq!(RULES.size(&book), Ok(64));
-    assert_eq!(log_of(&book), [1, 2, 3, 1].map(entry).concat());
+    assert_eq!(RULES.size(&book), Ok(48));
+    assert_eq!(log_of(&book), [1, 2, 3].map(entry).concat());
 }
 
 #[test]
@@ -29,13 +29,13 @@ fn read_returns_the_front_or_nothing() {
     let mut book = logged_book();
     one_move(&mut book);
     let mut buffer = [0xaa; 70];
-    assert_eq!(RULES.read(&book, &mut buffer), [1, 2, 3, 1].map(entry).concat());
-    assert_eq!(buffer[64..], [0xaa; 6]);
-    let mut exact = [0xaa; 64];
-    assert_eq!(RULES.read(&book, &mut exact).len(), 64);
-    let mut short = [0xaa; 63];
+    assert_eq!(RULES.read(&book, &mut buffer), [1, 2, 3].map(entry).concat());
+    assert_eq!(buffer[48..], [0xaa; 22]);
+    let mut exact = [0xaa; 48];
+    assert_eq!(RULES.read(&book, &mut exact).len(), 48);
+    let mut short = [0xaa; 47];
     assert_eq!(RULES.read(&book, &mut short), []);
-    assert_eq!(short, [0xaa; 63]);
+    assert_eq!(short, [0xaa; 47]);
     book[7] = 255;
     let mut buffer = [0xaa; 70];
     assert_eq!(RULES.read(&book, &mut buffer), []);
@@ -113,10 +113,17 @@ fn fetch_gives_a_block_that_is_not_linked() {
     assert_eq!(reply, block_certificate(7, &loose));
 }
 
+/// An entry of its own for each height and place.
+fn other_entry(height: u8, at: u8) -> [u8; 16] {
+    let mut entry = entry(height);
+    entry[15] = at;
+    entry
+}
+
 #[test]
 fn the_longest_log() {
     let mut book = new_book(1, 0, &[0; 63]);
-    let entries = |tag: u8| [tag, 64 + tag, 128, 192, 0, 1, 2, 3].map(entry);
+    let entries = |height: u8| std::array::from_fn::<_, 8, _>(|at| other_entry(height, at as u8));
     let mut last = block(1, 0, ZERO, &entries(1));
     deliver_all(&mut book, &[block_certificate(1, &last)]);
     for (height, tag) in (2..=63).zip(2..) {

@@ -21,7 +21,7 @@ fn certificate(random: &mut Random, n: u8, blocks: &mut Vec<Block>) -> FrameByte
         _ => {
             let below: Vec<Block> =
                 blocks.iter().filter(|below| height_in(&below[..2]) < height).copied().collect();
-            let entries = [entry(random.below(3) as u8)];
+            let entries = [0; 3].map(|_| entry(random.below(9) as u8));
             let block = match below.is_empty() || random.one_in(3) {
                 true => block(height, 0, ZERO, &entries),
                 false => block_on(height, &below[random.below(below.len())], &entries),
@@ -68,7 +68,7 @@ fn the_same_certificates_give_the_same_log() {
         lengths.push(length);
         refused.iter_mut().zip(numbers).for_each(|(all, more)| *all += more);
     }
-    assert!(lengths.iter().filter(|length| **length >= 32).count() > 50, "{lengths:?}");
+    assert!(lengths.iter().filter(|length| **length >= 64).count() > 30, "{lengths:?}");
     assert!([0, 4, 5, 6, 9, 10].iter().all(|number| refused[*number] > 20), "{refused:?}");
 }
 

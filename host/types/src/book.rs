@@ -121,7 +121,8 @@ impl<C: Calls> Book<C> {
         self.calls.submit(&mut self.bytes, entry).map_err(Refusal::of)
     }
 
-    /// The log as a list of entries (document 01: the register).
+    /// The log as a list of entries (document 01: the register): each entry of the settled chain once, at its first
+    /// place.
     pub fn log(&self) -> Result<Vec<[u8; ENTRY]>, Refusal> {
         let size = self.calls.size(&self.bytes).map_err(Refusal::of)?;
         let size = usize::try_from(size).unwrap_or(0);

@@ -14,7 +14,7 @@ pub const MOST_ENTRIES: u8 = 8;
 /// The most pending entries of a book.
 pub const MOST_PENDING: u8 = 32;
 
-/// The bytes of the longest log.
+/// The bytes of the longest log: all blocks are full, and no entry repeats another.
 pub const MOST_LOG: usize = MOST_HEIGHTS as usize * MOST_ENTRIES as usize * ENTRY;
 
 /// The edition of every book.

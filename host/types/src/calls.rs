@@ -31,10 +31,12 @@ pub trait Calls {
     /// Adds a pending entry: 1, 4, 13, 12.
     fn submit(&self, book: &mut [u8], entry: &[u8]) -> Result<(), u8>;
 
-    /// The length of the log in bytes (document 01: register size): 1.
+    /// The length of the log in bytes (document 01: register size); an entry that equals an earlier one of its chain is
+    /// not counted: 1.
     fn size(&self, book: &[u8]) -> Result<u64, u8>;
 
-    /// Writes the log to the buffer's front and counts its bytes; 0, and nothing written, where it cannot.
+    /// Writes the log to the buffer's front, each entry once and at its first place, and counts its bytes; 0, and
+    /// nothing written, where it cannot.
     fn read(&self, book: &[u8], buffer: &mut [u8]) -> u64;
 
     /// Writes a certificate of kind 5, 6 or 7 to the reply's front: 1, 4, 6, 3, 11.
@@ -49,7 +51,7 @@ pub trait Calls {
     /// Makes the one move that an observer has, [`Move::Final`], or is idle; nothing is written but the book: 1.
     fn observer_move(&self, book: &mut [u8]) -> Result<Move, u8>;
 
-    /// The length in bytes of the log that an observer reads: 1.
+    /// The length in bytes of the log that an observer reads, in which each entry counts once too: 1.
     fn observer_size(&self, book: &[u8]) -> Result<u64, u8>;
 
     /// Writes that log to the buffer's front and counts its bytes; 0, and nothing written, where it cannot.

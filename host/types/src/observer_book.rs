@@ -56,7 +56,8 @@ impl<C: Calls> ObserverBook<C> {
         self.calls.observer_move(&mut self.bytes).map_err(Refusal::of)
     }
 
-    /// The log as a list of entries (document 01: the register).
+    /// The log as a list of entries (document 01: the register): each entry of the settled chain once, at its first
+    /// place.
     pub fn log(&self) -> Result<Vec<[u8; ENTRY]>, Refusal> {
         let size = self.calls.observer_size(&self.bytes).map_err(Refusal::of)?;
         let mut buffer = vec![0; usize::try_from(size).unwrap_or(0)];

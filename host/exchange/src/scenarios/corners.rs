@@ -172,6 +172,6 @@ fn unsettled_entry<C: Calls>(to: &mut Recorder<C>) {
     submit(to, BOOK, entry("swap A1 B2"));
     to.remark("A taken one drops it from between the others, which stay in order");
     submit(to, BOOK, numbered(4));
-    to.remark("An entry that stands twice in the register counts twice");
+    to.remark("An entry that its page carries twice is counted once");
     to.make(Call::Size, BOOK, "");
 }

@@ -12,6 +12,8 @@ mod packets;
 mod parts;
 mod refusals;
 mod rehearsal;
+mod repeats;
+mod repeats_pool;
 mod season;
 mod tallies;
 mod two_pages;
@@ -23,12 +25,13 @@ use types::Calls;
 pub use vectors::vectors;
 
 /// The names of the lists; each is a file of the folder with `.txt` behind it.
-pub const NAMES: [&str; 9] = [
+pub const NAMES: [&str; 10] = [
     "refusals",
     "orders",
     "moves",
     "corners",
     "tallies",
+    "repeats",
     "rehearsal",
     "season",
     "books",
@@ -44,6 +47,7 @@ pub fn record(name: &str, calls: impl Calls) -> Option<List> {
         "moves" => moves::run(&mut to),
         "corners" => corners::run(&mut to),
         "tallies" => tallies::run(&mut to),
+        "repeats" => repeats::run(&mut to),
         "rehearsal" => rehearsal::run(&mut to),
         "season" => season::run(&mut to),
         "books" => books::run(&mut to),

@@ -125,7 +125,7 @@ fn reading<C: Calls>(to: &mut Recorder<C>) {
     to.open_observer(WATCH, 4, 3);
     observe(to, WATCH, &[page(7, &one), blank(7, 2), page(7, &three), finalise(7, 3)]);
     settle(to, WATCH);
-    [0, 16, 47, 48, 49, 80].into_iter().for_each(|length| read(to, WATCH, length));
+    [0, 16, 31, 32, 33, 80].into_iter().for_each(|length| read(to, WATCH, length));
 }
 
 fn side_by_side<C: Calls>(to: &mut Recorder<C>) {

@@ -128,7 +128,7 @@ fn observing(to: &mut Recorder<Rules>, digest: Digest) {
         to.observer(BOOK, ObserverCall::Move);
     }
     to.observer(BOOK, ObserverCall::Size);
-    for length in [47, 48, 50] {
+    for length in [31, 32, 34] {
         lend(to, Call::Observer(ObserverCall::Read), length);
     }
 }

@@ -2,6 +2,7 @@
 
 use super::state::Observed;
 use crate::block;
+use crate::entry::ENTRY;
 use crate::height::Height;
 use crate::Rules;
 
@@ -14,6 +15,8 @@ pub struct ObserverInspection {
     pub finalized: Height,
     /// The largest height that the book shows as finalized: that to which a move goes.
     pub largest: Height,
+    /// All entries of the chain that ends at the finalized height, repeats among them: the log before it is shortened.
+    pub carried: Vec<[u8; ENTRY]>,
     /// The heights from 1 up.
     pub heights: Vec<ObservedHeight>,
 }
@@ -49,6 +52,7 @@ pub fn inspect_observer(book: &[u8]) -> Result<ObserverInspection, u8> {
         n: state.n,
         finalized: state.finalized,
         largest: chain.largest_finalized(),
+        carried: chain.entries(state.finalized).into_iter().copied().collect(),
         heights: (1..).zip(&state.slots).map(tell).collect(),
     })
 }

@@ -4,7 +4,7 @@ use crate::entry::ENTRY;
 use crate::{log, Rules};
 
 impl Rules {
-    /// The length in bytes of the log: the entries of the chain that ends at the finalized height.
+    /// The length in bytes of the log: the entries of the chain that ends at the finalized height, each counted once.
     ///
     /// Refuses with 1.
     pub fn observer_size(&self, book: &[u8]) -> Result<usize, u8> {
@@ -12,8 +12,8 @@ impl Rules {
         Ok(self.chain(&state).log(state.finalized).len().saturating_mul(ENTRY))
     }
 
-    /// Writes the log to the front of the buffer and returns that part. The part is empty, and nothing is written, if
-    /// the book is not sound or the log does not fit.
+    /// Writes the log to the front of the buffer, each entry at its first place, and returns that part. The part is
+    /// empty, and nothing is written, if the book is not sound or the log does not fit.
     pub fn observer_read<'a>(&self, book: &[u8], buffer: &'a mut [u8]) -> &'a mut [u8] {
         let Ok(state) = self.observer_sound(book) else {
             return &mut [];
