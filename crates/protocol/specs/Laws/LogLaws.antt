@@ -25,6 +25,10 @@ use Rattle.protocol.specs.Laws.ChainLaws.{log-sized, log-bound}
 
 -- ---- of any state: the log has the finalized chain's entries, none of them twice
 module _ (s : State) where
+  pub log-once : noneTwice (log s) ≡ true
+  unfolding log
+  log-once = distinct-once (logAt (view s) (s .finalized))
+
   pub log-holds : (x : Bytes) → holds x (log s) ≡ holds x (logAt (view s) (s .finalized))
   unfolding log
   log-holds x = holds-distinct x (logAt (view s) (s .finalized))
@@ -32,10 +36,6 @@ module _ (s : State) where
   pub log-lacks : (es : List Bytes) → without (log s) es ≡ without (logAt (view s) (s .finalized)) es
   unfolding log
   log-lacks es = without-distinct (logAt (view s) (s .finalized)) es
-
-  pub log-once : noneTwice (log s) ≡ true
-  unfolding log
-  log-once = distinct-once (logAt (view s) (s .finalized))
 
   -- where the chain has none twice, the log is all its entries
   pub log-whole : noneTwice (logAt (view s) (s .finalized)) ≡ true → log s ≡ logAt (view s) (s .finalized)
