@@ -22,16 +22,20 @@
 use Prim.Native.Nat.{ℕ, _*_, _≤_}
 use mathlib.Core.Path.{_≡_}
 use mathlib.Core.Bool.{true, false}
-use mathlib.Core.List.{List, [], _∷_, map}
+use mathlib.Core.List.{List, [], _∷_, _++_, map}
 use lib.ListN.{length}
 use borrow.Author.Tests.{le-leb}
 use Rattle.sha256.specs.Digest.{sha256}
 use Rattle.sha256.specs.Laws.DigestLaws.{sha256-length}
-use Rattle.protocol.specs.Bytes.{Bytes, AreBytes}
+use Rattle.protocol.specs.Bytes.{Bytes, AreBytes, holds}
+use Rattle.protocol.specs.Distinct.{distinctAfter, distinct, noneTwice}
 use Rattle.protocol.specs.Tests.{firstRefusal}
 use Rattle.protocol.specs.Frame.{frameSize}
-use Rattle.protocol.specs.State.{decode, flag}
-use Rattle.protocol.specs.Sound.{sound}
+use Rattle.protocol.specs.State.{State, decode, flag}
+use Rattle.protocol.specs.View.{logAt}
+use Rattle.protocol.specs.Sound.{view, sound, log}
+use Rattle.protocol.specs.Laws.DistinctLaws.{distinct-append}
+use Rattle.protocol.specs.Laws.LogLaws.{log-once, log-holds, log-whole}
 use Rattle.protocol.specs.Laws.SoundLaws.{sound-decode}
 use Rattle.protocol.specs.Answer.{Done, Delivery, Counts, Move, accepted, done}
 use Rattle.protocol.specs.Open.{openRows, openCall}
@@ -239,10 +243,27 @@ votes-are-tallied book n own heights leaders calls opened =
     (tallied-opened sha256 book n own heights leaders opened)
 
 -- ---- demand 2: what is read
--- Read gives the linearization of the finalized blockchain that ends at g
+-- Read gives the linearization of the finalized blockchain that ends at g, each entry at its first place
 pub the-register : (book buffer : Bytes) (size : ℕ) → sizeCall sha256 book ≡ accepted size → size ≤ length buffer →
     ReadsChain sha256 book buffer size
 the-register = reads-chain sha256
+
+-- the log of any state, a replica's or an observer's: no entry twice; just the entries of the finalized chain; all of
+-- them where the chain has none twice; and what follows in a longer chain takes nothing away
+pub nothing-is-logged-twice : (s : State) → noneTwice (log s) ≡ true
+nothing-is-logged-twice = log-once
+
+pub logged-are-the-chains-entries : (s : State) (entry : Bytes) →
+    holds entry (log s) ≡ holds entry (logAt (view s) (s .finalized))
+logged-are-the-chains-entries = log-holds
+
+pub logged-is-all-without-repeats : (s : State) → noneTwice (logAt (view s) (s .finalized)) ≡ true →
+    log s ≡ logAt (view s) (s .finalized)
+logged-is-all-without-repeats = log-whole
+
+pub first-places-stay : (entries more : List Bytes) →
+    distinct (entries ++ more) ≡ distinct entries ++ distinctAfter entries more
+first-places-stay = distinct-append
 
 -- each frame written is read over every book of the same n, H and leaders as the same statement
 pub moves-are-read : (book reply other : Bytes) → SameSetting (decode book) (decode other) →

@@ -125,7 +125,7 @@ pub the-observers-step : (book : Bytes) → observerSound sha256 book ≡ true �
 the-observers-step = observer-moves sha256
 
 -- ---- what is read
--- Read gives the linearization of the finalized blockchain that ends at g
+-- Read gives the linearization of the finalized blockchain that ends at g, each entry at its first place
 pub the-observers-register : (book buffer : Bytes) (size : ℕ) → observerSizeCall sha256 book ≡ accepted size →
     size ≤ length buffer → ObserverReadsChain sha256 book buffer size
 the-observers-register = observer-reads-chain sha256
