@@ -11,15 +11,12 @@ use Rattle.protocol.specs.Every.{Every, none, one}
 use Rattle.protocol.specs.Bytes.{Bytes, same, holds, without}
 use Rattle.protocol.specs.Distinct.{distinctAfter, distinct, noneTwice}
 use Rattle.protocol.specs.Laws.RowLaws.{same-eq, eq-same}
+use borrow.Author.Tests.{not-true}
+use Rattle.protocol.specs.Laws.PoolLaws.{cond-append}
 use Rattle.protocol.specs.Laws.TestsLaws.{and-both, or-either, cond-elim}
 use Rattle.protocol.specs.Laws.EntriesLaws.{holds-append, holds-first, holds-next, holds-none, holds-front, holds-back}
 
 -- ---- a longer list
-cond-append : (b : Bool) (e : Bytes) (xs ys : List Bytes) →
-    cond b (xs ++ ys) (e ∷ (xs ++ ys)) ≡ cond b xs (e ∷ xs) ++ ys
-cond-append true e xs ys = refl
-cond-append false e xs ys = refl
-
 after-append : (earlier xs ys : List Bytes) →
     distinctAfter earlier (xs ++ ys) ≡ distinctAfter earlier xs ++ distinctAfter (earlier ++ xs) ys
 unfolding distinctAfter
@@ -146,10 +143,6 @@ holds-later x y ys e = go (same x y) e
     go true q = absurd (false≢true (sym q))
     go false q = q
 
-not-held : (b : Bool) → not b ≡ true → b ≡ false
-not-held true e = absurd (false≢true e)
-not-held false e = refl
-
 same-after : (earlier es : List Bytes) → ((x : Bytes) → holds x earlier ≡ true → holds x es ≡ false) →
     noneTwice es ≡ true → distinctAfter earlier es ≡ es
 unfolding distinctAfter noneTwice holds
@@ -160,7 +153,7 @@ same-after earlier (y ∷ ys) apart e = go (same-after (earlier ++ (y ∷ [])) y
     both = and-both (not (holds y ys)) (noneTwice ys) e
 
     last : (x : Bytes) (b : Bool) → same x y ≡ b → cond b true false ≡ true → holds x ys ≡ false
-    last x true s q = rw (same-eq x y s) (not-held (holds y ys) (both .0))
+    last x true s q = rw (same-eq x y s) (not-true (holds y ys) (both .0))
     last x false s q = absurd (false≢true q)
 
     apart-more : (x : Bytes) → holds x (earlier ++ (y ∷ [])) ≡ true → holds x ys ≡ false

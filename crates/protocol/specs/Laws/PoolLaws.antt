@@ -153,7 +153,7 @@ module _ (s : State) (size : length (s .pool) ≡ 512) (es : List Bytes) (sized 
       front-more (s .pool) es entry (length-part (s .pool) (16 * k) 16 (omega arith)))
 
 -- ---- which entries stay, one by one
-cond-append : (b : Bool) (e : Bytes) (xs others : List Bytes) →
+pub cond-append : (b : Bool) (e : Bytes) (xs others : List Bytes) →
     cond b (xs ++ others) (e ∷ (xs ++ others)) ≡ cond b xs (e ∷ xs) ++ others
 cond-append true e xs others = refl
 cond-append false e xs others = refl
