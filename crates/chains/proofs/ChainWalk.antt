@@ -21,7 +21,8 @@ use Rattle.sha256.specs.Digest.{sha256}
 use Rattle.chains.specs.Walkable.{WalkableAs}
 use Rattle.book_fields.specs.Book.{viewOf}
 use Rattle.book_fields.specs.declared.kind.Kind.{Kind}
-use Rattle.protocol.specs.Laws.EntriesLaws.{entries-length, holds-first, holds-next, holds-none, holds-back, holds-front}
+use Rattle.protocol.specs.Laws.EntriesLaws.{entries-length, holds-first, holds-next, holds-none, holds-back}
+use Rattle.protocol.specs.Laws.EntriesLaws.{holds-front}
 use Rattle.chains.specs.Entries.{firstEntries}
 
 pub record Step (kind : Kind) (book : Bytes) (h : ℕ) (block : Bytes) : Type 0 where

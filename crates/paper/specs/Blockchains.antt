@@ -60,8 +60,8 @@ module _ (digest : Bytes → Bytes) (v : View) where
   unfoldable pub FinalizedIsSeen : ℕ → Type 0
   FinalizedIsSeen h = 1 ≤ h → (isFinalized digest v h ≡ true) ↔ (SeenWithBlock digest v h × Finalization v h)
 
--- the log of a state is the linearization of a finalized blockchain that ends at its finalized height, each entry at its
--- first place
+-- the log of a state is the linearization of a finalized blockchain that ends at its finalized height, each entry at
+-- its first place
 pub record LogIsLinearized (digest : Bytes → Bytes) (s : State) : Type 0 where
   pub sequence : Sequence
   pub finalized : FinalizedBlockchain digest (view s) sequence

@@ -1,5 +1,5 @@
--- Registers of chains that carry an entry twice: the distinct entries of small lists, and Register size, Read and Submit
--- on whole books of a replica and of an observer.
+-- Registers of chains that carry an entry twice: the distinct entries of small lists, and Register size, Read and
+-- Submit on whole books of a replica, the first two on an observer's too.
 use Prim.Native.Nat.{ℕ}
 use mathlib.Core.Path.{_≡_, refl}
 use mathlib.Core.Bool.{true, false}
@@ -49,8 +49,8 @@ twice : map noneTwice
 unfolding stateTools
 twice = refl
 
--- ---- three blocks with ten entries, of which five are distinct: repeats within a block, of the block below, and of one
--- further below
+-- ---- three blocks with ten entries, of which five are distinct: repeats within a block, of the block below, and of
+-- one further below
 first : Bytes
 first = newBlock 1 0 (zeros 32) (entry 1 ∷ entry 2 ∷ entry 1 ∷ [])
 

@@ -14,7 +14,8 @@ use Rattle.protocol.specs.Laws.RowLaws.{same-eq, eq-same}
 use borrow.Author.Tests.{not-true}
 use Rattle.protocol.specs.Laws.PoolLaws.{cond-append}
 use Rattle.protocol.specs.Laws.TestsLaws.{and-both, or-either, cond-elim}
-use Rattle.protocol.specs.Laws.EntriesLaws.{holds-append, holds-first, holds-next, holds-none, holds-front, holds-back}
+use Rattle.protocol.specs.Laws.EntriesLaws.{holds-append, holds-first, holds-next, holds-none}
+use Rattle.protocol.specs.Laws.EntriesLaws.{holds-front, holds-back}
 
 -- ---- a longer list
 after-append : (earlier xs ys : List Bytes) →

@@ -95,5 +95,15 @@ returns-2 c =
 pub chain-holds-spec : {M : Type 1} → statement M
 chain-holds-spec =
     tie.close
-    (tie.spec Inv-loop μ-loop loop-holds block-requires entry-count-requires block-holds-requires returns parent-height-requires loop-less
-    loop-again returns-2)
+    (tie.spec
+    Inv-loop
+    μ-loop
+    loop-holds
+    block-requires
+    entry-count-requires
+    block-holds-requires
+    returns
+    parent-height-requires
+    loop-less
+    loop-again
+    returns-2)
