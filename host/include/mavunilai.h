@@ -40,10 +40,9 @@ extern "C" {
 #endif
 
 /* The number of the interface that this header declares. It goes up with each call that is added, with each change to
- * a call's arguments or to the set of its answers, and with a change after which stations would read other registers
- * than before it: so with 4, where an entry that its chain repeats is read once. A change of another rule by which a
- * call chooses another of the answers that it had leaves the number as it is: a program that was built before still
- * fits. */
+ * a call's arguments or to the set of its answers, and where a replica would read another register from the same book:
+ * so with 4, where an entry that its chain repeats is read once. A change of another rule by which a call chooses
+ * another of the answers that it had leaves the number as it is: a program that was built before still fits. */
 #define MAVUNILAI_INTERFACE 4u
 
 /* The number of the interface that the library has. */
@@ -324,8 +323,8 @@ mavunilai_answer mavunilai_signal(uint8_t *book, size_t book_len, uint64_t heigh
 mavunilai_answer mavunilai_submit(uint8_t *book, size_t book_len, const uint8_t *entry, size_t entry_len);
 
 /* The register's length in bytes: mavunilai_bytes of the answer, which is the refusal plus 256 times the size. The
- * register is the entries of the chain that ends at the settled height, oldest page first; an entry that equals an
- * earlier one, of the same page or of one before it, is the same filing and is not counted again.
+ * register is the entries of the chain that ends at the settled height, oldest page first; one that the same page or
+ * one below has before is not counted again.
  * Refusals: 1. No byte changes. The largest size, where no entry repeats another, is 63 * 8 * 16 = 8064. */
 mavunilai_answer mavunilai_size(const uint8_t *book, size_t book_len);
 

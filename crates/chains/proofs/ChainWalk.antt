@@ -1,4 +1,5 @@
--- One step of the walk back through a chain: what a linked height's block says, of its parent and of the log.
+-- One step of the walk back through a chain: what a linked height's block says, of its parent and of the chain's
+-- entries.
 use Prim.Native.Nat.{ℕ, zero, suc, _+_, _-_, _*_, _≤_, _<_}
 use native.Mathlib.Omega.{arith}
 use native.Mathlib.Numerals.{add-one}
@@ -11,7 +12,7 @@ use Rattle.protocol.specs.Bytes.{Bytes, part, same, holds}
 use Rattle.protocol.specs.Block.{parentHeight, entryCount, entries}
 use Rattle.protocol.specs.State.{maximumEntries}
 use Rattle.protocol.specs.Sound.{view}
-use Rattle.protocol.specs.View.{View, logAt}
+use Rattle.protocol.specs.View.{logAt}
 use Rattle.protocol.specs.Laws.FormedLaws.{Formed, formed}
 use Rattle.protocol.specs.Laws.LinkedLaws.{linked-parent}
 use Rattle.protocol.specs.Laws.ChainLaws.{log-suc, log-bound}

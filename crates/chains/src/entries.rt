@@ -2,10 +2,10 @@
 use book_fields::kind::Kind;
 ghost use mathlib.Core.Path.{_≡_};
 ghost use mathlib.Core.List.{[], _∷_, _++_};
-ghost use Prim.Native.Nat.{_*_, _<_, _≤_};
+ghost use Prim.Native.Nat.{_<_, _≤_};
 ghost use lib.ListN.{length};
 ghost use Rattle.protocol.specs.Bytes.{holds, overFront};
-ghost use Rattle.protocol.specs.Block.{entries, newBlock};
+ghost use Rattle.protocol.specs.Block.{newBlock};
 ghost use Rattle.protocol.specs.State.{decode, pending, maximumPending};
 ghost use Rattle.protocol.specs.View.{logAt};
 ghost use Rattle.protocol.specs.Move.{offered};
@@ -48,7 +48,7 @@ pub fn offer(book: &[u8], c: usize, j: usize, digest: &[u8], block: &mut [u8])
     }
 }
 
-// How many pending entries the log does not hold. Walks the log once for each of them, 32 times at most.
+// How many pending entries the log does not hold. Walks its chain once for each of them, 32 times at most.
 pub fn unlogged_count(book: &[u8]) -> usize
     requires { ⌜ Walkable (now book) (decode (now book) .finalized) ⌝ }
     requires { ⌜ decode (now book) .pendingCount ≤ maximumPending ⌝ }
@@ -88,7 +88,7 @@ pub fn is_pending(book: &[u8], entry: &[u8]) -> bool
 }
 
 // Makes the pending entries that the log does not hold, and `entry` after them, all that is pending. Closes the pool up
-// in place and walks the log once for each pending entry, 32 times at most.
+// in place and walks the log's chain once for each pending entry, 32 times at most.
 pub fn add_pending(book: &mut [u8], entry: &[u8])
     requires { ⌜ Ready (now book) ⌝ }
     requires { ⌜ Walkable (now book) (decode (now book) .finalized) ⌝ }

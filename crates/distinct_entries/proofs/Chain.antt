@@ -1,9 +1,9 @@
 -- The entries of a chain place by place: what stands before a place of its last block, and what before the next one.
-use Prim.Native.Nat.{ℕ, suc, _+_, _-_, _*_, _≤_, _<_}
+use Prim.Native.Nat.{ℕ, _+_, _-_, _*_, _≤_, _<_}
 use native.Mathlib.Omega.{arith}
 use native.Mathlib.Numerals.{add-one}
 use mathlib.Core.Path.{_≡_, refl, sym, ap, subst, _∙_}
-use mathlib.Core.Bool.{Bool, true, false, cond}
+use mathlib.Core.Bool.{Bool, true, false}
 use mathlib.Core.List.{List, [], _∷_, _++_, append-assoc, append-nil}
 use lib.ListN.{length, take, drop, length-append, length-drop}
 use lib.Seq.{drop-drop}
@@ -125,21 +125,21 @@ module _ {kind : Kind} {book : Bytes} {h : ℕ} (w : WalkableAs kind book h) (lo
 
 -- ---- the log of a chain
 -- none at height 0
-pub log-none : (v : View) (h : ℕ) → h ≤ 0 → logOf v h ≡ []
+pub distinct-none : (v : View) (h : ℕ) → h ≤ 0 → logOf v h ≡ []
 unfolding distinct distinctAfter
-log-none v h low = ap distinct (log-start v h low)
+distinct-none v h low = ap distinct (log-start v h low)
 
-pub log-few : {kind : Kind} {book : Bytes} {h : ℕ} → WalkableAs kind book h →
+pub distinct-few : {kind : Kind} {book : Bytes} {h : ℕ} → WalkableAs kind book h →
     length (logOf (viewOf kind book) h) ≤ maximumEntries
-log-few {kind} {book} {h} w =
+distinct-few {kind} {book} {h} w =
     let short = distinct-short (logAt (viewOf kind book) h) in
     let all = walk-few w in
     omega arith
 
 -- its bytes
-pub log-bytes : {kind : Kind} {book : Bytes} {h : ℕ} → WalkableAs kind book h →
+pub distinct-bytes : {kind : Kind} {book : Bytes} {h : ℕ} → WalkableAs kind book h →
     length (join (logOf (viewOf kind book) h)) ≡ 16 * length (logOf (viewOf kind book) h)
-log-bytes {kind} {book} {h} w =
+distinct-bytes {kind} {book} {h} w =
     length-join 16 (logOf (viewOf kind book) h)
     (every-distinct (log-sized sha256 (viewOf kind book) (w .formed) h (w .is-linked)))
 

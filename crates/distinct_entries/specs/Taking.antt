@@ -4,8 +4,8 @@ use mathlib.Core.Path.{_≡_}
 use mathlib.Core.Bool.{cond}
 use mathlib.Core.List.{List, [], _++_}
 use lib.Dec.{leb}
-use lib.ListN.{length, drop}
-use Rattle.protocol.specs.Bytes.{Bytes, part, pieces, join, overFront}
+use lib.ListN.{length}
+use Rattle.protocol.specs.Bytes.{Bytes, part, join, overFront}
 use Rattle.protocol.specs.Block.{parentHeight, entryCount}
 use Rattle.protocol.specs.Distinct.{distinct}
 use Rattle.protocol.specs.View.{View, logAt, logOf}

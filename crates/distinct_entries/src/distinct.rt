@@ -7,7 +7,6 @@ ghost use Prim.Native.Nat.{_+_, _*_, _<_, _≤_};
 ghost use lib.ListN.{length};
 ghost use lib.Dec.{leb};
 ghost use Rattle.protocol.specs.Bytes.{Bytes, part, join, holds, overFront, put};
-ghost use Rattle.protocol.specs.Block.{parentHeight, entryCount};
 ghost use Rattle.protocol.specs.Distinct.{distinct};
 ghost use Rattle.protocol.specs.State.{maximumEntries};
 ghost use Rattle.protocol.specs.View.{logAt, logOf};
@@ -114,7 +113,8 @@ fn take_chain(kind: Kind, book: &[u8], h: usize, filter: &mut [u8], buffer: &mut
     take_block(kind, book, h, count, filter, buffer)
 }
 
-// How many distinct entries the chain that ends in height `h` has. Makes a filter where there is a block.
+// How many distinct entries the chain that ends in height `h` has. Makes a filter where there is a block, goes through
+// the chain once, and looks back where the filter says perhaps, once an entry at most.
 pub fn count_distinct(kind: Kind, book: &[u8], h: usize) -> usize
     requires { ⌜ WalkableAs kind (now book) h ⌝ }
     ensures { λ r. ⌜ (r ≡ length (logOf (viewOf kind (now (book .entry))) h)) × (r ≤ maximumEntries) ⌝ }
@@ -158,7 +158,8 @@ fn copy_distinct(kind: Kind, book: &[u8], h: usize, buffer: &mut [u8]) -> usize
 }
 
 // Copies the distinct entries of the chain that ends in height `h` to the front of the buffer, or nothing where they do
-// not fit, and says how many bytes it wrote.
+// not fit, and says how many bytes it wrote. Goes through the chain up to three times: for all its entries' number, then
+// for that of the distinct ones where all would not fit, and to copy them.
 pub fn read_distinct(kind: Kind, book: &[u8], h: usize, buffer: &mut [u8]) -> usize
     requires { ⌜ WalkableAs kind (now book) h ⌝ }
     ensures length { λ r. ⌜ r ≡ length (partRead (viewOf kind (now (book .entry))) h (now (buffer .entry))) ⌝ }

@@ -1,15 +1,15 @@
 // The filter of a call: a table of bytes, one set for each entry that was gone through, at a place worked out from its
 // bytes. Where an entry's byte is not set, no equal entry came before, and nobody has to look back.
 ghost use mathlib.Core.Path.{_≡_};
-ghost use mathlib.Core.Bool.{true, false};
+ghost use mathlib.Core.Bool.{false};
 ghost use mathlib.Core.List.{List, [], _∷_, _++_};
 ghost use Prim.Native.Nat.{_+_, _<_};
 ghost use lib.ListN.{length};
 ghost use Rattle.protocol.specs.Bytes.{Bytes, holds};
 ghost use Rattle.distinct_entries.specs.Filter.{word32, placeOf, filterSize, Marked};
 
-// The size of a filter.
-pub const SIZE: usize = 8192;
+// The size of a filter: a prime, so that numbers that count up have places of their own.
+pub const SIZE: usize = 8179;
 
 // The 32-bit number at `at`, its low byte first. Costs four reads.
 fn long_word(bytes: &[u8], at: usize) -> usize
@@ -21,16 +21,16 @@ fn long_word(bytes: &[u8], at: usize) -> usize
     low + 65536 * high
 }
 
-// The place of an entry in a filter. Costs sixteen reads and four products.
+// The place of an entry in a filter. Costs sixteen reads, four products and a division by a constant.
 fn place(entry: &[u8]) -> usize
     requires { ⌜ length (now entry) ≡ 16 ⌝ }
     ensures { λ r. ⌜ (r ≡ placeOf (now (entry .entry))) × (r < filterSize) ⌝ }
 {
-    let first = 326128379 * long_word(entry, 0);
-    let second = 413158523 * long_word(entry, 4);
-    let third = 265443577 * long_word(entry, 8);
-    let fourth = 370248451 * long_word(entry, 12);
-    (first + second + third + fourth) / 268435456 % 8192
+    let first = 3609 * long_word(entry, 0);
+    let second = 4842 * long_word(entry, 4);
+    let third = 6902 * long_word(entry, 8);
+    let fourth = 1601 * long_word(entry, 12);
+    (first + second + third + fourth) % SIZE
 }
 
 // Sets the byte of an entry, and says whether it was set before: if not, no entry that was gone through equals it.

@@ -11,7 +11,8 @@ ghost use Rattle.protocol.specs.Observer.{observerState};
 ghost use Rattle.protocol.specs.ObserverCalls.{observerReadPart, observerReadBuffer};
 ghost use Rattle.book_fields.specs.Book.{SoundObserverBook};
 
-// How many entries the log of a sound book has. Goes through the entries of its chain once.
+// How many entries the log of a sound book has. Goes through the entries of its chain once, and looks back at those
+// before an entry for which the filter says perhaps, 504 times at most.
 pub fn log_count(book: &[u8]) -> usize
     requires { ⌜ SoundObserverBook sha (now book) ⌝ }
     ensures { λ r. ⌜ (r ≡ length (log (observerState (now (book .entry))))) × (r ≤ maximumEntries) ⌝ }

@@ -27,7 +27,7 @@ module _ (digest : Bytes → Bytes) (v : View) where
     pub its-height : height sequence ≡ h
     pub its-last : lastBlock sequence ≡ j
     pub its-digest : lastDigest digest sequence ≡ digestAt digest v j
-    pub its-log : linearize sequence ≡ logAt v j
+    pub its-entries : linearize sequence ≡ logAt v j
 
   -- some notarized blockchain of height `h` may be followed by block `b`
   pub record ParentOf (h : ℕ) (b : Bytes) : Type 0 where

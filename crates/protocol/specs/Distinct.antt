@@ -1,5 +1,5 @@
--- The distinct entries of a list, each at its first place: what a register keeps of a chain's entries, since an entry
--- equal to an earlier one of the chain is the same filing (document 02, request 2.5).
+-- The distinct entries of a list, each at its first place: what a register keeps of a chain's entries, so that what is
+-- filed again counts once (document 02, request 2.5).
 use mathlib.Core.Bool.{Bool, true, _&&_, not, cond}
 use mathlib.Core.List.{List, [], _∷_, _++_}
 use Rattle.protocol.specs.Bytes.{Bytes, holds}

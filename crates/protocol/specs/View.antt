@@ -101,7 +101,6 @@ chain v h = chainWithin h v h
 unfoldable pub logAt : View → ℕ → List Bytes
 logAt v h = allEntries (chain v h)
 
--- the log of a view whose finalized height is `g`: an entry equal to an earlier one in the chain is the same filing, so
--- that each counts at its first place only
+-- the log of a view whose finalized height is `g`: the distinct entries of its chain
 abbrev pub logOf : View → ℕ → List Bytes
 logOf v g = distinct (logAt v g)

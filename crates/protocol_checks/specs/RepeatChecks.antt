@@ -3,7 +3,7 @@
 use Prim.Native.Nat.{ℕ}
 use mathlib.Core.Path.{_≡_, refl}
 use mathlib.Core.Bool.{true, false}
-use mathlib.Core.List.{List, [], _∷_, _++_, map}
+use mathlib.Core.List.{[], _∷_, _++_, map}
 use lib.ListN.{replicate, take}
 use Rattle.protocol.specs.Bytes.{Bytes, zeros}
 use Rattle.protocol.specs.Distinct.{distinct, noneTwice}
@@ -12,7 +12,7 @@ use Rattle.protocol.specs.State.{decode}
 use Rattle.protocol.specs.View.{logAt}
 use Rattle.protocol.specs.Sound.{view}
 use Rattle.protocol.specs.Move.{offered}
-use Rattle.protocol.specs.Call.{Call, submitting, sizing, reading}
+use Rattle.protocol.specs.Call.{submitting, sizing, reading}
 use Rattle.protocol.specs.ObserverCall.{observerSizing, observerReading}
 use Rattle.protocol_checks.specs.CheckCalls.{standIn, perform, splice, expect, disagreement}
 use Rattle.protocol_checks.specs.CheckObservers.{observerNumbers, observerBuffer, observerHead, observedContent}
@@ -119,7 +119,7 @@ readings-past-a-block : disagreement 1 (book 3 7 past 0 [])
 unfolding repeats
 readings-past-a-block = refl
 
--- before shortening all ten are there, and a block that is offered goes by them
+-- before shortening all ten are there
 before-shortening : logAt (view (decode (book 3 0 third 0 []))) 3 ≡
     entry 1 ∷ entry 2 ∷ entry 1 ∷ entry 2 ∷ entry 3 ∷ entry 3 ∷ entry 1 ∷ zeros 16 ∷ entry 4 ∷ zeros 16 ∷ []
 unfolding repeats
@@ -140,8 +140,9 @@ submitted : disagreement 1
 unfolding repeats
 submitted = refl
 
--- a block that is offered carries both, and the register will count one
-offered-twice : offered (decode (book 3 0 third 3 (entry 6 ++ (entry 3 ++ entry 6)))) 3 ≡ entry 6 ∷ entry 6 ∷ []
+-- a block that is offered leaves out what its parent's chain has, in the register or not, and carries an entry that is
+-- pending twice twice, of which the register will count one
+offered-twice : offered (decode (book 1 0 third 3 (entry 6 ++ (entry 3 ++ entry 6)))) 3 ≡ entry 6 ∷ entry 6 ∷ []
 unfolding repeats
 offered-twice = refl
 

@@ -1,8 +1,7 @@
 -- The number of the interface for C.
 use Prim.Native.Nat.{ℕ}
 
--- goes up with each call that is added, with each change to a call's arguments or to what it may answer, and where all
--- partners must change together (document 02, request 2.5: replicas before it and after it read different registers);
--- the header's MAVUNILAI_INTERFACE with it
+-- goes up with each call that is added, with each change to a call's arguments or to what it may answer, and where a
+-- replica would read another register from the same book; the header's MAVUNILAI_INTERFACE with it
 unfoldable pub interfaceNumber : ℕ
 interfaceNumber = 4

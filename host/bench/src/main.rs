@@ -13,7 +13,7 @@ reference in N rounds that alternate (1001 if not said), on empty and on full bo
 has how many times as fast the proved replica is, above 1 where it is faster, and its
 microseconds for a call in brackets. Growth is the time at 63 heights over that at 8,
 the reference's in brackets. A table of registers has their size and a read where the
-entries of all pages differ, agree, or collide in the table by which the proved replica
+entries of all pages differ, agree, or collide in the filter by which the proved replica
 looks for repeats, with 4 replicas. A last table has packets of 1 to 400 frames on a
 full book of 63 heights, in N / 10 rounds: the proved replica's microseconds, how many
 times as long it takes to deliver the frames one by one, and how many times as long the

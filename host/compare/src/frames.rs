@@ -33,7 +33,7 @@ pub fn any_entry(random: &mut Random) -> [u8; ENTRY] {
     entry
 }
 
-/// A few of the entries that differ and have one place in the table of the proved replica.
+/// A few of the entries that differ and have one place in the filter of the proved replica.
 static COLLIDING: LazyLock<[[u8; ENTRY]; 6]> = LazyLock::new(|| std::array::from_fn(colliding));
 
 /// The entries of a block, now and then one entry as often as it has places, or entries that collide.

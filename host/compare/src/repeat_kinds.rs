@@ -1,7 +1,7 @@
 //! The kinds of entries that a chain carries more than once, and of calls that meet them, that a large comparison must
 //! have had.
 
-use exchange::{place_in_table, Answer, Call, ObserverCall};
+use exchange::{place_in_filter, Answer, Call, ObserverCall};
 use reference::inspect::{inspect, inspect_observer};
 use reference::Rules;
 use std::collections::BTreeSet;
@@ -113,10 +113,10 @@ fn is_near(one: &Entry, two: &Entry) -> bool {
     one.iter().zip(two).filter(|(one, two)| one != two).count() == 1
 }
 
-/// Whether two entries differ and have one place in the table of the proved replica.
+/// Whether two entries differ and have one place in the filter of the proved replica.
 fn collide(carried: &[(Height, Entry)]) -> bool {
     let entries: BTreeSet<Entry> = carried.iter().map(|(_, entry)| *entry).collect();
-    let places: BTreeSet<u64> = entries.iter().map(place_in_table).collect();
+    let places: BTreeSet<u64> = entries.iter().map(place_in_filter).collect();
     places.len() < entries.len()
 }
 

@@ -1,28 +1,25 @@
-//! Entries that collide on purpose: all of them have one place in the table by which the proved replica looks for
+//! Entries that collide on purpose: all of them have one place in the filter by which the proved replica looks for
 //! repeats.
 
 use types::ENTRY;
 
-/// The factors by which the proved replica takes an entry's four words to a place: those of its source, to be changed
-/// here when they change there.
-const FACTORS: [u64; 4] = [326_128_379, 413_158_523, 265_443_577, 370_248_451];
+/// The factors by which the proved replica takes an entry's four words to a place: those of its source, to which a test
+/// holds them.
+const FACTORS: [u64; 4] = [3609, 4842, 6902, 1601];
 
-/// The sum of the words, each by its factor, is divided by this.
-const DIVISOR: u64 = 1 << 28;
-
-/// The places of the table.
-const PLACES: u64 = 8192;
+/// The places of the filter.
+const PLACES: u64 = 8179;
 
 /// The place of all colliding entries; any other would do.
 const PLACE: u64 = 1;
 
 /// The place of an entry, by its four words of 32 bits, the low byte first.
-pub fn place_in_table(entry: &[u8; ENTRY]) -> u64 {
+pub fn place_in_filter(entry: &[u8; ENTRY]) -> u64 {
     let words = entry.as_chunks::<4>().0.iter().map(|word| u64::from(u32::from_le_bytes(*word)));
     let sum = words
         .zip(FACTORS)
         .fold(0_u64, |sum, (word, factor)| sum.wrapping_add(word.wrapping_mul(factor)));
-    (sum / DIVISOR) % PLACES
+    sum % PLACES
 }
 
 /// The entry of a number among many that differ and have one place. The first byte is 0 to 3, the second word is the
@@ -37,7 +34,7 @@ pub fn colliding(number: usize) -> [u8; ENTRY] {
     };
     (0..u32::MAX)
         .map(of)
-        .find(|entry| place_in_table(entry) == PLACE)
+        .find(|entry| place_in_filter(entry) == PLACE)
         .unwrap_or_else(|| of(u32::MAX))
 }
 
@@ -52,17 +49,29 @@ mod tests {
         let count = usize::from(MOST_HEIGHTS) * usize::from(MOST_ENTRIES);
         let entries: BTreeSet<_> = (0..count).map(colliding).collect();
         assert_eq!(entries.len(), count);
-        assert!(entries.iter().all(|entry| entry[0] < 4 && place_in_table(entry) == PLACE));
+        assert!(entries.iter().all(|entry| entry[0] < 4 && place_in_filter(entry) == PLACE));
     }
 
     #[test]
     fn places_are_those_of_the_sum() {
         let mut entry = [0; ENTRY];
-        assert_eq!(place_in_table(&entry), 0);
+        assert_eq!(place_in_filter(&entry), 0);
         (entry[0], entry[5]) = (3, 1);
-        assert_eq!(place_in_table(&entry), (3 * FACTORS[0] + 256 * FACTORS[1]) / DIVISOR);
+        assert_eq!(place_in_filter(&entry), (3 * FACTORS[0] + 256 * FACTORS[1]) % PLACES);
         let most = FACTORS.iter().map(|factor| factor * u64::from(u32::MAX)).sum::<u64>();
-        assert!(most / DIVISOR > PLACES);
-        assert_eq!(place_in_table(&[0xff; ENTRY]), (most >> 28) & 8191);
+        assert!(most > PLACES);
+        assert_eq!(place_in_filter(&[0xff; ENTRY]), most % PLACES);
+    }
+
+    #[test]
+    fn numbers_are_those_of_the_proved_source() {
+        let root = std::path::Path::new(env!("CARGO_MANIFEST_DIR")).join("../..");
+        let source = std::fs::read_to_string(root.join("crates/distinct_entries/src/filter.rt")).unwrap();
+        let places = ["0", "4", "8", "12"];
+        for (factor, at) in FACTORS.iter().zip(places) {
+            assert!(source.contains(&format!("= {factor} * long_word(entry, {at});")), "{factor} at {at}");
+        }
+        assert!(source.contains(&format!("pub const SIZE: usize = {PLACES};")));
+        assert!(source.contains("(first + second + third + fourth) % SIZE\n"));
     }
 }

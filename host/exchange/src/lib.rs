@@ -26,7 +26,7 @@ pub mod words;
 
 pub use answer::Answer;
 pub use call::Call;
-pub use colliding::{colliding, place_in_table};
+pub use colliding::{colliding, place_in_filter};
 pub use failure::{Failure, Unmet};
 pub use line::{Expected, Line};
 pub use list::{List, Problem, HEADING};

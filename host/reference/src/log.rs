@@ -20,7 +20,7 @@ impl<'a> Chain<'a> {
         entries
     }
 
-    /// The log of that chain: an entry that equals an earlier one is the same filing, and has the first one's place.
+    /// The log of that chain: what is filed again counts once, at its first place.
     pub fn log(&self, height: Height) -> Vec<&'a Entry> {
         let mut filed: HashSet<&Entry> = HashSet::new();
         let mut entries = self.entries(height);

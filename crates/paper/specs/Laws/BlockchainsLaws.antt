@@ -157,7 +157,7 @@ module _ (digest : Bytes → Bytes) (s : State) (facts : CertifiedState digest s
             sequence = c .sequence;
             finalized = Paper.FinalizedBlockchain.ended (c .notarized) (rw (c .its-height) (f .hasQuorum));
             its-height = c .its-height;
-            its-log = ap distinct (c .its-log);
+            its-log = ap distinct (c .its-entries);
           }
 
   pub in-the-papers-terms : InThePapersTerms digest s

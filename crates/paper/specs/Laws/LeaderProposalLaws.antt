@@ -101,7 +101,7 @@ module _ (digest : Bytes → Bytes) (s : State) (sound : SoundState digest s) (t
         short = let most = sound .last-high in let near = sound .current-high in omega arith
 
         offered-is : offered s j ≡ chosen (without (linearize (chain .sequence)) (pending s))
-        offered-is = unfold offered in ap (λ (l : List Bytes). chosen (without l (pending s))) (sym (chain .its-log))
+        offered-is = unfold offered in ap (λ (l : List Bytes). chosen (without l (pending s))) (sym (chain .its-entries))
 
     proposed : proposeApplies digest s ≡ true →
         Offers digest s (proposedBlock digest s (someOr 0 (parentBelow digest s)))

@@ -27,7 +27,7 @@ module _ (digest : Bytes → Bytes) (v : View) where
     its-height = ap suc (c .its-height);
     its-last = c .its-last;
     its-digest = c .its-digest;
-    its-log = c .its-log;
+    its-entries = c .its-entries;
   }
 
   pads : (h j count : ℕ) → ChainEndingAt digest v h j → ((k : ℕ) → h < k → k ≤ h + count → isDummy v k ≡ true) →
@@ -60,8 +60,8 @@ module _ (digest : Bytes → Bytes) (v : View) where
       its-height = ap suc (c .its-height);
       its-last = ap suc (c .its-height);
       its-digest = refl;
-      its-log = ap (λ (l : List Bytes). l ++ entries (v .block (suc i)))
-          (c .its-log ∙ ap (λ (k : ℕ). logAt v k) (sym (on .height))) ∙ sym (log-suc digest v i l);
+      its-entries = ap (λ (l : List Bytes). l ++ entries (v .block (suc i)))
+          (c .its-entries ∙ ap (λ (k : ℕ). logAt v k) (sym (on .height))) ∙ sym (log-suc digest v i l);
     }
 
     pub chain-linked : {h : ℕ} → Linked digest v h → ChainEndingAt digest v h h
@@ -72,7 +72,7 @@ module _ (digest : Bytes → Bytes) (v : View) where
       its-height = refl;
       its-last = refl;
       its-digest = refl;
-      its-log = sym (log-zero v);
+      its-entries = sym (log-zero v);
     }
     chain-linked (link {h = h} {j = j} has l on) =
         up h has on (linked-complete digest v (link has l on)) (chain-linked l)

@@ -20,15 +20,15 @@ module _ (digest : Bytes → Bytes) (v : View) where
   pub record Traced (c : Sequence) : Type 0 where
     pub chain : ChainOf digest v (height c) (lastBlock c)
     pub its-digest : lastDigest digest c ≡ digestAt digest v (lastBlock c)
-    pub its-log : linearize c ≡ logAt v (lastBlock c)
+    pub its-entries : linearize c ≡ logAt v (lastBlock c)
 
   trace-dummy : (c : Sequence) → Traced c → isDummy v (suc (height c)) ≡ true → Traced (addDummy c)
   unfolding height lastBlock lastDigest linearize
   trace-dummy c t e = record {
     chain = chain-dummy digest v e (t .chain);
     its-digest = t .its-digest;
-    its-log =
-        t .its-log;
+    its-entries =
+        t .its-entries;
   }
 
   trace-block : (c : Sequence) (b : Bytes) → Traced c → Follows digest c b → NotarizedBlock v (suc (height c)) b →
@@ -46,14 +46,14 @@ module _ (digest : Bytes → Bytes) (v : View) where
       record {
         chain = chain-here digest v l;
         its-digest = ap digest (sym (q .same));
-        its-log = ap₂ (λ (x : List Bytes) (y : Bytes). x ++ entries y)
-            (t .its-log ∙ ap (λ (k : ℕ). logAt v k) (sym (on .height))) (sym (q .same))
+        its-entries = ap₂ (λ (x : List Bytes) (y : Bytes). x ++ entries y)
+            (t .its-entries ∙ ap (λ (k : ℕ). logAt v k) (sym (on .height))) (sym (q .same))
             ∙ sym (log-suc digest v (height c) (linked-complete digest v l));
       }
 
   pub traced : {c : Sequence} → NotarizedBlockchain digest v c → Traced c
   unfolding height lastBlock lastDigest linearize digestAt isDummy
   traced Paper.NotarizedBlockchain.start =
-      record { chain = chain-here digest v start; its-digest = refl; its-log = sym (log-zero v) }
+      record { chain = chain-here digest v start; its-digest = refl; its-entries = sym (log-zero v) }
   traced (Paper.NotarizedBlockchain.dummyNext {c = c} n e) = trace-dummy c (traced n) e
   traced (Paper.NotarizedBlockchain.blockNext {c = c} {b = b} n f q) = trace-block c b (traced n) f q

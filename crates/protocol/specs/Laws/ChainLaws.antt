@@ -1,4 +1,4 @@
--- The chain and the log of a linked height, built from those of its parent, and the sizes of a log.
+-- The chain of a linked height and its entries, built from those of its parent, and their sizes.
 use Prim.Native.Nat.{ℕ, zero, suc, _*_, _≤_}
 use native.Mathlib.Omega.{arith}
 use mathlib.Core.Path.{_≡_, sym, ap, _∙_}
@@ -6,10 +6,10 @@ use mathlib.Core.Bool.{true}
 use mathlib.Core.List.{List, [], _∷_, _++_}
 use lib.ListN.{length, drop, length-append, length-drop}
 use Rattle.protocol.specs.Every.{Every, none}
-use Rattle.protocol.specs.Bytes.{Bytes, join, Sized}
+use Rattle.protocol.specs.Bytes.{Bytes, Sized}
 use Rattle.protocol.specs.Laws.FormedLaws.{formed}
 use Rattle.protocol.specs.Laws.EveryLaws.{every-append}
-use Rattle.protocol.specs.Laws.PiecesLaws.{length-join, length-pieces, pieces-sized}
+use Rattle.protocol.specs.Laws.PiecesLaws.{length-pieces, pieces-sized}
 use Rattle.protocol.specs.Block.{parentHeight, entryCount, entries, allEntries, blockWellFormed}
 use Rattle.protocol.specs.View.{View, linked, chainWithin, chain, logAt}
 use Rattle.protocol.specs.Laws.ViewLaws.{chain-none, chain-step, log-zero, allEntries-append, allEntries-one}

@@ -5,16 +5,15 @@ use mathlib.Core.Path.{_≡_, refl, sym, ap, _∙_}
 use mathlib.Core.Bool.{Bool, true, false, _||_, cond}
 use mathlib.Core.List.{List, [], _∷_, _++_}
 use lib.ListN.{length, getD, take, drop, take-append-drop}
-use lib.Seq.{take-at, take-all, drop-drop}
+use lib.Seq.{take-at, take-all}
 use Rattle.protocol.specs.Every.{Every}
-use Rattle.protocol.specs.Bytes.{Bytes, part, same, join, holds, without, Sized}
+use Rattle.protocol.specs.Bytes.{Bytes, part, same, holds, without, Sized}
 use Rattle.protocol.specs.Laws.TestsLaws.{or-right}
 use Rattle.protocol.specs.Block.{entryCount, entries}
 use Rattle.protocol.specs.State.{State, pending}
 use Rattle.protocol.specs.View.{View, logAt}
 use Rattle.protocol.specs.Laws.EveryLaws.{every-take}
 use Rattle.protocol.specs.Laws.PiecesLaws.{length-pieces, get-pieces, pieces-next, pieces-done, pieces-sized}
-use Rattle.protocol.specs.Laws.PiecesLaws.{join-pieces}
 use Rattle.protocol.specs.Laws.ViewLaws.{log-zero}
 use Rattle.protocol.specs.Laws.PoolLaws.{without-append, entry-stays, entry-leaves, every-without}
 
@@ -115,6 +114,6 @@ pub few-taken : (log es : List Bytes) (k : ℕ) → length (without log (take k 
 few-taken log es k few all =
     ap (λ (l : List Bytes). take 8 (without log l)) (sym all) ∙ take-all 8 (without log (take k es)) few
 
--- ---- a log
+-- ---- the entries of a chain
 pub log-start : (v : View) (h : ℕ) → h ≤ 0 → logAt v h ≡ []
 log-start v h l = let e : h ≡ 0 = omega arith in rw e (log-zero v)

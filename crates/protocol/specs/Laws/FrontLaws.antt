@@ -5,7 +5,7 @@ use native.Mathlib.Nat.{zero-add, add-zero}
 use mathlib.Core.Path.{_≡_, refl, sym, _∙_}
 use mathlib.Core.List.{[], _++_, append-assoc}
 use lib.ListN.{length, take, drop, length-append, length-drop, take-append-drop}
-use lib.Seq.{take-append-seam, drop-at, drop-append-add, drop-append-seam, drop-drop, length-take-le}
+use lib.Seq.{take-append-seam, drop-append-add, drop-append-seam, drop-drop, length-take-le}
 use Rattle.protocol.specs.Bytes.{Bytes, overFront, put}
 use Rattle.protocol.specs.Laws.BytesLaws.{middle-put}
 

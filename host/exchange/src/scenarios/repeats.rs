@@ -161,7 +161,7 @@ fn near_entries<C: Calls>(to: &mut Recorder<C>) {
 }
 
 fn collisions<C: Calls>(to: &mut Recorder<C>) {
-    to.part("Entries that the table of the proved replica puts at one place are no repeats, until they come again");
+    to.part("Entries that the filter of the proved replica puts at one place are no repeats, until they come again");
     let entries: Vec<Entry> = (0..5).map(colliding).collect();
     let again = entries.iter().rev().copied().chain([colliding(5)]).collect();
     settled(to, &[entries, again]);

@@ -51,7 +51,7 @@ fn submitting<C: Calls>(to: &mut Recorder<C>) {
 }
 
 fn dropping<C: Calls>(to: &mut Recorder<C>) {
-    to.part("32 are pending, none of them in the register, which repeats some: 12");
+    to.part("32 are pending, none of them in the register, whose chain repeats some: 12");
     two_pages(to, &[0, 1], 2);
     let mut pending: Vec<Entry> = (100..100 + MOST_PENDING).map(filing).collect();
     pool(to, 2, &pending);

@@ -2,12 +2,12 @@
 use Prim.Native.Nat.{ℕ, _*_}
 use borrow.Author.Needs.{needs}
 use borrow.Author.Tests.{leb-true}
-use mathlib.Core.Path.{_≡_, sym, ap, _∙_}
+use mathlib.Core.Path.{sym, ap, _∙_}
 use lib.ListN.{length}
 use Rattle.protocol.specs.Bytes.{Bytes, overFront}
 use Rattle.protocol.specs.Laws.FrontLaws.{front-none}
 use Rattle.book_fields.specs.Book.{viewOf}
-use Rattle.distinct_entries.proofs.Chain.{log-bytes, read-whole, read-none}
+use Rattle.distinct_entries.proofs.Chain.{distinct-bytes, read-whole, read-none}
 use Rattle.distinct_entries.proofs.distinct.read_distinct.Statement.{statement}
 use Rattle.distinct_entries.proofs.distinct.read_distinct.Tie as tie
 
@@ -26,7 +26,7 @@ returns c =
     let v = viewOf (start .args .kind) (start .args .book .now) in
     let buffer = start .args .buffer .now in
     let whole = read-whole v (start .args .h) buffer (sym (then .if1 .taken) ∙ asked .fits-into .ensures) in (
-      ap (λ (k : ℕ). 16 * k) (copied .0 .0) ∙ sym (ap length whole ∙ log-bytes (start .pre)),
+      ap (λ (k : ℕ). 16 * k) (copied .0 .0) ∙ sym (ap length whole ∙ distinct-bytes (start .pre)),
       copied .1 ∙ ap (λ (l : Bytes). overFront l buffer) (sym whole),
     )
 

@@ -1,4 +1,4 @@
--- `place` meets its contract: words below 2^32 times numbers below 2^29, so that no sum wraps.
+-- `place` meets its contract: words below 2^32 times numbers below 2^13, so that no sum wraps.
 use native.Mathlib.Omega.{arith}
 use native.Mathlib.Nat.{mod-lt}
 use mathlib.Core.Path.{refl}

@@ -1,7 +1,7 @@
 -- The loop of `add_pending`: after `k` places the pool begins with those of them that stay, and what follows from it.
 use Prim.Native.Nat.{_*_, _≤_, _-_}
 use native.Mathlib.Omega.{arith}
-use mathlib.Core.Path.{_≡_, ap, _∙_}
+use mathlib.Core.Path.{_≡_, _∙_}
 use mathlib.Core.Bool.{Bool}
 use lib.ListN.{length}
 use Rattle.protocol.specs.Bytes.{Bytes, part, holds}
