@@ -8,7 +8,6 @@
 
 #include "mavunilai.h"
 
-#define PLACES 8192u
 #define PLACE 1u
 
 enum entries { DIFFER, PADDED, COUNT, COLLIDE, AGREE, REPEAT, KINDS };
@@ -55,11 +54,15 @@ static uint64_t word(const uint8_t *bytes) {
     return bytes[0] | (uint64_t)bytes[1] << 8 | (uint64_t)bytes[2] << 16 | (uint64_t)bytes[3] << 24;
 }
 
-/* The place of an entry in the filter, by the factors of crates/distinct_entries/specs/Filter.antt. */
+/* The place of an entry in the filter: the script gives the numbers of crates/distinct_entries/specs/Filter.antt. */
 static unsigned place_of(const uint8_t *entry) {
-    uint64_t sum = 326128379u * word(entry) + 413158523u * word(entry + 4) + 265443577u * word(entry + 8) +
-                   370248451u * word(entry + 12);
-    return (unsigned)((sum >> 28) % PLACES);
+    static const uint64_t factors[] = {FACTORS};
+    uint64_t sum = 0;
+    unsigned k;
+    for (k = 0; k < 4; k++) {
+        sum += factors[k] * word(entry + 4 * k);
+    }
+    return (unsigned)(sum / DIVISOR % PLACES);
 }
 
 /* The entry of a number among those that differ and have one place: the last four bytes are searched. */
