@@ -16,8 +16,8 @@ use Rattle.protocol.specs.Distinct.{distinctAfter, distinct}
 use Rattle.protocol.specs.State.{maximumEntries}
 use Rattle.protocol.specs.Laws.EveryLaws.{every-append}
 use Rattle.protocol.specs.Laws.ChainLaws.{log-sized}
-use Rattle.protocol.specs.Laws.DistinctLaws.{distinct-short, every-distinct}
-use Rattle.protocol.specs.Laws.PiecesLaws.{pieces-more, pieces-sized, length-pieces, length-join}
+use Rattle.protocol.specs.Laws.DistinctLaws.{distinct-short}
+use Rattle.protocol.specs.Laws.PiecesLaws.{pieces-more, pieces-sized, length-pieces}
 use Rattle.protocol.specs.Laws.EntriesLaws.{holds-back, holds-front, log-start}
 use Rattle.book_fields.specs.Book.{viewOf}
 use Rattle.book_fields.specs.declared.kind.Kind.{Kind}
@@ -135,13 +135,6 @@ distinct-few {kind} {book} {h} w =
     let short = distinct-short (logAt (viewOf kind book) h) in
     let all = walk-few w in
     omega arith
-
--- its bytes
-pub distinct-bytes : {kind : Kind} {book : Bytes} {h : ℕ} → WalkableAs kind book h →
-    length (join (logOf (viewOf kind book) h)) ≡ 16 * length (logOf (viewOf kind book) h)
-distinct-bytes {kind} {book} {h} w =
-    length-join 16 (logOf (viewOf kind book) h)
-    (every-distinct (log-sized sha256 (viewOf kind book) (w .formed) h (w .is-linked)))
 
 -- what is read where it fits, and where not
 module _ (v : View) (h : ℕ) (buffer : Bytes) where

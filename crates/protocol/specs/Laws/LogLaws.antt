@@ -18,10 +18,9 @@ use Rattle.protocol.specs.Laws.TestsLaws.{and-both}
 use Rattle.protocol.specs.Laws.SoundLaws.{linked-in}
 use Rattle.protocol.specs.Laws.CodecLaws.{notarized-in}
 use Rattle.protocol.specs.Laws.LinkedLaws.{linked-zero}
-use Rattle.protocol.specs.Laws.PiecesLaws.{length-join}
-use Rattle.protocol.specs.Laws.DistinctLaws.{distinct-short, every-distinct, holds-distinct, without-distinct}
+use Rattle.protocol.specs.Laws.DistinctLaws.{distinct-short, holds-distinct, without-distinct}
 use Rattle.protocol.specs.Laws.DistinctLaws.{distinct-once, distinct-same}
-use Rattle.protocol.specs.Laws.ChainLaws.{log-sized, log-bound}
+use Rattle.protocol.specs.Laws.ChainLaws.{log-length, log-bound}
 
 -- ---- of any state: the log has the finalized chain's entries, none of them twice
 module _ (s : State) where
@@ -58,24 +57,16 @@ module _ (digest : Bytes → Bytes) (s : State) (facts : CertifiedState digest s
       go (inl z) = ap (linked digest (view s)) z ∙ linked-zero digest (view s)
       go (inr z) = unfold isFinalized in and-both _ (quorum (view s) (view s .finalizeMask (s .finalized))) z .0
 
-  -- ---- the entries of the chain that ends at any linked height: at most eight for each height
-  module _ (h : ℕ) (e : linked digest (view s) h ≡ true) where
-    log-few-at : length (logAt (view s) h) ≤ maximumEntries
-    log-few-at =
-        let bound = log-bound digest (view s) view-formed h e in
-        let within = linked-in digest s h e in
-        let heights = facts .last-high in
-        omega arith
-
   -- ---- the log
   pub log-bytes : length (join (log s)) ≡ 16 * length (log s)
   unfolding log
-  log-bytes = length-join 16 (log s)
-      (every-distinct (log-sized digest (view s) view-formed (s .finalized) finalized-linked))
+  log-bytes = log-length digest (view s) view-formed (s .finalized) finalized-linked
 
   pub log-few : length (log s) ≤ maximumEntries
   unfolding log
   log-few =
-      let all = log-few-at (s .finalized) finalized-linked in
       let short = distinct-short (logAt (view s) (s .finalized)) in
+      let bound = log-bound digest (view s) view-formed (s .finalized) finalized-linked in
+      let within = linked-in digest s (s .finalized) finalized-linked in
+      let heights = facts .last-high in
       omega arith
