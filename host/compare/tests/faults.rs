@@ -1,5 +1,8 @@
 //! The comparison finds faults: each replica here has one, and a few thousand calls show it.
 
+#[macro_use]
+mod as_reference;
+
 use compare::run;
 use reference::Rules;
 use types::{field, Calls, Counts, Delivered, Move, FRAME};
@@ -46,6 +49,8 @@ impl Faulty {
 }
 
 impl Calls for Faulty {
+    as_reference! { submit observer_open observer_deliver observer_size observer_read }
+
     fn open(&self, book: &mut [u8], n: u64, own: u64, h: u64, leaders: &[u8]) -> Result<(), u8> {
         let last = book.last().copied();
         let answer = Calls::open(&RULES, book, n, own, h, leaders);
@@ -137,10 +142,6 @@ impl Calls for Faulty {
         }
     }
 
-    fn submit(&self, book: &mut [u8], entry: &[u8]) -> Result<(), u8> {
-        Calls::submit(&RULES, book, entry)
-    }
-
     fn size(&self, book: &[u8]) -> Result<u64, u8> {
         Calls::size(&RULES, book).map(|size| size + u64::from(self.is(Fault::CountsOneMore)))
     }
@@ -166,14 +167,6 @@ impl Calls for Faulty {
         Ok(())
     }
 
-    fn observer_open(&self, book: &mut [u8], n: u64, heights: u64) -> Result<(), u8> {
-        Calls::observer_open(&RULES, book, n, heights)
-    }
-
-    fn observer_deliver(&self, book: &mut [u8], frame: &[u8]) -> Result<Delivered, u8> {
-        Calls::observer_deliver(&RULES, book, frame)
-    }
-
     fn observer_move(&self, book: &mut [u8]) -> Result<Move, u8> {
         let before = book.to_vec();
         let made = Calls::observer_move(&RULES, book)?;
@@ -182,14 +175,6 @@ impl Calls for Faulty {
             return Ok(Move::Idle);
         }
         Ok(made)
-    }
-
-    fn observer_size(&self, book: &[u8]) -> Result<u64, u8> {
-        Calls::observer_size(&RULES, book)
-    }
-
-    fn observer_read(&self, book: &[u8], buffer: &mut [u8]) -> u64 {
-        Calls::observer_read(&RULES, book, buffer)
     }
 }
 

@@ -1,8 +1,11 @@
 //! The comparison finds faults of observers: each replica here has one, and some thousand calls show it.
 
+#[macro_use]
+mod as_reference;
+
 use compare::run;
 use reference::Rules;
-use types::{field, is_observers, mask_at, quorum, Calls, Counts, Delivered, Height, Move};
+use types::{field, is_observers, mask_at, quorum, Calls, Delivered, Height, Move};
 use types::{ObserverArea, ObserverLayout, FRAME};
 
 /// What a faulty observer does wrong.
@@ -77,41 +80,7 @@ fn finalized_alone(book: &[u8]) -> Height {
 }
 
 impl Calls for Faulty {
-    fn open(&self, book: &mut [u8], n: u64, own: u64, h: u64, leaders: &[u8]) -> Result<(), u8> {
-        Calls::open(&RULES, book, n, own, h, leaders)
-    }
-
-    fn deliver(&self, book: &mut [u8], frame: &[u8]) -> Result<Delivered, u8> {
-        Calls::deliver(&RULES, book, frame)
-    }
-
-    fn packet(&self, book: &mut [u8], packet: &[u8]) -> Result<Counts, u8> {
-        Calls::packet(&RULES, book, packet)
-    }
-
-    fn make_move(&self, book: &mut [u8], reply: &mut [u8]) -> Result<Move, u8> {
-        Calls::make_move(&RULES, book, reply)
-    }
-
-    fn signal(&self, book: &mut [u8], height: u64) -> Result<(), u8> {
-        Calls::signal(&RULES, book, height)
-    }
-
-    fn submit(&self, book: &mut [u8], entry: &[u8]) -> Result<(), u8> {
-        Calls::submit(&RULES, book, entry)
-    }
-
-    fn size(&self, book: &[u8]) -> Result<u64, u8> {
-        Calls::size(&RULES, book)
-    }
-
-    fn read(&self, book: &[u8], buffer: &mut [u8]) -> u64 {
-        Calls::read(&RULES, book, buffer)
-    }
-
-    fn fetch(&self, book: &[u8], kind: u64, height: u64, reply: &mut [u8]) -> Result<(), u8> {
-        Calls::fetch(&RULES, book, kind, height, reply)
-    }
+    as_reference! { open deliver packet make_move signal submit size read fetch }
 
     fn observer_open(&self, book: &mut [u8], n: u64, heights: u64) -> Result<(), u8> {
         let last = book.last().copied().unwrap_or(0);

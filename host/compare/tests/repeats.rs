@@ -1,10 +1,13 @@
 //! The comparison finds faults in what a replica makes of entries that a chain carries again: each one here has one, in
 //! the calls of stations or in those of observers, and some thousand calls show it.
 
+#[macro_use]
+mod as_reference;
+
 use compare::run;
 use reference::inspect::{inspect, inspect_observer};
 use reference::Rules;
-use types::{Calls, Counts, Delivered, Move, ENTRY};
+use types::{Calls, ENTRY};
 
 /// An entry.
 type Entry = [u8; ENTRY];
@@ -92,29 +95,7 @@ impl Fault {
 }
 
 impl Calls for Faulty {
-    fn open(&self, book: &mut [u8], n: u64, own: u64, h: u64, leaders: &[u8]) -> Result<(), u8> {
-        Calls::open(&RULES, book, n, own, h, leaders)
-    }
-
-    fn deliver(&self, book: &mut [u8], frame: &[u8]) -> Result<Delivered, u8> {
-        Calls::deliver(&RULES, book, frame)
-    }
-
-    fn packet(&self, book: &mut [u8], packet: &[u8]) -> Result<Counts, u8> {
-        Calls::packet(&RULES, book, packet)
-    }
-
-    fn make_move(&self, book: &mut [u8], reply: &mut [u8]) -> Result<Move, u8> {
-        Calls::make_move(&RULES, book, reply)
-    }
-
-    fn signal(&self, book: &mut [u8], height: u64) -> Result<(), u8> {
-        Calls::signal(&RULES, book, height)
-    }
-
-    fn submit(&self, book: &mut [u8], entry: &[u8]) -> Result<(), u8> {
-        Calls::submit(&RULES, book, entry)
-    }
+    as_reference! { open deliver packet make_move signal submit fetch observer_open observer_deliver observer_move }
 
     fn size(&self, book: &[u8]) -> Result<u64, u8> {
         match self.observers {
@@ -128,22 +109,6 @@ impl Calls for Faulty {
             (false, Ok(told)) => self.fault.read(&told.carried, buffer),
             _ => Calls::read(&RULES, book, buffer),
         }
-    }
-
-    fn fetch(&self, book: &[u8], kind: u64, height: u64, reply: &mut [u8]) -> Result<(), u8> {
-        Calls::fetch(&RULES, book, kind, height, reply)
-    }
-
-    fn observer_open(&self, book: &mut [u8], n: u64, heights: u64) -> Result<(), u8> {
-        Calls::observer_open(&RULES, book, n, heights)
-    }
-
-    fn observer_deliver(&self, book: &mut [u8], frame: &[u8]) -> Result<Delivered, u8> {
-        Calls::observer_deliver(&RULES, book, frame)
-    }
-
-    fn observer_move(&self, book: &mut [u8]) -> Result<Move, u8> {
-        Calls::observer_move(&RULES, book)
     }
 
     fn observer_size(&self, book: &[u8]) -> Result<u64, u8> {

@@ -1,10 +1,13 @@
 //! The comparison finds faults in what a replica makes of a leader's second page: each one here has one, and a few
 //! thousand calls show it.
 
+#[macro_use]
+mod as_reference;
+
 use compare::run;
 use reference::Rules;
 use types::{field, head_height, height_at, is_second_block, Area, Calls, Counts, Delivered};
-use types::{Layout, Move, BLOCK, FRAME, FRAME_HEIGHT};
+use types::{Layout, BLOCK, FRAME, FRAME_HEIGHT};
 
 /// What a faulty replica does wrong.
 #[derive(Clone, Copy, Debug, PartialEq, Eq)]
@@ -97,9 +100,7 @@ impl Second<'_> {
 }
 
 impl Calls for Faulty {
-    fn open(&self, book: &mut [u8], n: u64, own: u64, h: u64, leaders: &[u8]) -> Result<(), u8> {
-        Calls::open(&RULES, book, n, own, h, leaders)
-    }
+    as_reference! { open make_move signal submit size read fetch observer_open observer_deliver observer_move observer_size observer_read }
 
     fn deliver(&self, book: &mut [u8], frame: &[u8]) -> Result<Delivered, u8> {
         let before = &book.to_vec();
@@ -117,50 +118,6 @@ impl Calls for Faulty {
             book[field::FLAGS] = flags;
         }
         Ok(counts)
-    }
-
-    fn make_move(&self, book: &mut [u8], reply: &mut [u8]) -> Result<Move, u8> {
-        Calls::make_move(&RULES, book, reply)
-    }
-
-    fn signal(&self, book: &mut [u8], height: u64) -> Result<(), u8> {
-        Calls::signal(&RULES, book, height)
-    }
-
-    fn submit(&self, book: &mut [u8], entry: &[u8]) -> Result<(), u8> {
-        Calls::submit(&RULES, book, entry)
-    }
-
-    fn size(&self, book: &[u8]) -> Result<u64, u8> {
-        Calls::size(&RULES, book)
-    }
-
-    fn read(&self, book: &[u8], buffer: &mut [u8]) -> u64 {
-        Calls::read(&RULES, book, buffer)
-    }
-
-    fn fetch(&self, book: &[u8], kind: u64, height: u64, reply: &mut [u8]) -> Result<(), u8> {
-        Calls::fetch(&RULES, book, kind, height, reply)
-    }
-
-    fn observer_open(&self, book: &mut [u8], n: u64, heights: u64) -> Result<(), u8> {
-        Calls::observer_open(&RULES, book, n, heights)
-    }
-
-    fn observer_deliver(&self, book: &mut [u8], frame: &[u8]) -> Result<Delivered, u8> {
-        Calls::observer_deliver(&RULES, book, frame)
-    }
-
-    fn observer_move(&self, book: &mut [u8]) -> Result<Move, u8> {
-        Calls::observer_move(&RULES, book)
-    }
-
-    fn observer_size(&self, book: &[u8]) -> Result<u64, u8> {
-        Calls::observer_size(&RULES, book)
-    }
-
-    fn observer_read(&self, book: &[u8], buffer: &mut [u8]) -> u64 {
-        Calls::observer_read(&RULES, book, buffer)
     }
 }
 

@@ -1,23 +1,13 @@
 //! The folder `exchange/`: its files are what the reference records, they replay, and together they cover all.
 
-use exchange::{record, replay, scenarios, Answer, Call, Line, List, ObserverCall, Stage, Tally};
+mod played;
+
+use exchange::{record, replay, scenarios, Answer, Call, Line, List, ObserverCall, Tally};
+use played::{file, list, played};
 use reference::Rules;
 use std::cmp::Ordering;
-use std::path::PathBuf;
 use types::Delivered::{Fresh, Known};
 use types::{field, head_height, height_at, is_second_block, Counts, FRAME, FRAME_HEIGHT};
-
-/// The file of a list.
-fn file(name: &str) -> PathBuf {
-    let root = PathBuf::from(env!("CARGO_MANIFEST_DIR")).join("../..");
-    root.join("exchange").join(format!("{name}.txt"))
-}
-
-/// The list in a file of the folder.
-fn list(name: &str) -> List {
-    let text = std::fs::read_to_string(file(name)).unwrap();
-    List::parse(&text).unwrap_or_else(|problem| panic!("{name}: {problem}"))
-}
 
 #[test]
 fn files_are_as_recorded() {
@@ -97,23 +87,14 @@ fn packets_of_every_kind_occur() {
 /// The second pages that a list delivers singly: the book, where the height lies beside the current one, whether all
 /// heights are passed, and the answer.
 fn second_pages(list: &List) -> Vec<(String, Ordering, bool, Answer)> {
-    let (mut stage, mut found) = (Stage::default(), Vec::new());
-    for line in &list.lines {
-        let (call, name, buffer) = match line {
-            Line::Give { name, bytes } => {
-                stage.give(name, bytes.clone());
-                continue;
-            }
-            Line::Call { call, book, buffer, .. } => (call, book, buffer),
-            _ => continue,
-        };
-        let book = stage.bytes(name).unwrap().to_vec();
-        let answer = stage.make(&Rules::SHA256, call, name, buffer).unwrap().answer;
-        if let Call::Deliver { frame } = call {
-            let [current, last] = [field::CURRENT, field::HEIGHTS].map(|at| head_height(&book, at));
-            let place = height_at(frame, FRAME_HEIGHT).cmp(&current);
-            if is_second_block(&book, frame) {
-                found.push((name.clone(), place, current > last, answer));
+    let mut found = Vec::new();
+    for made in played(list) {
+        if let Call::Deliver { frame } = made.call {
+            let book = &made.book;
+            let [current, last] = [field::CURRENT, field::HEIGHTS].map(|at| head_height(book, at));
+            let place = height_at(&frame, FRAME_HEIGHT).cmp(&current);
+            if is_second_block(book, &frame) {
+                found.push((made.name, place, current > last, made.answer));
             }
         }
     }

@@ -1,34 +1,16 @@
 //! The lists of the folder on observers: every refusal, answer and kind of frame occurs; the observer of the season.
 
-use exchange::{scenarios, Answer, Call, Line, List, ObserverCall, Stage};
-use reference::Rules;
+mod played;
+
+use exchange::{scenarios, Answer, Call, Line, List, ObserverCall};
+use played::{list, played};
 use std::collections::BTreeSet;
-use std::path::PathBuf;
 use types::Delivered::{Fresh, Known};
 use types::{is_observers, Move, FRAME_HEIGHT};
 
-/// The list in a file of the folder.
-fn list(name: &str) -> List {
-    let root = PathBuf::from(env!("CARGO_MANIFEST_DIR")).join("../..");
-    let path = root.join("exchange").join(format!("{name}.txt"));
-    List::parse(&std::fs::read_to_string(path).unwrap()).unwrap()
-}
-
 /// Each call of a list with the book before it and what it answers.
 fn calls(list: &List) -> Vec<(Call, String, Vec<u8>, Answer)> {
-    let (mut stage, mut found) = (Stage::default(), Vec::new());
-    for line in &list.lines {
-        match line {
-            Line::Remark(_) => {}
-            Line::Give { name, bytes } => stage.give(name, bytes.clone()),
-            Line::Call { call, book, buffer, .. } => {
-                let before = stage.bytes(book).unwrap().to_vec();
-                let answer = stage.make(&Rules::SHA256, call, book, buffer).unwrap().answer;
-                found.push((call.clone(), book.clone(), before, answer));
-            }
-        }
-    }
-    found
+    played(list).into_iter().map(|made| (made.call, made.name, made.book, made.answer)).collect()
 }
 
 /// The answers of one call of an observer, in the list of observers.

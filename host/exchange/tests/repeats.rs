@@ -1,10 +1,11 @@
 //! The lists of the folder on chains that carry entries again: buffers of every length beside the two sizes occur, for
 //! stations and for observers, and what is read is each entry at its first place, worked out here once more.
 
-use exchange::{scenarios, Call, Line, List, ObserverCall, Stage};
+mod played;
+
+use exchange::{scenarios, Call, List, ObserverCall};
+use played::{list, played};
 use reference::inspect::{inspect, inspect_observer};
-use reference::Rules;
-use std::path::PathBuf;
 
 /// An entry.
 type Entry = [u8; 16];
@@ -35,36 +36,20 @@ impl Reading {
     }
 }
 
-/// The list of a name.
-fn list(name: &str) -> List {
-    let root = PathBuf::from(env!("CARGO_MANIFEST_DIR")).join("../..");
-    let text = std::fs::read_to_string(root.join(format!("exchange/{name}.txt"))).unwrap();
-    List::parse(&text).unwrap_or_else(|problem| panic!("{name}: {problem}"))
-}
-
 /// The reads of sound books that a list makes.
 fn readings(list: &List) -> Vec<Reading> {
-    let (mut stage, mut found) = (Stage::default(), Vec::new());
-    for line in &list.lines {
-        let (call, name, buffer) = match line {
-            Line::Give { name, bytes } => {
-                stage.give(name, bytes.clone());
-                continue;
+    let mut found = Vec::new();
+    for made in played(list) {
+        let carried = match made.call {
+            Call::Read => inspect(&made.book).map(|told| told.carried),
+            Call::Observer(ObserverCall::Read) => {
+                inspect_observer(&made.book).map(|told| told.carried)
             }
-            Line::Call { call, book, buffer, .. } => (call, book, buffer),
-            _ => continue,
-        };
-        let before = stage.bytes(buffer).map(<[u8]>::to_vec).unwrap_or_default();
-        stage.make(&Rules::SHA256, call, name, buffer).unwrap();
-        let book = stage.bytes(name).unwrap();
-        let carried = match call {
-            Call::Read => inspect(book).map(|told| told.carried),
-            Call::Observer(ObserverCall::Read) => inspect_observer(book).map(|told| told.carried),
             _ => continue,
         };
         if let Ok(carried) = carried {
-            let after = stage.bytes(buffer).unwrap().to_vec();
-            found.push(Reading { station: *call == Call::Read, carried, before, after });
+            let (station, before, after) = (made.call == Call::Read, made.before, made.after);
+            found.push(Reading { station, carried, before, after });
         }
     }
     found

@@ -1,26 +1,15 @@
 /* What the header promises of observers, tried: null pointers with length 0, the parts of answers and of the book, that
  * certificates alone are taken, and that neither kind of call takes the other's book. Says what fails, and ends with
  * the count of it. */
-#include <stdio.h>
 #include <string.h>
 
+#include "expect.h"
 #include "mavunilai.h"
 
 #define HEIGHTS 3
 #define LENGTH MAVUNILAI_OBSERVER_BOOK(HEIGHTS)
 #define STATION MAVUNILAI_BOOK(HEIGHTS)
 
-static int failures;
-
-/* Notes a fact that does not hold. */
-static void expect(int holds, const char *what) {
-    if (!holds) {
-        printf("not so: %s\n", what);
-        failures++;
-    }
-}
-
-#define EXPECT(fact) expect((fact) != 0, #fact)
 #define REFUSED(call) mavunilai_refusal(call)
 
 /* A book of no bytes behind a null pointer is refused as any book that is not sound. */

@@ -1,25 +1,14 @@
 /* What the header promises of the library, tried: the interface's number, null pointers with length 0, the counts of a
  * packet, a leader's second page, and that the parts of an answer and of a book are read as they are told. Says what
  * fails, and ends with the count of it. */
-#include <stdio.h>
 #include <string.h>
 
+#include "expect.h"
 #include "mavunilai.h"
 
 #define HEIGHTS 2
 #define LENGTH MAVUNILAI_BOOK(HEIGHTS)
 
-static int failures;
-
-/* Notes a fact that does not hold. */
-static void expect(int holds, const char *what) {
-    if (!holds) {
-        printf("not so: %s\n", what);
-        failures++;
-    }
-}
-
-#define EXPECT(fact) expect((fact) != 0, #fact)
 #define REFUSED(call) mavunilai_refusal(call)
 
 /* A new book of a station alone. */

@@ -1,9 +1,9 @@
 /* What the header promises of entries that a chain carries again, tried on a station's and on an observer's book: size
  * and read count each once, at its first place, and a buffer needs room for no more. Says what fails, and ends with the
  * count of it. */
-#include <stdio.h>
 #include <string.h>
 
+#include "expect.h"
 #include "mavunilai.h"
 
 #define LENGTH MAVUNILAI_BOOK(1)
@@ -13,18 +13,6 @@
 /* The entries of the page by their letters, 0 for one of zeros, and of the register that it makes. */
 static const char carried[] = {'a', 'b', 'a', 0, 'b', 0};
 static const char filed[] = {'a', 'b', 0};
-
-static int failures;
-
-/* Notes a fact that does not hold. */
-static void expect(int holds, const char *what) {
-    if (!holds) {
-        printf("not so: %s\n", what);
-        failures++;
-    }
-}
-
-#define EXPECT(fact) expect((fact) != 0, #fact)
 
 /* Writes entries by their letters; the first byte of each is 1, or 0 in one of zeros. */
 static void entries(uint8_t *to, const char *letters, size_t count) {
