@@ -12,7 +12,8 @@ use Rattle.protocol.specs.Laws.EveryLaws.{every-append}
 use Rattle.protocol.specs.Laws.PiecesLaws.{length-join, length-pieces, pieces-sized}
 use Rattle.protocol.specs.Laws.DistinctLaws.{every-distinct}
 use Rattle.protocol.specs.Block.{parentHeight, entryCount, entries, allEntries, blockWellFormed}
-use Rattle.protocol.specs.View.{View, linked, chainWithin, chain, logAt, logOf}
+use Rattle.protocol.specs.Distinct.{distinct}
+use Rattle.protocol.specs.View.{View, linked, chainWithin, chain, logAt}
 use Rattle.protocol.specs.Laws.ViewLaws.{chain-none, chain-step, log-zero, allEntries-append, allEntries-one}
 use Rattle.protocol.specs.Laws.LinkedLaws.{linked-parent}
 
@@ -92,9 +93,10 @@ module _ (digest : Bytes → Bytes) (v : View) (formed : (h : ℕ) → 1 ≤ h �
       log-induction (λ i log. Every (Sized 16) log) none
       (λ i j log l p w. every-append p (entries-sized (suc i) (v .block (suc i)) w)) h h (omega arith) e
 
-  -- the number of a log's bytes
-  pub log-length : (h : ℕ) → linked digest v h ≡ true → length (join (logOf v h)) ≡ 16 * length (logOf v h)
-  log-length h e = length-join 16 (logOf v h) (every-distinct (log-sized h e))
+  -- the number of the bytes of those that are distinct
+  pub distinct-length : (h : ℕ) → linked digest v h ≡ true →
+      length (join (distinct (logAt v h))) ≡ 16 * length (distinct (logAt v h))
+  distinct-length h e = length-join 16 (distinct (logAt v h)) (every-distinct (log-sized h e))
 
   pub log-bound : (h : ℕ) → linked digest v h ≡ true → length (logAt v h) ≤ 8 * h
   log-bound h e =

@@ -20,7 +20,7 @@ use Rattle.protocol.specs.Laws.CodecLaws.{notarized-in}
 use Rattle.protocol.specs.Laws.LinkedLaws.{linked-zero}
 use Rattle.protocol.specs.Laws.DistinctLaws.{distinct-short, holds-distinct, without-distinct}
 use Rattle.protocol.specs.Laws.DistinctLaws.{distinct-once, distinct-same}
-use Rattle.protocol.specs.Laws.ChainLaws.{log-length, log-bound}
+use Rattle.protocol.specs.Laws.ChainLaws.{distinct-length, log-bound}
 
 -- ---- of any state: the log has the finalized chain's entries, none of them twice
 module _ (s : State) where
@@ -60,7 +60,7 @@ module _ (digest : Bytes → Bytes) (s : State) (facts : CertifiedState digest s
   -- ---- the log
   pub log-bytes : length (join (log s)) ≡ 16 * length (log s)
   unfolding log
-  log-bytes = log-length digest (view s) view-formed (s .finalized) finalized-linked
+  log-bytes = distinct-length digest (view s) view-formed (s .finalized) finalized-linked
 
   pub log-few : length (log s) ≤ maximumEntries
   unfolding log

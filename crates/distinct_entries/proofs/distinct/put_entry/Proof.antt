@@ -12,9 +12,11 @@ use Rattle.distinct_entries.proofs.distinct.put_entry.Tie as tie
 
 returns : tie.Need-returns
 returns c =
-    let copied = c .before .before .copy-to .ensures in
     let z = c .before .before .before .before .before .before .before .before in
     let from = 48 + 16 * z .args .k in
+    let copied : c .before .before .copy-to .last .0 ≡ put (z .args .buffer .now) (16 * z .args .count)
+    (take (from + 16 - from) (drop from (z .args .block .now))) =
+    c .before .before .copy-to .ensures in
     let cut = cut-part (z .args .block .now) from 16 in
     let size : length (take (from + 16 - from) (drop from (z .args .block .now))) ≡ 16 =
     ap length cut ∙ length-part (z .args .block .now) from 16 (omega arith) in (

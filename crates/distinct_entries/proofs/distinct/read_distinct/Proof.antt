@@ -6,7 +6,7 @@ use mathlib.Core.Path.{sym, ap, _∙_}
 use lib.ListN.{length}
 use Rattle.protocol.specs.Bytes.{Bytes, overFront}
 use Rattle.protocol.specs.Laws.FrontLaws.{front-none}
-use Rattle.protocol.specs.Laws.ChainLaws.{log-length}
+use Rattle.protocol.specs.Laws.ChainLaws.{distinct-length}
 use Rattle.book_fields.specs.Book.{viewOf}
 use Rattle.sha256.specs.Digest.{sha256}
 use Rattle.distinct_entries.proofs.Chain.{read-whole, read-none}
@@ -27,7 +27,7 @@ returns c =
     let start = asked .before .before .before in
     let v = viewOf (start .args .kind) (start .args .book .now) in
     let buffer = start .args .buffer .now in
-    let bytes = log-length sha256 v (start .pre .formed) (start .args .h) (start .pre .is-linked) in
+    let bytes = distinct-length sha256 v (start .pre .formed) (start .args .h) (start .pre .is-linked) in
     let whole = read-whole v (start .args .h) buffer (sym (then .if1 .taken) ∙ asked .fits-into .ensures) in (
       ap (λ (k : ℕ). 16 * k) (copied .0 .0) ∙ sym (ap length whole ∙ bytes),
       copied .1 ∙ ap (λ (l : Bytes). overFront l buffer) (sym whole),
