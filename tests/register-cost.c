@@ -62,7 +62,7 @@ static unsigned place_of(const uint8_t *entry) {
     for (k = 0; k < 4; k++) {
         sum += factors[k] * word(entry + 4 * k);
     }
-    return (unsigned)(sum / DIVISOR % PLACES);
+    return (unsigned)(sum % PLACES);
 }
 
 /* The entry of a number among those that differ and have one place: the last four bytes are searched. */
