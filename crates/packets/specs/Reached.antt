@@ -1,5 +1,5 @@
--- How far a packet is delivered: what the book and the counts are after the first frames of it.
-use Prim.Native.Nat.{_/_, _≤_}
+-- How far a packet is delivered: what the book and the counts are after the first frames of it, up to a number.
+use Prim.Native.Nat.{ℕ, _/_, _≤_}
 use mathlib.Core.Path.{_≡_}
 use mathlib.Core.Bool.{true}
 use lib.ListN.{length}
@@ -17,9 +17,9 @@ abbrev pub countsOf : Progress → Counts
 countsOf progress =
     record { freshFrames = progress .fresh; knownFrames = progress .known; refusedFrames = progress .refused }
 
--- the book and the counts after the frames before the next one, each delivered by itself
-pub record Reached (before packet book : Bytes) (progress : Progress) : Type 0 where
-  pub within : progress .next ≤ length packet / frameSize
+-- the book and the counts after the frames before that of the number, each delivered by itself
+pub record Reached (before packet book : Bytes) (number : ℕ) (progress : Progress) : Type 0 where
+  pub within : number ≤ length packet / frameSize
   pub is-sound : sound sha256 book ≡ true
-  pub left : book ≡ deliverAll sha256 before (pieces frameSize (progress .next) packet)
-  pub counts : countsOf progress ≡ countAll sha256 before (pieces frameSize (progress .next) packet)
+  pub left : book ≡ deliverAll sha256 before (pieces frameSize number packet)
+  pub counts : countsOf progress ≡ countAll sha256 before (pieces frameSize number packet)

@@ -1,7 +1,7 @@
 // A packet is delivered frame by frame, in order; the book is tested once.
 use crate::progress::counted;
 use crate::progress::reached;
-use crate::reader::read_frame;
+use crate::reader::read_on;
 use answers::answer::Counted;
 use delivery::deliver::deliver_sound;
 ghost use mathlib.Core.Path.{_≡_};
@@ -23,10 +23,11 @@ fn deliver_frames(book: &mut [u8], packet: &[u8]) -> Counted
         deliverAll sha256 (now (book .entry)) (packetFrames (now (packet .entry))) ⌝ }
 {
     let count = packet.len() / 224;
-    let mut progress = reached(0, 0, 0, 0);
-    while progress.next < count {
-        let k = progress.next;
-        let answer = deliver_sound(book, read_frame(packet, k));
+    let mut number = 0;
+    let mut progress = reached(0, 0, 0);
+    while number < count {
+        let frame = read_on(packet, &mut number);
+        let answer = deliver_sound(book, frame);
         progress = counted(progress, answer);
     }
     Counted::Frames(progress.fresh, progress.known, progress.refused)

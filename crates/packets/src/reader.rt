@@ -1,4 +1,4 @@
-// The frames of a packet, which is borrowed: each is the part of it that the reader's number tells.
+// A reader of packets: it borrows the packet and keeps the number of the next frame.
 ghost use mathlib.Core.Path.{_≡_};
 ghost use Prim.Native.Nat.{_+_, _*_, _≤_};
 ghost use lib.ListN.{length};
@@ -19,21 +19,30 @@ pub fn frame_at(packet: &[u8], k: usize) -> &[u8]
     &packet[start..start + 224]
 }
 
-// The next frame of a reader.
-pub fn frame<'a>(reader: Packet<'a>) -> &'a [u8]
-    requires { ⌜ 224 * (reader .next) + 224 ≤ length (now (reader .frames)) ⌝ }
-    ensures { λ f. ⌜ now f ≡ frameAt (now (reader .entry .frames)) (reader .entry .next) ⌝ }
+// The next frame of a reader, which then stands at the one after it.
+pub fn next<'s, 'a>(reader: &'s mut Packet<'a>) -> &'a [u8]
+    requires { ⌜ 224 * (now reader .next) + 224 ≤ length (now (now reader .frames)) ⌝ }
+    ensures { λ f. ⌜ (now f ≡ frameAt (now (now (reader .entry) .frames)) (now (reader .entry) .next))
+        × (now (reader .exit) .frames ≡ now (reader .entry) .frames)
+        × (now (reader .exit) .next ≡ now (reader .entry) .next + 1) ⌝ }
 {
-    frame_at(reader.frames, reader.next)
+    let k = reader.next;
+    reader.next = k + 1;
+    frame_at(reader.frames, k)
 }
 
-// Frame `k` through a reader. Its parameters are plain, so that the proofs of its callers need not go by hand.
-pub fn read_frame(packet: &[u8], k: usize) -> &[u8]
-    requires { ⌜ 224 * k + 224 ≤ length (now packet) ⌝ }
-    ensures { λ f. ⌜ now f ≡ frameAt (now (packet .entry)) k ⌝ }
+// The frame at a number, by a reader that stands there and reads on; the number becomes the one that the reader keeps.
+// Its parameters are plain, so that the proofs of its callers need not go by hand.
+pub fn read_on<'a, 'n>(packet: &'a [u8], number: &'n mut usize) -> &'a [u8]
+    requires { ⌜ 224 * (now number) + 224 ≤ length (now packet) ⌝ }
+    ensures { λ f. ⌜ (now f ≡ frameAt (now (packet .entry)) (now (number .entry)))
+        × (now (number .exit) ≡ now (number .entry) + 1) ⌝ }
 {
-    frame(Packet {
+    let mut reader = Packet {
         frames: packet,
-        next: k,
-    })
+        next: *number,
+    };
+    let frame = next(&mut reader);
+    *number = reader.next;
+    frame
 }

@@ -2,7 +2,7 @@
 use Prim.Native.Nat.{ℕ, _+_, _/_, _<_, _≤_}
 use native.Mathlib.Numerals.{add-one}
 use native.Mathlib.Omega.{arith}
-use mathlib.Core.Path.{_≡_, ap, _∙_}
+use mathlib.Core.Path.{_≡_, refl, ap, _∙_}
 use mathlib.Core.Bool.{true}
 use mathlib.Core.List.{List, [], _∷_, _++_}
 use lib.ListN.{length}
@@ -22,34 +22,29 @@ use Rattle.packets.specs.Reached.{countsOf, Reached}
 
 module _ (before packet : Bytes) where
   -- before the first frame
-  pub reached-none : sound sha256 before ≡ true → (p : Progress) → p .next ≡ 0 → countsOf p ≡ noFrames →
-      Reached before packet before p
+  pub reached-none : sound sha256 before ≡ true → (p : Progress) → countsOf p ≡ noFrames →
+      Reached before packet before 0 p
   unfolding deliverAll countAll pieces
-  reached-none ok p start none = record {
-    within = rw start (omega arith);
-    is-sound = ok;
-    left = rw start;
-    counts = none ∙ rw start;
-  }
+  reached-none ok p none = record { within = omega arith; is-sound = ok; left = refl; counts = none }
 
-  module _ (book : Bytes) (p : Progress) (so-far : Reached before packet book p) where
+  module _ (book : Bytes) (number : ℕ) (p : Progress) (so-far : Reached before packet book number p) where
     -- the counts sum to the frames
-    pub reached-sum : p .fresh + p .known + p .refused ≡ p .next
-    reached-sum = ap counted (so-far .counts) ∙ counts-sum sha256 before _ ∙ length-pieces frameSize (p .next) packet
+    pub reached-sum : p .fresh + p .known + p .refused ≡ number
+    reached-sum = ap counted (so-far .counts) ∙ counts-sum sha256 before _ ∙ length-pieces frameSize number packet
 
     -- one frame more
-    pub reached-more : p .next < length packet / frameSize → (frame : Bytes) → frame ≡ frameAt packet (p .next) →
+    pub reached-more : number < length packet / frameSize → (frame : Bytes) → frame ≡ frameAt packet number →
         (answer : Answer Delivery) → answer ≡ deliverCall sha256 book frame .answer →
         (after : Bytes) → after ≡ deliverCall sha256 book frame .book →
-        (q : Progress) → q .next ≡ p .next + 1 → countsOf q ≡ countedIn answer (countsOf p) →
-        Reached before packet after q
-    reached-more more frame is answer told after left q next counts =
-        let here : Bytes = frameAt packet (p .next) in
-        let passed : List Bytes = pieces frameSize (p .next) packet in
-        let grown : pieces frameSize (q .next) packet ≡ passed ++ (here ∷ []) =
-        ap (λ (k : ℕ). pieces frameSize k packet) (next ∙ add-one (p .next)) ∙ pieces-more frameSize (p .next) packet in
+        (next : ℕ) → next ≡ number + 1 → (q : Progress) → countsOf q ≡ countedIn answer (countsOf p) →
+        Reached before packet after next q
+    reached-more more frame is answer told after left next on q counts =
+        let here : Bytes = frameAt packet number in
+        let passed : List Bytes = pieces frameSize number packet in
+        let grown : pieces frameSize next packet ≡ passed ++ (here ∷ []) =
+        ap (λ (k : ℕ). pieces frameSize k packet) (on ∙ add-one number) ∙ pieces-more frameSize number packet in
         record {
-          within = rw next (omega arith);
+          within = rw on (omega arith);
           is-sound = rw left (deliver-stays sha256 book (so-far .is-sound) frame);
           left = left ∙ rw (grown, deliver-more sha256 before passed here, ← so-far .left, is);
           counts =
@@ -58,10 +53,10 @@ module _ (before packet : Bytes) where
         }
 
     -- the last frame
-    pub reached-all : length packet / frameSize ≤ p .next →
+    pub reached-all : length packet / frameSize ≤ number →
         (countsOf p ≡ countAll sha256 before (packetFrames packet)) ×
         (book ≡ deliverAll sha256 before (packetFrames packet))
     unfolding packetFrames
     reached-all end =
-        let all : p .next ≡ length packet / frameSize = omega (arith, so-far .within) in
+        let all : number ≡ length packet / frameSize = omega (arith, so-far .within) in
         (so-far .counts ∙ rw all, so-far .left ∙ rw all)

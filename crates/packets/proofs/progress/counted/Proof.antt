@@ -1,4 +1,4 @@
--- `counted` meets its contract: one more fresh, known or refused frame, and the number of the next one goes up.
+-- `counted` meets its contract: one more fresh, known or refused frame.
 use mathlib.Core.Path.{_≡_, sym, ap, _∙_}
 use Rattle.protocol.specs.Answer.{Counts}
 use Rattle.protocol.specs.Packet.{countedIn}
@@ -15,21 +15,20 @@ by-case e before counts = counts ∙ ap (λ (a : Delivered). countedIn (delivere
 
 returns : tie.Need-returns
 unfolding countedIn deliveredAnswer
-returns c = (c .reached .ensures .0, by-case (c .before .before .enum-told .given .1) _ (c .reached .ensures .1))
+returns c = by-case (c .before .before .enum-told .given .1) _ (c .reached .ensures)
 
 returns-2 : tie.Need-returns-2
 unfolding countedIn deliveredAnswer
-returns-2 c = (c .reached2 .ensures .0, by-case (c .before .before .enum-told2 .given .1) _ (c .reached2 .ensures .1))
+returns-2 c = by-case (c .before .before .enum-told2 .given .1) _ (c .reached2 .ensures)
 
 returns-3 : tie.Need-returns-3
 unfolding countedIn deliveredAnswer
-returns-3 c = (c .reached3 .ensures .0, by-case (c .before .before .enum-told3 .given .1) _ (c .reached3 .ensures .1))
+returns-3 c = by-case (c .before .before .enum-told3 .given .1) _ (c .reached3 .ensures)
 
 pub counted-spec : {M : Type 1} → statement M
 counted-spec =
     tie.close
     (tie.spec
-    (λ c. search needs)
     (λ c. search needs)
     (λ c. search needs)
     (λ c κs. search needs)
