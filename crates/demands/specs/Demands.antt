@@ -27,7 +27,7 @@ use lib.ListN.{length}
 use borrow.Author.Tests.{le-leb}
 use Rattle.sha256.specs.Digest.{sha256}
 use Rattle.sha256.specs.Laws.DigestLaws.{sha256-length}
-use Rattle.protocol.specs.Bytes.{Bytes, AreBytes, holds}
+use Rattle.protocol.specs.Bytes.{Bytes, AreBytes, byteAt, holds}
 use Rattle.protocol.specs.Distinct.{distinctAfter, distinct, noneTwice}
 use Rattle.protocol.specs.Tests.{firstRefusal}
 use Rattle.protocol.specs.Frame.{frameSize}
@@ -83,8 +83,9 @@ use Rattle.paper.specs.Laws.TimerLaws.{timer}
 use Rattle.paper.specs.Laws.EquivocationLaws.{second-block, two-blocks, two-blocks-packet}
 use Rattle.paper.specs.Idle.{IdlesJustThen, MovesEnd}
 use Rattle.paper.specs.Laws.IdleLaws.{idles-just-then, moves-end}
-use Rattle.paper.specs.Register.{ReadsChain, CannotRead}
+use Rattle.paper.specs.Register.{ReadsChainOf, ReadsChain, CannotRead}
 use Rattle.paper.specs.Laws.RegisterLaws.{reads-chain, reads-nothing}
+use Rattle.paper.specs.Laws.RegisterExactLaws.{reads-exact}
 
 -- ---- demand 1: refusals
 -- each call is refused by the number of its first row that fails, if one does, and then no byte lent to it changes
@@ -243,10 +244,18 @@ votes-are-tallied book n own heights leaders calls opened =
     (tallied-opened sha256 book n own heights leaders opened)
 
 -- ---- demand 2: what is read
--- Read gives the linearization of the finalized blockchain that ends at g, each entry at its first place
+-- Read gives the linearization of the finalized blockchain that ends in block g, each entry at its first place ..
 pub the-register : (book buffer : Bytes) (size : ℕ) → sizeCall sha256 book ≡ accepted size → size ≤ length buffer →
     ReadsChain sha256 book buffer size
 the-register = reads-chain sha256
+
+-- .. and that leaves no choice: a part, a buffer and a size that meet it are those of Read
+pub nothing-else-is-read : (book buffer : Bytes) (size : ℕ) → sizeCall sha256 book ≡ accepted size →
+    size ≤ length buffer → (part after : Bytes) (size′ : ℕ) →
+    ReadsChainOf sha256 (view (decode book)) (byteAt book 5) part buffer after size′ →
+    (part ≡ readPart sha256 book buffer) × (after ≡ readBuffer sha256 book buffer) × (size′ ≡ size)
+nothing-else-is-read book buffer size is fits part after size′ =
+    reads-exact sha256 _ _ _ part buffer _ after size size′ (reads-chain sha256 book buffer size is fits)
 
 -- the log of any state, a replica's or an observer's: no entry twice; just the entries of the finalized chain; all of
 -- them where the chain has none twice; and what follows in a longer chain takes nothing away
