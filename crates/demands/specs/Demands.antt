@@ -56,8 +56,9 @@ use Rattle.agreement.specs.Laws.AnyDigestLaws.{any-digest}
 use Rattle.agreement.specs.Turns.{nextBlock}
 use Rattle.agreement.specs.ObserverWitness.{ObserverWitness}
 use Rattle.agreement.specs.Laws.ObserverWitnessLaws.{observer-witness}
-use Rattle.agreement.specs.ObserverUnpacked.{ObservedAgreementOn, allUnpacked}
+use Rattle.agreement.specs.ObserverUnpacked.{ObservedAgreementOn, ObserverUnpacks, allUnpacked}
 use Rattle.agreement.specs.Laws.ObserverUnpackedLaws.{observed-deliveries-alone}
+use Rattle.agreement.specs.Laws.ObserverUnpacksLaws.{observer-unpacks}
 use Rattle.agreement.specs.Unpacked.{AgreementOn, Unpacks, unpacked}
 use Rattle.agreement.specs.Laws.UnpacksLaws.{deliveries-alone, unpacks}
 use Rattle.call_laws.specs.Refusals.{Refuses}
@@ -303,6 +304,10 @@ no-fork-is-met = any-digest sha256 (sha256-length nextBlock)
 -- granted, delivered, written and read ..
 pub packets-are-deliveries : (list : List Member) → Unpacks sha256 list
 packets-are-deliveries = unpacks sha256
+
+-- .. in lists with observers as well ..
+pub packets-are-deliveries-with-observers : (list : List AnyMember) → ObserverUnpacks sha256 list
+packets-are-deliveries-with-observers = observer-unpacks sha256
 
 -- .. and no fork follows from what is granted of the deliveries alone
 pub no-fork-by-deliveries : (list : List Member) → AgreementOn sha256 (unpacked sha256 list) list

@@ -8,7 +8,7 @@ use Rattle.agreement.specs.Lists.{Agreement, HonestIn, Member, NoCollisi
 use Rattle.agreement.specs.ObserverLists.{AnyReads, AnyShows, Meant, NoneCollide, NoneForged, ObservedAgreement}
 use Rattle.agreement.specs.ObserverLists.{anyDelivers, anyShows, ofObserver, ofReplica, replicaCalls}
 
-only-replicas : (list : List Member) → replicaCalls (map ofReplica list) ≡ list
+pub only-replicas : (list : List Member) → replicaCalls (map ofReplica list) ≡ list
 unfolding replicaCalls
 only-replicas [] = refl
 only-replicas (m ∷ list) = ap (λ (rest : List Member). m ∷ rest) (only-replicas list)
