@@ -1,15 +1,15 @@
 -- Lists with observers: the replicas' and the observers' calls of them, and what is granted of these.
 use Prim.Native.Nat.{ℕ}
 use native.Mathlib.Omega.{arith}
-use mathlib.Core.Path.{_≡_, refl, ap, subst}
+use mathlib.Core.Path.{_≡_, refl, ap}
 use mathlib.Core.Logic.{_⊎_, inl, inr}
 use mathlib.Core.List.{List, [], _∷_, _++_, List·Memᴰ, List·Memᴰ·head, List·Memᴰ·tail, List·Memᴰ·not-nil}
 use mathlib.Core.List.{List·Memᴰ·cases-cons}
 use Rattle.protocol.specs.Bytes.{Bytes}
 use Rattle.agreement.specs.Laws.ListsLaws.{or-else-assoc, or-else-none, split-head, split-never}
-use Rattle.agreement.specs.Lists.{Member, NotForged, Wrote, orElse}
-use Rattle.agreement.specs.ObserverLists.{AnyMember, Meant, NoneForged, ObserverMember, anyDelivers, observerCalls}
-use Rattle.agreement.specs.ObserverLists.{observerLastLeft, observerLeftBy, ofObserver, ofReplica, replicaCalls}
+use Rattle.agreement.specs.Lists.{Member, orElse}
+use Rattle.agreement.specs.ObserverLists.{AnyMember, ObserverMember, observerCalls, observerLastLeft}
+use Rattle.agreement.specs.ObserverLists.{observerLeftBy, ofObserver, ofReplica, replicaCalls}
 
 -- ---- one list after another
 pub replicas-append : (xs ys : List AnyMember) → replicaCalls (xs ++ ys) ≡ replicaCalls xs ++ replicaCalls ys
@@ -72,15 +72,6 @@ replica-split (ofReplica x ∷ l) (y ∷ before) m after e =
     (ofReplica x ∷ front, back, ap (λ (z : List AnyMember). ofReplica x ∷ z) is, cc)
 
 module _ (digest : Bytes → Bytes) where
-  -- ---- what is granted of statements delivered to all is granted of those to replicas
-  pub forged-to-replicas : (books names observers : ℕ → Type 0) (l : List AnyMember) →
-      NoneForged digest (Meant books observers) names l → NotForged digest books names (replicaCalls l)
-  unfolding NoneForged NotForged Meant anyDelivers
-  forged-to-replicas books names observers l unforged before m after frame s statement here ours named got says =
-      let (front, back, is, same) = replica-split l before m after here in
-      subst (λ (calls : List Member). Wrote digest s statement calls) same
-      (unforged front (ofReplica m) back frame s statement is ours named got says)
-
   -- ---- the book that an observer left
   pub observer-left-snoc : (s : ℕ) (P : List ObserverMember) (m : ObserverMember) →
       observerLastLeft digest s (P ++ (m ∷ [])) ≡ orElse (observerLeftBy digest s m) (observerLastLeft digest s P)

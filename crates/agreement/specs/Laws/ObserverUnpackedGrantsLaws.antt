@@ -11,11 +11,11 @@ use Rattle.agreement.specs.Unpacked.{unpacked}
 use Rattle.agreement.specs.ObserverLists.{AnyMember, AnyShows, Meant, NoneCollide, NoneForged, ObserverMember}
 use Rattle.agreement.specs.ObserverLists.{anyDelivers, anyShows, ofObserver, ofReplica, replicaCalls}
 use Rattle.agreement.specs.ObserverUnpacked.{allUnpacked}
-use Rattle.agreement.specs.Laws.ObserverListsLaws.{forged-to-replicas, member-replica, replica-member}
-use Rattle.agreement.specs.Laws.ObserverListsLaws.{replicas-append}
+use Rattle.agreement.specs.Laws.ObserverListsLaws.{member-replica, replica-member, replicas-append}
 use Rattle.agreement.specs.Laws.ObserverUnpackedLaws.{observer-stays, replica-unpacked, replicas-unpacked}
 use Rattle.agreement.specs.Laws.ObserverUnpackedLaws.{unpacked-at, unpacked-split}
 use Rattle.agreement.specs.Laws.UnpackedGrantsLaws.{same-wrote, shown-packed, shown-unpacked, unforged-stays}
+use Rattle.agreement.specs.Laws.WithoutObserversLaws.{forged-to-replicas}
 
 module _ (digest : Bytes → Bytes) (books observers : ℕ → Type 0) where
   -- ---- statements

@@ -17,10 +17,11 @@ use Rattle.protocol.specs.View.{View, chain, isDummy, isFinalized, logAt, logOf
 use Rattle.agreement.specs.Laws.BackingLaws.{Shown, shown-later}
 use Rattle.agreement.specs.Laws.ChainsLaws.{Prefix, prefix-bytes, settled-chains}
 use Rattle.agreement.specs.Laws.ListsLaws.{wrote-more}
-use Rattle.agreement.specs.Laws.ObserverListsLaws.{forged-to-replicas, member-replica}
+use Rattle.agreement.specs.Laws.ObserverListsLaws.{member-replica}
 use Rattle.agreement.specs.Laws.ObserverRunLaws.{AnySeen, AnyStates}
 use Rattle.agreement.specs.Laws.ReplicaLaws.{good-after}
 use Rattle.agreement.specs.Laws.RunLaws.{GoodBytes, Kept}
+use Rattle.agreement.specs.Laws.WithoutObserversLaws.{forged-to-replicas}
 use Rattle.agreement.specs.Lists.{Begins, FewDishonest, HonestIn, KeepsOneBook, Member, Shows, Wrote}
 use Rattle.agreement.specs.Lists.{finalizes, lastLeft, votesBlock, votesDummy}
 use Rattle.agreement.specs.ObserverLists.{AnyMember, AnyShows, Meant, NoneCollide, NoneForged, anyShows}
