@@ -1,8 +1,8 @@
 -- The second claim of request 2.3: a replica and an observer, both new with one n and H, that are given the same
 -- certificates in the same order read the same log after each has moved until idle; and on the way the next certificate
 -- gets the same answer from both. The old bytes of both books, the own number and the leaders are any. In between each
--- may be called as it likes, if another opening is refused, and a frame that is no certificate: moves of either may come
--- anywhere, and signals. No one need be honest, and the digest is any function.
+-- may be called as it likes, if another opening is refused, and a frame that is no certificate: moves of either may
+-- come anywhere, and signals. No one need be honest, and the digest is any function.
 use Prim.Native.Nat.{ℕ, _%_, _≤_}
 use mathlib.Core.Path.{_≡_}
 use mathlib.Core.Bool.{true, cond}

@@ -1,5 +1,5 @@
--- What is granted of statements and digests is granted of a list with observers and of the unpacked list, or of neither:
--- of replicas' members by the law for replicas alone, and of observers' by where they stand.
+-- What is granted of statements and digests is granted of a list with observers and of the unpacked list, or of
+-- neither: of replicas' members by the law for replicas alone, and of observers' by where they stand.
 use Prim.Native.Nat.{ℕ}
 use mathlib.Core.Path.{_≡_, sym, ap, subst, _∙_}
 use mathlib.Core.Logic.{_↔_}
@@ -7,7 +7,6 @@ use mathlib.Core.List.{List, _∷_, _++_, List·Memᴰ}
 use mathlib.Core.Option.{some}
 use Rattle.protocol.specs.Bytes.{Bytes}
 use Rattle.agreement.specs.Lists.{Member, NotForged, Shows, Statement, Wrote, statementOf}
-use Rattle.agreement.specs.Unpacked.{unpacked}
 use Rattle.agreement.specs.ObserverLists.{AnyMember, AnyShows, Meant, NoneCollide, NoneForged, ObserverMember}
 use Rattle.agreement.specs.ObserverLists.{anyDelivers, anyShows, ofObserver, ofReplica, replicaCalls}
 use Rattle.agreement.specs.ObserverUnpacked.{allUnpacked}
@@ -31,10 +30,12 @@ module _ (digest : Bytes → Bytes) (books observers : ℕ → Type 0) where
     Backed m before = (frame : Bytes) (s : ℕ) (st : Statement) → Meant books observers m → names s →
         List·Memᴰ frame (anyDelivers digest m) → statementOf digest frame s ≡ some st → Wrote digest s st before
 
+    abbrev ToObservers : List AnyMember → Type 0
+    ToObservers list = (before : List AnyMember) (m : ObserverMember) (after : List AnyMember) →
+        list ≡ before ++ (ofObserver m ∷ after) → Backed (ofObserver m) (replicaCalls before)
+
     -- by replicas and by observers
-    from-both : (list : List AnyMember) → ToReplicas (replicaCalls list) →
-        ((before : List AnyMember) (m : ObserverMember) (after : List AnyMember) → list ≡ before ++ (ofObserver m ∷ after) →
-        Backed (ofObserver m) (replicaCalls before)) → Unforged list
+    from-both : (list : List AnyMember) → ToReplicas (replicaCalls list) → ToObservers list → Unforged list
     unfolding NoneForged NotForged Meant anyDelivers replicaCalls
     from-both list replicas others before (ofReplica m) after frame s st here =
         replicas (replicaCalls before) m (replicaCalls after) frame s st
@@ -42,8 +43,7 @@ module _ (digest : Bytes → Bytes) (books observers : ℕ → Type 0) where
     from-both list replicas others before (ofObserver m) after frame s st here =
         others before m after here frame s st
 
-    at-observer : (list : List AnyMember) → Unforged list → (before : List AnyMember) (m : ObserverMember) (after : List AnyMember) →
-        list ≡ before ++ (ofObserver m ∷ after) → Backed (ofObserver m) (replicaCalls before)
+    at-observer : (list : List AnyMember) → Unforged list → ToObservers list
     unfolding NoneForged
     at-observer list unforged before m after here frame s st =
         unforged before (ofObserver m) after frame s st here

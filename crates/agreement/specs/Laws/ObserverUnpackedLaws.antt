@@ -1,6 +1,6 @@
 -- The members of an unpacked list with observers: replicas' calls are unpacked, and observers' calls stay, each after
--- what stood before it. So demand 3 with observers holds where all that is granted is asked of the deliveries alone, and
--- not of packets.
+-- what stood before it. So demand 3 with observers holds where all that is granted is asked of the deliveries alone,
+-- and not of packets.
 use Prim.Native.Nat.{ℕ}
 use native.Mathlib.Omega.{arith}
 use mathlib.Core.Path.{_≡_, refl, sym, ap, ap₂, subst, _∙_}

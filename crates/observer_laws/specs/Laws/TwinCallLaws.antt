@@ -213,8 +213,9 @@ module _ (digest : Bytes → Bytes) where
   unfolding bookAfterAll effects allGiven certificatesOf hearAll
   calls-show book was [] no-openings are = alike-self (decode book)
   calls-show book was (call ∷ calls) (one no-opening no-openings) (one here later) =
-      subst (λ (frames : List Bytes). Shows (decode book) frames
-      (bookAfterAll digest (bookAfter digest book call) calls)) (sym (certificates-append (given call) (allGiven calls)))
+      subst
+      (λ (frames : List Bytes). Shows (decode book) frames (bookAfterAll digest (bookAfter digest book call) calls))
+      (sym (certificates-append (given call) (allGiven calls)))
       (one-more (decode book) (certificatesOf (given call)) (allGiven calls) (call-shows book was call no-opening here)
       (calls-show (bookAfter digest book call) (sound-stays digest book call was) calls no-openings later))
 

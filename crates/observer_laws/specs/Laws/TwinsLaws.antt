@@ -40,7 +40,8 @@ use Rattle.protocol.specs.Laws.ObserverAfterLaws.{observer-output}
 use Rattle.call_laws.specs.Laws.SoundStays.{sound-stays-all, sound-opened}
 use Rattle.call_laws.specs.Laws.RefusalsLaws.{refused≢accepted}
 use Rattle.observer_laws.specs.Twins.{Histories, opens, observerOpens, bookOf, observerBookOf, SameCertificates}
-use Rattle.observer_laws.specs.Twins.{SameAnswers, SameLogWhenIdle, Twins, allGiven, certificatesOf, ObserverIdles}
+use Rattle.observer_laws.specs.Twins.{SameAnswers, SameLogWhenIdle, Twins, ObserverIdles, allGiven}
+use Rattle.observer_laws.specs.Twins.{certificatesOf}
 use Rattle.observer_laws.specs.Laws.AlikeLaws.{Alike, same-last, same-view, same-log}
 use Rattle.observer_laws.specs.Laws.HearLaws.{alike-over, alike-back, hearAll, hear-all-alike}
 use Rattle.observer_laws.specs.Laws.TwinDeliverLaws.{same-answer}

@@ -12,8 +12,8 @@ use Rattle.protocol.specs.ObserverCalls.{observerDeliverCall, observerMoveCall,
 use Rattle.observer_laws.specs.Twins.{SameCertificates, Twins, SameLogWhenIdle, given, allGiven, givenToObserver}
 use Rattle.observer_laws.specs.Twins.{allGivenToObserver, certificatesOf, effects, observations, opens}
 use Rattle.observer_laws.specs.Twins.{observerOpens, bookOf, observerBookOf}
-use Rattle.observer_laws.specs.TwinsMet.{TwinsMet, entry, block, otherBlock, old, observerOld, strangersVote, vote}
-use Rattle.observer_laws.specs.TwinsMet.{calls, observerCalls, histories, numbers}
+use Rattle.observer_laws.specs.TwinsMet.{TwinsMet, entry, block, otherBlock, old, observerOld, strangersVote}
+use Rattle.observer_laws.specs.TwinsMet.{vote, calls, observerCalls, histories, numbers}
 use Rattle.observer_laws.specs.Laws.TwinsLaws.{twins}
 
 module _ (digest : Bytes → Bytes) where

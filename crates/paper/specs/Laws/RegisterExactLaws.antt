@@ -1,5 +1,5 @@
--- `Blockchains.LogIsLinearized` and `Register.ReadsChainOf` leave no choice: every finalized blockchain whose last block
--- is that of the finalized height has the entries of the log, so what meets the one or the other is what is read.
+-- `Blockchains.LogIsLinearized` and `Register.ReadsChainOf` leave no choice: every finalized blockchain whose last
+-- block is that of the finalized height has the entries of the log, so what meets the one or the other is what is read.
 use Prim.Native.Nat.{ℕ, _*_}
 use mathlib.Core.Path.{_≡_, sym, ap, _∙_}
 use mathlib.Core.List.{List, _++_}
