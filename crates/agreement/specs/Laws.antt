@@ -28,6 +28,8 @@ pub mod UnpackedBooksLaws
 pub mod UnpackedGrantsLaws
 pub mod UnpacksLaws
 pub mod ObserverUnpackedLaws
+pub mod ObserverUnpackedGrantsLaws
+pub mod ObserverUnpacksLaws
 pub mod OneBookLaws
 pub mod TurnsLaws
 pub mod WitnessLaws

@@ -27,7 +27,7 @@ use lib.ListN.{length}
 use borrow.Author.Tests.{le-leb}
 use Rattle.sha256.specs.Digest.{sha256}
 use Rattle.sha256.specs.Laws.DigestLaws.{sha256-length}
-use Rattle.protocol.specs.Bytes.{Bytes, AreBytes, holds}
+use Rattle.protocol.specs.Bytes.{Bytes, AreBytes, byteAt, holds}
 use Rattle.protocol.specs.Distinct.{distinctAfter, distinct, noneTwice}
 use Rattle.protocol.specs.Tests.{firstRefusal}
 use Rattle.protocol.specs.Frame.{frameSize}
@@ -56,8 +56,9 @@ use Rattle.agreement.specs.Laws.AnyDigestLaws.{any-digest}
 use Rattle.agreement.specs.Turns.{nextBlock}
 use Rattle.agreement.specs.ObserverWitness.{ObserverWitness}
 use Rattle.agreement.specs.Laws.ObserverWitnessLaws.{observer-witness}
-use Rattle.agreement.specs.ObserverUnpacked.{ObservedAgreementOn, allUnpacked}
+use Rattle.agreement.specs.ObserverUnpacked.{ObservedAgreementOn, ObserverUnpacks, allUnpacked}
 use Rattle.agreement.specs.Laws.ObserverUnpackedLaws.{observed-deliveries-alone}
+use Rattle.agreement.specs.Laws.ObserverUnpacksLaws.{observer-unpacks}
 use Rattle.agreement.specs.Unpacked.{AgreementOn, Unpacks, unpacked}
 use Rattle.agreement.specs.Laws.UnpacksLaws.{deliveries-alone, unpacks}
 use Rattle.call_laws.specs.Refusals.{Refuses}
@@ -83,8 +84,9 @@ use Rattle.paper.specs.Laws.TimerLaws.{timer}
 use Rattle.paper.specs.Laws.EquivocationLaws.{second-block, two-blocks, two-blocks-packet}
 use Rattle.paper.specs.Idle.{IdlesJustThen, MovesEnd}
 use Rattle.paper.specs.Laws.IdleLaws.{idles-just-then, moves-end}
-use Rattle.paper.specs.Register.{ReadsChain, CannotRead}
+use Rattle.paper.specs.Register.{ReadsChainOf, ReadsChain, CannotRead}
 use Rattle.paper.specs.Laws.RegisterLaws.{reads-chain, reads-nothing}
+use Rattle.paper.specs.Laws.RegisterExactLaws.{reads-exact}
 
 -- ---- demand 1: refusals
 -- each call is refused by the number of its first row that fails, if one does, and then no byte lent to it changes
@@ -243,10 +245,18 @@ votes-are-tallied book n own heights leaders calls opened =
     (tallied-opened sha256 book n own heights leaders opened)
 
 -- ---- demand 2: what is read
--- Read gives the linearization of the finalized blockchain that ends at g, each entry at its first place
+-- Read gives the linearization of the finalized blockchain that ends in block g, each entry at its first place ..
 pub the-register : (book buffer : Bytes) (size : ℕ) → sizeCall sha256 book ≡ accepted size → size ≤ length buffer →
     ReadsChain sha256 book buffer size
 the-register = reads-chain sha256
+
+-- .. and that leaves no choice: a part, a buffer and a size that meet it are those of Read
+pub nothing-else-is-read : (book buffer : Bytes) (size : ℕ) → sizeCall sha256 book ≡ accepted size →
+    size ≤ length buffer → (part after : Bytes) (size′ : ℕ) →
+    ReadsChainOf sha256 (view (decode book)) (byteAt book 5) part buffer after size′ →
+    (part ≡ readPart sha256 book buffer) × (after ≡ readBuffer sha256 book buffer) × (size′ ≡ size)
+nothing-else-is-read book buffer size is fits part after size′ =
+    reads-exact sha256 _ _ _ part buffer _ after size size′ (reads-chain sha256 book buffer size is fits)
 
 -- the log of any state, a replica's or an observer's: no entry twice; just the entries of the finalized chain; all of
 -- them where the chain has none twice; and what follows in a longer chain takes nothing away
@@ -294,6 +304,10 @@ no-fork-is-met = any-digest sha256 (sha256-length nextBlock)
 -- granted, delivered, written and read ..
 pub packets-are-deliveries : (list : List Member) → Unpacks sha256 list
 packets-are-deliveries = unpacks sha256
+
+-- .. in lists with observers as well ..
+pub packets-are-deliveries-with-observers : (list : List AnyMember) → ObserverUnpacks sha256 list
+packets-are-deliveries-with-observers = observer-unpacks sha256
 
 -- .. and no fork follows from what is granted of the deliveries alone
 pub no-fork-by-deliveries : (list : List Member) → AgreementOn sha256 (unpacked sha256 list) list

@@ -16,9 +16,9 @@ use mathlib.Core.List.{[], _∷_}
 use lib.ListN.{length}
 use Rattle.sha256.specs.Digest.{sha256}
 use Rattle.sha256.specs.Laws.DigestLaws.{sha256-length}
-use Rattle.protocol.specs.Bytes.{Bytes, AreBytes}
+use Rattle.protocol.specs.Bytes.{Bytes, AreBytes, byteAt}
 use Rattle.protocol.specs.State.{decode}
-use Rattle.protocol.specs.Sound.{sound}
+use Rattle.protocol.specs.Sound.{view, sound}
 use Rattle.protocol.specs.Answer.{Done, Delivery, Move, accepted, done}
 use Rattle.protocol.specs.Observer.{observerState}
 use Rattle.protocol.specs.ObserverSound.{observerSound}
@@ -28,8 +28,9 @@ use Rattle.protocol.specs.ObserverCall.{ObserverCall, observation, observesBook
 use Rattle.call_laws.specs.Refusals.{Refuses}
 use Rattle.paper.specs.Observing.{ObserverStep}
 use Rattle.paper.specs.Laws.ObservingLaws.{observer-moves}
-use Rattle.paper.specs.Register.{ObserverReadsChain, ObserverCannotRead}
+use Rattle.paper.specs.Register.{ReadsChainOf, ObserverReadsChain, ObserverCannotRead}
 use Rattle.paper.specs.Laws.RegisterLaws.{observer-reads-chain, observer-reads-nothing}
+use Rattle.paper.specs.Laws.RegisterExactLaws.{reads-exact}
 use Rattle.observer_laws.specs.Refusing.{refusalRows, RefusesStatements}
 use Rattle.observer_laws.specs.ObserverOpened.{openedObserver}
 use Rattle.observer_laws.specs.ObserverKeeping.{ObserverKeeps}
@@ -125,10 +126,18 @@ pub the-observers-step : (book : Bytes) → observerSound sha256 book ≡ true �
 the-observers-step = observer-moves sha256
 
 -- ---- what is read
--- Read gives the linearization of the finalized blockchain that ends at g, each entry at its first place
+-- Read gives the linearization of the finalized blockchain that ends in block g, each entry at its first place ..
 pub the-observers-register : (book buffer : Bytes) (size : ℕ) → observerSizeCall sha256 book ≡ accepted size →
     size ≤ length buffer → ObserverReadsChain sha256 book buffer size
 the-observers-register = observer-reads-chain sha256
+
+-- .. and that leaves no choice: a part, a buffer and a size that meet it are those of Read
+pub observers-read-nothing-else : (book buffer : Bytes) (size : ℕ) → observerSizeCall sha256 book ≡ accepted size →
+    size ≤ length buffer → (part after : Bytes) (size′ : ℕ) →
+    ReadsChainOf sha256 (view (observerState book)) (byteAt book 5) part buffer after size′ →
+    (part ≡ observerReadPart sha256 book buffer) × (after ≡ observerReadBuffer sha256 book buffer) × (size′ ≡ size)
+observers-read-nothing-else book buffer size is fits part after size′ =
+    reads-exact sha256 _ _ _ part buffer _ after size size′ (observer-reads-chain sha256 book buffer size is fits)
 
 -- each certificate that a replica writes is read over every observer's book of the same n that has its height, as the
 -- same statement

@@ -1,12 +1,13 @@
 -- The second claim of request 2.3: a replica and an observer, both new with one n and H, that are given the same
 -- certificates in the same order read the same log after each has moved until idle; and on the way the next certificate
 -- gets the same answer from both. The old bytes of both books, the own number and the leaders are any. In between each
--- may be called as it likes, but for another opening and for frames that are no certificates: moves of either may come
--- anywhere, and signals. No one need be honest, and the digest is any function.
+-- may be called as it likes, if another opening is refused, and a frame that is no certificate: moves of either may
+-- come anywhere, and signals. No one need be honest, and the digest is any function.
 use Prim.Native.Nat.{ℕ, _%_, _≤_}
 use mathlib.Core.Path.{_≡_}
-use mathlib.Core.Bool.{Bool, true, false, cond}
+use mathlib.Core.Bool.{true, cond}
 use mathlib.Core.List.{List, [], _∷_, _++_}
+use mathlib.Core.Option.{none}
 use lib.ListN.{length, replicate}
 use lib.Dec.{eqb}
 use Rattle.protocol.specs.Bytes.{Bytes}
@@ -20,11 +21,11 @@ use Rattle.protocol.specs.State.{decode}
 use Rattle.protocol.specs.Move.{step, afterMoves, moveCall}
 use Rattle.protocol.specs.Read.{sizeCall, readPart, readBuffer}
 use Rattle.protocol.specs.Call.{Call, opening, delivery, packetDelivery, moving, signalling, submitting, sizing}
-use Rattle.protocol.specs.Call.{reading, fetching, bookAfterAll}
+use Rattle.protocol.specs.Call.{reading, fetching, Effect, effect, bookAfter, bookAfterAll}
 use Rattle.protocol.specs.ObserverCalls.{observerOpenCall, observerDeliverCall, observerMoveCall, observerSizeCall}
 use Rattle.protocol.specs.ObserverCalls.{observerReadPart, observerReadBuffer}
 use Rattle.protocol.specs.ObserverCall.{ObserverCall, observerOpening, observerDelivery, observerMoving, observerSizing}
-use Rattle.protocol.specs.ObserverCall.{observerReading, observerBookAfterAll}
+use Rattle.protocol.specs.ObserverCall.{observerReading, Observation, observation, observerBookAfterAll}
 
 -- ---- the frames that a call gives to its book, refused or not, in order
 -- a packet whose length is no multiple of 224 is refused as a whole and gives none
@@ -54,28 +55,15 @@ unfoldable pub allGivenToObserver : List ObserverCall → List Bytes
 allGivenToObserver [] = []
 allGivenToObserver (call ∷ calls) = givenToObserver call ++ allGivenToObserver calls
 
--- ---- which calls are openings
-unfoldable pub isOpening : Call → Bool
-isOpening (opening n own heights leaders) = true
-isOpening (delivery frame) = false
-isOpening (packetDelivery packet) = false
-isOpening (moving reply) = false
-isOpening (signalling h) = false
-isOpening (submitting entry) = false
-isOpening sizing = false
-isOpening (reading buffer) = false
-isOpening (fetching k h reply) = false
-
-unfoldable pub isObserverOpening : ObserverCall → Bool
-isObserverOpening (observerOpening n heights) = true
-isObserverOpening (observerDelivery frame) = false
-isObserverOpening observerMoving = false
-isObserverOpening observerSizing = false
-isObserverOpening (observerReading buffer) = false
-
+-- ---- certificates
 -- a frame whose kind byte is 5, 6 or 7, well formed or not
 abbrev pub IsCertificate : Bytes → Type 0
 IsCertificate frame = isCertificate (kind frame) ≡ true
+
+-- those among some frames, in order
+unfoldable pub certificatesOf : List Bytes → List Bytes
+certificatesOf [] = []
+certificatesOf (frame ∷ frames) = cond (isCertificate (kind frame)) (frame ∷ []) [] ++ certificatesOf frames
 
 -- ---- a replica's and an observer's calls
 -- the openings, with one n and H and over any old bytes, and the calls after them
@@ -95,16 +83,30 @@ opens both = openCall (both .old) (both .n) (both .own) (both .heights) (both .l
 abbrev pub observerOpens : Histories → Outcome Done
 observerOpens both = observerOpenCall (both .observerOld) (both .n) (both .heights)
 
--- both openings are not refused, no other one follows, and both books are given the same certificates
-pub record SameCertificates (both : Histories) : Type 0 where
-  pub opened : opens both .answer ≡ accepted done
-  pub observer-opened : observerOpens both .answer ≡ accepted done
-  pub opened-once : Every (λ (call : Call). isOpening call ≡ false) (both .calls)
-  pub observer-opened-once : Every (λ (call : ObserverCall). isObserverOpening call ≡ false) (both .observerCalls)
-  pub certificates : Every IsCertificate (allGiven (both .calls))
-  pub same : allGivenToObserver (both .observerCalls) ≡ allGiven (both .calls)
-
 module _ (digest : Bytes → Bytes) where
+  -- what calls do, each on the book that those before it left
+  unfoldable pub effects : Bytes → List Call → List Effect
+  effects book [] = []
+  effects book (call ∷ calls) = effect digest book call ∷ effects (bookAfter digest book call) calls
+
+  unfoldable pub observations : Bytes → List ObserverCall → List Observation
+  observations book [] = []
+  observations book (call ∷ calls) =
+      observation digest book call ∷ observations (observation digest book call .book) calls
+
+  -- both openings are not refused, and both books are given the same certificates, refused or not
+  pub record SameCertificates (both : Histories) : Type 0 where
+    pub opened : opens both .answer ≡ accepted done
+    pub observer-opened : observerOpens both .answer ≡ accepted done
+    -- an opening that follows is refused
+    pub opened-once : Every (λ (e : Effect). e .opens ≡ none) (effects (opens both .book) (both .calls))
+    pub observer-opened-once : Every (λ (o : Observation). o .opens ≡ none)
+        (observations (observerOpens both .book) (both .observerCalls))
+    -- the replica refuses each other frame that it is given; an observer always does
+    pub certificates : Every (λ (e : Effect). Every IsCertificate (e .delivers))
+        (effects (opens both .book) (both .calls))
+    pub same : certificatesOf (allGivenToObserver (both .observerCalls)) ≡ certificatesOf (allGiven (both .calls))
+
   -- the books after all calls
   abbrev pub bookOf : Histories → Bytes
   bookOf both = bookAfterAll digest (opens both .book) (both .calls)

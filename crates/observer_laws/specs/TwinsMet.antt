@@ -1,20 +1,21 @@
 -- Calls that meet every premise of `Twins`, whatever the digest, and after which both read an entry: among four
 -- replicas, replica 2 and an observer are given six certificates, of which three are refused, in deliveries and a
--- packet and with moves at other times.
+-- packet and with moves at other times. An opening and votes come between, at other times too, and are refused.
 use Prim.Native.Nat.{ℕ}
 use mathlib.Core.Path.{_≡_}
 use mathlib.Core.List.{List, [], _∷_, _++_}
 use lib.ListN.{replicate}
 use Rattle.protocol.specs.Bytes.{Bytes, zeros}
 use Rattle.protocol.specs.Block.{newBlock}
-use Rattle.protocol.specs.Frame.{blockCertificate, dummyCertificate, finalizeCertificate}
+use Rattle.protocol.specs.Frame.{dummyVote, blockCertificate, dummyCertificate, finalizeCertificate}
 use Rattle.protocol.specs.Answer.{Outcome, Delivery, accepted, idle, refusalNumber}
+use Rattle.protocol.specs.Deliver.{deliverCall}
 use Rattle.protocol.specs.Move.{moveCall}
 use Rattle.protocol.specs.Read.{readPart}
-use Rattle.protocol.specs.Call.{Call, delivery, packetDelivery, moving, signalling}
+use Rattle.protocol.specs.Call.{Call, opening, delivery, packetDelivery, moving, signalling}
 use Rattle.protocol.specs.ObserverCalls.{observerDeliverCall, observerMoveCall, observerReadPart}
-use Rattle.protocol.specs.ObserverCall.{ObserverCall, observerDelivery, observerMoving}
-use Rattle.observer_laws.specs.Twins.{allGivenToObserver, observerOpens}
+use Rattle.protocol.specs.ObserverCall.{ObserverCall, observerOpening, observerDelivery, observerMoving}
+use Rattle.observer_laws.specs.Twins.{allGiven, allGivenToObserver, opens, observerOpens}
 use Rattle.observer_laws.specs.Twins.{Histories, SameCertificates, bookOf, observerBookOf, SameLog}
 
 -- ---- what is said
@@ -35,19 +36,28 @@ old = replicate 2336 9
 unfoldable pub observerOld : Bytes
 observerOld = replicate 432 9
 
+-- a vote of replica 9, of which there is none, and one of replica 0
+unfoldable pub strangersVote : Bytes
+strangersVote = dummyVote 9 1
+
+unfoldable pub vote : Bytes
+vote = dummyVote 0 1
+
 abbrev move : Call
 move = moving (zeros 448)
 
 unfoldable pub calls : List Call
 calls =
-    move ∷ delivery (5 ∷ []) ∷ signalling 1 ∷ delivery (dummyCertificate 1 3) ∷ move ∷ delivery (dummyCertificate 1 7) ∷
-    move ∷ move ∷ packetDelivery (blockCertificate 2 7 block ++ blockCertificate 2 11 otherBlock) ∷
+    move ∷ delivery (5 ∷ []) ∷ signalling 1 ∷ delivery (dummyCertificate 1 3) ∷ opening 0 2 2 (0 ∷ 1 ∷ []) ∷ move ∷
+    delivery (dummyCertificate 1 7) ∷ delivery strangersVote ∷ move ∷ move ∷
+    packetDelivery (blockCertificate 2 7 block ++ strangersVote ++ blockCertificate 2 11 otherBlock) ∷
     delivery (finalizeCertificate 2 14) ∷ move ∷ move ∷ []
 
 unfoldable pub observerCalls : List ObserverCall
 observerCalls =
-    observerDelivery (5 ∷ []) ∷ observerDelivery (dummyCertificate 1 3) ∷ observerDelivery (dummyCertificate 1 7) ∷
-    observerDelivery (blockCertificate 2 7 block) ∷ observerMoving ∷
+    observerDelivery (5 ∷ []) ∷ observerDelivery vote ∷ observerDelivery (dummyCertificate 1 3) ∷
+    observerDelivery (dummyCertificate 1 7) ∷ observerOpening 0 2 ∷ observerDelivery (blockCertificate 2 7 block) ∷
+    observerMoving ∷
     observerDelivery (blockCertificate 2 11 otherBlock) ∷ observerDelivery (finalizeCertificate 2 14) ∷
     observerMoving ∷ []
 
@@ -64,19 +74,22 @@ histories = record {
   observerCalls = observerCalls;
 }
 
-module _ (digest : Bytes → Bytes) where
-  -- by which numbers an observer refuses what it is given, in order, and 0 for what it takes
-  unfoldable pub numbers : Bytes → List Bytes → List ℕ
-  numbers bytes [] = []
-  numbers bytes (frame ∷ frames) =
-      let o : Outcome Delivery = observerDeliverCall digest bytes frame in
-      refusalNumber (o .answer) ∷ numbers (o .book) frames
+-- by which numbers these frames, delivered one after the other, are refused, and 0 for what is taken
+unfoldable pub numbers : (deliver : Bytes → Bytes → Outcome Delivery) → Bytes → List Bytes → List ℕ
+numbers deliver bytes [] = []
+numbers deliver bytes (frame ∷ frames) =
+    let o : Outcome Delivery = deliver bytes frame in
+    refusalNumber (o .answer) ∷ numbers deliver (o .book) frames
 
+module _ (digest : Bytes → Bytes) where
   pub record TwinsMet : Type 0 where
-    pub premises : SameCertificates histories
-    -- the frame of one byte is refused with 4, the mask of two replicas with 9, and the other block with 10
-    pub refusals : numbers (observerOpens histories .book) (allGivenToObserver observerCalls) ≡
-        4 ∷ 9 ∷ 0 ∷ 0 ∷ 10 ∷ 0 ∷ []
+    pub premises : SameCertificates digest histories
+    -- the frame of one byte is refused with 4, the mask of two replicas with 9, and the other block with 10, by both;
+    -- the vote of replica 9 with 5 by the replica, and that of replica 0 with 16 by the observer
+    pub refusals : numbers (deliverCall digest) (opens histories .book) (allGiven calls) ≡
+        4 ∷ 9 ∷ 0 ∷ 5 ∷ 0 ∷ 5 ∷ 10 ∷ 0 ∷ []
+    pub observer-refusals : numbers (observerDeliverCall digest) (observerOpens histories .book)
+        (allGivenToObserver observerCalls) ≡ 4 ∷ 16 ∷ 9 ∷ 0 ∷ 0 ∷ 10 ∷ 0 ∷ []
     pub rests : moveCall digest (bookOf digest histories) (zeros 448) .answer ≡ accepted idle
     pub observer-rests : observerMoveCall digest (observerBookOf digest histories) .answer ≡ accepted idle
     pub reads : readPart digest (bookOf digest histories) (zeros 16) ≡ entry

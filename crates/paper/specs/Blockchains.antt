@@ -60,12 +60,13 @@ module _ (digest : Bytes → Bytes) (v : View) where
   unfoldable pub FinalizedIsSeen : ℕ → Type 0
   FinalizedIsSeen h = 1 ≤ h → (isFinalized digest v h ≡ true) ↔ (SeenWithBlock digest v h × Finalization v h)
 
--- the log of a state is the linearization of a finalized blockchain that ends at its finalized height, each entry at
--- its first place
+-- the log of a state is the linearization of the finalized blockchain that ends in the block of its finalized height,
+-- and not in a dummy block, each entry at its first place
 pub record LogIsLinearized (digest : Bytes → Bytes) (s : State) : Type 0 where
   pub sequence : Sequence
   pub finalized : FinalizedBlockchain digest (view s) sequence
   pub its-height : height sequence ≡ s .finalized
+  pub its-last : lastBlock sequence ≡ s .finalized
   pub its-log : distinct (linearize sequence) ≡ log s
 
 -- all of the above, for every height and block

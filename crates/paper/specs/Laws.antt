@@ -6,6 +6,7 @@ pub mod LinkedChainLaws
 pub mod TracedLaws
 pub mod BlockchainsLaws
 pub mod RegisterLaws
+pub mod RegisterExactLaws
 pub mod TakenLaws
 pub mod SeenLaws
 pub mod LeaderProposalLaws

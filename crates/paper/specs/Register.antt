@@ -15,16 +15,17 @@ use Rattle.protocol.specs.Answer.{refused, accepted}
 use Rattle.protocol.specs.Read.{sizeCall, readPart, readBuffer}
 use Rattle.protocol.specs.Observer.{observerState}
 use Rattle.protocol.specs.ObserverCalls.{observerSizeCall, observerReadPart, observerReadBuffer}
-use Rattle.paper.specs.Paper.{Sequence, height, linearize, FinalizedBlockchain}
+use Rattle.paper.specs.Paper.{Sequence, height, lastBlock, linearize, FinalizedBlockchain}
 
 -- a book with this view and this g, whose register has `size` bytes, and a buffer that is long enough: the part that
 -- Read returns, and the buffer after it
 pub record ReadsChainOf (digest : Bytes → Bytes) (v : View) (g : ℕ)
     (part buffer after : Bytes) (size : ℕ) : Type 0 where
-  -- a finalized blockchain of height g
+  -- the finalized blockchain of height g that ends in the block of that height, and not in a dummy block
   pub sequence : Sequence
   pub finalized : FinalizedBlockchain digest v sequence
   pub its-height : height sequence ≡ g
+  pub its-last : lastBlock sequence ≡ g
   -- the part is its entries, oldest first, without those equal to an earlier one, 16 bytes each, and the size is theirs
   pub part-read : part ≡ join (distinct (linearize sequence))
   pub its-size : size ≡ entrySize * length (distinct (linearize sequence))

@@ -27,8 +27,8 @@ use Rattle.agreement.specs.Laws.ObserverListsLaws.{observers-append, rep
 use Rattle.agreement.specs.Laws.ObserverRunLaws.{Followed, FollowedBytes, followed-more}
 use Rattle.agreement.specs.Laws.ReplicaLaws.{good-after}
 use Rattle.agreement.specs.Laws.RunLaws.{Good, GoodBytes}
-use Rattle.agreement.specs.Laws.ViewsLaws.{HadView, forged-to-replicas, kept-shown, logs}
-use Rattle.agreement.specs.Laws.WithoutObserversLaws.{without-observers}
+use Rattle.agreement.specs.Laws.ViewsLaws.{HadView, kept-shown, logs}
+use Rattle.agreement.specs.Laws.WithoutObserversLaws.{forged-to-replicas, without-observers}
 use Rattle.agreement.specs.Lists.{Agreement, Begins, Continues, FewDishonest, Follows, HonestIn, KeepsOneBook}
 use Rattle.agreement.specs.Lists.{Member, Opens, Reads, lastLeft}
 use Rattle.agreement.specs.ObserverLists.{AnyMember, AnyReads, Meant, NoneCollide, NoneForged, ObservedAgreement}

@@ -2,9 +2,10 @@
 use Prim.Native.Nat.{ℕ}
 use mathlib.Core.Path.{_≡_, refl, sym, subst}
 use mathlib.Core.Logic.{_⊎_, _↔_, inl, inr}
-use mathlib.Core.List.{List, [], _∷_, _++_, append-nil, List·Memᴰ, List·Memᴰ·head, List·Memᴰ·not-nil}
+use mathlib.Core.List.{List, [], _∷_, _++_, append-assoc, append-nil, List·Memᴰ, List·Memᴰ·head, List·Memᴰ·not-nil}
 use mathlib.Core.List.{List·Memᴰ·append-cases, List·Memᴰ·eq-of-singleton, Memᴰ·append-left, Memᴰ·append-right}
 use mathlib.Core.Option.{some}
+use lib.Seq.{append-snoc}
 use Rattle.protocol.specs.Bytes.{Bytes}
 use Rattle.protocol.specs.Deliver.{deliverCall}
 use Rattle.protocol.specs.Packet.{acceptedOf, packetFrames}
@@ -69,6 +70,20 @@ module _ (digest : Bytes → Bytes) where
       (λ x i. absurd (List·Memᴰ·not-nil i)) same)
       (both-silent P P′ (m ∷ []) _ (alone-silent m (packet-writes digest m packet is))
       (λ d i. is-delivery digest (m .replica) (m .book) (packetFrames packet) d i .writes-none) same))
+
+  -- the whole list
+  written-all : (P P′ list : List Member) → SameWritten P P′ → SameWritten (P ++ list) (P′ ++ unpacked digest list)
+  unfolding unpacked
+  written-all P P′ [] same = rw (append-nil P, append-nil P′) same
+  written-all P P′ (m ∷ ms) same =
+      subst (λ (front : List Member). SameWritten front (P′ ++ (Standing digest m ++ unpacked digest ms)))
+      (append-snoc P m ms)
+      (subst (SameWritten ((P ++ (m ∷ [])) ++ ms)) (append-assoc P′ (Standing digest m) (unpacked digest ms))
+      (written-all (P ++ (m ∷ [])) (P′ ++ Standing digest m) ms (written-more P P′ same m)))
+
+  pub same-wrote : (list : List Member) (s : ℕ) (st : Statement) →
+      Wrote digest s st list ↔ Wrote digest s st (unpacked digest list)
+  same-wrote list = written-all [] [] list (λ s st. (λ w. w, λ w. w))
 
   -- ---- statements: `books` and `names` as in what is granted
   module _ (books names : ℕ → Type 0) where
@@ -193,7 +208,7 @@ module _ (digest : Bytes → Bytes) where
   unfolding Shows
   shows-delivers m block none (frame, i, e) = (frame, rw (none, append-nil) at i, e)
 
-  shown-packed : (list : List Member) (d : Member) (block : Bytes) → List·Memᴰ d (unpacked digest list) →
+  pub shown-packed : (list : List Member) (d : Member) (block : Bytes) → List·Memᴰ d (unpacked digest list) →
       Shows digest d block → ShownIn list (d .replica) block
   shown-packed list d block i shows =
       let (m, here, j) = from-unpacked digest list d i in
@@ -214,7 +229,7 @@ module _ (digest : Bytes → Bytes) where
       ShownBy : Member → Type 0
       ShownBy m = (m .replica ≡ d .replica) × Shows digest m block
 
-  shown-unpacked : (list : List Member) (m : Member) (block : Bytes) → List·Memᴰ m list → Shows digest m block →
+  pub shown-unpacked : (list : List Member) (m : Member) (block : Bytes) → List·Memᴰ m list → Shows digest m block →
       ShownIn (unpacked digest list) (m .replica) block
   shown-unpacked list m block i shows =
       let (d, here, whose, shown) = standing digest m (λ (ms : List Member). ShownIn ms (m .replica) block)

@@ -1,7 +1,7 @@
 -- Two views that show only what was stated and seen in one list: of their logs one is a beginning of the other.
 use Prim.Native.Nat.{ℕ, suc, _*_, _≤_, _<_}
 use native.Mathlib.Omega.{arith}
-use mathlib.Core.Path.{_≡_, sym, ap, subst, _∙_}
+use mathlib.Core.Path.{_≡_, sym, ap, _∙_}
 use mathlib.Core.Logic.{_⊎_}
 use mathlib.Core.Bool.{true}
 use mathlib.Core.List.{List, [], _++_, append-nil, Memᴰ·append-left}
@@ -17,23 +17,15 @@ use Rattle.protocol.specs.View.{View, chain, isDummy, isFinalized, logAt, logOf
 use Rattle.agreement.specs.Laws.BackingLaws.{Shown, shown-later}
 use Rattle.agreement.specs.Laws.ChainsLaws.{Prefix, prefix-bytes, settled-chains}
 use Rattle.agreement.specs.Laws.ListsLaws.{wrote-more}
-use Rattle.agreement.specs.Laws.ObserverListsLaws.{member-replica, replica-split}
+use Rattle.agreement.specs.Laws.ObserverListsLaws.{member-replica}
 use Rattle.agreement.specs.Laws.ObserverRunLaws.{AnySeen, AnyStates}
 use Rattle.agreement.specs.Laws.ReplicaLaws.{good-after}
 use Rattle.agreement.specs.Laws.RunLaws.{GoodBytes, Kept}
-use Rattle.agreement.specs.Lists.{Begins, FewDishonest, HonestIn, KeepsOneBook, Member, NotForged, Shows, Wrote}
+use Rattle.agreement.specs.Laws.WithoutObserversLaws.{forged-to-replicas}
+use Rattle.agreement.specs.Lists.{Begins, FewDishonest, HonestIn, KeepsOneBook, Member, Shows, Wrote}
 use Rattle.agreement.specs.Lists.{finalizes, lastLeft, votesBlock, votesDummy}
-use Rattle.agreement.specs.ObserverLists.{AnyMember, anyDelivers, AnyShows, Meant, NoneCollide, NoneForged}
-use Rattle.agreement.specs.ObserverLists.{anyShows, ofReplica, replicaCalls}
-
--- what is granted of statements delivered to all is granted of those to replicas
-pub forged-to-replicas : (digest : Bytes → Bytes) (books names observers : ℕ → Type 0) (l : List AnyMember) →
-    NoneForged digest (Meant books observers) names l → NotForged digest books names (replicaCalls l)
-unfolding NoneForged NotForged Meant anyDelivers
-forged-to-replicas digest books names observers l unforged before m after frame s statement here ours named got says =
-    let (front, back, is, same) = replica-split l before m after here in
-    subst (λ (calls : List Member). Wrote digest s statement calls) same
-    (unforged front (ofReplica m) back frame s statement is ours named got says)
+use Rattle.agreement.specs.ObserverLists.{AnyMember, AnyShows, Meant, NoneCollide, NoneForged, anyShows}
+use Rattle.agreement.specs.ObserverLists.{ofReplica, replicaCalls}
 
 -- ---- `books` and `observers` are those whose members are meant, `names` those whose statements are
 module _ (digest : Bytes → Bytes) (n : ℕ) (books names observers : ℕ → Type 0) (l : List AnyMember) where

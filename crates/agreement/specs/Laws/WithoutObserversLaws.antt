@@ -1,17 +1,28 @@
--- Demand 3 over lists without observers follows from that over lists with them: none of them is an observer's.
+-- Demand 3 over lists without observers follows from that over lists with them: none of them is an observer's. And what
+-- is granted of a list with observers is granted of the replicas' calls.
 use Prim.Native.Nat.{ℕ}
-use mathlib.Core.Path.{_≡_, refl, sym, ap, _∙_}
+use mathlib.Core.Path.{_≡_, refl, sym, ap, subst, _∙_}
 use mathlib.Core.List.{List, [], _∷_, map, List·Memᴰ}
 use Rattle.protocol.specs.Bytes.{Bytes}
-use Rattle.agreement.specs.Laws.ObserverListsLaws.{member-replica, replica-member, replicas-append}
-use Rattle.agreement.specs.Lists.{Agreement, HonestIn, Member, NoCollision, NotForged, Shows}
-use Rattle.agreement.specs.ObserverLists.{AnyReads, AnyShows, Meant, NoneCollide, NoneForged, ObservedAgreement}
-use Rattle.agreement.specs.ObserverLists.{anyDelivers, anyShows, ofObserver, ofReplica, replicaCalls}
+use Rattle.agreement.specs.Laws.ObserverListsLaws.{member-replica, replica-member, replica-split, replicas-append}
+use Rattle.agreement.specs.Lists.{Agreement, HonestIn, Member, NoCollision, NotForged, Shows, Wrote}
+use Rattle.agreement.specs.ObserverLists.{AnyMember, AnyReads, AnyShows, Meant, NoneCollide, NoneForged}
+use Rattle.agreement.specs.ObserverLists.{ObservedAgreement, anyDelivers, anyShows, ofObserver, ofReplica}
+use Rattle.agreement.specs.ObserverLists.{replicaCalls}
 
-only-replicas : (list : List Member) → replicaCalls (map ofReplica list) ≡ list
+pub only-replicas : (list : List Member) → replicaCalls (map ofReplica list) ≡ list
 unfolding replicaCalls
 only-replicas [] = refl
 only-replicas (m ∷ list) = ap (λ (rest : List Member). m ∷ rest) (only-replicas list)
+
+-- what is granted of statements delivered to all is granted of those to replicas
+pub forged-to-replicas : (digest : Bytes → Bytes) (books names observers : ℕ → Type 0) (l : List AnyMember) →
+    NoneForged digest (Meant books observers) names l → NotForged digest books names (replicaCalls l)
+unfolding NoneForged NotForged Meant anyDelivers
+forged-to-replicas digest books names observers l unforged before m after frame s statement here ours named got says =
+    let (front, back, is, same) = replica-split l before m after here in
+    subst (λ (calls : List Member). Wrote digest s statement calls) same
+    (unforged front (ofReplica m) back frame s statement is ours named got says)
 
 -- nobody is meant among observers
 abbrev Nobody : ℕ → Type 0

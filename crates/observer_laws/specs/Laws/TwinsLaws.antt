@@ -11,7 +11,6 @@ use lib.ListN.{length, replicate}
 use lib.Dec.{ltb}
 use borrow.Author.Tests.{ltb-true, ltb-false}
 use Rattle.protocol.specs.Bytes.{Bytes}
-use Rattle.protocol.specs.Every.{Every}
 use Rattle.protocol.specs.Tests.{firstRefusal}
 use Rattle.protocol.specs.State.{State, at, last, encode, decode, withHead}
 use Rattle.protocol.specs.View.{isFinalized, largestFinalized}
@@ -41,11 +40,12 @@ use Rattle.protocol.specs.Laws.ObserverAfterLaws.{observer-output}
 use Rattle.call_laws.specs.Laws.SoundStays.{sound-stays-all, sound-opened}
 use Rattle.call_laws.specs.Laws.RefusalsLaws.{refused≢accepted}
 use Rattle.observer_laws.specs.Twins.{Histories, opens, observerOpens, bookOf, observerBookOf, SameCertificates}
-use Rattle.observer_laws.specs.Twins.{SameAnswers, SameLogWhenIdle, Twins, IsCertificate, allGiven, ObserverIdles}
+use Rattle.observer_laws.specs.Twins.{SameAnswers, SameLogWhenIdle, Twins, ObserverIdles, allGiven}
+use Rattle.observer_laws.specs.Twins.{certificatesOf}
 use Rattle.observer_laws.specs.Laws.AlikeLaws.{Alike, same-last, same-view, same-log}
 use Rattle.observer_laws.specs.Laws.HearLaws.{alike-over, alike-back, hearAll, hear-all-alike}
 use Rattle.observer_laws.specs.Laws.TwinDeliverLaws.{same-answer}
-use Rattle.observer_laws.specs.Laws.TwinCallLaws.{calls-show, observer-calls-show, state-back}
+use Rattle.observer_laws.specs.Laws.TwinCallLaws.{are-certificates, calls-show, observer-calls-show, state-back}
 use Rattle.observer_laws.specs.Laws.ObserverSoundStays.{observer-sound-stays-all, observer-sound-opened}
 use Rattle.observer_laws.specs.Laws.ObserverSoundStaysLaws.{observer-move-stays}
 use Rattle.observer_laws.specs.Laws.ObserverOpenLaws.{new-shown, opened-by, observer-opened, new-observer-shaped}
@@ -165,7 +165,7 @@ module _ (digest : Bytes → Bytes) where
         }
 
   -- ---- the claim
-  module _ (both : Histories) (is : SameCertificates both) where
+  module _ (both : Histories) (is : SameCertificates digest both) where
     was : sound digest (opens both .book) ≡ true
     was = sound-opened digest (both .old) (both .n) (both .own) (both .heights) (both .leaders) (is .opened)
 
@@ -179,13 +179,14 @@ module _ (digest : Bytes → Bytes) where
     observer-book-sound = observer-sound-stays-all digest (observerOpens both .book) (both .observerCalls) observer-was
 
     -- what the observer shows, by the replica's certificates
-    observer-shows : Alike (hearAll digest (observerState (observerOpens both .book)) (allGiven (both .calls)))
+    observer-shows : Alike
+        (hearAll digest (observerState (observerOpens both .book)) (certificatesOf (allGiven (both .calls))))
         (observerState (observerBookOf digest both))
     observer-shows =
         subst (λ (frames : List Bytes). Alike (hearAll digest (observerState (observerOpens both .book)) frames)
         (observerState (observerBookOf digest both))) (is .same)
         (observer-calls-show digest (observerOpens both .book) observer-was (both .observerCalls)
-        (is .observer-opened-once) (subst (Every IsCertificate) (sym (is .same)) (is .certificates)))
+        (is .observer-opened-once))
 
     pub alike : Alike (decode (bookOf digest both)) (observerState (observerBookOf digest both))
     alike =
@@ -194,7 +195,8 @@ module _ (digest : Bytes → Bytes) where
         (alike-over
         (hear-all-alike digest
         (opened-alike (both .n) (both .heights) (both .own) (both .leaders) (both .old) (both .observerOld) (is .opened)
-        (is .observer-opened)) (allGiven (both .calls)) (is .certificates)) observer-shows)
+        (is .observer-opened)) (certificatesOf (allGiven (both .calls))) (are-certificates (allGiven (both .calls))))
+        observer-shows)
 
   pub twins : Twins digest
   unfolding Twins SameAnswers

@@ -7,48 +7,56 @@ use Rattle.protocol.specs.Computing.{everything}
 use Rattle.protocol.specs.Answer.{accepted, idle}
 use Rattle.protocol.specs.Move.{moveCall}
 use Rattle.protocol.specs.Read.{readPart}
-use Rattle.protocol.specs.ObserverCalls.{observerMoveCall, observerReadPart}
-use Rattle.observer_laws.specs.Twins.{SameCertificates, Twins, SameLogWhenIdle, given, allGiven}
-use Rattle.observer_laws.specs.Twins.{bookOf, observerBookOf, observerOpens}
-use Rattle.observer_laws.specs.Twins.{givenToObserver, allGivenToObserver, isOpening, isObserverOpening}
-use Rattle.observer_laws.specs.TwinsMet.{TwinsMet, entry, block, otherBlock, old, observerOld, calls}
-use Rattle.observer_laws.specs.TwinsMet.{observerCalls, histories, numbers}
+use Rattle.protocol.specs.Deliver.{deliverCall}
+use Rattle.protocol.specs.ObserverCalls.{observerDeliverCall, observerMoveCall, observerReadPart}
+use Rattle.observer_laws.specs.Twins.{SameCertificates, Twins, SameLogWhenIdle, given, allGiven, givenToObserver}
+use Rattle.observer_laws.specs.Twins.{allGivenToObserver, certificatesOf, effects, observations, opens}
+use Rattle.observer_laws.specs.Twins.{observerOpens, bookOf, observerBookOf}
+use Rattle.observer_laws.specs.TwinsMet.{TwinsMet, entry, block, otherBlock, old, observerOld, strangersVote}
+use Rattle.observer_laws.specs.TwinsMet.{vote, calls, observerCalls, histories, numbers}
 use Rattle.observer_laws.specs.Laws.TwinsLaws.{twins}
 
-premises : SameCertificates histories
-unfolding everything histories old observerOld calls observerCalls given allGiven givenToObserver allGivenToObserver
-    isOpening isObserverOpening block otherBlock entry
-premises = record {
-  opened = refl;
-  observer-opened = refl;
-  opened-once = one refl (one refl (one refl (one refl (one refl (one refl (one refl (one refl (one refl (one refl
-      (one refl (one refl none)))))))))));
-  observer-opened-once = one refl (one refl (one refl (one refl (one refl (one refl (one refl (one refl none)))))));
-  certificates = one refl (one refl (one refl (one refl (one refl (one refl none)))));
-  same = refl;
-}
-
 module _ (digest : Bytes → Bytes) where
-  refusals : numbers digest (observerOpens histories .book) (allGivenToObserver observerCalls) ≡
-      4 ∷ 9 ∷ 0 ∷ 0 ∷ 10 ∷ 0 ∷ []
-  unfolding everything numbers histories observerOld observerCalls givenToObserver allGivenToObserver block otherBlock
-      entry
+  premises : SameCertificates digest histories
+  unfolding everything histories old observerOld calls observerCalls given allGiven givenToObserver allGivenToObserver
+      certificatesOf effects observations block otherBlock entry strangersVote vote
+  premises = record {
+    opened = refl;
+    observer-opened = refl;
+    opened-once = one refl (one refl (one refl (one refl (one refl (one refl (one refl (one refl (one refl (one refl
+        (one refl (one refl (one refl (one refl none)))))))))))));
+    observer-opened-once = one refl (one refl (one refl (one refl (one refl (one refl (one refl (one refl (one refl
+        (one refl none)))))))));
+    certificates = one none (one none (one none (one none (one none (one none (one (one refl none) (one none (one none
+        (one none (one (one refl none) (one (one refl none) (one none (one none none)))))))))))));
+    same = refl;
+  }
+
+  refusals : numbers (deliverCall digest) (opens histories .book) (allGiven calls) ≡
+      4 ∷ 9 ∷ 0 ∷ 5 ∷ 0 ∷ 5 ∷ 10 ∷ 0 ∷ []
+  unfolding everything numbers histories old calls given allGiven block otherBlock entry strangersVote
   refusals = refl
 
+  observer-refusals : numbers (observerDeliverCall digest) (observerOpens histories .book)
+      (allGivenToObserver observerCalls) ≡ 4 ∷ 16 ∷ 9 ∷ 0 ∷ 0 ∷ 10 ∷ 0 ∷ []
+  unfolding everything numbers histories observerOld observerCalls givenToObserver allGivenToObserver block otherBlock
+      entry vote
+  observer-refusals = refl
+
   rests : moveCall digest (bookOf digest histories) (zeros 448) .answer ≡ accepted idle
-  unfolding everything histories old calls block otherBlock entry
+  unfolding everything histories old calls block otherBlock entry strangersVote
   rests = refl
 
   observer-rests : observerMoveCall digest (observerBookOf digest histories) .answer ≡ accepted idle
-  unfolding everything histories observerOld observerCalls block otherBlock entry
+  unfolding everything histories observerOld observerCalls block otherBlock entry vote
   observer-rests = refl
 
   reads : readPart digest (bookOf digest histories) (zeros 16) ≡ entry
-  unfolding everything histories old calls block otherBlock entry
+  unfolding everything histories old calls block otherBlock entry strangersVote
   reads = refl
 
   observer-reads : observerReadPart digest (observerBookOf digest histories) (zeros 16) ≡ entry
-  unfolding everything histories observerOld observerCalls block otherBlock entry
+  unfolding everything histories observerOld observerCalls block otherBlock entry vote
   observer-reads = refl
 
   pub twins-met : TwinsMet digest
@@ -56,6 +64,7 @@ module _ (digest : Bytes → Bytes) where
   twins-met = record {
     premises = premises;
     refusals = refusals;
+    observer-refusals = observer-refusals;
     rests = rests;
     observer-rests = observer-rests;
     reads = reads;

@@ -139,7 +139,7 @@ module _ (digest : Bytes → Bytes) (s : State) (facts : CertifiedState digest s
   }
 
   log-linearized : LogIsLinearized digest s
-  unfolding log height linearize
+  unfolding log height lastBlock linearize
   log-linearized = go (s .finalized) refl (facts .final)
     where
       go : (g : ℕ) → s .finalized ≡ g → (s .finalized ≡ 0) ⊎ (isFinalized digest (view s) (s .finalized) ≡ true) →
@@ -148,6 +148,7 @@ module _ (digest : Bytes → Bytes) (s : State) (facts : CertifiedState digest s
         sequence = genesis;
         finalized = Paper.FinalizedBlockchain.start;
         its-height = sym z;
+        its-last = sym z;
         its-log = ap distinct (sym (ap (λ (k : ℕ). logAt (view s) k) z ∙ log-zero (view s)));
       }
       go g e (inr z) =
@@ -157,6 +158,7 @@ module _ (digest : Bytes → Bytes) (s : State) (facts : CertifiedState digest s
             sequence = c .sequence;
             finalized = Paper.FinalizedBlockchain.ended (c .notarized) (rw (c .its-height) (f .hasQuorum));
             its-height = c .its-height;
+            its-last = c .its-last;
             its-log = ap distinct (c .its-entries);
           }
 

@@ -59,6 +59,7 @@ module _ (digest : Bytes → Bytes) (s : State) (facts : CertifiedState digest s
         sequence = chain .sequence;
         finalized = chain .finalized;
         its-height = chain .its-height;
+        its-last = chain .its-last;
         part-read = rw found (ap join (sym (chain .its-log)));
         its-size = is ∙ rw (chain .its-log);
         part-size = rw found bytes;
