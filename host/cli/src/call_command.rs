@@ -2,6 +2,7 @@
 
 use crate::arguments::Arguments;
 use crate::chosen::REPLICA;
+use crate::evidence::Keeper;
 use crate::page_options::entry;
 use crate::problem::Problem;
 use crate::{files, station, words};
@@ -26,14 +27,17 @@ enum Request {
 
 /// Makes the calls, prints what they answer and write, and keeps the book if it changed.
 pub fn run(words: &[String], output: &mut Vec<u8>) -> Result<(), Problem> {
-    let arguments = Arguments::sort(words, &["out"], &[])?;
+    let arguments = Arguments::sort(words, &["out", "evidence"], &["each"])?;
     let [file, name, rest @ ..] = arguments.words() else {
         return Err(Problem::input("expected here: the file of a book, then a call"));
     };
-    let out = arguments.value("out")?;
-    match (request(name, rest)?, out) {
-        (Request::Deliver(frames), _) => station::open(file, out)?.deliver(&frames),
-        (Request::Packet(packet), _) => station::open(file, out)?.packet(&packet),
+    let (out, each) = (arguments.value("out")?, arguments.has("each"));
+    only_for(&arguments, name)?;
+    let request = request(name, rest)?;
+    let keeper = Keeper::ready(arguments.value("evidence")?)?;
+    match (request, out) {
+        (Request::Deliver(frames), _) => station::open(file, out)?.deliver(&frames, &keeper),
+        (Request::Packet(packet), _) => station::open(file, out)?.packet(&packet, each, &keeper),
         (Request::Run, _) => station::open(file, out)?.run(),
         (Request::One(Call::Move), _) => station::open(file, out)?.make_move(),
         (Request::One(Call::Signal { height }), _) => station::open(file, out)?.signal(height),
@@ -44,6 +48,14 @@ pub fn run(words: &[String], output: &mut Vec<u8>) -> Result<(), Problem> {
         (Request::Certificates, None) => certificates(file, output),
         (Request::One(call), None) => ask(&call, file, output),
     }
+}
+
+/// Refuses what would say nothing beside this call.
+fn only_for(arguments: &Arguments, name: &str) -> Result<(), Problem> {
+    let evidence = arguments.value("evidence")?.filter(|_| !["deliver", "packet"].contains(&name));
+    let each = arguments.has("each") && name != "packet";
+    let option = evidence.map(|_| "evidence").or(each.then_some("each"));
+    option.map_or(Ok(()), |option| Err(Problem::input(format!("{name} has no --{option}"))))
 }
 
 /// What the words ask for.

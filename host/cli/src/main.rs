@@ -10,6 +10,8 @@ mod bounded_line;
 mod call_command;
 mod chosen;
 mod diff_command;
+mod evidence;
+mod evidence_file;
 mod files;
 mod frame_command;
 mod help;

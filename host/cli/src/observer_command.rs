@@ -2,21 +2,26 @@
 
 use crate::arguments::Arguments;
 use crate::chosen::REPLICA;
+use crate::evidence::Keeper;
 use crate::problem::Problem;
 use crate::station::print;
-use crate::{files, open_command, words};
+use crate::{files, open_command, station, words};
 use exchange::{Answer, Call, ObserverCall};
 use store::FileObserver;
-use types::{Calls, Delivered, ObserverBook, Refusal, ENTRY, FRAME};
+use types::{Calls, ObserverBook, ENTRY, FRAME};
 
 /// Makes a call, prints what it answers, and keeps the book if it changed.
 pub fn run(all: &[String], output: &mut Vec<u8>) -> Result<(), Problem> {
     if all.get(1).is_some_and(|name| name == "open") {
         return open(all, output);
     }
-    let arguments = Arguments::sort(all, &[], &[])?;
+    let arguments = Arguments::sort(all, &["evidence"], &[])?;
+    let evidence = arguments.value("evidence")?;
     match arguments.words() {
-        [file, name, from] if name == "deliver" => deliver(file, from),
+        [file, name, from] if name == "deliver" => deliver(file, from, evidence),
+        [_, name, ..] if evidence.is_some() => {
+            Err(Problem::input(format!("{name} has no --evidence")))
+        }
         [file, name] if name == "move" => {
             let made = FileObserver::open(REPLICA, file)?.make_move()?;
             print(&format!("{made}\n"))
@@ -53,22 +58,17 @@ fn open(all: &[String], output: &mut Vec<u8>) -> Result<(), Problem> {
 
 /// Delivers whole frames and a short last one, all in one commit; a refused one keeps no other back. No bytes are no
 /// frames: that is what a station's book prints which holds no certificate yet.
-fn deliver(file: &str, from: &str) -> Result<(), Problem> {
+fn deliver(file: &str, from: &str, evidence: Option<&str>) -> Result<(), Problem> {
     let bytes = files::read_bytes(from)?;
     let frames: Vec<&[u8]> = bytes.chunks(FRAME).collect();
-    let answers = FileObserver::open(REPLICA, file)?.deliver_all(&frames)?;
-    let line = |answer: &Result<Delivered, Refusal>| match answer {
-        Ok(delivered) => format!("{}\n", Answer::Delivered(*delivered)),
-        Err(refusal) => format!("{}\n", Answer::Deny(refusal.number())),
-    };
-    print(&answers.iter().map(line).collect::<String>())?;
-    if let [Err(refusal)] = answers.as_slice() {
-        return Err(Problem::refused(refusal.number()));
-    }
-    match answers.iter().filter(|answer| answer.is_err()).count() {
-        0 => Ok(()),
-        refused => Err(Problem::some_refused(refused, frames.len())),
-    }
+    let keeper = Keeper::ready(evidence)?;
+    let mut observer = FileObserver::open(REPLICA, file)?;
+    let told = observer.book().answers(frames.iter().copied());
+    keeper.keep(&told)?;
+    observer.deliver_all(&frames)?;
+    let answers: Vec<Answer> = told.iter().map(station::answer).collect();
+    print(&answers.iter().map(|answer| format!("{answer}\n")).collect::<String>())?;
+    Problem::of_answers(&answers)
 }
 
 /// Makes a call that changes nothing; no lock is needed, since a book is replaced as a whole.

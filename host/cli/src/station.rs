@@ -1,14 +1,15 @@
 //! A book in a file, open for calls that change it, and where its frames go.
 
 use crate::chosen::REPLICA;
+use crate::evidence::Keeper;
 use crate::problem::Problem;
 use crate::words;
 use exchange::Answer;
 use std::fs::File;
-use std::io::{stderr, stdout, Write};
+use std::io::{stdout, Write};
 use std::os::fd::AsFd;
 use store::{Error, FileBook};
-use types::{Calls, Move, Refusal, Written, FRAME, FRAME_HEIGHT};
+use types::{Answered, Calls, Move, Written, FRAME};
 
 /// An open book; frames go to the file that `--out` names, else to standard output.
 pub struct Station<'a, C> {
@@ -38,16 +39,11 @@ pub fn open<'a>(
 
 impl<C: Calls + Clone> Station<'_, C> {
     /// Delivers frames one by one. A single one may be refused; of several the others are taken all the same.
-    pub fn deliver(&mut self, frames: &[Vec<u8>]) -> Result<(), Problem> {
-        let answers = self.answers(frames);
-        // Before all that may end the call: a refusal of the only frame, or an output that cannot be written.
-        self.tell_second_pages(frames.iter().map(Vec::as_slice));
-        let answers = answers?;
+    pub fn deliver(&mut self, frames: &[Vec<u8>], keeper: &Keeper) -> Result<(), Problem> {
+        keeper.keep(&self.book.book().answers(frames.iter().map(Vec::as_slice)))?;
+        let answers = self.answers(frames)?;
         print(&answers.iter().map(|answer| format!("{answer}\n")).collect::<String>())?;
-        match answers.iter().filter(|answer| matches!(answer, Answer::Deny(_))).count() {
-            0 => Ok(()),
-            refused => Err(Problem::some_refused(refused, frames.len())),
-        }
+        Problem::of_answers(&answers)
     }
 
     /// The answers to frames that are delivered one by one; a refusal is an answer if there are several.
@@ -60,22 +56,27 @@ impl<C: Calls + Clone> Station<'_, C> {
         frames.iter().map(answer).collect()
     }
 
-    /// Delivers frames as one packet, in one commit; those that are refused are counted like the others.
-    pub fn packet(&mut self, packet: &[u8]) -> Result<(), Problem> {
+    /// Delivers frames as one packet, in one commit; those that are refused are counted like the others, and told one
+    /// by one if that is asked for.
+    pub fn packet(&mut self, packet: &[u8], each: bool, keeper: &Keeper) -> Result<(), Problem> {
+        let told = self.packet_answers(packet, each)?;
+        keeper.keep(&told)?;
         let counts = self.book.deliver_packet(packet)?;
-        self.tell_second_pages(packet.chunks(FRAME));
-        print(&format!("{counts}\n"))
+        let answers: Vec<Answer> = told.iter().map(answer).collect();
+        let lines = answers.iter().filter(|_| each).map(|answer| format!("{answer}\n"));
+        print(&format!("{counts}\n{}", lines.collect::<String>()))?;
+        Problem::of_packet(&answers)
     }
 
-    /// Says on the standard error which of the frames that were delivered show that a leader said two things.
-    fn tell_second_pages<'f>(&self, frames: impl Iterator<Item = &'f [u8]>) {
-        let mut copy = self.book.book().clone();
-        for (number, frame) in (1_usize..).zip(frames) {
-            // Refused for another reason, it is no statement of the leader; else it changes nothing any more.
-            let is_statement = |answer| matches!(answer, Ok(_) | Err(Refusal::OtherKept));
-            if copy.is_second_block(frame) && is_statement(copy.deliver(frame)) {
-                _ = writeln!(stderr(), "mavunilai: frame {number}: {}", second_page(frame));
-            }
+    /// What becomes of each frame of a packet; nothing if nobody asks and none can be evidence, which takes a refused
+    /// frame or a second page.
+    fn packet_answers(&self, packet: &[u8], each: bool) -> Result<Vec<Answered>, Problem> {
+        let mut after = self.book.book().clone();
+        let refused = after.deliver_packet(packet).map_err(Problem::refused)?.refused;
+        let second = || packet.chunks(FRAME).any(|frame| after.is_second_block(frame));
+        match each || refused > 0 || second() {
+            true => self.book.book().packet_answers(packet).map_err(Problem::refused),
+            false => Ok(Vec::new()),
         }
     }
 
@@ -144,11 +145,12 @@ fn behind_link(file: &str) -> String {
     end.map_or_else(|_| file.to_string(), |path| path.display().to_string())
 }
 
-/// The sentence about a second page of a leader.
-fn second_page(frame: &[u8]) -> String {
-    let (leader, height) =
-        (frame.get(1).copied().unwrap_or(0), types::height_at(frame, FRAME_HEIGHT));
-    format!("station {leader} leads height {height} and proposed two pages of it; keep both frames")
+/// The answer of a frame in the words of a list.
+pub fn answer(told: &Answered) -> Answer {
+    match told.answer {
+        Ok(delivered) => Answer::Delivered(delivered),
+        Err(refusal) => Answer::Deny(refusal.number()),
+    }
 }
 
 /// Frames as lines of digits.
