@@ -36,7 +36,7 @@ fn header_example_and_tests_compile_without_warnings() {
         for example in ["example/first_call.c", "example/observer.c"] {
             assert!(compiles(language, &["-fsyntax-only", &word(example)]));
         }
-        for program in ["promises", "observers", "repeats", "texts"] {
+        for program in ["promises", "observers", "repeats", "packet_each", "texts"] {
             let program = word(&format!("mavunilai/tests/c/{program}.c"));
             assert!(compiles(language, &["-fsyntax-only", &program]));
         }
@@ -266,7 +266,7 @@ fn interface_is_that_of_the_wrapper() {
 #[test]
 #[cfg(feature = "proved")]
 fn promises_are_kept() {
-    for name in ["promises", "observers", "repeats"] {
+    for name in ["promises", "observers", "repeats", "packet_each"] {
         let program = word(&format!("mavunilai/tests/c/{name}.c"));
         for language in LANGUAGES {
             let files = [&program, "-x", "none", env!("MAVUNILAI_ARCHIVE")];
