@@ -18,10 +18,10 @@ impl Keeper {
         Ok(Keeper { folder: folder.map(Folder::ready).transpose()? })
     }
 
-    /// Says which of the frames contradict what the book has, and keeps these with what they contradict. This comes
-    /// before the call that answers so, which may end for other reasons.
-    pub fn keep(&self, answers: &[Answered]) -> Result<(), Problem> {
-        let all = (1_usize..).zip(answers);
+    /// Says which of the frames, the first of which has this number, contradict what the book has, and keeps these with
+    /// what they contradict. This comes before the call that answers so, which may end for other reasons.
+    pub fn keep(&self, first: usize, answers: &[Answered]) -> Result<(), Problem> {
+        let all = (first..).zip(answers);
         let found: Vec<(usize, &Evidence)> =
             all.filter_map(|(number, told)| Some((number, told.evidence.as_ref()?))).collect();
         let kept = found.iter().try_for_each(|(number, evidence)| {

@@ -13,20 +13,26 @@ mod diff_command;
 mod evidence;
 mod evidence_file;
 mod files;
+mod follow;
 mod frame_command;
+mod frame_line;
 mod help;
+mod json;
 mod observer_command;
 mod open_command;
 mod page_options;
 mod pages;
 mod problem;
+mod read_command;
 mod record_command;
+mod register;
 mod rehearsal_command;
 mod replay_command;
 mod show_book;
 mod show_books;
 mod show_command;
 mod show_frame;
+mod show_json;
 mod show_observer;
 mod station;
 mod table;
@@ -80,6 +86,7 @@ fn run(words: &[String], output: &mut Vec<u8>) -> Result<(), Problem> {
     match name {
         "frame" => frame_command::run(rest, output),
         "show" => show_command::run(rest, output),
+        "read" => read_command::run(rest, output),
         "open" => open_command::run(rest, output),
         "call" => call_command::run(rest, output),
         "observer" => observer_command::run(rest, output),

@@ -3,6 +3,7 @@
 use crate::arguments::Arguments;
 use crate::chosen::REPLICA;
 use crate::evidence::Keeper;
+use crate::follow::Follower;
 use crate::problem::Problem;
 use crate::station::print;
 use crate::{files, open_command, station, words};
@@ -15,9 +16,13 @@ pub fn run(all: &[String], output: &mut Vec<u8>) -> Result<(), Problem> {
     if all.get(1).is_some_and(|name| name == "open") {
         return open(all, output);
     }
-    let arguments = Arguments::sort(all, &["evidence"], &[])?;
+    let arguments = Arguments::sort(all, &["evidence", "since"], &["json"])?;
     let evidence = arguments.value("evidence")?;
     match arguments.words() {
+        [file, name] if name == "follow" => follow(file, &arguments),
+        [_, name, ..] if arguments.value("since")?.is_some() => {
+            Err(Problem::input(format!("{name} has no --since")))
+        }
         [file, name, from] if name == "deliver" => deliver(file, from, evidence),
         [_, name, ..] if evidence.is_some() => {
             Err(Problem::input(format!("{name} has no --evidence")))
@@ -64,11 +69,18 @@ fn deliver(file: &str, from: &str, evidence: Option<&str>) -> Result<(), Problem
     let keeper = Keeper::ready(evidence)?;
     let mut observer = FileObserver::open(REPLICA, file)?;
     let told = observer.book().answers(frames.iter().copied());
-    keeper.keep(&told)?;
+    keeper.keep(1, &told)?;
     observer.deliver_all(&frames)?;
     let answers: Vec<Answer> = told.iter().map(station::answer).collect();
     print(&answers.iter().map(|answer| format!("{answer}\n")).collect::<String>())?;
     Problem::of_answers(&answers)
+}
+
+/// Goes on taking certificates from the standard input, and prints entries as they settle.
+fn follow(file: &str, arguments: &Arguments) -> Result<(), Problem> {
+    let keeper = Keeper::ready(arguments.value("evidence")?)?;
+    let since = arguments.value("since")?.map(|_| arguments.height("since")).transpose()?;
+    Follower::new(file, keeper, arguments.has("json")).follow(since, std::io::stdin().lock())
 }
 
 /// Makes a call that changes nothing; no lock is needed, since a book is replaced as a whole.

@@ -36,11 +36,13 @@ impl Problem {
         Problem::of_packet(answers)?;
         match answers.iter().filter(|answer| matches!(answer, Answer::Deny(_))).count() {
             0 => Ok(()),
-            refused => {
-                let sentence = format!("{refused} of {} frames were refused", answers.len());
-                Err(Problem { status: 3, sentence })
-            }
+            refused => Err(Problem::some_refused(refused, answers.len())),
         }
+    }
+
+    /// The replica refuses some of several frames.
+    pub fn some_refused(refused: usize, all: usize) -> Problem {
+        Problem { status: 3, sentence: format!("{refused} of {all} frames were refused") }
     }
 
     /// A packet is not refused for its frames; but one that is refused with 10 is a reason to stop.

@@ -40,7 +40,7 @@ pub fn open<'a>(
 impl<C: Calls + Clone> Station<'_, C> {
     /// Delivers frames one by one. A single one may be refused; of several the others are taken all the same.
     pub fn deliver(&mut self, frames: &[Vec<u8>], keeper: &Keeper) -> Result<(), Problem> {
-        keeper.keep(&self.book.book().answers(frames.iter().map(Vec::as_slice)))?;
+        keeper.keep(1, &self.book.book().answers(frames.iter().map(Vec::as_slice)))?;
         let answers = self.answers(frames)?;
         print(&answers.iter().map(|answer| format!("{answer}\n")).collect::<String>())?;
         Problem::of_answers(&answers)
@@ -60,7 +60,7 @@ impl<C: Calls + Clone> Station<'_, C> {
     /// by one if that is asked for.
     pub fn packet(&mut self, packet: &[u8], each: bool, keeper: &Keeper) -> Result<(), Problem> {
         let told = self.packet_answers(packet, each)?;
-        keeper.keep(&told)?;
+        keeper.keep(1, &told)?;
         let counts = self.book.deliver_packet(packet)?;
         let answers: Vec<Answer> = told.iter().map(answer).collect();
         let lines = answers.iter().filter(|_| each).map(|answer| format!("{answer}\n"));
