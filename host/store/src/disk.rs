@@ -1,17 +1,21 @@
 //! The files of the machine.
 
-use crate::Files;
+use crate::{flock, Files, Holder, Patience};
 use std::fs::{self, File, OpenOptions};
 use std::io::{Error, ErrorKind, Read, Result, Write};
-use std::os::unix::fs::MetadataExt;
+use std::os::unix::fs::{fchown, MetadataExt};
 use std::path::{Path, PathBuf};
 
 /// The file system of the machine. Locks are those of `flock`: they bind all who use this crate, and nobody else.
 #[derive(Clone, Copy, Debug, Default)]
-pub struct Disk;
+pub struct Disk {
+    /// How long a lock that another process has is waited for.
+    pub patience: Patience,
+}
 
 impl Files for Disk {
     type Lock = File;
+    type Held = File;
 
     fn resolve(&self, path: &Path) -> Result<PathBuf> {
         if let Some(missing) = missing(path)? {
@@ -28,10 +32,41 @@ impl Files for Disk {
         path.canonicalize()
     }
 
-    fn lock(&self, path: &Path) -> Result<File> {
-        let file = OpenOptions::new().create(true).truncate(false).write(true).open(path)?;
-        file.lock()?;
+    fn lock(&self, path: &Path, like: &Path) -> Result<File> {
+        let file = or_to_read(OpenOptions::new().create(true).truncate(false).write(true), path)?;
+        belong(&file, like)?;
+        flock::wait(&file, path, self.patience, || flock::holder(path))?;
+        flock::sign(&file);
         Ok(file)
+    }
+
+    fn holder(&self, path: &Path) -> Result<Option<Holder>> {
+        flock::holder(path)
+    }
+
+    fn hold(&self, path: &Path) -> Result<Option<File>> {
+        loop {
+            let Some(file) = found(or_to_read(OpenOptions::new().write(true), path))? else {
+                return Ok(None);
+            };
+            let unknown = || Ok(Some(Holder { process: None }));
+            flock::wait(&file, path, self.patience, unknown)?;
+            // Who had it may have replaced it meanwhile.
+            if is_file(&file, path)? {
+                return Ok(Some(file));
+            }
+        }
+    }
+
+    fn is(&self, held: &File, path: &Path) -> Result<bool> {
+        Ok(is_file(held, path)? && held.metadata()?.nlink() == 1)
+    }
+
+    fn let_go(&self, held: File) -> Result<()> {
+        match held.metadata()?.nlink() {
+            0 => Ok(()),
+            _ => held.set_len(0),
+        }
     }
 
     fn read(&self, path: &Path, most: usize) -> Result<Option<Vec<u8>>> {
@@ -46,6 +81,7 @@ impl Files for Disk {
     fn write(&self, path: &Path, bytes: &[u8], like: &Path) -> Result<()> {
         self.remove(path)?;
         let mut file = OpenOptions::new().create_new(true).write(true).open(path)?;
+        belong(&file, like)?;
         if let Some(like) = found(fs::metadata(like))? {
             file.set_permissions(like.permissions())?;
         }
@@ -67,11 +103,43 @@ impl Files for Disk {
 }
 
 /// None where the error is that there is no such file.
-fn found<T>(outcome: Result<T>) -> Result<Option<T>> {
+pub fn found<T>(outcome: Result<T>) -> Result<Option<T>> {
     match outcome {
         Err(error) if error.kind() == ErrorKind::NotFound => Ok(None),
         outcome => outcome.map(Some),
     }
+}
+
+/// Opens a file, only to read where it may not be written: it can be locked then too.
+fn or_to_read(options: &OpenOptions, path: &Path) -> Result<File> {
+    match options.open(path) {
+        Err(error) if error.kind() == ErrorKind::PermissionDenied => {
+            File::open(path).map_err(|_| error)
+        }
+        opened => opened,
+    }
+}
+
+/// Whether a name is that of an open file, itself and no link.
+fn is_file(file: &File, path: &Path) -> Result<bool> {
+    let Some(named) = found(fs::symlink_metadata(path))? else {
+        return Ok(false);
+    };
+    let opened = file.metadata()?;
+    Ok((named.dev(), named.ino()) == (opened.dev(), opened.ino()))
+}
+
+/// Lets a file belong to the user and the group of another one, if that is there. Only the administrator may give both;
+/// others give the group if they are in it, else it stays theirs.
+fn belong(file: &File, like: &Path) -> Result<()> {
+    let (Some(like), own) = (found(fs::metadata(like))?, file.metadata()?) else {
+        return Ok(());
+    };
+    if (like.uid(), like.gid()) != (own.uid(), own.gid()) {
+        let given = fchown(file, Some(like.uid()), Some(like.gid()));
+        _ = given.or_else(|_| fchown(file, None, Some(like.gid())));
+    }
+    Ok(())
 }
 
 /// The folder of a file.

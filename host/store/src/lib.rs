@@ -46,18 +46,28 @@
 #![warn(clippy::indexing_slicing, clippy::arithmetic_side_effects)]
 #![warn(clippy::unwrap_used, clippy::expect_used, clippy::panic)]
 
+mod beside;
 mod digits;
 mod disk;
 mod error;
 mod file_book;
 mod file_observer;
 mod files;
+mod flock;
+mod hold;
 mod outbox;
+mod patience;
 mod pile;
 mod place;
+mod said;
+mod statement;
 
+pub use beside::{holder, said, said_in, waiting};
 pub use disk::Disk;
 pub use error::Error;
 pub use file_book::{read, read_in, FileBook};
 pub use file_observer::FileObserver;
-pub use files::Files;
+pub use files::{Files, Holder};
+pub use patience::Patience;
+pub use said::Said;
+pub use statement::Statement;

@@ -119,7 +119,7 @@ fn second_page_and_end(files: Fake, steps: usize, seed: u64) -> (bool, bool) {
 #[test]
 fn a_second_page_is_kept_before_the_blank_vote_leaves() {
     let ends = |forgotten: Option<Forgotten>| -> Vec<(bool, bool)> {
-        let all = (0..24).flat_map(|steps| (0..20).map(move |seed| (steps, seed)));
+        let all = (0..44).flat_map(|steps| (0..20).map(move |seed| (steps, seed)));
         all.map(|(steps, seed)| second_page_and_end(Fake::forgetting(forgotten), steps, seed))
             .collect()
     };
@@ -197,7 +197,7 @@ fn a_failed_commit_is_not_gone_over() {
     let new = Book::open(Rules::SHA256, 4, 2, &[0]).unwrap();
     let files = Fake::default();
     let mut book = FileBook::create_in(files.clone(), new, BOOK.as_ref()).unwrap();
-    files.fault(6, Fault::Refusal);
+    files.fault(10, Fault::Refusal);
     assert!(matches!(book.signal(1), Err(Error::Files { .. })));
     assert!(matches!(book.make_move(), Err(Error::Stale)));
     drop(book);
@@ -220,7 +220,7 @@ fn a_packet_is_taken_whole_or_not_at_all() {
     assert_eq!(whole.deliver_packet(&packet), Ok(counted));
     let mut seen = [0, 0];
     for fault in [Fault::Process, Fault::Machine, Fault::Refusal] {
-        for (steps, seed) in (0..10).flat_map(|steps| (0..30).map(move |seed| (steps, seed))) {
+        for (steps, seed) in (0..13).flat_map(|steps| (0..30).map(move |seed| (steps, seed))) {
             let files = Fake::default();
             let mut book = FileBook::create_in(files.clone(), new.clone(), BOOK.as_ref()).unwrap();
             files.fault(steps, fault);
@@ -262,7 +262,7 @@ fn a_packet_is_one_commit() {
 #[test]
 fn what_is_read_is_synced() {
     let mut ends = 0;
-    for steps in 0..9 {
+    for steps in 0..14 {
         let new = Book::open(Rules::SHA256, 4, 2, &[0]).unwrap();
         let files = Fake::default();
         let mut book = FileBook::create_in(files.clone(), new, BOOK.as_ref()).unwrap();
@@ -272,7 +272,7 @@ fn what_is_read_is_synced() {
         let seen = store::read_in(files.clone(), BOOK.as_ref()).unwrap();
         assert!(files.synced(BOOK.as_ref(), &seen), "after {steps} steps");
     }
-    assert!((1..9).contains(&ends));
+    assert!((1..14).contains(&ends));
 }
 
 /// The tests above can fail: a file system that does not sync what it is told to is found out.
