@@ -3,11 +3,12 @@
 use crate::arguments::Arguments;
 use crate::chosen::REPLICA;
 use crate::evidence::Keeper;
+use crate::json_answer::{self, denied};
 use crate::page_options::entry;
 use crate::problem::Problem;
 use crate::{files, station, words};
 use exchange::{Answer, Call};
-use types::{Book, Calls, ENTRY, FRAME};
+use types::{Book, Calls, Refusal, ENTRY, FRAME};
 
 /// What is asked for; all input is read before the book is.
 enum Request {
@@ -27,26 +28,31 @@ enum Request {
 
 /// Makes the calls, prints what they answer and write, and keeps the book if it changed.
 pub fn run(words: &[String], output: &mut Vec<u8>) -> Result<(), Problem> {
-    let arguments = Arguments::sort(words, &["out", "evidence"], &["each"])?;
+    let arguments = Arguments::sort(words, &["out", "evidence"], &["each", "json"])?;
     let [file, name, rest @ ..] = arguments.words() else {
         return Err(Problem::input("expected here: the file of a book, then a call"));
     };
-    let (out, each) = (arguments.value("out")?, arguments.has("each"));
+    let out = arguments.value("out")?;
+    let [each, json] = ["each", "json"].map(|name| arguments.has(name));
     only_for(&arguments, name)?;
     let request = request(name, rest)?;
     let keeper = Keeper::ready(arguments.value("evidence")?)?;
     match (request, out) {
-        (Request::Deliver(frames), _) => station::open(file, out)?.deliver(&frames, &keeper),
-        (Request::Packet(packet), _) => station::open(file, out)?.packet(&packet, each, &keeper),
-        (Request::Run, _) => station::open(file, out)?.run(),
-        (Request::One(Call::Move), _) => station::open(file, out)?.make_move(),
-        (Request::One(Call::Signal { height }), _) => station::open(file, out)?.signal(height),
-        (Request::Submit(entry), _) => station::open(file, out)?.submit(&entry),
+        (Request::Deliver(frames), _) => station::open(file, out, json)?.deliver(&frames, &keeper),
+        (Request::Packet(packet), _) => {
+            station::open(file, out, json)?.packet(&packet, each, &keeper)
+        }
+        (Request::Run, _) => station::open(file, out, json)?.run(),
+        (Request::One(Call::Move), _) => station::open(file, out, json)?.make_move(),
+        (Request::One(Call::Signal { height }), _) => {
+            station::open(file, out, json)?.signal(height)
+        }
+        (Request::Submit(entry), _) => station::open(file, out, json)?.submit(&entry),
         (Request::One(_) | Request::Certificates, Some(_)) => {
             Err(Problem::input(format!("{name} has no --out")))
         }
         (Request::Certificates, None) => certificates(file, output),
-        (Request::One(call), None) => ask(&call, file, output),
+        (Request::One(call), None) => ask(&call, file, json, output),
     }
 }
 
@@ -54,7 +60,9 @@ pub fn run(words: &[String], output: &mut Vec<u8>) -> Result<(), Problem> {
 fn only_for(arguments: &Arguments, name: &str) -> Result<(), Problem> {
     let evidence = arguments.value("evidence")?.filter(|_| !["deliver", "packet"].contains(&name));
     let each = arguments.has("each") && name != "packet";
+    let json = arguments.has("json") && name == "certificates";
     let option = evidence.map(|_| "evidence").or(each.then_some("each"));
+    let option = option.or(json.then_some("json"));
     option.map_or(Ok(()), |option| Err(Problem::input(format!("{name} has no --{option}"))))
 }
 
@@ -93,17 +101,26 @@ fn number(word: &str) -> Result<u64, Problem> {
 }
 
 /// Makes a call that changes nothing; no lock is needed, since a book is replaced as a whole.
-fn ask(call: &Call, file: &str, output: &mut Vec<u8>) -> Result<(), Problem> {
+fn ask(call: &Call, file: &str, json: bool, output: &mut Vec<u8>) -> Result<(), Problem> {
     let mut book = store::read(file)?;
-    let mut reply = vec![0; length(call, &book).map_err(Problem::refused)?];
+    let refused = |number| denied(json, Refusal::of(number).into());
+    let mut reply = vec![0; length(call, &book).map_err(refused)?];
     let answer = call.make(&REPLICA, &mut book, &mut reply);
-    let lines: Vec<String> = match answer {
-        Answer::Deny(number) => return Err(Problem::refused(number)),
-        Answer::Part(_) => reply.as_chunks::<ENTRY>().0.iter().map(|e| words::entry(e)).collect(),
-        _ => reply.chunks_exact(FRAME).map(words::hex).collect(),
+    let frames = reply.as_chunks::<FRAME>().0;
+    let lines = match answer {
+        Answer::Deny(number) => return Err(refused(number)),
+        Answer::Part(_) if json => json_answer::read(&answer, &reply),
+        _ if json => json_answer::line(&answer.to_string(), frames),
+        Answer::Part(_) => {
+            let entries = reply.as_chunks::<ENTRY>().0.iter();
+            format!("{answer}\n{}", entries.map(|e| words::entry(e) + "\n").collect::<String>())
+        }
+        _ => {
+            let frames = frames.iter().map(|frame| words::hex(frame) + "\n");
+            format!("{answer}\n{}", frames.collect::<String>())
+        }
     };
-    output.extend(format!("{answer}\n").into_bytes());
-    lines.iter().for_each(|line| output.extend(format!("{line}\n").into_bytes()));
+    output.extend(lines.into_bytes());
     Ok(())
 }
 

@@ -6,8 +6,10 @@
 
 mod answer_command;
 mod arguments;
+mod beside;
 mod bounded_line;
 mod call_command;
+mod check_command;
 mod chosen;
 mod diff_command;
 mod evidence;
@@ -18,6 +20,7 @@ mod frame_command;
 mod frame_line;
 mod help;
 mod json;
+mod json_answer;
 mod observer_command;
 mod open_command;
 mod page_options;
@@ -34,7 +37,9 @@ mod show_command;
 mod show_frame;
 mod show_json;
 mod show_observer;
+mod standing;
 mod station;
+mod status_command;
 mod table;
 mod theirs;
 mod told;
@@ -42,6 +47,7 @@ mod try_command;
 mod unmet;
 mod unsound;
 mod unsound_observer;
+mod waits;
 mod why;
 mod words;
 
@@ -86,6 +92,8 @@ fn run(words: &[String], output: &mut Vec<u8>) -> Result<(), Problem> {
     match name {
         "frame" => frame_command::run(rest, output),
         "show" => show_command::run(rest, output),
+        "check" => check_command::run(rest, output),
+        "status" => status_command::run(rest, output),
         "read" => read_command::run(rest, output),
         "open" => open_command::run(rest, output),
         "call" => call_command::run(rest, output),

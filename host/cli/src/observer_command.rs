@@ -4,12 +4,13 @@ use crate::arguments::Arguments;
 use crate::chosen::REPLICA;
 use crate::evidence::Keeper;
 use crate::follow::Follower;
+use crate::json_answer::{self, denied};
 use crate::problem::Problem;
 use crate::station::print;
 use crate::{files, open_command, station, words};
 use exchange::{Answer, Call, ObserverCall};
 use store::FileObserver;
-use types::{Calls, ObserverBook, ENTRY, FRAME};
+use types::{Calls, ObserverBook, Refusal, ENTRY, FRAME};
 
 /// Makes a call, prints what it answers, and keeps the book if it changed.
 pub fn run(all: &[String], output: &mut Vec<u8>) -> Result<(), Problem> {
@@ -17,22 +18,22 @@ pub fn run(all: &[String], output: &mut Vec<u8>) -> Result<(), Problem> {
         return open(all, output);
     }
     let arguments = Arguments::sort(all, &["evidence", "since"], &["json"])?;
-    let evidence = arguments.value("evidence")?;
+    let (evidence, json) = (arguments.value("evidence")?, arguments.has("json"));
     match arguments.words() {
         [file, name] if name == "follow" => follow(file, &arguments),
         [_, name, ..] if arguments.value("since")?.is_some() => {
             Err(Problem::input(format!("{name} has no --since")))
         }
-        [file, name, from] if name == "deliver" => deliver(file, from, evidence),
+        [file, name, from] if name == "deliver" => deliver(file, from, evidence, json),
         [_, name, ..] if evidence.is_some() => {
             Err(Problem::input(format!("{name} has no --evidence")))
         }
         [file, name] if name == "move" => {
-            let made = FileObserver::open(REPLICA, file)?.make_move()?;
-            print(&format!("{made}\n"))
+            let made = FileObserver::open(REPLICA, file).and_then(|mut book| book.make_move());
+            print(&line(json, &Answer::Moved(made.map_err(|error| denied(json, error))?)))
         }
-        [file, name] if name == "size" => ask(ObserverCall::Size, file, output),
-        [file, name] if name == "read" => ask(ObserverCall::Read, file, output),
+        [file, name] if name == "size" => ask(ObserverCall::Size, file, json, output),
+        [file, name] if name == "read" => ask(ObserverCall::Read, file, json, output),
         [_, name, ..] => {
             let sentence = format!("'{name}' with so many words is no call of an observer");
             Err(Problem::input(format!("{sentence}; try `mavunilai help observer`")))
@@ -63,16 +64,16 @@ fn open(all: &[String], output: &mut Vec<u8>) -> Result<(), Problem> {
 
 /// Delivers whole frames and a short last one, all in one commit; a refused one keeps no other back. No bytes are no
 /// frames: that is what a station's book prints which holds no certificate yet.
-fn deliver(file: &str, from: &str, evidence: Option<&str>) -> Result<(), Problem> {
+fn deliver(file: &str, from: &str, evidence: Option<&str>, json: bool) -> Result<(), Problem> {
     let bytes = files::read_bytes(from)?;
     let frames: Vec<&[u8]> = bytes.chunks(FRAME).collect();
     let keeper = Keeper::ready(evidence)?;
-    let mut observer = FileObserver::open(REPLICA, file)?;
+    let mut observer = FileObserver::open(REPLICA, file).map_err(|error| denied(json, error))?;
     let told = observer.book().answers(frames.iter().copied());
     keeper.keep(1, &told)?;
     observer.deliver_all(&frames)?;
     let answers: Vec<Answer> = told.iter().map(station::answer).collect();
-    print(&answers.iter().map(|answer| format!("{answer}\n")).collect::<String>())?;
+    print(&answers.iter().map(|answer| line(json, answer)).collect::<String>())?;
     Problem::of_answers(&answers)
 }
 
@@ -84,15 +85,28 @@ fn follow(file: &str, arguments: &Arguments) -> Result<(), Problem> {
 }
 
 /// Makes a call that changes nothing; no lock is needed, since a book is replaced as a whole.
-fn ask(call: ObserverCall, file: &str, output: &mut Vec<u8>) -> Result<(), Problem> {
+fn ask(call: ObserverCall, file: &str, json: bool, output: &mut Vec<u8>) -> Result<(), Problem> {
     let mut book = store::read(file)?;
-    let size = Calls::observer_size(&REPLICA, &book).map_err(Problem::refused)?;
+    let refused = |number| denied(json, Refusal::of(number).into());
+    let size = Calls::observer_size(&REPLICA, &book).map_err(refused)?;
     let mut register = vec![0; usize::try_from(size).unwrap_or(0)];
     let answer = Call::Observer(call).make(&REPLICA, &mut book, &mut register);
-    output.extend(format!("{answer}\n").into_bytes());
-    if matches!(answer, Answer::Part(_)) {
-        let entries = register.as_chunks::<ENTRY>().0.iter();
-        entries.for_each(|entry| output.extend(format!("{}\n", words::entry(entry)).into_bytes()));
-    }
+    let text = match answer {
+        Answer::Part(_) if json => json_answer::read(&answer, &register),
+        Answer::Part(_) => {
+            let entries = register.as_chunks::<ENTRY>().0.iter();
+            format!("{answer}\n{}", entries.map(|e| words::entry(e) + "\n").collect::<String>())
+        }
+        _ => line(json, &answer),
+    };
+    output.extend(text.into_bytes());
     Ok(())
+}
+
+/// The line of an answer, in words or as an object.
+fn line(json: bool, answer: &Answer) -> String {
+    match json {
+        true => json_answer::line(&answer.to_string(), &[]),
+        false => format!("{answer}\n"),
+    }
 }

@@ -2,6 +2,7 @@
 
 use crate::chosen::REPLICA;
 use crate::evidence::Keeper;
+use crate::json_answer::{self, denied};
 use crate::problem::Problem;
 use crate::words;
 use exchange::Answer;
@@ -16,6 +17,8 @@ pub struct Station<'a, C> {
     book: FileBook<C>,
     file: &'a str,
     out: Option<&'a str>,
+    /// Whether answers are printed as objects.
+    json: bool,
     /// The frames of an earlier call that went out when the book was opened.
     late: Written,
 }
@@ -24,10 +27,11 @@ pub struct Station<'a, C> {
 pub fn open<'a>(
     file: &'a str,
     out: Option<&'a str>,
+    json: bool,
 ) -> Result<Station<'a, impl Calls + Clone>, Problem> {
-    let book = FileBook::open(REPLICA, file)?;
+    let book = FileBook::open(REPLICA, file).map_err(|error| denied(json, error))?;
     let late = book.unsent().to_vec();
-    let mut station = Station { book, file, out, late };
+    let mut station = Station { book, file, out, json, late };
     match (station.late.is_empty(), out) {
         (false, _) => station.publish("unsent")?,
         // A file that takes no frames is found out before there are any.
@@ -41,8 +45,8 @@ impl<C: Calls + Clone> Station<'_, C> {
     /// Delivers frames one by one. A single one may be refused; of several the others are taken all the same.
     pub fn deliver(&mut self, frames: &[Vec<u8>], keeper: &Keeper) -> Result<(), Problem> {
         keeper.keep(1, &self.book.book().answers(frames.iter().map(Vec::as_slice)))?;
-        let answers = self.answers(frames)?;
-        print(&answers.iter().map(|answer| format!("{answer}\n")).collect::<String>())?;
+        let answers = self.answers(frames).map_err(|error| denied(self.json, error))?;
+        print(&answers.iter().map(|answer| self.line(answer)).collect::<String>())?;
         Problem::of_answers(&answers)
     }
 
@@ -61,10 +65,16 @@ impl<C: Calls + Clone> Station<'_, C> {
     pub fn packet(&mut self, packet: &[u8], each: bool, keeper: &Keeper) -> Result<(), Problem> {
         let told = self.packet_answers(packet, each)?;
         keeper.keep(1, &told)?;
-        let counts = self.book.deliver_packet(packet)?;
+        let counts = self.book.deliver_packet(packet).map_err(|error| denied(self.json, error))?;
         let answers: Vec<Answer> = told.iter().map(answer).collect();
-        let lines = answers.iter().filter(|_| each).map(|answer| format!("{answer}\n"));
-        print(&format!("{counts}\n{}", lines.collect::<String>()))?;
+        let shown = each.then_some(answers.as_slice());
+        print(&match self.json {
+            true => json_answer::packet(&Answer::Counted(counts), shown),
+            false => {
+                let lines = shown.unwrap_or_default().iter().map(|answer| format!("{answer}\n"));
+                format!("{counts}\n{}", lines.collect::<String>())
+            }
+        })?;
         Problem::of_packet(&answers)
     }
 
@@ -72,7 +82,8 @@ impl<C: Calls + Clone> Station<'_, C> {
     /// frame or a second page.
     fn packet_answers(&self, packet: &[u8], each: bool) -> Result<Vec<Answered>, Problem> {
         let mut after = self.book.book().clone();
-        let refused = after.deliver_packet(packet).map_err(Problem::refused)?.refused;
+        let counts = after.deliver_packet(packet);
+        let refused = counts.map_err(|refusal| denied(self.json, refusal.into()))?.refused;
         let second = || packet.chunks(FRAME).any(|frame| after.is_second_block(frame));
         match each || refused > 0 || second() {
             true => self.book.book().packet_answers(packet).map_err(Problem::refused),
@@ -82,19 +93,19 @@ impl<C: Calls + Clone> Station<'_, C> {
 
     /// Tells that the timer of a height fired.
     pub fn signal(&mut self, height: u64) -> Result<(), Problem> {
-        self.book.signal(height)?;
-        print("done\n")
+        self.book.signal(height).map_err(|error| denied(self.json, error))?;
+        print(&self.line(&Answer::Done))
     }
 
     /// Adds a pending entry.
     pub fn submit(&mut self, entry: &[u8; types::ENTRY]) -> Result<(), Problem> {
-        self.book.submit(entry)?;
-        print("done\n")
+        self.book.submit(entry).map_err(|error| denied(self.json, error))?;
+        print(&self.line(&Answer::Done))
     }
 
     /// Makes a move.
     pub fn make_move(&mut self) -> Result<(), Problem> {
-        let made = self.book.make_move()?;
+        let made = self.book.make_move().map_err(|error| denied(self.json, error))?;
         self.publish(&made.to_string())
     }
 
@@ -119,11 +130,11 @@ impl<C: Calls + Clone> Station<'_, C> {
     fn publish(&mut self, heading: &str) -> Result<(), Problem> {
         let frames = self.book.unsent();
         if frames.is_empty() {
-            return print(&format!("{heading}\n"));
+            return print(&self.headed(heading, &[]));
         }
         let handed = match self.out {
             Some(out) => self.book.hand_to(out).map_err(Problem::from),
-            None => print(&format!("{heading}\n{}", lines(frames))),
+            None => print(&self.headed(heading, frames)),
         };
         if let Err(Problem { status, sentence }) = handed {
             let file = behind_link(self.file);
@@ -133,14 +144,27 @@ impl<C: Calls + Clone> Station<'_, C> {
         }
         self.book.sent()?;
         if self.out.is_some() {
-            print(&format!("{heading}\n"))?;
+            print(&self.headed(heading, &[]))?;
         }
         Ok(())
+    }
+
+    /// The line of an answer.
+    fn line(&self, answer: &Answer) -> String {
+        self.headed(&answer.to_string(), &[])
+    }
+
+    /// A heading and the frames behind it, as lines or as an object.
+    fn headed(&self, heading: &str, frames: &[[u8; FRAME]]) -> String {
+        match self.json {
+            true => json_answer::line(heading, frames),
+            false => format!("{heading}\n{}", lines(frames)),
+        }
     }
 }
 
 /// The file as it is named, or the one that a link of this name leads to.
-fn behind_link(file: &str) -> String {
+pub fn behind_link(file: &str) -> String {
     let end = std::fs::read_link(file).and_then(|_| std::fs::canonicalize(file));
     end.map_or_else(|_| file.to_string(), |path| path.display().to_string())
 }
