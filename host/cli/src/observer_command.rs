@@ -2,12 +2,12 @@
 
 use crate::arguments::Arguments;
 use crate::chosen::REPLICA;
+use crate::output::print;
 use crate::problem::Problem;
-use crate::station::print;
-use crate::{files, open_command, words};
+use crate::{frame_input, open_command, words};
 use exchange::{Answer, Call, ObserverCall};
 use store::FileObserver;
-use types::{Calls, Delivered, ObserverBook, Refusal, ENTRY, FRAME};
+use types::{Calls, Delivered, ObserverBook, Refusal, ENTRY};
 
 /// Makes a call, prints what it answers, and keeps the book if it changed.
 pub fn run(all: &[String], output: &mut Vec<u8>) -> Result<(), Problem> {
@@ -51,24 +51,22 @@ fn open(all: &[String], output: &mut Vec<u8>) -> Result<(), Problem> {
     open_command::ended(kept.map(|_| ()))
 }
 
-/// Delivers whole frames and a short last one, all in one commit; a refused one keeps no other back. No bytes are no
-/// frames: that is what a station's book prints which holds no certificate yet.
+/// Delivers whole frames, all in one commit; a refused one keeps no other back. No bytes are no frames: that is what a
+/// station's book prints which holds no certificate yet.
 fn deliver(file: &str, from: &str) -> Result<(), Problem> {
-    let bytes = files::read_bytes(from)?;
-    let frames: Vec<&[u8]> = bytes.chunks(FRAME).collect();
-    let answers = FileObserver::open(REPLICA, file)?.deliver_all(&frames)?;
+    let input = frame_input::read(from)?;
+    let answers = FileObserver::open(REPLICA, file)?.deliver_all(&input.whole())?;
     let line = |answer: &Result<Delivered, Refusal>| match answer {
         Ok(delivered) => format!("{}\n", Answer::Delivered(*delivered)),
         Err(refusal) => format!("{}\n", Answer::Deny(refusal.number())),
     };
     print(&answers.iter().map(line).collect::<String>())?;
-    if let [Err(refusal)] = answers.as_slice() {
-        return Err(Problem::refused(refusal.number()));
-    }
-    match answers.iter().filter(|answer| answer.is_err()).count() {
-        0 => Ok(()),
-        refused => Err(Problem::some_refused(refused, frames.len())),
-    }
+    let refused = answers.iter().filter(|answer| answer.is_err()).count();
+    input.and_rest(match (answers.as_slice(), refused) {
+        ([Err(refusal)], _) => Err(Problem::refused(refusal.number())),
+        (_, 0) => Ok(()),
+        _ => Err(Problem::some_refused(refused, answers.len())),
+    })
 }
 
 /// Makes a call that changes nothing; no lock is needed, since a book is replaced as a whole.
