@@ -3,17 +3,18 @@
 use crate::arguments::Arguments;
 use crate::chosen::REPLICA;
 use crate::evidence::Keeper;
+use crate::frame_input::{self, FrameInput};
 use crate::json_answer::{self, denied};
 use crate::page_options::entry;
 use crate::problem::Problem;
-use crate::{files, station, words};
+use crate::{station, words};
 use exchange::{Answer, Call};
 use types::{Book, Calls, Refusal, ENTRY, FRAME};
 
 /// What is asked for; all input is read before the book is.
 enum Request {
-    /// Frames to deliver one by one, as they are given: one, or whole ones.
-    Deliver(Vec<Vec<u8>>),
+    /// Frames to deliver one by one, and what is behind them.
+    Deliver(FrameInput),
     /// Frames to deliver as one packet.
     Packet(Vec<u8>),
     /// Another call.
@@ -38,7 +39,9 @@ pub fn run(words: &[String], output: &mut Vec<u8>) -> Result<(), Problem> {
     let request = request(name, rest)?;
     let keeper = Keeper::ready(arguments.value("evidence")?)?;
     match (request, out) {
-        (Request::Deliver(frames), _) => station::open(file, out, json)?.deliver(&frames, &keeper),
+        (Request::Deliver(input), _) => {
+            input.and_rest(station::open(file, out, json)?.deliver(&input.whole(), &keeper))
+        }
         (Request::Packet(packet), _) => {
             station::open(file, out, json)?.packet(&packet, each, &keeper)
         }
@@ -72,8 +75,8 @@ fn request(name: &str, rest: &[String]) -> Result<Request, Problem> {
         ("run", []) => return Ok(Request::Run),
         ("certificates", []) => return Ok(Request::Certificates),
         ("submit", [text]) => return Ok(Request::Submit(entry(text)?)),
-        ("deliver", [file]) => return Ok(Request::Deliver(frames(files::read_bytes(file)?))),
-        ("packet", [file]) => return Ok(Request::Packet(files::read_bytes(file)?)),
+        ("deliver", [file]) => return Ok(Request::Deliver(frame_input::read(file)?)),
+        ("packet", [file]) => return Ok(Request::Packet(frame_input::read(file)?.all()?)),
         ("move", []) => Call::Move,
         ("signal", [height]) => Call::Signal { height: number(height)? },
         ("size", []) => Call::Size,
@@ -85,14 +88,6 @@ fn request(name: &str, rest: &[String]) -> Result<Request, Problem> {
             return Err(Problem::input(sentence));
         }
     }))
-}
-
-/// The frames in some bytes: several if the length is theirs, else one, whatever it is.
-fn frames(bytes: Vec<u8>) -> Vec<Vec<u8>> {
-    match bytes.as_chunks::<FRAME>() {
-        (frames @ [_, ..], []) => frames.iter().map(|frame| frame.to_vec()).collect(),
-        _ => vec![bytes],
-    }
 }
 
 /// A number as an argument.

@@ -1,6 +1,6 @@
 //! One line of what `certificates`, `fetch`, `move` and `run` print: a frame, or an answer beside it.
 
-use exchange::Answer;
+use crate::frame_input::is_answer;
 use types::FRAME;
 
 /// What a line holds.
@@ -17,11 +17,10 @@ pub enum Line {
 /// What a line holds, without its end.
 pub fn parse(line: &str) -> Line {
     let line = line.trim();
-    let words: Vec<&str> = line.split_ascii_whitespace().collect();
-    if words.is_empty() || line == "unsent" || Answer::parse(&words).is_some() {
+    if line.is_empty() || is_answer(line) {
         return Line::Nothing;
     }
-    let is_digits = !line.is_empty() && line.chars().all(|digit| digit.is_ascii_hexdigit());
+    let is_digits = line.chars().all(|digit| digit.is_ascii_hexdigit());
     let bytes = exchange::bytes::parse(line).ok().filter(|_| is_digits);
     match bytes.map(<Vec<u8> as TryInto<[u8; FRAME]>>::try_into) {
         Some(Ok(frame)) => Line::Frame(Box::new(frame)),

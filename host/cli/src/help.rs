@@ -95,7 +95,8 @@ and votes are named by the first eight digits of the digest. Of a book that is n
 the first byte is told that breaks a rule. Several books, of stations with the same roll
 and of observers, are shown side by side: a row for each height, a column for each book,
 <- at a station's current height. A station's column has its number, an observer's its
-file. An observer's book is told from a station's by its length.
+file. An observer's book is told from a station's by its length. Of frames, FILE may
+also be what `call` printed.
 ";
 
 const OPEN: &str = "\
@@ -140,6 +141,13 @@ the one that the book holds both say so on the standard error: its leader said t
 things. At the current height it fires the timer, with the answer fresh, or known where
 it had fired; a signal is refused with 14 then. At any other height it is refused with 8.
 
+FRAMES may be what move, run, fetch or certificates printed, as it is: lines that are
+answers are skipped between frames. A file with no control characters but tabs and ends
+of lines is text, any other is bytes. deliver takes the whole frames first. Of a cut one
+behind them, and of the first line of a text that is neither digits nor an answer, it
+says so and ends with status 2, or with that of a refusal before it; packet takes nothing
+of a text with such a line. No frames are no error: deliver prints nothing then.
+
 --out adds the frames to FILE, a line for each, in place of printing them. FILE is
 synced and replaced as a whole, and holds nothing but such lines. Who sends them moves
 FILE away first. Neither BOOK nor FILE may end in .lock, .new or .frames.
@@ -150,9 +158,12 @@ while another program has it. Frames wait in BOOK.frames from before the book is
 replaced until they are printed or in FILE. If that fails the next deliver, packet,
 signal, submit, move or run begins with the line `unsent` and these frames; size, read,
 fetch and certificates leave them alone. Frames may go out twice, which is harmless. A
-pipe has them once it takes them, read or not: --out is safer.
+pipe has them once it takes them, read or not: --out is safer. Where the standard output
+is closed or the null device, and no --out is given, move and run make no move, and
+frames that wait go on waiting; an error says so, with status 2.
 
 Example: mavunilai frame blank-vote --signer 0 --height 1 | mavunilai call book deliver -
+Example: mavunilai call one run | mavunilai call other deliver -
 ";
 
 const OBSERVER: &str = "\
@@ -166,10 +177,10 @@ An observer follows the register of N stations without a vote: it is given certi
 frames of kinds 5 to 7, settles, and reads. It has no timer and sends nothing. open keeps
 a new book in the file BOOK (- is standard output), for H heights, those of the stations;
 a file that is there is left alone unless --force begins anew. deliver takes the frames of
-the file FRAMES (- is standard input; bytes or digits), 224 bytes each, in order. Each has
-its line, fresh, known, or `deny` and a number: 16 for a frame that is no certificate, 4
-for a short last one. Any refusal makes the status 3, while the others are taken all the
-same; no bytes are no frames, with no line and status 0. move prints `final` and the
+the file FRAMES (- is standard input) in order; `help call` says how they are written, and
+what becomes of a cut one and of none. Each has its line, fresh, known, or `deny` and a
+number: 16 for a frame that is no certificate. Any refusal makes the status 3, while the
+others are taken all the same. move prints `final` and the
 settled height if it grew, else `idle`; after deliver one move is enough. size and read
 print what the register holds by then, an entry that the chain repeats once.
 

@@ -1,9 +1,9 @@
 //! Answers as objects, with the fields of docs/JSON.md.
 
 use crate::json::Json;
+use crate::output::print;
 use crate::problem::Problem;
 use crate::register::entry_fields;
-use crate::station::print;
 use crate::words::hex;
 use exchange::Answer;
 use store::Error;

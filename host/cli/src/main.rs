@@ -17,12 +17,14 @@ mod evidence_file;
 mod files;
 mod follow;
 mod frame_command;
+mod frame_input;
 mod frame_line;
 mod help;
 mod json;
 mod json_answer;
 mod observer_command;
 mod open_command;
+mod output;
 mod page_options;
 mod pages;
 mod problem;
@@ -58,18 +60,23 @@ use std::process::ExitCode;
 fn main() -> ExitCode {
     let mut output = Vec::new();
     let outcome = words().and_then(|words| run(&words, &mut output));
-    let printed = std::io::stdout().write_all(&output);
+    let printed = output::write(&output);
     match (outcome, printed) {
         (Err(problem), _) => {
-            eprintln!("mavunilai: {}", problem.sentence);
+            complain(&problem.sentence);
             ExitCode::from(problem.status)
         }
         (Ok(()), Err(error)) if error.kind() != std::io::ErrorKind::BrokenPipe => {
-            eprintln!("mavunilai: the output cannot be written: {error}");
+            complain(&format!("the output cannot be written: {error}"));
             ExitCode::from(2)
         }
         _ => ExitCode::SUCCESS,
     }
+}
+
+/// Says a sentence on the standard error; where that fails the status says as much as it can.
+fn complain(sentence: &str) {
+    _ = writeln!(std::io::stderr(), "mavunilai: {sentence}");
 }
 
 /// The words behind the program's name, which must be text.

@@ -5,12 +5,12 @@ use crate::chosen::REPLICA;
 use crate::evidence::Keeper;
 use crate::follow::Follower;
 use crate::json_answer::{self, denied};
+use crate::output::print;
 use crate::problem::Problem;
-use crate::station::print;
-use crate::{files, open_command, station, words};
+use crate::{frame_input, open_command, station, words};
 use exchange::{Answer, Call, ObserverCall};
 use store::FileObserver;
-use types::{Calls, ObserverBook, Refusal, ENTRY, FRAME};
+use types::{Calls, ObserverBook, Refusal, ENTRY};
 
 /// Makes a call, prints what it answers, and keeps the book if it changed.
 pub fn run(all: &[String], output: &mut Vec<u8>) -> Result<(), Problem> {
@@ -62,19 +62,19 @@ fn open(all: &[String], output: &mut Vec<u8>) -> Result<(), Problem> {
     open_command::ended(kept.map(|_| ()))
 }
 
-/// Delivers whole frames and a short last one, all in one commit; a refused one keeps no other back. No bytes are no
-/// frames: that is what a station's book prints which holds no certificate yet.
+/// Delivers whole frames, all in one commit; a refused one keeps no other back. No bytes are no frames: that is what a
+/// station's book prints which holds no certificate yet.
 fn deliver(file: &str, from: &str, evidence: Option<&str>, json: bool) -> Result<(), Problem> {
-    let bytes = files::read_bytes(from)?;
-    let frames: Vec<&[u8]> = bytes.chunks(FRAME).collect();
+    let input = frame_input::read(from)?;
+    let frames = input.whole();
     let keeper = Keeper::ready(evidence)?;
     let mut observer = FileObserver::open(REPLICA, file).map_err(|error| denied(json, error))?;
-    let told = observer.book().answers(frames.iter().copied());
+    let told = observer.book().answers(frames.iter().map(Vec::as_slice));
     keeper.keep(1, &told)?;
     observer.deliver_all(&frames)?;
     let answers: Vec<Answer> = told.iter().map(station::answer).collect();
     print(&answers.iter().map(|answer| line(json, answer)).collect::<String>())?;
-    Problem::of_answers(&answers)
+    input.and_rest(Problem::of_answers(&answers))
 }
 
 /// Goes on taking certificates from the standard input, and prints entries as they settle.

@@ -2,7 +2,7 @@
 
 use crate::arguments::Arguments;
 use crate::problem::Problem;
-use crate::{files, show_book, show_books, show_frame, show_json};
+use crate::{files, frame_input, show_book, show_books, show_frame, show_json};
 
 /// Shows what the first word says, out of the files that the others name.
 pub fn run(words: &[String], output: &mut Vec<u8>) -> Result<(), Problem> {
@@ -11,7 +11,7 @@ pub fn run(words: &[String], output: &mut Vec<u8>) -> Result<(), Problem> {
         return json(arguments.words(), output);
     }
     let text = match arguments.words() {
-        [what, file] if what == "frame" => show_frame::all(&files::read_bytes(file)?)?,
+        [what, file] if what == "frame" => show_frame::all(&frame_input::read(file)?.all()?)?,
         [what, file] if what == "book" => show_book::text(&files::read_bytes(file)?)?,
         [what, files @ ..] if what == "books" => show_books::text(files)?,
         [what, ..] if !["frame", "book"].contains(&what.as_str()) => {
@@ -33,7 +33,7 @@ pub fn run(words: &[String], output: &mut Vec<u8>) -> Result<(), Problem> {
 fn json(words: &[String], output: &mut Vec<u8>) -> Result<(), Problem> {
     let objects = match words {
         [what, file] if what == "frame" => {
-            let bytes = files::read_bytes(file)?;
+            let bytes = frame_input::read(file)?.all()?;
             show_frame::all(&bytes)?;
             let frames = bytes.chunks(types::FRAME).map(show_json::frame);
             frames.collect::<Result<Vec<_>, _>>()?

@@ -3,12 +3,10 @@
 use crate::chosen::REPLICA;
 use crate::evidence::Keeper;
 use crate::json_answer::{self, denied};
+use crate::output::{keeps_frames, print};
 use crate::problem::Problem;
 use crate::words;
 use exchange::Answer;
-use std::fs::File;
-use std::io::{stdout, Write};
-use std::os::fd::AsFd;
 use store::{Error, FileBook};
 use types::{Answered, Calls, Move, Written, FRAME};
 
@@ -105,12 +103,14 @@ impl<C: Calls + Clone> Station<'_, C> {
 
     /// Makes a move.
     pub fn make_move(&mut self) -> Result<(), Problem> {
+        self.check_output()?;
         let made = self.book.make_move().map_err(|error| denied(self.json, error))?;
         self.publish(&made.to_string())
     }
 
     /// Moves until idle; what it writes is delivered to it, late frames too.
     pub fn run(&mut self) -> Result<(), Problem> {
+        self.check_output()?;
         for frame in &self.late {
             match self.book.deliver(frame) {
                 Ok(_) | Err(Error::Refused(_)) => {}
@@ -126,6 +126,12 @@ impl<C: Calls + Clone> Station<'_, C> {
         }
     }
 
+    /// An error before any move if its frames would be lost.
+    fn check_output(&self) -> Result<(), Problem> {
+        let none = |problem: Problem| Problem::input(problem.sentence + "; no move was made");
+        self.out.map_or_else(keeps_frames, |_| Ok(())).map_err(none)
+    }
+
     /// Prints a heading and hands the unsent frames on; they stay beside the book if that fails.
     fn publish(&mut self, heading: &str) -> Result<(), Problem> {
         let frames = self.book.unsent();
@@ -134,7 +140,7 @@ impl<C: Calls + Clone> Station<'_, C> {
         }
         let handed = match self.out {
             Some(out) => self.book.hand_to(out).map_err(Problem::from),
-            None => print(&self.headed(heading, frames)),
+            None => keeps_frames().and_then(|()| print(&self.headed(heading, frames))),
         };
         if let Err(Problem { status, sentence }) = handed {
             let file = behind_link(self.file);
@@ -180,19 +186,4 @@ pub fn answer(told: &Answered) -> Answer {
 /// Frames as lines of digits.
 fn lines(frames: &[[u8; FRAME]]) -> String {
     frames.iter().map(|frame| words::hex(frame) + "\n").collect()
-}
-
-/// Prints at once; a file that standard output is sent to is synced.
-pub fn print(text: &str) -> Result<(), Problem> {
-    let mut output = stdout().lock();
-    let written = output.write_all(text.as_bytes()).and_then(|()| output.flush());
-    let synced = written.and_then(|()| {
-        let file = File::from(output.as_fd().try_clone_to_owned()?);
-        if file.metadata()?.is_file() {
-            file.sync_all()
-        } else {
-            Ok(())
-        }
-    });
-    synced.map_err(|error| Problem::input(format!("the output cannot be written: {error}")))
 }

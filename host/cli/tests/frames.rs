@@ -186,7 +186,7 @@ fn strange_bytes_get_a_sentence() {
     refused("show frame -", &[0; 223], "224 bytes, these are 223");
     refused("show frame -", &[], "224 bytes, these are 0");
     refused("show frame -", &[0; 224], "0 is no kind");
-    refused("show frame -", b"abc", "pairs of hexadecimal digits");
+    refused("show frame -", b"abc", "the last digit of its bytes has no second one");
     let mut frame = Frame::DummyVote { signer: 0, height: 1 }.bytes();
     frame[100] = 1;
     refused("show frame -", &frame, "not zero");
