@@ -116,7 +116,7 @@ impl Beside {
             (Fence::Unread(why), _) => Some(why.clone()),
             (_, Frames::Damaged(why)) => Some(why.clone()),
             (_, Frames::Wait(frames)) if self.holder.is_none() => {
-                Some(format!("{} wait to be sent", count(*frames, "frame", "frames")))
+                Some(format!("{} to be sent", count(*frames, "frame waits", "frames wait")))
             }
             _ => None,
         }
