@@ -4,7 +4,7 @@ use crate::arguments::Arguments;
 use crate::chosen::REPLICA;
 use crate::page_options::entry;
 use crate::problem::Problem;
-use crate::{files, station, words};
+use crate::{files, station, waiting, words};
 use exchange::{Answer, Call};
 use types::{Book, Calls, ENTRY, FRAME};
 
@@ -26,23 +26,30 @@ enum Request {
 
 /// Makes the calls, prints what they answer and write, and keeps the book if it changed.
 pub fn run(words: &[String], output: &mut Vec<u8>) -> Result<(), Problem> {
-    let arguments = Arguments::sort(words, &["out"], &[])?;
+    let arguments = Arguments::sort(words, &["out", "wait"], &[])?;
     let [file, name, rest @ ..] = arguments.words() else {
         return Err(Problem::input("expected here: the file of a book, then a call"));
     };
-    let out = arguments.value("out")?;
+    let (out, disk) = (arguments.value("out")?, waiting::disk(&arguments)?);
+    let open = || station::open(file, out, disk);
     match (request(name, rest)?, out) {
-        (Request::Deliver(frames), _) => station::open(file, out)?.deliver(&frames),
-        (Request::Packet(packet), _) => station::open(file, out)?.packet(&packet),
-        (Request::Run, _) => station::open(file, out)?.run(),
-        (Request::One(Call::Move), _) => station::open(file, out)?.make_move(),
-        (Request::One(Call::Signal { height }), _) => station::open(file, out)?.signal(height),
-        (Request::Submit(entry), _) => station::open(file, out)?.submit(&entry),
+        (Request::Deliver(frames), _) => open()?.deliver(&frames),
+        (Request::Packet(packet), _) => open()?.packet(&packet),
+        (Request::Run, _) => open()?.run(),
+        (Request::One(Call::Move), _) => open()?.make_move(),
+        (Request::One(Call::Signal { height }), _) => open()?.signal(height),
+        (Request::Submit(entry), _) => open()?.submit(&entry),
         (Request::One(_) | Request::Certificates, Some(_)) => {
             Err(Problem::input(format!("{name} has no --out")))
         }
-        (Request::Certificates, None) => certificates(file, output),
-        (Request::One(call), None) => ask(&call, file, output),
+        (Request::Certificates, None) => {
+            waiting::none(&arguments, name)?;
+            certificates(file, output)
+        }
+        (Request::One(call), None) => {
+            waiting::none(&arguments, name)?;
+            ask(&call, file, output)
+        }
     }
 }
 

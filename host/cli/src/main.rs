@@ -34,6 +34,7 @@ mod try_command;
 mod unmet;
 mod unsound;
 mod unsound_observer;
+mod waiting;
 mod why;
 mod words;
 

@@ -4,9 +4,9 @@ use crate::arguments::Arguments;
 use crate::chosen::REPLICA;
 use crate::problem::Problem;
 use crate::station::print;
-use crate::{files, open_command, words};
+use crate::{files, open_command, waiting, words};
 use exchange::{Answer, Call, ObserverCall};
-use store::FileObserver;
+use store::{Disk, FileObserver};
 use types::{Calls, Delivered, ObserverBook, Refusal, ENTRY, FRAME};
 
 /// Makes a call, prints what it answers, and keeps the book if it changed.
@@ -14,15 +14,19 @@ pub fn run(all: &[String], output: &mut Vec<u8>) -> Result<(), Problem> {
     if all.get(1).is_some_and(|name| name == "open") {
         return open(all, output);
     }
-    let arguments = Arguments::sort(all, &[], &[])?;
+    let arguments = Arguments::sort(all, &["wait"], &[])?;
+    let disk = waiting::disk(&arguments)?;
     match arguments.words() {
-        [file, name, from] if name == "deliver" => deliver(file, from),
+        [file, name, from] if name == "deliver" => deliver(file, from, disk),
         [file, name] if name == "move" => {
-            let made = FileObserver::open(REPLICA, file)?.make_move()?;
+            let made = FileObserver::open_in(disk, REPLICA, file.as_ref())?.make_move()?;
             print(&format!("{made}\n"))
         }
-        [file, name] if name == "size" => ask(ObserverCall::Size, file, output),
-        [file, name] if name == "read" => ask(ObserverCall::Read, file, output),
+        [file, name] if name == "size" || name == "read" => {
+            waiting::none(&arguments, name)?;
+            let call = if name == "size" { ObserverCall::Size } else { ObserverCall::Read };
+            ask(call, file, output)
+        }
         [_, name, ..] => {
             let sentence = format!("'{name}' with so many words is no call of an observer");
             Err(Problem::input(format!("{sentence}; try `mavunilai help observer`")))
@@ -33,30 +37,34 @@ pub fn run(all: &[String], output: &mut Vec<u8>) -> Result<(), Problem> {
 
 /// Writes a new book to a file, to one that is there only if it is forced to, or to standard output.
 fn open(all: &[String], output: &mut Vec<u8>) -> Result<(), Problem> {
-    let arguments = Arguments::sort(all, &["n", "heights"], &["force"])?;
+    let arguments = Arguments::sort(all, &["n", "heights", "wait"], &["force"])?;
     let [file, _] =
         arguments.plain("the file of the new book, or - for standard output, then `open`")?;
     let (n, heights) = (arguments.byte("n")?, arguments.byte("heights")?);
     let book = ObserverBook::open(REPLICA, n.into(), heights.into())
         .map_err(|refusal| Problem::refused(refusal.number()))?;
+    let disk = waiting::disk(&arguments)?;
     let kept = match (file.as_str(), arguments.has("force")) {
         ("-", true) => return Err(Problem::input("standard output needs no --force")),
         ("-", false) => {
+            waiting::none(&arguments, "open -")?;
             output.extend_from_slice(book.bytes());
             return Ok(());
         }
-        (_, true) => FileObserver::overwrite(book, file),
-        (_, false) => FileObserver::create(book, file),
+        (_, true) => FileObserver::overwrite_in(disk, book, file.as_ref()),
+        (_, false) => FileObserver::create_in(disk, book, file.as_ref()),
     };
     open_command::ended(kept.map(|_| ()))
 }
 
 /// Delivers whole frames and a short last one, all in one commit; a refused one keeps no other back. No bytes are no
 /// frames: that is what a station's book prints which holds no certificate yet.
-fn deliver(file: &str, from: &str) -> Result<(), Problem> {
+fn deliver(file: &str, from: &str, disk: Disk) -> Result<(), Problem> {
     let bytes = files::read_bytes(from)?;
     let frames: Vec<&[u8]> = bytes.chunks(FRAME).collect();
-    let answers = FileObserver::open(REPLICA, file)?.deliver_all(&frames)?;
+    let mut book = FileObserver::open_in(disk, REPLICA, file.as_ref())?;
+    let answers = book.deliver_all(&frames)?;
+    drop(book);
     let line = |answer: &Result<Delivered, Refusal>| match answer {
         Ok(delivered) => format!("{}\n", Answer::Delivered(*delivered)),
         Err(refusal) => format!("{}\n", Answer::Deny(refusal.number())),

@@ -7,7 +7,7 @@ use exchange::Answer;
 use std::fs::File;
 use std::io::{stderr, stdout, Write};
 use std::os::fd::AsFd;
-use store::{Error, FileBook};
+use store::{Disk, Error, FileBook};
 use types::{Calls, Move, Refusal, Written, FRAME, FRAME_HEIGHT};
 
 /// An open book; frames go to the file that `--out` names, else to standard output.
@@ -23,8 +23,9 @@ pub struct Station<'a, C> {
 pub fn open<'a>(
     file: &'a str,
     out: Option<&'a str>,
+    disk: Disk,
 ) -> Result<Station<'a, impl Calls + Clone>, Problem> {
-    let book = FileBook::open(REPLICA, file)?;
+    let book = FileBook::open_in(disk, REPLICA, file.as_ref())?;
     let late = book.unsent().to_vec();
     let mut station = Station { book, file, out, late };
     match (station.late.is_empty(), out) {
