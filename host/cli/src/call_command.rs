@@ -7,7 +7,7 @@ use crate::frame_input::{self, FrameInput};
 use crate::json_answer::{self, denied};
 use crate::page_options::entry;
 use crate::problem::Problem;
-use crate::{station, words};
+use crate::{station, waiting, words};
 use exchange::{Answer, Call};
 use types::{Book, Calls, Refusal, ENTRY, FRAME};
 
@@ -29,33 +29,34 @@ enum Request {
 
 /// Makes the calls, prints what they answer and write, and keeps the book if it changed.
 pub fn run(words: &[String], output: &mut Vec<u8>) -> Result<(), Problem> {
-    let arguments = Arguments::sort(words, &["out", "evidence"], &["each", "json"])?;
+    let arguments = Arguments::sort(words, &["out", "evidence", "wait"], &["each", "json"])?;
     let [file, name, rest @ ..] = arguments.words() else {
         return Err(Problem::input("expected here: the file of a book, then a call"));
     };
-    let out = arguments.value("out")?;
+    let (out, disk) = (arguments.value("out")?, waiting::disk(&arguments)?);
     let [each, json] = ["each", "json"].map(|name| arguments.has(name));
     only_for(&arguments, name)?;
     let request = request(name, rest)?;
     let keeper = Keeper::ready(arguments.value("evidence")?)?;
+    let open = || station::open(file, out, disk, json);
     match (request, out) {
-        (Request::Deliver(input), _) => {
-            input.and_rest(station::open(file, out, json)?.deliver(&input.whole(), &keeper))
-        }
-        (Request::Packet(packet), _) => {
-            station::open(file, out, json)?.packet(&packet, each, &keeper)
-        }
-        (Request::Run, _) => station::open(file, out, json)?.run(),
-        (Request::One(Call::Move), _) => station::open(file, out, json)?.make_move(),
-        (Request::One(Call::Signal { height }), _) => {
-            station::open(file, out, json)?.signal(height)
-        }
-        (Request::Submit(entry), _) => station::open(file, out, json)?.submit(&entry),
+        (Request::Deliver(input), _) => input.and_rest(open()?.deliver(&input.whole(), &keeper)),
+        (Request::Packet(packet), _) => open()?.packet(&packet, each, &keeper),
+        (Request::Run, _) => open()?.run(),
+        (Request::One(Call::Move), _) => open()?.make_move(),
+        (Request::One(Call::Signal { height }), _) => open()?.signal(height),
+        (Request::Submit(entry), _) => open()?.submit(&entry),
         (Request::One(_) | Request::Certificates, Some(_)) => {
             Err(Problem::input(format!("{name} has no --out")))
         }
-        (Request::Certificates, None) => certificates(file, output),
-        (Request::One(call), None) => ask(&call, file, json, output),
+        (Request::Certificates, None) => {
+            waiting::none(&arguments, name)?;
+            certificates(file, output)
+        }
+        (Request::One(call), None) => {
+            waiting::none(&arguments, name)?;
+            ask(&call, file, json, output)
+        }
     }
 }
 

@@ -9,12 +9,13 @@ use crate::problem::Problem;
 use crate::register::{self, Filed};
 use crate::words::count;
 use std::io::{stderr, BufRead, Write};
-use store::{Error, FileObserver};
+use store::{Disk, Error, FileObserver};
 use types::{Height, Refusal, FRAME};
 
 /// An observer's book that is followed. It is locked for one frame at a time, so that others may feed it too.
 pub struct Follower<'a> {
     file: &'a str,
+    disk: Disk,
     keeper: Keeper,
     json: bool,
     /// How many entries of the register are printed, or were there before.
@@ -27,8 +28,8 @@ pub struct Follower<'a> {
 
 impl<'a> Follower<'a> {
     /// A follower of the book in a file, which prints entries as objects or in words.
-    pub fn new(file: &'a str, keeper: Keeper, json: bool) -> Follower<'a> {
-        Follower { file, keeper, json, told: 0, frames: 0, refused: 0, strange: 0 }
+    pub fn new(file: &'a str, disk: Disk, keeper: Keeper, json: bool) -> Follower<'a> {
+        Follower { file, disk, keeper, json, told: 0, frames: 0, refused: 0, strange: 0 }
     }
 
     /// Prints what is settled from this height on, if one is given, and then what settles with each line of the input.
@@ -58,7 +59,7 @@ impl<'a> Follower<'a> {
 
     /// Takes a frame, if one came, moves, and prints the entries that are new. What is printed is synced.
     fn settle(&mut self, frame: Option<&[u8; FRAME]>) -> Result<(), Problem> {
-        let mut observer = FileObserver::open(REPLICA, self.file)?;
+        let mut observer = FileObserver::open_in(self.disk, REPLICA, self.file.as_ref())?;
         if let Some(frame) = frame {
             self.frames = self.frames.saturating_add(1);
             self.keeper.keep(self.frames, &observer.book().answers([frame.as_slice()]))?;

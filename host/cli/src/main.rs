@@ -6,6 +6,7 @@
 
 mod answer_command;
 mod arguments;
+mod awaited;
 mod beside;
 mod bounded_line;
 mod call_command;
@@ -49,7 +50,7 @@ mod try_command;
 mod unmet;
 mod unsound;
 mod unsound_observer;
-mod waits;
+mod waiting;
 mod why;
 mod words;
 

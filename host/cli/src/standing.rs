@@ -2,7 +2,7 @@
 
 use crate::beside::{self, Beside};
 use crate::problem::Problem;
-use crate::{register, show_book, show_observer, unsound, waits};
+use crate::{awaited, register, show_book, show_observer, unsound};
 use types::{field, head_height, is_observers, Height};
 
 /// A book that could be read.
@@ -53,9 +53,9 @@ fn told(bytes: &[u8]) -> Result<Told, Problem> {
     let waits_for = match observers {
         true => {
             show_observer::told(bytes)?;
-            waits::observer(bytes)
+            awaited::observer(bytes)
         }
-        false => waits::station(&show_book::told(bytes)?, bytes),
+        false => awaited::station(&show_book::told(bytes)?, bytes),
     };
     Ok(Told {
         station: (!observers).then_some(byte(field::OWN)),

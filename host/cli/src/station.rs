@@ -7,7 +7,7 @@ use crate::output::{keeps_frames, print};
 use crate::problem::Problem;
 use crate::words;
 use exchange::Answer;
-use store::{Error, FileBook};
+use store::{Disk, Error, FileBook};
 use types::{Answered, Calls, Move, Written, FRAME};
 
 /// An open book; frames go to the file that `--out` names, else to standard output.
@@ -25,9 +25,11 @@ pub struct Station<'a, C> {
 pub fn open<'a>(
     file: &'a str,
     out: Option<&'a str>,
+    disk: Disk,
     json: bool,
 ) -> Result<Station<'a, impl Calls + Clone>, Problem> {
-    let book = FileBook::open(REPLICA, file).map_err(|error| denied(json, error))?;
+    let book = FileBook::open_in(disk, REPLICA, file.as_ref());
+    let book = book.map_err(|error| denied(json, error))?;
     let late = book.unsent().to_vec();
     let mut station = Station { book, file, out, json, late };
     match (station.late.is_empty(), out) {

@@ -151,6 +151,16 @@ impl Fake {
         state.meddling = Some((state.steps + steps, path.to_path_buf(), meddling));
     }
 
+    /// Puts a synced file there from outside, or takes it away.
+    pub fn put(&self, path: &Path, bytes: Option<Vec<u8>>) {
+        let mut state = self.0.borrow_mut();
+        let file = bytes.map(|bytes| {
+            state.contents.push(vec![bytes]);
+            state.contents.len() - 1
+        });
+        state.names.insert(path.to_path_buf(), vec![file]);
+    }
+
     /// Whether somebody was to meddle and has not yet; he never will.
     pub fn left_alone(&self) -> bool {
         self.0.borrow_mut().meddling.take().is_some()
