@@ -97,6 +97,37 @@ fn calls_that_print_no_frames_may_print_nowhere() {
     }
 }
 
+/// The file of the frames that wait as docs/HOST.md has it, and what is left of them where it is cut.
+#[test]
+fn whole_lines_of_a_cut_file_can_still_be_sent() {
+    let book = book("cut");
+    assert_eq!(shell(&format!("call {book} run > /dev/full")).0, 2);
+    let (bytes, file) = (read(&book).unwrap(), format!("{book}.frames"));
+    let text = std::fs::read_to_string(&file).unwrap();
+    let lines: Vec<&str> = text.lines().collect();
+    let digest: String =
+        reference::sha256::digest(&bytes).iter().map(|byte| format!("{byte:02x}")).collect();
+    assert_eq!(lines[..2], ["mavunilai frames 1".to_string(), format!("book {digest}")]);
+    assert_eq!((lines.len(), lines[4], text.ends_with("\nend\n")), (5, "end", true));
+    write(&file, &text[..700]).unwrap();
+    for call in ["move", "run", "signal 2", "submit 'swap A1 to B2'", "deliver /dev/null"] {
+        let (status, output, complaint) = shell(&format!("call {book} {call}"));
+        assert_eq!((status, output.as_str()), (2, ""), "{call}");
+        assert!(
+            complaint.ends_with("cut.frames holds something else than frames\n"),
+            "{complaint}"
+        );
+    }
+    assert!(read(&book).unwrap() == bytes);
+    assert!(shell(&format!("call {book} certificates")).1.starts_with(lines[2]));
+    let rest = format!("show frame <(grep -xE '[0-9a-f]{{448}}' {file})");
+    assert_eq!(shell(&rest).1, "blank certificate (kind 6)\nsigners 0 1 3 (mask 11)\nheight 1\n");
+    let again = shell("frame finalise --signer 2 --height 1 --hex").1;
+    assert_eq!(again.trim_end(), lines[3]);
+    std::fs::remove_file(&file).unwrap();
+    assert_eq!(shell(&format!("call {book} run")), (0, "idle\n".to_string(), String::new()));
+}
+
 /// An output that is open for reading alone takes no byte, though nothing is wrong with its number.
 #[test]
 fn an_output_that_cannot_be_written_is_an_error() {
