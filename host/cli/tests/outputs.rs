@@ -11,17 +11,16 @@ use types::{Block, Book, Frame};
 /// Outputs that take all and keep nothing; what is closed is one of them.
 const NOWHERE: [&str; 3] = [">&-", "> /dev/null", "> /dev/zero"];
 
-/// The path of a book that can be passed on a blank: station 2 of 4 with two heights. Nothing waits beside it.
+/// The path of a book that can be passed on a blank: station 2 of 4 with two heights, alone in a folder of this name.
 fn book(name: &str) -> String {
     let mut book = Book::open(reference::Rules::SHA256, 4, 2, &[0, 0]).unwrap();
     for signer in [0, 1, 3] {
         book.deliver(&Frame::DummyVote { signer, height: 1 }.bytes()).unwrap();
     }
-    let path = folder("outputs").join(name);
-    let path = path.to_str().unwrap().to_string();
+    _ = std::fs::remove_dir_all(folder("outputs").join(name));
+    let path = folder(&format!("outputs/{name}")).join("book");
     write(&path, book.bytes()).unwrap();
-    _ = std::fs::remove_file(format!("{path}.frames"));
-    path
+    path.to_str().unwrap().to_string()
 }
 
 /// Runs the command as a shell does, with redirections; its status, output and complaint.
@@ -73,7 +72,7 @@ fn frames_that_wait_go_on_waiting_where_they_would_be_lost() {
         let (status, _, complaint) = shell(&format!("call {book} {call} {output}"));
         assert_eq!(status, 2, "{call} {output}");
         assert!(complaint.contains("--out"), "{complaint}");
-        assert!(complaint.ends_with("outputs/waiting.frames for the next call\n"), "{complaint}");
+        assert!(complaint.ends_with("waiting/book.frames for the next call\n"), "{complaint}");
         assert_eq!(read(&book).unwrap(), before, "{call} {output}");
         assert_eq!(read(format!("{book}.frames")).unwrap(), frames, "{call} {output}");
     }
@@ -114,7 +113,7 @@ fn whole_lines_of_a_cut_file_can_still_be_sent() {
         let (status, output, complaint) = shell(&format!("call {book} {call}"));
         assert_eq!((status, output.as_str()), (2, ""), "{call}");
         assert!(
-            complaint.ends_with("cut.frames holds something else than frames\n"),
+            complaint.ends_with("cut/book.frames holds something else than frames\n"),
             "{complaint}"
         );
     }
