@@ -17,8 +17,9 @@ fn book(name: &str) -> String {
     for signer in [0, 1, 3] {
         book.deliver(&Frame::DummyVote { signer, height: 1 }.bytes()).unwrap();
     }
-    _ = std::fs::remove_dir_all(folder("outputs").join(name));
-    let path = folder(&format!("outputs/{name}")).join("book");
+    let alone = format!("outputs-{name}");
+    std::fs::remove_dir_all(folder(&alone)).unwrap();
+    let path = folder(&alone).join("book");
     write(&path, book.bytes()).unwrap();
     path.to_str().unwrap().to_string()
 }
