@@ -13,13 +13,14 @@ pub struct FrameInput {
     wrong: Option<String>,
 }
 
-/// Reads a file, or the standard input for `-`. It holds text if no control character is in it but tabs and ends of
-/// lines: a frame as it is begins with its kind, 1 to 7, and so is never text.
+/// Reads a file, or the standard input for `-`. It is text if it begins with a letter, a blank or an end of line: a
+/// frame as it is begins with its kind, 1 to 7.
 pub fn read(name: &str) -> Result<FrameInput, Problem> {
     let bytes = files::read_some(name, files::MOST_BYTES)?;
-    let (bytes, wrong) = match std::str::from_utf8(&bytes).ok().filter(|text| is_text(text)) {
-        Some(text) => of_text(text),
-        None => (bytes, None),
+    let is_text = |first: &u8| first.is_ascii_graphic() || first.is_ascii_whitespace();
+    let (bytes, wrong) = match bytes.first().is_some_and(is_text) {
+        true => of_text(&String::from_utf8_lossy(&bytes)),
+        false => (bytes, None),
     };
     Ok(FrameInput { name: name.to_string(), bytes, wrong })
 }
@@ -58,11 +59,6 @@ impl FrameInput {
             }
         }
     }
-}
-
-/// Whether these are lines of letters.
-fn is_text(text: &str) -> bool {
-    !text.chars().any(|letter| letter.is_control() && !letter.is_ascii_whitespace())
 }
 
 /// The bytes of the digits in a text, up to a line that is neither digits nor an answer, or to an answer that parts a

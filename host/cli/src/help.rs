@@ -142,11 +142,12 @@ things. At the current height it fires the timer, with the answer fresh, or know
 it had fired; a signal is refused with 14 then. At any other height it is refused with 8.
 
 FRAMES may be what move, run, fetch or certificates printed, as it is: lines that are
-answers are skipped between frames. A file with no control characters but tabs and ends
-of lines is text, any other is bytes. deliver takes the whole frames first. Of a cut one
-behind them, and of the first line of a text that is neither digits nor an answer, it
-says so and ends with status 2, or with that of a refusal before it; packet takes nothing
-of a text with such a line. No frames are no error: deliver prints nothing then.
+answers are skipped between frames. A file that begins with a letter, a blank or an end
+of line is text; any other is bytes, as a frame's kind, its first byte, is 1 to 7. deliver
+takes the whole frames first. Of a cut one behind them, and of the first line of a text
+that is neither digits nor an answer, it says so and ends with status 2, or with that of
+a refusal before it; packet takes nothing of a text with such a line. No frames are no
+error: deliver prints nothing then.
 
 --out adds the frames to FILE, a line for each, in place of printing them. FILE is
 synced and replaced as a whole, and holds nothing but such lines. Who sends them moves
@@ -160,7 +161,8 @@ signal, submit, move or run begins with the line `unsent` and these frames; size
 fetch and certificates leave them alone. Frames may go out twice, which is harmless. A
 pipe has them once it takes them, read or not: --out is safer. Where the standard output
 is closed or the null device, and no --out is given, move and run make no move, and
-frames that wait go on waiting; an error says so, with status 2.
+frames that wait go on waiting; an error says so, with status 2. run has the frames of a
+move out before it makes the next one, so where it fails those before are out.
 
 Example: mavunilai frame blank-vote --signer 0 --height 1 | mavunilai call book deliver -
 Example: mavunilai call one run | mavunilai call other deliver -

@@ -25,6 +25,13 @@ fn shown() -> Vec<String> {
     block.unwrap().trim().lines().map(str::to_string).collect()
 }
 
+#[test]
+fn it_is_the_first_command_of_the_readme() {
+    let page = std::fs::read_to_string(file("README.md")).unwrap();
+    let first = page.lines().find_map(|line| line.strip_prefix("    "));
+    assert_eq!(first, Some("host/example/four-stations.sh"));
+}
+
 /// Whether the lines are these, with any lines between where `..` stands alone.
 fn agrees(printed: &[&str], shown: &[String]) -> bool {
     match shown.split_first() {

@@ -161,6 +161,14 @@ fn other_lines_are_told_by_their_number() {
             );
         }
     }
+    let mut mixed = format!("idle\n{page}\n").into_bytes();
+    mixed.extend(certificates()[1]);
+    for (name, input) in [("mixed", mixed), ("no-text", [page.as_bytes(), b"\n\n\xff"].concat())] {
+        for ended in delivered(name, &input, &certificates()[..1]) {
+            assert_eq!((ended.status, ended.text().as_str()), (2, "fresh\n"), "{name}");
+            assert!(ended.complaint.starts_with("mavunilai: -, line 3: '"), "{}", ended.complaint);
+        }
+    }
     let cut = format!("{page}\n{}\nunsent\n{page}\n", &page[..100]);
     for ended in delivered("parted", cut.as_bytes(), &certificates()[..1]) {
         assert_eq!((ended.status, ended.text().as_str()), (2, "fresh\n"));

@@ -11,17 +11,17 @@ use types::{Block, Book, Frame};
 /// Outputs that take all and keep nothing; what is closed is one of them.
 const NOWHERE: [&str; 3] = [">&-", "> /dev/null", "> /dev/zero"];
 
-/// The path of a book that can be passed on a blank: station 2 of 4 with two heights. Nothing waits beside it.
+/// The path of a book that can be passed on a blank: station 2 of 4 with two heights, alone in a folder of this name.
 fn book(name: &str) -> String {
     let mut book = Book::open(reference::Rules::SHA256, 4, 2, &[0, 0]).unwrap();
     for signer in [0, 1, 3] {
         book.deliver(&Frame::DummyVote { signer, height: 1 }.bytes()).unwrap();
     }
-    let path = folder("outputs").join(name);
-    let path = path.to_str().unwrap().to_string();
+    let alone = format!("outputs-{name}");
+    std::fs::remove_dir_all(folder(&alone)).unwrap();
+    let path = folder(&alone).join("book");
     write(&path, book.bytes()).unwrap();
-    _ = std::fs::remove_file(format!("{path}.frames"));
-    path
+    path.to_str().unwrap().to_string()
 }
 
 /// Runs the command as a shell does, with redirections; its status, output and complaint.
@@ -73,7 +73,7 @@ fn frames_that_wait_go_on_waiting_where_they_would_be_lost() {
         let (status, _, complaint) = shell(&format!("call {book} {call} {output}"));
         assert_eq!(status, 2, "{call} {output}");
         assert!(complaint.contains("--out"), "{complaint}");
-        assert!(complaint.ends_with("outputs/waiting.frames for the next call\n"), "{complaint}");
+        assert!(complaint.ends_with("waiting/book.frames for the next call\n"), "{complaint}");
         assert_eq!(read(&book).unwrap(), before, "{call} {output}");
         assert_eq!(read(format!("{book}.frames")).unwrap(), frames, "{call} {output}");
     }
@@ -95,6 +95,37 @@ fn calls_that_print_no_frames_may_print_nowhere() {
         }
         assert_eq!(std::fs::read_to_string(pile).unwrap().lines().count(), 2);
     }
+}
+
+/// The file of the frames that wait as docs/HOST.md has it, and what is left of them where it is cut.
+#[test]
+fn whole_lines_of_a_cut_file_can_still_be_sent() {
+    let book = book("cut");
+    assert_eq!(shell(&format!("call {book} run > /dev/full")).0, 2);
+    let (bytes, file) = (read(&book).unwrap(), format!("{book}.frames"));
+    let text = std::fs::read_to_string(&file).unwrap();
+    let lines: Vec<&str> = text.lines().collect();
+    let digest: String =
+        reference::sha256::digest(&bytes).iter().map(|byte| format!("{byte:02x}")).collect();
+    assert_eq!(lines[..2], ["mavunilai frames 1".to_string(), format!("book {digest}")]);
+    assert_eq!((lines.len(), lines[4], text.ends_with("\nend\n")), (5, "end", true));
+    write(&file, &text[..700]).unwrap();
+    for call in ["move", "run", "signal 2", "submit 'swap A1 to B2'", "deliver /dev/null"] {
+        let (status, output, complaint) = shell(&format!("call {book} {call}"));
+        assert_eq!((status, output.as_str()), (2, ""), "{call}");
+        assert!(
+            complaint.ends_with("cut/book.frames holds something else than frames\n"),
+            "{complaint}"
+        );
+    }
+    assert!(read(&book).unwrap() == bytes);
+    assert!(shell(&format!("call {book} certificates")).1.starts_with(lines[2]));
+    let rest = format!("show frame <(grep -xE '[0-9a-f]{{448}}' {file})");
+    assert_eq!(shell(&rest).1, "blank certificate (kind 6)\nsigners 0 1 3 (mask 11)\nheight 1\n");
+    let again = shell("frame finalise --signer 2 --height 1 --hex").1;
+    assert_eq!(again.trim_end(), lines[3]);
+    std::fs::remove_file(&file).unwrap();
+    assert_eq!(shell(&format!("call {book} run")), (0, "idle\n".to_string(), String::new()));
 }
 
 /// An output that is open for reading alone takes no byte, though nothing is wrong with its number.
