@@ -1,5 +1,6 @@
 //! The help texts.
 
+use crate::help_books::{CHECK, READ, STATUS};
 use crate::problem::Problem;
 
 /// Writes the help text that the words ask for.
@@ -20,6 +21,9 @@ pub fn print(name: &str, output: &mut Vec<u8>) -> Result<(), Problem> {
         "open" => OPEN,
         "call" => CALL,
         "observer" => OBSERVER,
+        "read" => READ,
+        "check" => CHECK,
+        "status" => STATUS,
         "replay" => REPLAY,
         "record" => RECORD,
         "rehearsal" => REHEARSAL,
@@ -40,6 +44,9 @@ mavunilai COMMAND ..
   open       keep a new book in a file
   call       make calls on a book that is kept in a file
   observer   follow the register without a vote: calls on an observer's book in a file
+  read       print the register of a book: place, height and text of each entry
+  check      tell whether a book in a file is sound, and what stands beside it
+  status     print a row for each of several books
   replay     make the calls of a list and compare answers and digests
   record     write a list with its answers and digests
   diff       tell the fields in which two books differ
@@ -49,7 +56,8 @@ mavunilai COMMAND ..
 
 `mavunilai help COMMAND` tells more. The status is 0 if all is well, 1 if a list does
 not come out as expected or `try` or `diff` finds a difference, 2 if words, files or the
-output are bad, 3 if the replica refuses the call; a sentence then says why.
+output are bad, 3 if the replica refuses the call, 4 if it refuses with 10: two pages of
+one height are certified, so stop and compare. A sentence then says why.
 The replica is the proved one if this program was built with the cargo feature `proved`,
 else the reference; `mavunilai --version` tells which. The value of an option stands
 behind it or after =, as in --n=4.
@@ -79,9 +87,9 @@ Example: mavunilai frame blank-vote --signer 0 --height 1 --hex
 ";
 
 const SHOW: &str = "\
-mavunilai show frame FILE
-mavunilai show book FILE
-mavunilai show books FILE FILE ..
+mavunilai show frame FILE [--json]
+mavunilai show book FILE [--json]
+mavunilai show books FILE FILE .. [--json]
 
 Shows frames or books in words; FILE may be - for standard input, and may hold the
 bytes as they are or as hexadecimal digits, wrapped over lines or not. A file may have
@@ -96,7 +104,8 @@ the first byte is told that breaks a rule. Several books, of stations with the s
 and of observers, are shown side by side: a row for each height, a column for each book,
 <- at a station's current height. A station's column has its number, an observer's its
 file. An observer's book is told from a station's by its length. Of frames, FILE may
-also be what `call` printed.
+also be what `call` printed. --json prints an object for each frame or book
+(docs/JSON.md).
 ";
 
 const OPEN: &str = "\
@@ -111,8 +120,8 @@ Example: mavunilai open book --n 4 --own 2 --roll 0,1,2
 ";
 
 const CALL: &str = "\
-mavunilai call BOOK deliver FRAMES [--out FILE]
-mavunilai call BOOK packet FRAMES [--out FILE]
+mavunilai call BOOK deliver FRAMES [--out FILE] [--evidence FOLDER]
+mavunilai call BOOK packet FRAMES [--each] [--out FILE] [--evidence FOLDER]
 mavunilai call BOOK signal HEIGHT [--out FILE]
 mavunilai call BOOK submit ENTRY [--out FILE]
 mavunilai call BOOK move [--out FILE]
@@ -134,12 +143,20 @@ ENTRY is as for `frame`: 32 hexadecimal digits, or text of 1 to 16 bytes, which 
 filled up with blanks. A call that is refused changes nothing, says the number and ends
 with status 3. deliver keeps the book after each frame; of several each has its line,
 with `deny` and a number if refused. packet takes all frames in one call and keeps the
-book once; it prints `counts` and how many frames were fresh, known and refused. For
-refused frames its status is still 0: the packet itself is refused only if its length
-is not a multiple of 224, or the book is not sound. Of a proposal of another page than
-the one that the book holds both say so on the standard error: its leader said two
-things. At the current height it fires the timer, with the answer fresh, or known where
-it had fired; a signal is refused with 14 then. At any other height it is refused with 8.
+book once; it prints `counts` and how many frames were fresh, known and refused, and with
+--each a line for each frame behind it, as deliver does. For refused frames its status is
+still 0, but for 10: the packet itself is refused only if its length is not a multiple of
+224, or the book is not sound. --json prints each answer as an object (docs/JSON.md);
+certificates has none.
+
+Frames that contradict what the book has are evidence against who signed both. deliver and
+packet say so on the standard error: two pages of one leader, two page votes of one
+station (8), two certified pages of one height (10, status 4: stop and compare). At the
+current height a leader's second page is not refused: it fires the timer, with the answer
+fresh, or known where it had fired; a signal is refused with 14 then. --evidence keeps
+each pair in FOLDER, which is made if it is missing: a file .hex with the digits of the
+frame and of what the book has against it, and a file .txt with both in words, synced
+before the book changes. Files that are there stay. The signatures are yours to add.
 
 FRAMES may be what move, run, fetch or certificates printed, as it is: lines that are
 answers are skipped between frames. A file that begins with a letter, a blank or an end
@@ -170,10 +187,11 @@ Example: mavunilai call one run | mavunilai call other deliver -
 
 const OBSERVER: &str = "\
 mavunilai observer BOOK open --n N --heights H [--force]
-mavunilai observer BOOK deliver FRAMES
+mavunilai observer BOOK deliver FRAMES [--evidence FOLDER]
 mavunilai observer BOOK move
 mavunilai observer BOOK size
 mavunilai observer BOOK read
+mavunilai observer BOOK follow [--since HEIGHT] [--evidence FOLDER]
 
 An observer follows the register of N stations without a vote: it is given certificates,
 frames of kinds 5 to 7, settles, and reads. It has no timer and sends nothing. open keeps
@@ -182,9 +200,17 @@ a file that is there is left alone unless --force begins anew. deliver takes the
 the file FRAMES (- is standard input) in order; `help call` says how they are written, and
 what becomes of a cut one and of none. Each has its line, fresh, known, or `deny` and a
 number: 16 for a frame that is no certificate. Any refusal makes the status 3, while the
-others are taken all the same. move prints `final` and the
-settled height if it grew, else `idle`; after deliver one move is enough. size and read
-print what the register holds by then, an entry that the chain repeats once.
+others are taken all the same; 10 makes it 4, and both certificates are kept in FOLDER, as
+by `mavunilai call`. move prints `final` and the settled height if it grew, else `idle`;
+after deliver one move is enough. size and read print what the register holds by then, an
+entry that the chain repeats once. --json prints each answer as an object (docs/JSON.md).
+
+follow goes on reading standard input, a frame in digits on each line, as `certificates`
+prints them; answers between them are skipped. It delivers each, moves, and prints each
+entry that settles at once: place, height and text, as `mavunilai read` does. With --since
+it begins with those that are settled, from that height on. The book is locked for one
+frame at a time. A refused frame is said on the standard error and makes the status 3 in
+the end; 10 ends it at once. A line that is neither is left out, said, and makes it 2.
 
 What a call prints is synced to the file first, however many frames it was given, and the
 book is locked meanwhile (BOOK.lock, which stays). Only deliver certificates whose

@@ -21,6 +21,7 @@ mod frame_command;
 mod frame_input;
 mod frame_line;
 mod help;
+mod help_books;
 mod json;
 mod json_answer;
 mod observer_command;

@@ -31,7 +31,8 @@ fn the_rehearsal_is_that_of_the_reference() {
 }
 
 /// The commands that have a help text.
-const COMMANDS: &str = "frame show diff open call observer replay record try answer rehearsal";
+const COMMANDS: &str =
+    "frame show diff open call observer read check status replay record try answer rehearsal";
 
 #[test]
 fn every_command_has_a_help_text() {
