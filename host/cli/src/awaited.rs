@@ -26,7 +26,7 @@ fn at_height(told: &Inspection, bytes: &[u8], slot: &AtHeight) -> String {
     let for_held = |page: &pages::Page| votes.iter().filter(|(_, of)| *of == page.digest).count();
     let page = match held {
         None if slot.notarized.is_none() => match slot.leader == told.own {
-            true => "its own proposal, to be delivered to it".to_string(),
+            true => "delivery of its own proposal".to_string(),
             false => format!("the proposal of station {}", slot.leader),
         },
         Some(page) if slot.notarized.is_none() && slot.held_extends => {

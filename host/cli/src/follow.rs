@@ -100,5 +100,6 @@ impl<'a> Follower<'a> {
 
 /// An entry on a line: place, height, text.
 fn line(entry: &Filed) -> String {
-    format!("{}  {}  {}", entry.place, entry.height, register::text(&entry.entry))
+    let text = register::text(&entry.entry);
+    format!("{}  {}  {}", entry.place, entry.height, text.trim_end())
 }

@@ -125,7 +125,7 @@ fn each_entry_is_printed_as_it_settles() {
     }
     assert_eq!(read(), ("2  2  \\x00seed lot 7 to 3\n".to_string(), 4));
     assert_eq!(read(), ("3  2  \\x00undo A12 to B40\n".to_string(), 4));
-    assert_eq!(read(), ("4  4  \\x00plot C7 fallow \n".to_string(), 4));
+    assert_eq!(read(), ("4  4  \\x00plot C7 fallow\n".to_string(), 4));
     // Nobody is kept away while it waits.
     assert_eq!(text(&format!("observer {book} move")), "idle\n");
     drop(input);
@@ -138,7 +138,7 @@ fn what_is_settled_before_is_printed_if_it_is_asked_for() {
     let kept = season("since");
     let follow = |words: &str| text(&format!("observer {kept}/watch follow {words}"));
     assert_eq!(follow(""), "");
-    assert_eq!(follow("--since 4"), "4  4  \\x00plot C7 fallow \n");
+    assert_eq!(follow("--since 4"), "4  4  \\x00plot C7 fallow\n");
     assert_eq!(follow("--since 1").lines().count(), 4);
     let object = follow("--since 4 --json");
     assert!(object.starts_with("{\"place\":4,\"height\":4,\"hex\":\"00706c"), "{object}");

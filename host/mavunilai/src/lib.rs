@@ -51,9 +51,9 @@ pub use foreign::{fits, Proved, INTERFACE};
 /// A book in a file: locked while it is open, each call committed together with its frames.
 pub use store;
 pub use types::{
-    book_length, held_block, is_second_block, observer_book_length, Block, Book, Calls,
-    Certificate, Counts, Delivered, Frame, Move, ObserverBook, Refusal, Written, BLOCK, ENTRY,
-    FRAME, MOST_HEIGHTS, MOST_REPLICAS,
+    book_length, held_block, is_second_block, observer_book_length, Answered, Block, Book, Calls,
+    Certificate, Counts, Delivered, Evidence, Frame, Move, ObserverBook, Refusal, Written, BLOCK,
+    ENTRY, FRAME, MOST_HEIGHTS, MOST_REPLICAS,
 };
 
 /// A new book of the proved replica for replica `own` of `n`, with one leader for each height.
