@@ -109,12 +109,13 @@ also be what `call` printed. --json prints an object for each frame or book
 ";
 
 const OPEN: &str = "\
-mavunilai open FILE --n N --own S --roll L,L,.. [--force]
+mavunilai open FILE --n N --own S --roll L,L,.. [--force] [--wait SECONDS]
 
 Keeps a new book in FILE, for station S of N, with one leader L for each height. A file
 that is there is left alone, unless --force begins a new book in its place: a station
-that forgets what it said may say another thing, so do this for a new season only.
-FILE may be - for standard output.
+that forgets what it said may say another thing, so do this for a new season only. So
+too where the book is gone and FILE.said still tells what it said. FILE may be - for
+standard output. --wait is as for `call`.
 
 Example: mavunilai open book --n 4 --own 2 --roll 0,1,2
 ";
@@ -130,6 +131,7 @@ mavunilai call BOOK size
 mavunilai call BOOK read
 mavunilai call BOOK fetch KIND HEIGHT
 mavunilai call BOOK certificates
+Calls with --out have [--wait SECONDS] too.
 
 Makes a call on the book in the file BOOK, prints the answer in the words of a list
 (docs/EXCHANGE.md), and keeps the book in its file if it changed. The frames that move
@@ -168,11 +170,15 @@ error: deliver prints nothing then.
 
 --out adds the frames to FILE, a line for each, in place of printing them. FILE is
 synced and replaced as a whole, and holds nothing but such lines. Who sends them moves
-FILE away first. Neither BOOK nor FILE may end in .lock, .new or .frames.
+FILE away first. Neither BOOK nor FILE may end in .lock, .new, .frames or .said.
 
 A process may end at any time, and others may call at the same time. The book is locked
 (BOOK.lock, which stays) from reading to writing, after all input is there; a call waits
-while another program has it. Frames wait in BOOK.frames from before the book is
+while another program has it, says which process that is after two seconds, and gives up
+with status 2 after the seconds of --wait. A call whose book was renamed, removed or
+replaced meanwhile ends with status 2, and so does one that would contradict what has
+left the station (BOOK.said): neither writes a book or a frame.
+Frames wait in BOOK.frames from before the book is
 replaced until they are printed or in FILE. If that fails the next deliver, packet,
 signal, submit, move or run begins with the line `unsent` and these frames; size, read,
 fetch and certificates leave them alone. Frames may go out twice, which is harmless. A
@@ -186,12 +192,12 @@ Example: mavunilai call one run | mavunilai call other deliver -
 ";
 
 const OBSERVER: &str = "\
-mavunilai observer BOOK open --n N --heights H [--force]
-mavunilai observer BOOK deliver FRAMES [--evidence FOLDER]
-mavunilai observer BOOK move
+mavunilai observer BOOK open --n N --heights H [--force] [--wait SECONDS]
+mavunilai observer BOOK deliver FRAMES [--evidence FOLDER] [--wait SECONDS]
+mavunilai observer BOOK move [--wait SECONDS]
 mavunilai observer BOOK size
 mavunilai observer BOOK read
-mavunilai observer BOOK follow [--since HEIGHT] [--evidence FOLDER]
+mavunilai observer BOOK follow [--since HEIGHT] [--evidence FOLDER] [--wait SECONDS]
 
 An observer follows the register of N stations without a vote: it is given certificates,
 frames of kinds 5 to 7, settles, and reads. It has no timer and sends nothing. open keeps
@@ -213,7 +219,8 @@ frame at a time. A refused frame is said on the standard error and makes the sta
 the end; 10 ends it at once. A line that is neither is left out, said, and makes it 2.
 
 What a call prints is synced to the file first, however many frames it was given, and the
-book is locked meanwhile (BOOK.lock, which stays). Only deliver certificates whose
+book is locked meanwhile (BOOK.lock, which stays); --wait is as for `call`. A book that was
+renamed, removed or replaced meanwhile is left alone. Only deliver certificates whose
 signatures you have checked, each signer's. `mavunilai call` does not take an observer's
 book, nor this command a station's: both refuse with 1.
 

@@ -15,8 +15,8 @@ pub enum Error {
     Unsent,
     /// An earlier call could not be committed; the book must be opened again.
     Stale,
-    /// The name is no longer that of the file that was opened, or that file has other bytes now: it was renamed, removed
-    /// or replaced. Nothing was committed; the book must be opened again.
+    /// The name is no longer that of the file that was opened, or that file has other bytes now: it was renamed,
+    /// removed or replaced. Before the commit nothing was written; after it the frames wait beside the old name.
     Moved(PathBuf),
     /// The call would have said what contradicts a statement that has left the station; nothing was written.
     Contradiction {
@@ -79,8 +79,8 @@ impl fmt::Display for Error {
             Error::Stale => write!(to, "an earlier call was not committed; open the book again"),
             Error::Moved(path) => {
                 let path = path.display();
-                write!(to, "{path} is no longer the book that was opened: it was renamed, removed or replaced; ")?;
-                write!(to, "open it again")
+                let how = "renamed, removed or replaced, or has a second name";
+                write!(to, "{path} is no longer the book that was opened: it was {how}")
             }
             Error::Contradiction { height, said, now } => {
                 write!(

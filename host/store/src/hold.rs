@@ -6,10 +6,10 @@
 //! name must be that of the very file that was opened; else nothing is renamed and the call ends with
 //! [`Error::Moved`].
 //!
-//! What remains is the moment between the last look and the renaming of the book, two system calls in a row. Who renames
-//! the book in that moment leaves a file that is no longer the book, by a name that is not: it is emptied before a frame
-//! leaves or the lock on it is given back, so that nobody goes on with it. Only if the process or the machine ends
-//! before that, too, are there two books.
+//! What remains is the moment between the last look and the renaming of the book, two system calls in a row. Who
+//! renames the book in that moment leaves the old bytes by another name, while this name has the new ones. So the old
+//! file is emptied before a frame leaves and before the lock on it is given back: nobody goes on with it. There are two
+//! books only if the process or the machine ends between that renaming and the emptying, too.
 
 use crate::place::{Place, FRAMES, SAID};
 use crate::{Error, Files, Holder};

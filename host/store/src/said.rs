@@ -116,3 +116,42 @@ const VOTERS: usize = 8;
 fn flags(book: &[u8]) -> u8 {
     book.get(types::field::FLAGS).copied().unwrap_or(0)
 }
+
+#[cfg(test)]
+mod tests {
+    use super::*;
+
+    #[test]
+    fn what_was_said_comes_back_and_no_part_of_it_does() {
+        let digest = [0x5a; 32];
+        let all = [
+            Statement::Proposal(digest),
+            Statement::BlockVote(digest),
+            Statement::DummyVote,
+            Statement::Finalize,
+        ];
+        for count in 0..=all.len() {
+            let statements = (1..).zip(all.into_iter().take(count)).collect();
+            let said = Said { season: "station 0 of 1".to_string(), statements };
+            let text = said.text();
+            assert_eq!(Said::parse(text.as_bytes()), Some(said));
+            for length in 0..text.len() {
+                let part: Vec<u8> = text.bytes().take(length).collect();
+                assert_eq!(Said::parse(&part), None, "{length}");
+            }
+        }
+    }
+
+    #[test]
+    fn these_and_no_others_contradict_each_other() {
+        use Statement::{BlockVote, DummyVote, Finalize, Proposal};
+        let all = [Proposal([1; 32]), Proposal([2; 32]), BlockVote([1; 32]), BlockVote([2; 32])];
+        let all: Vec<_> = all.into_iter().chain([DummyVote, Finalize]).collect();
+        for (at, one) in all.iter().enumerate() {
+            for (by, two) in all.iter().enumerate() {
+                // The pairs stand beside each other.
+                assert_eq!(one.contradicts(*two), at != by && at / 2 == by / 2, "{one} {two}");
+            }
+        }
+    }
+}
