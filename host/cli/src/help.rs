@@ -219,8 +219,8 @@ frame at a time. A refused frame is said on the standard error and makes the sta
 the end; 10 ends it at once. A line that is neither is left out, said, and makes it 2.
 
 What a call prints is synced to the file first, however many frames it was given, and the
-book is locked meanwhile (BOOK.lock, which stays); --wait is as for `call`. A book that was
-renamed, removed or replaced meanwhile is left alone. Only deliver certificates whose
+book is locked meanwhile (BOOK.lock, which stays); --wait is as for `call`. A book that
+was renamed, removed or replaced meanwhile is left alone. Only deliver certificates whose
 signatures you have checked, each signer's. `mavunilai call` does not take an observer's
 book, nor this command a station's: both refuse with 1.
 
