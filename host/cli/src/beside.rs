@@ -42,10 +42,18 @@ pub enum Fence {
     Unread(String),
 }
 
-/// What stands beside the book in a file, whose bytes these are.
-pub fn of(file: &str, bytes: &[u8]) -> Beside {
-    let holder = store::holder(file).ok().flatten();
-    Beside { frames: frames(file), said: fence(file, bytes), holder }
+/// What the station of the book in a file has said; to be read before the book, which is written first.
+pub type Kept = Result<Option<Said>, Error>;
+
+/// What stands beside the book in a file, whose bytes these are, read after what was said. Nothing is locked, so a call
+/// may go on meanwhile: frames count as waiting for nobody only if they still do after nobody was found to have the book.
+pub fn of(file: &str, said: Kept, bytes: &[u8]) -> Beside {
+    let holder = || store::holder(file).ok().flatten();
+    let said = fence(file, said, bytes);
+    match (frames(file), holder()) {
+        (Frames::Wait(_), None) => Beside { frames: frames(file), said, holder: holder() },
+        (frames, holder) => Beside { frames, said, holder },
+    }
 }
 
 /// The frames beside a book.
@@ -60,8 +68,8 @@ fn frames(file: &str) -> Frames {
 }
 
 /// What the station has said, held against its book.
-fn fence(file: &str, bytes: &[u8]) -> Fence {
-    let said = match store::said(file) {
+fn fence(file: &str, said: Kept, bytes: &[u8]) -> Fence {
+    let said = match said {
         Ok(None) => return Fence::None,
         Ok(Some(said)) => said,
         Err(error) => return Fence::Unread(error.to_string()),

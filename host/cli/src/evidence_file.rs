@@ -21,7 +21,9 @@ impl Folder {
         let folder = Folder { path: PathBuf::from(path) };
         let made = match fs::create_dir(&folder.path) {
             Err(error) if error.kind() == ErrorKind::AlreadyExists => Ok(()),
-            made => made,
+            made => made.and_then(|()| folder.path.canonicalize()).and_then(|path| {
+                path.parent().map_or(Ok(()), |above| File::open(above)?.sync_all())
+            }),
         };
         let tried = made.and_then(|()| {
             let new = folder.path.join(new_name("tried"));

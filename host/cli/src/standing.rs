@@ -29,12 +29,13 @@ pub struct Told {
 impl Standing {
     /// How the book in a file stands; a problem if the file cannot be read.
     pub fn of(file: &str) -> Result<Standing, Problem> {
+        let said = store::said(file);
         let bytes = store::read(file)?;
         let told = match unsound::reason(&bytes) {
             Some(why) => Err(why),
             None => told(&bytes).map_err(|problem| problem.sentence),
         };
-        Ok(Standing { told, beside: beside::of(file, &bytes) })
+        Ok(Standing { told, beside: beside::of(file, said, &bytes) })
     }
 
     /// What a person should look at: a book that is not sound, else what is wrong beside it.

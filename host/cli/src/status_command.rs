@@ -31,7 +31,7 @@ pub fn run(words: &[String], output: &mut Vec<u8>) -> Result<(), Problem> {
         }
     };
     output.extend(text.into_bytes());
-    let statuses = books.iter().filter_map(|book| trouble(book)).map(|problem| problem.status);
+    let statuses = books.iter().filter_map(trouble).map(|problem| problem.status);
     let statuses: Vec<u8> = statuses.collect();
     match statuses.iter().max() {
         None => Ok(()),
