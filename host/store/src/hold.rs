@@ -109,7 +109,7 @@ fn held<F: Files>(place: &Place<F>, path: &Path) -> Result<F::Held, Error> {
         Ok(Some(file)) => Ok(file),
         Ok(None) => Err(Error::Moved(path.to_path_buf())),
         Err(error) if error.kind() == ErrorKind::WouldBlock => {
-            Err(Error::Held { path: path.to_path_buf(), holder: Holder { process: None } })
+            Err(Error::Locked { path: path.to_path_buf(), holder: Holder { process: None } })
         }
         Err(error) => Err(Error::files("locked", path)(error)),
     }

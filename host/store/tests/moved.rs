@@ -136,7 +136,7 @@ fn who_opens_a_renamed_book_waits_for_who_has_it() {
     fs::rename(&path, &other).unwrap();
     let patience = Patience::of(Duration::from_millis(50));
     let refused = FileBook::open_in(Disk { patience }, Rules::SHA256, &other);
-    assert!(matches!(refused, Err(Error::Held { path, .. }) if path == other));
+    assert!(matches!(refused, Err(Error::Locked { path, .. }) if path == other));
     assert!(matches!(book.make_move(), Err(Error::Moved(_))));
     drop(book);
     let mut again = FileBook::open(Rules::SHA256, &other).unwrap();
@@ -153,10 +153,10 @@ fn a_book_is_locked_without_its_lock_file() {
     fs::remove_file(path.with_extension("lock")).unwrap();
     let patience = Patience::of(Duration::ZERO);
     let open = || FileBook::open_in(Disk { patience }, Rules::SHA256, &path);
-    assert!(matches!(open(), Err(Error::Held { .. })));
+    assert!(matches!(open(), Err(Error::Locked { .. })));
     book.signal(1).unwrap();
     fs::remove_file(path.with_extension("lock")).unwrap();
-    assert!(matches!(open(), Err(Error::Held { .. })));
+    assert!(matches!(open(), Err(Error::Locked { .. })));
     drop(book);
     assert!(open().is_ok());
 }
