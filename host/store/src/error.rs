@@ -85,9 +85,9 @@ impl fmt::Display for Error {
             Error::Contradiction { height, said, now } => {
                 write!(
                     to,
-                    "height {height}: this station has said {said}, and would now say {now}; "
+                    "height {height}: the station has said {said}, and would say {now} now; "
                 )?;
-                write!(to, "nothing was written: is the book an older copy?")
+                write!(to, "nothing was written; is the book an older copy?")
             }
             Error::Said(path) => {
                 let path = path.display();
