@@ -65,11 +65,18 @@ impl Files for Disk {
         Ok(is_file(held, path)? && held.metadata()?.nlink() == 1)
     }
 
-    fn let_go(&self, held: File) -> Result<()> {
-        match held.metadata()?.nlink() {
-            0 => Ok(()),
-            _ => held.set_len(0),
+    fn has_name(&self, held: &File, free: &Path) -> Result<Option<bool>> {
+        if held.metadata()?.nlink() == 0 {
+            return Ok(Some(false));
         }
+        // Some file systems keep a name for a file that is open: then they do so for one that is surely removed.
+        let removed = create(free, free)?;
+        self.remove(free)?;
+        Ok((removed.metadata()?.nlink() == 0).then_some(true))
+    }
+
+    fn empty(&self, held: &File) -> Result<()> {
+        held.set_len(0)
     }
 
     fn read(&self, path: &Path, most: usize) -> Result<Option<Vec<u8>>> {
