@@ -83,7 +83,7 @@ fn an_older_copy_that_is_put_back_is_stopped() {
     printed += &ended.text();
     assert!(!says_both(&printed), "{printed}");
     assert_eq!((ended.status, ended.output.len()), (2, 0), "{}", ended.complaint);
-    for part in ["height 1", "has said finalise", "would now say blank-vote", "older copy"] {
+    for part in ["height 1", "has said finalise", "would say blank-vote now", "older copy"] {
         assert!(ended.complaint.contains(part), "{}", ended.complaint);
     }
     assert_eq!(read(&path).unwrap(), signalled);

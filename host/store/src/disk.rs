@@ -1,6 +1,7 @@
 //! The files of the machine.
 
-use crate::{flock, Files, Holder, Patience};
+use crate::flock::{self, Signed};
+use crate::{Files, Holder, Patience};
 use std::fs::{self, File, OpenOptions};
 use std::io::{Error, ErrorKind, Read, Result, Write};
 use std::os::unix::fs::{fchown, MetadataExt};
@@ -14,7 +15,7 @@ pub struct Disk {
 }
 
 impl Files for Disk {
-    type Lock = File;
+    type Lock = Signed;
     type Held = File;
 
     fn resolve(&self, path: &Path) -> Result<PathBuf> {
@@ -32,12 +33,14 @@ impl Files for Disk {
         path.canonicalize()
     }
 
-    fn lock(&self, path: &Path, like: &Path) -> Result<File> {
-        let file = or_to_read(OpenOptions::new().create(true).truncate(false).write(true), path)?;
+    fn lock(&self, path: &Path, like: &Path) -> Result<Signed> {
+        let file = match create(path, like) {
+            Err(error) if error.kind() == ErrorKind::AlreadyExists => open_to_lock(path)?,
+            created => created?,
+        };
         belong(&file, like)?;
         flock::wait(&file, path, self.patience, || flock::holder(path))?;
-        flock::sign(&file);
-        Ok(file)
+        Ok(Signed::new(file))
     }
 
     fn holder(&self, path: &Path) -> Result<Option<Holder>> {
@@ -46,7 +49,7 @@ impl Files for Disk {
 
     fn hold(&self, path: &Path) -> Result<Option<File>> {
         loop {
-            let Some(file) = found(or_to_read(OpenOptions::new().write(true), path))? else {
+            let Some(file) = found(open_to_lock(path))? else {
                 return Ok(None);
             };
             let unknown = || Ok(Some(Holder { process: None }));
@@ -62,11 +65,18 @@ impl Files for Disk {
         Ok(is_file(held, path)? && held.metadata()?.nlink() == 1)
     }
 
-    fn let_go(&self, held: File) -> Result<()> {
-        match held.metadata()?.nlink() {
-            0 => Ok(()),
-            _ => held.set_len(0),
+    fn has_name(&self, held: &File, free: &Path) -> Result<Option<bool>> {
+        if held.metadata()?.nlink() == 0 {
+            return Ok(Some(false));
         }
+        // Some file systems keep a name for a file that is open: then they do so for one that is surely removed.
+        let removed = create(free, free)?;
+        self.remove(free)?;
+        Ok((removed.metadata()?.nlink() == 0).then_some(true))
+    }
+
+    fn empty(&self, held: &File) -> Result<()> {
+        held.set_len(0)
     }
 
     fn read(&self, path: &Path, most: usize) -> Result<Option<Vec<u8>>> {
@@ -80,11 +90,7 @@ impl Files for Disk {
 
     fn write(&self, path: &Path, bytes: &[u8], like: &Path) -> Result<()> {
         self.remove(path)?;
-        let mut file = OpenOptions::new().create_new(true).write(true).open(path)?;
-        belong(&file, like)?;
-        if let Some(like) = found(fs::metadata(like))? {
-            file.set_permissions(like.permissions())?;
-        }
+        let mut file = create(path, like)?;
         file.write_all(bytes)?;
         file.sync_all()
     }
@@ -110,9 +116,19 @@ pub fn found<T>(outcome: Result<T>) -> Result<Option<T>> {
     }
 }
 
-/// Opens a file, only to read where it may not be written: it can be locked then too.
-fn or_to_read(options: &OpenOptions, path: &Path) -> Result<File> {
-    match options.open(path) {
+/// Makes a file that belongs to whom another one belongs to and is as private, if that is there.
+fn create(path: &Path, like: &Path) -> Result<File> {
+    let file = OpenOptions::new().create_new(true).write(true).open(path)?;
+    belong(&file, like)?;
+    if let Some(like) = found(fs::metadata(like))? {
+        file.set_permissions(like.permissions())?;
+    }
+    Ok(file)
+}
+
+/// Opens a file to lock it, only to read where it may not be written: it can be locked then too.
+fn open_to_lock(path: &Path) -> Result<File> {
+    match OpenOptions::new().write(true).open(path) {
         Err(error) if error.kind() == ErrorKind::PermissionDenied => {
             File::open(path).map_err(|_| error)
         }

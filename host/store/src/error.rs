@@ -30,7 +30,7 @@ pub enum Error {
     /// The file of what the station has said is damaged, or of another season or station than the book.
     Said(PathBuf),
     /// Another process has the lock, and the time to wait is over.
-    Held {
+    Locked {
         /// The file that is locked.
         path: PathBuf,
         /// Who has it.
@@ -85,15 +85,15 @@ impl fmt::Display for Error {
             Error::Contradiction { height, said, now } => {
                 write!(
                     to,
-                    "height {height}: this station has said {said}, and would now say {now}; "
+                    "height {height}: the station has said {said}, and would say {now} now; "
                 )?;
-                write!(to, "nothing was written: is the book an older copy?")
+                write!(to, "nothing was written; is the book an older copy?")
             }
             Error::Said(path) => {
                 let path = path.display();
                 write!(to, "{path} is damaged, or of another season or station than the book")
             }
-            Error::Held { path, holder } => {
+            Error::Locked { path, holder } => {
                 write!(to, "{} is locked, {holder} has it", path.display())
             }
             Error::Exists(path) => write!(to, "{} is there already", path.display()),

@@ -30,9 +30,12 @@ pub trait Files {
     /// Whether a name is that of this very file, which has no other.
     fn is(&self, held: &Self::Held, path: &Path) -> Result<bool>;
 
-    /// Gives back a file whose name another one has now. If it has a name all the same it is emptied: somebody renamed
-    /// it at the last moment, and it must not be taken for the one that replaced it.
-    fn let_go(&self, held: Self::Held) -> Result<()>;
+    /// Whether a file whose name was given to another one has a name all the same; none if the file system does not
+    /// tell. A file may be made and removed at the path for that.
+    fn has_name(&self, held: &Self::Held, free: &Path) -> Result<Option<bool>>;
+
+    /// Empties a file, whatever its name is.
+    fn empty(&self, held: &Self::Held) -> Result<()>;
 
     /// The first bytes of a file, at most so many; none if there is no such file.
     fn read(&self, path: &Path, most: usize) -> Result<Option<Vec<u8>>>;

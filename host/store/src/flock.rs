@@ -44,9 +44,22 @@ pub fn wait(
     }
 }
 
-/// Leaves the number of this process in a file that it has locked. Without it the lock holds all the same.
-pub fn sign(mut file: &File) {
-    _ = file.set_len(0).and_then(|()| writeln!(file, "{}", std::process::id()));
+/// A lock of this process. Its number stands in the file as long, if that may be written; the lock holds all the same.
+#[derive(Debug)]
+pub struct Signed(File);
+
+impl Signed {
+    /// Signs a file that is locked.
+    pub fn new(mut file: File) -> Signed {
+        _ = file.set_len(0).and_then(|()| writeln!(file, "{}", std::process::id()));
+        Signed(file)
+    }
+}
+
+impl Drop for Signed {
+    fn drop(&mut self) {
+        _ = self.0.set_len(0);
+    }
 }
 
 /// Who has the file locked; none if nobody has. What a process left there that has ended is not taken for an answer,

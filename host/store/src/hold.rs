@@ -6,10 +6,11 @@
 //! name must be that of the very file that was opened; else nothing is renamed and the call ends with
 //! [`Error::Moved`].
 //!
-//! What remains is the moment between the last look and the renaming of the book, two system calls in a row. Who
-//! renames the book in that moment leaves the old bytes by another name, while this name has the new ones. So the old
-//! file is emptied before a frame leaves and before the lock on it is given back: nobody goes on with it. There are two
-//! books only if the process or the machine ends between that renaming and the emptying, too.
+//! What remains is the moment between the last look and the renaming of the book, two system calls in a row. Whether
+//! somebody renamed the book in that moment shows in the old file: it has a name still. Then the renaming is taken back
+//! before anything leaves, and the call ends like the others. There are two books only if the process or the machine
+//! ends between the two renamings. Where the file system does not tell whether a file has a name, the old one is
+//! emptied, so that nobody goes on with it.
 
 use crate::place::{Place, FRAMES, SAID};
 use crate::{Error, Files, Holder};
@@ -58,8 +59,8 @@ impl<F: Files> Hold<F> {
     /// Whether the name is still that of the file that was opened, with these bytes.
     pub fn look_for(&self, bytes: &[u8]) -> Result<(), Error> {
         self.look()?;
-        let same = self.place.read_book()? == bytes;
-        same.then_some(()).ok_or_else(|| self.moved())
+        let there = self.place.read(bytes.len().saturating_add(1))?;
+        (there.as_deref() == Some(bytes)).then_some(()).ok_or_else(|| self.moved())
     }
 
     /// Whether the name is still that of the file that was opened.
@@ -97,10 +98,33 @@ impl<F: Files> Hold<F> {
         place.sync_folder()?;
         self.look()?;
         place.rename_new(&new, "")?;
+        let named = place.files.has_name(&self.file, &new);
+        match named.map_err(Error::files("read", &place.path))? {
+            Some(true) => return self.take_back(&file, &new),
+            Some(false) => {}
+            None => empty(place, &self.file)?,
+        }
         place.sync_folder()?;
-        let old = std::mem::replace(&mut self.file, file);
-        place.files.let_go(old).map_err(Error::files("emptied", &place.path))
+        self.file = file;
+        Ok(())
     }
+
+    /// Takes back the renaming of a new book, since the old one has another name: that is the book.
+    fn take_back(&self, file: &F::Held, new: &Path) -> Result<(), Error> {
+        let Place { files, path } = &self.place;
+        if files.is(file, path).map_err(Error::files("read", path))? {
+            files.rename(path, new).map_err(Error::files("renamed", path))?;
+        } else {
+            empty(&self.place, file)?;
+        }
+        self.place.sync_folder()?;
+        Err(self.moved())
+    }
+}
+
+/// Empties a file that was the book, or was to be.
+fn empty<F: Files>(place: &Place<F>, file: &F::Held) -> Result<(), Error> {
+    place.files.empty(file).map_err(Error::files("emptied", &place.path))
 }
 
 /// Opens and locks the file of a name that should be there.
@@ -109,7 +133,7 @@ fn held<F: Files>(place: &Place<F>, path: &Path) -> Result<F::Held, Error> {
         Ok(Some(file)) => Ok(file),
         Ok(None) => Err(Error::Moved(path.to_path_buf())),
         Err(error) if error.kind() == ErrorKind::WouldBlock => {
-            Err(Error::Held { path: path.to_path_buf(), holder: Holder { process: None } })
+            Err(Error::Locked { path: path.to_path_buf(), holder: Holder { process: None } })
         }
         Err(error) => Err(Error::files("locked", path)(error)),
     }

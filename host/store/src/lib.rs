@@ -50,7 +50,7 @@
 //! no `b.said`, and a call is steps 3 and 4: what it answers is synced before it is told.
 //!
 //! A lock that another process has is waited for. [`Disk`] has a [`Patience`] for `open_in` and the like, which may end
-//! the waiting with [`Error::Held`]; [`holder`], [`said`] and [`waiting`] tell what is beside a book without a lock.
+//! the waiting with [`Error::Locked`]; [`holder`], [`said`] and [`waiting`] tell what is beside a book without a lock.
 
 #![warn(clippy::indexing_slicing, clippy::arithmetic_side_effects)]
 #![warn(clippy::unwrap_used, clippy::expect_used, clippy::panic)]

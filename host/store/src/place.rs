@@ -60,7 +60,7 @@ impl<F: Files> Place<F> {
         self.files.lock(&path, &self.path).map_err(|error| match error.kind() {
             ErrorKind::WouldBlock => {
                 let holder = self.files.holder(&path).ok().flatten();
-                Error::Held { path, holder: holder.unwrap_or(Holder { process: None }) }
+                Error::Locked { path, holder: holder.unwrap_or(Holder { process: None }) }
             }
             _ => Error::files("locked", &path)(error),
         })

@@ -202,6 +202,36 @@ fn a_new_season_begins_only_where_it_is_asked_for() {
     assert!(matches!(FileBook::create(new(true), &said), Err(Error::Reserved(_))));
 }
 
+/// A new season begins in the place of a book whose frames wait, and comes to grief after so many steps: whether the
+/// new book is there afterwards. Either can be used, the old one with its frames, the new one with nothing said.
+fn begun_anew(steps: usize, fault: Fault, seed: u64) -> bool {
+    let (files, path) = (Fake::default(), Path::new(BOOK));
+    let mut old = FileBook::create_in(files.clone(), new(false), path).unwrap();
+    old.signal(1).unwrap();
+    old.make_move().unwrap();
+    let frames = old.unsent().to_vec();
+    drop(old);
+    files.fault(steps, fault);
+    drop(FileBook::overwrite_in(files.clone(), new(true), path));
+    files.revive(&mut Random::new(seed));
+    let book = FileBook::open_in(files, Rules::SHA256, path).unwrap();
+    let is_new = book.book().bytes() == new(true).bytes();
+    assert_eq!(book.unsent(), if is_new { &[] } else { frames.as_slice() });
+    assert_eq!(book.said().statements().count(), usize::from(!is_new));
+    is_new
+}
+
+#[test]
+fn a_new_season_begins_or_does_not() {
+    let mut seen = [0, 0];
+    for fault in [Fault::Process, Fault::Machine, Fault::Refusal] {
+        for (steps, seed) in (0..16).flat_map(|steps| (0..10).map(move |seed| (steps, seed))) {
+            seen[usize::from(begun_anew(steps, fault, seed))] += 1;
+        }
+    }
+    assert!(seen.iter().all(|count| *count > 50), "{seen:?}");
+}
+
 /// A station whose book is put back to an older copy between its lives, again and again, and hears what it had heard
 /// once more, with other timers: how often it was stopped, and the first rule that it broke.
 fn put_back(seed: u64, fenced: bool) -> (usize, Option<String>) {

@@ -39,7 +39,7 @@ fn a_lock_is_not_waited_for_longer_than_asked() {
     assert!(matches!(store::holder(&path), Ok(Some(holder)) if holder == me()));
     for longest in [Duration::ZERO, Duration::from_millis(200)] {
         let begun = Instant::now();
-        let Err(Error::Held { path: locked, holder }) = open(longest) else {
+        let Err(Error::Locked { path: locked, holder }) = open(longest) else {
             panic!("it is locked");
         };
         assert_eq!((locked, holder), (path.with_extension("lock"), me()));
@@ -47,6 +47,7 @@ fn a_lock_is_not_waited_for_longer_than_asked() {
     }
     drop(book);
     assert!(matches!(store::holder(&path), Ok(None)));
+    assert_eq!(fs::read(path.with_extension("lock")).unwrap(), b"");
     assert!(open(Duration::ZERO).is_ok());
 }
 
@@ -108,8 +109,7 @@ fn a_book_belongs_to_whom_it_did() {
     for ending in ["", ".frames", ".said", ".lock"] {
         let file = fs::metadata(folder.join(format!("book{ending}"))).unwrap();
         assert_eq!((file.uid(), file.gid()), (12345, 12346), "book{ending}");
-        let mode = file.permissions().mode() & 0o777;
-        assert!(mode == 0o600 || ending == ".lock", "book{ending}: {mode:o}");
+        assert_eq!(file.permissions().mode() & 0o777, 0o600, "book{ending}");
     }
     book.hand_to(folder.join("pile")).unwrap();
     drop(book);

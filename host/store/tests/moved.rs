@@ -9,7 +9,7 @@ use reference::Rules;
 use std::fs;
 use std::path::{Path, PathBuf};
 use std::time::Duration;
-use store::{Disk, Error, FileBook, FileObserver, Patience};
+use store::{Disk, Error, FileBook, FileObserver, Files, Patience};
 use types::{Book, Frame, ObserverBook};
 
 /// Another name for the book.
@@ -136,13 +136,32 @@ fn who_opens_a_renamed_book_waits_for_who_has_it() {
     fs::rename(&path, &other).unwrap();
     let patience = Patience::of(Duration::from_millis(50));
     let refused = FileBook::open_in(Disk { patience }, Rules::SHA256, &other);
-    assert!(matches!(refused, Err(Error::Held { path, .. }) if path == other));
+    assert!(matches!(refused, Err(Error::Locked { path, .. }) if path == other));
     assert!(matches!(book.make_move(), Err(Error::Moved(_))));
     drop(book);
     let mut again = FileBook::open(Rules::SHA256, &other).unwrap();
     again.signal(1).unwrap();
     again.make_move().unwrap();
     assert!(!path.exists());
+}
+
+/// What shows that a book was renamed at the last moment.
+#[test]
+fn the_machine_tells_whether_a_file_has_a_name() {
+    let (folder, disk) = (folder("names"), Disk::default());
+    let [path, other, free] = ["book", "other", "free"].map(|name| folder.join(name));
+    fs::write(&path, "old").unwrap();
+    fs::write(&free, "new").unwrap();
+    let held = disk.hold(&path).unwrap().unwrap();
+    assert!(disk.is(&held, &path).unwrap());
+    fs::rename(&path, &other).unwrap();
+    assert!(!disk.is(&held, &path).unwrap());
+    fs::rename(&free, &path).unwrap();
+    assert_eq!(disk.has_name(&held, &free).unwrap(), Some(true));
+    assert!(!free.exists() && !disk.is(&held, &path).unwrap());
+    fs::rename(&path, &other).unwrap();
+    assert_eq!(disk.has_name(&held, &free).unwrap(), Some(false));
+    assert_eq!(fs::read(&other).unwrap(), b"new");
 }
 
 /// A lock file that somebody removed lets nobody in.
@@ -153,25 +172,38 @@ fn a_book_is_locked_without_its_lock_file() {
     fs::remove_file(path.with_extension("lock")).unwrap();
     let patience = Patience::of(Duration::ZERO);
     let open = || FileBook::open_in(Disk { patience }, Rules::SHA256, &path);
-    assert!(matches!(open(), Err(Error::Held { .. })));
+    assert!(matches!(open(), Err(Error::Locked { .. })));
     book.signal(1).unwrap();
     fs::remove_file(path.with_extension("lock")).unwrap();
-    assert!(matches!(open(), Err(Error::Held { .. })));
+    assert!(matches!(open(), Err(Error::Locked { .. })));
     drop(book);
     assert!(open().is_ok());
 }
 
-/// What both say whom a station has become: the one at work when somebody meddled, then who opens the other name, then
-/// who opens the first one again, each with a timer that has fired; none if nobody meddled any more.
-fn lives_after(seed: u64, way: Way, steps: usize, meddling: &Meddling) -> Option<Station> {
-    let mut station = Station::new(Fake::default(), script(seed), way);
+/// A station whose book somebody meddles with after so many steps, and who is at work next: who opens the other name,
+/// then who opens the first one again, each with a timer that has fired; none if nobody meddled any more.
+fn lives_after(
+    mut station: Station,
+    steps: usize,
+    meddling: &Meddling,
+    silent: bool,
+) -> Option<Station> {
+    if silent {
+        station.files.be_silent();
+    }
     (station.meddled, station.timer) = (true, true);
     station.files.meddle(steps, BOOK.as_ref(), meddling.clone());
     let first = station.live();
     if station.files.left_alone() {
         return None;
     }
-    drop(first);
+    if matches!(meddling, Meddling::Rename(_)) {
+        // Before the book was open it is missing; after the last renaming nobody asks.
+        assert!(matches!(first, Err(Error::Moved(_) | Error::Files { .. }) | Ok(_)), "{first:?}");
+        let named = [BOOK, OTHER].map(|path| station.files.bytes(path.as_ref()));
+        let usable = named.map(|bytes| bytes.is_some_and(|bytes| !bytes.is_empty()));
+        assert!(usable == [false, true] || (silent && usable == [true, false]));
+    }
     for path in [OTHER, BOOK] {
         (station.path, station.done, station.late) = (path, 0, true);
         if station.files.bytes(path.as_ref()).is_some_and(|book| !book.is_empty()) {
@@ -182,26 +214,35 @@ fn lives_after(seed: u64, way: Way, steps: usize, meddling: &Meddling) -> Option
 }
 
 /// Whatever somebody does at any step of a station's work, nobody who goes on afterwards says another thing.
-#[test]
-fn meddling_at_every_step() {
-    let older = Book::open(Rules::SHA256, 4, 2, &common::script::LEADERS).unwrap().bytes().to_vec();
-    let all = [
-        Meddling::Rename(OTHER.into()),
-        Meddling::Remove,
-        Meddling::Replace(older.clone()),
-        Meddling::Rewrite(older),
-    ];
-    for meddling in &all {
-        let mut ends = 0;
-        for (seed, way) in (1..).zip([Way::Takes, Way::Bare, Way::Hands]) {
-            for steps in 0.. {
-                let Some(station) = lives_after(seed, way, steps, meddling) else {
-                    break;
-                };
-                assert_eq!(station.broken, None, "{meddling:?} at {steps}, script {seed}, {way:?}");
-                ends += 1;
-            }
+fn meddle_at_every_step(meddling: &Meddling, silent: bool) {
+    let mut ends = 0;
+    for (seed, way) in (1..).zip([Way::Takes, Way::Bare, Way::Hands]) {
+        for steps in 0.. {
+            let station = Station::new(Fake::default(), script(seed), way);
+            let Some(station) = lives_after(station, steps, meddling, silent) else {
+                break;
+            };
+            assert_eq!(station.broken, None, "{meddling:?} at {steps}, script {seed}, {way:?}");
+            ends += 1;
         }
-        assert!(ends > 500, "{ends}");
     }
+    assert!(ends > 500, "{ends}");
+}
+
+#[test]
+fn a_renaming_at_every_step() {
+    meddle_at_every_step(&Meddling::Rename(OTHER.into()), false);
+}
+
+/// So too where the file system does not tell whether a file has a name.
+#[test]
+fn a_renaming_at_every_step_that_does_not_show() {
+    meddle_at_every_step(&Meddling::Rename(OTHER.into()), true);
+}
+
+#[test]
+fn a_removal_and_an_older_copy_at_every_step() {
+    let older = Book::open(Rules::SHA256, 4, 2, &common::script::LEADERS).unwrap().bytes().to_vec();
+    let others = [Meddling::Remove, Meddling::Replace(older.clone()), Meddling::Rewrite(older)];
+    others.iter().for_each(|meddling| meddle_at_every_step(meddling, false));
 }

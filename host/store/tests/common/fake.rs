@@ -51,6 +51,7 @@ struct State {
     names: BTreeMap<PathBuf, Vec<Option<usize>>>,
     locked: Vec<PathBuf>,
     held: Vec<usize>,
+    silent: bool,
     meddling: Option<(usize, PathBuf, Meddling)>,
     steps: usize,
     fault: Option<(usize, Fault)>,
@@ -143,6 +144,11 @@ impl Fake {
     pub fn fault(&self, steps: usize, fault: Fault) {
         let mut state = self.0.borrow_mut();
         state.fault = Some((state.steps + steps, fault));
+    }
+
+    /// Does not tell whether a file has a name.
+    pub fn be_silent(&self) {
+        self.0.borrow_mut().silent = true;
     }
 
     /// Somebody meddles with a name before one more step is done, after so many.
@@ -251,15 +257,18 @@ impl Files for Fake {
         Ok(state.file(path) == Some(held.1))
     }
 
-    fn let_go(&self, held: Held) -> Result<()> {
+    fn has_name(&self, held: &Held, _: &Path) -> Result<Option<bool>> {
         let mut state = self.0.borrow_mut();
-        let stepped = state.step();
-        let named = state.names.values().any(|history| *history.last().unwrap() == Some(held.1));
-        if named && stepped.is_ok() {
-            state.contents[held.1].push(Vec::new());
-        }
-        drop(state);
-        stepped
+        state.step()?;
+        let named = |history: &Vec<_>| *history.last().unwrap() == Some(held.1);
+        Ok((!state.silent).then_some(state.names.values().any(named)))
+    }
+
+    fn empty(&self, held: &Held) -> Result<()> {
+        let mut state = self.0.borrow_mut();
+        state.step()?;
+        state.contents[held.1].push(Vec::new());
+        Ok(())
     }
 
     fn read(&self, path: &Path, most: usize) -> Result<Option<Vec<u8>>> {
