@@ -65,7 +65,8 @@ impl Entries {
         let mask = u16::MAX >> 16_u8.saturating_sub(size.n).min(15);
         let (mut frames, mut digest) = (Vec::new(), [0; 32]);
         for height in 1..=size.heights {
-            let entries = (0..MOST_ENTRIES).map(|place| self.at(height, place)).collect();
+            let all: Vec<_> = (0..MOST_ENTRIES).map(|place| self.at(height, place)).collect();
+            let entries = types::Entries::first_of(&all);
             let block = Block { height, parent: height.saturating_sub(1), digest, entries };
             digest = sha256::digest(&block.bytes());
             frames.push(Frame::BlockCertificate { mask, block });

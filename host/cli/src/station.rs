@@ -81,7 +81,7 @@ impl<C: Calls + Clone> Station<'_, C> {
 
     /// Tells that the timer of a height fired.
     pub fn signal(&mut self, height: u64) -> Result<(), Problem> {
-        self.book.signal(height)?;
+        self.book.signal(types::nearest_height(height))?;
         print("done\n")
     }
 

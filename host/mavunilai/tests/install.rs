@@ -156,6 +156,41 @@ fn a_library_of_another_interface_is_not_installed() {
     assert!(!prefix.exists());
 }
 
+/// What the build script of the crate tells cargo when MAVUNILAI_LIB names a folder.
+fn told_to_cargo(script: &Path, folder: &Path) -> String {
+    let command = &mut Command::new(script);
+    command.env("CARGO_FEATURE_PROVED", "1").env("MAVUNILAI_LIB", folder);
+    printed(command)
+}
+
+/// MAVUNILAI_LIB may name the folder that was installed to, or its `lib`: for cargo, and to install once more.
+#[test]
+fn what_is_installed_is_found() {
+    if !has_compiler() {
+        return eprintln!("not tried, no C compiler");
+    }
+    let (prefix, script) = (fresh("found"), scratch("build_script"));
+    assert!(install(&host("install"), &[prefix.to_str().unwrap()]).status.success());
+    let command = &mut Command::new(option_env!("RUSTC").unwrap_or("rustc"));
+    command.env("CARGO_MANIFEST_DIR", host("mavunilai")).arg("--edition=2021");
+    command.arg(host("mavunilai/build.rs")).arg("-o").arg(&script);
+    assert_eq!(printed(command), "");
+    let library = prefix.join("lib");
+    for folder in [&prefix, &library] {
+        let told = told_to_cargo(&script, folder);
+        let search = format!("cargo::rustc-link-search=native={}", library.display());
+        assert!(told.lines().any(|line| line == search), "{told}");
+        assert!(told.contains("cargo::rustc-link-lib=static=mavunilai"), "{told}");
+        let again = fresh("found_again");
+        let command = &mut Command::new(host("install"));
+        printed(command.arg(&again).env("MAVUNILAI_LIB", folder));
+        assert!(again.join("lib/libmavunilai.a").is_file());
+    }
+    assert!(told_to_cargo(&script, &fresh("nothing")).contains("cargo::error=the proved replica"));
+    let built = Path::new(env!("MAVUNILAI_ARCHIVE")).parent().unwrap();
+    assert!(told_to_cargo(&script, built).contains("cargo::rustc-link-lib=static="));
+}
+
 #[test]
 fn usage_is_told() {
     let code = |words: &[&str]| install(&host("install"), words).status.code();
