@@ -108,7 +108,7 @@ pub fn register_cases(size: Size) -> Result<Vec<Case>, String> {
 fn books(size: Size, entries: Entries) -> Result<[Vec<u8>; 2], Refusal> {
     let leaders = vec![0; size.heights.into()];
     let mut station = Book::open(Rules::SHA256, size.n.into(), 0, &leaders)?;
-    let mut observer = ObserverBook::open(Rules::SHA256, size.n.into(), size.heights.into())?;
+    let mut observer = ObserverBook::open(Rules::SHA256, size.n.into(), size.heights)?;
     for frame in entries.certificates(size) {
         station.deliver(&frame.bytes())?;
         observer.deliver(&frame.bytes())?;
