@@ -1,6 +1,7 @@
 //! The calls of the C interface, made safe: slices become pointers and lengths, numbers become answers.
 #![allow(unsafe_code)] // the one place that calls into the static library
 
+pub use types::packing::INTERFACE;
 use types::packing::{unpack_delivered, unpack_done, unpack_move, unpack_size, UNKNOWN};
 use types::{Calls, Counts, Delivered, Move, Refusal};
 
@@ -60,9 +61,6 @@ unsafe extern "C" {
         buffer_len: usize,
     ) -> u64;
 }
-
-/// The number of the interface that this crate knows, as MAVUNILAI_INTERFACE of the header.
-pub const INTERFACE: u64 = 5;
 
 /// Whether the library is of that interface. Each call of [`Proved`] asks this first.
 pub fn fits() -> bool {

@@ -47,9 +47,10 @@
 mod foreign;
 
 #[cfg(feature = "proved")]
-pub use foreign::{digest, fits, Proved, INTERFACE};
+pub use foreign::{digest, fits, Proved};
 /// A book in a file: locked while it is open, each call committed together with its frames.
 pub use store;
+pub use types::packing::INTERFACE;
 pub use types::{
     book_length, held_block, is_second_block, nearest_height, observer_book_length, Block, Book,
     Calls, Certificate, Counts, Delivered, Entries, Frame, Height, Move, ObserverBook, Refusal,

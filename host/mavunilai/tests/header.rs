@@ -262,7 +262,6 @@ fn moves_have_their_numbers() {
 }
 
 #[test]
-#[cfg(feature = "proved")]
 fn interface_is_that_of_the_wrapper() {
     assert_eq!(numbers()["INTERFACE"], mavunilai::INTERFACE);
 }

@@ -118,6 +118,24 @@ fn the_shared_object_is_found_by_its_number() {
     assert!(!run().success());
 }
 
+/// The version of the packages is that of the pkg-config file and of the shared object's name.
+#[test]
+fn the_version_is_told() {
+    if !has_compiler() {
+        return eprintln!("not tried, no C compiler");
+    }
+    let prefix = fresh("version");
+    assert!(install(&host("install"), &[prefix.to_str().unwrap()]).status.success());
+    let (version, number) = (env!("CARGO_PKG_VERSION"), mavunilai::INTERFACE);
+    let package = fs::read_to_string(prefix.join("lib/pkgconfig/mavunilai.pc")).unwrap();
+    assert!(package.lines().any(|line| line == format!("Version: {version}")), "{package}");
+    let named = |name: &str| fs::read_link(prefix.join("lib").join(name)).unwrap();
+    assert_eq!(named("libmavunilai.so"), Path::new(&format!("libmavunilai.so.{number}")));
+    let versioned = format!("libmavunilai.so.{version}");
+    assert_eq!(named(&format!("libmavunilai.so.{number}")), Path::new(&versioned));
+    assert!(prefix.join("lib").join(versioned).metadata().unwrap().is_file());
+}
+
 #[test]
 fn nothing_is_overwritten_unasked() {
     if !has_compiler() {
