@@ -57,6 +57,10 @@ pub use types::{
     TooManyEntries, Written, BLOCK, ENTRY, FRAME, MOST_HEIGHTS, MOST_REPLICAS,
 };
 
+/// The file of the static library that is linked: the archive with which a program in C is linked too.
+#[cfg(feature = "proved")]
+pub const ARCHIVE: &str = env!("MAVUNILAI_ARCHIVE");
+
 /// A new book of the proved replica for replica `own` of `n`, with one leader for each height.
 #[cfg(feature = "proved")]
 pub fn open(n: u64, own: u64, leaders: &[u8]) -> Result<Book<Proved>, Refusal> {
