@@ -119,12 +119,20 @@ fn run(words: &[String], output: &mut Vec<u8>) -> Result<(), Problem> {
     }
 }
 
-/// Prints the version, and which replica this program has.
+/// The last request that has landed: the packages' version behind its first number.
+fn request() -> &'static str {
+    env!("CARGO_PKG_VERSION").split_once('.').map_or("", |(_, request)| request)
+}
+
+/// Prints the version, the last request that has landed, the number of the C interface, and which replica this is.
 fn version(rest: &[String], output: &mut Vec<u8>) -> Result<(), Problem> {
     if !rest.is_empty() {
         return Err(Problem::input("expected here: --version alone"));
     }
     let (version, name) = (env!("CARGO_PKG_VERSION"), chosen::NAME);
-    output.extend(format!("mavunilai {version}, with {name}\n").into_bytes());
+    let (request, interface) = (request(), types::packing::INTERFACE);
+    let line =
+        format!("mavunilai {version}, request {request}, interface {interface}, with {name}\n");
+    output.extend(line.into_bytes());
     Ok(())
 }

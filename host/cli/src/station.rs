@@ -93,7 +93,8 @@ impl<C: Calls + Clone> Station<'_, C> {
 
     /// Tells that the timer of a height fired.
     pub fn signal(&mut self, height: u64) -> Result<(), Problem> {
-        self.book.signal(height).map_err(|error| denied(self.json, error))?;
+        let signalled = self.book.signal(types::nearest_height(height));
+        signalled.map_err(|error| denied(self.json, error))?;
         print(&self.line(&Answer::Done))
     }
 

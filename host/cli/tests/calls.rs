@@ -122,7 +122,7 @@ fn a_packet_is_counted() {
 
 /// A proposal of station 0, with one entry of this byte alone.
 fn proposal(height: types::Height, byte: u8) -> [u8; types::FRAME] {
-    let block = types::Block { height, entries: vec![[byte; 16]], ..types::Block::default() };
+    let block = types::Block { height, entries: [[byte; 16]].into(), ..types::Block::default() };
     Frame::Proposal { signer: 0, block }.bytes()
 }
 

@@ -19,7 +19,7 @@ fn book(name: &str, command: &str) -> String {
 
 /// A page with one entry of this byte alone.
 fn page(height: Height, byte: u8) -> Block {
-    Block { height, entries: vec![[byte; 16]], ..Block::default() }
+    Block { height, entries: [[byte; 16]].into(), ..Block::default() }
 }
 
 /// The certificate of such a page by the stations of a mask.

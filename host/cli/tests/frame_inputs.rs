@@ -19,7 +19,7 @@ fn books(name: &str) -> [String; 2] {
 
 /// Three certificates of height 1: a page's, a blank one, and one of finalises.
 fn certificates() -> [[u8; FRAME]; 3] {
-    let block = Block { height: 1, entries: vec![[7; 16]], ..Block::default() };
+    let block = Block { height: 1, entries: [[7; 16]].into(), ..Block::default() };
     [
         Frame::BlockCertificate { mask: 7, block }.bytes(),
         Frame::DummyCertificate { mask: 11, height: 1 }.bytes(),

@@ -12,7 +12,7 @@ fn digest() -> [u8; 32] {
 
 /// A page at height 3 on page 1.
 fn page() -> Block {
-    let entries = vec![*b"swap A1 to B2   ", [0xee; 16]];
+    let entries = [*b"swap A1 to B2   ", [0xee; 16]].into();
     Block { height: 3, parent: 1, digest: [7; 32], entries }
 }
 

@@ -90,7 +90,7 @@ fn book(name: &str, n: u8, own: u8) -> String {
 
 /// A page of height 1 with an entry of one letter.
 fn page_of(letter: u8) -> Block {
-    Block { height: 1, entries: vec![[letter; 16]], ..Block::default() }
+    Block { height: 1, entries: [[letter; 16]].into(), ..Block::default() }
 }
 
 /// A frame of each kind.

@@ -20,7 +20,7 @@ fn text(words: &str, input: &[u8]) -> String {
 
 /// The certificates of a page at height 1: of the page, and of its finalises.
 fn certificates() -> [[u8; FRAME]; 2] {
-    let block = Block { height: 1, entries: vec![*b"\0swap A12 to B40"], ..Block::default() };
+    let block = Block { height: 1, entries: [*b"\0swap A12 to B40"].into(), ..Block::default() };
     [
         Frame::BlockCertificate { mask: 7, block }.bytes(),
         Frame::FinalizeCertificate { mask: 13, height: 1 }.bytes(),
@@ -172,7 +172,7 @@ Of any two registers one begins the other.
     assert!(alone.contains("\n4       -       page 3a1b0ed7 in register\n"), "{alone}");
     let (other, words) = (watch("other"), "have not the same number of heights");
     refused(&format!("show books {kept}/book0 {other}"), &[], words);
-    let block = Block { height: 1, entries: vec![[1; 16]], ..Block::default() };
+    let block = Block { height: 1, entries: [[1; 16]].into(), ..Block::default() };
     let fork = [
         Frame::BlockCertificate { mask: 7, block }.bytes(),
         Frame::FinalizeCertificate { mask: 7, height: 1 }.bytes(),

@@ -59,8 +59,8 @@ place  height  text
 fn a_repeat_has_the_height_of_its_first_place() {
     let book = watch("repeats");
     let page = |height, parent, digest, letters: &[u8]| {
-        let entries = letters.iter().map(|letter| [*letter; 16]).collect();
-        Block { height, parent, digest, entries }
+        let entries: Vec<[u8; 16]> = letters.iter().map(|letter| [*letter; 16]).collect();
+        Block { height, parent, digest, entries: entries.try_into().unwrap() }
     };
     let first = page(1, 0, [0; 32], b"ab\\a");
     let second = page(3, 1, reference::sha256::digest(&first.bytes()), b"bc");
@@ -153,7 +153,7 @@ fn what_is_settled_before_is_printed_if_it_is_asked_for() {
 
 #[test]
 fn refused_frames_are_told_and_two_pages_end_it() {
-    let page = |byte| Block { height: 1, entries: vec![[byte; 16]], ..Block::default() };
+    let page = |byte| Block { height: 1, entries: [[byte; 16]].into(), ..Block::default() };
     let certificate = |byte| Frame::BlockCertificate { mask: 7, block: page(byte) }.bytes();
     let finalises = Frame::FinalizeCertificate { mask: 7, height: 1 }.bytes();
     let vote = Frame::DummyVote { signer: 0, height: 1 }.bytes();

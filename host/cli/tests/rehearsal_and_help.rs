@@ -55,14 +55,6 @@ fn no_line_of_a_help_text_has_more_than_90_columns() {
 }
 
 #[test]
-fn the_version_says_which_replica_it_is() {
-    let name =
-        if cfg!(feature = "proved") { "the proved replica" } else { "the reference replica" };
-    let expected = format!("mavunilai {}, with {name}\n", env!("CARGO_PKG_VERSION"));
-    assert_eq!(String::from_utf8(fine("--version", &[])).unwrap(), expected);
-}
-
-#[test]
 fn words_that_are_no_text_get_a_sentence() {
     use std::os::unix::ffi::OsStrExt;
     let word = std::ffi::OsStr::from_bytes(&[0xff]);

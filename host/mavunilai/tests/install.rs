@@ -118,6 +118,24 @@ fn the_shared_object_is_found_by_its_number() {
     assert!(!run().success());
 }
 
+/// The version of the packages is that of the pkg-config file and of the shared object's name.
+#[test]
+fn the_version_is_told() {
+    if !has_compiler() {
+        return eprintln!("not tried, no C compiler");
+    }
+    let prefix = fresh("version");
+    assert!(install(&host("install"), &[prefix.to_str().unwrap()]).status.success());
+    let (version, number) = (env!("CARGO_PKG_VERSION"), mavunilai::INTERFACE);
+    let package = fs::read_to_string(prefix.join("lib/pkgconfig/mavunilai.pc")).unwrap();
+    assert!(package.lines().any(|line| line == format!("Version: {version}")), "{package}");
+    let named = |name: &str| fs::read_link(prefix.join("lib").join(name)).unwrap();
+    assert_eq!(named("libmavunilai.so"), Path::new(&format!("libmavunilai.so.{number}")));
+    let versioned = format!("libmavunilai.so.{version}");
+    assert_eq!(named(&format!("libmavunilai.so.{number}")), Path::new(&versioned));
+    assert!(prefix.join("lib").join(versioned).metadata().unwrap().is_file());
+}
+
 #[test]
 fn nothing_is_overwritten_unasked() {
     if !has_compiler() {
@@ -154,6 +172,41 @@ fn a_library_of_another_interface_is_not_installed() {
     assert_eq!(told.status.code(), Some(1));
     assert!(String::from_utf8(told.stderr).unwrap().contains("not of the header's interface"));
     assert!(!prefix.exists());
+}
+
+/// What the build script of the crate tells cargo when MAVUNILAI_LIB names a folder.
+fn told_to_cargo(script: &Path, folder: &Path) -> String {
+    let command = &mut Command::new(script);
+    command.env("CARGO_FEATURE_PROVED", "1").env("MAVUNILAI_LIB", folder);
+    printed(command)
+}
+
+/// MAVUNILAI_LIB may name the folder that was installed to, or its `lib`: for cargo, and to install once more.
+#[test]
+fn what_is_installed_is_found() {
+    if !has_compiler() {
+        return eprintln!("not tried, no C compiler");
+    }
+    let (prefix, script) = (fresh("found"), scratch("build_script"));
+    assert!(install(&host("install"), &[prefix.to_str().unwrap()]).status.success());
+    let command = &mut Command::new(option_env!("RUSTC").unwrap_or("rustc"));
+    command.env("CARGO_MANIFEST_DIR", host("mavunilai")).arg("--edition=2021");
+    command.arg(host("mavunilai/build.rs")).arg("-o").arg(&script);
+    assert_eq!(printed(command), "");
+    let library = prefix.join("lib");
+    for folder in [&prefix, &library] {
+        let told = told_to_cargo(&script, folder);
+        let search = format!("cargo::rustc-link-search=native={}", library.display());
+        assert!(told.lines().any(|line| line == search), "{told}");
+        assert!(told.contains("cargo::rustc-link-lib=static=mavunilai"), "{told}");
+        let again = fresh("found_again");
+        let command = &mut Command::new(host("install"));
+        printed(command.arg(&again).env("MAVUNILAI_LIB", folder));
+        assert!(again.join("lib/libmavunilai.a").is_file());
+    }
+    assert!(told_to_cargo(&script, &fresh("nothing")).contains("cargo::error=the proved replica"));
+    let built = Path::new(env!("MAVUNILAI_ARCHIVE")).parent().unwrap();
+    assert!(told_to_cargo(&script, built).contains("cargo::rustc-link-lib=static="));
 }
 
 #[test]

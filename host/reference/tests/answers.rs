@@ -21,7 +21,7 @@ impl Dice {
     fn frame(&mut self) -> [u8; FRAME] {
         let (signer, height) = (self.below(5) as u8, self.below(5) as types::Height);
         let mask = [7, 11, 13, 14, 15, 3][self.below(6) as usize];
-        let entries = vec![[self.below(2) as u8; 16]];
+        let entries = [[self.below(2) as u8; 16]].into();
         let block = Block { height, entries, ..Block::default() };
         let digest = reference::sha256::digest(&block.bytes());
         match self.below(8) {

@@ -6,7 +6,7 @@ use crate::outbox::Outbox;
 use crate::place::{Place, FRAMES, SAID};
 use crate::{pile, Disk, Error, Files, Said};
 use std::path::Path;
-use types::{Book, Calls, Counts, Delivered, Move, Written, ENTRY, FRAME};
+use types::{Book, Calls, Counts, Delivered, Height, Move, Written, ENTRY, FRAME};
 
 /// A book that is kept in a file and locked until this value is dropped. Every call that changes the book is
 /// committed when it returns; one that returns an error of [`Error::Files`] may be, which who opens the book again
@@ -149,7 +149,7 @@ impl<C: Calls + Clone, F: Files> FileBook<C, F> {
     }
 
     /// Tells that the timer of a height fired.
-    pub fn signal(&mut self, height: u64) -> Result<(), Error> {
+    pub fn signal(&mut self, height: Height) -> Result<(), Error> {
         self.change(|book| Ok((book.signal(height)?, Vec::new())))
     }
 

@@ -87,7 +87,7 @@ fn the_scripts_have_leaders_who_say_two_things() {
 /// A station whose height 1 is blank hears a second page of its leader and votes blank; the machine ends after so many
 /// steps, or once the vote has left. Whether it has, and whether the next life would finalise.
 fn second_page_and_end(files: Fake, steps: usize, seed: u64) -> (bool, bool) {
-    let page = |byte| Block { height: 1, entries: vec![[byte; 16]], ..Block::default() };
+    let page = |byte| Block { height: 1, entries: [[byte; 16]].into(), ..Block::default() };
     let [first, second] =
         [1, 2].map(|byte| Frame::Proposal { signer: 0, block: page(byte) }.bytes());
     let mut new = Book::open(Rules::SHA256, 4, 2, &[0]).unwrap();

@@ -69,7 +69,7 @@ impl Station {
         let mut book = FileBook::open_in(self.files.clone(), Rules::SHA256, Path::new(self.path))?;
         self.send(&mut book)?;
         if self.late {
-            let current = book.book().current().into();
+            let current = book.book().current();
             let signalled = book.signal(current);
             taken(signalled)?;
         }
