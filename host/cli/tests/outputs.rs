@@ -150,7 +150,7 @@ fn an_output_that_cannot_be_written_is_an_error() {
 fn a_full_standard_error_changes_no_status() {
     let proposals = folder("outputs").join("proposals");
     let proposal = |byte| {
-        let block = Block { height: 1, entries: vec![[byte; 16]], ..Block::default() };
+        let block = Block { height: 1, entries: [[byte; 16]].into(), ..Block::default() };
         Frame::Proposal { signer: 0, block }.bytes()
     };
     write(&proposals, [proposal(1), proposal(2)].concat()).unwrap();
