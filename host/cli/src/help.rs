@@ -180,8 +180,8 @@ settled height if it grew, else `idle`; after deliver one move is enough. size a
 print what the register holds by then, an entry that the chain repeats once.
 
 What a call prints is synced to the file first, however many frames it was given, and the
-book is locked meanwhile (BOOK.lock, which stays); --wait is as for `call`. A book that was
-renamed, removed or replaced meanwhile is left alone. Only deliver certificates whose
+book is locked meanwhile (BOOK.lock, which stays); --wait is as for `call`. A book that
+was renamed, removed or replaced meanwhile is left alone. Only deliver certificates whose
 signatures you have checked, each signer's. `mavunilai call` does not take an observer's
 book, nor this command a station's: both refuse with 1.
 
