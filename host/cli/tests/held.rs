@@ -5,6 +5,7 @@ mod common;
 use common::{fine, folder, refused};
 use reference::Rules;
 use std::fs::{metadata, remove_file, write};
+use std::io::{BufRead, BufReader, Read};
 use std::os::unix::fs::{chown, MetadataExt};
 use std::process::{Command, Stdio};
 use std::time::{Duration, Instant};
@@ -54,18 +55,21 @@ fn a_call_that_waits_says_for_whom() {
         command.args(["call", &path, "signal", "1"]).args(wait);
         command.stdout(Stdio::piped()).stderr(Stdio::piped()).spawn().unwrap()
     };
-    let (begun, patient, impatient) = (Instant::now(), begin(&[]), begin(&["--wait", "3"]));
+    let (begun, mut patient, impatient) = (Instant::now(), begin(&[]), begin(&["--wait", "3"]));
     let ended = impatient.wait_with_output().unwrap();
     assert!(begun.elapsed() >= Duration::from_secs(3));
     let has = format!("waits.lock: process {} has it\n", std::process::id());
     let complaint = String::from_utf8(ended.stderr).unwrap();
     assert_eq!(ended.status.code(), Some(2), "{complaint}");
     assert!(complaint.contains(&has) && complaint.lines().count() == 2, "{complaint}");
+    let mut told = BufReader::new(patient.stderr.take().unwrap());
+    let (mut line, mut rest) = (String::new(), String::new());
+    told.read_line(&mut line).unwrap();
     drop(held);
+    told.read_to_string(&mut rest).unwrap();
+    assert!(line.contains(&has) && rest.is_empty(), "{line}{rest}");
     let ended = patient.wait_with_output().unwrap();
     assert_eq!((ended.status.code(), ended.stdout.as_slice()), (Some(0), b"done\n".as_slice()));
-    let complaint = String::from_utf8(ended.stderr).unwrap();
-    assert!(complaint.contains(&has) && complaint.lines().count() == 1, "{complaint}");
 }
 
 /// One call of the administrator leaves the book, and all that is beside it, to its owner.

@@ -39,12 +39,13 @@ pub fn read_in<F: Files>(files: F, path: &Path) -> Result<Vec<u8>, Error> {
 }
 
 impl<C: Calls + Clone> FileBook<C> {
-    /// Keeps a new book in a file that is not there yet.
+    /// Keeps a new book in a file that is not there yet, and has no word beside it of what an earlier book said.
     pub fn create(book: Book<C>, path: impl AsRef<Path>) -> Result<FileBook<C>, Error> {
         FileBook::create_in(Disk::default(), book, path.as_ref())
     }
 
-    /// Keeps a book in a file in place of what was there, frames that wait included.
+    /// Keeps a book in a file in place of what was there, frames that wait and word of what was said included: for a
+    /// new season.
     pub fn overwrite(book: Book<C>, path: impl AsRef<Path>) -> Result<FileBook<C>, Error> {
         FileBook::overwrite_in(Disk::default(), book, path.as_ref())
     }

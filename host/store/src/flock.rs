@@ -32,8 +32,9 @@ pub fn wait(
             return Err(ErrorKind::WouldBlock.into());
         }
         if waited >= QUIET && !told {
-            told = true;
-            if let Some(holder) = holder()? {
+            let unknown = Some(Holder { process: None });
+            if let Some(holder) = holder().unwrap_or(unknown) {
+                told = true;
                 (patience.tell)(path, holder);
             }
         }

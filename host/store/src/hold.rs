@@ -43,6 +43,7 @@ impl<F: Files> Hold<F> {
         let place = Place::resolve(files, path)?;
         free(&place)?;
         let lock = place.lock()?;
+        free(&place)?;
         begin(place, lock, bytes, free)
     }
 
@@ -52,8 +53,7 @@ impl<F: Files> Hold<F> {
     pub fn overwrite(files: F, path: &Path, bytes: &[u8]) -> Result<Hold<F>, Error> {
         let place = Place::resolve(files, path)?;
         let lock = place.lock()?;
-        place.remove_beside(SAID)?;
-        begin(place, lock, bytes, |_| Ok(()))
+        begin(place, lock, bytes, |place| place.remove_beside(SAID))
     }
 
     /// Whether the name is still that of the file that was opened, with these bytes.
@@ -99,12 +99,14 @@ impl<F: Files> Hold<F> {
         self.look()?;
         place.rename_new(&new, "")?;
         let named = place.files.has_name(&self.file, &new);
-        match named.map_err(Error::files("read", &place.path))? {
-            Some(true) => return self.take_back(&file, &new),
-            Some(false) => {}
-            None => empty(place, &self.file)?,
+        let named = named.map_err(Error::files("read", &place.path))?;
+        if named == Some(true) {
+            return self.take_back(&file, &new);
         }
         place.sync_folder()?;
+        if named.is_none() {
+            empty(place, &self.file)?;
+        }
         self.file = file;
         Ok(())
     }
@@ -150,19 +152,19 @@ fn free<F: Files>(place: &Place<F>) -> Result<(), Error> {
     }
 }
 
-/// Puts the first bytes of a book there, if it may still be done. Frames that waited belong to another book: they go
+/// Puts the first bytes of a book there, once the place is cleared. Frames that waited belong to another book: they go
 /// after it has gone, so that they are not lost while it is there.
 fn begin<F: Files>(
     place: Place<F>,
     lock: F::Lock,
     bytes: &[u8],
-    may: impl Fn(&Place<F>) -> Result<(), Error>,
+    clear: impl Fn(&Place<F>) -> Result<(), Error>,
 ) -> Result<Hold<F>, Error> {
-    may(&place)?;
     let new = place.write_new("", bytes)?;
     let file = held(&place, &new)?;
+    clear(&place)?;
     place.sync_folder()?;
-    may(&place)?;
+    clear(&place)?;
     place.rename_new(&new, "")?;
     place.sync_folder()?;
     place.remove_beside(FRAMES)?;

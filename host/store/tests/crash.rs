@@ -178,6 +178,17 @@ fn ends_at_random() {
     }
 }
 
+/// So too on a file system that does not tell whether a file has a name.
+#[test]
+fn ends_at_random_where_names_do_not_show() {
+    for seed in 0..120 {
+        let (mut random, files) = (Random::new(seed), Fake::default());
+        files.be_silent();
+        let expected = undisturbed(seed % 40, WAYS[random.below(3)]);
+        assert_eq!(broken_by(files, &expected, &mut random, often), None, "seed {seed}");
+    }
+}
+
 /// A station that comes back finds that its timer fired: what the life before was about to say must not have been
 /// said.
 #[test]

@@ -78,14 +78,15 @@ fn tell(path: &Path, holder: Holder) {
 fn after_two_seconds_it_is_told_who_has_it() {
     let path = folder("told").join("book");
     let watch = ObserverBook::open(Rules::SHA256, 4, 3).unwrap();
-    let book = FileObserver::create(watch, &path).unwrap();
+    let (book, begun) = (FileObserver::create(watch, &path).unwrap(), Instant::now());
     let waits = std::thread::spawn(move || {
         let patience = Patience { longest: None, tell };
         FileObserver::open_in(Disk { patience }, Rules::SHA256, &path).is_ok()
     });
-    std::thread::sleep(Duration::from_millis(1500));
-    assert_eq!(TOLD.load(Ordering::SeqCst), 0);
-    std::thread::sleep(Duration::from_millis(1500));
+    while TOLD.load(Ordering::SeqCst) == 0 && begun.elapsed() < Duration::from_secs(60) {
+        std::thread::sleep(Duration::from_millis(10));
+    }
+    assert!(begun.elapsed() >= Duration::from_secs(2));
     assert_eq!(TOLD.load(Ordering::SeqCst), std::process::id());
     drop(book);
     assert!(waits.join().unwrap());
