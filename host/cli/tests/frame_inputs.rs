@@ -110,8 +110,8 @@ fn answers_between_frames_go_by() {
     let [page, blank, finalises] = certificates().map(|frame| digits(&frame));
     let (half, rest) = blank.split_at(151);
     let input = format!(
-        "unsent\n{page}\nfresh\nknown\r\ndeny 16\ndone\n\ncounts 1 20 300\n{half}\n  {rest}\ndummy 1\noffer 2\nvote 63\n\
-         pass 1 6 0\n070001000d+00*219\npass 1 5 4\nfinal 2\nidle"
+        "unsent\n{page}\nfresh\nknown\r\ndeny 16\ndone\n\ncounts 1 20 300\n{half}\n  {rest}\ndummy 1\n\
+         offer 2\nvote 63\npass 1 6 0\n070001000d+00*219\npass 1 5 4\nfinal 2\nidle"
     );
     assert!(finalises.starts_with("070001000d00"));
     for ended in delivered("answers", input.as_bytes(), &certificates()) {

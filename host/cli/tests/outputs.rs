@@ -26,8 +26,12 @@ fn book(name: &str) -> String {
 
 /// Runs the command as a shell does, with redirections; its status, output and complaint.
 fn shell(words: &str) -> (i32, String, String) {
-    let line = format!("{} {words}", env!("CARGO_BIN_EXE_mavunilai"));
-    let ended = Command::new("bash").args(["-c", &line]).output().unwrap();
+    bash(&format!("{} {words}", env!("CARGO_BIN_EXE_mavunilai")), Path::new("."))
+}
+
+/// Runs a line in a folder.
+fn bash(line: &str, folder: &Path) -> (i32, String, String) {
+    let ended = Command::new("bash").args(["-c", line]).current_dir(folder).output().unwrap();
     let text = |bytes| String::from_utf8(bytes).unwrap();
     (ended.status.code().unwrap(), text(ended.stdout), text(ended.stderr))
 }
@@ -97,7 +101,7 @@ fn calls_that_print_no_frames_may_print_nowhere() {
     }
 }
 
-/// The file of the frames that wait as docs/HOST.md has it, and what is left of them where it is cut.
+/// The file of the frames that wait as docs/HOST.md has it, and what it says to do where it is cut.
 #[test]
 fn whole_lines_of_a_cut_file_can_still_be_sent() {
     let book = book("cut");
@@ -120,12 +124,16 @@ fn whole_lines_of_a_cut_file_can_still_be_sent() {
     }
     assert!(read(&book).unwrap() == bytes);
     assert!(shell(&format!("call {book} certificates")).1.starts_with(lines[2]));
-    let rest = format!("show frame <(grep -xE '[0-9a-f]{{448}}' {file})");
-    assert_eq!(shell(&rest).1, "blank certificate (kind 6)\nsigners 0 1 3 (mask 11)\nheight 1\n");
+    let page = std::fs::read_to_string(list("../docs/HOST.md")).unwrap();
+    let told = page.lines().filter_map(|line| line.strip_prefix("    "));
+    let told: Vec<&str> = told.filter(|line| line.contains("b.frames")).collect();
+    let line = told.join("; ").replace("b.frames", "book.frames");
+    assert_eq!((told.len(), bash(&line, Path::new(&book).parent().unwrap()).0), (2, 0), "{line}");
+    let (status, output, _) = shell(&format!("call {book} run"));
+    assert_eq!((status, output), (0, format!("unsent\n{}\nidle\n", lines[2])));
+    assert!(!waits(&book) && read(&book).unwrap() == bytes);
     let again = shell("frame finalise --signer 2 --height 1 --hex").1;
     assert_eq!(again.trim_end(), lines[3]);
-    std::fs::remove_file(&file).unwrap();
-    assert_eq!(shell(&format!("call {book} run")), (0, "idle\n".to_string(), String::new()));
 }
 
 /// An output that is open for reading alone takes no byte, though nothing is wrong with its number.
