@@ -13,6 +13,7 @@ mod diff_command;
 mod files;
 mod frame_command;
 mod help;
+mod manual;
 mod observer_command;
 mod open_command;
 mod page_options;
