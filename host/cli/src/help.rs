@@ -1,12 +1,15 @@
 //! The help texts.
 
 use crate::help_books::{CHECK, READ, STATUS};
+use crate::manual;
 use crate::problem::Problem;
 
 /// Writes the help text that the words ask for.
 pub fn run(words: &[String], output: &mut Vec<u8>) -> Result<(), Problem> {
     match words {
         [] => print("", output),
+        [form] if form == "--man" => manual::page(output),
+        [form] if form == "--bash" => manual::completions(output),
         [name] => print(name, output),
         _ => Err(Problem::input("expected here: the name of one command")),
     }
@@ -54,7 +57,8 @@ mavunilai COMMAND ..
   answer     answer the calls of `try`
   rehearsal  read frames from standard input, print a line for each event
 
-`mavunilai help COMMAND` tells more. The status is 0 if all is well, 1 if a list does
+`mavunilai help COMMAND` tells more; `help --man` prints all of it as a manual page, and
+`help --bash` completions for bash. The status is 0 if all is well, 1 if a list does
 not come out as expected or `try` or `diff` finds a difference, 2 if words, files or the
 output are bad, 3 if the replica refuses the call, 4 if it refuses with 10: two pages of
 one height are certified, so stop and compare. A sentence then says why.

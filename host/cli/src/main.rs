@@ -24,6 +24,7 @@ mod help;
 mod help_books;
 mod json;
 mod json_answer;
+mod manual;
 mod observer_command;
 mod open_command;
 mod output;
