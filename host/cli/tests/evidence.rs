@@ -220,6 +220,25 @@ fn evidence_is_kept_where_the_output_is_full() {
     assert_eq!(names(&kept).len(), 8);
 }
 
+/// A process that may write no file as long as its book ends before the commit: the evidence is there by then.
+#[test]
+fn evidence_is_kept_before_the_book_changes() {
+    let kept = empty("before");
+    let book = folder("evidence").join("long").to_str().unwrap().to_string();
+    let roll = ["0"; 63].join(",");
+    fine(&format!("open {book} --n 4 --own 2 --roll {roll} --force"), &[]);
+    let before = std::fs::read(&book).unwrap();
+    let frames = format!("{book}.pile");
+    std::fs::write(&frames, pairs().0.concat()).unwrap();
+    let command = env!("CARGO_BIN_EXE_mavunilai");
+    let words = format!("{command} call {book} packet {frames} --evidence {}", kept.display());
+    let limited = format!("ulimit -f 8; {words}");
+    let ended = std::process::Command::new("bash").args(["-c", &limited]).output().unwrap();
+    assert!(!ended.status.success() && ended.status.code() != Some(4), "{ended:?}");
+    assert_eq!(std::fs::read(&book).unwrap(), before);
+    assert_eq!(names(&kept).len(), 8);
+}
+
 #[test]
 fn each_frame_of_a_packet_is_told() {
     let (frames, _) = pairs();

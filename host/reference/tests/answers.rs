@@ -83,7 +83,7 @@ fn holds(book: &Book<Rules>, evidence: &Evidence, frame: &[u8; FRAME]) {
     assert_eq!(evidence.kept[..3], [frame[0], if frame[0] == 5 { 0 } else { frame[1] }, frame[2]]);
     assert_eq!(book.clone().deliver(&evidence.kept), Ok(Delivered::Known));
     if frame[0] == 5 {
-        assert_eq!(book.fetch(5, frame[2].into()), Ok(evidence.kept));
+        assert_eq!(book.fetch(5, types::height_at(frame, types::FRAME_HEIGHT)), Ok(evidence.kept));
     }
 }
 
