@@ -29,7 +29,7 @@ def taken(number):
     return rest
 
 
-if call("interface") != 4:
+if call("interface") != 5:
     sys.exit("the library is of another interface than this program")
 book, reply = ctypes.create_string_buffer(576 + 880 * 3), ctypes.create_string_buffer(448)
 taken(call("open", book, 4, 2, 3, bytes([0, 1, 2])))

@@ -27,7 +27,7 @@
  * that each call returns the packed answer of its definition, after documents 01 and 02, and leaves its bytes;
  * docs/GUIDE.md leads there. That the functions below which take an answer apart give back what was packed is proved of
  * their counterparts in Unpacking.antt beside it; names and bodies of this file itself are not proved, the host's tests
- * hold them to the library.
+ * hold them to the library and to the host's types.
  */
 #ifndef MAVUNILAI_H
 #define MAVUNILAI_H
@@ -39,17 +39,28 @@
 extern "C" {
 #endif
 
+/* Before a function whose answer must be looked at: the compiler warns where one is dropped. Who has no use for an
+ * answer says so by mavunilai_disregard. */
+#if (defined(__cplusplus) && __cplusplus >= 201703L) || (defined(__STDC_VERSION__) && __STDC_VERSION__ >= 202311L)
+#define MAVUNILAI_LOOK [[nodiscard]]
+#elif defined(__GNUC__)
+#define MAVUNILAI_LOOK __attribute__((warn_unused_result))
+#else
+#define MAVUNILAI_LOOK
+#endif
+
 /* The number of the interface that this header declares. It goes up with each call that is added, with each change to
  * a call's arguments or to the set of its answers, and where a replica would read another register from the same book:
- * so with 4, where an entry that its chain repeats is read once. A change of another rule by which a call chooses
- * another of the answers that it had leaves the number as it is: a program that was built before still fits. */
-#define MAVUNILAI_INTERFACE 4u
+ * so with 4, where an entry that its chain repeats is read once; with 5 there is mavunilai_digest. A change of another
+ * rule by which a call chooses another of the answers that it had leaves the number as it is: a program that was built
+ * before still fits. */
+#define MAVUNILAI_INTERFACE 5u
 
 /* The number of the interface that the library has. */
-uint64_t mavunilai_interface(void);
+MAVUNILAI_LOOK uint64_t mavunilai_interface(void);
 
 /* 1 if library and header are of one interface, else 0: then make no other call. */
-static inline int mavunilai_fits(void) {
+MAVUNILAI_LOOK static inline int mavunilai_fits(void) {
     return mavunilai_interface() == MAVUNILAI_INTERFACE;
 }
 
@@ -73,6 +84,8 @@ static inline int mavunilai_fits(void) {
 #define MAVUNILAI_MOST_REGISTER 8064u  /* bytes: 63 pages of 8 entries of 16, none of which repeats another */
 #define MAVUNILAI_MOST_BOOK 56016u     /* bytes: MAVUNILAI_BOOK(63) */
 #define MAVUNILAI_MOST_OBSERVER_BOOK 11656u /* bytes: MAVUNILAI_OBSERVER_BOOK(63) */
+
+#define MAVUNILAI_NO_STATION 255u /* what stands for a station where there is none; a station's number is below 16 */
 
 /* ---- Refusals ---- */
 
@@ -172,10 +185,12 @@ static inline const char *mavunilai_refusal_text(unsigned refusal) {
 #define MAVUNILAI_OBSERVER_ROW_FINALISE 6u  /* signers of finalise certificates */
 #define MAVUNILAI_STATE_NOTARISED 2u        /* a page is notarised; in a station's row a bit: & and not == */
 
-/* These four read bytes of a book and check nothing of it: they are for a book that a call has taken, so not refused
- * with 1, and that no other hand has changed since. Bytes that no call has taken may be too few to be read at all. */
+/* These read bytes of a book, a station's or an observer's, and no height that they are given makes them read beyond
+ * it. But they do not look whether it is sound: they are for a book that a call has taken, so not refused with 1, and
+ * that no other hand has changed since. Bytes that no call has taken may be too few to be read at all. */
 
-/* The current height, 1 to H + 1: the one whose timer is to run. At H + 1 all heights are passed. */
+/* The current height, 1 to H + 1: the one whose timer is to run. At H + 1 all heights are passed. Of an observer's book
+ * 0: it has none. */
 static inline unsigned mavunilai_current(const uint8_t *book) {
     return book[MAVUNILAI_HEAD_CURRENT];
 }
@@ -185,26 +200,34 @@ static inline unsigned mavunilai_settled(const uint8_t *book) {
     return book[MAVUNILAI_HEAD_SETTLED];
 }
 
-/* The leader of a height, 1 to H. */
+/* 1 if a book is a station's and has that height, 1 to H; 0 for every other height, and for an observer's book. */
+static inline int mavunilai_has_height(const uint8_t *book, unsigned height) {
+    return mavunilai_current(book) != 0 && height != 0 && height <= book[MAVUNILAI_HEAD_HEIGHTS];
+}
+
+/* The leader of a height; MAVUNILAI_NO_STATION if the book is not a station's or has no such height. */
 static inline unsigned mavunilai_leader(const uint8_t *book, unsigned height) {
+    if (!mavunilai_has_height(book, height)) {
+        return MAVUNILAI_NO_STATION;
+    }
     return book[MAVUNILAI_CONTENTS_AT + (size_t)MAVUNILAI_ROW * (height - 1u)];
 }
 
-/* 1 if a frame of 224 bytes is a proposal of another page than the one that the book holds at its height, else 0. If
- * mavunilai_deliver took the frame, or refused it with 8, the leader of that height has proposed two pages: keep both
- * frames. A held page is never replaced, so that of one frame it does not matter whether this is asked before
- * mavunilai_deliver or after. Of a packet's frames ask after mavunilai_packet: it may bring the first page itself.
- * Then, before any move, deliver each for which this is 1 once more: any refusal but 8 says it is no second page. */
+/* 1 if a frame of 224 bytes is a proposal of another page than the one that the book holds at its height, else 0: so
+ * where the book is not a station's, has no such height or holds no page there. If mavunilai_deliver took the frame, or
+ * refused it with 8, the leader of that height has proposed two pages: keep both frames. A held page is never replaced,
+ * so that of one frame it does not matter whether this is asked before mavunilai_deliver or after. Of a packet's frames
+ * ask after mavunilai_packet: it may bring the first page itself. Then, before any move, deliver each for which this is
+ * 1 once more: any refusal but 8 says it is no second page. */
 static inline int mavunilai_second_page(const uint8_t *book, const uint8_t *frame) {
-    size_t heights = book[MAVUNILAI_HEAD_HEIGHTS], height = frame[MAVUNILAI_FRAME_HEIGHT], at;
-    const uint8_t *rows = book + MAVUNILAI_CONTENTS_AT, *held = rows + MAVUNILAI_ROW * heights;
-    if (frame[MAVUNILAI_FRAME_KIND] != MAVUNILAI_KIND_PROPOSAL || height == 0 || height > heights ||
-        (rows[MAVUNILAI_ROW * (height - 1u) + MAVUNILAI_ROW_STATE] & MAVUNILAI_STATE_HELD) == 0) {
+    size_t height = frame[MAVUNILAI_FRAME_HEIGHT], rows = MAVUNILAI_CONTENTS_AT, held, at;
+    if (frame[MAVUNILAI_FRAME_KIND] != MAVUNILAI_KIND_PROPOSAL || !mavunilai_has_height(book, (unsigned)height) ||
+        (book[rows + MAVUNILAI_ROW * (height - 1u) + MAVUNILAI_ROW_STATE] & MAVUNILAI_STATE_HELD) == 0) {
         return 0;
     }
-    held += MAVUNILAI_BODY * (height - 1u);
+    held = rows + (size_t)MAVUNILAI_ROW * book[MAVUNILAI_HEAD_HEIGHTS] + MAVUNILAI_BODY * (height - 1u);
     for (at = 0; at < MAVUNILAI_PAGE; at++) {
-        if (held[at] != frame[MAVUNILAI_FRAME_PAGE + at]) {
+        if (book[held + at] != frame[MAVUNILAI_FRAME_PAGE + at]) {
             return 1;
         }
     }
@@ -222,6 +245,11 @@ typedef struct mavunilai_answer {
 /* The refusal's number; 0 if the call was not refused. Ask it first: what the others give for a refused call is 0. */
 static inline unsigned mavunilai_refusal(mavunilai_answer answer) {
     return (unsigned)(answer.packed & 255u);
+}
+
+/* Says that an answer, though it was given, is of no use to you. */
+static inline void mavunilai_disregard(mavunilai_answer answer) {
+    (void)answer;
 }
 
 /* Deliver: 1 if the frame was fresh, 0 if it was known. */
@@ -281,6 +309,7 @@ static inline uint64_t mavunilai_bytes(mavunilai_answer answer) {
  * `leaders_len` must equal `heights`, and `book_len` MAVUNILAI_BOOK(heights). The book's old bytes do not matter.
  * Refusals: 2, 1. After 0 the book is new: n, own number, heights, current height 1, edition 1 and the leaders stand in
  * it, and every other byte is 0. */
+MAVUNILAI_LOOK
 mavunilai_answer mavunilai_open(uint8_t *book, size_t book_len, uint64_t n, uint64_t own, uint64_t heights,
                                 const uint8_t *leaders, size_t leaders_len);
 
@@ -291,6 +320,7 @@ mavunilai_answer mavunilai_open(uint8_t *book, size_t book_len, uint64_t n, uint
  * One frame is otherwise: a proposal of another page than the held one, by the leader of the current height, for that
  * height. It is not refused with 8 but fires the timer, and is not kept: fresh, and flag 1 alone is set; or known, if
  * it was set. At every other height it is 8. mavunilai_second_page tells such a frame. */
+MAVUNILAI_LOOK
 mavunilai_answer mavunilai_deliver(uint8_t *book, size_t book_len, const uint8_t *frame, size_t frame_len);
 
 /* Takes a packet: frames of 224 bytes one behind the other, whose signatures you have checked, each one's. They are
@@ -298,6 +328,7 @@ mavunilai_answer mavunilai_deliver(uint8_t *book, size_t book_len, const uint8_t
  * Refusals: 1, 15, before any frame; then `*counts` too is as it was. Else the answer is 0, and `*counts` says how many
  * frames were fresh, known and refused. A refused frame changes nothing, and those after it are delivered all the same:
  * the packet is not refused for it. A packet of 0 bytes has no frames, and all three counts are 0. */
+MAVUNILAI_LOOK
 mavunilai_answer mavunilai_packet(uint8_t *book, size_t book_len, const uint8_t *packet, size_t packet_len,
                                   mavunilai_counts *counts);
 
@@ -311,33 +342,45 @@ mavunilai_answer mavunilai_packet(uint8_t *book, size_t book_len, const uint8_t 
  * the finalise or zeros, which are no frame. Moves 0 and 2 write none. Of the book only bytes of the head change: the
  * flags (moves 1, 4, 5), the settled height (2), the current height and the flags (3), none if idle. What a move wrote
  * enters the book when you deliver it. */
+MAVUNILAI_LOOK
 mavunilai_answer mavunilai_move(uint8_t *book, size_t book_len, uint8_t *reply, size_t reply_len);
 
 /* Tells the book that the timer of a height fired. Refusals: 1, 6, 14; 14 too if a second page of the leader fired it
  * before. After 0 flag 1 of the current height is set, and no other byte has changed. */
+MAVUNILAI_LOOK
 mavunilai_answer mavunilai_signal(uint8_t *book, size_t book_len, uint64_t height);
 
 /* Adds an entry of 16 bytes to the pending ones; those that the register holds by now are dropped.
  * Refusals: 1, 4, 13, 12. After 0 the entry is the last pending one, the pending places after it are 0, the count fits,
  * and no other byte has changed. */
+MAVUNILAI_LOOK
 mavunilai_answer mavunilai_submit(uint8_t *book, size_t book_len, const uint8_t *entry, size_t entry_len);
 
 /* The register's length in bytes: mavunilai_bytes of the answer, which is the refusal plus 256 times the size. The
  * register is the entries of the chain that ends at the settled height, oldest page first; one that the same page or
  * one below has before is not counted again.
  * Refusals: 1. No byte changes. The largest size, where no entry repeats another, is 63 * 8 * 16 = 8064. */
+MAVUNILAI_LOOK
 mavunilai_answer mavunilai_size(const uint8_t *book, size_t book_len);
 
 /* Writes the register to the front of the buffer, oldest page first, each entry once and at its first place, and
  * returns the number of bytes of the part read. This is no packed answer: it returns 0, and writes nothing, where the
  * book is not sound or the buffer is shorter than the register, whose length mavunilai_size gives; it returns 0 for an
  * empty register as well. Bytes of the buffer past the part keep their values. */
+MAVUNILAI_LOOK
 uint64_t mavunilai_read(const uint8_t *book, size_t book_len, uint8_t *buffer, size_t buffer_len);
 
 /* Writes the certificate of kind 5, 6 or 7 of a height to bytes 0 to 223 of the reply, which needs 224 or more.
  * Refusals: 1, 4, 6, 3, 11. Bytes of the reply past 223 keep their values. */
+MAVUNILAI_LOOK
 mavunilai_answer mavunilai_fetch(const uint8_t *book, size_t book_len, uint64_t kind, uint64_t height, uint8_t *reply,
                                  size_t reply_len);
+
+/* Writes the SHA-256 of bytes, a page's 176 or any others, to bytes 0 to 31 of `digest`, which needs 32 or more: what a
+ * page vote names, and the frame that each signer of a page certificate signed. No book is looked at.
+ * Refusals: 3. Bytes of `digest` past 31 keep their values. */
+MAVUNILAI_LOOK
+mavunilai_answer mavunilai_digest(const uint8_t *bytes, size_t bytes_len, uint8_t *digest, size_t digest_len);
 
 /* ---- The calls of an observer ----
  *
@@ -349,28 +392,145 @@ mavunilai_answer mavunilai_fetch(const uint8_t *book, size_t book_len, uint64_t 
 /* Makes a new observer's book over `n` stations, with `heights` heights: `book_len` must be
  * MAVUNILAI_OBSERVER_BOOK(heights). The book's old bytes do not matter.
  * Refusals: 2, 1. After 0 the book is new: n, heights and edition 1 stand in it, and every other byte is 0. */
+MAVUNILAI_LOOK
 mavunilai_answer mavunilai_observer_open(uint8_t *book, size_t book_len, uint64_t n, uint64_t heights);
 
 /* Takes one certificate, a frame of kind 5, 6 or 7, whose signatures you have checked, each one's.
  * Refusals: 1, 4, 16, 6, 5, 9, 10. A frame of kinds 1 to 4 that is well formed is 16, whatever its height and signer.
  * Else byte 1 of the answer (mavunilai_fresh) is 1 if the frame was fresh: the book now holds what it states; 0 if it
  * was known: the book is as before. Of the book only the frame's height changes: its row and its page. */
+MAVUNILAI_LOOK
 mavunilai_answer mavunilai_observer_deliver(uint8_t *book, size_t book_len, const uint8_t *frame, size_t frame_len);
 
 /* Lets the settled height follow the certificates; nothing but the book is written, so that no reply is lent.
  * Refusals: 1. Else the answer is packed as that of mavunilai_move: move MAVUNILAI_MOVE_SETTLE with the new settled
  * height, the one byte of the book that changes, or MAVUNILAI_MOVE_IDLE. After the first the next one is idle, until a
  * certificate comes. */
+MAVUNILAI_LOOK
 mavunilai_answer mavunilai_observer_move(uint8_t *book, size_t book_len);
 
 /* The register's length in bytes, as mavunilai_size, repeats not counted: mavunilai_bytes of the answer.
  * Refusals: 1. No byte changes. */
+MAVUNILAI_LOOK
 mavunilai_answer mavunilai_observer_size(const uint8_t *book, size_t book_len);
 
 /* Writes the register to the front of the buffer, each entry once and at its first place, and returns the number of
  * bytes of the part read, as mavunilai_read: no packed answer, and 0, with nothing written, where the book is not sound
  * or the buffer is too short. */
+MAVUNILAI_LOOK
 uint64_t mavunilai_observer_read(const uint8_t *book, size_t book_len, uint8_t *buffer, size_t buffer_len);
+
+/* ---- Masks ---- */
+
+/* 1 if the stations of a mask, bit i for station i, are a quorum of n: two thirds of them or more. 0 if they are not,
+ * if n is not 1 to 16, and if the mask has a bit for a station that is not below n. */
+static inline int mavunilai_quorum(unsigned n, unsigned mask) {
+    unsigned members = 0, station;
+    if (n == 0 || n > MAVUNILAI_MOST_STATIONS || mask >> n != 0) {
+        return 0;
+    }
+    for (station = 0; station < n; station++) {
+        members += mask >> station & 1u;
+    }
+    return 3u * members >= 2u * n;
+}
+
+/* ---- Pages and frames out of their parts, for tests ----
+ *
+ * A station's own frames are those that a move writes: a host makes none by hand. These are for tests, and to play the
+ * other stations. Nothing is judged: a frame that every replica refuses can be made too. */
+
+/* Writes so many bytes of `from` to `to`. */
+static inline void mavunilai_copy(uint8_t *to, const uint8_t *from, size_t length) {
+    size_t at;
+    for (at = 0; at < length; at++) {
+        to[at] = from[at];
+    }
+}
+
+/* Makes the 176 bytes of a page: its height, that of the page it stands on with that page's digest (0 and null where it
+ * stands on none), and so many entries of 16 bytes, one behind the other. 1 if it is made; 0, with nothing written, for
+ * more than 8 entries. */
+MAVUNILAI_LOOK static inline int mavunilai_make_page(uint8_t *page, uint16_t height, uint16_t back_height,
+                                                     const uint8_t *back_digest, const uint8_t *entries,
+                                                     size_t count) {
+    size_t at;
+    if (count > MAVUNILAI_MOST_PAGE_ENTRIES) {
+        return 0;
+    }
+    for (at = 0; at < MAVUNILAI_PAGE; at++) {
+        page[at] = 0;
+    }
+    page[MAVUNILAI_PAGE_HEIGHT] = (uint8_t)(height & 255u);
+    page[MAVUNILAI_PAGE_HEIGHT + 1u] = (uint8_t)(height >> 8);
+    page[MAVUNILAI_PAGE_BACK_HEIGHT] = (uint8_t)(back_height & 255u);
+    page[MAVUNILAI_PAGE_BACK_HEIGHT + 1u] = (uint8_t)(back_height >> 8);
+    page[MAVUNILAI_PAGE_COUNT] = (uint8_t)count;
+    mavunilai_copy(page + MAVUNILAI_PAGE_BACK_DIGEST, back_digest, back_digest == NULL ? 0 : MAVUNILAI_DIGEST);
+    mavunilai_copy(page + MAVUNILAI_PAGE_ENTRIES, entries, count * MAVUNILAI_ENTRY);
+    return 1;
+}
+
+/* Makes a frame of 224 bytes with kind, signer and height alone; the four below go by it. */
+static inline void mavunilai_make_frame(uint8_t *frame, uint8_t kind, uint8_t signer, uint16_t height) {
+    size_t at;
+    for (at = 0; at < MAVUNILAI_FRAME; at++) {
+        frame[at] = 0;
+    }
+    frame[MAVUNILAI_FRAME_KIND] = kind;
+    frame[MAVUNILAI_FRAME_SIGNER] = signer;
+    frame[MAVUNILAI_FRAME_HEIGHT] = (uint8_t)(height & 255u);
+    frame[MAVUNILAI_FRAME_HEIGHT + 1u] = (uint8_t)(height >> 8);
+}
+
+/* Kind 1: the signer proposes a page of 176 bytes, for the height that stands in it. */
+static inline void mavunilai_make_proposal(uint8_t *frame, uint8_t signer, const uint8_t *page) {
+    unsigned height = page[MAVUNILAI_PAGE_HEIGHT] + 256u * page[MAVUNILAI_PAGE_HEIGHT + 1u];
+    mavunilai_make_frame(frame, MAVUNILAI_KIND_PROPOSAL, signer, (uint16_t)height);
+    mavunilai_copy(frame + MAVUNILAI_FRAME_PAGE, page, MAVUNILAI_PAGE);
+}
+
+/* Kind 2: the signer votes for the page with this digest, 32 bytes, which mavunilai_digest gives. */
+static inline void mavunilai_make_page_vote(uint8_t *frame, uint8_t signer, uint16_t height, const uint8_t *digest) {
+    mavunilai_make_frame(frame, MAVUNILAI_KIND_PAGE_VOTE, signer, height);
+    mavunilai_copy(frame + MAVUNILAI_FRAME_DIGEST, digest, MAVUNILAI_DIGEST);
+}
+
+/* Kind 3: the signer votes for the blank. */
+static inline void mavunilai_make_blank_vote(uint8_t *frame, uint8_t signer, uint16_t height) {
+    mavunilai_make_frame(frame, MAVUNILAI_KIND_BLANK_VOTE, signer, height);
+}
+
+/* Kind 4: the signer finalises the height. */
+static inline void mavunilai_make_finalise(uint8_t *frame, uint8_t signer, uint16_t height) {
+    mavunilai_make_frame(frame, MAVUNILAI_KIND_FINALISE, signer, height);
+}
+
+/* ---- A packet, frame by frame ---- */
+
+/* Tells what becomes of each frame of a packet, which mavunilai_packet only counts: ask over the book as it is before
+ * that call. `answers` has a place for each frame, packet_len / MAVUNILAI_FRAME of them; `copy` has `book_len` bytes,
+ * overlaps with nothing and is written over; the book stays as it is. Returns the answer of the packet. If that is a
+ * refusal, 1 or 15, the answers are as they were. Else answers[i] is that of mavunilai_deliver to frame i, over the book
+ * that the frames before it left, and the copy is the book after the packet. Those that are refused with 8 or 10 are
+ * evidence. It takes the time of delivering the frames singly, so ask where the counts have refused ones. */
+MAVUNILAI_LOOK static inline mavunilai_answer mavunilai_packet_each(const uint8_t *book, size_t book_len,
+                                                                    uint8_t *copy, const uint8_t *packet,
+                                                                    size_t packet_len, mavunilai_answer *answers) {
+    mavunilai_counts counts;
+    mavunilai_answer answer;
+    size_t at;
+    mavunilai_copy(copy, book, book_len);
+    answer = mavunilai_packet(copy, book_len, packet, packet_len, &counts);
+    if (mavunilai_refusal(answer) != 0) {
+        return answer;
+    }
+    mavunilai_copy(copy, book, book_len);
+    for (at = 0; at < packet_len / MAVUNILAI_FRAME; at++) {
+        answers[at] = mavunilai_deliver(copy, book_len, packet + at * MAVUNILAI_FRAME, MAVUNILAI_FRAME);
+    }
+    return answer;
+}
 
 #ifdef __cplusplus
 }

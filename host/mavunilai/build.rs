@@ -2,8 +2,8 @@
 
 use std::path::{Path, PathBuf};
 
-/// The name of the archive.
-const ARCHIVE: &str = "libreplica_c.a";
+/// The names that the library may have: as `rt staticlib` writes it, and as `host/install` does.
+const LIBRARIES: [&str; 2] = ["replica_c", "mavunilai"];
 
 fn main() {
     println!("cargo::rerun-if-env-changed=MAVUNILAI_LIB");
@@ -11,20 +11,29 @@ fn main() {
         return;
     }
     let folder = folder();
-    let archive = folder.join(ARCHIVE);
-    println!("cargo::rerun-if-changed={}", archive.display());
-    if archive.is_file() {
-        println!("cargo::rustc-link-search=native={}", folder.display());
-        println!("cargo::rustc-link-lib=static=replica_c");
-        println!("cargo::rustc-env=MAVUNILAI_ARCHIVE={}", archive.display()); // for the tests in C
-        return;
+    for (folder, library) in places(&folder) {
+        let archive = folder.join(format!("lib{library}.a"));
+        println!("cargo::rerun-if-changed={}", archive.display());
+        if archive.is_file() {
+            println!("cargo::rustc-link-search=native={}", folder.display());
+            println!("cargo::rustc-link-lib=static={library}");
+            println!("cargo::rustc-env=MAVUNILAI_ARCHIVE={}", archive.display()); // for the tests in C
+            return;
+        }
     }
     println!(
-        "cargo::error=the proved replica is not there: no file {}. Make it with `rt staticlib replica_c` in the \
-         repository's root, or set MAVUNILAI_LIB to the folder that holds {ARCHIVE}, or leave out the feature \
-         `proved`.",
-        archive.display()
+        "cargo::error=the proved replica is not there: no libreplica_c.a or libmavunilai.a in {} or in its folder \
+         lib. Make it with `rt staticlib replica_c` in the repository's root, or set MAVUNILAI_LIB to the folder that \
+         holds it or to the one that `host/install` was given, or leave out the feature `proved`.",
+        folder.display()
     );
+}
+
+/// Where the library may be, in this order: in the folder, and in the folder `lib` below it, where `host/install` puts
+/// it.
+fn places(folder: &Path) -> impl Iterator<Item = (PathBuf, &'static str)> {
+    let folders = [folder.to_path_buf(), folder.join("lib")];
+    folders.into_iter().flat_map(|folder| LIBRARIES.map(|library| (folder.clone(), library)))
 }
 
 /// The folder that the environment names, else that of the repository. A relative name is taken from where cargo was

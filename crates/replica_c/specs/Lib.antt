@@ -1,2 +1,3 @@
--- The number of the interface for C.
+-- What stands beside the calls: the number of the interface for C, and the answer of the call for a digest.
 pub mod Interface
+pub mod DigestCall

@@ -18,6 +18,8 @@ ghost use Rattle.protocol.specs.Read.{readPart, readBuffer, sizeCall};
 ghost use Rattle.protocol.specs.ObserverCalls.{observerOpenCall, observerDeliverCall, observerMoveCall};
 ghost use Rattle.protocol.specs.ObserverCalls.{observerSizeCall, observerReadPart, observerReadBuffer};
 ghost use Rattle.replica_c.specs.Interface.{interfaceNumber};
+ghost use Rattle.replica_c.specs.DigestCall.{digestNumber};
+ghost use Rattle.sha256_c.specs.Written.{written};
 ghost use Rattle.packing.specs.Packing.{packedDone, packedDelivery, packedPacket, countsAfter, packedMove, packedSize};
 
 // Open: makes a new book for replica `own` of `n`; byte h - 1 of `leaders` is the leader of height h. The book's old
@@ -191,10 +193,24 @@ pub extern "C" fn mavunilai_observer_read(book: &[u8], buffer: &mut [u8]) -> usi
     observer::read::read_into(book, buffer)
 }
 
+// Digest: writes the SHA-256 of the bytes, a page's or any others, to the first 32 bytes of `digest`.
+// Returns 0 where it is written. Refusals: 3, where `digest` is shorter (`digestNumber`).
+#[no_mangle]
+pub extern "C" fn mavunilai_digest(bytes: &[u8], digest: &mut [u8]) -> usize
+    ensures answer { λ r. ⌜ r ≡ digestNumber (now (digest .entry)) ⌝ }
+    ensures digest { λ _. ⌜ now (digest .exit) ≡ written (now (bytes .entry)) (now (digest .entry)) ⌝ }
+{
+    if sha256_c::sha256_into(bytes, digest) {
+        0
+    } else {
+        3
+    }
+}
+
 // The number of this interface, which a program compares with its header's before it makes another call.
 #[no_mangle]
 pub extern "C" fn mavunilai_interface() -> usize
     ensures { λ r. ⌜ r ≡ interfaceNumber ⌝ }
 {
-    4
+    5
 }

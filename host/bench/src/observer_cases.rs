@@ -39,7 +39,7 @@ pub fn observer_cases(
 fn beside(size: Size, station: &Station, moves: bool) -> Result<Vec<u8>, String> {
     let refused = |refusal| format!("an observer's book cannot be prepared: {refusal}");
     let told = Book::from_bytes(Rules::SHA256, station.book.clone()).map_err(refused)?;
-    let opened = ObserverBook::open(Rules::SHA256, size.n.into(), size.heights.into());
+    let opened = ObserverBook::open(Rules::SHA256, size.n.into(), size.heights);
     let mut book = opened.map_err(refused)?;
     for frame in told.certificates() {
         book.deliver(&frame).map_err(refused)?;

@@ -65,7 +65,8 @@ impl Entries {
         let mask = u16::MAX >> 16_u8.saturating_sub(size.n).min(15);
         let (mut frames, mut digest) = (Vec::new(), [0; 32]);
         for height in 1..=size.heights {
-            let entries = (0..MOST_ENTRIES).map(|place| self.at(height, place)).collect();
+            let all: Vec<_> = (0..MOST_ENTRIES).map(|place| self.at(height, place)).collect();
+            let entries = types::Entries::first_of(&all);
             let block = Block { height, parent: height.saturating_sub(1), digest, entries };
             digest = sha256::digest(&block.bytes());
             frames.push(Frame::BlockCertificate { mask, block });
@@ -107,7 +108,7 @@ pub fn register_cases(size: Size) -> Result<Vec<Case>, String> {
 fn books(size: Size, entries: Entries) -> Result<[Vec<u8>; 2], Refusal> {
     let leaders = vec![0; size.heights.into()];
     let mut station = Book::open(Rules::SHA256, size.n.into(), 0, &leaders)?;
-    let mut observer = ObserverBook::open(Rules::SHA256, size.n.into(), size.heights.into())?;
+    let mut observer = ObserverBook::open(Rules::SHA256, size.n.into(), size.heights)?;
     for frame in entries.certificates(size) {
         station.deliver(&frame.bytes())?;
         observer.deliver(&frame.bytes())?;

@@ -2,7 +2,7 @@
 
 use reference::{sha256, Rules};
 use types::{book_length, field, head_height, height_bytes, quorum};
-use types::{Block, Calls, Frame, Height, Move, ENTRY, FRAME, MOST_ENTRIES};
+use types::{Block, Calls, Entries, Frame, Height, Move, ENTRY, FRAME, MOST_ENTRIES};
 
 /// How large a book is.
 #[derive(Clone, Copy, Debug, PartialEq, Eq)]
@@ -63,7 +63,7 @@ impl Station {
         let mask = station.everyone();
         for height in 1..=size.heights {
             let (parent, digest) = if height == 1 { (0, [0; 32]) } else { (1, [1; 32]) };
-            let block = Block { height, parent, digest, entries: Vec::new() };
+            let block = Block { height, parent, digest, entries: [].into() };
             station.take(&Frame::BlockCertificate { mask, block })?;
             station.take(&Frame::FinalizeCertificate { mask, height })?;
             if fill == Fill::Full {
@@ -87,7 +87,8 @@ impl Station {
     /// The next block of the chain, with entries that no other block has.
     pub fn block(&self) -> Block {
         let height = self.next();
-        let entries = (0..MOST_ENTRIES).map(|place| entry(height, place)).collect();
+        let all: Vec<_> = (0..MOST_ENTRIES).map(|place| entry(height, place)).collect();
+        let entries = Entries::first_of(&all);
         Block { height, parent: self.chain, digest: self.digest, entries }
     }
 
@@ -99,7 +100,7 @@ impl Station {
     /// A second proposal of its leader, of a block with fewer entries.
     pub fn second_proposal(&self) -> Frame {
         let mut block = self.block();
-        block.entries.truncate(1);
+        block.entries = Entries::first_of(block.entries.get(..1).unwrap_or(&[]));
         Frame::Proposal { signer: leader(self.size, self.next()), block }
     }
 

@@ -2,16 +2,19 @@
 
 use crate::arguments::Arguments;
 use crate::chosen::REPLICA;
+use crate::evidence::Keeper;
+use crate::frame_input::{self, FrameInput};
+use crate::json_answer::{self, denied};
 use crate::page_options::entry;
 use crate::problem::Problem;
-use crate::{files, station, words};
+use crate::{station, waiting, words};
 use exchange::{Answer, Call};
-use types::{Book, Calls, ENTRY, FRAME};
+use types::{Book, Calls, Refusal, ENTRY, FRAME};
 
 /// What is asked for; all input is read before the book is.
 enum Request {
-    /// Frames to deliver one by one, as they are given: one, or whole ones.
-    Deliver(Vec<Vec<u8>>),
+    /// Frames to deliver one by one, and what is behind them.
+    Deliver(FrameInput),
     /// Frames to deliver as one packet.
     Packet(Vec<u8>),
     /// Another call.
@@ -26,24 +29,45 @@ enum Request {
 
 /// Makes the calls, prints what they answer and write, and keeps the book if it changed.
 pub fn run(words: &[String], output: &mut Vec<u8>) -> Result<(), Problem> {
-    let arguments = Arguments::sort(words, &["out"], &[])?;
+    let arguments = Arguments::sort(words, &["out", "evidence", "wait"], &["each", "json"])?;
     let [file, name, rest @ ..] = arguments.words() else {
         return Err(Problem::input("expected here: the file of a book, then a call"));
     };
-    let out = arguments.value("out")?;
-    match (request(name, rest)?, out) {
-        (Request::Deliver(frames), _) => station::open(file, out)?.deliver(&frames),
-        (Request::Packet(packet), _) => station::open(file, out)?.packet(&packet),
-        (Request::Run, _) => station::open(file, out)?.run(),
-        (Request::One(Call::Move), _) => station::open(file, out)?.make_move(),
-        (Request::One(Call::Signal { height }), _) => station::open(file, out)?.signal(height),
-        (Request::Submit(entry), _) => station::open(file, out)?.submit(&entry),
+    let (out, disk) = (arguments.value("out")?, waiting::disk(&arguments)?);
+    let [each, json] = ["each", "json"].map(|name| arguments.has(name));
+    only_for(&arguments, name)?;
+    let request = request(name, rest)?;
+    let keeper = Keeper::ready(arguments.value("evidence")?)?;
+    let open = || station::open(file, out, disk, json);
+    match (request, out) {
+        (Request::Deliver(input), _) => input.and_rest(open()?.deliver(&input.whole(), &keeper)),
+        (Request::Packet(packet), _) => open()?.packet(&packet, each, &keeper),
+        (Request::Run, _) => open()?.run(),
+        (Request::One(Call::Move), _) => open()?.make_move(),
+        (Request::One(Call::Signal { height }), _) => open()?.signal(height),
+        (Request::Submit(entry), _) => open()?.submit(&entry),
         (Request::One(_) | Request::Certificates, Some(_)) => {
             Err(Problem::input(format!("{name} has no --out")))
         }
-        (Request::Certificates, None) => certificates(file, output),
-        (Request::One(call), None) => ask(&call, file, output),
+        (Request::Certificates, None) => {
+            waiting::none(&arguments, name)?;
+            certificates(file, output)
+        }
+        (Request::One(call), None) => {
+            waiting::none(&arguments, name)?;
+            ask(&call, file, json, output)
+        }
     }
+}
+
+/// Refuses what would say nothing beside this call.
+fn only_for(arguments: &Arguments, name: &str) -> Result<(), Problem> {
+    let evidence = arguments.value("evidence")?.filter(|_| !["deliver", "packet"].contains(&name));
+    let each = arguments.has("each") && name != "packet";
+    let json = arguments.has("json") && name == "certificates";
+    let option = evidence.map(|_| "evidence").or(each.then_some("each"));
+    let option = option.or(json.then_some("json"));
+    option.map_or(Ok(()), |option| Err(Problem::input(format!("{name} has no --{option}"))))
 }
 
 /// What the words ask for.
@@ -52,8 +76,8 @@ fn request(name: &str, rest: &[String]) -> Result<Request, Problem> {
         ("run", []) => return Ok(Request::Run),
         ("certificates", []) => return Ok(Request::Certificates),
         ("submit", [text]) => return Ok(Request::Submit(entry(text)?)),
-        ("deliver", [file]) => return Ok(Request::Deliver(frames(files::read_bytes(file)?))),
-        ("packet", [file]) => return Ok(Request::Packet(files::read_bytes(file)?)),
+        ("deliver", [file]) => return Ok(Request::Deliver(frame_input::read(file)?)),
+        ("packet", [file]) => return Ok(Request::Packet(frame_input::read(file)?.all()?)),
         ("move", []) => Call::Move,
         ("signal", [height]) => Call::Signal { height: number(height)? },
         ("size", []) => Call::Size,
@@ -67,31 +91,32 @@ fn request(name: &str, rest: &[String]) -> Result<Request, Problem> {
     }))
 }
 
-/// The frames in some bytes: several if the length is theirs, else one, whatever it is.
-fn frames(bytes: Vec<u8>) -> Vec<Vec<u8>> {
-    match bytes.as_chunks::<FRAME>() {
-        (frames @ [_, ..], []) => frames.iter().map(|frame| frame.to_vec()).collect(),
-        _ => vec![bytes],
-    }
-}
-
 /// A number as an argument.
 fn number(word: &str) -> Result<u64, Problem> {
     word.parse().map_err(|_| Problem::input(format!("'{word}' is no number")))
 }
 
 /// Makes a call that changes nothing; no lock is needed, since a book is replaced as a whole.
-fn ask(call: &Call, file: &str, output: &mut Vec<u8>) -> Result<(), Problem> {
+fn ask(call: &Call, file: &str, json: bool, output: &mut Vec<u8>) -> Result<(), Problem> {
     let mut book = store::read(file)?;
-    let mut reply = vec![0; length(call, &book).map_err(Problem::refused)?];
+    let refused = |number| denied(json, Refusal::of(number).into());
+    let mut reply = vec![0; length(call, &book).map_err(refused)?];
     let answer = call.make(&REPLICA, &mut book, &mut reply);
-    let lines: Vec<String> = match answer {
-        Answer::Deny(number) => return Err(Problem::refused(number)),
-        Answer::Part(_) => reply.as_chunks::<ENTRY>().0.iter().map(|e| words::entry(e)).collect(),
-        _ => reply.chunks_exact(FRAME).map(words::hex).collect(),
+    let frames = reply.as_chunks::<FRAME>().0;
+    let lines = match answer {
+        Answer::Deny(number) => return Err(refused(number)),
+        Answer::Part(_) if json => json_answer::read(&answer, &reply),
+        _ if json => json_answer::line(&answer.to_string(), frames),
+        Answer::Part(_) => {
+            let entries = reply.as_chunks::<ENTRY>().0.iter();
+            format!("{answer}\n{}", entries.map(|e| words::entry(e) + "\n").collect::<String>())
+        }
+        _ => {
+            let frames = frames.iter().map(|frame| words::hex(frame) + "\n");
+            format!("{answer}\n{}", frames.collect::<String>())
+        }
     };
-    output.extend(format!("{answer}\n").into_bytes());
-    lines.iter().for_each(|line| output.extend(format!("{line}\n").into_bytes()));
+    output.extend(lines.into_bytes());
     Ok(())
 }
 

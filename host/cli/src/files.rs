@@ -7,7 +7,7 @@ use std::io::Read;
 const MOST_TEXT: usize = 1 << 28;
 
 /// The most bytes that are read of a book or of frames.
-const MOST_BYTES: usize = 1 << 24;
+pub const MOST_BYTES: usize = 1 << 24;
 
 /// The bytes of a file, of standard input for `-`.
 pub fn read(name: &str) -> Result<Vec<u8>, Problem> {
@@ -15,7 +15,7 @@ pub fn read(name: &str) -> Result<Vec<u8>, Problem> {
 }
 
 /// The same for a file that may have so many bytes.
-fn read_some(name: &str, most: usize) -> Result<Vec<u8>, Problem> {
+pub fn read_some(name: &str, most: usize) -> Result<Vec<u8>, Problem> {
     let mut bytes = Vec::new();
     let bound = (most as u64).saturating_add(1);
     let outcome = match name {

@@ -1,11 +1,15 @@
 //! The help texts.
 
+use crate::help_books::{CHECK, READ, STATUS};
+use crate::manual;
 use crate::problem::Problem;
 
 /// Writes the help text that the words ask for.
 pub fn run(words: &[String], output: &mut Vec<u8>) -> Result<(), Problem> {
     match words {
         [] => print("", output),
+        [form] if form == "--man" => manual::page(output),
+        [form] if form == "--bash" => manual::completions(output),
         [name] => print(name, output),
         _ => Err(Problem::input("expected here: the name of one command")),
     }
@@ -20,6 +24,9 @@ pub fn print(name: &str, output: &mut Vec<u8>) -> Result<(), Problem> {
         "open" => OPEN,
         "call" => CALL,
         "observer" => OBSERVER,
+        "read" => READ,
+        "check" => CHECK,
+        "status" => STATUS,
         "replay" => REPLAY,
         "record" => RECORD,
         "rehearsal" => REHEARSAL,
@@ -40,6 +47,9 @@ mavunilai COMMAND ..
   open       keep a new book in a file
   call       make calls on a book that is kept in a file
   observer   follow the register without a vote: calls on an observer's book in a file
+  read       print the register of a book: place, height and text of each entry
+  check      tell whether a book in a file is sound, and what stands beside it
+  status     print a row for each of several books
   replay     make the calls of a list and compare answers and digests
   record     write a list with its answers and digests
   diff       tell the fields in which two books differ
@@ -47,9 +57,11 @@ mavunilai COMMAND ..
   answer     answer the calls of `try`
   rehearsal  read frames from standard input, print a line for each event
 
-`mavunilai help COMMAND` tells more. The status is 0 if all is well, 1 if a list does
+`mavunilai help COMMAND` tells more; `help --man` prints all of it as a manual page, and
+`help --bash` completions for bash. The status is 0 if all is well, 1 if a list does
 not come out as expected or `try` or `diff` finds a difference, 2 if words, files or the
-output are bad, 3 if the replica refuses the call; a sentence then says why.
+output are bad, 3 if the replica refuses the call, 4 if it refuses with 10: two pages of
+one height are certified, so stop and compare. A sentence then says why.
 The replica is the proved one if this program was built with the cargo feature `proved`,
 else the reference; `mavunilai --version` tells which. The value of an option stands
 behind it or after =, as in --n=4.
@@ -79,9 +91,9 @@ Example: mavunilai frame blank-vote --signer 0 --height 1 --hex
 ";
 
 const SHOW: &str = "\
-mavunilai show frame FILE
-mavunilai show book FILE
-mavunilai show books FILE FILE ..
+mavunilai show frame FILE [--json]
+mavunilai show book FILE [--json]
+mavunilai show books FILE FILE .. [--json]
 
 Shows frames or books in words; FILE may be - for standard input, and may hold the
 bytes as they are or as hexadecimal digits, wrapped over lines or not. A file may have
@@ -95,23 +107,26 @@ and votes are named by the first eight digits of the digest. Of a book that is n
 the first byte is told that breaks a rule. Several books, of stations with the same roll
 and of observers, are shown side by side: a row for each height, a column for each book,
 <- at a station's current height. A station's column has its number, an observer's its
-file. An observer's book is told from a station's by its length.
+file. An observer's book is told from a station's by its length. Of frames, FILE may
+also be what `call` printed. --json prints an object for each frame or book
+(docs/JSON.md).
 ";
 
 const OPEN: &str = "\
-mavunilai open FILE --n N --own S --roll L,L,.. [--force]
+mavunilai open FILE --n N --own S --roll L,L,.. [--force] [--wait SECONDS]
 
 Keeps a new book in FILE, for station S of N, with one leader L for each height. A file
 that is there is left alone, unless --force begins a new book in its place: a station
-that forgets what it said may say another thing, so do this for a new season only.
-FILE may be - for standard output.
+that forgets what it said may say another thing, so do this for a new season only. So
+too where the book is gone and FILE.said still tells what it said. FILE may be - for
+standard output. --wait is as for `call`.
 
 Example: mavunilai open book --n 4 --own 2 --roll 0,1,2
 ";
 
 const CALL: &str = "\
-mavunilai call BOOK deliver FRAMES [--out FILE]
-mavunilai call BOOK packet FRAMES [--out FILE]
+mavunilai call BOOK deliver FRAMES [--out FILE] [--evidence FOLDER]
+mavunilai call BOOK packet FRAMES [--each] [--out FILE] [--evidence FOLDER]
 mavunilai call BOOK signal HEIGHT [--out FILE]
 mavunilai call BOOK submit ENTRY [--out FILE]
 mavunilai call BOOK move [--out FILE]
@@ -120,6 +135,7 @@ mavunilai call BOOK size
 mavunilai call BOOK read
 mavunilai call BOOK fetch KIND HEIGHT
 mavunilai call BOOK certificates
+Calls with --out have [--wait SECONDS] too.
 
 Makes a call on the book in the file BOOK, prints the answer in the words of a list
 (docs/EXCHANGE.md), and keeps the book in its file if it changed. The frames that move
@@ -133,48 +149,82 @@ ENTRY is as for `frame`: 32 hexadecimal digits, or text of 1 to 16 bytes, which 
 filled up with blanks. A call that is refused changes nothing, says the number and ends
 with status 3. deliver keeps the book after each frame; of several each has its line,
 with `deny` and a number if refused. packet takes all frames in one call and keeps the
-book once; it prints `counts` and how many frames were fresh, known and refused. For
-refused frames its status is still 0: the packet itself is refused only if its length
-is not a multiple of 224, or the book is not sound. Of a proposal of another page than
-the one that the book holds both say so on the standard error: its leader said two
-things. At the current height it fires the timer, with the answer fresh, or known where
-it had fired; a signal is refused with 14 then. At any other height it is refused with 8.
+book once; it prints `counts` and how many frames were fresh, known and refused, and with
+--each a line for each frame behind it, as deliver does. For refused frames its status is
+still 0, but for 10: the packet itself is refused only if its length is not a multiple of
+224, or the book is not sound. --json prints each answer as an object (docs/JSON.md);
+certificates has none.
+
+Frames that contradict what the book has are evidence against who signed both. deliver and
+packet say so on the standard error: two pages of one leader, two page votes of one
+station (8), two certified pages of one height (10, status 4: stop and compare). At the
+current height a leader's second page is not refused: it fires the timer, with the answer
+fresh, or known where it had fired; a signal is refused with 14 then. --evidence keeps
+each pair in FOLDER, which is made if it is missing: a file .hex with the digits of the
+frame and of what the book has against it, and a file .txt with both in words, synced
+before the book changes. Files that are there stay. The signatures are yours to add.
+
+FRAMES may be what move, run, fetch or certificates printed, as it is: lines that are
+answers are skipped between frames. A file that begins with a letter, a blank or an end
+of line is text; any other is bytes, as a frame's kind, its first byte, is 1 to 7. deliver
+takes the whole frames first. Of a cut one behind them, and of the first line of a text
+that is neither digits nor an answer, it says so and ends with status 2, or with that of
+a refusal before it; packet takes nothing of a text with such a line. No frames are no
+error: deliver prints nothing then.
 
 --out adds the frames to FILE, a line for each, in place of printing them. FILE is
 synced and replaced as a whole, and holds nothing but such lines. Who sends them moves
-FILE away first. Neither BOOK nor FILE may end in .lock, .new or .frames.
+FILE away first. Neither BOOK nor FILE may end in .lock, .new, .frames or .said.
 
 A process may end at any time, and others may call at the same time. The book is locked
 (BOOK.lock, which stays) from reading to writing, after all input is there; a call waits
-while another program has it. Frames wait in BOOK.frames from before the book is
+while another program has it, says which process that is after two seconds, and gives up
+with status 2 after the seconds of --wait. A call whose book was renamed, removed or
+replaced meanwhile ends with status 2, and so does one that would contradict what has
+left the station (BOOK.said): neither writes a book or a frame.
+Frames wait in BOOK.frames from before the book is
 replaced until they are printed or in FILE. If that fails the next deliver, packet,
 signal, submit, move or run begins with the line `unsent` and these frames; size, read,
 fetch and certificates leave them alone. Frames may go out twice, which is harmless. A
-pipe has them once it takes them, read or not: --out is safer.
+pipe has them once it takes them, read or not: --out is safer. Where the standard output
+is closed or the null device, and no --out is given, move and run make no move, and
+frames that wait go on waiting; an error says so, with status 2. run has the frames of a
+move out before it makes the next one, so where it fails those before are out.
 
 Example: mavunilai frame blank-vote --signer 0 --height 1 | mavunilai call book deliver -
+Example: mavunilai call one run | mavunilai call other deliver -
 ";
 
 const OBSERVER: &str = "\
-mavunilai observer BOOK open --n N --heights H [--force]
-mavunilai observer BOOK deliver FRAMES
-mavunilai observer BOOK move
+mavunilai observer BOOK open --n N --heights H [--force] [--wait SECONDS]
+mavunilai observer BOOK deliver FRAMES [--evidence FOLDER] [--wait SECONDS]
+mavunilai observer BOOK move [--wait SECONDS]
 mavunilai observer BOOK size
 mavunilai observer BOOK read
+mavunilai observer BOOK follow [--since HEIGHT] [--evidence FOLDER] [--wait SECONDS]
 
 An observer follows the register of N stations without a vote: it is given certificates,
 frames of kinds 5 to 7, settles, and reads. It has no timer and sends nothing. open keeps
 a new book in the file BOOK (- is standard output), for H heights, those of the stations;
 a file that is there is left alone unless --force begins anew. deliver takes the frames of
-the file FRAMES (- is standard input; bytes or digits), 224 bytes each, in order. Each has
-its line, fresh, known, or `deny` and a number: 16 for a frame that is no certificate, 4
-for a short last one. Any refusal makes the status 3, while the others are taken all the
-same; no bytes are no frames, with no line and status 0. move prints `final` and the
-settled height if it grew, else `idle`; after deliver one move is enough. size and read
-print what the register holds by then, an entry that the chain repeats once.
+the file FRAMES (- is standard input) in order; `help call` says how they are written, and
+what becomes of a cut one and of none. Each has its line, fresh, known, or `deny` and a
+number: 16 for a frame that is no certificate. Any refusal makes the status 3, while the
+others are taken all the same; 10 makes it 4, and both certificates are kept in FOLDER, as
+by `mavunilai call`. move prints `final` and the settled height if it grew, else `idle`;
+after deliver one move is enough. size and read print what the register holds by then, an
+entry that the chain repeats once. --json prints each answer as an object (docs/JSON.md).
+
+follow goes on reading standard input, a frame in digits on each line, as `certificates`
+prints them; answers between them are skipped. It delivers each, moves, and prints each
+entry that settles at once: place, height and text, as `mavunilai read` does. With --since
+it begins with those that are settled, from that height on. The book is locked for one
+frame at a time. A refused frame is said on the standard error and makes the status 3 in
+the end; 10 ends it at once. A line that is neither is left out, said, and makes it 2.
 
 What a call prints is synced to the file first, however many frames it was given, and the
-book is locked meanwhile (BOOK.lock, which stays). Only deliver certificates whose
+book is locked meanwhile (BOOK.lock, which stays); --wait is as for `call`. A book that
+was renamed, removed or replaced meanwhile is left alone. Only deliver certificates whose
 signatures you have checked, each signer's. `mavunilai call` does not take an observer's
 book, nor this command a station's: both refuse with 1.
 

@@ -6,27 +6,45 @@
 
 mod answer_command;
 mod arguments;
+mod awaited;
+mod beside;
 mod bounded_line;
 mod call_command;
+mod check_command;
 mod chosen;
 mod diff_command;
+mod evidence;
+mod evidence_file;
 mod files;
+mod follow;
 mod frame_command;
+mod frame_input;
+mod frame_line;
 mod help;
+mod help_books;
+mod json;
+mod json_answer;
+mod manual;
 mod observer_command;
 mod open_command;
+mod output;
 mod page_options;
 mod pages;
 mod problem;
+mod read_command;
 mod record_command;
+mod register;
 mod rehearsal_command;
 mod replay_command;
 mod show_book;
 mod show_books;
 mod show_command;
 mod show_frame;
+mod show_json;
 mod show_observer;
+mod standing;
 mod station;
+mod status_command;
 mod table;
 mod theirs;
 mod told;
@@ -34,6 +52,7 @@ mod try_command;
 mod unmet;
 mod unsound;
 mod unsound_observer;
+mod waiting;
 mod why;
 mod words;
 
@@ -44,18 +63,23 @@ use std::process::ExitCode;
 fn main() -> ExitCode {
     let mut output = Vec::new();
     let outcome = words().and_then(|words| run(&words, &mut output));
-    let printed = std::io::stdout().write_all(&output);
+    let printed = output::write(&output);
     match (outcome, printed) {
         (Err(problem), _) => {
-            eprintln!("mavunilai: {}", problem.sentence);
+            complain(&problem.sentence);
             ExitCode::from(problem.status)
         }
         (Ok(()), Err(error)) if error.kind() != std::io::ErrorKind::BrokenPipe => {
-            eprintln!("mavunilai: the output cannot be written: {error}");
+            complain(&format!("the output cannot be written: {error}"));
             ExitCode::from(2)
         }
         _ => ExitCode::SUCCESS,
     }
+}
+
+/// Says a sentence on the standard error; where that fails the status says as much as it can.
+fn complain(sentence: &str) {
+    _ = writeln!(std::io::stderr(), "mavunilai: {sentence}");
 }
 
 /// The words behind the program's name, which must be text.
@@ -78,6 +102,9 @@ fn run(words: &[String], output: &mut Vec<u8>) -> Result<(), Problem> {
     match name {
         "frame" => frame_command::run(rest, output),
         "show" => show_command::run(rest, output),
+        "check" => check_command::run(rest, output),
+        "status" => status_command::run(rest, output),
+        "read" => read_command::run(rest, output),
         "open" => open_command::run(rest, output),
         "call" => call_command::run(rest, output),
         "observer" => observer_command::run(rest, output),
@@ -93,12 +120,20 @@ fn run(words: &[String], output: &mut Vec<u8>) -> Result<(), Problem> {
     }
 }
 
-/// Prints the version, and which replica this program has.
+/// The last request that has landed: the packages' version behind its first number.
+fn request() -> &'static str {
+    env!("CARGO_PKG_VERSION").split_once('.').map_or("", |(_, request)| request)
+}
+
+/// Prints the version, the last request that has landed, the number of the C interface, and which replica this is.
 fn version(rest: &[String], output: &mut Vec<u8>) -> Result<(), Problem> {
     if !rest.is_empty() {
         return Err(Problem::input("expected here: --version alone"));
     }
     let (version, name) = (env!("CARGO_PKG_VERSION"), chosen::NAME);
-    output.extend(format!("mavunilai {version}, with {name}\n").into_bytes());
+    let (request, interface) = (request(), types::packing::INTERFACE);
+    let line =
+        format!("mavunilai {version}, request {request}, interface {interface}, with {name}\n");
+    output.extend(line.into_bytes());
     Ok(())
 }

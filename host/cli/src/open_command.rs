@@ -3,31 +3,34 @@
 use crate::arguments::Arguments;
 use crate::chosen::REPLICA;
 use crate::problem::Problem;
-use crate::words;
+use crate::{waiting, words};
 use store::{Error, FileBook};
 use types::Book;
 
 /// Writes a new book to a file, to one that is there only if it is forced to, or to standard output.
 pub fn run(words: &[String], output: &mut Vec<u8>) -> Result<(), Problem> {
-    let arguments = Arguments::sort(words, &["n", "own", "roll"], &["force"])?;
+    let arguments = Arguments::sort(words, &["n", "own", "roll", "wait"], &["force"])?;
     let [file] = arguments.plain("the file of the new book, or - for standard output")?;
     let roll = words::numbers("roll", arguments.needed("roll")?)?;
     let (n, own) = (arguments.byte("n")?, arguments.byte("own")?);
     let book = Book::open(REPLICA, n.into(), own.into(), &roll)
         .map_err(|refusal| Problem::refused(refusal.number()))?;
+    let disk = waiting::disk(&arguments)?;
     let kept = match (file.as_str(), arguments.has("force")) {
         ("-", true) => return Err(Problem::input("standard output needs no --force")),
         ("-", false) => {
+            waiting::none(&arguments, "open -")?;
             output.extend_from_slice(book.bytes());
             return Ok(());
         }
-        (_, true) => FileBook::overwrite(book, file),
-        (_, false) => FileBook::create(book, file),
+        (_, true) => FileBook::overwrite_in(disk, book, file.as_ref()),
+        (_, false) => FileBook::create_in(disk, book, file.as_ref()),
     };
     ended(kept.map(|_| ()))
 }
 
-/// What became of keeping a new book; where a file is there it says how to begin anew.
+/// What became of keeping a new book; where a file is there, or word of what an earlier book said, it says how to begin
+/// anew.
 pub fn ended(kept: Result<(), Error>) -> Result<(), Problem> {
     match kept {
         Ok(()) => Ok(()),

@@ -3,7 +3,7 @@
 use crate::arguments::Arguments;
 use crate::problem::Problem;
 use crate::words;
-use types::{Block, Height, BLOCK, ENTRY, MOST_ENTRIES};
+use types::{Block, Entries, Height, BLOCK, ENTRY};
 
 /// The names of these options.
 pub const NAMES: [&str; 4] = ["page", "back", "back-digest", "entry"];
@@ -20,9 +20,8 @@ pub fn page(arguments: &Arguments, height: Height) -> Result<Block, Problem> {
         Some(text) => words::bytes("back-digest", text)?,
     };
     let entries = arguments.values("entry").map(entry).collect::<Result<Vec<_>, _>>()?;
-    if entries.len() > MOST_ENTRIES.into() {
-        return Err(Problem::input("a page has eight entries at most"));
-    }
+    let entries = Entries::try_from(entries);
+    let entries = entries.map_err(|_| Problem::input("a page has eight entries at most"))?;
     Ok(Block { height, parent: back, digest, entries })
 }
 

@@ -54,20 +54,25 @@ pub fn page(book: &[u8], height: Height, which: Area) -> Option<Page> {
     (state & bit != 0).then_some(page)
 }
 
+/// The page votes that are kept: each station with the digest that it voted for.
+pub fn kept_votes(book: &[u8], height: Height, voters: u16) -> Vec<(u32, [u8; 32])> {
+    let digests = area(book, height, Area::Votes).as_chunks::<32>().0;
+    let votes = (0..).zip(digests.iter().copied());
+    votes.filter(|(station, _)| 1_u16.checked_shl(*station).unwrap_or(0) & voters != 0).collect()
+}
+
 /// Who voted for which digest, as `0 1 for 3fa2c9d1; 2 for 77ab0122`; `-` if nobody did.
 pub fn votes(book: &[u8], height: Height, voters: u16) -> String {
-    let digests = area(book, height, Area::Votes).as_chunks::<32>().0;
-    let mut groups: Vec<(&[u8; 32], u16)> = Vec::new();
-    for (station, digest) in (0..).zip(digests) {
-        let bit = 1_u16.checked_shl(station).unwrap_or(0) & voters;
+    let mut groups: Vec<([u8; 32], u16)> = Vec::new();
+    for (station, digest) in kept_votes(book, height, voters) {
+        let bit = 1_u16.checked_shl(station).unwrap_or(0);
         match groups.iter_mut().find(|(of, _)| *of == digest) {
-            _ if bit == 0 => {}
             Some((_, mask)) => *mask |= bit,
             None => groups.push((digest, bit)),
         }
     }
     let told =
-        groups.iter().map(|(digest, mask)| format!("{} for {}", members(*mask), short(*digest)));
+        groups.iter().map(|(digest, mask)| format!("{} for {}", members(*mask), short(digest)));
     let told: Vec<String> = told.collect();
     if told.is_empty() {
         return "-".to_string();

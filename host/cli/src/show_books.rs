@@ -1,10 +1,9 @@
 //! Books of several stations and observers side by side: one row for each height, one column for each book.
 
-use crate::chosen::REPLICA;
 use crate::problem::Problem;
 use crate::words::count;
-use crate::{files, pages, show_book, show_observer, table};
-use types::{is_observers, quorum, Area, Calls, Height};
+use crate::{files, pages, register, show_book, show_observer, table};
+use types::{is_observers, quorum, Area, Height};
 
 /// What a book says of a height.
 struct Slot {
@@ -179,23 +178,10 @@ fn rank(book: &Shown, height: Height, slot: &Slot) -> &'static str {
     }
 }
 
-/// The register that a book shows.
-fn register(book: &Shown) -> Vec<u8> {
-    let size = match book.station.is_some() {
-        true => Calls::size(&REPLICA, &book.bytes),
-        false => Calls::observer_size(&REPLICA, &book.bytes),
-    };
-    let mut log = vec![0; usize::try_from(size.unwrap_or(0)).unwrap_or(0)];
-    match book.station.is_some() {
-        true => Calls::read(&REPLICA, &book.bytes, &mut log),
-        false => Calls::observer_read(&REPLICA, &book.bytes, &mut log),
-    };
-    log
-}
-
 /// Whether of any two registers one begins the other.
 fn registers(books: &[Shown]) -> String {
-    let logs: Vec<Vec<u8>> = books.iter().map(register).collect();
+    let logs: Vec<Vec<u8>> =
+        books.iter().map(|book| register::read(&book.bytes).unwrap_or_default()).collect();
     let mut pairs = (0..).zip(&logs).flat_map(|(at, one)| {
         logs.iter().enumerate().skip(at).map(move |(other, two)| (at, other, one, two))
     });

@@ -1,20 +1,22 @@
 //! A book in a file, open for calls that change it, and where its frames go.
 
 use crate::chosen::REPLICA;
+use crate::evidence::Keeper;
+use crate::json_answer::{self, denied};
+use crate::output::{keeps_frames, print};
 use crate::problem::Problem;
 use crate::words;
 use exchange::Answer;
-use std::fs::File;
-use std::io::{stderr, stdout, Write};
-use std::os::fd::AsFd;
-use store::{Error, FileBook};
-use types::{Calls, Move, Refusal, Written, FRAME, FRAME_HEIGHT};
+use store::{Disk, Error, FileBook};
+use types::{Answered, Calls, Move, Written, FRAME};
 
 /// An open book; frames go to the file that `--out` names, else to standard output.
 pub struct Station<'a, C> {
     book: FileBook<C>,
     file: &'a str,
     out: Option<&'a str>,
+    /// Whether answers are printed as objects.
+    json: bool,
     /// The frames of an earlier call that went out when the book was opened.
     late: Written,
 }
@@ -23,10 +25,13 @@ pub struct Station<'a, C> {
 pub fn open<'a>(
     file: &'a str,
     out: Option<&'a str>,
+    disk: Disk,
+    json: bool,
 ) -> Result<Station<'a, impl Calls + Clone>, Problem> {
-    let book = FileBook::open(REPLICA, file)?;
+    let book = FileBook::open_in(disk, REPLICA, file.as_ref());
+    let book = book.map_err(|error| denied(json, error))?;
     let late = book.unsent().to_vec();
-    let mut station = Station { book, file, out, late };
+    let mut station = Station { book, file, out, json, late };
     match (station.late.is_empty(), out) {
         (false, _) => station.publish("unsent")?,
         // A file that takes no frames is found out before there are any.
@@ -38,16 +43,11 @@ pub fn open<'a>(
 
 impl<C: Calls + Clone> Station<'_, C> {
     /// Delivers frames one by one. A single one may be refused; of several the others are taken all the same.
-    pub fn deliver(&mut self, frames: &[Vec<u8>]) -> Result<(), Problem> {
-        let answers = self.answers(frames);
-        // Before all that may end the call: a refusal of the only frame, or an output that cannot be written.
-        self.tell_second_pages(frames.iter().map(Vec::as_slice));
-        let answers = answers?;
-        print(&answers.iter().map(|answer| format!("{answer}\n")).collect::<String>())?;
-        match answers.iter().filter(|answer| matches!(answer, Answer::Deny(_))).count() {
-            0 => Ok(()),
-            refused => Err(Problem::some_refused(refused, frames.len())),
-        }
+    pub fn deliver(&mut self, frames: &[Vec<u8>], keeper: &Keeper) -> Result<(), Problem> {
+        keeper.keep(1, &self.book.book().answers(frames.iter().map(Vec::as_slice)))?;
+        let answers = self.answers(frames).map_err(|error| denied(self.json, error))?;
+        print(&answers.iter().map(|answer| self.line(answer)).collect::<String>())?;
+        Problem::of_answers(&answers)
     }
 
     /// The answers to frames that are delivered one by one; a refusal is an answer if there are several.
@@ -60,45 +60,60 @@ impl<C: Calls + Clone> Station<'_, C> {
         frames.iter().map(answer).collect()
     }
 
-    /// Delivers frames as one packet, in one commit; those that are refused are counted like the others.
-    pub fn packet(&mut self, packet: &[u8]) -> Result<(), Problem> {
-        let counts = self.book.deliver_packet(packet)?;
-        self.tell_second_pages(packet.chunks(FRAME));
-        print(&format!("{counts}\n"))
+    /// Delivers frames as one packet, in one commit; those that are refused are counted like the others, and told one
+    /// by one if that is asked for.
+    pub fn packet(&mut self, packet: &[u8], each: bool, keeper: &Keeper) -> Result<(), Problem> {
+        let told = self.packet_answers(packet, each)?;
+        keeper.keep(1, &told)?;
+        let counts = self.book.deliver_packet(packet).map_err(|error| denied(self.json, error))?;
+        let answers: Vec<Answer> = told.iter().map(answer).collect();
+        let shown = each.then_some(answers.as_slice());
+        print(&match self.json {
+            true => json_answer::packet(&Answer::Counted(counts), shown),
+            false => {
+                let lines = shown.unwrap_or_default().iter().map(|answer| format!("{answer}\n"));
+                format!("{counts}\n{}", lines.collect::<String>())
+            }
+        })?;
+        Problem::of_packet(&answers)
     }
 
-    /// Says on the standard error which of the frames that were delivered show that a leader said two things.
-    fn tell_second_pages<'f>(&self, frames: impl Iterator<Item = &'f [u8]>) {
-        let mut copy = self.book.book().clone();
-        for (number, frame) in (1_usize..).zip(frames) {
-            // Refused for another reason, it is no statement of the leader; else it changes nothing any more.
-            let is_statement = |answer| matches!(answer, Ok(_) | Err(Refusal::OtherKept));
-            if copy.is_second_block(frame) && is_statement(copy.deliver(frame)) {
-                _ = writeln!(stderr(), "mavunilai: frame {number}: {}", second_page(frame));
-            }
+    /// What becomes of each frame of a packet; nothing if nobody asks and none can be evidence, which takes a refused
+    /// frame or a second page.
+    fn packet_answers(&self, packet: &[u8], each: bool) -> Result<Vec<Answered>, Problem> {
+        let mut after = self.book.book().clone();
+        let counts = after.deliver_packet(packet);
+        let refused = counts.map_err(|refusal| denied(self.json, refusal.into()))?.refused;
+        let second = || packet.chunks(FRAME).any(|frame| after.is_second_block(frame));
+        match each || refused > 0 || second() {
+            true => self.book.book().packet_answers(packet).map_err(Problem::refused),
+            false => Ok(Vec::new()),
         }
     }
 
     /// Tells that the timer of a height fired.
     pub fn signal(&mut self, height: u64) -> Result<(), Problem> {
-        self.book.signal(height)?;
-        print("done\n")
+        let signalled = self.book.signal(types::nearest_height(height));
+        signalled.map_err(|error| denied(self.json, error))?;
+        print(&self.line(&Answer::Done))
     }
 
     /// Adds a pending entry.
     pub fn submit(&mut self, entry: &[u8; types::ENTRY]) -> Result<(), Problem> {
-        self.book.submit(entry)?;
-        print("done\n")
+        self.book.submit(entry).map_err(|error| denied(self.json, error))?;
+        print(&self.line(&Answer::Done))
     }
 
     /// Makes a move.
     pub fn make_move(&mut self) -> Result<(), Problem> {
-        let made = self.book.make_move()?;
+        self.check_output()?;
+        let made = self.book.make_move().map_err(|error| denied(self.json, error))?;
         self.publish(&made.to_string())
     }
 
     /// Moves until idle; what it writes is delivered to it, late frames too.
     pub fn run(&mut self) -> Result<(), Problem> {
+        self.check_output()?;
         for frame in &self.late {
             match self.book.deliver(frame) {
                 Ok(_) | Err(Error::Refused(_)) => {}
@@ -114,15 +129,21 @@ impl<C: Calls + Clone> Station<'_, C> {
         }
     }
 
+    /// An error before any move if its frames would be lost.
+    fn check_output(&self) -> Result<(), Problem> {
+        let none = |problem: Problem| Problem::input(problem.sentence + "; no move was made");
+        self.out.map_or_else(keeps_frames, |_| Ok(())).map_err(none)
+    }
+
     /// Prints a heading and hands the unsent frames on; they stay beside the book if that fails.
     fn publish(&mut self, heading: &str) -> Result<(), Problem> {
         let frames = self.book.unsent();
         if frames.is_empty() {
-            return print(&format!("{heading}\n"));
+            return print(&self.headed(heading, &[]));
         }
         let handed = match self.out {
             Some(out) => self.book.hand_to(out).map_err(Problem::from),
-            None => print(&format!("{heading}\n{}", lines(frames))),
+            None => keeps_frames().and_then(|()| print(&self.headed(heading, frames))),
         };
         if let Err(Problem { status, sentence }) = handed {
             let file = behind_link(self.file);
@@ -132,41 +153,40 @@ impl<C: Calls + Clone> Station<'_, C> {
         }
         self.book.sent()?;
         if self.out.is_some() {
-            print(&format!("{heading}\n"))?;
+            print(&self.headed(heading, &[]))?;
         }
         Ok(())
+    }
+
+    /// The line of an answer.
+    fn line(&self, answer: &Answer) -> String {
+        self.headed(&answer.to_string(), &[])
+    }
+
+    /// A heading and the frames behind it, as lines or as an object.
+    fn headed(&self, heading: &str, frames: &[[u8; FRAME]]) -> String {
+        match self.json {
+            true => json_answer::line(heading, frames),
+            false => format!("{heading}\n{}", lines(frames)),
+        }
     }
 }
 
 /// The file as it is named, or the one that a link of this name leads to.
-fn behind_link(file: &str) -> String {
+pub fn behind_link(file: &str) -> String {
     let end = std::fs::read_link(file).and_then(|_| std::fs::canonicalize(file));
     end.map_or_else(|_| file.to_string(), |path| path.display().to_string())
 }
 
-/// The sentence about a second page of a leader.
-fn second_page(frame: &[u8]) -> String {
-    let (leader, height) =
-        (frame.get(1).copied().unwrap_or(0), types::height_at(frame, FRAME_HEIGHT));
-    format!("station {leader} leads height {height} and proposed two pages of it; keep both frames")
+/// The answer of a frame in the words of a list.
+pub fn answer(told: &Answered) -> Answer {
+    match told.answer {
+        Ok(delivered) => Answer::Delivered(delivered),
+        Err(refusal) => Answer::Deny(refusal.number()),
+    }
 }
 
 /// Frames as lines of digits.
 fn lines(frames: &[[u8; FRAME]]) -> String {
     frames.iter().map(|frame| words::hex(frame) + "\n").collect()
-}
-
-/// Prints at once; a file that standard output is sent to is synced.
-pub fn print(text: &str) -> Result<(), Problem> {
-    let mut output = stdout().lock();
-    let written = output.write_all(text.as_bytes()).and_then(|()| output.flush());
-    let synced = written.and_then(|()| {
-        let file = File::from(output.as_fd().try_clone_to_owned()?);
-        if file.metadata()?.is_file() {
-            file.sync_all()
-        } else {
-            Ok(())
-        }
-    });
-    synced.map_err(|error| Problem::input(format!("the output cannot be written: {error}")))
 }

@@ -12,7 +12,7 @@ fn digest() -> [u8; 32] {
 
 /// A page at height 3 on page 1.
 fn page() -> Block {
-    let entries = vec![*b"swap A1 to B2   ", [0xee; 16]];
+    let entries = [*b"swap A1 to B2   ", [0xee; 16]].into();
     Block { height: 3, parent: 1, digest: [7; 32], entries }
 }
 
@@ -186,7 +186,7 @@ fn strange_bytes_get_a_sentence() {
     refused("show frame -", &[0; 223], "224 bytes, these are 223");
     refused("show frame -", &[], "224 bytes, these are 0");
     refused("show frame -", &[0; 224], "0 is no kind");
-    refused("show frame -", b"abc", "pairs of hexadecimal digits");
+    refused("show frame -", b"abc", "the last digit of its bytes has no second one");
     let mut frame = Frame::DummyVote { signer: 0, height: 1 }.bytes();
     frame[100] = 1;
     refused("show frame -", &frame, "not zero");

@@ -59,7 +59,7 @@ Of any two registers one begins the other.
 /// The bytes of a book of station 0 with one height, whose page with this entry is settled.
 fn settled(entry: &[u8; 16]) -> Vec<u8> {
     let mut book = Book::open(Rules::SHA256, 4, 0, &[0]).unwrap();
-    let block = Block { height: 1, entries: vec![*entry], ..Block::default() };
+    let block = Block { height: 1, entries: [*entry].into(), ..Block::default() };
     book.deliver(&Frame::BlockCertificate { mask: 7, block }.bytes()).unwrap();
     book.deliver(&Frame::FinalizeCertificate { mask: 7, height: 1 }.bytes()).unwrap();
     book.make_move().unwrap();
@@ -91,11 +91,11 @@ fn books_of_another_season_and_forks_are_told() {
 /// Pages that repeat entries, in one page and over two, and the page of a third height that is not settled.
 fn repeating() -> Vec<Frame> {
     let [a, b, c] = [b"\0one entry      ", b"\0another entry  ", b"\0a third entry  "];
-    let one = Block { height: 1, entries: vec![*a, *b, *a], ..Block::default() };
+    let one = Block { height: 1, entries: [*a, *b, *a].into(), ..Block::default() };
     let digest = reference::sha256::digest(&one.bytes());
-    let two = Block { height: 2, parent: 1, digest, entries: vec![*b, *c] };
+    let two = Block { height: 2, parent: 1, digest, entries: [*b, *c].into() };
     let digest = reference::sha256::digest(&two.bytes());
-    let three = Block { height: 3, parent: 2, digest, entries: vec![*a] };
+    let three = Block { height: 3, parent: 2, digest, entries: [*a].into() };
     let certificates = [one, two, three].map(|block| Frame::BlockCertificate { mask: 7, block });
     certificates.into_iter().chain([Frame::FinalizeCertificate { mask: 7, height: 2 }]).collect()
 }

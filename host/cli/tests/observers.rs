@@ -20,7 +20,7 @@ fn text(words: &str, input: &[u8]) -> String {
 
 /// The certificates of a page at height 1: of the page, and of its finalises.
 fn certificates() -> [[u8; FRAME]; 2] {
-    let block = Block { height: 1, entries: vec![*b"\0swap A12 to B40"], ..Block::default() };
+    let block = Block { height: 1, entries: [*b"\0swap A12 to B40"].into(), ..Block::default() };
     [
         Frame::BlockCertificate { mask: 7, block }.bytes(),
         Frame::FinalizeCertificate { mask: 13, height: 1 }.bytes(),
@@ -52,7 +52,11 @@ fn frames_that_are_no_certificates_are_refused() {
     let words = format!("observer {book} deliver -");
     for (frame, line, sentence) in [
         (&vote[..], "deny 16\n", "mavunilai: refused with 16: the frame is no certificate"),
-        (&[6; 9], "deny 4\n", "mavunilai: refused with 4: the frame, entry or kind does not have"),
+        (
+            &[8; FRAME],
+            "deny 4\n",
+            "mavunilai: refused with 4: the frame, entry or kind does not have",
+        ),
     ] {
         let ended = run(&words, frame);
         assert_eq!((ended.status, ended.text().as_str()), (3, line));
@@ -80,29 +84,6 @@ fn no_bytes_are_no_frames() {
     assert_eq!(std::fs::read(&book).unwrap(), before);
     denied(&format!("observer {station} deliver -"), &[], "refused with 1: ");
     refused("observer nowhere deliver -", &[], "nowhere cannot be read");
-}
-
-/// Of an input that was cut the whole frames are taken, and the rest is a frame that is malformed.
-#[test]
-fn whole_frames_before_a_cut_are_taken() {
-    let both = certificates().concat();
-    let digits: String = both.iter().map(|byte| format!("{byte:02x}")).collect();
-    for (name, input, lines) in [
-        ("cut-1", &both[..1], "deny 4\n"),
-        ("cut-223", &both[..223], "deny 4\n"),
-        ("cut-225", &both[..225], "fresh\ndeny 4\n"),
-        ("cut-324", &both[..324], "fresh\ndeny 4\n"),
-        ("cut-digits", &digits.as_bytes()[..648], "fresh\ndeny 4\n"),
-    ] {
-        let (book, whole) = (watch(name), watch("whole"));
-        let ended = run(&format!("observer {book} deliver -"), input);
-        assert_eq!((ended.status, ended.text().as_str()), (3, lines), "{name}");
-        if lines.starts_with("fresh") {
-            assert_eq!(ended.complaint, "mavunilai: 1 of 2 frames were refused\n", "{name}");
-            fine(&format!("observer {whole} deliver -"), &both[..FRAME]);
-        }
-        assert_eq!(std::fs::read(&book).unwrap(), std::fs::read(&whole).unwrap(), "{name}");
-    }
 }
 
 #[test]
@@ -191,7 +172,7 @@ Of any two registers one begins the other.
     assert!(alone.contains("\n4       -       page 3a1b0ed7 in register\n"), "{alone}");
     let (other, words) = (watch("other"), "have not the same number of heights");
     refused(&format!("show books {kept}/book0 {other}"), &[], words);
-    let block = Block { height: 1, entries: vec![[1; 16]], ..Block::default() };
+    let block = Block { height: 1, entries: [[1; 16]].into(), ..Block::default() };
     let fork = [
         Frame::BlockCertificate { mask: 7, block }.bytes(),
         Frame::FinalizeCertificate { mask: 7, height: 1 }.bytes(),

@@ -31,7 +31,8 @@ fn the_rehearsal_is_that_of_the_reference() {
 }
 
 /// The commands that have a help text.
-const COMMANDS: &str = "frame show diff open call observer replay record try answer rehearsal";
+const COMMANDS: &str =
+    "frame show diff open call observer read check status replay record try answer rehearsal";
 
 #[test]
 fn every_command_has_a_help_text() {
@@ -51,14 +52,6 @@ fn no_line_of_a_help_text_has_more_than_90_columns() {
         let text = String::from_utf8(fine(&format!("help {name}"), &[])).unwrap();
         assert_eq!(text.lines().find(|line| line.chars().count() > 90), None, "{name}");
     }
-}
-
-#[test]
-fn the_version_says_which_replica_it_is() {
-    let name =
-        if cfg!(feature = "proved") { "the proved replica" } else { "the reference replica" };
-    let expected = format!("mavunilai {}, with {name}\n", env!("CARGO_PKG_VERSION"));
-    assert_eq!(String::from_utf8(fine("--version", &[])).unwrap(), expected);
 }
 
 #[test]

@@ -4,7 +4,9 @@ use crate::Random;
 use exchange::colliding;
 use reference::sha256;
 use std::sync::LazyLock;
-use types::{field, head_height, height_at, put_height, Area, Block, Frame, Height, Layout};
+use types::{
+    field, head_height, height_at, put_height, Area, Block, Entries, Frame, Height, Layout,
+};
 use types::{BLOCK, BLOCK_HEIGHT, ENTRY, FRAME, FRAME_HEIGHT, MOST_HEIGHTS};
 
 /// Where the block in a frame has its height.
@@ -85,7 +87,7 @@ pub fn any_block(random: &mut Random, book: &[u8], height: Height) -> Block {
         _ if random.one_in(24) => [random.byte(); 32],
         _ => sha256::digest(area(book, parent, Area::Notarized)),
     };
-    Block { height, parent, digest, entries: any_entries(random) }
+    Block { height, parent, digest, entries: Entries::first_of(&any_entries(random)) }
 }
 
 /// A block for a height: the held one, the notarized one or another.

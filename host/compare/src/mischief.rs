@@ -5,7 +5,8 @@ use crate::frames::any_entry;
 use crate::network::Network;
 use crate::Second;
 use reference::{is_quorum, sha256};
-use types::{field, head_height, height_at, Block, Calls, Frame, Height, ENTRY, FRAME_HEIGHT};
+use types::{field, head_height, height_at, Block, Calls, Entries, Frame, Height};
+use types::{ENTRY, FRAME_HEIGHT};
 
 impl<A: Calls, B: Second> Network<'_, A, B> {
     /// One act of the dishonest replicas, at a height near an honest one's.
@@ -43,7 +44,8 @@ impl<A: Calls, B: Second> Network<'_, A, B> {
         let recent = below.len().saturating_sub(6);
         let parent = self.random.pick(&below[recent..]).cloned();
         for _ in 0..2 {
-            let entries = (0..=self.random.below(3)).map(|_| self.some_entry()).collect();
+            let entries: Vec<_> = (0..=self.random.below(3)).map(|_| self.some_entry()).collect();
+            let entries = Entries::first_of(&entries);
             let mut block = Block { height, entries, ..Block::default() };
             if let Some(parent) = &parent {
                 block.parent = parent.height;
@@ -64,7 +66,7 @@ impl<A: Calls, B: Second> Network<'_, A, B> {
         let below = self.blocks.iter().filter(|block| block.height < height);
         let Some(parent) = below.max_by_key(|block| block.height) else { return };
         let (parent, digest) = (parent.height, sha256::digest(&parent.bytes()));
-        let entries = (0..3).map(|_| self.some_entry()).collect();
+        let entries = [0; 3].map(|_| self.some_entry()).into();
         let block = Block { height, parent, digest, entries };
         self.blocks.push(block.clone());
         let frame = Frame::Proposal { signer: leader, block }.bytes();

@@ -11,7 +11,7 @@ use types::{Calls, Height, ObserverArea, ObserverBook, ObserverLayout};
 
 /// A new observer's book.
 pub fn opened(n: u8, heights: Height) -> Vec<u8> {
-    let book = ObserverBook::open(Rules::SHA256, n.into(), heights.into());
+    let book = ObserverBook::open(Rules::SHA256, n.into(), heights);
     book.map_or_else(|_| Vec::new(), |book| book.bytes().to_vec())
 }
 

@@ -3,7 +3,7 @@
 use crate::frames::{any_entries, any_frame_bytes, any_mask, byte};
 use crate::Random;
 use reference::{is_quorum, sha256};
-use types::{field, head_height, mask_at, put_height, Block, Frame, Height};
+use types::{field, head_height, mask_at, put_height, Block, Entries, Frame, Height};
 use types::{ObserverArea, ObserverLayout, BLOCK, BLOCK_HEIGHT, FRAME, FRAME_HEIGHT};
 
 /// Where the block in a frame has its height.
@@ -52,7 +52,7 @@ pub fn any_observed_block(random: &mut Random, book: &[u8], height: Height) -> B
         _ if random.one_in(24) => [random.byte(); 32],
         _ => sha256::digest(observed(book, parent, ObserverArea::Notarized)),
     };
-    Block { height, parent, digest, entries: any_entries(random) }
+    Block { height, parent, digest, entries: Entries::first_of(&any_entries(random)) }
 }
 
 /// A certificate; of a page the notarized one now and then, or one that differs from it.

@@ -144,7 +144,7 @@ mod tests {
         told.extend(of(&[vote(1, [1; 32]), vote(1, [2; 32])], 0));
         told.extend(of(&round, 0));
         let pages = |signer, height| {
-            let page = |byte| Block { height, entries: vec![[byte; ENTRY]], ..Block::default() };
+            let page = |byte| Block { height, entries: [[byte; ENTRY]].into(), ..Block::default() };
             [1, 2, 2].map(|byte| Frame::Proposal { signer, block: page(byte) })
         };
         told.extend([pages(0, 1), pages(1, 2)].iter().flat_map(|frames| of(frames, 0)));

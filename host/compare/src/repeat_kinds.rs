@@ -193,14 +193,14 @@ fn pending(book: &[u8]) -> Vec<Entry> {
 mod tests {
     use super::*;
     use exchange::colliding;
-    use types::{Block, Book, Frame};
+    use types::{Block, Book, Entries, Frame};
 
     /// A book in which a page with these entries, and one on it with these, are settled.
     fn book(one: &[Entry], two: &[Entry]) -> Result<Vec<u8>, u8> {
         let mut book = Book::open(Rules::SHA256, 4, 2, &[0, 1, 2])?;
-        let first = Block { height: 1, entries: one.to_vec(), ..Block::default() };
+        let first = Block { height: 1, entries: Entries::first_of(one), ..Block::default() };
         let digest = reference::sha256::digest(&first.bytes());
-        let second = Block { height: 2, parent: 1, digest, entries: two.to_vec() };
+        let second = Block { height: 2, parent: 1, digest, entries: Entries::first_of(two) };
         for block in [first, second] {
             book.deliver(&Frame::BlockCertificate { mask: 7, block }.bytes())?;
         }

@@ -96,7 +96,7 @@ mod tests {
 
     /// A proposal of station 0.
     fn proposal(height: Height, byte: u8) -> Frame {
-        let block = Block { height, entries: vec![[byte; ENTRY]], ..Block::default() };
+        let block = Block { height, entries: [[byte; ENTRY]].into(), ..Block::default() };
         Frame::Proposal { signer: 0, block }
     }
 

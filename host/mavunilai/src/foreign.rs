@@ -1,8 +1,9 @@
 //! The calls of the C interface, made safe: slices become pointers and lengths, numbers become answers.
 #![allow(unsafe_code)] // the one place that calls into the static library
 
+pub use types::packing::INTERFACE;
 use types::packing::{unpack_delivered, unpack_done, unpack_move, unpack_size, UNKNOWN};
-use types::{Calls, Counts, Delivered, Move};
+use types::{Calls, Counts, Delivered, Move, Refusal};
 
 // As host/include/mavunilai.h declares them.
 unsafe extern "C" {
@@ -38,6 +39,12 @@ unsafe extern "C" {
         reply: *mut u8,
         reply_len: usize,
     ) -> u64;
+    fn mavunilai_digest(
+        bytes: *const u8,
+        bytes_len: usize,
+        digest: *mut u8,
+        digest_len: usize,
+    ) -> u64;
     fn mavunilai_observer_open(book: *mut u8, book_len: usize, n: u64, heights: u64) -> u64;
     fn mavunilai_observer_deliver(
         book: *mut u8,
@@ -55,9 +62,6 @@ unsafe extern "C" {
     ) -> u64;
 }
 
-/// The number of the interface that this crate knows, as MAVUNILAI_INTERFACE of the header.
-pub const INTERFACE: u64 = 4;
-
 /// Whether the library is of that interface. Each call of [`Proved`] asks this first.
 pub fn fits() -> bool {
     mavunilai_interface() == INTERFACE
@@ -69,6 +73,15 @@ fn fitting(call: impl FnOnce() -> u64) -> u64 {
         return call();
     }
     UNKNOWN.into()
+}
+
+/// The SHA-256 of a block's bytes, or of any others, as the proved replica works it out.
+pub fn digest(bytes: &[u8]) -> Result<[u8; 32], Refusal> {
+    let mut digest = [0; 32];
+    let (at, length) = (digest.as_mut_ptr(), digest.len());
+    // SAFETY: see Proved.
+    let answer = fitting(|| unsafe { mavunilai_digest(bytes.as_ptr(), bytes.len(), at, length) });
+    unpack_done(answer).map(|()| digest).map_err(Refusal::of)
 }
 
 /// The proved replica behind the C interface.

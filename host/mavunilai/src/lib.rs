@@ -29,7 +29,7 @@
 //! use mavunilai::{Block, Frame, Move, ObserverBook, Refusal};
 //! // With the feature: mavunilai::observe(4, 3)?
 //! let mut book = ObserverBook::open(reference::Rules::SHA256, 4, 3)?;
-//! let block = Block { height: 1, entries: vec![[1; 16]], ..Block::default() };
+//! let block = Block { height: 1, entries: [[1; 16]].into(), ..Block::default() };
 //! let vote = Frame::Finalize { signer: 0, height: 1 }.bytes();
 //! assert_eq!(book.deliver(&vote), Err(Refusal::NotACertificate));
 //! book.deliver(&Frame::BlockCertificate { mask: 7, block }.bytes())?;
@@ -47,14 +47,20 @@
 mod foreign;
 
 #[cfg(feature = "proved")]
-pub use foreign::{fits, Proved, INTERFACE};
+pub use foreign::{digest, fits, Proved};
 /// A book in a file: locked while it is open, each call committed together with its frames.
 pub use store;
+pub use types::packing::INTERFACE;
 pub use types::{
-    book_length, held_block, is_second_block, observer_book_length, Block, Book, Calls,
-    Certificate, Counts, Delivered, Frame, Move, ObserverBook, Refusal, Written, BLOCK, ENTRY,
-    FRAME, MOST_HEIGHTS, MOST_REPLICAS,
+    book_length, held_block, is_second_block, nearest_height, observer_book_length, Answered,
+    Block, Book, Calls, Certificate, Counts, Delivered, Entries, Evidence, Frame, Height, Move,
+    ObserverBook, Refusal, TooManyEntries, Written, BLOCK, ENTRY, FRAME, MOST_HEIGHTS,
+    MOST_REPLICAS,
 };
+
+/// The file of the static library that is linked: the archive with which a program in C is linked too.
+#[cfg(feature = "proved")]
+pub const ARCHIVE: &str = env!("MAVUNILAI_ARCHIVE");
 
 /// A new book of the proved replica for replica `own` of `n`, with one leader for each height.
 #[cfg(feature = "proved")]
@@ -64,6 +70,6 @@ pub fn open(n: u64, own: u64, leaders: &[u8]) -> Result<Book<Proved>, Refusal> {
 
 /// A new observer's book of the proved replica, over `n` replicas and so many heights.
 #[cfg(feature = "proved")]
-pub fn observe(n: u64, heights: u64) -> Result<ObserverBook<Proved>, Refusal> {
+pub fn observe(n: u64, heights: Height) -> Result<ObserverBook<Proved>, Refusal> {
     ObserverBook::open(Proved, n, heights)
 }

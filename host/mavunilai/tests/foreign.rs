@@ -8,11 +8,12 @@ mod exports;
 mod foreign;
 
 #[cfg(not(feature = "proved"))]
-use foreign::{fits, Proved, INTERFACE};
+use foreign::{digest, fits, Proved, INTERFACE};
 #[cfg(feature = "proved")]
-use mavunilai::{fits, Proved};
+use mavunilai::{digest, fits, Proved};
 use types::{
-    Block, Book, Calls, Certificate, Counts, Delivered, Frame, Move, ObserverBook, Refusal,
+    nearest_height, Block, Book, Calls, Certificate, Counts, Delivered, Frame, Height, Move,
+    ObserverBook, Refusal,
 };
 
 /// Replica 2 of 4 with three heights.
@@ -87,7 +88,10 @@ fn refusals_come_through() {
     let mut book = book();
     assert_eq!(book.deliver(&[]), Err(Refusal::Malformed));
     assert_eq!(book.signal(2), Err(Refusal::NotDue));
-    assert_eq!(book.signal(u64::MAX), Err(Refusal::NoSuchHeight));
+    for number in [4, 255, 256, 257, u64::MAX] {
+        assert_eq!(book.signal(nearest_height(number)), Err(Refusal::NoSuchHeight));
+        assert_eq!(Proved.signal(&mut book.bytes().to_vec(), number), Err(6));
+    }
     assert_eq!(book.signal(1), Ok(()));
     assert_eq!(book.fetch(5, 1), Err(Refusal::NoCertificate));
     assert!(Book::from_bytes(Proved, book.bytes().to_vec()).is_ok());
@@ -96,9 +100,17 @@ fn refusals_come_through() {
     assert_eq!(Proved.read(&bytes, &mut []), 0);
 }
 
+#[test]
+fn digests_are_those_of_the_host() {
+    let bytes = [7; 200];
+    for length in 0..=bytes.len() {
+        assert_eq!(digest(&bytes[..length]), Ok(sha256::digest(&bytes[..length])));
+    }
+}
+
 /// An observer of four replicas and two heights, and a block of the first with its certificate.
 fn observer() -> (ObserverBook<Proved>, [u8; types::FRAME]) {
-    let block = Block { height: 1, entries: vec![[3; 16]], ..Block::default() };
+    let block = Block { height: 1, entries: [[3; 16]].into(), ..Block::default() };
     let certificate = Frame::BlockCertificate { mask: 7, block }.bytes();
     (ObserverBook::open(Proved, 4, 2).unwrap(), certificate)
 }
@@ -131,7 +143,7 @@ fn refusals_of_an_observer_come_through() {
     assert_eq!(observer.deliver(&[]), Err(Refusal::Malformed));
     let high = Frame::DummyCertificate { mask: 7, height: 3 }.bytes();
     assert_eq!(observer.deliver(&high), Err(Refusal::NoSuchHeight));
-    for (n, heights) in [(0, 1), (17, 1), (4, 0), (4, 64), (4, u64::MAX)] {
+    for (n, heights) in [(0, 1), (17, 1), (4, 0), (4, 64), (4, Height::MAX)] {
         assert_eq!(ObserverBook::open(Proved, n, heights).err(), Some(Refusal::OutOfRange));
     }
     let mut station = book().bytes().to_vec();
@@ -188,6 +200,7 @@ fn a_library_of_another_interface_is_not_called() {
     assert_eq!(book.signal(1), Err(Refusal::OtherInterface));
     assert_eq!(book.submit(&[3; 16]), Err(Refusal::OtherInterface));
     assert_eq!(book.log(), Err(Refusal::OtherInterface));
+    assert_eq!(digest(&vote), Err(Refusal::OtherInterface));
     assert_eq!(book.fetch(6, 1), Err(Refusal::OtherInterface));
     assert_eq!(Proved.read(logged.bytes(), &mut [0; 16]), 0);
     assert_eq!(book.bytes(), before);

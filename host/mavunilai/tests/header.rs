@@ -29,6 +29,10 @@ fn numbers() -> BTreeMap<String, u64> {
     text.lines().filter_map(number).collect()
 }
 
+/// The programs in C that tests here and beside this file run.
+const TESTS: [&str; 8] =
+    ["promises", "observers", "repeats", "texts", "readers", "makers", "digests", "packet_each"];
+
 #[test]
 fn header_example_and_tests_compile_without_warnings() {
     for language in LANGUAGES {
@@ -36,7 +40,7 @@ fn header_example_and_tests_compile_without_warnings() {
         for example in ["example/first_call.c", "example/observer.c"] {
             assert!(compiles(language, &["-fsyntax-only", &word(example)]));
         }
-        for program in ["promises", "observers", "repeats", "texts"] {
+        for program in TESTS {
             let program = word(&format!("mavunilai/tests/c/{program}.c"));
             assert!(compiles(language, &["-fsyntax-only", &program]));
         }
@@ -74,7 +78,7 @@ fn row(bytes: &[u8]) -> String {
 /// What the header says of second pages, over a book that holds a page of height 2 of three heights.
 #[test]
 fn a_second_page_is_told_as_by_the_types() {
-    let page = |height, byte| Block { height, entries: vec![[byte; 16]], ..Block::default() };
+    let page = |height, byte| Block { height, entries: [[byte; 16]].into(), ..Block::default() };
     let proposal = |height, byte| Frame::Proposal { signer: 0, block: page(height, byte) }.bytes();
     let mut book = Book::open(reference::Rules::SHA256, 4, 2, &[0; 3]).unwrap();
     book.deliver(&proposal(2, 1)).unwrap();
@@ -137,7 +141,7 @@ fn lengths_and_maxima_are_those_of_the_types() {
     is("MOST_PENDING", Layout::new(1).pending().len() / types::ENTRY);
     is("MOST_BOOK", book_length(types::MOST_HEIGHTS));
     is("MOST_OBSERVER_BOOK", observer_book_length(types::MOST_HEIGHTS));
-    let entries = vec![[1; types::ENTRY]; 100];
+    let entries = types::Entries::first_of(&[[1; types::ENTRY]; 100]);
     let most = Block::parts(&Block { entries, ..Block::default() }.bytes()).entries.len();
     is("MOST_PAGE_ENTRIES", most);
     is("MOST_REGISTER", usize::from(types::MOST_HEIGHTS) * most * types::ENTRY);
@@ -234,9 +238,9 @@ fn fields_of_a_page_are_where_the_types_have_them() {
     assert_eq!(numbers["PAGE_HEIGHT"], at(Block { height: 1, ..none.clone() }));
     assert_eq!(numbers["PAGE_BACK_HEIGHT"], at(Block { parent: 1, ..none.clone() }));
     assert_eq!(numbers["PAGE_BACK_DIGEST"], at(Block { digest: [1; 32], ..none.clone() }));
-    let counted = Block { entries: vec![[0; 16]], ..none.clone() };
+    let counted = Block { entries: [[0; 16]].into(), ..none.clone() };
     assert_eq!(numbers["PAGE_COUNT"], at(counted.clone()));
-    let filled = Block { entries: vec![[1; 16]], ..none.clone() };
+    let filled = Block { entries: [[1; 16]].into(), ..none.clone() };
     assert_eq!(numbers["PAGE_ENTRIES"], differs(filled.bytes(), counted.bytes()));
 }
 
@@ -258,7 +262,6 @@ fn moves_have_their_numbers() {
 }
 
 #[test]
-#[cfg(feature = "proved")]
 fn interface_is_that_of_the_wrapper() {
     assert_eq!(numbers()["INTERFACE"], mavunilai::INTERFACE);
 }
@@ -266,7 +269,7 @@ fn interface_is_that_of_the_wrapper() {
 #[test]
 #[cfg(feature = "proved")]
 fn promises_are_kept() {
-    for name in ["promises", "observers", "repeats"] {
+    for name in ["promises", "observers", "repeats", "packet_each"] {
         let program = word(&format!("mavunilai/tests/c/{name}.c"));
         for language in LANGUAGES {
             let files = [&program, "-x", "none", env!("MAVUNILAI_ARCHIVE")];
@@ -295,7 +298,7 @@ current height 2, settled height 0
 #[test]
 #[cfg(feature = "proved")]
 fn observer_example_runs() {
-    let block = Block { height: 1, entries: vec![*b"\0swap A12 to B40"], ..Block::default() };
+    let block = Block { height: 1, entries: [*b"\0swap A12 to B40"].into(), ..Block::default() };
     let frames = [
         Frame::BlockCertificate { mask: 7, block }.bytes(),
         Frame::FinalizeCertificate { mask: 13, height: 1 }.bytes(),

@@ -16,10 +16,21 @@ const FILES: [&str; 4] = [
     "lib/pkgconfig/mavunilai.pc",
 ];
 
-/// Runs a script of that name with the library of this build.
-fn install(script: &Path, words: &[&str]) -> Output {
+/// What it installs besides, unless the library alone is asked for.
+const COMMAND: [&str; 3] =
+    ["bin/mavunilai", "share/man/man1/mavunilai.1", "share/bash-completion/completions/mavunilai"];
+
+/// A script of that name with the library of this build.
+fn script(script: &Path, words: &[&str]) -> Command {
     let library = Path::new(env!("MAVUNILAI_ARCHIVE")).parent().unwrap();
-    Command::new(script).args(words).env("MAVUNILAI_LIB", library).output().unwrap()
+    let mut command = Command::new(script);
+    command.args(words).env("MAVUNILAI_LIB", library);
+    command
+}
+
+/// What such a script says, where the library alone is asked for.
+fn install(named: &Path, words: &[&str]) -> Output {
+    script(named, &[&["--library"], words].concat()).output().unwrap()
 }
 
 /// Whether there is a C compiler; the gate sees that there is.
@@ -118,6 +129,66 @@ fn the_shared_object_is_found_by_its_number() {
     assert!(!run().success());
 }
 
+/// The version of the packages is that of the pkg-config file and of the shared object's name.
+#[test]
+fn the_version_is_told() {
+    if !has_compiler() {
+        return eprintln!("not tried, no C compiler");
+    }
+    let prefix = fresh("version");
+    assert!(install(&host("install"), &[prefix.to_str().unwrap()]).status.success());
+    let (version, number) = (env!("CARGO_PKG_VERSION"), mavunilai::INTERFACE);
+    let package = fs::read_to_string(prefix.join("lib/pkgconfig/mavunilai.pc")).unwrap();
+    assert!(package.lines().any(|line| line == format!("Version: {version}")), "{package}");
+    let named = |name: &str| fs::read_link(prefix.join("lib").join(name)).unwrap();
+    assert_eq!(named("libmavunilai.so"), Path::new(&format!("libmavunilai.so.{number}")));
+    let versioned = format!("libmavunilai.so.{version}");
+    assert_eq!(named(&format!("libmavunilai.so.{number}")), Path::new(&versioned));
+    assert!(prefix.join("lib").join(versioned).metadata().unwrap().is_file());
+}
+
+/// The command has the proved replica, and its manual page and completions are those that it prints.
+#[test]
+fn the_command_is_installed() {
+    if !has_compiler() {
+        return eprintln!("not tried, no C compiler");
+    }
+    let prefix = fresh("command");
+    let command = &mut script(&host("install"), &[prefix.to_str().unwrap()]);
+    command.env("CARGO_TARGET_DIR", scratch("command_build"));
+    let told = printed(command.env("CARGO_PROFILE_RELEASE_OPT_LEVEL", "0"));
+    let [command, page, completions] = COMMAND.map(|file| prefix.join(file));
+    assert_eq!(told.lines().count(), FILES.len() + 2 + COMMAND.len(), "{told}");
+    let says = |words: &[&str]| printed(Command::new(&command).args(words));
+    let version = says(&["--version"]);
+    assert!(version.contains(env!("CARGO_PKG_VERSION")) && version.contains("the proved replica"));
+    assert_eq!(fs::read_to_string(page).unwrap(), says(&["help", "--man"]));
+    assert_eq!(fs::read_to_string(completions).unwrap(), says(&["help", "--bash"]));
+}
+
+/// Without cargo the library can be installed alone, and what is needed is said.
+#[test]
+fn cargo_is_asked_for() {
+    if !has_compiler() {
+        return eprintln!("not tried, no C compiler");
+    }
+    let prefix = fresh("no_cargo");
+    let run = |words: &[&str]| {
+        let command = &mut script(&host("install"), words);
+        let command = command.arg(&prefix).env("HOME", "/nowhere").env("CARGO_HOME", "/nowhere");
+        command.env("PATH", "/usr/bin:/bin").output().unwrap()
+    };
+    if Path::new("/usr/bin/cargo").exists() {
+        return eprintln!("not tried, the system has its own cargo");
+    }
+    let told = run(&[]);
+    assert_eq!(told.status.code(), Some(2));
+    assert!(String::from_utf8(told.stderr).unwrap().contains("no cargo"));
+    assert!(!prefix.exists());
+    assert!(run(&["--library"]).status.success());
+    assert!(prefix.join(FILES[0]).exists() && !prefix.join(COMMAND[0]).exists());
+}
+
 #[test]
 fn nothing_is_overwritten_unasked() {
     if !has_compiler() {
@@ -156,9 +227,44 @@ fn a_library_of_another_interface_is_not_installed() {
     assert!(!prefix.exists());
 }
 
+/// What the build script of the crate tells cargo when MAVUNILAI_LIB names a folder.
+fn told_to_cargo(script: &Path, folder: &Path) -> String {
+    let command = &mut Command::new(script);
+    command.env("CARGO_FEATURE_PROVED", "1").env("MAVUNILAI_LIB", folder);
+    printed(command)
+}
+
+/// MAVUNILAI_LIB may name the folder that was installed to, or its `lib`: for cargo, and to install once more.
+#[test]
+fn what_is_installed_is_found() {
+    if !has_compiler() {
+        return eprintln!("not tried, no C compiler");
+    }
+    let (prefix, script) = (fresh("found"), scratch("build_script"));
+    assert!(install(&host("install"), &[prefix.to_str().unwrap()]).status.success());
+    let command = &mut Command::new(option_env!("RUSTC").unwrap_or("rustc"));
+    command.env("CARGO_MANIFEST_DIR", host("mavunilai")).arg("--edition=2021");
+    command.arg(host("mavunilai/build.rs")).arg("-o").arg(&script);
+    assert_eq!(printed(command), "");
+    let library = prefix.join("lib");
+    for folder in [&prefix, &library] {
+        let told = told_to_cargo(&script, folder);
+        let search = format!("cargo::rustc-link-search=native={}", library.display());
+        assert!(told.lines().any(|line| line == search), "{told}");
+        assert!(told.contains("cargo::rustc-link-lib=static=mavunilai"), "{told}");
+        let again = fresh("found_again");
+        let command = &mut Command::new(host("install"));
+        printed(command.arg("--library").arg(&again).env("MAVUNILAI_LIB", folder));
+        assert!(again.join("lib/libmavunilai.a").is_file());
+    }
+    assert!(told_to_cargo(&script, &fresh("nothing")).contains("cargo::error=the proved replica"));
+    let built = Path::new(env!("MAVUNILAI_ARCHIVE")).parent().unwrap();
+    assert!(told_to_cargo(&script, built).contains("cargo::rustc-link-lib=static="));
+}
+
 #[test]
 fn usage_is_told() {
-    let code = |words: &[&str]| install(&host("install"), words).status.code();
+    let code = |words: &[&str]| script(&host("install"), words).output().unwrap().status.code();
     assert_eq!(code(&["--help"]), Some(0));
     assert_eq!(code(&[]), Some(2));
     assert_eq!(code(&["one", "two"]), Some(2));

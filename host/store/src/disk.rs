@@ -1,17 +1,22 @@
 //! The files of the machine.
 
-use crate::Files;
+use crate::flock::{self, Signed};
+use crate::{Files, Holder, Patience};
 use std::fs::{self, File, OpenOptions};
 use std::io::{Error, ErrorKind, Read, Result, Write};
-use std::os::unix::fs::MetadataExt;
+use std::os::unix::fs::{fchown, MetadataExt};
 use std::path::{Path, PathBuf};
 
 /// The file system of the machine. Locks are those of `flock`: they bind all who use this crate, and nobody else.
 #[derive(Clone, Copy, Debug, Default)]
-pub struct Disk;
+pub struct Disk {
+    /// How long a lock that another process has is waited for.
+    pub patience: Patience,
+}
 
 impl Files for Disk {
-    type Lock = File;
+    type Lock = Signed;
+    type Held = File;
 
     fn resolve(&self, path: &Path) -> Result<PathBuf> {
         if let Some(missing) = missing(path)? {
@@ -28,10 +33,50 @@ impl Files for Disk {
         path.canonicalize()
     }
 
-    fn lock(&self, path: &Path) -> Result<File> {
-        let file = OpenOptions::new().create(true).truncate(false).write(true).open(path)?;
-        file.lock()?;
-        Ok(file)
+    fn lock(&self, path: &Path, like: &Path) -> Result<Signed> {
+        let file = match create(path, like) {
+            Err(error) if error.kind() == ErrorKind::AlreadyExists => open_to_lock(path)?,
+            created => created?,
+        };
+        belong(&file, like)?;
+        flock::wait(&file, path, self.patience, || flock::holder(path))?;
+        Ok(Signed::new(file))
+    }
+
+    fn holder(&self, path: &Path) -> Result<Option<Holder>> {
+        flock::holder(path)
+    }
+
+    fn hold(&self, path: &Path) -> Result<Option<File>> {
+        loop {
+            let Some(file) = found(open_to_lock(path))? else {
+                return Ok(None);
+            };
+            let unknown = || Ok(Some(Holder { process: None }));
+            flock::wait(&file, path, self.patience, unknown)?;
+            // Who had it may have replaced it meanwhile.
+            if is_file(&file, path)? {
+                return Ok(Some(file));
+            }
+        }
+    }
+
+    fn is(&self, held: &File, path: &Path) -> Result<bool> {
+        Ok(is_file(held, path)? && held.metadata()?.nlink() == 1)
+    }
+
+    fn has_name(&self, held: &File, free: &Path) -> Result<Option<bool>> {
+        if held.metadata()?.nlink() == 0 {
+            return Ok(Some(false));
+        }
+        // Some file systems keep a name for a file that is open: then they do so for one that is surely removed.
+        let removed = create(free, free)?;
+        self.remove(free)?;
+        Ok((removed.metadata()?.nlink() == 0).then_some(true))
+    }
+
+    fn empty(&self, held: &File) -> Result<()> {
+        held.set_len(0)
     }
 
     fn read(&self, path: &Path, most: usize) -> Result<Option<Vec<u8>>> {
@@ -45,10 +90,7 @@ impl Files for Disk {
 
     fn write(&self, path: &Path, bytes: &[u8], like: &Path) -> Result<()> {
         self.remove(path)?;
-        let mut file = OpenOptions::new().create_new(true).write(true).open(path)?;
-        if let Some(like) = found(fs::metadata(like))? {
-            file.set_permissions(like.permissions())?;
-        }
+        let mut file = create(path, like)?;
         file.write_all(bytes)?;
         file.sync_all()
     }
@@ -67,11 +109,53 @@ impl Files for Disk {
 }
 
 /// None where the error is that there is no such file.
-fn found<T>(outcome: Result<T>) -> Result<Option<T>> {
+pub fn found<T>(outcome: Result<T>) -> Result<Option<T>> {
     match outcome {
         Err(error) if error.kind() == ErrorKind::NotFound => Ok(None),
         outcome => outcome.map(Some),
     }
+}
+
+/// Makes a file that belongs to whom another one belongs to and is as private, if that is there.
+fn create(path: &Path, like: &Path) -> Result<File> {
+    let file = OpenOptions::new().create_new(true).write(true).open(path)?;
+    belong(&file, like)?;
+    if let Some(like) = found(fs::metadata(like))? {
+        file.set_permissions(like.permissions())?;
+    }
+    Ok(file)
+}
+
+/// Opens a file to lock it, only to read where it may not be written: it can be locked then too.
+fn open_to_lock(path: &Path) -> Result<File> {
+    match OpenOptions::new().write(true).open(path) {
+        Err(error) if error.kind() == ErrorKind::PermissionDenied => {
+            File::open(path).map_err(|_| error)
+        }
+        opened => opened,
+    }
+}
+
+/// Whether a name is that of an open file, itself and no link.
+fn is_file(file: &File, path: &Path) -> Result<bool> {
+    let Some(named) = found(fs::symlink_metadata(path))? else {
+        return Ok(false);
+    };
+    let opened = file.metadata()?;
+    Ok((named.dev(), named.ino()) == (opened.dev(), opened.ino()))
+}
+
+/// Lets a file belong to the user and the group of another one, if that is there. Only the administrator may give both;
+/// others give the group if they are in it, else it stays theirs.
+fn belong(file: &File, like: &Path) -> Result<()> {
+    let (Some(like), own) = (found(fs::metadata(like))?, file.metadata()?) else {
+        return Ok(());
+    };
+    if (like.uid(), like.gid()) != (own.uid(), own.gid()) {
+        let given = fchown(file, Some(like.uid()), Some(like.gid()));
+        _ = given.or_else(|_| fchown(file, None, Some(like.gid())));
+    }
+    Ok(())
 }
 
 /// The folder of a file.

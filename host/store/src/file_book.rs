@@ -1,27 +1,32 @@
 //! A book in a file.
 
+use crate::beside::{outbox_at, said_at};
+use crate::hold::Hold;
 use crate::outbox::Outbox;
-use crate::place::{Place, FRAMES};
-use crate::{pile, Disk, Error, Files};
+use crate::place::{Place, FRAMES, SAID};
+use crate::{pile, Disk, Error, Files, Said};
 use std::path::Path;
-use types::{Book, Calls, Counts, Delivered, Move, Written, ENTRY, FRAME};
+use types::{Book, Calls, Counts, Delivered, Height, Move, Written, ENTRY, FRAME};
 
 /// A book that is kept in a file and locked until this value is dropped. Every call that changes the book is
 /// committed when it returns; one that returns an error of [`Error::Files`] may be, which who opens the book again
-/// will see.
+/// will see. One that would contradict what has left the station ends with [`Error::Contradiction`], and one on a book
+/// that was renamed, removed or replaced meanwhile with [`Error::Moved`].
 #[derive(Debug)]
 pub struct FileBook<C, F: Files = Disk> {
     book: Book<C>,
     unsent: Written,
+    said: Said,
+    /// Whether `said` is what stands beside the book.
+    recorded: bool,
     stale: bool,
-    place: Place<F>,
-    _lock: F::Lock,
+    hold: Hold<F>,
 }
 
 /// The bytes of a book in a file, without a lock: they are whole and synced, but may be old by the time they are
 /// looked at.
 pub fn read(path: impl AsRef<Path>) -> Result<Vec<u8>, Error> {
-    read_in(Disk, path.as_ref())
+    read_in(Disk::default(), path.as_ref())
 }
 
 /// [`read`] in another file system.
@@ -34,56 +39,72 @@ pub fn read_in<F: Files>(files: F, path: &Path) -> Result<Vec<u8>, Error> {
 }
 
 impl<C: Calls + Clone> FileBook<C> {
-    /// Keeps a new book in a file that is not there yet.
+    /// Keeps a new book in a file that is not there yet, and has no word beside it of what an earlier book said.
     pub fn create(book: Book<C>, path: impl AsRef<Path>) -> Result<FileBook<C>, Error> {
-        FileBook::create_in(Disk, book, path.as_ref())
+        FileBook::create_in(Disk::default(), book, path.as_ref())
     }
 
-    /// Keeps a book in a file in place of what was there, frames that wait included.
+    /// Keeps a book in a file in place of what was there, frames that wait and word of what was said included: for a
+    /// new season.
     pub fn overwrite(book: Book<C>, path: impl AsRef<Path>) -> Result<FileBook<C>, Error> {
-        FileBook::overwrite_in(Disk, book, path.as_ref())
+        FileBook::overwrite_in(Disk::default(), book, path.as_ref())
     }
 
     /// Opens the book in a file; waits while another has it open. What [`FileBook::unsent`] gives is to be sent
     /// first.
     pub fn open(calls: C, path: impl AsRef<Path>) -> Result<FileBook<C>, Error> {
-        FileBook::open_in(Disk, calls, path.as_ref())
+        FileBook::open_in(Disk::default(), calls, path.as_ref())
     }
 }
 
 impl<C: Calls + Clone, F: Files> FileBook<C, F> {
     /// [`FileBook::create`] in another file system.
     pub fn create_in(files: F, book: Book<C>, path: &Path) -> Result<FileBook<C, F>, Error> {
-        let (place, lock) = Place::claim(files, path)?;
-        FileBook::begin(place, lock, book)
+        let hold = Hold::create(files, path, book.bytes())?;
+        Ok(FileBook::new(book, hold, None))
     }
 
     /// [`FileBook::overwrite`] in another file system.
     pub fn overwrite_in(files: F, book: Book<C>, path: &Path) -> Result<FileBook<C, F>, Error> {
-        let place = Place::resolve(files, path)?;
-        let lock = place.lock()?;
-        FileBook::begin(place, lock, book)
+        let hold = Hold::overwrite(files, path, book.bytes())?;
+        Ok(FileBook::new(book, hold, None))
     }
 
-    /// [`FileBook::open`] in another file system.
+    /// [`FileBook::open`] in another file system, or with another patience: [`Disk`] has one.
     pub fn open_in(files: F, calls: C, path: &Path) -> Result<FileBook<C, F>, Error> {
-        let (place, lock, bytes) = Place::hold(files, path)?;
+        let (hold, bytes) = Hold::open(files, path)?;
         let book = Book::from_bytes(calls, bytes)?;
         // Who had it before may have ended between renaming and syncing: nothing is answered from a name that is not.
-        place.sync_folder()?;
-        let unsent = waiting(&place, book.bytes())?;
-        Ok(FileBook { book, unsent, stale: false, place, _lock: lock })
+        hold.place.sync_folder()?;
+        let said = said_at(&hold.place)?;
+        if said.as_ref().is_some_and(|said| !said.is_of(&book)) {
+            return Err(Error::Said(hold.place.beside(SAID)));
+        }
+        let frames = waiting(&hold, book.bytes())?;
+        let mut opened = FileBook::new(book, hold, said);
+        if !frames.is_empty() {
+            let said = opened.said.after(&frames, opened.book.own())?;
+            opened.record(said)?;
+            opened.unsent = frames;
+        }
+        Ok(opened)
     }
 
-    /// Puts the first bytes of a book in its place.
-    fn begin(place: Place<F>, lock: F::Lock, book: Book<C>) -> Result<FileBook<C, F>, Error> {
-        place.begin(book.bytes())?;
-        Ok(FileBook { book, unsent: Vec::new(), stale: false, place, _lock: lock })
+    /// A book with nothing to send; what it has said it shows itself where nothing is beside it.
+    fn new(book: Book<C>, hold: Hold<F>, said: Option<Said>) -> FileBook<C, F> {
+        let recorded = said.is_some();
+        let said = said.unwrap_or_else(|| Said::shown_by(&book));
+        FileBook { book, unsent: Vec::new(), said, recorded, stale: false, hold }
     }
 
     /// The book as it is in the file, for everything that changes nothing.
     pub fn book(&self) -> &Book<C> {
         &self.book
+    }
+
+    /// What has left the station, or is [`FileBook::unsent`] and may.
+    pub fn said(&self) -> &Said {
+        &self.said
     }
 
     /// The frames that are to be sent: the book that cast them is synced. Until they are acknowledged no call is
@@ -95,7 +116,9 @@ impl<C: Calls + Clone, F: Files> FileBook<C, F> {
     /// Acknowledges that the frames are sent, or are in other hands that will not lose them.
     pub fn sent(&mut self) -> Result<(), Error> {
         if !self.unsent.is_empty() {
-            self.place.remove_beside(FRAMES)?;
+            let removed = self.hold.remove_beside(FRAMES);
+            self.stale |= matches!(removed, Err(Error::Moved(_)));
+            removed?;
             self.unsent.clear();
         }
         Ok(())
@@ -107,8 +130,8 @@ impl<C: Calls + Clone, F: Files> FileBook<C, F> {
     where
         F: Clone,
     {
-        let pile = Place::resolve(self.place.files.clone(), path.as_ref())?;
-        if pile.path == self.place.path {
+        let pile = Place::resolve(self.hold.place.files.clone(), path.as_ref())?;
+        if pile.path == self.hold.place.path {
             return Err(Error::Own(pile.path));
         }
         pile::append(&pile, &self.unsent)?;
@@ -127,7 +150,7 @@ impl<C: Calls + Clone, F: Files> FileBook<C, F> {
     }
 
     /// Tells that the timer of a height fired.
-    pub fn signal(&mut self, height: u64) -> Result<(), Error> {
+    pub fn signal(&mut self, height: Height) -> Result<(), Error> {
         self.change(|book| Ok((book.signal(height)?, Vec::new())))
     }
 
@@ -164,36 +187,46 @@ impl<C: Calls + Clone, F: Files> FileBook<C, F> {
         }
         let mut book = self.book.clone();
         let (answer, frames) = calls(&mut book)?;
+        if frames.is_empty() && book.bytes() == self.book.bytes() {
+            return Ok(answer);
+        }
+        let said = self.said.after(&frames, book.own())?;
         self.stale = true;
         self.commit(&book, &frames)?;
+        if !frames.is_empty() {
+            self.record(said)?;
+        }
         (self.stale, self.book, self.unsent) = (false, book, frames);
         Ok(answer)
     }
 
     /// The order of the page above: the frames beside the book, then the book.
-    fn commit(&self, book: &Book<C>, frames: &[[u8; FRAME]]) -> Result<(), Error> {
+    fn commit(&mut self, book: &Book<C>, frames: &[[u8; FRAME]]) -> Result<(), Error> {
+        self.hold.look_for(self.book.bytes())?;
         if !frames.is_empty() {
             let outbox = Outbox::new(book.bytes(), frames);
-            self.place.put_beside(FRAMES, outbox.text().as_bytes())?;
+            self.hold.put_beside(FRAMES, outbox.text().as_bytes())?;
         }
-        if frames.is_empty() && book.bytes() == self.book.bytes() {
-            return Ok(());
+        self.hold.replace(book.bytes())
+    }
+
+    /// Keeps what the station has said, synced, before it leaves.
+    fn record(&mut self, said: Said) -> Result<(), Error> {
+        if !self.recorded || said != self.said {
+            self.hold.put_beside(SAID, said.text().as_bytes())?;
+            self.hold.place.sync_folder()?;
+            (self.said, self.recorded) = (said, true);
         }
-        self.place.replace(book.bytes())
+        Ok(())
     }
 }
 
 /// The frames that an earlier life left beside this book. Those of another book were never cast: they are dropped.
-fn waiting<F: Files>(place: &Place<F>, book: &[u8]) -> Result<Written, Error> {
-    let path = place.beside(FRAMES);
-    let text = place.files.read(&path, 1 << 12).map_err(Error::files("read", &path))?;
-    let Some(text) = text else {
-        return Ok(Vec::new());
-    };
-    let outbox = Outbox::parse(&text).ok_or(Error::Foreign(path))?;
-    if outbox.names(book) {
-        return Ok(outbox.frames);
+fn waiting<F: Files>(hold: &Hold<F>, book: &[u8]) -> Result<Written, Error> {
+    match outbox_at(&hold.place)? {
+        Some(outbox) if outbox.names(book) => return Ok(outbox.frames),
+        Some(_) => hold.remove_beside(FRAMES)?,
+        None => {}
     }
-    place.remove_beside(FRAMES)?;
     Ok(Vec::new())
 }

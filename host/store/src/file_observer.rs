@@ -1,65 +1,58 @@
 //! An observer's book in a file.
 
-use crate::place::Place;
+use crate::hold::Hold;
 use crate::{Disk, Error, Files};
 use std::path::Path;
 use types::{Calls, Delivered, Move, ObserverBook, Refusal};
 
 /// An observer's book that is kept in a file and locked until this value is dropped. An observer says nothing, so that
 /// no frames wait beside it; but what a call answers is in the file, and synced, when it returns. A call that returns
-/// an error of [`Error::Files`] may be committed, which who opens the book again will see.
+/// an error of [`Error::Files`] may be committed, which who opens the book again will see; one on a book that was
+/// renamed, removed or replaced meanwhile ends with [`Error::Moved`].
 #[derive(Debug)]
 pub struct FileObserver<C, F: Files = Disk> {
     book: ObserverBook<C>,
     stale: bool,
-    place: Place<F>,
-    _lock: F::Lock,
+    hold: Hold<F>,
 }
 
 impl<C: Calls + Clone> FileObserver<C> {
     /// Keeps a new book in a file that is not there yet.
     pub fn create(book: ObserverBook<C>, path: impl AsRef<Path>) -> Result<Self, Error> {
-        FileObserver::create_in(Disk, book, path.as_ref())
+        FileObserver::create_in(Disk::default(), book, path.as_ref())
     }
 
     /// Keeps a book in a file in place of what was there.
     pub fn overwrite(book: ObserverBook<C>, path: impl AsRef<Path>) -> Result<Self, Error> {
-        FileObserver::overwrite_in(Disk, book, path.as_ref())
+        FileObserver::overwrite_in(Disk::default(), book, path.as_ref())
     }
 
     /// Opens the book in a file; waits while another has it open.
     pub fn open(calls: C, path: impl AsRef<Path>) -> Result<Self, Error> {
-        FileObserver::open_in(Disk, calls, path.as_ref())
+        FileObserver::open_in(Disk::default(), calls, path.as_ref())
     }
 }
 
 impl<C: Calls + Clone, F: Files> FileObserver<C, F> {
     /// [`FileObserver::create`] in another file system.
     pub fn create_in(files: F, book: ObserverBook<C>, path: &Path) -> Result<Self, Error> {
-        let (place, lock) = Place::claim(files, path)?;
-        FileObserver::begin(place, lock, book)
+        let hold = Hold::create(files, path, book.bytes())?;
+        Ok(FileObserver { book, stale: false, hold })
     }
 
     /// [`FileObserver::overwrite`] in another file system.
     pub fn overwrite_in(files: F, book: ObserverBook<C>, path: &Path) -> Result<Self, Error> {
-        let place = Place::resolve(files, path)?;
-        let lock = place.lock()?;
-        FileObserver::begin(place, lock, book)
+        let hold = Hold::overwrite(files, path, book.bytes())?;
+        Ok(FileObserver { book, stale: false, hold })
     }
 
-    /// [`FileObserver::open`] in another file system.
+    /// [`FileObserver::open`] in another file system, or with another patience: [`Disk`] has one.
     pub fn open_in(files: F, calls: C, path: &Path) -> Result<Self, Error> {
-        let (place, lock, bytes) = Place::hold(files, path)?;
+        let (hold, bytes) = Hold::open(files, path)?;
         let book = ObserverBook::from_bytes(calls, bytes)?;
         // Who had it before may have ended between renaming and syncing: nothing is answered from a name that is not.
-        place.sync_folder()?;
-        Ok(FileObserver { book, stale: false, place, _lock: lock })
-    }
-
-    /// Puts the first bytes of a book in its place; frames of a station's book that was there go after it has gone.
-    fn begin(place: Place<F>, lock: F::Lock, book: ObserverBook<C>) -> Result<Self, Error> {
-        place.begin(book.bytes())?;
-        Ok(FileObserver { book, stale: false, place, _lock: lock })
+        hold.place.sync_folder()?;
+        Ok(FileObserver { book, stale: false, hold })
     }
 
     /// The book as it is in the file, for everything that changes nothing.
@@ -98,7 +91,8 @@ impl<C: Calls + Clone, F: Files> FileObserver<C, F> {
         let answer = calls(&mut book)?;
         if book.bytes() != self.book.bytes() {
             self.stale = true;
-            self.place.replace(book.bytes())?;
+            self.hold.look_for(self.book.bytes())?;
+            self.hold.replace(book.bytes())?;
             (self.stale, self.book) = (false, book);
         }
         Ok(answer)

@@ -1,17 +1,24 @@
 //! A file that is replaced as a whole, and the files beside it.
 
-use crate::{Error, Files};
+use crate::{Error, Files, Holder};
+use std::io::ErrorKind;
 use std::path::{Path, PathBuf};
 use types::{book_length, MOST_HEIGHTS};
 
 /// The ending of the file of the frames that wait.
 pub const FRAMES: &str = ".frames";
 
-/// The endings of the files beside one that is replaced.
-const BESIDE: [&str; 3] = [".lock", ".new", FRAMES];
+/// The ending of the file of what the station has said.
+pub const SAID: &str = ".said";
 
-/// A place that is locked, with the bytes that are there.
-pub type Held<F> = (Place<F>, <F as Files>::Lock, Vec<u8>);
+/// The ending of the file that is locked.
+const LOCK: &str = ".lock";
+
+/// The ending of a file that is being written.
+const NEW: &str = ".new";
+
+/// The endings of the files beside one that is replaced.
+const BESIDE: [&str; 4] = [LOCK, NEW, FRAMES, SAID];
 
 /// A file, by its one path, in a file system.
 #[derive(Clone, Debug)]
@@ -32,40 +39,11 @@ impl<F: Files> Place<F> {
         Ok(Place { files, path })
     }
 
-    /// Locks the place of a file that is not there yet.
-    pub fn claim(files: F, path: &Path) -> Result<(Place<F>, F::Lock), Error> {
-        let place = Place::resolve(files, path)?;
-        let free = || match place.read(0)? {
-            None => Ok(()),
-            Some(_) => Err(Error::Exists(path.to_path_buf())),
-        };
-        free()?;
-        let lock = place.lock()?;
-        free()?;
-        Ok((place, lock))
-    }
-
-    /// Locks the place of a book that is there, and reads it.
-    pub fn hold(files: F, path: &Path) -> Result<Held<F>, Error> {
-        let place = Place::resolve(files, path)?;
-        place.read_book()?;
-        let lock = place.lock()?;
-        let bytes = place.read_book()?;
-        Ok((place, lock, bytes))
-    }
-
     /// The bytes of a book; a file that is longer than any book gives one byte too many.
     pub fn read_book(&self) -> Result<Vec<u8>, Error> {
         let bytes = self.read(book_length(MOST_HEIGHTS).saturating_add(1))?;
-        let missing = || std::io::Error::from(std::io::ErrorKind::NotFound);
+        let missing = || std::io::Error::from(ErrorKind::NotFound);
         bytes.ok_or_else(|| Error::files("read", &self.path)(missing()))
-    }
-
-    /// Puts the first bytes of a book there. Frames that waited belong to another book: they go after it has gone, so
-    /// that they are not lost while it is there.
-    pub fn begin(&self, bytes: &[u8]) -> Result<(), Error> {
-        self.replace(bytes)?;
-        self.remove_beside(FRAMES)
     }
 
     /// The file beside it with this ending.
@@ -78,8 +56,20 @@ impl<F: Files> Place<F> {
     /// Waits for the lock. What is locked is another file than the one that is replaced, since a lock does not
     /// follow a name, and it is never removed, since one who waits has it open already.
     pub fn lock(&self) -> Result<F::Lock, Error> {
-        let path = self.beside(".lock");
-        self.files.lock(&path).map_err(Error::files("locked", &path))
+        let path = self.beside(LOCK);
+        self.files.lock(&path, &self.path).map_err(|error| match error.kind() {
+            ErrorKind::WouldBlock => {
+                let holder = self.files.holder(&path).ok().flatten();
+                Error::Locked { path, holder: holder.unwrap_or(Holder { process: None }) }
+            }
+            _ => Error::files("locked", &path)(error),
+        })
+    }
+
+    /// Who has it locked; none if nobody has.
+    pub fn holder(&self) -> Result<Option<Holder>, Error> {
+        let path = self.beside(LOCK);
+        self.files.holder(&path).map_err(Error::files("looked at", &path))
     }
 
     /// The file's first bytes, none if it is not there.
@@ -87,20 +77,31 @@ impl<F: Files> Place<F> {
         self.files.read(&self.path, most).map_err(Error::files("read", &self.path))
     }
 
-    /// Puts a synced file beside it, by a name that still has to be synced.
-    pub fn put_beside(&self, ending: &str, bytes: &[u8]) -> Result<(), Error> {
-        let (path, new) = (self.beside(ending), self.beside(&format!("{ending}.new")));
+    /// The first bytes of the file beside it with this ending, none if that is not there.
+    pub fn read_beside(&self, ending: &str, most: usize) -> Result<Option<Vec<u8>>, Error> {
+        let path = self.beside(ending);
+        self.files.read(&path, most).map_err(Error::files("read", &path))
+    }
+
+    /// Writes a synced file that is to have the name with this ending, and is called otherwise until it is renamed.
+    pub fn write_new(&self, ending: &str, bytes: &[u8]) -> Result<PathBuf, Error> {
+        let new = self.beside(&format!("{ending}{NEW}"));
         self.files.write(&new, bytes, &self.path).map_err(Error::files("written", &new))?;
-        self.files.rename(&new, &path).map_err(Error::files("written", &path))
+        Ok(new)
+    }
+
+    /// Gives the file that was written the name with this ending.
+    pub fn rename_new(&self, new: &Path, ending: &str) -> Result<(), Error> {
+        let path = self.beside(ending);
+        self.files.rename(new, &path).map_err(Error::files("written", &path))
     }
 
     /// Replaces the file. All names in the folder are synced before and after: what was put beside it is there for
     /// certain if the new bytes are, and these are there for certain in the end.
     pub fn replace(&self, bytes: &[u8]) -> Result<(), Error> {
-        let new = self.beside(".new");
-        self.files.write(&new, bytes, &self.path).map_err(Error::files("written", &new))?;
+        let new = self.write_new("", bytes)?;
         self.sync_folder()?;
-        self.files.rename(&new, &self.path).map_err(Error::files("written", &self.path))?;
+        self.rename_new(&new, "")?;
         self.sync_folder()
     }
 

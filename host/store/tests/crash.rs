@@ -87,7 +87,7 @@ fn the_scripts_have_leaders_who_say_two_things() {
 /// A station whose height 1 is blank hears a second page of its leader and votes blank; the machine ends after so many
 /// steps, or once the vote has left. Whether it has, and whether the next life would finalise.
 fn second_page_and_end(files: Fake, steps: usize, seed: u64) -> (bool, bool) {
-    let page = |byte| Block { height: 1, entries: vec![[byte; 16]], ..Block::default() };
+    let page = |byte| Block { height: 1, entries: [[byte; 16]].into(), ..Block::default() };
     let [first, second] =
         [1, 2].map(|byte| Frame::Proposal { signer: 0, block: page(byte) }.bytes());
     let mut new = Book::open(Rules::SHA256, 4, 2, &[0]).unwrap();
@@ -119,7 +119,7 @@ fn second_page_and_end(files: Fake, steps: usize, seed: u64) -> (bool, bool) {
 #[test]
 fn a_second_page_is_kept_before_the_blank_vote_leaves() {
     let ends = |forgotten: Option<Forgotten>| -> Vec<(bool, bool)> {
-        let all = (0..24).flat_map(|steps| (0..20).map(move |seed| (steps, seed)));
+        let all = (0..44).flat_map(|steps| (0..20).map(move |seed| (steps, seed)));
         all.map(|(steps, seed)| second_page_and_end(Fake::forgetting(forgotten), steps, seed))
             .collect()
     };
@@ -178,6 +178,17 @@ fn ends_at_random() {
     }
 }
 
+/// So too on a file system that does not tell whether a file has a name.
+#[test]
+fn ends_at_random_where_names_do_not_show() {
+    for seed in 0..120 {
+        let (mut random, files) = (Random::new(seed), Fake::default());
+        files.be_silent();
+        let expected = undisturbed(seed % 40, WAYS[random.below(3)]);
+        assert_eq!(broken_by(files, &expected, &mut random, often), None, "seed {seed}");
+    }
+}
+
 /// A station that comes back finds that its timer fired: what the life before was about to say must not have been
 /// said.
 #[test]
@@ -197,7 +208,7 @@ fn a_failed_commit_is_not_gone_over() {
     let new = Book::open(Rules::SHA256, 4, 2, &[0]).unwrap();
     let files = Fake::default();
     let mut book = FileBook::create_in(files.clone(), new, BOOK.as_ref()).unwrap();
-    files.fault(6, Fault::Refusal);
+    files.fault(10, Fault::Refusal);
     assert!(matches!(book.signal(1), Err(Error::Files { .. })));
     assert!(matches!(book.make_move(), Err(Error::Stale)));
     drop(book);
@@ -220,7 +231,7 @@ fn a_packet_is_taken_whole_or_not_at_all() {
     assert_eq!(whole.deliver_packet(&packet), Ok(counted));
     let mut seen = [0, 0];
     for fault in [Fault::Process, Fault::Machine, Fault::Refusal] {
-        for (steps, seed) in (0..10).flat_map(|steps| (0..30).map(move |seed| (steps, seed))) {
+        for (steps, seed) in (0..13).flat_map(|steps| (0..30).map(move |seed| (steps, seed))) {
             let files = Fake::default();
             let mut book = FileBook::create_in(files.clone(), new.clone(), BOOK.as_ref()).unwrap();
             files.fault(steps, fault);
@@ -262,7 +273,7 @@ fn a_packet_is_one_commit() {
 #[test]
 fn what_is_read_is_synced() {
     let mut ends = 0;
-    for steps in 0..9 {
+    for steps in 0..14 {
         let new = Book::open(Rules::SHA256, 4, 2, &[0]).unwrap();
         let files = Fake::default();
         let mut book = FileBook::create_in(files.clone(), new, BOOK.as_ref()).unwrap();
@@ -272,7 +283,7 @@ fn what_is_read_is_synced() {
         let seen = store::read_in(files.clone(), BOOK.as_ref()).unwrap();
         assert!(files.synced(BOOK.as_ref(), &seen), "after {steps} steps");
     }
-    assert!((1..9).contains(&ends));
+    assert!((1..14).contains(&ends));
 }
 
 /// The tests above can fail: a file system that does not sync what it is told to is found out.

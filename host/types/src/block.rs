@@ -1,6 +1,6 @@
 //! Blocks (document 01: pages) as values, and their 176 bytes.
 
-use crate::{height_at, put_height, Height, ENTRY};
+use crate::{height_at, put_height, Entries, Height, ENTRY};
 
 /// The length of a block in bytes.
 pub const BLOCK: usize = 176;
@@ -20,8 +20,8 @@ pub struct Block {
     pub parent: Height,
     /// The digest of its parent (document 01: back digest).
     pub digest: [u8; 32],
-    /// Its entries; only the first eight are written.
-    pub entries: Vec<[u8; ENTRY]>,
+    /// Its entries, eight at most.
+    pub entries: Entries,
 }
 
 impl Block {
@@ -30,7 +30,7 @@ impl Block {
         let mut bytes = [0; BLOCK];
         let mut count = 0u8;
         bytes[16..48].copy_from_slice(&self.digest);
-        for (to, entry) in bytes[48..].chunks_exact_mut(ENTRY).zip(&self.entries) {
+        for (to, entry) in bytes[48..].chunks_exact_mut(ENTRY).zip(self.entries.iter()) {
             to.copy_from_slice(entry);
             count = count.saturating_add(1);
         }
@@ -45,8 +45,8 @@ impl Block {
         let (height, parent) = (height_at(bytes, BLOCK_HEIGHT), height_at(bytes, BLOCK_PARENT));
         let mut block = Block { height, parent, ..Block::default() };
         block.digest.copy_from_slice(&bytes[16..48]);
-        let places = bytes[48..].as_chunks::<ENTRY>().0.iter();
-        block.entries = places.take(bytes[4].into()).copied().collect();
+        let places = bytes[48..].as_chunks::<ENTRY>().0;
+        block.entries = Entries::first_of(places.get(..bytes[4].into()).unwrap_or(places));
         block
     }
 }

@@ -112,8 +112,8 @@ impl<C: Calls> Book<C> {
     }
 
     /// Tells that the timer of a height fired.
-    pub fn signal(&mut self, height: u64) -> Result<(), Refusal> {
-        self.calls.signal(&mut self.bytes, height).map_err(Refusal::of)
+    pub fn signal(&mut self, height: Height) -> Result<(), Refusal> {
+        self.calls.signal(&mut self.bytes, height.into()).map_err(Refusal::of)
     }
 
     /// Adds a pending entry.
@@ -133,16 +133,16 @@ impl<C: Calls> Book<C> {
     }
 
     /// The certificate of kind 5, 6 or 7 of a height.
-    pub fn fetch(&self, kind: u64, height: u64) -> Result<[u8; FRAME], Refusal> {
+    pub fn fetch(&self, kind: u64, height: Height) -> Result<[u8; FRAME], Refusal> {
         let mut reply = [0; FRAME];
-        self.calls.fetch(&self.bytes, kind, height, &mut reply).map_err(Refusal::of)?;
+        self.calls.fetch(&self.bytes, kind, height.into(), &mut reply).map_err(Refusal::of)?;
         Ok(reply)
     }
 
     /// All certificates that the book holds: what goes out with each pass and each proposal.
     pub fn certificates(&self) -> Written {
-        let heights = 1..=u64::from(self.heights());
-        let wanted = heights.flat_map(|height| [(5, height), (6, height), (7, height)]);
+        let wanted =
+            (1..=self.heights()).flat_map(|height| [(5, height), (6, height), (7, height)]);
         wanted.filter_map(|(kind, height)| self.fetch(kind, height).ok()).collect()
     }
 }

@@ -94,7 +94,7 @@ mod tests {
 
     #[test]
     fn every_kind_comes_back() {
-        let block = Block { height: 3, parent: 1, digest: [7; 32], entries: vec![[9; 16]; 8] };
+        let block = Block { height: 3, parent: 1, digest: [7; 32], entries: [[9; 16]; 8].into() };
         let frames = [
             Frame::Proposal { signer: 1, block: block.clone() },
             Frame::BlockVote { signer: 2, height: 3, digest: [4; 32] },

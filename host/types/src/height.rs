@@ -1,10 +1,19 @@
 //! Heights: their type, and their bytes in frames, in blocks and in the head of a book.
 //!
+//! Books, frames and answers have this one type. The calls of the trait [`crate::Calls`] take any number, as the C
+//! interface does: [`nearest_height`] leads from a number to a height.
+//!
 //! Request 2.7 widens the type, makes the byte after each height its high byte, and moves the heights of the head:
 //! here.
 
 /// A height of a book, or a number of heights.
 pub type Height = u8;
+
+/// The height that a number is. A number that no height can be becomes the highest one, which no book has either: a call
+/// refuses both alike.
+pub fn nearest_height(number: u64) -> Height {
+    Height::try_from(number).unwrap_or(Height::MAX)
+}
 
 /// The two bytes of a height in a frame or a block; the second is zero.
 pub fn height_bytes(height: Height) -> [u8; 2] {

@@ -7,10 +7,13 @@
 #![warn(clippy::unwrap_used, clippy::expect_used, clippy::panic)]
 
 mod answer;
+mod answers;
 mod block;
 mod book;
 mod bounds;
 mod calls;
+mod entries;
+mod evidence;
 mod frame;
 mod height;
 mod layout;
@@ -25,8 +28,12 @@ pub use block::{Block, BLOCK, BLOCK_HEIGHT, BLOCK_PARENT};
 pub use book::{Book, Written};
 pub use bounds::*;
 pub use calls::Calls;
+pub use entries::{Entries, TooManyEntries};
+pub use evidence::{Answered, Evidence};
 pub use frame::{Frame, FRAME, FRAME_HEIGHT};
-pub use height::{head_height, height_at, height_bytes, put_head_height, put_height, Height};
+pub use height::{
+    head_height, height_at, height_bytes, nearest_height, put_head_height, put_height, Height,
+};
 pub use layout::{book_length, field, mask_at, Area, Layout, ENTRY};
 pub use observer_book::ObserverBook;
 pub use observer_layout::{is_observers, observer_book_length, ObserverArea, ObserverLayout};

@@ -13,10 +13,9 @@ pub struct ObserverBook<C> {
 
 impl<C: Calls> ObserverBook<C> {
     /// A new book over `n` replicas and so many heights.
-    pub fn open(calls: C, n: u64, heights: u64) -> Result<ObserverBook<C>, Refusal> {
-        let length = observer_book_length(Height::try_from(heights).unwrap_or(Height::MAX));
-        let mut bytes = vec![0; length];
-        calls.observer_open(&mut bytes, n, heights).map_err(Refusal::of)?;
+    pub fn open(calls: C, n: u64, heights: Height) -> Result<ObserverBook<C>, Refusal> {
+        let mut bytes = vec![0; observer_book_length(heights)];
+        calls.observer_open(&mut bytes, n, heights.into()).map_err(Refusal::of)?;
         Ok(ObserverBook { calls, bytes })
     }
 

@@ -5,7 +5,7 @@ use types::{Area, Block, Frame, Height, Layout, ENTRY, FRAME};
 
 /// A block of a height with one entry of this byte alone.
 fn block(height: Height, byte: u8) -> Block {
-    Block { height, entries: vec![[byte; ENTRY]], ..Block::default() }
+    Block { height, entries: [[byte; ENTRY]].into(), ..Block::default() }
 }
 
 fn proposal(height: Height, byte: u8) -> [u8; FRAME] {

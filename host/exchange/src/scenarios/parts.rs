@@ -2,7 +2,7 @@
 
 use crate::{Answer, Call, Recorder};
 use reference::sha256;
-use types::{Block, Calls, Frame, Height, Move, ENTRY};
+use types::{Block, Calls, Entries, Frame, Height, Move, ENTRY};
 
 /// The name of the reply buffer in every list.
 pub const REPLY: &str = "reply";
@@ -43,12 +43,17 @@ pub fn digest(block: &Block) -> [u8; 32] {
 
 /// A block with no parent.
 pub fn first(height: Height, entries: &[[u8; ENTRY]]) -> Block {
-    Block { height, entries: entries.to_vec(), ..Block::default() }
+    Block { height, entries: Entries::first_of(entries), ..Block::default() }
 }
 
 /// A block on another one.
 pub fn child(height: Height, below: &Block, entries: &[[u8; ENTRY]]) -> Block {
-    Block { height, parent: below.height, digest: digest(below), entries: entries.to_vec() }
+    Block {
+        height,
+        parent: below.height,
+        digest: digest(below),
+        entries: Entries::first_of(entries),
+    }
 }
 
 /// The mask of the first so many replicas.

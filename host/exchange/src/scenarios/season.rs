@@ -129,7 +129,7 @@ fn third_height<C: Calls>(to: &mut Recorder<C>) -> Vec<Vec<u8>> {
     to.part("Height 3: station 3 leads and sends one page to station 0 and another to 1 and 2");
     let offer = all_move(to, &[3], &[1]);
     let one = offered(&offer);
-    let two = Block { entries: vec![entry("lot 9 to plot 6")], ..one.clone() };
+    let two = Block { entries: [entry("lot 9 to plot 6")].into(), ..one.clone() };
     send(to, &offer, &[0]);
     let other = Frame::Proposal { signer: 3, block: two.clone() };
     [1, 2].into_iter().for_each(|replica| deliver(to, book(replica), std::slice::from_ref(&other)));

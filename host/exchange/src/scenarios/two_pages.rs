@@ -70,10 +70,10 @@ fn one_field_apart<C: Calls>(to: &mut Recorder<C>) {
     let mut last_byte = [0; ENTRY];
     last_byte[15] = 1;
     let others = [
-        Block { entries: vec![], ..one.clone() },
+        Block { entries: [].into(), ..one.clone() },
         Block { parent: 0, ..one.clone() },
         Block { digest: [8; 32], ..one.clone() },
-        Block { entries: vec![last_byte], ..one.clone() },
+        Block { entries: [last_byte].into(), ..one.clone() },
     ];
     to.open(BOOK, 4, 2, &[0, 0]);
     deliver(to, BOOK, &[Frame::DummyCertificate { mask: 7, height: 1 }]);

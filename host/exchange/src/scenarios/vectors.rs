@@ -97,8 +97,8 @@ fn votes_and_conflicts(to: &mut Recorder<Rules>, digest: Digest) {
         deliver(to, BOOK, &[Frame::BlockCertificate { mask: 15, block: block.clone() }]);
     }
     let on = |parent: &Block, entries| Block { height: 2, parent: 1, digest: of(parent), entries };
-    deliver(to, BOOK, &[Frame::BlockCertificate { mask: 7, block: on(&two, vec![]) }]);
-    let block = on(&one, vec![tagged(3), tagged(1)]);
+    deliver(to, BOOK, &[Frame::BlockCertificate { mask: 7, block: on(&two, [].into()) }]);
+    let block = on(&one, [tagged(3), tagged(1)].into());
     deliver(to, BOOK, &[Frame::Proposal { signer: 1, block }]);
     moves_with_own_frames(to);
     for (mask, height) in [(7, 2), (13, 1)] {
@@ -114,7 +114,7 @@ fn observing(to: &mut Recorder<Rules>, digest: Digest) {
     to.open_observer(BOOK, 4, 3);
     let one = first(1, &[tagged(1)]);
     let digest = digest(&one.bytes());
-    let three = Block { height: 3, parent: 1, digest, entries: vec![tagged(2), tagged(1)] };
+    let three = Block { height: 3, parent: 1, digest, entries: [tagged(2), tagged(1)].into() };
     let frames = [
         Frame::DummyVote { signer: 0, height: 1 },
         Frame::FinalizeCertificate { mask: 13, height: 3 },

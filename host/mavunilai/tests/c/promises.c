@@ -138,7 +138,8 @@ static void packets(const uint8_t *opened) {
     EXPECT(are(&counts, 7, 8, 9) && memcmp(book, opened, LENGTH) == 0);
     EXPECT(mavunilai_packet(book, LENGTH, packet, sizeof packet - 1, &counts).packed == 0 && are(&counts, 2, 1, 1));
     for (at = 0; at < 4; at++) {
-        mavunilai_deliver(other, LENGTH, packet + at * MAVUNILAI_FRAME, MAVUNILAI_FRAME);
+        const uint8_t *frame = packet + at * MAVUNILAI_FRAME;
+        mavunilai_disregard(mavunilai_deliver(other, LENGTH, frame, MAVUNILAI_FRAME));
     }
     EXPECT(memcmp(book, other, LENGTH) == 0 && memcmp(book, opened, LENGTH) != 0);
 }

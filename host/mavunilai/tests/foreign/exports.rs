@@ -5,7 +5,7 @@ use reference::Rules;
 use std::cell::Cell;
 use std::slice::{from_raw_parts, from_raw_parts_mut};
 use types::packing::{pack_delivered, pack_done, pack_move, pack_size};
-use types::{Calls, Counts};
+use types::{Calls, Counts, Refusal};
 
 const RULES: Rules = Rules::SHA256;
 
@@ -95,6 +95,16 @@ unsafe extern "C" fn mavunilai_fetch(
     let book = unsafe { from_raw_parts(book, length) };
     let reply = unsafe { from_raw_parts_mut(reply, reply_length) };
     pack_done(Calls::fetch(&RULES, book, kind, height, reply))
+}
+
+#[unsafe(no_mangle)]
+unsafe extern "C" fn mavunilai_digest(b: *const u8, bl: usize, d: *mut u8, dl: usize) -> u64 {
+    let (bytes, digest) = unsafe { (from_raw_parts(b, bl), from_raw_parts_mut(d, dl)) };
+    let Some(digest) = digest.first_chunk_mut() else {
+        return Refusal::ShortReply.number().into();
+    };
+    *digest = sha256::digest(bytes);
+    0
 }
 
 #[unsafe(no_mangle)]

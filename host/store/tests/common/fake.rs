@@ -10,7 +10,7 @@ use std::collections::BTreeMap;
 use std::io::{Error, Result};
 use std::path::{Path, PathBuf};
 use std::rc::Rc;
-use store::Files;
+use store::{Files, Holder};
 
 /// How a step comes to grief.
 #[derive(Clone, Copy, Debug, PartialEq, Eq)]
@@ -32,11 +32,27 @@ pub enum Forgotten {
     Folders,
 }
 
+/// What somebody else does to a name while a process works with it.
+#[derive(Clone, Debug)]
+pub enum Meddling {
+    /// Gives the file another name.
+    Rename(PathBuf),
+    /// Removes the name.
+    Remove,
+    /// Puts another file there, with these bytes.
+    Replace(Vec<u8>),
+    /// Writes these bytes into the file.
+    Rewrite(Vec<u8>),
+}
+
 #[derive(Debug, Default)]
 struct State {
     contents: Vec<Vec<Vec<u8>>>,
     names: BTreeMap<PathBuf, Vec<Option<usize>>>,
     locked: Vec<PathBuf>,
+    held: Vec<usize>,
+    silent: bool,
+    meddling: Option<(usize, PathBuf, Meddling)>,
     steps: usize,
     fault: Option<(usize, Fault)>,
     dead: bool,
@@ -47,6 +63,9 @@ impl State {
     /// Before each step: whether it is still to be done.
     fn step(&mut self) -> Result<()> {
         self.steps += 1;
+        if self.meddling.as_ref().is_some_and(|(at, ..)| self.steps > *at) {
+            self.meddle();
+        }
         if let Some((at, fault)) = self.fault.filter(|(at, _)| self.steps > *at) {
             let now = self.steps == at + 1;
             self.dead |= now && fault != Fault::Refusal;
@@ -55,6 +74,27 @@ impl State {
             }
         }
         Ok(())
+    }
+
+    /// Somebody does what he was to do.
+    fn meddle(&mut self) {
+        let Some((_, path, meddling)) = self.meddling.take() else {
+            return;
+        };
+        let file = self.file(&path);
+        match (meddling, file) {
+            (Meddling::Rename(to), Some(_)) => {
+                self.name(&to, file);
+                self.name(&path, None);
+            }
+            (Meddling::Remove, _) => self.name(&path, None),
+            (Meddling::Replace(bytes), _) => {
+                self.contents.push(vec![bytes]);
+                self.name(&path, Some(self.contents.len() - 1));
+            }
+            (Meddling::Rewrite(bytes), Some(file)) => self.contents[file].push(bytes),
+            (Meddling::Rename(_) | Meddling::Rewrite(_), None) => {}
+        }
     }
 
     /// The file of a name.
@@ -82,6 +122,16 @@ impl Drop for Lock {
     }
 }
 
+/// A file of it that is open.
+#[derive(Debug)]
+pub struct Held(Fake, usize);
+
+impl Drop for Held {
+    fn drop(&mut self) {
+        self.0 .0.borrow_mut().held.retain(|file| *file != self.1);
+    }
+}
+
 impl Fake {
     /// One that leaves steps out.
     pub fn forgetting(forgotten: Option<Forgotten>) -> Fake {
@@ -94,6 +144,32 @@ impl Fake {
     pub fn fault(&self, steps: usize, fault: Fault) {
         let mut state = self.0.borrow_mut();
         state.fault = Some((state.steps + steps, fault));
+    }
+
+    /// Does not tell whether a file has a name.
+    pub fn be_silent(&self) {
+        self.0.borrow_mut().silent = true;
+    }
+
+    /// Somebody meddles with a name before one more step is done, after so many.
+    pub fn meddle(&self, steps: usize, path: &Path, meddling: Meddling) {
+        let mut state = self.0.borrow_mut();
+        state.meddling = Some((state.steps + steps, path.to_path_buf(), meddling));
+    }
+
+    /// Puts a synced file there from outside, or takes it away.
+    pub fn put(&self, path: &Path, bytes: Option<Vec<u8>>) {
+        let mut state = self.0.borrow_mut();
+        let file = bytes.map(|bytes| {
+            state.contents.push(vec![bytes]);
+            state.contents.len() - 1
+        });
+        state.names.insert(path.to_path_buf(), vec![file]);
+    }
+
+    /// Whether somebody was to meddle and has not yet; he never will.
+    pub fn left_alone(&self) -> bool {
+        self.0.borrow_mut().meddling.take().is_some()
     }
 
     /// Whether the fault has come; a new life begins, after the end of the machine with what is left.
@@ -109,11 +185,15 @@ impl Fake {
         state.steps > at
     }
 
+    /// The bytes of a file, looked at from outside; none if it is not there.
+    pub fn bytes(&self, path: &Path) -> Option<Vec<u8>> {
+        let state = self.0.borrow();
+        state.file(path).map(|file| state.contents[file].last().unwrap().clone())
+    }
+
     /// The text of a file that is there, looked at from outside.
     pub fn text(&self, path: &Path) -> String {
-        let state = self.0.borrow();
-        let file = state.file(path).unwrap();
-        String::from_utf8(state.contents[file].last().unwrap().clone()).unwrap()
+        String::from_utf8(self.bytes(path).unwrap()).unwrap()
     }
 
     /// Whether the name and the bytes of a file are synced, and are these.
@@ -141,17 +221,54 @@ fn lose(state: &mut State, random: &mut Random) {
 
 impl Files for Fake {
     type Lock = Lock;
+    type Held = Held;
 
     fn resolve(&self, path: &Path) -> Result<PathBuf> {
         Ok(path.to_path_buf())
     }
 
-    fn lock(&self, path: &Path) -> Result<Lock> {
+    fn lock(&self, path: &Path, _: &Path) -> Result<Lock> {
         let mut state = self.0.borrow_mut();
         state.step()?;
         assert!(!state.locked.contains(&path.to_path_buf()), "a lock is taken twice");
         state.locked.push(path.to_path_buf());
         Ok(Lock(self.clone(), path.to_path_buf()))
+    }
+
+    fn holder(&self, path: &Path) -> Result<Option<Holder>> {
+        let locked = self.0.borrow().locked.contains(&path.to_path_buf());
+        Ok(locked.then_some(Holder { process: None }))
+    }
+
+    fn hold(&self, path: &Path) -> Result<Option<Held>> {
+        let mut state = self.0.borrow_mut();
+        state.step()?;
+        let Some(file) = state.file(path) else {
+            return Ok(None);
+        };
+        assert!(!state.held.contains(&file), "a file is locked twice");
+        state.held.push(file);
+        Ok(Some(Held(self.clone(), file)))
+    }
+
+    fn is(&self, held: &Held, path: &Path) -> Result<bool> {
+        let mut state = self.0.borrow_mut();
+        state.step()?;
+        Ok(state.file(path) == Some(held.1))
+    }
+
+    fn has_name(&self, held: &Held, _: &Path) -> Result<Option<bool>> {
+        let mut state = self.0.borrow_mut();
+        state.step()?;
+        let named = |history: &Vec<_>| *history.last().unwrap() == Some(held.1);
+        Ok((!state.silent).then_some(state.names.values().any(named)))
+    }
+
+    fn empty(&self, held: &Held) -> Result<()> {
+        let mut state = self.0.borrow_mut();
+        state.step()?;
+        state.contents[held.1].push(Vec::new());
+        Ok(())
     }
 
     fn read(&self, path: &Path, most: usize) -> Result<Option<Vec<u8>>> {

@@ -5,7 +5,7 @@ use super::random::Random;
 use super::script::{Input, LEADERS};
 use reference::Rules;
 use std::path::Path;
-use store::{Error, FileBook};
+use store::{Error, FileBook, Statement};
 use types::{Book, Frame, Move, Refusal, FRAME};
 
 /// The path of the book, and of the file that frames are handed to.
@@ -28,11 +28,16 @@ pub enum Way {
 pub struct Station {
     pub files: Fake,
     script: Vec<Input>,
-    done: usize,
+    /// How much of the script is behind it.
+    pub done: usize,
     way: Way,
+    /// Where its book is.
+    pub path: &'static str,
+    /// Whether others meddle with the name of the book, so that it may be synced by another one.
+    pub meddled: bool,
     /// Whether timers fire between two lives, and whether one has.
     pub timer: bool,
-    late: bool,
+    pub late: bool,
     pub said: Vec<[u8; FRAME]>,
     /// The first rule that was broken.
     pub broken: Option<String>,
@@ -44,15 +49,27 @@ impl Station {
         let new = Book::open(Rules::SHA256, 4, 2, &LEADERS).unwrap();
         FileBook::create_in(files.clone(), new, Path::new(BOOK)).unwrap();
         let (said, broken) = (Vec::new(), None);
-        Station { files, script, done: 0, way, timer: false, late: false, said, broken }
+        let (path, meddled) = (BOOK, false);
+        Station {
+            files,
+            script,
+            done: 0,
+            way,
+            path,
+            meddled,
+            timer: false,
+            late: false,
+            said,
+            broken,
+        }
     }
 
     /// One life: from the unsent frames to the end of the script, or to an error.
     pub fn live(&mut self) -> Result<Vec<u8>, Error> {
-        let mut book = FileBook::open_in(self.files.clone(), Rules::SHA256, Path::new(BOOK))?;
+        let mut book = FileBook::open_in(self.files.clone(), Rules::SHA256, Path::new(self.path))?;
         self.send(&mut book)?;
         if self.late {
-            let current = book.book().current().into();
+            let current = book.book().current();
             let signalled = book.signal(current);
             taken(signalled)?;
         }
@@ -118,13 +135,16 @@ impl Station {
         }
     }
 
-    /// Sends the unsent frames: the book that cast them must be synced by now.
+    /// Sends the unsent frames: the book that cast them must be synced by now, and that they leave be recorded.
     fn send(&mut self, book: &mut FileBook<Rules, Fake>) -> Result<(), Error> {
         if book.unsent().is_empty() {
             return Ok(());
         }
-        if !self.files.synced(Path::new(BOOK), book.book().bytes()) {
+        if !self.meddled && !self.files.synced(Path::new(self.path), book.book().bytes()) {
             self.complain("a frame left before the book that cast it was synced".to_string());
+        }
+        if !book.unsent().iter().all(|frame| self.recorded(frame)) {
+            self.complain("a frame left before it was recorded".to_string());
         }
         if self.way == Way::Hands {
             book.hand_to(PILE)?;
@@ -136,6 +156,18 @@ impl Station {
             self.say(frame);
         }
         book.sent()
+    }
+
+    /// Whether a frame is no statement of this station, or is among what it has said, synced.
+    fn recorded(&self, frame: &[u8; FRAME]) -> bool {
+        let path = format!("{}.said", self.path);
+        let said = self.files.bytes(path.as_ref()).unwrap_or_default();
+        let synced = self.files.synced(path.as_ref(), &said);
+        let said = String::from_utf8(said).unwrap();
+        Statement::of(frame, 2).is_none_or(|(height, statement)| {
+            let line = format!("{height} {statement}");
+            synced && said.lines().any(|said| said == line)
+        })
     }
 
     /// Says a frame: once is enough, and none may contradict an earlier one.

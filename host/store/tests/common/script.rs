@@ -8,7 +8,7 @@ use types::{Block, Frame, Height};
 pub enum Input {
     Deliver(Frame),
     Packet(Vec<Frame>),
-    Signal(u64),
+    Signal(Height),
     Submit([u8; 16]),
 }
 
@@ -23,7 +23,7 @@ pub fn script(seed: u64) -> Vec<Input> {
     let mut script = Vec::new();
     for (height, leader) in (1..).zip(LEADERS) {
         let digest = if height == 1 { [0; 32] } else { sha256::digest(&parent.bytes()) };
-        let block = Block { height, parent: height - 1, digest, entries: Vec::new() };
+        let block = Block { height, parent: height - 1, digest, entries: [].into() };
         script.extend(at_height(height, leader, &block, &mut random));
         parent = block;
     }
@@ -34,11 +34,11 @@ pub fn script(seed: u64) -> Vec<Input> {
 fn at_height(height: Height, leader: u8, block: &Block, random: &mut Random) -> Vec<Input> {
     let digest = sha256::digest(&block.bytes());
     let [first, _] = types::height_bytes(height % 4);
-    let mut inputs = vec![Input::Signal(height.into()), Input::Submit([first; 16])];
+    let mut inputs = vec![Input::Signal(height), Input::Submit([first; 16])];
     let mut frames = Vec::new();
     if leader != 2 {
         frames.push(Frame::Proposal { signer: leader, block: block.clone() });
-        let other = Block { entries: vec![[first; 16]], ..block.clone() };
+        let other = Block { entries: [[first; 16]].into(), ..block.clone() };
         frames.push(Frame::Proposal { signer: leader, block: other });
     }
     for signer in [0, 1, 3] {

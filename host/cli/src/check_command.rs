@@ -1,0 +1,32 @@
+//! `check`: whether a book in a file is sound, and what stands beside it.
+
+use crate::arguments::Arguments;
+use crate::problem::Problem;
+use crate::standing::Standing;
+use crate::words::count;
+
+/// Prints a line about the book and one about each thing beside it. The status is that of the first trouble: 2 if the
+/// file cannot be read, 3 if the book is not sound, 1 for anything beside it.
+pub fn run(words: &[String], output: &mut Vec<u8>) -> Result<(), Problem> {
+    let arguments = Arguments::sort(words, &[], &[])?;
+    let [file] = arguments.plain("the file of a book")?;
+    let standing = Standing::of(file)?;
+    let book = match &standing.told {
+        Ok(told) => {
+            let (heights, entries) =
+                (count(told.heights.into(), "height", "heights"), told.entries);
+            let whose = match told.station {
+                Some(own) => format!("station {own} of {}", told.n),
+                None => format!("an observer of {}", told.n),
+            };
+            let entries = count(entries, "entry", "entries");
+            format!("sound, {whose}, {heights}, settled height {}, {entries}", told.settled)
+        }
+        Err(why) => format!("not sound: {why}"),
+    };
+    let lines = [vec![format!("book: {book}")], standing.beside.lines(file).to_vec()].concat();
+    output.extend(format!("{}\n", lines.join("\n")).into_bytes());
+    standing.problem().map_or(Ok(()), |problem| {
+        Err(Problem { sentence: format!("{file}: {}", problem.sentence), ..problem })
+    })
+}

@@ -1,0 +1,123 @@
+//! `status`: a row for each book.
+
+use crate::arguments::Arguments;
+use crate::beside::Frames;
+use crate::json::Json;
+use crate::problem::Problem;
+use crate::standing::{Standing, Told};
+use crate::table;
+use crate::words::count;
+
+/// The headings of the columns.
+const HEADINGS: [&str; 11] =
+    ["book", "of", "n", "H", "c", "g", "pending", "entries", "frames", "held by", "waits for"];
+
+/// A book with the name of its file.
+type Named<'a> = (&'a str, Result<Standing, Problem>);
+
+/// Prints a row for each book, of whichever kind. The status is that of the worst row.
+pub fn run(words: &[String], output: &mut Vec<u8>) -> Result<(), Problem> {
+    let arguments = Arguments::sort(words, &[], &["json"])?;
+    let files = arguments.words();
+    if files.is_empty() {
+        return Err(Problem::input("the files of books are missing"));
+    }
+    let books: Vec<Named> = files.iter().map(|file| (file.as_str(), Standing::of(file))).collect();
+    let text = match arguments.has("json") {
+        true => books.iter().map(|book| format!("{}\n", object(book))).collect::<String>(),
+        false => {
+            let heading = HEADINGS.map(str::to_string).to_vec();
+            table::print(&[vec![heading], books.iter().map(row).collect()].concat())
+        }
+    };
+    output.extend(text.into_bytes());
+    let statuses = books.iter().filter_map(trouble).map(|problem| problem.status);
+    let statuses: Vec<u8> = statuses.collect();
+    match statuses.iter().max() {
+        None => Ok(()),
+        Some(status) => {
+            let (troubled, all) = (statuses.len(), count(books.len(), "book", "books"));
+            let sentence =
+                format!("{troubled} of {all} should be looked at; see `mavunilai check`");
+            Err(Problem { status: *status, sentence })
+        }
+    }
+}
+
+/// What is wrong with a book, if anything is.
+fn trouble((_, book): &Named) -> Option<Problem> {
+    match book {
+        Ok(standing) => standing.problem(),
+        Err(problem) => Some(problem.clone()),
+    }
+}
+
+/// The row of a book.
+fn row(book: &Named) -> Vec<String> {
+    let (file, standing) = (book.0, book.1.as_ref().ok());
+    let wrong = trouble(book).map(|problem| problem.sentence);
+    let Some((standing, Ok(told))) = standing.map(|standing| (standing, &standing.told)) else {
+        let kind = if standing.is_some() { "not sound" } else { "unreadable" };
+        let dashes = vec!["-".to_string(); 8];
+        let named = vec![file.to_string(), kind.to_string()];
+        return [named, dashes, vec![wrong.unwrap_or_default()]].concat();
+    };
+    let of_station = |value: String| if told.station.is_some() { value } else { "-".to_string() };
+    let frames = match &standing.beside.frames {
+        Frames::Wait(number) => number.to_string(),
+        Frames::Damaged(_) => "damaged".to_string(),
+        Frames::None | Frames::Uncommitted => of_station("0".to_string()),
+    };
+    let holder = standing.beside.holder.map_or("-".to_string(), |holder| holder.to_string());
+    let waits = wrong.map_or(told.waits_for.clone(), |why| format!("a look: {why}"));
+    vec![
+        file.to_string(),
+        told.station.map_or("observer".to_string(), |own| format!("station {own}")),
+        told.n.to_string(),
+        told.heights.to_string(),
+        of_station(told.current.to_string()),
+        told.settled.to_string(),
+        of_station(told.pending.to_string()),
+        told.entries.to_string(),
+        frames,
+        holder,
+        waits,
+    ]
+}
+
+/// The same as an object; a field that says nothing of a book is left out.
+fn object(book: &Named) -> Json {
+    let standing = book.1.as_ref().ok();
+    let told = standing.map(|standing| standing.told.as_ref().ok());
+    let kind = match told {
+        None => "unreadable",
+        Some(None) => "not sound",
+        Some(Some(Told { station: None, .. })) => "observer",
+        Some(Some(_)) => "station",
+    };
+    let told = told.flatten();
+    let station = told.filter(|told| told.station.is_some());
+    let beside = standing.map(|standing| &standing.beside);
+    let frames = match beside.map(|beside| &beside.frames) {
+        Some(Frames::Wait(number)) => Some(*number),
+        Some(Frames::None | Frames::Uncommitted) => station.map(|_| 0),
+        Some(Frames::Damaged(_)) | None => None,
+    };
+    let holder = beside.and_then(|beside| beside.holder).map(|holder| holder.to_string());
+    let fields = [
+        ("book", Some(Json::text(book.0))),
+        ("kind", Some(Json::text(kind))),
+        ("own", station.and_then(|told| told.station).map(Json::number)),
+        ("n", told.map(|told| Json::number(told.n))),
+        ("heights", told.map(|told| Json::number(told.heights))),
+        ("current", station.map(|told| Json::number(told.current))),
+        ("settled", told.map(|told| Json::number(told.settled))),
+        ("pending", station.map(|told| Json::number(told.pending))),
+        ("entries", told.map(|told| Json::number(told.entries))),
+        ("frames", frames.map(Json::number)),
+        ("held_by", holder.map(Json::Text)),
+        ("waits_for", told.map(|told| Json::text(told.waits_for.as_str()))),
+        ("problem", trouble(book).map(|problem| Json::Text(problem.sentence))),
+    ];
+    Json::Object(fields.into_iter().filter_map(|(name, value)| Some((name, value?))).collect())
+}

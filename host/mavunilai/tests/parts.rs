@@ -1,0 +1,176 @@
+//! What the C header reads out of a book and makes out of parts is what the host's types read and make; digests are
+//! those of the host's SHA-256; and an answer that is not looked at is warned of.
+
+mod common;
+
+use common::{compiler, host, prints, prints_of, scratch, LANGUAGES};
+use types::{book_length, field, observer_book_length, Block, Book, Entries, Frame, Height};
+use types::{ObserverBook, MOST_HEIGHTS, MOST_REPLICAS};
+
+/// What stands for no station, as MAVUNILAI_NO_STATION of the header.
+const NO_STATION: u8 = 255;
+
+/// A file of the host folder as a word.
+fn word(file: &str) -> String {
+    host(file).to_str().unwrap().to_string()
+}
+
+/// The words by which the compiler is told to watch for readings beyond memory and for other undefined behaviour; none,
+/// with a note, where it cannot.
+fn watched() -> Vec<&'static str> {
+    let words = vec!["-fsanitize=address,undefined", "-fno-sanitize-recover=all"];
+    let empty = scratch("empty.c");
+    std::fs::write(&empty, "int main(void) { return 0; }\n").unwrap();
+    let output = scratch("empty");
+    let all = [&words[..], &[empty.to_str().unwrap(), "-o", output.to_str().unwrap()]].concat();
+    if compiler(LANGUAGES[0], &all).is_some_and(|ended| ended.status.success()) {
+        return words;
+    }
+    eprintln!("not watched: the compiler has no sanitizers");
+    Vec::new()
+}
+
+/// A proposal of height 1 of another page than the one that [`station`] holds.
+fn second() -> [u8; types::FRAME] {
+    let block = Block { height: 1, entries: [[2; 16]].into(), ..Block::default() };
+    Frame::Proposal { signer: 3, block }.bytes()
+}
+
+/// A book of so many heights, led by stations 3, 2, 1, 0 in turn, which holds a page of height 1.
+fn station(heights: Height) -> Book<reference::Rules> {
+    let leaders: Vec<u8> = (0..heights).map(|height| 3 - height % 4).collect();
+    let mut book = Book::open(reference::Rules::SHA256, 4, 2, &leaders).unwrap();
+    let block = Block { height: 1, entries: [[1; 16]].into(), ..Block::default() };
+    book.deliver(&Frame::Proposal { signer: 3, block }.bytes()).unwrap();
+    book
+}
+
+/// The line that `readers.c` is to print of a book: what the types say of each height.
+fn line(bytes: &[u8], leader: impl Fn(Height) -> Option<u8>, second: bool) -> String {
+    let mut words = vec![bytes[field::CURRENT], bytes[field::FINALIZED]];
+    words.extend((0..=255).map(|height| leader(height).unwrap_or(NO_STATION)));
+    words.extend([NO_STATION; 6]);
+    words.push(second.into());
+    words.iter().map(u8::to_string).collect::<Vec<_>>().join(" ")
+}
+
+/// Heights that a book does not have have no leader and no second page, and nothing beyond the book is read.
+#[test]
+fn readers_keep_to_the_book() {
+    let (mut input, mut expected) = (Vec::new(), Vec::new());
+    let mut put = |bytes: &[u8], line: String| {
+        input.extend(u16::try_from(bytes.len()).unwrap().to_le_bytes());
+        input.extend([bytes, &second()].concat());
+        expected.push(line);
+    };
+    for heights in [1, 2, 3, 62, MOST_HEIGHTS] {
+        let book = station(heights);
+        assert_eq!(book.bytes().len(), book_length(heights));
+        assert!(book.is_second_block(&second()));
+        put(book.bytes(), line(book.bytes(), |height| book.leader(height), true));
+        let book = ObserverBook::open(reference::Rules::SHA256, 4, heights).unwrap();
+        assert_eq!(book.bytes().len(), observer_book_length(heights));
+        assert!(!types::is_second_block(book.bytes(), &second()));
+        put(book.bytes(), line(book.bytes(), |_| None, false));
+    }
+    let program = word("mavunilai/tests/c/readers.c");
+    let words = [&watched()[..], &[&program]].concat();
+    if let Some((text, ended)) = prints_of(LANGUAGES[0], "readers", &words, &input) {
+        assert!(ended && text.lines().eq(expected.iter().map(String::as_str)), "{text}");
+    }
+}
+
+/// Bytes as digits.
+fn digits(bytes: &[u8]) -> String {
+    bytes.iter().map(|byte| format!("{byte:02x}")).collect()
+}
+
+#[test]
+fn pages_and_frames_are_made_as_by_the_types() {
+    let digest = std::array::from_fn(|at| 200 - at as u8);
+    let entry = |first: u8| std::array::from_fn(|at| first + at as u8);
+    let entries = Entries::from([entry(1), entry(17), entry(33)]);
+    let block = Block { height: 9, parent: 7, digest, entries };
+    let mut high = Frame::Finalize { signer: 255, height: 0 }.bytes();
+    high[2..4].copy_from_slice(&1000u16.to_le_bytes());
+    let mut expected = vec![digits(&block.bytes())];
+    for frame in [
+        Frame::Proposal { signer: 5, block },
+        Frame::BlockVote { signer: 6, height: 63, digest },
+        Frame::DummyVote { signer: 15, height: 2 },
+        Frame::Finalize { signer: 0, height: 1 },
+    ] {
+        expected.push(digits(&frame.bytes()));
+    }
+    expected.push(digits(&high));
+    expected.extend((0..=MOST_REPLICAS + 1).map(quorums));
+    let program = word("mavunilai/tests/c/makers.c");
+    let words = [&watched()[..], &[&program]].concat();
+    if let Some((text, ended)) = prints(LANGUAGES[0], "makers", &words) {
+        assert!(ended && text.lines().eq(expected.iter().map(String::as_str)));
+    }
+}
+
+/// A 1 or 0 for each mask, as its members are stations of n and at least two thirds of them, with n in range.
+fn quorums(n: u8) -> String {
+    let is = |mask: u16| {
+        let in_range = (1..=MOST_REPLICAS).contains(&n) && u32::from(mask) >> n == 0;
+        in_range && reference::is_quorum(mask, n)
+    };
+    (0..=u16::MAX).map(|mask| if is(mask) { '1' } else { '0' }).collect()
+}
+
+#[test]
+#[cfg(feature = "proved")]
+fn digests_are_those_of_the_host() {
+    let bytes: Vec<u8> = (0..300u32).map(|at| (at * 7 % 256) as u8).collect();
+    let expected = (0..=bytes.len()).map(|length| digits(&sha256::digest(&bytes[..length])));
+    let program = word("mavunilai/tests/c/digests.c");
+    let words = [&watched()[..], &[&program, "-x", "none", env!("MAVUNILAI_ARCHIVE")]].concat();
+    if let Some((text, ended)) = prints_of(LANGUAGES[0], "digests", &words, &bytes) {
+        assert!(ended && text.lines().map(str::to_string).eq(expected), "{text}");
+    }
+}
+
+/// Every function that only the library has is declared as one whose answer is to be looked at.
+#[test]
+fn every_call_is_to_be_looked_at() {
+    let text = std::fs::read_to_string(host("include/mavunilai.h")).unwrap();
+    let lines: Vec<&str> = text.lines().collect();
+    let of_a_call = |line: &str| {
+        ["mavunilai_answer", "uint64_t"]
+            .map(|of| format!("{of} mavunilai_"))
+            .iter()
+            .any(|of| line.starts_with(of))
+    };
+    let calls = lines.windows(2).filter(|pair| of_a_call(pair[1]));
+    let (looked, dropped): (Vec<_>, Vec<_>) = calls.partition(|pair| pair[0] == "MAVUNILAI_LOOK");
+    assert_eq!((looked.len(), dropped.len()), (15, 0));
+}
+
+#[test]
+fn an_answer_that_is_dropped_is_warned_of() {
+    for (at, (statement, fine)) in [
+        ("mavunilai_signal(book, 64, 1);", false),
+        ("mavunilai_read(book, 64, book, 0);", false),
+        ("mavunilai_fits();", false),
+        ("mavunilai_disregard(mavunilai_signal(book, 64, 1));", true),
+        ("if (mavunilai_refusal(mavunilai_signal(book, 64, 1)) != 0) { return; }", true),
+    ]
+    .into_iter()
+    .enumerate()
+    {
+        let file = scratch(&format!("dropped_{at}.c"));
+        let text = format!(
+            "#include \"mavunilai.h\"\nvoid asked(uint8_t *book);\n\
+             void asked(uint8_t *book) {{\n    (void)book;\n    {statement}\n}}\n"
+        );
+        std::fs::write(&file, text).unwrap();
+        for language in LANGUAGES {
+            let words = ["-c", file.to_str().unwrap(), "-o", "/dev/null"];
+            let ended = compiler(language, &words);
+            let compiled = ended.map(|ended| ended.status.success());
+            assert!(compiled.is_none_or(|compiled| compiled == fine), "{language:?}: {statement}");
+        }
+    }
+}
