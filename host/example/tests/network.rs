@@ -8,6 +8,7 @@ mod common;
 use common::{digits, Network, Program, Setting};
 use mavunilai::store::FileBook;
 use mavunilai::{Block, Book, Frame, Move};
+use std::time::Duration;
 
 /// The entries that every station is handed.
 const ENTRIES: [[u8; 16]; 3] =
@@ -67,22 +68,27 @@ fn three_stations_go_on_by_their_timers() {
     }
 }
 
-/// A station is killed as soon as an entry is settled anywhere, and begins again with its book: it comes to the same
-/// register by what the others send it then.
+/// A station is killed as soon as an entry is settled anywhere, and begins again with its book once the others have
+/// passed all heights and say nothing more: all that it missed it gets by the certificates that they send it then.
 #[test]
 fn a_station_that_was_killed_catches_up() {
     for (at, cast) in casts().iter().enumerate() {
-        let setting = Setting { name: format!("killed{at}"), leaders: turns(0, 24), delta: 400 };
+        let setting = Setting { name: format!("killed{at}"), leaders: turns(0, 12), delta: 200 };
         let mut network = Network::new(setting, cast);
         (0..4).for_each(|station| network.begin(station, &ENTRIES));
         network.carry(|registers| registers.iter().any(|register| !register.is_empty()));
         network.kill(3);
-        network.carry(|registers| registers[..3].iter().all(|register| register.len() >= 3));
+        network.carry_until_silent(Duration::from_secs(2));
         // In the mixed network the other program takes the book over.
         network.recast(3, &cast[1]);
         network.begin(3, &ENTRIES);
         agree(&mut network, &[0, 1, 2, 3]);
+        network.carry_until_silent(Duration::from_secs(1));
         network.end();
+        for station in 0..4 {
+            let book = FileBook::open(reference::Rules::SHA256, network.file("book", station));
+            assert_eq!(book.unwrap().book().current(), 13, "{station}");
+        }
     }
 }
 

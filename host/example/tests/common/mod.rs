@@ -153,17 +153,30 @@ impl Network {
         let until = Instant::now() + PATIENCE;
         while !done(&self.registers) {
             let left = until.saturating_duration_since(Instant::now());
-            let Ok((from, life, line)) = self.said.1.recv_timeout(left) else {
+            if !self.carry_one(left) {
                 let complaints = self.complaints();
                 panic!("nothing more is said; {:?}: {complaints:?}", self.registers);
-            };
-            let lives = self.stations[from].as_ref().is_some_and(|station| station.life == life);
-            match line.strip_prefix("settled ") {
-                Some(entry) if lives => self.registers[from].push(entry.to_string()),
-                Some(_) => {}
-                None => (0..4).filter(|to| *to != from).for_each(|to| self.say(to, &line)),
             }
         }
+    }
+
+    /// Carries lines until nobody says anything for so long.
+    pub fn carry_until_silent(&mut self, silence: Duration) {
+        while self.carry_one(silence) {}
+    }
+
+    /// Carries the next line; false if none is said for so long.
+    fn carry_one(&mut self, patience: Duration) -> bool {
+        let Ok((from, life, line)) = self.said.1.recv_timeout(patience) else {
+            return false;
+        };
+        let lives = self.stations[from].as_ref().is_some_and(|station| station.life == life);
+        match line.strip_prefix("settled ") {
+            Some(entry) if lives => self.registers[from].push(entry.to_string()),
+            Some(_) => {}
+            None => (0..4).filter(|to| *to != from).for_each(|to| self.say(to, &line)),
+        }
+        true
     }
 
     /// What a station's register has, as it told it.
