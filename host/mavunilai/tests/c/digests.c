@@ -8,7 +8,7 @@
 
 #define MOST 300
 
-/* Whether a buffer of this length, filled with one byte, is left alone but for the 32 bytes of the digest, if at all. */
+/* Whether a buffer is left alone but for the 32 bytes of the digest, and wholly where so much room is too little. */
 static int holds(const uint8_t *bytes, size_t length, size_t room) {
     uint8_t digest[64], before[64];
     unsigned refusal;

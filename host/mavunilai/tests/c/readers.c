@@ -28,7 +28,8 @@ int main(void) {
     while (fread(length, 1, sizeof length, stdin) == sizeof length) {
         size_t bytes = length[0] + (size_t)256 * length[1];
         uint8_t *book = (uint8_t *)malloc(bytes);
-        if (book == NULL || fread(book, 1, bytes, stdin) != bytes || fread(frame, 1, sizeof frame, stdin) != sizeof frame) {
+        if (book == NULL || fread(book, 1, bytes, stdin) != bytes ||
+            fread(frame, 1, sizeof frame, stdin) != sizeof frame) {
             free(book);
             return 1;
         }
