@@ -27,7 +27,7 @@ fn new(leads: bool) -> Book<Rules> {
 
 /// A page of height 1.
 fn page(byte: u8) -> Block {
-    Block { height: 1, entries: vec![[byte; 16]], ..Block::default() }
+    Block { height: 1, entries: [[byte; 16]].into(), ..Block::default() }
 }
 
 /// One thing that comes to the station before a move.
