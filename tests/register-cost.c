@@ -54,7 +54,7 @@ static uint64_t word(const uint8_t *bytes) {
     return bytes[0] | (uint64_t)bytes[1] << 8 | (uint64_t)bytes[2] << 16 | (uint64_t)bytes[3] << 24;
 }
 
-/* The place of an entry in the filter: the script gives the numbers of crates/distinct_entries/specs/Filter.antt. */
+/* The place of an entry in the filter: the script gives the numbers of crates/filter/specs/Filter.antt. */
 static unsigned place_of(const uint8_t *entry) {
     static const uint64_t factors[] = {FACTORS};
     uint64_t sum = 0;

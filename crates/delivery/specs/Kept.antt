@@ -7,7 +7,7 @@ use lib.Dec.{eqb}
 use Rattle.protocol.specs.Bytes.{Bytes}
 use Rattle.protocol.specs.Tests.{firstRefusal}
 use Rattle.protocol.specs.State.{Height, withHeight, encode, decode}
-use Rattle.protocol.specs.Answer.{Outcome, Delivery, known, fresh, accepted, unlessRefused}
+use Rattle.protocol.specs.Answer.{Outcome, Delivery, unlessRefused}
 use Rattle.protocol.specs.Deliver.{clashRows, heard}
 use Rattle.book_fields.specs.Numbered.{maskAt, withMaskAt}
 
@@ -26,11 +26,6 @@ isKept (some x) = true
 unfoldable pub keptBook : Bytes → ℕ → Option Height → Bytes
 keptBook book h none = book
 keptBook book h (some x) = encode (withHeight (decode book) h x)
-
--- the outcome of a frame that passes all rows and left this book: fresh where it changed the book
-unfoldable pub acceptedBook : Bool → Bytes → Outcome Delivery
-acceptedBook true book = record { answer = accepted fresh; book = book }
-acceptedBook false book = record { answer = accepted known; book = book }
 
 -- Deliver's outcome for a sound book and a frame that is read
 unfoldable pub readOutcome : (Bytes → Bytes) → Bytes → Bytes → Outcome Delivery

@@ -1,5 +1,4 @@
 -- What is proved of the definitions beside this folder: nothing here has to be believed.
-pub mod EquivocationLaws
 pub mod FrameReadLaws
 pub mod JoinLaws
 pub mod KeepLaws

@@ -1,10 +1,10 @@
 // Deliver: reads a frame over the book, and keeps what it states; a leader's second proposal for the current height
 // fires the timer instead.
-use crate::equivocation::fire_timer;
-use crate::equivocation::leader_equivocates;
 use crate::keep::keep;
 use answers::answer::Delivered;
-use frame_refusals::clash_refusal;
+use contradictions::clash_refusal;
+use contradictions::fire_timer;
+use contradictions::leader_equivocates;
 use frame_refusals::read_refusal;
 use frames::frame_height;
 ghost use mathlib.Core.Path.{_≡_};
@@ -15,7 +15,8 @@ ghost use Rattle.protocol.specs.Sound.{sound};
 ghost use Rattle.protocol.specs.State.{decode};
 ghost use Rattle.protocol.specs.Deliver.{heard, deliverCall};
 ghost use Rattle.answers.specs.Answers.{deliveredAnswer};
-ghost use Rattle.delivery.specs.Kept.{acceptedBook, readOutcome};
+ghost use Rattle.contradictions.specs.Accepted.{acceptedBook};
+ghost use Rattle.delivery.specs.Kept.{readOutcome};
 ghost use Rattle.frame_refusals.specs.Given.{Read};
 
 // Fires the timer where the leader of the current height equivocates by a frame that passes all rows, and else keeps

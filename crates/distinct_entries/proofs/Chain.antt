@@ -26,7 +26,7 @@ use Rattle.chains.specs.Walkable.{WalkableAs}
 use Rattle.chains.specs.Entries.{firstEntries}
 use Rattle.chains.proofs.ChainWalk.{Step, walk-step, walk-few, walk-count, all-entries}
 use Rattle.sha256.specs.Digest.{sha256}
-use Rattle.distinct_entries.specs.Filter.{Marked}
+use Rattle.filter.specs.Filter.{Marked}
 use Rattle.distinct_entries.specs.Taking.{Inside, entryOf, upTo, partRead}
 
 -- ---- what stands before the first place, before the next one, and in all places

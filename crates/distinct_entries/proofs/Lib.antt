@@ -1,3 +1,2 @@
-pub mod Filtering
 pub mod Chain
 pub mod Takes

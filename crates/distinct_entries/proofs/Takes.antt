@@ -11,9 +11,9 @@ use Rattle.protocol.specs.Distinct.{distinctAfter, distinct}
 use Rattle.protocol.specs.Laws.PiecesLaws.{join-more, length-join}
 use Rattle.protocol.specs.Laws.FrontLaws.{goes-on, front-none}
 use Rattle.protocol.specs.Laws.DistinctLaws.{distinct-repeat, distinct-new, every-distinct}
-use Rattle.distinct_entries.specs.Filter.{filterSize, Marked}
+use Rattle.filter.specs.Filter.{filterSize, Marked}
 use Rattle.distinct_entries.specs.Taking.{Taken}
-use Rattle.distinct_entries.proofs.Filtering.{marked-none}
+use Rattle.filter.proofs.Filtering.{marked-none}
 
 -- ---- none at all
 pub none-taken : (buffer filter : Bytes) → length filter ≡ filterSize → Taken [] buffer filter buffer 0

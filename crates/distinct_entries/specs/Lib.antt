@@ -1,3 +1,2 @@
 -- What the contracts of the distinct entries speak of.
-pub mod Filter
 pub mod Taking

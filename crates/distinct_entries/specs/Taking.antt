@@ -13,7 +13,7 @@ use Rattle.book_fields.specs.Book.{viewOf}
 use Rattle.book_fields.specs.declared.kind.Kind.{Kind}
 use Rattle.chains.specs.Walkable.{WalkableAs}
 use Rattle.chains.specs.Entries.{firstEntries}
-use Rattle.distinct_entries.specs.Filter.{Marked}
+use Rattle.filter.specs.Filter.{Marked}
 
 -- the entry at place `k` of the block of height `h`
 abbrev pub entryOf : View → ℕ → ℕ → Bytes

@@ -1,7 +1,7 @@
 // The distinct entries of a chain of any kind of book. The chain's blocks are gone through once, oldest first, with a
 // filter that says of most entries at once that none before equals them; for the others one looks back.
-use crate::filter::SIZE;
 use book_fields::kind::Kind;
+use filter::SIZE;
 ghost use mathlib.Core.Path.{_≡_};
 ghost use Prim.Native.Nat.{_+_, _*_, _<_, _≤_};
 ghost use lib.ListN.{length};
@@ -12,7 +12,7 @@ ghost use Rattle.protocol.specs.State.{maximumEntries};
 ghost use Rattle.protocol.specs.View.{logAt, logOf};
 ghost use Rattle.book_fields.specs.Book.{viewOf};
 ghost use Rattle.chains.specs.Walkable.{WalkableAs};
-ghost use Rattle.distinct_entries.specs.Filter.{filterSize, Marked};
+ghost use Rattle.filter.specs.Filter.{filterSize, Marked};
 ghost use Rattle.distinct_entries.specs.Taking.{Inside, entryOf, upTo, Taken, partRead};
 
 // Whether the entry at place `k` of the block of height `h` equals one before it in the chain. Looks into the block
@@ -43,7 +43,7 @@ fn is_repeat(kind: Kind, book: &[u8], h: usize, k: usize, filter: &mut [u8]) -> 
 {
     let block = book_fields::kind::block(kind, book, h);
     let from = 48 + 16 * k;
-    if crate::filter::mark(filter, &block[from..from + 16]) {
+    if filter::mark(filter, &block[from..from + 16]) {
         stands_before(kind, book, h, k)
     } else {
         false

@@ -1,9 +1,8 @@
-// The refusals of a frame: those that keep it from being read, and those where it contradicts what is kept.
-mod clash;
+// The refusals that keep a frame from being read, and what the others are made of too.
+mod carried;
 mod first;
 mod read;
 
-pub use clash::agrees;
-pub use clash::clash_refusal;
+pub use carried::agrees;
 pub use first::first_refusal;
 pub use read::read_refusal;

@@ -1,8 +1,8 @@
 // Deliver of an observer: reads a certificate over the book, and keeps what it states.
 use crate::keep::keep;
-use crate::refusal::frame_refusal;
 use answers::answer::Delivered;
 use frames::frame_height;
+use observer_refusals::frame_refusal;
 ghost use mathlib.Core.Path.{_≡_};
 ghost use Rattle.sha256.specs.Digest.{sha256 as sha};
 ghost use Rattle.protocol.specs.ObserverCalls.{observerDeliverCall};

@@ -13,7 +13,8 @@ ghost use Rattle.protocol.specs.Mask.{maskLimit};
 ghost use Rattle.protocol.specs.Deliver.{keepBlockCertificate, keep as keeps};
 ghost use Rattle.protocol.specs.Observer.{observerState};
 ghost use Rattle.book_fields.specs.Book.{ObserverReady, Within, observedIn};
-ghost use Rattle.delivery.specs.Kept.{acceptedBook, joinSigners};
+ghost use Rattle.contradictions.specs.Accepted.{acceptedBook};
+ghost use Rattle.delivery.specs.Kept.{joinSigners};
 ghost use Rattle.observer_delivery.specs.Certificate.{keptAt, CertificateRead};
 
 // Keeps a certified block with its signers where none is notarized.

@@ -1,4 +1,3 @@
 // Deliver of an observer: a certificate that no refusal stands against is kept, each kind in its way.
 pub mod deliver;
 mod keep;
-mod refusal;

@@ -21,7 +21,7 @@ fn votes_for(book: &[u8], h: usize, s: usize, voters: usize, digest: &[u8]) -> u
     ensures once { λ r. ⌜ r ≤ 1 ⌝ }
 {
     let vote = book_fields::height::vote_digest(book, h, s);
-    wire::mask::one_if_in(voters, s) * wire::difference::one_if_same(vote, digest)
+    wire::mask::one_if_in(voters, s) * difference::one_if_same(vote, digest)
 }
 
 // The mask of the replicas whose kept vote at height `h` is for this digest. One pass over the replicas, 16 at most.

@@ -1,6 +1,5 @@
 pub mod Rows
 pub mod Scan
-pub mod Differences
 pub mod BlockRows
 pub mod Masks
 pub mod Writes

@@ -5,29 +5,12 @@ use native.Mathlib.Omega.{arith}
 use mathlib.Core.Path.{_≡_, refl, sym}
 use mathlib.Core.Bool.{Bool, _&&_, and-assoc, and-true}
 use mathlib.Core.List.{[], _∷_}
-use lib.Bits.{bitOr, or-zero-l, or-add-and, and-le-l, and-le-r}
+use lib.Bits.{bitOr}
 use lib.Dec.{eqb}
 use lib.ListN.{length, getD, take, set, replicate, length-replicate, getD-replicate}
 use lib.Seq.{paste, paste-suc}
-use borrow.Author.Tests.{eq-eqb, eqb-true}
 use Rattle.protocol.specs.Bytes.{Bytes, byteAt, all, isZero, zeros}
-use Rattle.protocol.specs.Laws.TestsLaws.{and-both, both-ways}
-use Rattle.protocol.specs.Laws.RowLaws.{true-and}
-
-or-zero : (a b : ℕ) → bitOr a b ≡ 0 → (a ≡ 0) × (b ≡ 0)
-or-zero a b e =
-    let s = or-add-and a b in
-    let l = and-le-l a b in
-    let r = and-le-r a b in
-    omega arith
-
--- no bit of an or is set where none is set in either
-pub or-is-zero : (a b : ℕ) → eqb (bitOr a b) 0 ≡ (eqb a 0 && eqb b 0)
-or-is-zero a b = both-ways (eqb (bitOr a b) 0) (eqb a 0 && eqb b 0)
-    (λ e. let z = or-zero a b (eqb-true (bitOr a b) 0 e) in
-    true-and (eqb a 0) (eqb b 0) (eq-eqb a 0 (z .0)) (eq-eqb b 0 (z .1)))
-    (λ e. let t = and-both (eqb a 0) (eqb b 0) e in
-    eq-eqb (bitOr a b) 0 (rw (eqb-true a 0 (t .0), eqb-true b 0 (t .1)) (or-zero-l 0)))
+use Rattle.difference.proofs.Differences.{or-is-zero}
 
 -- ---- one byte more
 all-more : (test : ℕ → Bool) (bytes : Bytes) (i : ℕ) → i < length bytes →

@@ -23,7 +23,7 @@ pub fn same_bytes(a: &[u8], b: &[u8]) -> bool
     ensures { λ r. ⌜ r ≡ same (now (a .entry)) (now (b .entry)) ⌝ }
 {
     if a.len() == b.len() {
-        crate::difference::difference(a, b, a.len()) == 0
+        difference::difference(a, b, a.len()) == 0
     } else {
         false
     }

@@ -1,5 +1,4 @@
 // Bytes as they are sent and kept: byte strings, blocks and masks, tested and written where they lie.
 pub mod block;
 pub mod bytes;
-pub mod difference;
 pub mod mask;

@@ -65,8 +65,7 @@ mod tests {
 
     #[test]
     fn numbers_are_those_of_the_proved_source() {
-        let path =
-            concat!(env!("CARGO_MANIFEST_DIR"), "/../../crates/distinct_entries/src/filter.rt");
+        let path = concat!(env!("CARGO_MANIFEST_DIR"), "/../../crates/filter/src/lib.rt");
         let source = std::fs::read_to_string(path).unwrap_or_default();
         let places = ["0", "4", "8", "12"];
         for (factor, at) in FACTORS.iter().zip(places) {

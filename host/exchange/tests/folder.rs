@@ -1,9 +1,7 @@
 //! The folder `exchange/`: its files are what the reference records, they replay, and together they cover all.
 
-mod played;
-
+use crate::played::{file, list, played};
 use exchange::{record, replay, scenarios, Answer, Call, Line, List, ObserverCall, Tally};
-use played::{file, list, played};
 use reference::Rules;
 use std::cmp::Ordering;
 use types::Delivered::{Fresh, Known};

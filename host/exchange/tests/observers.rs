@@ -1,9 +1,7 @@
 //! The lists of the folder on observers: every refusal, answer and kind of frame occurs; the observer of the season.
 
-mod played;
-
+use crate::played::{list, played};
 use exchange::{scenarios, Answer, Call, Line, List, ObserverCall};
-use played::{list, played};
 use std::collections::BTreeSet;
 use types::Delivered::{Fresh, Known};
 use types::{is_observers, Move, FRAME_HEIGHT};

@@ -1,10 +1,8 @@
 //! The lists of the folder on chains that carry entries again: buffers of every length beside the two sizes occur, for
 //! stations and for observers, and what is read is each entry at its first place, worked out here once more.
 
-mod played;
-
+use crate::played::{list, played};
 use exchange::{scenarios, Call, List, ObserverCall};
-use played::{list, played};
 use reference::inspect::{inspect, inspect_observer};
 
 /// An entry.

@@ -1,8 +1,6 @@
 //! What each kind of frame does to the book.
 
-mod common;
-
-use common::*;
+use crate::common::*;
 use reference::Delivered::{Fresh, Known};
 
 /// Bytes and where they stand in a book.

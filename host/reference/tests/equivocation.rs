@@ -1,8 +1,6 @@
 //! A leader who says two things (request 2.2): a second, different proposal at the current height fires the timer.
 
-mod common;
-
-use common::*;
+use crate::common::*;
 use reference::Delivered::{Fresh, Known};
 use reference::{Certificate, Counts, Move};
 

@@ -1,8 +1,6 @@
 //! The form of frames: every field that a kind does not use, and the form of blocks.
 
-mod common;
-
-use common::*;
+use crate::common::*;
 use reference::Delivered;
 
 /// One good frame of each kind for a book of four, with its unused bytes.

@@ -1,8 +1,6 @@
 //! The lettered examples, a to l.
 
-mod common;
-
-use common::*;
+use crate::common::*;
 use reference::{is_quorum, Certificate, Move};
 
 #[test]

@@ -1,10 +1,8 @@
 //! Linking, finality and parents against a second definition that works upwards from height 1.
 
-mod common;
-
-use common::random::Random;
-use common::random_book::{full_mask, random_book};
-use common::*;
+use crate::common::random::Random;
+use crate::common::random_book::{full_mask, random_book};
+use crate::common::*;
 use reference::{is_quorum, Move, Rules};
 
 fn mask(book: &[u8], at: usize) -> u16 {

@@ -1,8 +1,6 @@
 //! Submit, register size and read, and the fetched certificates.
 
-mod common;
-
-use common::*;
+use crate::common::*;
 use reference::Move;
 
 /// Entries 1 and 2 at height 1, none at 2, entries 3 and 1 at height 3; all of it finalized.

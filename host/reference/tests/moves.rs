@@ -1,8 +1,6 @@
 //! The five moves: which comes first, what it writes, what it leaves alone.
 
-mod common;
-
-use common::*;
+use crate::common::*;
 use reference::{Certificate, Move};
 
 fn pass(height: Height, certificate: Certificate, finalized: bool) -> Move {

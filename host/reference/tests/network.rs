@@ -1,9 +1,7 @@
 //! Networks with random delivery, timers and equivocating replicas: honest logs never part.
 
-mod common;
-
-use common::random::Random;
-use common::*;
+use crate::common::random::Random;
+use crate::common::*;
 use reference::{book_length, is_quorum, Move};
 
 const LAST: Height = 12;

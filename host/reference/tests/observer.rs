@@ -1,9 +1,7 @@
 //! The five calls of an observer: their answers, their refusals in order, and what they change.
 
-mod common;
-
-use common::observer::*;
-use common::*;
+use crate::common::observer::*;
+use crate::common::*;
 use reference::Delivered::{Fresh, Known};
 use reference::{observer_book_length, Move};
 

@@ -1,10 +1,8 @@
 //! An observer beside a replica: the same certificates in the same order, and in a network what all of them read.
 
-mod common;
-
-use common::observer::*;
-use common::random::Random;
-use common::*;
+use crate::common::observer::*;
+use crate::common::random::Random;
+use crate::common::*;
 
 /// Certificates for four heights that often fit and often do not: blocks on blocks of the list, masks of any sort.
 fn certificate(random: &mut Random, n: u8, blocks: &mut Vec<Block>) -> FrameBytes {

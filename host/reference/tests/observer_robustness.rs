@@ -1,10 +1,8 @@
 //! Any bytes and any numbers on an observer: no call panics, a refused one changes nothing, sound books stay so.
 
-mod common;
-
-use common::observer::*;
-use common::random::Random;
-use common::*;
+use crate::common::observer::*;
+use crate::common::random::Random;
+use crate::common::*;
 use reference::{observer_book_length, Delivered, Move};
 
 /// A number that sits on a limit, or any other.

@@ -1,9 +1,7 @@
 //! An observer's book damaged for every row of soundness, and what a sound one may freely hold.
 
-mod common;
-
-use common::observer::*;
-use common::*;
+use crate::common::observer::*;
+use crate::common::*;
 
 /// Three heights: a finalized block at 1, a dummy at 2, a block on 1 at 3.
 fn full_book() -> Vec<u8> {

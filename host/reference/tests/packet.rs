@@ -1,10 +1,8 @@
 //! Packets: the counts, the book afterwards, and what is refused before any frame.
 
-mod common;
-
-use common::random::Random;
-use common::random_book::{random_block, random_book, random_mask};
-use common::*;
+use crate::common::random::Random;
+use crate::common::random_book::{random_block, random_book, random_mask};
+use crate::common::*;
 use reference::Delivered::{Fresh, Known};
 use reference::{sha256, Counts};
 

@@ -1,8 +1,6 @@
 //! The order of refusals: where two apply, the earlier one is answered.
 
-mod common;
-
-use common::*;
+use crate::common::*;
 
 /// A book in which every later refusal of deliver can be met: a proposal and a block at height 2, above the current
 /// one.

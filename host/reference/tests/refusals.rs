@@ -1,9 +1,7 @@
 //! Refusals 1 to 14 by their examples; each leaves the book and the reply as they were. 15 is among the tests of
 //! packets, 16 among those of observers.
 
-mod common;
-
-use common::*;
+use crate::common::*;
 
 /// Delivers a frame that is refused, and looks whether the book is untouched.
 fn refused(book: &mut [u8], frame: &[u8]) -> u8 {

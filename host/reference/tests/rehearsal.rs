@@ -1,8 +1,6 @@
 //! The rehearsal's given input and its eight lines, and what it does with odd input.
 
-mod common;
-
-use common::*;
+use crate::common::*;
 use reference::rehearsal::rehearse;
 
 fn lines(input: &[u8]) -> String {

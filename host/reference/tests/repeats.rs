@@ -1,9 +1,7 @@
 //! Entries that a chain carries more than once: the log of stations and of observers has each at its first place.
 
-mod common;
-
-use common::observer::*;
-use common::*;
+use crate::common::observer::*;
+use crate::common::*;
 use reference::Move;
 
 /// The pages of heights 1, 2 and so on, each on the one before, with these entries.

@@ -1,10 +1,8 @@
 //! Any bytes and any numbers: no call panics, a refused one changes nothing, sound books stay so.
 
-mod common;
-
-use common::random::Random;
-use common::random_book::{random_block, random_book, random_entry, random_mask};
-use common::*;
+use crate::common::random::Random;
+use crate::common::random_book::{random_block, random_book, random_entry, random_mask};
+use crate::common::*;
 use reference::sha256::digest;
 
 /// Numbers that sit on limits, and others.

@@ -1,8 +1,6 @@
 //! A book damaged for every row of soundness, and what a sound book may freely hold.
 
-mod common;
-
-use common::*;
+use crate::common::*;
 
 /// Three heights: a finalized block at 1, a dummy at 2, a block on 1 at 3 with its proposal held.
 fn full_book() -> Vec<u8> {

@@ -11,7 +11,8 @@ use Rattle.protocol.specs.Sound.{sound}
 use Rattle.protocol.specs.Answer.{Outcome, Delivery, refused, unlessRefused}
 use Rattle.protocol.specs.Laws.RowLaws.{pass-row, refuse-row, pass-rows, refuse-rows}
 use Rattle.protocol.specs.Deliver.{readRows, clashRows, deliverRows, kept, heard, deliverCall}
-use Rattle.delivery.specs.Kept.{isKept, keptBook, acceptedBook, readOutcome}
+use Rattle.contradictions.specs.Accepted.{acceptedBook}
+use Rattle.delivery.specs.Kept.{isKept, keptBook, readOutcome}
 
 abbrev refusedBy : ℕ → Bytes → Outcome Delivery
 refusedBy number book = record { answer = refused number; book = book }

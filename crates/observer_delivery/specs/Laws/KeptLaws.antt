@@ -23,9 +23,11 @@ use Rattle.protocol.specs.Laws.ObserverCodecLaws.{last-observed, count-observed
 use Rattle.protocol.specs.Laws.ObserverDeliverLaws.{ObserverAccepts, observer-accepts}
 use Rattle.book_fields.specs.Book.{SoundObserverBook}
 use Rattle.book_fields.specs.Numbered.{maskAt, withMaskAt}
-use Rattle.delivery.specs.Kept.{acceptedBook, joinSigners}
+use Rattle.contradictions.specs.Accepted.{acceptedBook}
+use Rattle.delivery.specs.Kept.{joinSigners}
 use Rattle.delivery.specs.Laws.JoinLaws.{signers-join}
-use Rattle.observer_delivery.specs.Certificate.{frameRows, CertificateRead, keptAt}
+use Rattle.observer_refusals.specs.Rows.{frameRows}
+use Rattle.observer_delivery.specs.Certificate.{CertificateRead, keptAt}
 
 -- ---- known and new
 module _ (book : Bytes) (h : ℕ) where

@@ -1,5 +1,4 @@
 //! The lists of the folder as they are played on the reference: each call with its bytes before it and after it.
-#![allow(dead_code)] // each test takes what it needs
 
 use exchange::{Answer, Call, Line, List, Stage};
 use reference::Rules;

@@ -1,5 +1,4 @@
 //! Books and frames for the tests, put together byte by byte without the library's own writers.
-#![allow(dead_code)] // each test program uses a part of this
 
 pub mod observer;
 pub mod random;

@@ -2,7 +2,7 @@
 use mathlib.Core.Path.{refl}
 use Rattle.sha256.specs.Digest.{sha256}
 use Rattle.answers.specs.Answers.{deliveredAnswer}
-use Rattle.delivery.specs.Kept.{acceptedBook}
+use Rattle.contradictions.specs.Accepted.{acceptedBook}
 use Rattle.delivery.specs.Laws.OutcomeLaws.{read-refused, read-heard}
 use Rattle.frame_refusals.specs.Laws.RefusalLaws.{number-refuses, zero-passes}
 use borrow.Author.Needs.{needs}

@@ -2,7 +2,7 @@
 use mathlib.Core.Path.{refl}
 use Rattle.sha256.specs.Digest.{sha256}
 use Rattle.answers.specs.Answers.{deliveredAnswer}
-use Rattle.delivery.specs.Kept.{acceptedBook}
+use Rattle.contradictions.specs.Accepted.{acceptedBook}
 use Rattle.frame_refusals.specs.Laws.RefusalLaws.{number-refuses, zero-passes}
 use Rattle.observer_delivery.specs.Laws.KeptLaws.{deliver-refused, deliver-kept, certificate-read}
 use borrow.Author.Needs.{needs}

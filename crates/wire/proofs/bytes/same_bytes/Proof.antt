@@ -1,7 +1,7 @@
 -- `same_bytes` meets its contract: strings of one length are equal where nothing differs, others are not.
 use native.Mathlib.Omega.{arith}
 use mathlib.Core.Path.{sym}
-use Rattle.wire.proofs.Differences.{same-of-one-length, different-lengths}
+use Rattle.difference.proofs.Differences.{same-of-one-length, different-lengths}
 use Rattle.wire.proofs.bytes.same_bytes.Statement.{statement}
 use Rattle.wire.proofs.bytes.same_bytes.Tie as tie
 

@@ -1,0 +1,1 @@
+// Checks of the calls on numbers: no code, all in specs/.

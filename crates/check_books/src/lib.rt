@@ -1,0 +1,1 @@
+// The books and calls that checks compute on: no code, all in specs/.

@@ -1,0 +1,3 @@
+-- What the contracts of contradictions speak of, and laws about it.
+pub mod Accepted
+pub mod Laws

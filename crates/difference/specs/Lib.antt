@@ -1,0 +1,2 @@
+-- What the contracts of the difference speak of.
+pub mod Difference

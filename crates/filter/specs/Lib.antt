@@ -1,0 +1,2 @@
+-- What the contracts of the filter speak of.
+pub mod Filter

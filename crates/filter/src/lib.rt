@@ -1,0 +1,50 @@
+// The filter of a call: a table of bytes, one set for each entry that was gone through, at a place worked out from its
+// bytes. Where an entry's byte is not set, no equal entry came before, and nobody has to look back.
+ghost use mathlib.Core.Path.{_≡_};
+ghost use mathlib.Core.Bool.{false};
+ghost use mathlib.Core.List.{List, [], _∷_, _++_};
+ghost use Prim.Native.Nat.{_+_, _<_};
+ghost use lib.ListN.{length};
+ghost use Rattle.protocol.specs.Bytes.{Bytes, holds};
+ghost use Rattle.filter.specs.Filter.{word32, placeOf, filterSize, Marked};
+
+// The size of a filter: a prime, so that numbers that count up have places of their own.
+pub const SIZE: usize = 8179;
+
+// The 32-bit number at `at`, its low byte first. Costs four reads.
+fn long_word(bytes: &[u8], at: usize) -> usize
+    requires { ⌜ at + 3 < length (now bytes) ⌝ }
+    ensures { λ r. ⌜ (r ≡ word32 (now (bytes .entry)) at) × (r < 4294967296) ⌝ }
+{
+    let low = wire::bytes::word(bytes, at);
+    let high = wire::bytes::word(bytes, at + 2);
+    low + 65536 * high
+}
+
+// The place of an entry in a filter. Costs sixteen reads, four products and a division by a constant.
+fn place(entry: &[u8]) -> usize
+    requires { ⌜ length (now entry) ≡ 16 ⌝ }
+    ensures { λ r. ⌜ (r ≡ placeOf (now (entry .entry))) × (r < filterSize) ⌝ }
+{
+    let first = 3609 * long_word(entry, 0);
+    let second = 4842 * long_word(entry, 4);
+    let third = 6902 * long_word(entry, 8);
+    let fourth = 1601 * long_word(entry, 12);
+    (first + second + third + fourth) % SIZE
+}
+
+// Sets the byte of an entry, and says whether it was set before: if not, no entry that was gone through equals it.
+pub fn mark(filter: &mut [u8], entry: &[u8]) -> bool
+    requires { ⌜ length (now filter) ≡ filterSize ⌝ }
+    requires { ⌜ length (now entry) ≡ 16 ⌝ }
+    ensures unset { λ r. ⌜ ((es : List Bytes) → Marked (now (filter .entry)) es → r ≡ false →
+        holds (now (entry .entry)) es ≡ false) ⌝ }
+    ensures marked { λ _. ⌜ ((es : List Bytes) → Marked (now (filter .entry)) es →
+        Marked (now (filter .exit)) (es ++ (now (entry .entry) ∷ []))) ⌝ }
+    ensures size { λ _. ⌜ length (now (filter .exit)) ≡ filterSize ⌝ }
+{
+    let at = place(entry);
+    let seen = filter[at];
+    filter[at] = 1;
+    seen == 1
+}

@@ -1,0 +1,5 @@
+-- Observers' books and calls computed on numbers.
+pub mod ObserverSoundChecks
+pub mod ObserverDeliverChecks
+pub mod ObserverChecks
+pub mod ObserverExamples

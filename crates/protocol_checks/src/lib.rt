@@ -1,1 +1,0 @@
-// Checks of the rules on numbers: no code, all in specs/.

@@ -1,0 +1,1 @@
+// Checks of formats, soundness and linking on numbers: no code, all in specs/.
