@@ -11,6 +11,7 @@ ITEM = re.compile(
     r"(?P<sort>fn|enum|struct|type|const) (?P<name>\w+)", re.M)
 CLAUSE = re.compile(r"(?:^|\s)(requires|ensures|ghost|measure|decreases)(?:\s+\w+)?\s*$")
 IMPORT = re.compile(r"^(pub )?use ([\w:]+)(?: as (\w+))?;$", re.M)
+METHODS = re.compile(r"^ *impl(?:<[^>{]*>)? (\w+)(?:<[^>{]*>)? \{", re.M)
 
 
 def closing(text, at):
@@ -28,7 +29,7 @@ class Item:
 
     def __init__(self, file, text, bare, m):
         self.file, self.name, self.names, self.sort = file, m["name"], [m["name"]], m["sort"]
-        self.public, self.exported = bool(m["pub"]), bool(m["extern"])
+        self.public, self.exported, self.owner = bool(m["pub"]), bool(m["extern"]), file.owner(m.start("name"))
         self.clauses, self.types = [], set()
         end = self.function(bare, m.end()) if self.sort == "fn" else self.type_of(bare, m.end())
         self.whole = text[m.start() : end].rstrip()
@@ -77,6 +78,9 @@ class SourceFile:
             self.takes(line)
         self.modules = {m[2]: bool(m[1]) for m in re.finditer(r"^(pub )?mod (\w+);", text, re.M)}
         bare = re.sub(r"//.*", lambda m: " " * len(m[0]), text)
+        self.blocks = [(m.start(), closing(bare, m.end() - 1), m[1]) for m in METHODS.finditer(bare)]
+        if len(re.findall(r"\b(?:impl|trait)\b", bare)) != len(self.blocks):
+            raise Unreadable(f"{place}: a trait, or methods in another form")
         self.items = [Item(self, text, bare, m) for m in ITEM.finditer(text)]
         known = {item.name for item in self.items if item.sort == "fn"}
         strange = [name for name in re.findall(r"\bfn (\w+)", bare) if name not in known]
@@ -94,6 +98,10 @@ class SourceFile:
         path = m[2].split("::")
         self.imports.append((m[0], bool(m[1]), path, m[3] or path[-1]))
 
+    def owner(self, at):
+        """The type whose method stands at a place, if one does."""
+        return next((name for start, end, name in self.blocks if start < at < end), None)
+
     def find(self, name):
         return [item for item in self.items if item.name == name]
 
@@ -105,7 +113,7 @@ class Crate:
     """The files of a crate's src/, and which of its functions others can call."""
 
     def __init__(self, folder):
-        self.name, self.files = folder.name, {}
+        self.folder, self.name, self.files = folder, folder.name, {}
         for path in sorted((folder / "src").glob("*.rt")):
             place = f"crates/{self.name}/src/{path.name}"
             self.files[path.stem] = SourceFile(path.read_text(), place)
@@ -114,25 +122,48 @@ class Crate:
             raise Unreadable(f"{deeper[0]}: a file in a folder of src/")
 
     def functions(self):
-        """Each function that others can call, by its path: of a public module, passed on by one, or exported."""
-        root = self.files.get("lib")
+        """Each function that others can call, by its path: of a public module, passed on by one, exported, a method."""
+        root, found = self.files.get("lib"), {}
         if root is None:
             raise Unreadable(f"crates/{self.name}: no src/lib.rt")
-        found = {}
         for stem, file in self.files.items():
             path = [self.name] if stem == "lib" else [self.name, stem]
             open_to_all = stem == "lib" or root.modules.get(stem, False)
-            for item in file.items:
-                if item.sort == "fn" and (item.exported or (item.public and open_to_all)):
-                    found["::".join([*path, item.name])] = item
-            if open_to_all:
-                found.update({"::".join([*path, short]): item for short, item in self.passed_on(file)})
+            here = [(self.within(item), item) for item in file.items if item.sort == "fn"
+                    and (item.exported or (item.public and (open_to_all or item.owner)))]
+            for name, item in [*here, *(self.passed_on(file) if open_to_all else ())]:
+                key = "::".join([*path, name])
+                if found.setdefault(key, item) is not item:
+                    raise Unreadable(f"{file.place}: two functions of the path {key}")
         return found
 
+    @staticmethod
+    def within(item):
+        return f"{item.owner}::{item.name}" if item.owner else item.name
+
     def passed_on(self, file):
-        """The functions that a `pub use` passes on, from a private module too."""
+        """The functions that a `pub use` passes on, of a private module or of another crate, by their names here."""
         for line, public, path, short in file.imports:
-            at = path[1:] if path[0] in ("crate", "self") else path
-            target = self.files.get(at[-2] if len(at) > 1 else "lib")
-            if public and target is not None:
-                yield from ((short, item) for item in target.find(at[-1]) if item.sort == "fn")
+            if public:
+                if path[0] in ("self", "super") and file is not self.files["lib"]:
+                    raise Unreadable(f"{file.place}: it passes on a name in another form: {line}")
+                yield from (("::".join([short, *rest]), item) for rest, item in self.leads(path, line))
+
+    def leads(self, path, line):
+        """Where a path leads: to a function, to the public ones of a module, or to none where it is that of a type."""
+        first, *rest = path
+        if first not in ("crate", "self") and first not in self.files:
+            beside = self.folder.parent / first
+            if not (beside / "src").is_dir():
+                raise Unreadable(f"crates/{self.name}: it passes on what is in no crate here: {line}")
+            return Crate(beside).leads(["crate", *rest], line)
+        *module, name = rest if first in ("crate", "self") else path
+        if not module and name in self.files:
+            return [([self.within(item)], item) for item in self.files[name].items if item.sort == "fn" and item.public]
+        file = self.files.get(module[0] if module else "lib")
+        found = file.find(name) if file and len(module) < 2 else []
+        imports = file.imports if file else []
+        passed = [(other, again) for again, public, other, short in imports if public and short == name]
+        if not found and len(passed) != 1:
+            raise Unreadable(f"crates/{self.name}: it passes on a name that is not found: {line}")
+        return [([], item) for item in found if item.sort == "fn"] if found else self.leads(*passed[0])
