@@ -1,5 +1,4 @@
 """What a statement reaches: the declarations that its text names, then those that their texts name."""
-import functools
 import json
 import pathlib
 import re
@@ -10,9 +9,6 @@ from specs import SpecFile, Unreadable
 
 OWN = re.compile(r"Rattle·(\w+?)(?:·specs)?\.specs\.((?:Laws\.)?(?!Laws\b)\w+)")
 DECLARED = re.compile(r"Rattle·(\w+?)(?:·specs)?\.specs\.declared\.(\w+)\.(\w+)(?:\.the-variants)?")
-
-# a text that stands at a place is read once, however many copies of the repository are looked at
-read_once = functools.lru_cache(maxsize=None)(SpecFile)
 
 
 class Library:
@@ -63,7 +59,7 @@ class Library:
             self.declared(crate, "Lib", folder[0] if folder else last)
             if folder:
                 self.declared(crate, folder[0], last)
-            self.files[key] = read_once((self.crates.parent / place).read_text(), place)
+            self.files[key] = SpecFile((self.crates.parent / place).read_text(), place)
             if self.files[key].children:
                 raise Unreadable(f"{place}: a module of its own")
         return self.files[key]

@@ -20,8 +20,7 @@ class Unreadable(Exception):
 
 def readable(text, place):
     """One spelling for a name, and no sign that a reader does not see."""
-    hidden = any(unicodedata.category(c) in ("Cf", "Co", "Cn") for c in set(text))
-    if unicodedata.normalize("NFC", text) != text or hidden:
+    if unicodedata.normalize("NFC", text) != text or any(unicodedata.category(c) in ("Cf", "Co", "Cn") for c in text):
         raise Unreadable(f"{place}: a sign that cannot be seen, or is written in another way than it is read")
 
 
