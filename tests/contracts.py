@@ -11,7 +11,6 @@ ITEM = re.compile(
     r"(?P<sort>fn|enum|struct|type|const) (?P<name>\w+)", re.M)
 CLAUSE = re.compile(r"(?:^|\s)(requires|ensures|ghost|measure|decreases)(?:\s+\w+)?\s*$")
 IMPORT = re.compile(r"^(pub )?use ([\w:]+)(?: as (\w+))?;$", re.M)
-METHODS = re.compile(r"^ *impl(?:<[^>{]*>)? (\w+)(?:<[^>{]*>)? \{", re.M)
 
 
 def closing(text, at):
@@ -29,7 +28,7 @@ class Item:
 
     def __init__(self, file, text, bare, m):
         self.file, self.name, self.names, self.sort = file, m["name"], [m["name"]], m["sort"]
-        self.public, self.exported, self.owner = bool(m["pub"]), bool(m["extern"]), file.owner(m.start("name"))
+        self.public, self.exported = bool(m["pub"]), bool(m["extern"])
         self.clauses, self.types = [], set()
         end = self.function(bare, m.end()) if self.sort == "fn" else self.type_of(bare, m.end())
         self.whole = text[m.start() : end].rstrip()
@@ -78,9 +77,8 @@ class SourceFile:
             self.takes(line)
         self.modules = {m[2]: bool(m[1]) for m in re.finditer(r"^(pub )?mod (\w+);", text, re.M)}
         bare = re.sub(r"//.*", lambda m: " " * len(m[0]), text)
-        self.blocks = [(m.start(), closing(bare, m.end() - 1), m[1]) for m in METHODS.finditer(bare)]
-        if len(re.findall(r"\b(?:impl|trait)\b", bare)) != len(self.blocks):
-            raise Unreadable(f"{place}: a trait, or methods in another form")
+        if re.search(r"\b(?:impl|trait)\b", bare):
+            raise Unreadable(f"{place}: methods, or a trait")
         self.items = [Item(self, text, bare, m) for m in ITEM.finditer(text)]
         known = {item.name for item in self.items if item.sort == "fn"}
         strange = [name for name in re.findall(r"\bfn (\w+)", bare) if name not in known]
@@ -97,10 +95,6 @@ class SourceFile:
             raise Unreadable(f"{self.place}: an import of another form: {line}")
         path = m[2].split("::")
         self.imports.append((m[0], bool(m[1]), path, m[3] or path[-1]))
-
-    def owner(self, at):
-        """The type whose method stands at a place, if one does."""
-        return next((name for start, end, name in self.blocks if start < at < end), None)
 
     def find(self, name):
         return [item for item in self.items if item.name == name]
@@ -122,24 +116,20 @@ class Crate:
             raise Unreadable(f"{deeper[0]}: a file in a folder of src/")
 
     def functions(self):
-        """Each function that others can call, by its path: of a public module, passed on by one, exported, a method."""
+        """Each function that others can call, by its path: of a public module, passed on by one, or exported."""
         root, found = self.files.get("lib"), {}
         if root is None:
             raise Unreadable(f"crates/{self.name}: no src/lib.rt")
         for stem, file in self.files.items():
             path = [self.name] if stem == "lib" else [self.name, stem]
             open_to_all = stem == "lib" or root.modules.get(stem, False)
-            here = [(self.within(item), item) for item in file.items if item.sort == "fn"
-                    and (item.exported or (item.public and (open_to_all or item.owner)))]
+            here = [(item.name, item) for item in file.items
+                    if item.sort == "fn" and (item.exported or (item.public and open_to_all))]
             for name, item in [*here, *(self.passed_on(file) if open_to_all else ())]:
                 key = "::".join([*path, name])
                 if found.setdefault(key, item) is not item:
                     raise Unreadable(f"{file.place}: two functions of the path {key}")
         return found
-
-    @staticmethod
-    def within(item):
-        return f"{item.owner}::{item.name}" if item.owner else item.name
 
     def passed_on(self, file):
         """The functions that a `pub use` passes on, of a private module or of another crate, by their names here."""
@@ -159,7 +149,7 @@ class Crate:
             return Crate(beside).leads(["crate", *rest], line)
         *module, name = rest if first in ("crate", "self") else path
         if not module and name in self.files:
-            return [([self.within(item)], item) for item in self.files[name].items if item.sort == "fn" and item.public]
+            return [([item.name], item) for item in self.files[name].items if item.sort == "fn" and item.public]
         file = self.files.get(module[0] if module else "lib")
         found = file.find(name) if file and len(module) < 2 else []
         imports = file.imports if file else []
