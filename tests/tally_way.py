@@ -2,6 +2,7 @@
 import re
 
 from code_read import Found, arguments, refuse
+from contracts import SourceFile
 from reach import Reach
 from specs import Words
 
@@ -54,13 +55,26 @@ class Contracts:
             self.defined[sort] = found[0]
 
     def named(self, item):
-        words = Words(" ".join(body for sort, body in item.clauses if sort == "ensures"))
-        return self.reach.look(item, words, [])
+        """The declarations that the `ensures` of a function name, by imports and by paths."""
+        words, found = Words(" ".join(body for sort, body in item.clauses if sort == "ensures")), []
+        for use in item.file.uses:
+            for short in use.used(words):
+                found += self.library.found(use.module, use.items[short])
+            for path in use.opened(words) if use.alias else ():
+                found += self.library.along([*use.module.split("."), *path])
+        for path in words.paths:
+            found += self.library.along(path) if path[0].startswith("Rattle·") else []
+        return found
 
     def below(self, declaration):
-        """The sorts of definitions that a declaration reaches."""
+        """The sorts of definitions that a declaration reaches; types of the code reach none."""
         if declaration not in self.known:
-            found = Reach(self.library, [(declaration, True)]).found
+            found, queue = set(), [declaration]
+            while queue:
+                other = queue.pop()
+                if other not in found and not isinstance(other.file, SourceFile):
+                    queue += self.reach.named(other, True)[0]
+                found.add(other)
             self.known[declaration] = {sort for sort, there in self.defined.items() if there in found}
         return self.known[declaration]
 
