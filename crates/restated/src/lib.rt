@@ -1,0 +1,1 @@
+// What docs/statements has, restated for the prover: see specs/, which tests/restated writes.
