@@ -1,16 +1,36 @@
-"""The public functions of a crate with their contracts, and the types of its src/, read from its files."""
+"""The public functions of a crate with their contracts, and the types of its src/, read from its files.
+
+What is not read here is refused (`Unreadable`): a file of src/ is imports, modules, functions and types, and nothing is
+left over.
+"""
 import re
 
-from specs import Unreadable, Use, Words, readable
+from imports import Use, unbent
+from words import Unreadable, Words, readable
 
 # the crates whose public functions are for others to call
 PUBLIC = ("replica", "observer", "replica_c", "sha256", "sha256_c")
 
 ITEM = re.compile(
-    r"(?P<head>(?:^[ ]*(?://|#\[).*\n)*)^[ ]*(?P<pub>pub )?(?P<extern>extern \"C\" )?"
-    r"(?P<sort>fn|enum|struct|type|const) (?P<name>\w+)", re.M)
+    r"^[ ]*(?P<pub>pub )?(?P<extern>extern \"C\" )?(?P<sort>fn|enum|struct|type|const) (?P<name>\w+)", re.M)
+HEAD = re.compile(r"(?:^[ ]*(?://|#\[no_mangle\]$).*\n)*\Z", re.M)
 CLAUSE = re.compile(r"(?:^|\s)(requires|ensures|ghost|measure|decreases)(?:\s+\w+)?\s*$")
-IMPORT = re.compile(r"^(pub )?use ([\w:]+)(?: as (\w+))?;$", re.M)
+IMPORT = re.compile(r"^(pub )?use ([\w:]+)(?: as (\w+))?;$")
+OUTER = re.compile(r"^(?:ghost use|(?:pub )?use|(?:pub )?mod) .*", re.M)
+MODULE = re.compile(r"(pub )?mod (\w+);")
+LITERAL = re.compile(r"//.*|b?\"(?:\\.|[^\"\\\n])*\"|b?'(?:\\[^\n]|[^'\\\n])'")
+# in a signature: each word but a lifetime, a number, and the name of a parameter or a field
+TYPE = re.compile(r"(?<![\w':])[A-Za-z_]\w*(?:::\w+)*\b(?!\s*:)")
+# what antt and the scripts could divide in different ways: no contract has it
+UNREAD = re.compile(r"--|\{-|[\"']|\bpackage\b")
+
+# each file that was read, by its place and its text: a trial changes few of them
+READ = {}
+
+
+def blanked(text):
+    """The text with its comments, quoted texts and signs blanked, each place kept; but not the name of C."""
+    return LITERAL.sub(lambda m: m[0] if m[0] == '"C"' else re.sub(r"[^\n]", " ", m[0]), text)
 
 
 def closing(text, at):
@@ -31,27 +51,41 @@ class Item:
         self.public, self.exported = bool(m["pub"]), bool(m["extern"])
         self.clauses, self.types = [], set()
         end = self.function(bare, m.end()) if self.sort == "fn" else self.type_of(bare, m.end())
-        self.whole = text[m.start() : end].rstrip()
+        self.start = HEAD.search(text, 0, m.start()).start()
+        self.whole = text[self.start : end].rstrip()
         self.signature = bare[m.end() : end]
         self.body = bare[end : closing(bare, end)] if self.sort == "fn" and bare[end] == "{" else ""
+        self.end = end + len(self.body)
         self.used = Words(" ".join(body for sort, body in self.clauses))
 
     def function(self, text, at):
         """The signature is the language's own; what stands in a clause's braces is antt's."""
+        signature = True
         while True:
             brace = re.compile(r"[{;](?![^\[]*\])").search(text, at).start()
-            between = text[at:brace]
-            self.types.update(re.findall(r"\w+(?:::\w+)*", between))
-            clause = CLAUSE.search(between)
+            clause = CLAUSE.search(text[at:brace])
+            between = text[at : at + clause.start() if clause else brace]
+            if signature:
+                self.types.update(TYPE.findall(between))
+            elif between.strip():
+                self.refuse(between)
             if not clause:
                 return brace
-            at = closing(text, brace)
+            at, signature = closing(text, brace), False
             self.clauses.append((clause[1], text[brace + 1 : at - 1].strip()))
+            if UNREAD.search(self.clauses[-1][1]):
+                self.refuse(self.clauses[-1][1])
+
+    def refuse(self, what):
+        raise Unreadable(f"{self.file.place}: a contract of {self.name} that is not read: {what.strip()}")
 
     def type_of(self, text, at):
+        """The types of fields, of what a variant carries, of a constant."""
         end = re.compile(r"[{;](?![^\[\n]*\])").search(text, at).start()
         end = closing(text, end) if text[end] == "{" else end + 1
-        self.types.update(re.findall(r"\w+(?:::\w+)*", text[at:end]))
+        variants = r"\w+(?=\s*(?:[,}(]|\{))" if self.sort == "enum" else r"(?!)"
+        inner = re.sub(r"\([^()]*\)", lambda m: m[0].replace(",", ";").replace(")", ";"), text[at:end])
+        self.types.update(TYPE.findall(re.sub(variants, "", inner).partition("=")[0]))
         return end
 
     def text(self, whole=True):
@@ -69,30 +103,43 @@ class SourceFile:
     """A file of src/: its imports, the modules that it names, its functions and types."""
 
     def __init__(self, text, place):
-        self.place, self.uses, self.imports = place, [], []
+        self.place, self.uses, self.imports, self.modules = place, [], [], {}
         readable(text, place)
-        if re.search(r"^ *(pub )?mod \w+ \{", text, re.M) or "/*" in text:
-            raise Unreadable(f"{place}: a module or a comment in braces")
-        for line in re.findall(r"^ *((?:ghost |pub )*use .*)", text, re.M):
-            self.takes(line)
-        self.modules = {m[2]: bool(m[1]) for m in re.finditer(r"^(pub )?mod (\w+);", text, re.M)}
-        bare = re.sub(r"//.*", lambda m: " " * len(m[0]), text)
-        self.items = [Item(self, text, bare, m) for m in ITEM.finditer(text)]
-        known = {item.name for item in self.items if item.sort == "fn"}
-        strange = [name for name in re.findall(r"\bfn (\w+)", bare) if name not in known]
-        if strange:
-            raise Unreadable(f"{place}: a function of another form: {strange[0]}")
+        bare = blanked(text)
+        for line in OUTER.findall(bare):
+            self.takes(line.rstrip())
+        self.items = [Item(self, text, bare, m) for m in ITEM.finditer(bare)]
+        self.covered(bare)
+        brought = [*(short for *_, short in self.imports), *self.modules, *(item.name for item in self.items)]
+        twice = [name for name in brought if brought.count(name) > 1]
+        if twice:
+            raise Unreadable(f"{place}: two things of one name: {twice[0]}")
+        unbent(self.uses, [], place)
+        for line, _, path, _ in self.imports:
+            if path[0] in brought and path[0] not in self.modules:
+                raise Unreadable(f"{place}: a name that is the first word of a path, which it would bend: {path[0]}")
+
+    def covered(self, bare):
+        """Imports, modules, functions and types are the whole file."""
+        for item in reversed(self.items):
+            bare = bare[: item.start] + bare[item.end :]
+        left = OUTER.sub("", bare).split()
+        if left:
+            raise Unreadable(f"{self.place}: what is no import, module, function or type: {' '.join(left[:8])}")
 
     def takes(self, line):
-        """An import, of antt's names or of the code's."""
+        """An import, of antt's names or of the code's, or a module."""
         if line.startswith("ghost "):
-            self.uses.append(Use(line, {use.alias: use.module for use in self.uses if use.alias}))
+            self.uses.append(Use(line))
             return
-        m = IMPORT.match(line)
-        if not m:
+        m, module = IMPORT.match(line), MODULE.fullmatch(line)
+        if module:
+            self.modules[module[2]] = bool(module[1])
+        elif m:
+            path = m[2].split("::")
+            self.imports.append((m[0], bool(m[1]), path, m[3] or path[-1]))
+        else:
             raise Unreadable(f"{self.place}: an import of another form: {line}")
-        path = m[2].split("::")
-        self.imports.append((m[0], bool(m[1]), path, m[3] or path[-1]))
 
     def find(self, name):
         return [item for item in self.items if item.name == name]
@@ -108,10 +155,17 @@ class Crate:
         self.name, self.files = folder.name, {}
         for path in sorted((folder / "src").glob("*.rt")):
             place = f"crates/{self.name}/src/{path.name}"
-            self.files[path.stem] = SourceFile(path.read_text(), place)
+            text = path.read_text()
+            if (place, text) not in READ:
+                READ[place, text] = SourceFile(text, place)
+            self.files[path.stem] = READ[place, text]
         deeper = [p for p in (folder / "src").glob("*/**/*.rt")]
         if deeper:
             raise Unreadable(f"{deeper[0]}: a file in a folder of src/")
+        for file in self.files.values():
+            for name in file.modules:
+                if name != self.name and (folder.parent / name).is_dir():
+                    raise Unreadable(f"{file.place}: a module with a crate's name, whose paths it would bend: {name}")
 
     def functions(self):
         """Each function that others can call, by its path: of a public module, passed on by one, or exported."""
@@ -134,5 +188,7 @@ class Crate:
         for line, public, path, short in file.imports:
             at = path[1:] if path[0] in ("crate", "self") else path
             target = self.files.get(at[-2] if len(at) > 1 else "lib")
-            if public and target is not None:
+            if public and (target is None or len(at) > 2 or not target.find(at[-1])):
+                raise Unreadable(f"{file.place}: it passes on what stands in no file of the crate: {line}")
+            if public:
                 yield from ((short, item) for item in target.find(at[-1]) if item.sort == "fn")

@@ -5,10 +5,17 @@ import re
 import shutil
 
 from contracts import Crate, SourceFile
-from specs import SpecFile, Unreadable
+from specs import SpecFile
+from words import Unreadable, readable
 
 OWN = re.compile(r"Rattle·(\w+?)(?:·specs)?\.specs\.((?:Laws\.)?(?!Laws\b)\w+)")
 DECLARED = re.compile(r"Rattle·(\w+?)(?:·specs)?\.specs\.declared\.(\w+)\.(\w+)(?:\.the-variants)?")
+
+
+# the types that the language has, and words of its signatures
+BUILT_IN = set("u8 u16 u32 u64 u128 usize i8 i16 i32 i64 i128 isize bool mut".split())
+# each file of specs/ that was read, by its place and its text: a trial changes few of them
+READ = {}
 
 
 class Library:
@@ -38,7 +45,10 @@ class Library:
     def load(self, path):
         declared, own = DECLARED.fullmatch(path), OWN.fullmatch(path)
         if declared:
-            return self.crate(declared[1]).files[declared[2]]
+            files = self.crate(declared[1]).files
+            if declared[2] not in files:
+                raise Unreadable(f"{path}, which is no file of src/")
+            return files[declared[2]]
         if own:
             return self.spec(*own.groups())
         library, *rest = path.split(".")
@@ -56,13 +66,26 @@ class Library:
             if not self.has(crate, name):
                 raise Unreadable(f"there is no {place}")
             *folder, last = name.split(".")
+            if folder not in ([], ["Laws"]) or last == "Lib" or (folder and self.has(crate, last)):
+                raise Unreadable(f"{place}: a folder that is not read, or a name for two files")
             self.declared(crate, "Lib", folder[0] if folder else last)
             if folder:
                 self.declared(crate, folder[0], last)
-            self.files[key] = SpecFile((self.crates.parent / place).read_text(), place)
-            if self.files[key].children:
-                raise Unreadable(f"{place}: a module of its own")
+            text = (self.crates.parent / place).read_text()
+            if (place, text) not in READ:
+                READ[place, text] = SpecFile(text, place)
+            self.files[key] = READ[place, text]
         return self.files[key]
+
+    def everything(self):
+        """Reads every file of specs/ and of src/: what cannot be read is refused, though no statement reaches it."""
+        for folder in sorted(self.crates.iterdir()):
+            for path in sorted(folder.glob("specs/**/*.antt")):
+                name = ".".join(path.relative_to(folder / "specs").with_suffix("").parts)
+                if name not in ("Lib", "Laws"):
+                    self.spec(folder.name, name)
+            if (folder / "src").is_dir():
+                self.crate(folder.name)
 
     def has(self, crate, name):
         return (self.crates / crate / "specs" / f"{name.replace('.', '/')}.antt").exists()
@@ -74,7 +97,9 @@ class Library:
     def declared(self, crate, of, name):
         """Lib.antt, and Laws.antt for that folder, declare their files and hold nothing else, so that no path is bent."""
         place = f"crates/{crate}/specs/{of}.antt"
-        lines = [line for line in (self.crates.parent / place).read_text().splitlines() if not line.startswith("--")]
+        text = (self.crates.parent / place).read_text()
+        readable(text, place)
+        lines = [line for line in text.splitlines() if not line.startswith("--")]
         if any(not re.fullmatch(r"(pub mod \w+)?", line) for line in lines) or f"pub mod {name}" not in lines:
             raise Unreadable(f"{place}: it must hold `pub mod {name}`, and such lines alone")
 
@@ -103,6 +128,8 @@ class Library:
                 continue
             if own or DECLARED.fullmatch(module) or self.module_exists(module):
                 return self.found(module, path[cut])
+        if path[0].startswith("Rattle"):
+            raise Unreadable(f"a path that leads to no file of specs/: {'.'.join(path)}")
         return []
 
     def module_exists(self, module):
@@ -149,7 +176,7 @@ class Reach:
                 uses.append((use, None))
                 found += self.library.along([*use.module.split("."), *path])
         for path in words.paths:
-            if path[0].startswith("Rattle·"):
+            if path[0].startswith("Rattle"):
                 found += self.library.along(path)
         if isinstance(file, SourceFile):
             return found + self.types(declaration, uses)
@@ -160,23 +187,28 @@ class Reach:
         return found
 
     def types(self, item, uses):
-        """The types of a signature, by the file's imports or its own declarations."""
+        """The types of a signature, by the file's imports or its own declarations; none is passed over."""
         file, found = item.file, []
-        for word in sorted(item.types):
+        for word in sorted(item.types - BUILT_IN):
             *path, name = word.split("::")
             for line, _, there, short in file.imports:
                 if not path and short == name:
                     uses.append((line.rstrip(";"), None))
                     path, name = there[:-1], there[-1]
-            found += [other for other in self.type_at(file, path, name) if other.sort != "fn" and other is not item]
+            types = [other for other in self.type_at(file, path, name) if other.sort != "fn"]
+            if not types:
+                raise Unreadable(f"{file.place}: {item.name} has a type that is not read: {word}")
+            found += [other for other in types if other is not item]
         return found
 
     def type_at(self, file, path, name):
         if not path:
             return file.find(name)
         own = file.place.split("/")[1]
+        if path[0] in [*(short for *_, short in file.imports), *(item.name for item in file.items)]:
+            raise Unreadable(f"{file.place}: a name that is the first word of a path, which it would bend: {path[0]}")
         crate, *module = [own, *path[1:]] if path[0] in ("crate", "self") else path
-        if not (self.library.crates / crate / "src").is_dir():
+        if len(module) > 1 or not (self.library.crates / crate / "src").is_dir():
             return []
         at = self.library.crate(crate).files.get(module[-1] if module else "lib")
         return at.find(name) if at else []
