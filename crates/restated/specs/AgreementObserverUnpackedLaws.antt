@@ -1,0 +1,12 @@
+-- Written by tests/restated --write: what docs/statements/theorems.txt has of
+-- crates/agreement/specs/Laws/ObserverUnpackedLaws.antt.
+use package.mathlib.Core.List.{List}
+use package.Rattle.protocol.specs.Bytes.{Bytes}
+use package.Rattle.agreement.specs.ObserverLists.{AnyMember, ObservedAgreement}
+use package.Rattle.agreement.specs.ObserverUnpacked.{ObservedAgreementOn, allUnpacked}
+use package.Rattle.agreement.specs.Laws.ObserverUnpackedLaws as page
+
+module _ (digest : Bytes → Bytes) where
+  pub observed-deliveries-alone : ObservedAgreement digest → (list : List AnyMember) →
+      ObservedAgreementOn digest (allUnpacked digest list) list
+  observed-deliveries-alone = page.observed-deliveries-alone digest

@@ -1,0 +1,220 @@
+-- Written by tests/restated --write: what docs/statements/demands.txt has of
+-- crates/demands/specs/Demands.antt.
+use package.Prim.Native.Nat.{ℕ, _*_, _≤_}
+use package.mathlib.Core.Path.{_≡_}
+use package.mathlib.Core.Bool.{true, false}
+use package.mathlib.Core.List.{List, [], _∷_, _++_, map}
+use package.lib.ListN.{length}
+use package.Rattle.sha256.specs.Digest.{sha256}
+use package.Rattle.protocol.specs.Bytes.{Bytes, AreBytes, holds}
+use package.Rattle.protocol.specs.Distinct.{distinctAfter, distinct, noneTwice}
+use package.Rattle.protocol.specs.Frame.{frameSize}
+use package.Rattle.protocol.specs.State.{State, decode, flag}
+use package.Rattle.protocol.specs.View.{logAt}
+use package.Rattle.protocol.specs.Sound.{view, sound, log}
+use package.Rattle.protocol.specs.Answer.{Done, Delivery, Counts, Move, accepted, done}
+use package.Rattle.protocol.specs.Open.{openRows, openCall}
+use package.Rattle.protocol.specs.Deliver.{deliverRows, deliverCall, deliverAll}
+use package.Rattle.protocol.specs.Packet.{packetFrames, counted, packetRows, packetCall}
+use package.Rattle.protocol.specs.Move.{step, moved, moveRows, moveCall}
+use package.Rattle.protocol.specs.Signal.{signalRows, signalCall}
+use package.Rattle.protocol.specs.Submit.{submitRows, submitCall}
+use package.Rattle.protocol.specs.Read.{sizeCall, readPart, readBuffer}
+use package.Rattle.protocol.specs.Fetch.{fetchRows, fetchCall}
+use package.Rattle.protocol.specs.Call.{Call, delivery, bookAfter, bookAfterAll}
+use package.Rattle.agreement.specs.Lists.{Agreement, Member}
+use package.Rattle.agreement.specs.ObserverLists.{AnyMember, ObservedAgreement}
+use package.Rattle.agreement.specs.AnyDigest.{AnyDigest}
+use package.Rattle.agreement.specs.ObserverWitness.{ObserverWitness}
+use package.Rattle.agreement.specs.ObserverUnpacked.{ObservedAgreementOn, allUnpacked}
+use package.Rattle.agreement.specs.Unpacked.{AgreementOn, Unpacks, unpacked}
+use package.Rattle.call_laws.specs.Refusals.{Refuses}
+use package.Rattle.call_laws.specs.BookBytes.{openedBook, Signals, Submits, headOf}
+use package.Rattle.call_laws.specs.Equivocating.{Equivocation}
+use package.Rattle.call_laws.specs.Keeping.{Keeps, AllTallied}
+use package.Rattle.call_laws.specs.PacketKeeping.{KeepsAll}
+use package.Rattle.call_laws.specs.Readable.{SameSetting}
+use package.Rattle.call_laws.specs.WrittenRead.{MoveWritten, FetchWritten}
+use package.Rattle.paper.specs.Steps.{FiveSteps}
+use package.Rattle.paper.specs.Timer.{Timer, TwoBlocks, VotesDummyNext}
+use package.Rattle.paper.specs.Idle.{IdlesJustThen, MovesEnd}
+use package.Rattle.paper.specs.Register.{ReadsChain, CannotRead}
+use package.Rattle.demands.specs.Demands as page
+
+pub open-refused : (book : Bytes) (n own heights : ℕ) (leaders : Bytes) →
+    Refuses Done (openRows book n own heights leaders) (openCall book n own heights leaders .answer)
+    (book ∷ []) (openCall book n own heights leaders .book ∷ [])
+open-refused = page.open-refused
+
+pub deliver-refused : (book frame : Bytes) →
+    Refuses Delivery (deliverRows sha256 book frame) (deliverCall sha256 book frame .answer)
+    (book ∷ []) (deliverCall sha256 book frame .book ∷ [])
+deliver-refused = page.deliver-refused
+
+pub packet-refused : (book packet : Bytes) →
+    Refuses Counts (packetRows sha256 book packet) (packetCall sha256 book packet .answer)
+    (book ∷ []) (packetCall sha256 book packet .book ∷ [])
+packet-refused = page.packet-refused
+
+pub move-refused : (book reply : Bytes) →
+    Refuses Move (moveRows sha256 book reply) (moveCall sha256 book reply .answer)
+    (book ∷ reply ∷ []) (moveCall sha256 book reply .book ∷ moveCall sha256 book reply .reply ∷ [])
+move-refused = page.move-refused
+
+pub signal-refused : (book : Bytes) (h : ℕ) →
+    Refuses Done (signalRows sha256 book h) (signalCall sha256 book h .answer)
+    (book ∷ []) (signalCall sha256 book h .book ∷ [])
+signal-refused = page.signal-refused
+
+pub submit-refused : (book entry : Bytes) →
+    Refuses Done (submitRows sha256 book entry) (submitCall sha256 book entry .answer)
+    (book ∷ []) (submitCall sha256 book entry .book ∷ [])
+submit-refused = page.submit-refused
+
+pub size-refused : (book : Bytes) → Refuses ℕ ((1, sound sha256 book) ∷ []) (sizeCall sha256 book) [] []
+size-refused = page.size-refused
+
+pub fetch-refused : (book : Bytes) (k h : ℕ) (reply : Bytes) →
+    Refuses Done (fetchRows sha256 book k h reply) (fetchCall sha256 book k h reply .answer)
+    (reply ∷ []) (fetchCall sha256 book k h reply .reply ∷ [])
+fetch-refused = page.fetch-refused
+
+pub read-refused : (book buffer : Bytes) → CannotRead sha256 book buffer →
+    (readPart sha256 book buffer ≡ []) × (readBuffer sha256 book buffer ≡ buffer)
+read-refused = page.read-refused
+
+pub open-writes : (book : Bytes) (n own heights : ℕ) (leaders : Bytes) →
+    openCall book n own heights leaders .answer ≡ accepted done →
+    openCall book n own heights leaders .book ≡ openedBook n own heights leaders
+open-writes = page.open-writes
+
+pub signal-writes : (book : Bytes) → AreBytes book → (h : ℕ) → signalCall sha256 book h .answer ≡ accepted done →
+    Signals book h (signalCall sha256 book h .book)
+signal-writes = page.signal-writes
+
+pub submit-writes : (book : Bytes) → AreBytes book → (entry : Bytes) →
+    submitCall sha256 book entry .answer ≡ accepted done →
+    Submits book entry (submitCall sha256 book entry .book)
+submit-writes = page.submit-writes
+
+pub move-writes : (book : Bytes) → AreBytes book → (reply : Bytes) → sound sha256 book ≡ true → 448 ≤ length reply →
+    moveCall sha256 book reply .book ≡ headOf book (step sha256 (decode book) .after)
+move-writes = page.move-writes
+
+pub sound-stays : (book : Bytes) (call : Call) → sound sha256 book ≡ true →
+    sound sha256 (bookAfter sha256 book call) ≡ true
+sound-stays = page.sound-stays
+
+pub open-makes-sound : (book : Bytes) (n own heights : ℕ) (leaders : Bytes) →
+    openCall book n own heights leaders .answer ≡ accepted done →
+    sound sha256 (openCall book n own heights leaders .book) ≡ true
+open-makes-sound = page.open-makes-sound
+
+pub move-is-the-step : (book reply : Bytes) → sound sha256 book ≡ true → 448 ≤ length reply →
+    moveCall sha256 book reply ≡ moved reply (step sha256 (decode book))
+move-is-the-step = page.move-is-the-step
+
+pub the-five-steps : (book : Bytes) → sound sha256 book ≡ true → FiveSteps sha256 (decode book)
+the-five-steps = page.the-five-steps
+
+pub the-timer : (book : Bytes) (call : Call) → sound sha256 book ≡ true → Timer sha256 book call
+the-timer = page.the-timer
+
+pub second-block-ends-the-wait : (book frame : Bytes) → sound sha256 book ≡ true → Equivocation (decode book) frame →
+    flag 2 (decode book) ≡ false → VotesDummyNext sha256 book (deliverCall sha256 book frame .book)
+second-block-ends-the-wait = page.second-block-ends-the-wait
+
+pub two-blocks-end-the-wait : (book : Bytes) (frames : List Bytes) → sound sha256 book ≡ true →
+    TwoBlocks book frames → flag 2 (decode book) ≡ false →
+    VotesDummyNext sha256 book (deliverAll sha256 book frames)
+two-blocks-end-the-wait = page.two-blocks-end-the-wait
+
+pub two-blocks-in-a-packet : (book packet : Bytes) (counts : Counts) → sound sha256 book ≡ true →
+    packetCall sha256 book packet .answer ≡ accepted counts → TwoBlocks book (packetFrames packet) →
+    flag 2 (decode book) ≡ false → VotesDummyNext sha256 book (packetCall sha256 book packet .book)
+two-blocks-in-a-packet = page.two-blocks-in-a-packet
+
+pub idle-just-then : (book reply : Bytes) → sound sha256 book ≡ true → 448 ≤ length reply →
+    IdlesJustThen sha256 book reply
+idle-just-then = page.idle-just-then
+
+pub moving-ends : (book : Bytes) → MovesEnd sha256 (decode book)
+moving-ends = page.moving-ends
+
+pub deliveries-keep : (book frame : Bytes) (news : Delivery) → deliverCall sha256 book frame .answer ≡ accepted news →
+    Keeps sha256 book frame news (deliverCall sha256 book frame .book)
+deliveries-keep = page.deliveries-keep
+
+pub nothing-else-keeps : (book frame : Bytes) (news : Delivery) →
+    deliverCall sha256 book frame .answer ≡ accepted news → AreBytes book →
+    AreBytes (deliverCall sha256 book frame .book) →
+    (news′ : Delivery) (after : Bytes) → AreBytes after → Keeps sha256 book frame news′ after →
+    (news′ ≡ news) × (after ≡ deliverCall sha256 book frame .book)
+nothing-else-keeps = page.nothing-else-keeps
+
+pub packets-keep : (book packet : Bytes) (counts : Counts) → packetCall sha256 book packet .answer ≡ accepted counts →
+    KeepsAll sha256 book (packetFrames packet) counts (packetCall sha256 book packet .book)
+packets-keep = page.packets-keep
+
+pub packets-deliver : (book packet : Bytes) (counts : Counts) →
+    packetCall sha256 book packet .answer ≡ accepted counts →
+    packetCall sha256 book packet .book ≡ bookAfterAll sha256 book (map delivery (packetFrames packet))
+packets-deliver = page.packets-deliver
+
+pub packets-count : (book packet : Bytes) (counts : Counts) → packetCall sha256 book packet .answer ≡ accepted counts →
+    frameSize * counted counts ≡ length packet
+packets-count = page.packets-count
+
+pub votes-are-tallied : (book : Bytes) (n own heights : ℕ) (leaders : Bytes) (calls : List Call) →
+    openCall book n own heights leaders .answer ≡ accepted done →
+    AllTallied sha256 (decode (bookAfterAll sha256 (openCall book n own heights leaders .book) calls))
+votes-are-tallied = page.votes-are-tallied
+
+pub the-register : (book buffer : Bytes) (size : ℕ) → sizeCall sha256 book ≡ accepted size → size ≤ length buffer →
+    ReadsChain sha256 book buffer size
+the-register = page.the-register
+
+pub nothing-is-logged-twice : (s : State) → noneTwice (log s) ≡ true
+nothing-is-logged-twice = page.nothing-is-logged-twice
+
+pub logged-are-the-chains-entries : (s : State) (entry : Bytes) →
+    holds entry (log s) ≡ holds entry (logAt (view s) (s .finalized))
+logged-are-the-chains-entries = page.logged-are-the-chains-entries
+
+pub logged-is-all-without-repeats : (s : State) → noneTwice (logAt (view s) (s .finalized)) ≡ true →
+    log s ≡ logAt (view s) (s .finalized)
+logged-is-all-without-repeats = page.logged-is-all-without-repeats
+
+pub first-places-stay : (entries more : List Bytes) →
+    distinct (entries ++ more) ≡ distinct entries ++ distinctAfter entries more
+first-places-stay = page.first-places-stay
+
+pub moves-are-read : (book reply other : Bytes) → SameSetting (decode book) (decode other) →
+    MoveWritten sha256 book reply other
+moves-are-read = page.moves-are-read
+
+pub fetches-are-read : (book : Bytes) (k h : ℕ) (reply other : Bytes) → SameSetting (decode book) (decode other) →
+    FetchWritten sha256 book k h reply other
+fetches-are-read = page.fetches-are-read
+
+pub no-fork-with-observers : ObservedAgreement sha256
+no-fork-with-observers = page.no-fork-with-observers
+
+pub no-fork-with-observers-is-met : ObserverWitness sha256
+no-fork-with-observers-is-met = page.no-fork-with-observers-is-met
+
+pub no-fork : Agreement sha256
+no-fork = page.no-fork
+
+pub no-fork-is-met : AnyDigest sha256
+no-fork-is-met = page.no-fork-is-met
+
+pub packets-are-deliveries : (list : List Member) → Unpacks sha256 list
+packets-are-deliveries = page.packets-are-deliveries
+
+pub no-fork-by-deliveries : (list : List Member) → AgreementOn sha256 (unpacked sha256 list) list
+no-fork-by-deliveries = page.no-fork-by-deliveries
+
+pub no-fork-with-observers-by-deliveries : (list : List AnyMember) →
+    ObservedAgreementOn sha256 (allUnpacked sha256 list) list
+no-fork-with-observers-by-deliveries = page.no-fork-with-observers-by-deliveries

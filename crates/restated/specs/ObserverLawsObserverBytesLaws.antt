@@ -1,0 +1,13 @@
+-- Written by tests/restated --write: what docs/statements/theorems.txt has of
+-- crates/observer_laws/specs/Laws/ObserverBytesLaws.antt.
+use package.Prim.Native.Nat.{ℕ}
+use package.mathlib.Core.Path.{_≡_}
+use package.Rattle.protocol.specs.Bytes.{Bytes}
+use package.Rattle.protocol.specs.Answer.{accepted, done}
+use package.Rattle.protocol.specs.ObserverCalls.{observerOpenCall}
+use package.Rattle.observer_laws.specs.ObserverOpened.{openedObserver}
+use package.Rattle.observer_laws.specs.Laws.ObserverBytesLaws as page
+
+pub observer-open-bytes : (book : Bytes) (n heights : ℕ) → observerOpenCall book n heights .answer ≡ accepted done →
+    observerOpenCall book n heights .book ≡ openedObserver n heights
+observer-open-bytes = page.observer-open-bytes

@@ -1,0 +1,22 @@
+-- Written by tests/restated --write: what docs/statements/theorems.txt has of
+-- crates/observer_laws/specs/Laws/ObserverSoundStays.antt.
+use package.Prim.Native.Nat.{ℕ}
+use package.mathlib.Core.Path.{_≡_}
+use package.mathlib.Core.Bool.{true}
+use package.Rattle.protocol.specs.Bytes.{Bytes}
+use package.Rattle.protocol.specs.Answer.{accepted, done}
+use package.Rattle.protocol.specs.ObserverSound.{observerSound}
+use package.Rattle.protocol.specs.ObserverCalls.{observerOpenCall}
+use package.Rattle.protocol.specs.ObserverCall.{ObserverCall}
+use package.Rattle.protocol.specs.ObserverCall.{observation}
+use package.Rattle.observer_laws.specs.Laws.ObserverSoundStays as page
+
+module _ (digest : Bytes → Bytes) where
+  pub observer-sound-stays : (book : Bytes) (call : ObserverCall) → observerSound digest book ≡ true →
+      observerSound digest (observation digest book call .book) ≡ true
+  observer-sound-stays = page.observer-sound-stays digest
+
+  pub observer-sound-opened : (book : Bytes) (n heights : ℕ) →
+      observerOpenCall book n heights .answer ≡ accepted done →
+      observerSound digest (observerOpenCall book n heights .book) ≡ true
+  observer-sound-opened = page.observer-sound-opened digest

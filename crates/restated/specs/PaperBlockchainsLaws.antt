@@ -1,0 +1,11 @@
+-- Written by tests/restated --write: what docs/statements/theorems.txt has of
+-- crates/paper/specs/Laws/BlockchainsLaws.antt.
+use package.Rattle.protocol.specs.SoundState.{CertifiedState}
+use package.Rattle.protocol.specs.Bytes.{Bytes}
+use package.Rattle.protocol.specs.State.{State}
+use package.Rattle.paper.specs.Blockchains.{InThePapersTerms}
+use package.Rattle.paper.specs.Laws.BlockchainsLaws as page
+
+module _ (digest : Bytes → Bytes) (s : State) (facts : CertifiedState digest s) where
+  pub in-the-papers-terms : InThePapersTerms digest s
+  in-the-papers-terms = page.in-the-papers-terms digest s facts

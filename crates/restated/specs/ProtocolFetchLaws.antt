@@ -1,0 +1,25 @@
+-- Written by tests/restated --write: what docs/statements/theorems.txt has of
+-- crates/protocol/specs/Laws/FetchLaws.antt.
+use package.Prim.Native.Nat.{ℕ, _≤_}
+use package.mathlib.Core.Path.{_≡_}
+use package.mathlib.Core.Bool.{true}
+use package.mathlib.Core.List.{[], _∷_, List·Memᴰ}
+use package.lib.ListN.{length}
+use package.Rattle.protocol.specs.Bytes.{Bytes}
+use package.Rattle.protocol.specs.State.{decode}
+use package.Rattle.protocol.specs.Sound.{sound}
+use package.Rattle.protocol.specs.Answer.{accepted, done}
+use package.Rattle.protocol.specs.Fetch.{everyCertificate}
+use package.Rattle.protocol.specs.Fetch.{fetchCall}
+use package.Rattle.protocol.specs.Laws.FetchLaws as page
+
+module _ (digest : Bytes → Bytes) (book reply : Bytes) where
+  pub fetched-in : (k h : ℕ) {frame : Bytes} → List·Memᴰ frame (fetchCall digest book k h reply .frames) →
+      List·Memᴰ frame (everyCertificate (decode book))
+  fetched-in = page.fetched-in digest book reply
+
+  pub in-fetched : sound digest book ≡ true → 224 ≤ length reply →
+      {frame : Bytes} → List·Memᴰ frame (everyCertificate (decode book)) →
+      (k : ℕ) × (h : ℕ) × (fetchCall digest book k h reply .answer ≡ accepted done) ×
+      (fetchCall digest book k h reply .frames ≡ frame ∷ [])
+  in-fetched = page.in-fetched digest book reply
