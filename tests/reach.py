@@ -5,7 +5,7 @@ import re
 import shutil
 
 from contracts import Crate, SourceFile
-from specs import SpecFile
+from specs import Passing, SpecFile
 from words import Unreadable, readable
 
 OWN = re.compile(r"Rattle·(\w+?)(?:·specs)?\.specs\.((?:Laws\.)?(?!Laws\b)\w+)")
@@ -78,8 +78,10 @@ class Library:
         return self.files[key]
 
     def everything(self):
-        """Reads every file of specs/ and of src/: what cannot be read is refused, though no statement reaches it."""
-        for folder in sorted(self.crates.iterdir()):
+        """Reads every file of specs/ and of src/: what cannot be read is refused, though no statement reaches it.
+
+        The crate `restated` is written by tests/restated, and no crate rests on it."""
+        for folder in sorted(folder for folder in self.crates.iterdir() if folder.name != "restated"):
             for path in sorted(folder.glob("specs/**/*.antt")):
                 name = ".".join(path.relative_to(folder / "specs").with_suffix("").parts)
                 if name not in ("Lib", "Laws"):
@@ -168,6 +170,9 @@ class Reach:
     def look(self, declaration, words, uses):
         """By imports, by paths, and in the text's own file."""
         file, found = declaration.file, []
+        if isinstance(declaration, Passing):
+            use = declaration.use
+            return [other for name in use.items.values() for other in self.library.found(use.module, name)]
         for use in file.uses:
             for short in use.used(words):
                 uses.append((use, short))

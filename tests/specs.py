@@ -79,6 +79,17 @@ class Declaration:
         return Words(uncommented("\n".join(self.under) + "\n" + self.text(whole)))
 
 
+class Passing(Declaration):
+    """A line by which a file passes names of another on, as if it declared them."""
+
+    def __init__(self, file, use, line):
+        super().__init__(file, [], 0, [])
+        self.use, self.lines, self.names = use, [line], list(use.items)
+
+    def words(self, whole=True):
+        return Words("")
+
+
 class SpecFile:
     """A file of definitions: its imports, and its declarations by each name that they bring."""
 
@@ -100,6 +111,8 @@ class SpecFile:
             self.children.add(line.split()[-1])
         elif not (self.lenient and line.endswith(".*")):
             self.uses.append(Use(line, self.lenient))
+            if self.uses[-1].public and not self.lenient:
+                self.all.append(Passing(self, self.uses[-1], line))
         if self.children and not self.lenient:
             raise Unreadable(f"{self.place}: a module of its own")
 

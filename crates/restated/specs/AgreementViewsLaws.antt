@@ -1,43 +1,44 @@
--- Written by tests/restated --write: what docs/statements/theorems.txt has of
+-- Written by tests/restated --write: what docs/statements has of
 -- crates/agreement/specs/Laws/ViewsLaws.antt.
 use package.Prim.Native.Nat.{ℕ, suc}
 use package.mathlib.Core.Path.{_≡_}
+use package.mathlib.Core.Logic.{_⊎_}
 use package.mathlib.Core.Bool.{true}
 use package.mathlib.Core.List.{List}
+use package.lib.ListN.{replicate}
 use package.Rattle.protocol.specs.Bytes.{Bytes}
-use package.Rattle.protocol.specs.View.{View, quorum}
+use package.Rattle.protocol.specs.View.{View, isFinalized, quorum}
+use package.Rattle.agreement.specs.Laws.BackingLaws.{Shown}
+use package.Rattle.agreement.specs.Laws.ObserverRunLaws.{AnySeen, AnyStates}
 use package.Rattle.agreement.specs.Lists.{FewDishonest, HonestIn, KeepsOneBook}
+use package.Rattle.agreement.specs.Lists.{finalizes}
 use package.Rattle.agreement.specs.ObserverLists.{AnyMember, Meant, NoneCollide, NoneForged}
 use package.Rattle.agreement.specs.ObserverLists.{replicaCalls}
-use package.mathlib.Core.Logic.{_⊎_}
-use package.lib.ListN.{replicate}
-use package.Rattle.protocol.specs.Mask.{inMask}
-use package.Rattle.protocol.specs.View.{isFinalized}
-use package.Rattle.agreement.specs.Lists.{finalizes}
+use package.Rattle.agreement.specs.Laws.ViewsLaws.{ShownIn}
+use package.mathlib.Core.Path.{_≡_ as _is-kept_, refl as by-text}
 use package.Rattle.agreement.specs.Laws.ViewsLaws as page
+
+module _ (digest : Bytes → Bytes) (n : ℕ) (books names observers : ℕ → Type 0) (l : List AnyMember) where
+  abbrev ShownIn·kept : View → Type 0
+  ShownIn·kept v = (i : ℕ) →
+      Shown digest (AnyStates digest n books names observers l) (AnySeen digest n books names observers l) (suc i)
+      (v .dummyMask (suc i)) (v .finalizeMask (suc i)) (v .certificateMask (suc i)) (v .hasBlock (suc i))
+      (v .block (suc i))
+
+  same·ShownIn : ShownIn·kept is-kept page.ShownIn digest n books names observers l
+  same·ShownIn = by-text
 
 module _ (digest : Bytes → Bytes) (n dishonest : ℕ) (observers : ℕ → Type 0) (l : List AnyMember)
     (third : FewDishonest n dishonest)
     (keeps : (s : ℕ) → HonestIn n dishonest s → KeepsOneBook digest n (replicaCalls l) s)
     (unforged : NoneForged digest (Meant (HonestIn n dishonest) observers) (HonestIn n dishonest) l)
     (collisionless : NoneCollide digest (Meant (HonestIn n dishonest) observers) l) where
-  abbrev HadView : (v : View) (g : ℕ) → Type 0
-  HadView = page.HadView digest n dishonest observers l third keeps unforged collisionless
-
   abbrev Honest : ℕ → Type 0
   Honest s = HonestIn n dishonest s
 
-  module _ (v v′ : View) (g g′ : ℕ) (x : HadView v g) (x′ : HadView v′ g′) where
-    abbrev Shared : ℕ → ℕ → Type 0
-    Shared m m′ = (t : ℕ) × Honest t × (inMask m t ≡ true) × (inMask m′ t ≡ true)
+  abbrev HadView : (v : View) (g : ℕ) → Type 0
+  HadView = page.HadView digest n dishonest observers l third keeps unforged collisionless
 
-    pub shared : (m m′ : ℕ) → quorum v m ≡ true → quorum v′ m′ ≡ true → Shared m m′
-    shared = page.shared digest n dishonest observers l third keeps unforged collisionless v v′ g g′ x x′
-
-    pub final-not-dummy : (i : ℕ) → quorum v (v .finalizeMask (suc i)) ≡ true →
-        quorum v′ (v′ .dummyMask (suc i)) ≡ true → ⊥
-    final-not-dummy = page.final-not-dummy digest n dishonest observers l third keeps unforged collisionless v v′ g g′ x x′
-
-module _ (digest : Bytes → Bytes) (n : ℕ) (books names observers : ℕ → Type 0) (l : List AnyMember) where
-  abbrev ShownIn : View → Type 0
-  ShownIn = page.ShownIn digest n books names observers l
+  HadView·kept : (v : View) (g : ℕ) (shown : ShownIn digest n Honest Honest observers l v) (same-weights : v .weights ≡ replicate n 1) (certificates : (i : ℕ) → v .hasBlock (suc i) ≡ true → quorum v (v .certificateMask (suc i)) ≡ true) (finalizes : (g ≡ 0) ⊎ (isFinalized digest v g ≡ true)) →
+      HadView v g
+  HadView·kept v g x0 x1 x2 x3 = record { shown = x0; same-weights = x1; certificates = x2; finalizes = x3 }

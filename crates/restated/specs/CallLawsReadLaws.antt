@@ -1,4 +1,4 @@
--- Written by tests/restated --write: what docs/statements/theorems.txt has of
+-- Written by tests/restated --write: what docs/statements has of
 -- crates/call_laws/specs/Laws/ReadLaws.antt.
 use package.mathlib.Core.Path.{_≡_}
 use package.mathlib.Core.Option.{some}
@@ -6,7 +6,8 @@ use package.Rattle.protocol.specs.Bytes.{zeros}
 use package.Rattle.protocol.specs.Tests.{firstRefusal}
 use package.Rattle.protocol.specs.State.{State}
 use package.Rattle.protocol.specs.Deliver.{readRows}
+use package.mathlib.Core.Path.{_≡_ as _is-kept_, refl as by-text}
 use package.Rattle.call_laws.specs.Laws.ReadLaws as page
 
-pub zero-frame : (t : State) → firstRefusal (readRows t (zeros 224)) ≡ some 4
-zero-frame = page.zero-frame
+pub zero-frame·kept : (t : State) → firstRefusal (readRows t (zeros 224)) ≡ some 4
+zero-frame·kept = page.zero-frame

@@ -1,4 +1,4 @@
--- Written by tests/restated --write: what docs/statements/theorems.txt has of
+-- Written by tests/restated --write: what docs/statements has of
 -- crates/call_laws/specs/Laws/SoundStays.antt.
 use package.Prim.Native.Nat.{ℕ}
 use package.mathlib.Core.Path.{_≡_}
@@ -9,14 +9,15 @@ use package.Rattle.protocol.specs.Answer.{accepted, done}
 use package.Rattle.protocol.specs.Open.{openCall}
 use package.Rattle.protocol.specs.Call.{Call}
 use package.Rattle.protocol.specs.Call.{bookAfter}
+use package.mathlib.Core.Path.{_≡_ as _is-kept_, refl as by-text}
 use package.Rattle.call_laws.specs.Laws.SoundStays as page
 
 module _ (digest : Bytes → Bytes) where
-  pub sound-stays : (book : Bytes) (call : Call) → sound digest book ≡ true →
+  pub sound-stays·kept : (book : Bytes) (call : Call) → sound digest book ≡ true →
       sound digest (bookAfter digest book call) ≡ true
-  sound-stays = page.sound-stays digest
+  sound-stays·kept = page.sound-stays digest
 
-  pub sound-opened : (book : Bytes) (n own heights : ℕ) (leaders : Bytes) →
+  pub sound-opened·kept : (book : Bytes) (n own heights : ℕ) (leaders : Bytes) →
       openCall book n own heights leaders .answer ≡ accepted done →
       sound digest (openCall book n own heights leaders .book) ≡ true
-  sound-opened = page.sound-opened digest
+  sound-opened·kept = page.sound-opened digest

@@ -1,4 +1,4 @@
--- Written by tests/restated --write: what docs/statements/theorems.txt has of
+-- Written by tests/restated --write: what docs/statements has of
 -- crates/call_laws/specs/Laws/Tallying.antt.
 use package.Prim.Native.Nat.{ℕ}
 use package.mathlib.Core.Path.{_≡_}
@@ -12,18 +12,19 @@ use package.Rattle.protocol.specs.Open.{openCall}
 use package.Rattle.protocol.specs.Call.{Call}
 use package.Rattle.protocol.specs.Call.{bookAfter, bookAfterAll}
 use package.Rattle.call_laws.specs.Keeping.{AllTallied}
+use package.mathlib.Core.Path.{_≡_ as _is-kept_, refl as by-text}
 use package.Rattle.call_laws.specs.Laws.Tallying as page
 
 module _ (digest : Bytes → Bytes) where
-  pub tallied-stays : (book : Bytes) (call : Call) → sound digest book ≡ true → AllTallied digest (decode book) →
+  pub tallied-stays·kept : (book : Bytes) (call : Call) → sound digest book ≡ true → AllTallied digest (decode book) →
       AllTallied digest (decode (bookAfter digest book call))
-  tallied-stays = page.tallied-stays digest
+  tallied-stays·kept = page.tallied-stays digest
 
-  pub tallied-stays-all : (book : Bytes) (calls : List Call) → sound digest book ≡ true →
+  pub tallied-stays-all·kept : (book : Bytes) (calls : List Call) → sound digest book ≡ true →
       AllTallied digest (decode book) → AllTallied digest (decode (bookAfterAll digest book calls))
-  tallied-stays-all = page.tallied-stays-all digest
+  tallied-stays-all·kept = page.tallied-stays-all digest
 
-  pub tallied-opened : (book : Bytes) (n own heights : ℕ) (leaders : Bytes) →
+  pub tallied-opened·kept : (book : Bytes) (n own heights : ℕ) (leaders : Bytes) →
       openCall book n own heights leaders .answer ≡ accepted done →
       AllTallied digest (decode (openCall book n own heights leaders .book))
-  tallied-opened = page.tallied-opened digest
+  tallied-opened·kept = page.tallied-opened digest

@@ -1,4 +1,4 @@
--- Written by tests/restated --write: what docs/statements/demands.txt has of
+-- Written by tests/restated --write: what docs/statements has of
 -- crates/demands/specs/Demands.antt.
 use package.Prim.Native.Nat.{ℕ, _*_, _≤_}
 use package.mathlib.Core.Path.{_≡_}
@@ -39,182 +39,183 @@ use package.Rattle.paper.specs.Steps.{FiveSteps}
 use package.Rattle.paper.specs.Timer.{Timer, TwoBlocks, VotesDummyNext}
 use package.Rattle.paper.specs.Idle.{IdlesJustThen, MovesEnd}
 use package.Rattle.paper.specs.Register.{ReadsChain, CannotRead}
+use package.mathlib.Core.Path.{_≡_ as _is-kept_, refl as by-text}
 use package.Rattle.demands.specs.Demands as page
 
-pub open-refused : (book : Bytes) (n own heights : ℕ) (leaders : Bytes) →
+pub open-refused·kept : (book : Bytes) (n own heights : ℕ) (leaders : Bytes) →
     Refuses Done (openRows book n own heights leaders) (openCall book n own heights leaders .answer)
     (book ∷ []) (openCall book n own heights leaders .book ∷ [])
-open-refused = page.open-refused
+open-refused·kept = page.open-refused
 
-pub deliver-refused : (book frame : Bytes) →
+pub deliver-refused·kept : (book frame : Bytes) →
     Refuses Delivery (deliverRows sha256 book frame) (deliverCall sha256 book frame .answer)
     (book ∷ []) (deliverCall sha256 book frame .book ∷ [])
-deliver-refused = page.deliver-refused
+deliver-refused·kept = page.deliver-refused
 
-pub packet-refused : (book packet : Bytes) →
+pub packet-refused·kept : (book packet : Bytes) →
     Refuses Counts (packetRows sha256 book packet) (packetCall sha256 book packet .answer)
     (book ∷ []) (packetCall sha256 book packet .book ∷ [])
-packet-refused = page.packet-refused
+packet-refused·kept = page.packet-refused
 
-pub move-refused : (book reply : Bytes) →
+pub move-refused·kept : (book reply : Bytes) →
     Refuses Move (moveRows sha256 book reply) (moveCall sha256 book reply .answer)
     (book ∷ reply ∷ []) (moveCall sha256 book reply .book ∷ moveCall sha256 book reply .reply ∷ [])
-move-refused = page.move-refused
+move-refused·kept = page.move-refused
 
-pub signal-refused : (book : Bytes) (h : ℕ) →
+pub signal-refused·kept : (book : Bytes) (h : ℕ) →
     Refuses Done (signalRows sha256 book h) (signalCall sha256 book h .answer)
     (book ∷ []) (signalCall sha256 book h .book ∷ [])
-signal-refused = page.signal-refused
+signal-refused·kept = page.signal-refused
 
-pub submit-refused : (book entry : Bytes) →
+pub submit-refused·kept : (book entry : Bytes) →
     Refuses Done (submitRows sha256 book entry) (submitCall sha256 book entry .answer)
     (book ∷ []) (submitCall sha256 book entry .book ∷ [])
-submit-refused = page.submit-refused
+submit-refused·kept = page.submit-refused
 
-pub size-refused : (book : Bytes) → Refuses ℕ ((1, sound sha256 book) ∷ []) (sizeCall sha256 book) [] []
-size-refused = page.size-refused
+pub size-refused·kept : (book : Bytes) → Refuses ℕ ((1, sound sha256 book) ∷ []) (sizeCall sha256 book) [] []
+size-refused·kept = page.size-refused
 
-pub fetch-refused : (book : Bytes) (k h : ℕ) (reply : Bytes) →
+pub fetch-refused·kept : (book : Bytes) (k h : ℕ) (reply : Bytes) →
     Refuses Done (fetchRows sha256 book k h reply) (fetchCall sha256 book k h reply .answer)
     (reply ∷ []) (fetchCall sha256 book k h reply .reply ∷ [])
-fetch-refused = page.fetch-refused
+fetch-refused·kept = page.fetch-refused
 
-pub read-refused : (book buffer : Bytes) → CannotRead sha256 book buffer →
+pub read-refused·kept : (book buffer : Bytes) → CannotRead sha256 book buffer →
     (readPart sha256 book buffer ≡ []) × (readBuffer sha256 book buffer ≡ buffer)
-read-refused = page.read-refused
+read-refused·kept = page.read-refused
 
-pub open-writes : (book : Bytes) (n own heights : ℕ) (leaders : Bytes) →
+pub open-writes·kept : (book : Bytes) (n own heights : ℕ) (leaders : Bytes) →
     openCall book n own heights leaders .answer ≡ accepted done →
     openCall book n own heights leaders .book ≡ openedBook n own heights leaders
-open-writes = page.open-writes
+open-writes·kept = page.open-writes
 
-pub signal-writes : (book : Bytes) → AreBytes book → (h : ℕ) → signalCall sha256 book h .answer ≡ accepted done →
+pub signal-writes·kept : (book : Bytes) → AreBytes book → (h : ℕ) → signalCall sha256 book h .answer ≡ accepted done →
     Signals book h (signalCall sha256 book h .book)
-signal-writes = page.signal-writes
+signal-writes·kept = page.signal-writes
 
-pub submit-writes : (book : Bytes) → AreBytes book → (entry : Bytes) →
+pub submit-writes·kept : (book : Bytes) → AreBytes book → (entry : Bytes) →
     submitCall sha256 book entry .answer ≡ accepted done →
     Submits book entry (submitCall sha256 book entry .book)
-submit-writes = page.submit-writes
+submit-writes·kept = page.submit-writes
 
-pub move-writes : (book : Bytes) → AreBytes book → (reply : Bytes) → sound sha256 book ≡ true → 448 ≤ length reply →
+pub move-writes·kept : (book : Bytes) → AreBytes book → (reply : Bytes) → sound sha256 book ≡ true → 448 ≤ length reply →
     moveCall sha256 book reply .book ≡ headOf book (step sha256 (decode book) .after)
-move-writes = page.move-writes
+move-writes·kept = page.move-writes
 
-pub sound-stays : (book : Bytes) (call : Call) → sound sha256 book ≡ true →
+pub sound-stays·kept : (book : Bytes) (call : Call) → sound sha256 book ≡ true →
     sound sha256 (bookAfter sha256 book call) ≡ true
-sound-stays = page.sound-stays
+sound-stays·kept = page.sound-stays
 
-pub open-makes-sound : (book : Bytes) (n own heights : ℕ) (leaders : Bytes) →
+pub open-makes-sound·kept : (book : Bytes) (n own heights : ℕ) (leaders : Bytes) →
     openCall book n own heights leaders .answer ≡ accepted done →
     sound sha256 (openCall book n own heights leaders .book) ≡ true
-open-makes-sound = page.open-makes-sound
+open-makes-sound·kept = page.open-makes-sound
 
-pub move-is-the-step : (book reply : Bytes) → sound sha256 book ≡ true → 448 ≤ length reply →
+pub move-is-the-step·kept : (book reply : Bytes) → sound sha256 book ≡ true → 448 ≤ length reply →
     moveCall sha256 book reply ≡ moved reply (step sha256 (decode book))
-move-is-the-step = page.move-is-the-step
+move-is-the-step·kept = page.move-is-the-step
 
-pub the-five-steps : (book : Bytes) → sound sha256 book ≡ true → FiveSteps sha256 (decode book)
-the-five-steps = page.the-five-steps
+pub the-five-steps·kept : (book : Bytes) → sound sha256 book ≡ true → FiveSteps sha256 (decode book)
+the-five-steps·kept = page.the-five-steps
 
-pub the-timer : (book : Bytes) (call : Call) → sound sha256 book ≡ true → Timer sha256 book call
-the-timer = page.the-timer
+pub the-timer·kept : (book : Bytes) (call : Call) → sound sha256 book ≡ true → Timer sha256 book call
+the-timer·kept = page.the-timer
 
-pub second-block-ends-the-wait : (book frame : Bytes) → sound sha256 book ≡ true → Equivocation (decode book) frame →
+pub second-block-ends-the-wait·kept : (book frame : Bytes) → sound sha256 book ≡ true → Equivocation (decode book) frame →
     flag 2 (decode book) ≡ false → VotesDummyNext sha256 book (deliverCall sha256 book frame .book)
-second-block-ends-the-wait = page.second-block-ends-the-wait
+second-block-ends-the-wait·kept = page.second-block-ends-the-wait
 
-pub two-blocks-end-the-wait : (book : Bytes) (frames : List Bytes) → sound sha256 book ≡ true →
+pub two-blocks-end-the-wait·kept : (book : Bytes) (frames : List Bytes) → sound sha256 book ≡ true →
     TwoBlocks book frames → flag 2 (decode book) ≡ false →
     VotesDummyNext sha256 book (deliverAll sha256 book frames)
-two-blocks-end-the-wait = page.two-blocks-end-the-wait
+two-blocks-end-the-wait·kept = page.two-blocks-end-the-wait
 
-pub two-blocks-in-a-packet : (book packet : Bytes) (counts : Counts) → sound sha256 book ≡ true →
+pub two-blocks-in-a-packet·kept : (book packet : Bytes) (counts : Counts) → sound sha256 book ≡ true →
     packetCall sha256 book packet .answer ≡ accepted counts → TwoBlocks book (packetFrames packet) →
     flag 2 (decode book) ≡ false → VotesDummyNext sha256 book (packetCall sha256 book packet .book)
-two-blocks-in-a-packet = page.two-blocks-in-a-packet
+two-blocks-in-a-packet·kept = page.two-blocks-in-a-packet
 
-pub idle-just-then : (book reply : Bytes) → sound sha256 book ≡ true → 448 ≤ length reply →
+pub idle-just-then·kept : (book reply : Bytes) → sound sha256 book ≡ true → 448 ≤ length reply →
     IdlesJustThen sha256 book reply
-idle-just-then = page.idle-just-then
+idle-just-then·kept = page.idle-just-then
 
-pub moving-ends : (book : Bytes) → MovesEnd sha256 (decode book)
-moving-ends = page.moving-ends
+pub moving-ends·kept : (book : Bytes) → MovesEnd sha256 (decode book)
+moving-ends·kept = page.moving-ends
 
-pub deliveries-keep : (book frame : Bytes) (news : Delivery) → deliverCall sha256 book frame .answer ≡ accepted news →
+pub deliveries-keep·kept : (book frame : Bytes) (news : Delivery) → deliverCall sha256 book frame .answer ≡ accepted news →
     Keeps sha256 book frame news (deliverCall sha256 book frame .book)
-deliveries-keep = page.deliveries-keep
+deliveries-keep·kept = page.deliveries-keep
 
-pub nothing-else-keeps : (book frame : Bytes) (news : Delivery) →
+pub nothing-else-keeps·kept : (book frame : Bytes) (news : Delivery) →
     deliverCall sha256 book frame .answer ≡ accepted news → AreBytes book →
     AreBytes (deliverCall sha256 book frame .book) →
     (news′ : Delivery) (after : Bytes) → AreBytes after → Keeps sha256 book frame news′ after →
     (news′ ≡ news) × (after ≡ deliverCall sha256 book frame .book)
-nothing-else-keeps = page.nothing-else-keeps
+nothing-else-keeps·kept = page.nothing-else-keeps
 
-pub packets-keep : (book packet : Bytes) (counts : Counts) → packetCall sha256 book packet .answer ≡ accepted counts →
+pub packets-keep·kept : (book packet : Bytes) (counts : Counts) → packetCall sha256 book packet .answer ≡ accepted counts →
     KeepsAll sha256 book (packetFrames packet) counts (packetCall sha256 book packet .book)
-packets-keep = page.packets-keep
+packets-keep·kept = page.packets-keep
 
-pub packets-deliver : (book packet : Bytes) (counts : Counts) →
+pub packets-deliver·kept : (book packet : Bytes) (counts : Counts) →
     packetCall sha256 book packet .answer ≡ accepted counts →
     packetCall sha256 book packet .book ≡ bookAfterAll sha256 book (map delivery (packetFrames packet))
-packets-deliver = page.packets-deliver
+packets-deliver·kept = page.packets-deliver
 
-pub packets-count : (book packet : Bytes) (counts : Counts) → packetCall sha256 book packet .answer ≡ accepted counts →
+pub packets-count·kept : (book packet : Bytes) (counts : Counts) → packetCall sha256 book packet .answer ≡ accepted counts →
     frameSize * counted counts ≡ length packet
-packets-count = page.packets-count
+packets-count·kept = page.packets-count
 
-pub votes-are-tallied : (book : Bytes) (n own heights : ℕ) (leaders : Bytes) (calls : List Call) →
+pub votes-are-tallied·kept : (book : Bytes) (n own heights : ℕ) (leaders : Bytes) (calls : List Call) →
     openCall book n own heights leaders .answer ≡ accepted done →
     AllTallied sha256 (decode (bookAfterAll sha256 (openCall book n own heights leaders .book) calls))
-votes-are-tallied = page.votes-are-tallied
+votes-are-tallied·kept = page.votes-are-tallied
 
-pub the-register : (book buffer : Bytes) (size : ℕ) → sizeCall sha256 book ≡ accepted size → size ≤ length buffer →
+pub the-register·kept : (book buffer : Bytes) (size : ℕ) → sizeCall sha256 book ≡ accepted size → size ≤ length buffer →
     ReadsChain sha256 book buffer size
-the-register = page.the-register
+the-register·kept = page.the-register
 
-pub nothing-is-logged-twice : (s : State) → noneTwice (log s) ≡ true
-nothing-is-logged-twice = page.nothing-is-logged-twice
+pub nothing-is-logged-twice·kept : (s : State) → noneTwice (log s) ≡ true
+nothing-is-logged-twice·kept = page.nothing-is-logged-twice
 
-pub logged-are-the-chains-entries : (s : State) (entry : Bytes) →
+pub logged-are-the-chains-entries·kept : (s : State) (entry : Bytes) →
     holds entry (log s) ≡ holds entry (logAt (view s) (s .finalized))
-logged-are-the-chains-entries = page.logged-are-the-chains-entries
+logged-are-the-chains-entries·kept = page.logged-are-the-chains-entries
 
-pub logged-is-all-without-repeats : (s : State) → noneTwice (logAt (view s) (s .finalized)) ≡ true →
+pub logged-is-all-without-repeats·kept : (s : State) → noneTwice (logAt (view s) (s .finalized)) ≡ true →
     log s ≡ logAt (view s) (s .finalized)
-logged-is-all-without-repeats = page.logged-is-all-without-repeats
+logged-is-all-without-repeats·kept = page.logged-is-all-without-repeats
 
-pub first-places-stay : (entries more : List Bytes) →
+pub first-places-stay·kept : (entries more : List Bytes) →
     distinct (entries ++ more) ≡ distinct entries ++ distinctAfter entries more
-first-places-stay = page.first-places-stay
+first-places-stay·kept = page.first-places-stay
 
-pub moves-are-read : (book reply other : Bytes) → SameSetting (decode book) (decode other) →
+pub moves-are-read·kept : (book reply other : Bytes) → SameSetting (decode book) (decode other) →
     MoveWritten sha256 book reply other
-moves-are-read = page.moves-are-read
+moves-are-read·kept = page.moves-are-read
 
-pub fetches-are-read : (book : Bytes) (k h : ℕ) (reply other : Bytes) → SameSetting (decode book) (decode other) →
+pub fetches-are-read·kept : (book : Bytes) (k h : ℕ) (reply other : Bytes) → SameSetting (decode book) (decode other) →
     FetchWritten sha256 book k h reply other
-fetches-are-read = page.fetches-are-read
+fetches-are-read·kept = page.fetches-are-read
 
-pub no-fork-with-observers : ObservedAgreement sha256
-no-fork-with-observers = page.no-fork-with-observers
+pub no-fork-with-observers·kept : ObservedAgreement sha256
+no-fork-with-observers·kept = page.no-fork-with-observers
 
-pub no-fork-with-observers-is-met : ObserverWitness sha256
-no-fork-with-observers-is-met = page.no-fork-with-observers-is-met
+pub no-fork-with-observers-is-met·kept : ObserverWitness sha256
+no-fork-with-observers-is-met·kept = page.no-fork-with-observers-is-met
 
-pub no-fork : Agreement sha256
-no-fork = page.no-fork
+pub no-fork·kept : Agreement sha256
+no-fork·kept = page.no-fork
 
-pub no-fork-is-met : AnyDigest sha256
-no-fork-is-met = page.no-fork-is-met
+pub no-fork-is-met·kept : AnyDigest sha256
+no-fork-is-met·kept = page.no-fork-is-met
 
-pub packets-are-deliveries : (list : List Member) → Unpacks sha256 list
-packets-are-deliveries = page.packets-are-deliveries
+pub packets-are-deliveries·kept : (list : List Member) → Unpacks sha256 list
+packets-are-deliveries·kept = page.packets-are-deliveries
 
-pub no-fork-by-deliveries : (list : List Member) → AgreementOn sha256 (unpacked sha256 list) list
-no-fork-by-deliveries = page.no-fork-by-deliveries
+pub no-fork-by-deliveries·kept : (list : List Member) → AgreementOn sha256 (unpacked sha256 list) list
+no-fork-by-deliveries·kept = page.no-fork-by-deliveries
 
-pub no-fork-with-observers-by-deliveries : (list : List AnyMember) →
+pub no-fork-with-observers-by-deliveries·kept : (list : List AnyMember) →
     ObservedAgreementOn sha256 (allUnpacked sha256 list) list
-no-fork-with-observers-by-deliveries = page.no-fork-with-observers-by-deliveries
+no-fork-with-observers-by-deliveries·kept = page.no-fork-with-observers-by-deliveries

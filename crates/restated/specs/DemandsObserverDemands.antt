@@ -1,4 +1,4 @@
--- Written by tests/restated --write: what docs/statements/demands.txt has of
+-- Written by tests/restated --write: what docs/statements has of
 -- crates/demands/specs/ObserverDemands.antt.
 use package.Prim.Native.Nat.{ℕ, _≤_}
 use package.mathlib.Core.Path.{_≡_}
@@ -24,92 +24,93 @@ use package.Rattle.observer_laws.specs.ObserverKeeping.{ObserverKeeps}
 use package.Rattle.observer_laws.specs.CertificatesRead.{MoveReadByObserver, FetchReadByObserver}
 use package.Rattle.observer_laws.specs.Twins.{Twins, TwinsMoved, ObserverIdles}
 use package.Rattle.observer_laws.specs.TwinsMet.{TwinsMet}
+use package.mathlib.Core.Path.{_≡_ as _is-kept_, refl as by-text}
 use package.Rattle.demands.specs.ObserverDemands as page
 
-pub observer-open-refused : (book : Bytes) (n heights : ℕ) →
+pub observer-open-refused·kept : (book : Bytes) (n heights : ℕ) →
     Refuses Done (observerOpenRows book n heights) (observerOpenCall book n heights .answer) (book ∷ [])
     (observerOpenCall book n heights .book ∷ [])
-observer-open-refused = page.observer-open-refused
+observer-open-refused·kept = page.observer-open-refused
 
-pub observer-deliver-refused : (book frame : Bytes) →
+pub observer-deliver-refused·kept : (book frame : Bytes) →
     Refuses Delivery (refusalRows sha256 book frame) (observerDeliverCall sha256 book frame .answer) (book ∷ [])
     (observerDeliverCall sha256 book frame .book ∷ [])
-observer-deliver-refused = page.observer-deliver-refused
+observer-deliver-refused·kept = page.observer-deliver-refused
 
-pub observer-move-refused : (book : Bytes) →
+pub observer-move-refused·kept : (book : Bytes) →
     Refuses Move (observerMoveRows sha256 book) (observerMoveCall sha256 book .answer) (book ∷ [])
     (observerMoveCall sha256 book .book ∷ [])
-observer-move-refused = page.observer-move-refused
+observer-move-refused·kept = page.observer-move-refused
 
-pub observer-size-refused : (book : Bytes) →
+pub observer-size-refused·kept : (book : Bytes) →
     Refuses ℕ ((1, observerSound sha256 book) ∷ []) (observerSizeCall sha256 book) [] []
-observer-size-refused = page.observer-size-refused
+observer-size-refused·kept = page.observer-size-refused
 
-pub observer-read-refused : (book buffer : Bytes) → ObserverCannotRead sha256 book buffer →
+pub observer-read-refused·kept : (book buffer : Bytes) → ObserverCannotRead sha256 book buffer →
     (observerReadPart sha256 book buffer ≡ []) × (observerReadBuffer sha256 book buffer ≡ buffer)
-observer-read-refused = page.observer-read-refused
+observer-read-refused·kept = page.observer-read-refused
 
-pub observer-refused-nothing : (book : Bytes) (call : ObserverCall) →
+pub observer-refused-nothing·kept : (book : Bytes) (call : ObserverCall) →
     observation sha256 book call .accepted ≡ false → observation sha256 book call ≡ observesBook book false
-observer-refused-nothing = page.observer-refused-nothing
+observer-refused-nothing·kept = page.observer-refused-nothing
 
-pub statements-refused : RefusesStatements sha256
-statements-refused = page.statements-refused
+pub statements-refused·kept : RefusesStatements sha256
+statements-refused·kept = page.statements-refused
 
-pub no-observer-book : (book : Bytes) → sound sha256 book ≡ true → observerSound sha256 book ≡ false
-no-observer-book = page.no-observer-book
+pub no-observer-book·kept : (book : Bytes) → sound sha256 book ≡ true → observerSound sha256 book ≡ false
+no-observer-book·kept = page.no-observer-book
 
-pub no-replica-book : (book : Bytes) → observerSound sha256 book ≡ true → sound sha256 book ≡ false
-no-replica-book = page.no-replica-book
+pub no-replica-book·kept : (book : Bytes) → observerSound sha256 book ≡ true → sound sha256 book ≡ false
+no-replica-book·kept = page.no-replica-book
 
-pub observer-open-writes : (book : Bytes) (n heights : ℕ) → observerOpenCall book n heights .answer ≡ accepted done →
+pub observer-open-writes·kept : (book : Bytes) (n heights : ℕ) → observerOpenCall book n heights .answer ≡ accepted done →
     observerOpenCall book n heights .book ≡ openedObserver n heights
-observer-open-writes = page.observer-open-writes
+observer-open-writes·kept = page.observer-open-writes
 
-pub observers-stay-sound : (book : Bytes) (call : ObserverCall) → observerSound sha256 book ≡ true →
+pub observers-stay-sound·kept : (book : Bytes) (call : ObserverCall) → observerSound sha256 book ≡ true →
     observerSound sha256 (observation sha256 book call .book) ≡ true
-observers-stay-sound = page.observers-stay-sound
+observers-stay-sound·kept = page.observers-stay-sound
 
-pub observer-open-makes-sound : (book : Bytes) (n heights : ℕ) →
+pub observer-open-makes-sound·kept : (book : Bytes) (n heights : ℕ) →
     observerOpenCall book n heights .answer ≡ accepted done →
     observerSound sha256 (observerOpenCall book n heights .book) ≡ true
-observer-open-makes-sound = page.observer-open-makes-sound
+observer-open-makes-sound·kept = page.observer-open-makes-sound
 
-pub observers-keep : (book frame : Bytes) (news : Delivery) →
+pub observers-keep·kept : (book frame : Bytes) (news : Delivery) →
     observerDeliverCall sha256 book frame .answer ≡ accepted news →
     ObserverKeeps sha256 book frame news (observerDeliverCall sha256 book frame .book)
-observers-keep = page.observers-keep
+observers-keep·kept = page.observers-keep
 
-pub nothing-else-is-kept : (book frame : Bytes) (news : Delivery) →
+pub nothing-else-is-kept·kept : (book frame : Bytes) (news : Delivery) →
     observerDeliverCall sha256 book frame .answer ≡ accepted news →
     AreBytes (observerDeliverCall sha256 book frame .book) →
     (news′ : Delivery) (after : Bytes) → AreBytes after → ObserverKeeps sha256 book frame news′ after →
     (news′ ≡ news) × (after ≡ observerDeliverCall sha256 book frame .book)
-nothing-else-is-kept = page.nothing-else-is-kept
+nothing-else-is-kept·kept = page.nothing-else-is-kept
 
-pub the-observers-step : (book : Bytes) → observerSound sha256 book ≡ true → AreBytes book → ObserverStep sha256 book
-the-observers-step = page.the-observers-step
+pub the-observers-step·kept : (book : Bytes) → observerSound sha256 book ≡ true → AreBytes book → ObserverStep sha256 book
+the-observers-step·kept = page.the-observers-step
 
-pub the-observers-register : (book buffer : Bytes) (size : ℕ) → observerSizeCall sha256 book ≡ accepted size →
+pub the-observers-register·kept : (book buffer : Bytes) (size : ℕ) → observerSizeCall sha256 book ≡ accepted size →
     size ≤ length buffer → ObserverReadsChain sha256 book buffer size
-the-observers-register = page.the-observers-register
+the-observers-register·kept = page.the-observers-register
 
-pub moves-are-read-by-observers : (book reply other : Bytes) → observerState other .n ≡ decode book .n →
+pub moves-are-read-by-observers·kept : (book reply other : Bytes) → observerState other .n ≡ decode book .n →
     MoveReadByObserver sha256 book reply other
-moves-are-read-by-observers = page.moves-are-read-by-observers
+moves-are-read-by-observers·kept = page.moves-are-read-by-observers
 
-pub fetches-are-read-by-observers : (book : Bytes) (k h : ℕ) (reply other : Bytes) →
+pub fetches-are-read-by-observers·kept : (book : Bytes) (k h : ℕ) (reply other : Bytes) →
     observerState other .n ≡ decode book .n → FetchReadByObserver sha256 book k h reply other
-fetches-are-read-by-observers = page.fetches-are-read-by-observers
+fetches-are-read-by-observers·kept = page.fetches-are-read-by-observers
 
-pub same-certificates-same-log : Twins sha256
-same-certificates-same-log = page.same-certificates-same-log
+pub same-certificates-same-log·kept : Twins sha256
+same-certificates-same-log·kept = page.same-certificates-same-log
 
-pub same-log-after-moves : TwinsMoved sha256
-same-log-after-moves = page.same-log-after-moves
+pub same-log-after-moves·kept : TwinsMoved sha256
+same-log-after-moves·kept = page.same-log-after-moves
 
-pub same-log-is-met : TwinsMet sha256
-same-log-is-met = page.same-log-is-met
+pub same-log-is-met·kept : TwinsMet sha256
+same-log-is-met·kept = page.same-log-is-met
 
-pub observer-idle-after-one : ObserverIdles sha256
-observer-idle-after-one = page.observer-idle-after-one
+pub observer-idle-after-one·kept : ObserverIdles sha256
+observer-idle-after-one·kept = page.observer-idle-after-one

@@ -1,4 +1,4 @@
--- Written by tests/restated --write: what docs/statements/theorems.txt has of
+-- Written by tests/restated --write: what docs/statements has of
 -- crates/observer_laws/specs/Laws/CertificatesReadLaws.antt.
 use package.Prim.Native.Nat.{ℕ}
 use package.mathlib.Core.Path.{_≡_}
@@ -7,13 +7,14 @@ use package.Rattle.protocol.specs.State.{decode}
 use package.Rattle.protocol.specs.Observer.{observerState}
 use package.Rattle.call_laws.specs.Readable.{DigestSized}
 use package.Rattle.observer_laws.specs.CertificatesRead.{MoveReadByObserver, FetchReadByObserver}
+use package.mathlib.Core.Path.{_≡_ as _is-kept_, refl as by-text}
 use package.Rattle.observer_laws.specs.Laws.CertificatesReadLaws as page
 
 module _ (digest : Bytes → Bytes) where
-  pub move-read-by-observer : DigestSized digest → (book reply other : Bytes) →
+  pub move-read-by-observer·kept : DigestSized digest → (book reply other : Bytes) →
       observerState other .n ≡ decode book .n → MoveReadByObserver digest book reply other
-  move-read-by-observer = page.move-read-by-observer digest
+  move-read-by-observer·kept = page.move-read-by-observer digest
 
-  pub fetch-read-by-observer : (book : Bytes) (k h : ℕ) (reply other : Bytes) →
+  pub fetch-read-by-observer·kept : (book : Bytes) (k h : ℕ) (reply other : Bytes) →
       observerState other .n ≡ decode book .n → FetchReadByObserver digest book k h reply other
-  fetch-read-by-observer = page.fetch-read-by-observer digest
+  fetch-read-by-observer·kept = page.fetch-read-by-observer digest

@@ -1,4 +1,4 @@
--- Written by tests/restated --write: what docs/statements/theorems.txt has of
+-- Written by tests/restated --write: what docs/statements has of
 -- crates/observer_laws/specs/Laws/ObserverBytesLaws.antt.
 use package.Prim.Native.Nat.{ℕ}
 use package.mathlib.Core.Path.{_≡_}
@@ -6,8 +6,9 @@ use package.Rattle.protocol.specs.Bytes.{Bytes}
 use package.Rattle.protocol.specs.Answer.{accepted, done}
 use package.Rattle.protocol.specs.ObserverCalls.{observerOpenCall}
 use package.Rattle.observer_laws.specs.ObserverOpened.{openedObserver}
+use package.mathlib.Core.Path.{_≡_ as _is-kept_, refl as by-text}
 use package.Rattle.observer_laws.specs.Laws.ObserverBytesLaws as page
 
-pub observer-open-bytes : (book : Bytes) (n heights : ℕ) → observerOpenCall book n heights .answer ≡ accepted done →
+pub observer-open-bytes·kept : (book : Bytes) (n heights : ℕ) → observerOpenCall book n heights .answer ≡ accepted done →
     observerOpenCall book n heights .book ≡ openedObserver n heights
-observer-open-bytes = page.observer-open-bytes
+observer-open-bytes·kept = page.observer-open-bytes

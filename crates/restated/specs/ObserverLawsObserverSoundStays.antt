@@ -1,4 +1,4 @@
--- Written by tests/restated --write: what docs/statements/theorems.txt has of
+-- Written by tests/restated --write: what docs/statements has of
 -- crates/observer_laws/specs/Laws/ObserverSoundStays.antt.
 use package.Prim.Native.Nat.{ℕ}
 use package.mathlib.Core.Path.{_≡_}
@@ -9,14 +9,15 @@ use package.Rattle.protocol.specs.ObserverSound.{observerSound}
 use package.Rattle.protocol.specs.ObserverCalls.{observerOpenCall}
 use package.Rattle.protocol.specs.ObserverCall.{ObserverCall}
 use package.Rattle.protocol.specs.ObserverCall.{observation}
+use package.mathlib.Core.Path.{_≡_ as _is-kept_, refl as by-text}
 use package.Rattle.observer_laws.specs.Laws.ObserverSoundStays as page
 
 module _ (digest : Bytes → Bytes) where
-  pub observer-sound-stays : (book : Bytes) (call : ObserverCall) → observerSound digest book ≡ true →
+  pub observer-sound-stays·kept : (book : Bytes) (call : ObserverCall) → observerSound digest book ≡ true →
       observerSound digest (observation digest book call .book) ≡ true
-  observer-sound-stays = page.observer-sound-stays digest
+  observer-sound-stays·kept = page.observer-sound-stays digest
 
-  pub observer-sound-opened : (book : Bytes) (n heights : ℕ) →
+  pub observer-sound-opened·kept : (book : Bytes) (n heights : ℕ) →
       observerOpenCall book n heights .answer ≡ accepted done →
       observerSound digest (observerOpenCall book n heights .book) ≡ true
-  observer-sound-opened = page.observer-sound-opened digest
+  observer-sound-opened·kept = page.observer-sound-opened digest

@@ -1,4 +1,4 @@
--- Written by tests/restated --write: what docs/statements/theorems.txt has of
+-- Written by tests/restated --write: what docs/statements has of
 -- crates/observer_laws/specs/Laws/RefusingLaws.antt.
 use package.mathlib.Core.List.{[], _∷_}
 use package.Rattle.protocol.specs.Bytes.{Bytes}
@@ -6,13 +6,14 @@ use package.Rattle.protocol.specs.Answer.{Delivery}
 use package.Rattle.protocol.specs.ObserverCalls.{observerDeliverCall}
 use package.Rattle.call_laws.specs.Refusals.{Refuses}
 use package.Rattle.observer_laws.specs.Refusing.{refusalRows, RefusesStatements}
+use package.mathlib.Core.Path.{_≡_ as _is-kept_, refl as by-text}
 use package.Rattle.observer_laws.specs.Laws.RefusingLaws as page
 
 module _ (digest : Bytes → Bytes) where
-  pub observer-deliver-refuses : (book frame : Bytes) →
+  pub observer-deliver-refuses·kept : (book frame : Bytes) →
       Refuses Delivery (refusalRows digest book frame) (observerDeliverCall digest book frame .answer) (book ∷ [])
       (observerDeliverCall digest book frame .book ∷ [])
-  observer-deliver-refuses = page.observer-deliver-refuses digest
+  observer-deliver-refuses·kept = page.observer-deliver-refuses digest
 
-  pub refuses-statements : RefusesStatements digest
-  refuses-statements = page.refuses-statements digest
+  pub refuses-statements·kept : RefusesStatements digest
+  refuses-statements·kept = page.refuses-statements digest

@@ -1,4 +1,4 @@
--- Written by tests/restated --write: what docs/statements/theorems.txt has of
+-- Written by tests/restated --write: what docs/statements has of
 -- crates/packing/specs/Laws/UnpackingLaws.antt.
 use package.Prim.Native.Nat.{ℕ}
 use package.mathlib.Core.Path.{_≡_}
@@ -15,41 +15,42 @@ use package.Rattle.protocol.specs.Move.{moveCall}
 use package.Rattle.packing.specs.Packing.{packedDone, packedDelivery, packedPacket, packedMove, packedSize}
 use package.Rattle.packing.specs.Unpacking.{unpackedFrames}
 use package.Rattle.packing.specs.Unpacking.{DoneRead, DeliveryRead, PacketRead, MoveRead, SizeRead}
+use package.mathlib.Core.Path.{_≡_ as _is-kept_, refl as by-text}
 use package.Rattle.packing.specs.Laws.UnpackingLaws as page
 
-pub open-read : (book : Bytes) (n own heights : ℕ) (leaders : Bytes) →
+pub open-read·kept : (book : Bytes) (n own heights : ℕ) (leaders : Bytes) →
     DoneRead (packedDone (openCall book n own heights leaders .answer)) (openCall book n own heights leaders .answer)
-open-read = page.open-read
+open-read·kept = page.open-read
 
 module _ (digest : Bytes → Bytes) (book : Bytes) where
-  pub deliver-read : (frame : Bytes) →
+  pub deliver-read·kept : (frame : Bytes) →
       DeliveryRead (packedDelivery (deliverCall digest book frame .answer)) (deliverCall digest book frame .answer)
-  deliver-read = page.deliver-read digest book
+  deliver-read·kept = page.deliver-read digest book
 
-  pub packet-read : (packet : Bytes) →
+  pub packet-read·kept : (packet : Bytes) →
       PacketRead (packedPacket (packetCall digest book packet .answer)) (packetCall digest book packet .answer)
-  packet-read = page.packet-read digest book
+  packet-read·kept = page.packet-read digest book
 
-  pub signal-read : (h : ℕ) →
+  pub signal-read·kept : (h : ℕ) →
       DoneRead (packedDone (signalCall digest book h .answer)) (signalCall digest book h .answer)
-  signal-read = page.signal-read digest book
+  signal-read·kept = page.signal-read digest book
 
-  pub submit-read : (entry : Bytes) →
+  pub submit-read·kept : (entry : Bytes) →
       DoneRead (packedDone (submitCall digest book entry .answer)) (submitCall digest book entry .answer)
-  submit-read = page.submit-read digest book
+  submit-read·kept = page.submit-read digest book
 
-  pub fetch-read : (k h : ℕ) (reply : Bytes) →
+  pub fetch-read·kept : (k h : ℕ) (reply : Bytes) →
       DoneRead (packedDone (fetchCall digest book k h reply .answer)) (fetchCall digest book k h reply .answer)
-  fetch-read = page.fetch-read digest book
+  fetch-read·kept = page.fetch-read digest book
 
-  pub size-read : SizeRead (packedSize (sizeCall digest book)) (sizeCall digest book)
-  size-read = page.size-read digest book
+  pub size-read·kept : SizeRead (packedSize (sizeCall digest book)) (sizeCall digest book)
+  size-read·kept = page.size-read digest book
 
-  pub move-read : (reply : Bytes) →
+  pub move-read·kept : (reply : Bytes) →
       MoveRead (packedMove (moveCall digest book reply .answer)) (moveCall digest book reply .answer)
-  move-read = page.move-read digest book
+  move-read·kept = page.move-read digest book
 
 module _ (digest : Bytes → Bytes) where
-  pub frames-read : (book reply : Bytes) →
+  pub frames-read·kept : (book reply : Bytes) →
       unpackedFrames (packedMove (moveCall digest book reply .answer)) ≡ length (moveCall digest book reply .frames)
-  frames-read = page.frames-read digest
+  frames-read·kept = page.frames-read digest

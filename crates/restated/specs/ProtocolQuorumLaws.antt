@@ -1,4 +1,4 @@
--- Written by tests/restated --write: what docs/statements/theorems.txt has of
+-- Written by tests/restated --write: what docs/statements has of
 -- crates/protocol/specs/Laws/QuorumLaws.antt.
 use package.Prim.Native.Nat.{ℕ, _*_, _<_}
 use package.mathlib.Core.Path.{_≡_}
@@ -7,15 +7,16 @@ use package.lib.ListN.{length, replicate}
 use package.lib.Dec.{leb}
 use package.Rattle.protocol.specs.Mask.{inMask, ones, weigh}
 use package.Rattle.protocol.specs.View.{View, quorum, maskWeight, totalWeight}
+use package.mathlib.Core.Path.{_≡_ as _is-kept_, refl as by-text}
 use package.Rattle.protocol.specs.Laws.QuorumLaws as page
 
-pub ones-weigh : (m n : ℕ) → ones m n ≡ weigh (λ t. inMask m t) (replicate n 1)
-ones-weigh = page.ones-weigh
+pub ones-weigh·kept : (m n : ℕ) → ones m n ≡ weigh (λ t. inMask m t) (replicate n 1)
+ones-weigh·kept = page.ones-weigh
 
-pub quorum-even : (v : View) (n mask : ℕ) → v .weights ≡ replicate n 1 → quorum v mask ≡ leb (2 * n) (3 * ones mask n)
-quorum-even = page.quorum-even
+pub quorum-even·kept : (v : View) (n mask : ℕ) → v .weights ≡ replicate n 1 → quorum v mask ≡ leb (2 * n) (3 * ones mask n)
+quorum-even·kept = page.quorum-even
 
-pub quorums-meet : (v v′ : View) (a b d : ℕ) → v′ .weights ≡ v .weights → quorum v a ≡ true → quorum v′ b ≡ true →
+pub quorums-meet·kept : (v v′ : View) (a b d : ℕ) → v′ .weights ≡ v .weights → quorum v a ≡ true → quorum v′ b ≡ true →
     3 * maskWeight v d < totalWeight v →
     (t : ℕ) × (t < length (v .weights)) × (inMask a t ≡ true) × (inMask b t ≡ true) × (inMask d t ≡ false)
-quorums-meet = page.quorums-meet
+quorums-meet·kept = page.quorums-meet

@@ -1,0 +1,37 @@
+-- Written by tests/restated --write: what docs/statements has of
+-- crates/agreement/specs/ObserverUnpacked.antt.
+use package.Prim.Native.Nat.{ℕ}
+use package.mathlib.Core.Logic.{_⊎_}
+use package.mathlib.Core.List.{List, [], _∷_, _++_, map, List·Memᴰ}
+use package.Rattle.protocol.specs.Bytes.{Bytes}
+use package.Rattle.agreement.specs.Lists.{Begins, FewDishonest, HonestIn, KeepsOneBook}
+use package.Rattle.agreement.specs.Unpacked.{packetIn, standsFor}
+use package.Rattle.agreement.specs.ObserverLists.{AnyMember, ofReplica, ofObserver, replicaCalls, observerCalls, Meant}
+use package.Rattle.agreement.specs.ObserverLists.{AnyReads, ObserverKeepsOneBook, NoneForged, NoneCollide}
+use package.mathlib.Core.Path.{_≡_ as _is-kept_, refl as by-text}
+use package.Rattle.agreement.specs.ObserverUnpacked as page
+
+module _ (digest : Bytes → Bytes) where
+  allUnpacked·kept : List AnyMember → List AnyMember
+  allUnpacked·kept [] = []
+  allUnpacked·kept (ofReplica m ∷ list) = map ofReplica (standsFor digest m (packetIn (m .call))) ++ allUnpacked·kept list
+  allUnpacked·kept (ofObserver m ∷ list) = ofObserver m ∷ allUnpacked·kept list
+
+  same·allUnpacked : allUnpacked·kept is-kept page.allUnpacked digest
+  unfolding allUnpacked·kept page.allUnpacked
+  same·allUnpacked = by-text
+
+  ObservedAgreementOn·kept : (granted list : List AnyMember) → Type 1
+  ObservedAgreementOn·kept granted list =
+      (n dishonest : ℕ) (observers : ℕ → Type 0) → FewDishonest n dishonest →
+      ((s : ℕ) → HonestIn n dishonest s → KeepsOneBook digest n (replicaCalls granted) s) →
+      ((s : ℕ) → observers s → ObserverKeepsOneBook digest n (observerCalls granted) s) →
+      NoneForged digest (Meant (HonestIn n dishonest) observers) (HonestIn n dishonest) granted →
+      NoneCollide digest (Meant (HonestIn n dishonest) observers) granted →
+      (m m′ : AnyMember) (part part′ : Bytes) → List·Memᴰ m list → List·Memᴰ m′ list →
+      Meant (HonestIn n dishonest) observers m → Meant (HonestIn n dishonest) observers m′ →
+      AnyReads digest m part → AnyReads digest m′ part′ → Begins part part′ ⊎ Begins part′ part
+
+  same·ObservedAgreementOn : ObservedAgreementOn·kept is-kept page.ObservedAgreementOn digest
+  unfolding ObservedAgreementOn·kept page.ObservedAgreementOn
+  same·ObservedAgreementOn = by-text
