@@ -63,6 +63,8 @@ IMPORTS = [
       ("protocol/specs/Lib.antt", r"\Z", "pub mod Other\npub mod Passing\n"),
       (CALL, r"specs.Read.\{sizeCall, readPart\}",
        "specs.Read.{sizeCall}\nuse Rattle.protocol.specs.Passing.{readPart}")]),
+    ("a file that passes another definition on, under the name", "+pub use Rattle.sha256_functions.specs.Words",
+     [("sha256/specs/Bytes.antt", r"specs.Bytes.\{Bytes\}", "specs.Words.{add as Bytes}")]),
     ("a path that leads into proofs/", "a path that leads to no file of specs/",
      [(CALL, r"\(readPart digest", "(Rattle.wire.proofs.Laws.readPart digest")]),
     ("a module within a folder of specs/", "a folder that is not read",

@@ -97,7 +97,7 @@ class Library:
         return f"Laws.{file}" if self.has(crate, f"Laws.{file}") else file
 
     def declared(self, crate, of, name):
-        """Lib.antt, and Laws.antt for that folder, declare their files and hold nothing else, so that no path is bent."""
+        """Lib.antt, and Laws.antt for that folder, declare their files and hold nothing else: no path is bent."""
         place = f"crates/{crate}/specs/{of}.antt"
         text = (self.crates.parent / place).read_text()
         readable(text, place)

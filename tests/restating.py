@@ -57,8 +57,9 @@ def typed(lines):
     end = next(i for i, line in enumerate(lines) if uncommented(line).split()[-1] == "where")
     words = uncommented(" ".join(lines[: end + 1])).split()[:-1]
     words = words[3:] if words[0] == "pub" else words[2:]
-    opened = [sum(len(re.findall(r"[({]", w)) - len(re.findall(r"[)}]", w)) for w in words[:i]) for i in range(len(words))]
-    at = next(i for i, word in enumerate(words) if word == ":" and not opened[i])
+    opened = [len(re.findall(r"[({]", " ".join(words[:i]))) for i in range(len(words))]
+    closed = [len(re.findall(r"[)}]", " ".join(words[:i]))) for i in range(len(words))]
+    at = next(i for i, word in enumerate(words) if word == ":" and opened[i] == closed[i])
     rows, margin = [], min([len(line) - len(line.lstrip()) for line in lines[end + 1 :]], default=0)
     for line in map(uncommented, lines[end + 1 :]):
         rows += [""] if len(line) - len(line.lstrip()) == margin else []
@@ -107,7 +108,8 @@ class Text:
         text = re.sub(r"^ *(?:unfoldable |abbrev |pub )*", self.margin + ("abbrev " if short else ""), text)
         for part in {self.name, *filter(None, self.name.split("_"))}:
             text = re.sub(r"(?<![^\s(){};,@])%s(?![^\s(){}.;,@])" % re.escape(part), self.kept(part), text)
-        given = [part for part in arrows("\n".join(bare(self.one.statement())).partition(":")[2]) if part.startswith("{")]
+        parts = arrows("\n".join(bare(self.one.statement())).partition(":")[2])
+        given = [part for part in parts if part.startswith("{")]
         names = [name for part in given for name in bound(part, "{")]
         with_them = "".join(f" {{{name} = {name}}}" for name in names)
         lemma = f"{self.margin}same·{self.name.replace('_', '')} : " + "".join(part + " → " for part in given)

@@ -43,7 +43,7 @@ class Words:
         self.unsaid()
 
     def unsaid(self):
-        """An operator with a place left open, `(_≤ n)`, is used too; and `do` is written for two that it does not name."""
+        """An operator with a place left open, `(_≤ n)`, is used too; `do` is written for two that it does not name."""
         for word in [word for word in self.plain if "_" in word]:
             self.plain.update(piece for piece in word.split("_") if piece)
         if self.plain & {"do", "←"}:

@@ -1,1 +1,1 @@
-// Statements only: see specs/.
+// What docs/statements has, restated for the prover: see specs/, which tests/restated writes.
