@@ -119,7 +119,7 @@ CODE = [
      [(SIGNAL, r"\n}\n\Z", "\n} ghost use Rattle.replica.specs.Bent.{⊥};\n")]),
     ("an import behind `package`, in a file with a contract", "an import that begins with no library's name: package",
      [(SIGNAL, r"ghost use Rattle.protocol", "ghost use package.Rattle.protocol")]),
-    ("a method with the contract that its function had", LEFT,
+    ("a method with the contract that its function had", "methods, or a trait",
      [(SIGNAL, r"(// The timer .*\npub fn signal.*)\n((?:    ensures.*\n)+)({\n(?:.*\n)*?}\n)",
        r"\1\n\3\nimpl Answer {\n\1\n\2\3}\n")]),
     ("a public function that is written in another way", LEFT,
@@ -129,7 +129,7 @@ CODE = [
     ("a type that another file passes on", "has a type that is not read",
      [("answers/src/lib.rt", r"\Z", "\npub use answer::Answer;\n"),
       (SIGNAL, r"use answers::answer::Answer;", "use answers::Answer;")]),
-    ("a function of another crate passed on", "it passes on what stands in no file of the crate",
+    ("a function of another crate passed on", "+==== crates/soundness/src/",
      [("replica/src/lib.rt", r"\Z", "\npub use soundness::is_sound;\n")]),
 ]
 

@@ -108,6 +108,8 @@ class SourceFile:
         bare = blanked(text)
         for line in OUTER.findall(bare):
             self.takes(line.rstrip())
+        if re.search(r"\b(?:impl|trait)\b", bare):
+            raise Unreadable(f"{place}: methods, or a trait")
         self.items = [Item(self, text, bare, m) for m in ITEM.finditer(bare)]
         self.covered(bare)
         brought = [*(short for *_, short in self.imports), *self.modules, *(item.name for item in self.items)]
@@ -152,7 +154,7 @@ class Crate:
     """The files of a crate's src/, and which of its functions others can call."""
 
     def __init__(self, folder):
-        self.name, self.files = folder.name, {}
+        self.folder, self.name, self.files = folder, folder.name, {}
         for path in sorted((folder / "src").glob("*.rt")):
             place = f"crates/{self.name}/src/{path.name}"
             text = path.read_text()
@@ -169,26 +171,43 @@ class Crate:
 
     def functions(self):
         """Each function that others can call, by its path: of a public module, passed on by one, or exported."""
-        root = self.files.get("lib")
+        root, found = self.files.get("lib"), {}
         if root is None:
             raise Unreadable(f"crates/{self.name}: no src/lib.rt")
-        found = {}
         for stem, file in self.files.items():
             path = [self.name] if stem == "lib" else [self.name, stem]
             open_to_all = stem == "lib" or root.modules.get(stem, False)
-            for item in file.items:
-                if item.sort == "fn" and (item.exported or (item.public and open_to_all)):
-                    found["::".join([*path, item.name])] = item
-            if open_to_all:
-                found.update({"::".join([*path, short]): item for short, item in self.passed_on(file)})
+            here = [(item.name, item) for item in file.items
+                    if item.sort == "fn" and (item.exported or (item.public and open_to_all))]
+            for name, item in [*here, *(self.passed_on(file) if open_to_all else ())]:
+                key = "::".join([*path, name])
+                if found.setdefault(key, item) is not item:
+                    raise Unreadable(f"{file.place}: two functions of the path {key}")
         return found
 
     def passed_on(self, file):
-        """The functions that a `pub use` passes on, from a private module too."""
+        """The functions that a `pub use` passes on, of a private module or of another crate, by their names here."""
         for line, public, path, short in file.imports:
-            at = path[1:] if path[0] in ("crate", "self") else path
-            target = self.files.get(at[-2] if len(at) > 1 else "lib")
-            if public and (target is None or len(at) > 2 or not target.find(at[-1])):
-                raise Unreadable(f"{file.place}: it passes on what stands in no file of the crate: {line}")
             if public:
-                yield from ((short, item) for item in target.find(at[-1]) if item.sort == "fn")
+                if path[0] in ("self", "super") and file is not self.files["lib"]:
+                    raise Unreadable(f"{file.place}: it passes on a name in another form: {line}")
+                yield from (("::".join([short, *rest]), item) for rest, item in self.leads(path, line))
+
+    def leads(self, path, line):
+        """Where a path leads: to a function, to the public ones of a module, or to none where it is that of a type."""
+        first, *rest = path
+        if first not in ("crate", "self") and first not in self.files:
+            beside = self.folder.parent / first
+            if not (beside / "src").is_dir():
+                raise Unreadable(f"crates/{self.name}: it passes on what is in no crate here: {line}")
+            return Crate(beside).leads(["crate", *rest], line)
+        *module, name = rest if first in ("crate", "self") else path
+        if not module and name in self.files:
+            return [([item.name], item) for item in self.files[name].items if item.sort == "fn" and item.public]
+        file = self.files.get(module[0] if module else "lib")
+        found = file.find(name) if file and len(module) < 2 else []
+        imports = file.imports if file else []
+        passed = [(other, again) for again, public, other, short in imports if public and short == name]
+        if not found and len(passed) != 1:
+            raise Unreadable(f"crates/{self.name}: it passes on a name that is not found: {line}")
+        return [([], item) for item in found if item.sort == "fn"] if found else self.leads(*passed[0])
