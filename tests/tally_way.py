@@ -20,18 +20,20 @@ BESIDE = {
     "book_changes": ("what is written: a proposal, one vote, the block that is notarized",
                      "set_proposal set_vote notarize_held"),
     "delivery": ("whether votes are awaited, and what frames of other kinds do",
-                 "awaits_votes leader_equivocates fire_timer keep_block_certificate join_signers"),
-    "observer_delivery": ("an observer's refusals, and what certificates do", "frame_refusal keep_block join_signers"),
+                 "awaits_votes keep_block_certificate join_signers"),
+    "contradictions": ("refusals 8 and 10, and a leader's second proposal", "clash_refusal leader_equivocates fire_timer"),
+    "observer_delivery": ("what certificates do", "keep_block join_signers"),
+    "observer_refusals": ("an observer's refusals", "frame_refusal"),
     "soundness": ("refusal 1", "is_sound"),
     "observer_soundness": ("refusal 1", "is_sound"),
-    "frame_refusals": ("the other refusals", "read_refusal clash_refusal"),
+    "frame_refusals": ("the other refusals", "read_refusal"),
     "packets": ("the frames of a packet, and how many were fresh, known and refused", "read_frame reached counted"),
     "packing": ("an answer as a number for C", "delivered_number counted_number write_counts"),
 }
 LISTED = {(crate, name) for crate, (_, names) in BESIDE.items() for name in names.split()}
 # these ask for the kept vote of the one replica that signed a frame, to see whether the frame contradicts it
-OF_ONE_VOTE = {("frame_refusals", "vote_agrees"), ("frame_refusals", "clash_refusal"),
-               ("observer_delivery", "frame_refusal")}
+OF_ONE_VOTE = {("contradictions", "vote_agrees"), ("contradictions", "clash_refusal"),
+               ("observer_refusals", "frame_refusal")}
 # what takes the tally's answer besides what weighs it: it is written as the certificate of the notarized block
 WRITES = {("book_changes", "notarize_held")}
 # a loop over the frames of a packet, each delivered by itself
