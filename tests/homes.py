@@ -123,8 +123,8 @@ def public_functions(root):
     for name in PUBLIC:
         crate = Crate(root / "crates" / name)
         for path, item in crate.functions().items():
-            stem = item.file.place.split("/")[-1].removesuffix(".rt")
-            yield path, (name, stem, item.name), 1 if item.signature.lstrip().startswith("()") else 2
+            _, own, _, file = item.file.place.split("/")
+            yield path, (own, file.removesuffix(".rt"), item.name), 1 if item.signature.lstrip().startswith("()") else 2
 
 
 def few_edits(root):

@@ -27,7 +27,7 @@ BESIDE = {
     "soundness": ("refusal 1", "is_sound"),
     "observer_soundness": ("refusal 1", "is_sound"),
     "frame_refusals": ("the other refusals", "read_refusal"),
-    "packets": ("the frames of a packet, and how many were fresh, known and refused", "read_frame reached counted"),
+    "packets": ("the frames of a packet, and how many were fresh, known and refused", "read_on reached counted"),
     "packing": ("an answer as a number for C", "delivered_number counted_number write_counts"),
 }
 LISTED = {(crate, name) for crate, (_, names) in BESIDE.items() for name in names.split()}
@@ -105,7 +105,9 @@ class Way:
 
     def every(self):
         """Each function of each crate with its path."""
-        for folder in sorted(self.code.library.crates.glob("*/src")):
+        # nothing rests on the crates that tests/restated writes
+        written = ("restated", "restated_calls")
+        for folder in sorted(f for f in self.code.library.crates.glob("*/src") if f.parent.name not in written):
             crate = self.code.crate(folder.parent.name)
             for stem, file in crate.files.items():
                 front = [crate.name] if stem == "lib" else [crate.name, stem]

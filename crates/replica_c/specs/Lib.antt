@@ -1,3 +1,2 @@
--- What stands beside the calls: the number of the interface for C, and the answer of the call for a digest.
+-- The number of the interface for C.
 pub mod Interface
-pub mod DigestCall

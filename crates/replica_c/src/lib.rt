@@ -18,7 +18,7 @@ ghost use Rattle.protocol.specs.Read.{readPart, readBuffer, sizeCall};
 ghost use Rattle.protocol.specs.ObserverCalls.{observerOpenCall, observerDeliverCall, observerMoveCall};
 ghost use Rattle.protocol.specs.ObserverCalls.{observerSizeCall, observerReadPart, observerReadBuffer};
 ghost use Rattle.replica_c.specs.Interface.{interfaceNumber};
-ghost use Rattle.replica_c.specs.DigestCall.{digestNumber};
+ghost use Rattle.sha256_c.specs.DigestCall.{digestNumber};
 ghost use Rattle.sha256_c.specs.Written.{written};
 ghost use Rattle.packing.specs.Packing.{packedDone, packedDelivery, packedPacket, countsAfter, packedMove, packedSize};
 
@@ -200,11 +200,7 @@ pub extern "C" fn mavunilai_digest(bytes: &[u8], digest: &mut [u8]) -> usize
     ensures answer { λ r. ⌜ r ≡ digestNumber (now (digest .entry)) ⌝ }
     ensures digest { λ _. ⌜ now (digest .exit) ≡ written (now (bytes .entry)) (now (digest .entry)) ⌝ }
 {
-    if sha256_c::sha256_into(bytes, digest) {
-        0
-    } else {
-        3
-    }
+    sha256_c::digest_into(bytes, digest)
 }
 
 // The number of this interface, which a program compares with its header's before it makes another call.

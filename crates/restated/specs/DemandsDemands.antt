@@ -6,7 +6,7 @@ use package.mathlib.Core.Bool.{true, false}
 use package.mathlib.Core.List.{List, [], _∷_, _++_, map}
 use package.lib.ListN.{length}
 use package.Rattle.sha256.specs.Digest.{sha256}
-use package.Rattle.protocol.specs.Bytes.{Bytes, AreBytes, holds}
+use package.Rattle.protocol.specs.Bytes.{Bytes, AreBytes, byteAt, holds}
 use package.Rattle.protocol.specs.Distinct.{distinctAfter, distinct, noneTwice}
 use package.Rattle.protocol.specs.Frame.{frameSize}
 use package.Rattle.protocol.specs.State.{State, decode, flag}
@@ -26,7 +26,7 @@ use package.Rattle.agreement.specs.Lists.{Agreement, Member}
 use package.Rattle.agreement.specs.ObserverLists.{AnyMember, ObservedAgreement}
 use package.Rattle.agreement.specs.AnyDigest.{AnyDigest}
 use package.Rattle.agreement.specs.ObserverWitness.{ObserverWitness}
-use package.Rattle.agreement.specs.ObserverUnpacked.{ObservedAgreementOn, allUnpacked}
+use package.Rattle.agreement.specs.ObserverUnpacked.{ObservedAgreementOn, ObserverUnpacks, allUnpacked}
 use package.Rattle.agreement.specs.Unpacked.{AgreementOn, Unpacks, unpacked}
 use package.Rattle.call_laws.specs.Refusals.{Refuses}
 use package.Rattle.call_laws.specs.BookBytes.{openedBook, Signals, Submits, headOf}
@@ -38,7 +38,7 @@ use package.Rattle.call_laws.specs.WrittenRead.{MoveWritten, FetchWritten}
 use package.Rattle.paper.specs.Steps.{FiveSteps}
 use package.Rattle.paper.specs.Timer.{Timer, TwoBlocks, VotesDummyNext}
 use package.Rattle.paper.specs.Idle.{IdlesJustThen, MovesEnd}
-use package.Rattle.paper.specs.Register.{ReadsChain, CannotRead}
+use package.Rattle.paper.specs.Register.{ReadsChainOf, ReadsChain, CannotRead}
 use package.mathlib.Core.Path.{_≡_ as _is-kept_, refl as by-text}
 use package.Rattle.demands.specs.Demands as page
 
@@ -175,6 +175,12 @@ pub the-register·kept : (book buffer : Bytes) (size : ℕ) → sizeCall sha256 
     ReadsChain sha256 book buffer size
 the-register·kept = page.the-register
 
+pub nothing-else-is-read·kept : (book buffer : Bytes) (size : ℕ) → sizeCall sha256 book ≡ accepted size →
+    size ≤ length buffer → (part after : Bytes) (size′ : ℕ) →
+    ReadsChainOf sha256 (view (decode book)) (byteAt book 5) part buffer after size′ →
+    (part ≡ readPart sha256 book buffer) × (after ≡ readBuffer sha256 book buffer) × (size′ ≡ size)
+nothing-else-is-read·kept = page.nothing-else-is-read
+
 pub nothing-is-logged-twice·kept : (s : State) → noneTwice (log s) ≡ true
 nothing-is-logged-twice·kept = page.nothing-is-logged-twice
 
@@ -212,6 +218,9 @@ no-fork-is-met·kept = page.no-fork-is-met
 
 pub packets-are-deliveries·kept : (list : List Member) → Unpacks sha256 list
 packets-are-deliveries·kept = page.packets-are-deliveries
+
+pub packets-are-deliveries-with-observers·kept : (list : List AnyMember) → ObserverUnpacks sha256 list
+packets-are-deliveries-with-observers·kept = page.packets-are-deliveries-with-observers
 
 pub no-fork-by-deliveries·kept : (list : List Member) → AgreementOn sha256 (unpacked sha256 list) list
 no-fork-by-deliveries·kept = page.no-fork-by-deliveries

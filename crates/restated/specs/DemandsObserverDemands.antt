@@ -6,9 +6,9 @@ use package.mathlib.Core.Bool.{true, false}
 use package.mathlib.Core.List.{[], _∷_}
 use package.lib.ListN.{length}
 use package.Rattle.sha256.specs.Digest.{sha256}
-use package.Rattle.protocol.specs.Bytes.{Bytes, AreBytes}
+use package.Rattle.protocol.specs.Bytes.{Bytes, AreBytes, byteAt}
 use package.Rattle.protocol.specs.State.{decode}
-use package.Rattle.protocol.specs.Sound.{sound}
+use package.Rattle.protocol.specs.Sound.{view, sound}
 use package.Rattle.protocol.specs.Answer.{Done, Delivery, Move, accepted, done}
 use package.Rattle.protocol.specs.Observer.{observerState}
 use package.Rattle.protocol.specs.ObserverSound.{observerSound}
@@ -17,7 +17,7 @@ use package.Rattle.protocol.specs.ObserverCalls.{observerMoveCall, observerSize
 use package.Rattle.protocol.specs.ObserverCall.{ObserverCall, observation, observesBook}
 use package.Rattle.call_laws.specs.Refusals.{Refuses}
 use package.Rattle.paper.specs.Observing.{ObserverStep}
-use package.Rattle.paper.specs.Register.{ObserverReadsChain, ObserverCannotRead}
+use package.Rattle.paper.specs.Register.{ReadsChainOf, ObserverReadsChain, ObserverCannotRead}
 use package.Rattle.observer_laws.specs.Refusing.{refusalRows, RefusesStatements}
 use package.Rattle.observer_laws.specs.ObserverOpened.{openedObserver}
 use package.Rattle.observer_laws.specs.ObserverKeeping.{ObserverKeeps}
@@ -94,6 +94,12 @@ the-observers-step·kept = page.the-observers-step
 pub the-observers-register·kept : (book buffer : Bytes) (size : ℕ) → observerSizeCall sha256 book ≡ accepted size →
     size ≤ length buffer → ObserverReadsChain sha256 book buffer size
 the-observers-register·kept = page.the-observers-register
+
+pub observers-read-nothing-else·kept : (book buffer : Bytes) (size : ℕ) → observerSizeCall sha256 book ≡ accepted size →
+    size ≤ length buffer → (part after : Bytes) (size′ : ℕ) →
+    ReadsChainOf sha256 (view (observerState book)) (byteAt book 5) part buffer after size′ →
+    (part ≡ observerReadPart sha256 book buffer) × (after ≡ observerReadBuffer sha256 book buffer) × (size′ ≡ size)
+observers-read-nothing-else·kept = page.observers-read-nothing-else
 
 pub moves-are-read-by-observers·kept : (book reply other : Bytes) → observerState other .n ≡ decode book .n →
     MoveReadByObserver sha256 book reply other

@@ -93,6 +93,7 @@ pub mod ProtocolView
 pub mod Sha256Bytes
 pub mod Sha256Compression
 pub mod Sha256Digest
+pub mod Sha256CDigestCall
 pub mod Sha256CWritten
 pub mod Sha256FunctionsBytes
 pub mod Sha256FunctionsFunctions
@@ -110,6 +111,7 @@ pub mod AgreementAgreementLaws
 pub mod AgreementAnyDigestLaws
 pub mod AgreementObserverMetLaws
 pub mod AgreementObserverUnpackedLaws
+pub mod AgreementObserverUnpacksLaws
 pub mod AgreementObserverWitnessLaws
 pub mod AgreementUnpacksLaws
 pub mod AgreementWithoutObserversLaws
@@ -140,6 +142,7 @@ pub mod PaperBlockchainsLaws
 pub mod PaperEquivocationLaws
 pub mod PaperIdleLaws
 pub mod PaperObservingLaws
+pub mod PaperRegisterExactLaws
 pub mod PaperRegisterLaws
 pub mod PaperStepsLaws
 pub mod PaperTimerLaws

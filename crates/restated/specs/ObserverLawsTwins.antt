@@ -2,8 +2,9 @@
 -- crates/observer_laws/specs/Twins.antt.
 use package.Prim.Native.Nat.{ℕ, _%_, _≤_}
 use package.mathlib.Core.Path.{_≡_}
-use package.mathlib.Core.Bool.{Bool, true, false, cond}
+use package.mathlib.Core.Bool.{true, cond}
 use package.mathlib.Core.List.{List, [], _∷_, _++_}
+use package.mathlib.Core.Option.{none}
 use package.lib.ListN.{length, replicate}
 use package.lib.Dec.{eqb}
 use package.Rattle.protocol.specs.Bytes.{Bytes}
@@ -17,12 +18,12 @@ use package.Rattle.protocol.specs.State.{decode}
 use package.Rattle.protocol.specs.Move.{step, afterMoves, moveCall}
 use package.Rattle.protocol.specs.Read.{sizeCall, readPart, readBuffer}
 use package.Rattle.protocol.specs.Call.{Call, opening, delivery, packetDelivery, moving, signalling, submitting, sizing}
-use package.Rattle.protocol.specs.Call.{reading, fetching, bookAfterAll}
+use package.Rattle.protocol.specs.Call.{reading, fetching, Effect, effect, bookAfter, bookAfterAll}
 use package.Rattle.protocol.specs.ObserverCalls.{observerOpenCall, observerDeliverCall, observerMoveCall, observerSizeCall}
 use package.Rattle.protocol.specs.ObserverCalls.{observerReadPart, observerReadBuffer}
 use package.Rattle.protocol.specs.ObserverCall.{ObserverCall, observerOpening, observerDelivery, observerMoving, observerSizing}
-use package.Rattle.protocol.specs.ObserverCall.{observerReading, observerBookAfterAll}
-use package.Rattle.observer_laws.specs.Twins.{given, allGiven, givenToObserver, allGivenToObserver, isOpening, isObserverOpening, IsCertificate, Histories, opens, observerOpens, SameCertificates}
+use package.Rattle.protocol.specs.ObserverCall.{observerReading, Observation, observation, observerBookAfterAll}
+use package.Rattle.observer_laws.specs.Twins.{given, givenToObserver, Histories, allGiven, allGivenToObserver, IsCertificate, certificatesOf, opens, observerOpens}
 use package.mathlib.Core.Path.{_≡_ as _is-kept_, refl as by-text}
 use package.Rattle.observer_laws.specs.Twins as page
 
@@ -68,37 +69,19 @@ same·allGivenToObserver : allGivenToObserver·kept is-kept page.allGivenToObser
 unfolding allGivenToObserver·kept page.allGivenToObserver
 same·allGivenToObserver = by-text
 
-isOpening·kept : Call → Bool
-isOpening·kept (opening n own heights leaders) = true
-isOpening·kept (delivery frame) = false
-isOpening·kept (packetDelivery packet) = false
-isOpening·kept (moving reply) = false
-isOpening·kept (signalling h) = false
-isOpening·kept (submitting entry) = false
-isOpening·kept sizing = false
-isOpening·kept (reading buffer) = false
-isOpening·kept (fetching k h reply) = false
-
-same·isOpening : isOpening·kept is-kept page.isOpening
-unfolding isOpening·kept page.isOpening
-same·isOpening = by-text
-
-isObserverOpening·kept : ObserverCall → Bool
-isObserverOpening·kept (observerOpening n heights) = true
-isObserverOpening·kept (observerDelivery frame) = false
-isObserverOpening·kept observerMoving = false
-isObserverOpening·kept observerSizing = false
-isObserverOpening·kept (observerReading buffer) = false
-
-same·isObserverOpening : isObserverOpening·kept is-kept page.isObserverOpening
-unfolding isObserverOpening·kept page.isObserverOpening
-same·isObserverOpening = by-text
-
 abbrev IsCertificate·kept : Bytes → Type 0
 IsCertificate·kept frame = isCertificate (kind frame) ≡ true
 
 same·IsCertificate : IsCertificate·kept is-kept page.IsCertificate
 same·IsCertificate = by-text
+
+certificatesOf·kept : List Bytes → List Bytes
+certificatesOf·kept [] = []
+certificatesOf·kept (frame ∷ frames) = cond (isCertificate (kind frame)) (frame ∷ []) [] ++ certificatesOf·kept frames
+
+same·certificatesOf : certificatesOf·kept is-kept page.certificatesOf
+unfolding certificatesOf·kept page.certificatesOf
+same·certificatesOf = by-text
 
 Histories·kept : (n : ℕ) (heights : ℕ) (own : ℕ) (leaders : Bytes) (old : Bytes) (calls : List Call) (observerOld : Bytes) (observerCalls : List ObserverCall) →
     Histories
@@ -116,11 +99,16 @@ observerOpens·kept both = observerOpenCall (both .observerOld) (both .n) (both 
 same·observerOpens : observerOpens·kept is-kept page.observerOpens
 same·observerOpens = by-text
 
-SameCertificates·kept : (both : Histories) (opened : opens both .answer ≡ accepted done) (observer-opened : observerOpens both .answer ≡ accepted done) (opened-once : Every (λ (call : Call). isOpening call ≡ false) (both .calls)) (observer-opened-once : Every (λ (call : ObserverCall). isObserverOpening call ≡ false) (both .observerCalls)) (certificates : Every IsCertificate (allGiven (both .calls))) (same : allGivenToObserver (both .observerCalls) ≡ allGiven (both .calls)) →
-    SameCertificates both
-SameCertificates·kept both x0 x1 x2 x3 x4 x5 = record { opened = x0; observer-opened = x1; opened-once = x2; observer-opened-once = x3; certificates = x4; same = x5 }
-
 module _ (digest : Bytes → Bytes) where
+  abbrev effects : Bytes → List Call → List Effect
+  effects = page.effects digest
+
+  abbrev observations : Bytes → List ObserverCall → List Observation
+  observations = page.observations digest
+
+  abbrev SameCertificates : (both : Histories) → Type 0
+  SameCertificates = page.SameCertificates digest
+
   abbrev bookOf : Histories → Bytes
   bookOf = page.bookOf digest
 
@@ -135,6 +123,27 @@ module _ (digest : Bytes → Bytes) where
 
   abbrev SameLogWhenIdle : (book observerBook : Bytes) → Type 0
   SameLogWhenIdle = page.SameLogWhenIdle digest
+
+  effects·kept : Bytes → List Call → List Effect
+  effects·kept book [] = []
+  effects·kept book (call ∷ calls) = effect digest book call ∷ effects·kept (bookAfter digest book call) calls
+
+  same·effects : effects·kept is-kept page.effects digest
+  unfolding effects·kept page.effects
+  same·effects = by-text
+
+  observations·kept : Bytes → List ObserverCall → List Observation
+  observations·kept book [] = []
+  observations·kept book (call ∷ calls) =
+      observation digest book call ∷ observations·kept (observation digest book call .book) calls
+
+  same·observations : observations·kept is-kept page.observations digest
+  unfolding observations·kept page.observations
+  same·observations = by-text
+
+  SameCertificates·kept : (both : Histories) (opened : opens both .answer ≡ accepted done) (observer-opened : observerOpens both .answer ≡ accepted done) (opened-once : Every (λ (e : Effect). e .opens ≡ none) (effects (opens both .book) (both .calls))) (observer-opened-once : Every (λ (o : Observation). o .opens ≡ none) (observations (observerOpens both .book) (both .observerCalls))) (certificates : Every (λ (e : Effect). Every IsCertificate (e .delivers)) (effects (opens both .book) (both .calls))) (same : certificatesOf (allGivenToObserver (both .observerCalls)) ≡ certificatesOf (allGiven (both .calls))) →
+      SameCertificates both
+  SameCertificates·kept both x0 x1 x2 x3 x4 x5 = record { opened = x0; observer-opened = x1; opened-once = x2; observer-opened-once = x3; certificates = x4; same = x5 }
 
   abbrev bookOf·kept : Histories → Bytes
   bookOf·kept both = bookAfterAll digest (opens both .book) (both .calls)

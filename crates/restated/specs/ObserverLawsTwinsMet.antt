@@ -6,16 +6,17 @@ use package.mathlib.Core.List.{List, [], _∷_, _++_}
 use package.lib.ListN.{replicate}
 use package.Rattle.protocol.specs.Bytes.{Bytes, zeros}
 use package.Rattle.protocol.specs.Block.{newBlock}
-use package.Rattle.protocol.specs.Frame.{blockCertificate, dummyCertificate, finalizeCertificate}
+use package.Rattle.protocol.specs.Frame.{dummyVote, blockCertificate, dummyCertificate, finalizeCertificate}
 use package.Rattle.protocol.specs.Answer.{Outcome, Delivery, accepted, idle, refusalNumber}
+use package.Rattle.protocol.specs.Deliver.{deliverCall}
 use package.Rattle.protocol.specs.Move.{moveCall}
 use package.Rattle.protocol.specs.Read.{readPart}
-use package.Rattle.protocol.specs.Call.{Call, delivery, packetDelivery, moving, signalling}
+use package.Rattle.protocol.specs.Call.{Call, opening, delivery, packetDelivery, moving, signalling}
 use package.Rattle.protocol.specs.ObserverCalls.{observerDeliverCall, observerMoveCall, observerReadPart}
-use package.Rattle.protocol.specs.ObserverCall.{ObserverCall, observerDelivery, observerMoving}
-use package.Rattle.observer_laws.specs.Twins.{allGivenToObserver, observerOpens}
+use package.Rattle.protocol.specs.ObserverCall.{ObserverCall, observerOpening, observerDelivery, observerMoving}
+use package.Rattle.observer_laws.specs.Twins.{allGiven, allGivenToObserver, opens, observerOpens}
 use package.Rattle.observer_laws.specs.Twins.{Histories, SameCertificates, bookOf, observerBookOf, SameLog}
-use package.Rattle.observer_laws.specs.TwinsMet.{entry, block, otherBlock, old, observerOld, calls, observerCalls, histories}
+use package.Rattle.observer_laws.specs.TwinsMet.{entry, block, otherBlock, old, observerOld, strangersVote, vote, calls, observerCalls, histories, numbers}
 use package.mathlib.Core.Path.{_≡_ as _is-kept_, refl as by-text}
 use package.Rattle.observer_laws.specs.TwinsMet as page
 
@@ -57,10 +58,25 @@ same·observerOld : observerOld·kept is-kept page.observerOld
 unfolding observerOld·kept page.observerOld
 same·observerOld = by-text
 
+strangersVote·kept : Bytes
+strangersVote·kept = dummyVote 9 1
+
+same·strangersVote : strangersVote·kept is-kept page.strangersVote
+unfolding strangersVote·kept page.strangersVote
+same·strangersVote = by-text
+
+vote·kept : Bytes
+vote·kept = dummyVote 0 1
+
+same·vote : vote·kept is-kept page.vote
+unfolding vote·kept page.vote
+same·vote = by-text
+
 calls·kept : List Call
 calls·kept =
-    move ∷ delivery (5 ∷ []) ∷ signalling 1 ∷ delivery (dummyCertificate 1 3) ∷ move ∷ delivery (dummyCertificate 1 7) ∷
-    move ∷ move ∷ packetDelivery (blockCertificate 2 7 block ++ blockCertificate 2 11 otherBlock) ∷
+    move ∷ delivery (5 ∷ []) ∷ signalling 1 ∷ delivery (dummyCertificate 1 3) ∷ opening 0 2 2 (0 ∷ 1 ∷ []) ∷ move ∷
+    delivery (dummyCertificate 1 7) ∷ delivery strangersVote ∷ move ∷ move ∷
+    packetDelivery (blockCertificate 2 7 block ++ strangersVote ++ blockCertificate 2 11 otherBlock) ∷
     delivery (finalizeCertificate 2 14) ∷ move ∷ move ∷ []
 
 same·calls : calls·kept is-kept page.calls
@@ -69,8 +85,9 @@ same·calls = by-text
 
 observerCalls·kept : List ObserverCall
 observerCalls·kept =
-    observerDelivery (5 ∷ []) ∷ observerDelivery (dummyCertificate 1 3) ∷ observerDelivery (dummyCertificate 1 7) ∷
-    observerDelivery (blockCertificate 2 7 block) ∷ observerMoving ∷
+    observerDelivery (5 ∷ []) ∷ observerDelivery vote ∷ observerDelivery (dummyCertificate 1 3) ∷
+    observerDelivery (dummyCertificate 1 7) ∷ observerOpening 0 2 ∷ observerDelivery (blockCertificate 2 7 block) ∷
+    observerMoving ∷
     observerDelivery (blockCertificate 2 11 otherBlock) ∷ observerDelivery (finalizeCertificate 2 14) ∷
     observerMoving ∷ []
 
@@ -94,23 +111,20 @@ same·histories : histories·kept is-kept page.histories
 unfolding histories·kept page.histories
 same·histories = by-text
 
-module _ (digest : Bytes → Bytes) where
-  abbrev numbers : Bytes → List Bytes → List ℕ
-  numbers = page.numbers digest
+numbers·kept : (deliver : Bytes → Bytes → Outcome Delivery) → Bytes → List Bytes → List ℕ
+numbers·kept deliver bytes [] = []
+numbers·kept deliver bytes (frame ∷ frames) =
+    let o : Outcome Delivery = deliver bytes frame in
+    refusalNumber (o .answer) ∷ numbers·kept deliver (o .book) frames
 
+same·numbers : numbers·kept is-kept page.numbers
+unfolding numbers·kept page.numbers
+same·numbers = by-text
+
+module _ (digest : Bytes → Bytes) where
   abbrev TwinsMet : Type 0
   TwinsMet = page.TwinsMet digest
 
-  numbers·kept : Bytes → List Bytes → List ℕ
-  numbers·kept bytes [] = []
-  numbers·kept bytes (frame ∷ frames) =
-      let o : Outcome Delivery = observerDeliverCall digest bytes frame in
-      refusalNumber (o .answer) ∷ numbers·kept (o .book) frames
-
-  same·numbers : numbers·kept is-kept page.numbers digest
-  unfolding numbers·kept page.numbers
-  same·numbers = by-text
-
-  TwinsMet·kept : (premises : SameCertificates histories) (refusals : numbers (observerOpens histories .book) (allGivenToObserver observerCalls) ≡ 4 ∷ 9 ∷ 0 ∷ 0 ∷ 10 ∷ 0 ∷ []) (rests : moveCall digest (bookOf digest histories) (zeros 448) .answer ≡ accepted idle) (observer-rests : observerMoveCall digest (observerBookOf digest histories) .answer ≡ accepted idle) (reads : readPart digest (bookOf digest histories) (zeros 16) ≡ entry) (observer-reads : observerReadPart digest (observerBookOf digest histories) (zeros 16) ≡ entry) (applied : SameLog digest (bookOf digest histories) (observerBookOf digest histories)) →
+  TwinsMet·kept : (premises : SameCertificates digest histories) (refusals : numbers (deliverCall digest) (opens histories .book) (allGiven calls) ≡ 4 ∷ 9 ∷ 0 ∷ 5 ∷ 0 ∷ 5 ∷ 10 ∷ 0 ∷ []) (observer-refusals : numbers (observerDeliverCall digest) (observerOpens histories .book) (allGivenToObserver observerCalls) ≡ 4 ∷ 16 ∷ 9 ∷ 0 ∷ 0 ∷ 10 ∷ 0 ∷ []) (rests : moveCall digest (bookOf digest histories) (zeros 448) .answer ≡ accepted idle) (observer-rests : observerMoveCall digest (observerBookOf digest histories) .answer ≡ accepted idle) (reads : readPart digest (bookOf digest histories) (zeros 16) ≡ entry) (observer-reads : observerReadPart digest (observerBookOf digest histories) (zeros 16) ≡ entry) (applied : SameLog digest (bookOf digest histories) (observerBookOf digest histories)) →
       TwinsMet
-  TwinsMet·kept x0 x1 x2 x3 x4 x5 x6 = record { premises = x0; refusals = x1; rests = x2; observer-rests = x3; reads = x4; observer-reads = x5; applied = x6 }
+  TwinsMet·kept x0 x1 x2 x3 x4 x5 x6 x7 = record { premises = x0; refusals = x1; observer-refusals = x2; rests = x3; observer-rests = x4; reads = x5; observer-reads = x6; applied = x7 }

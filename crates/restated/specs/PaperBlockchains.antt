@@ -70,9 +70,9 @@ module _ (digest : Bytes → Bytes) (v : View) where
   unfolding FinalizedIsSeen·kept page.FinalizedIsSeen
   same·FinalizedIsSeen = by-text
 
-LogIsLinearized·kept : (digest : Bytes → Bytes) (s : State) (sequence : Sequence) (finalized : FinalizedBlockchain digest (view s) sequence) (its-height : height sequence ≡ s .finalized) (its-log : distinct (linearize sequence) ≡ log s) →
+LogIsLinearized·kept : (digest : Bytes → Bytes) (s : State) (sequence : Sequence) (finalized : FinalizedBlockchain digest (view s) sequence) (its-height : height sequence ≡ s .finalized) (its-last : lastBlock sequence ≡ s .finalized) (its-log : distinct (linearize sequence) ≡ log s) →
     LogIsLinearized digest s
-LogIsLinearized·kept digest s x0 x1 x2 x3 = record { sequence = x0; finalized = x1; its-height = x2; its-log = x3 }
+LogIsLinearized·kept digest s x0 x1 x2 x3 x4 = record { sequence = x0; finalized = x1; its-height = x2; its-last = x3; its-log = x4 }
 
 InThePapersTerms·kept : (digest : Bytes → Bytes) (s : State) (linked-is : (h : ℕ) → LinkedIsSeen digest (view s) h) (parent-is : (h : ℕ) → ParentIsSeen digest (view s) h) (parent-largest : (h : ℕ) → ParentIsLargest digest (view s) h) (extends-is : (h : ℕ) (b : Bytes) → ExtendsIsFollowing digest (view s) h b) (finalized-is : (h : ℕ) → FinalizedIsSeen digest (view s) h) (log-is : LogIsLinearized digest s) →
     InThePapersTerms digest s

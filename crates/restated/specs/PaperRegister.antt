@@ -15,14 +15,14 @@ use package.Rattle.protocol.specs.Answer.{refused, accepted}
 use package.Rattle.protocol.specs.Read.{sizeCall, readPart, readBuffer}
 use package.Rattle.protocol.specs.Observer.{observerState}
 use package.Rattle.protocol.specs.ObserverCalls.{observerSizeCall, observerReadPart, observerReadBuffer}
-use package.Rattle.paper.specs.Paper.{Sequence, height, linearize, FinalizedBlockchain}
+use package.Rattle.paper.specs.Paper.{Sequence, height, lastBlock, linearize, FinalizedBlockchain}
 use package.Rattle.paper.specs.Register.{ReadsChainOf}
 use package.mathlib.Core.Path.{_≡_ as _is-kept_, refl as by-text}
 use package.Rattle.paper.specs.Register as page
 
-ReadsChainOf·kept : (digest : Bytes → Bytes) (v : View) (g : ℕ) (part buffer after : Bytes) (size : ℕ) (sequence : Sequence) (finalized : FinalizedBlockchain digest v sequence) (its-height : height sequence ≡ g) (part-read : part ≡ join (distinct (linearize sequence))) (its-size : size ≡ entrySize * length (distinct (linearize sequence))) (part-size : length part ≡ size) (buffer-after : after ≡ part ++ drop size buffer) →
+ReadsChainOf·kept : (digest : Bytes → Bytes) (v : View) (g : ℕ) (part buffer after : Bytes) (size : ℕ) (sequence : Sequence) (finalized : FinalizedBlockchain digest v sequence) (its-height : height sequence ≡ g) (its-last : lastBlock sequence ≡ g) (part-read : part ≡ join (distinct (linearize sequence))) (its-size : size ≡ entrySize * length (distinct (linearize sequence))) (part-size : length part ≡ size) (buffer-after : after ≡ part ++ drop size buffer) →
     ReadsChainOf digest v g part buffer after size
-ReadsChainOf·kept digest v g part buffer after size x0 x1 x2 x3 x4 x5 x6 = record { sequence = x0; finalized = x1; its-height = x2; part-read = x3; its-size = x4; part-size = x5; buffer-after = x6 }
+ReadsChainOf·kept digest v g part buffer after size x0 x1 x2 x3 x4 x5 x6 x7 = record { sequence = x0; finalized = x1; its-height = x2; its-last = x3; part-read = x4; its-size = x5; part-size = x6; buffer-after = x7 }
 
 abbrev ReadsChain·kept : (Bytes → Bytes) → Bytes → Bytes → ℕ → Type 0
 ReadsChain·kept digest book buffer size =

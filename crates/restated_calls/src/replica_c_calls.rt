@@ -14,6 +14,8 @@ ghost use package.Rattle.protocol.specs.Read.{readPart, readBuffer, sizeCall};
 ghost use package.Rattle.protocol.specs.ObserverCalls.{observerOpenCall, observerDeliverCall, observerMoveCall};
 ghost use package.Rattle.protocol.specs.ObserverCalls.{observerSizeCall, observerReadPart, observerReadBuffer};
 ghost use package.Rattle.replica_c.specs.Interface.{interfaceNumber};
+ghost use package.Rattle.sha256_c.specs.DigestCall.{digestNumber};
+ghost use package.Rattle.sha256_c.specs.Written.{written};
 ghost use package.Rattle.packing.specs.Packing.{packedDone, packedDelivery, packedPacket, countsAfter, packedMove, packedSize};
 
 // Open: makes a new book for replica `own` of `n`; byte h - 1 of `leaders` is the leader of height h. The book's old
@@ -164,6 +166,15 @@ pub fn mavunilai_observer_read(book: &[u8], buffer: &mut [u8]) -> usize
         observerReadBuffer sha256 (now (book .entry)) (now (buffer .entry)) ⌝ }
 {
     replica_c::mavunilai_observer_read(book, buffer)
+}
+
+// Digest: writes the SHA-256 of the bytes, a page's or any others, to the first 32 bytes of `digest`.
+// Returns 0 where it is written. Refusals: 3, where `digest` is shorter (`digestNumber`).
+pub fn mavunilai_digest(bytes: &[u8], digest: &mut [u8]) -> usize
+    ensures answer { λ r. ⌜ r ≡ digestNumber (now (digest .entry)) ⌝ }
+    ensures digest { λ _. ⌜ now (digest .exit) ≡ written (now (bytes .entry)) (now (digest .entry)) ⌝ }
+{
+    replica_c::mavunilai_digest(bytes, digest)
 }
 
 // The number of this interface, which a program compares with its header's before it makes another call.

@@ -6,7 +6,7 @@ ghost use package.Rattle.protocol.specs.Signal.{signalCall};
 ghost use package.Rattle.answers.specs.Answers.{doneAnswer};
 use answers::answer::Answer;
 
-// The timer of the current height has fired. Reads the book once to see that it is sound, and stores three bytes.
+// The timer of the current height has fired. Reads the book once to see that it is sound, and stores one byte.
 pub fn signal(book: &mut [u8], height: usize) -> Answer
     ensures answer { λ r. ⌜ doneAnswer r ≡ signalCall sha (now (book .entry)) height .answer ⌝ }
     ensures book { λ _. ⌜ now (book .exit) ≡ signalCall sha (now (book .entry)) height .book ⌝ }

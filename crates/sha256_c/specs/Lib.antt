@@ -1,2 +1,3 @@
--- What the function for C writes.
+-- What the functions for C write and answer.
 pub mod Written
+pub mod DigestCall

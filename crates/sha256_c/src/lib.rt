@@ -1,8 +1,9 @@
-// SHA-256 for programs in C: one function on byte slices, each a pointer and a length.
+// SHA-256 for programs in C, on byte slices, each a pointer and a length.
 ghost use mathlib.Core.Path.{_≡_};
 ghost use lib.Dec.{leb};
 ghost use lib.ListN.{length};
 ghost use Rattle.sha256_c.specs.Written.{written};
+ghost use Rattle.sha256_c.specs.DigestCall.{digestNumber};
 
 // Writes the digest of the message to the first 32 bytes of `out` and answers true; where `out` is shorter, changes
 // nothing and answers false.
@@ -21,4 +22,12 @@ pub extern "C" fn sha256_into(message: &[u8], out: &mut [u8]) -> bool
         i += 1;
     }
     true
+}
+
+// The same, with the answer as a call's number: 0, or refusal 3 where `out` is shorter.
+pub fn digest_into(message: &[u8], out: &mut [u8]) -> usize
+    ensures answer { λ r. ⌜ r ≡ digestNumber (now (out .entry)) ⌝ }
+    ensures after { λ _. ⌜ now (out .exit) ≡ written (now (message .entry)) (now (out .entry)) ⌝ }
+{
+    if sha256_into(message, out) { 0 } else { 3 }
 }
