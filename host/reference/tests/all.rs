@@ -1,5 +1,6 @@
 //! All tests of the reference in one program, each file a module.
 
+mod answers;
 mod common;
 mod deliver;
 mod equivocation;
