@@ -511,9 +511,9 @@ static inline void mavunilai_make_finalise(uint8_t *frame, uint8_t signer, uint1
 /* Tells what becomes of each frame of a packet, which mavunilai_packet only counts: ask over the book as it is before
  * that call. `answers` has a place for each frame, packet_len / MAVUNILAI_FRAME of them; `copy` has `book_len` bytes,
  * overlaps with nothing and is written over; the book stays as it is. Returns the answer of the packet. If that is a
- * refusal, 1 or 15, the answers are as they were. Else answers[i] is that of mavunilai_deliver to frame i, over the book
- * that the frames before it left, and the copy is the book after the packet. Those that are refused with 8 or 10 are
- * evidence. It takes the time of delivering the frames singly, so ask where the counts have refused ones. */
+ * refusal, 1 or 15, the answers are as they were. Else answers[i] is that of mavunilai_deliver to frame i, over the
+ * book that the frames before it left, and the copy is the book after the packet. Those that are refused with 8 or 10
+ * are evidence. It takes the time of delivering the frames singly, so ask where the counts have refused ones. */
 MAVUNILAI_LOOK static inline mavunilai_answer mavunilai_packet_each(const uint8_t *book, size_t book_len,
                                                                     uint8_t *copy, const uint8_t *packet,
                                                                     size_t packet_len, mavunilai_answer *answers) {

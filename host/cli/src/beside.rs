@@ -46,7 +46,8 @@ pub enum Fence {
 pub type Kept = Result<Option<Said>, Error>;
 
 /// What stands beside the book in a file, whose bytes these are, read after what was said. Nothing is locked, so a call
-/// may go on meanwhile: frames count as waiting for nobody only if they still do after nobody was found to have the book.
+/// may go on meanwhile: frames count as waiting for nobody only if they still do after nobody was found to have the
+/// book.
 pub fn of(file: &str, said: Kept, bytes: &[u8]) -> Beside {
     let holder = || store::holder(file).ok().flatten();
     let said = fence(file, said, bytes);

@@ -68,8 +68,8 @@ impl Folder {
     }
 }
 
-/// The name of the two files: height, kind and signer, and a part of the SHA-256 of the digits, by which pairs that share
-/// these have names of their own.
+/// The name of the two files: height, kind and signer, and a part of the SHA-256 of the digits, by which pairs that
+/// share these have names of their own.
 fn name(evidence: &Evidence, digits: &[u8]) -> String {
     let [kind, signer, ..] = evidence.frame;
     let height = height_at(&evidence.frame, FRAME_HEIGHT);

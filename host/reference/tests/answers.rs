@@ -1,5 +1,5 @@
-//! What becomes of each frame of a packet, told beforehand: it sums to the packet's counts, and every contradiction comes
-//! with what the book has against it.
+//! What becomes of each frame of a packet, told beforehand: it sums to the packet's counts, and every contradiction
+//! comes with what the book has against it.
 
 use reference::Rules;
 use types::{

@@ -26,9 +26,9 @@ pub struct Answered {
 }
 
 impl Evidence {
-    /// The evidence that a frame is over a book, a replica's or an observer's, which gave it this answer. A refusal 8 or
-    /// 10 always has some; of the frames that are not refused a second proposal at the current height has. The book may
-    /// be that before the call or after it: what it has against a frame is never replaced.
+    /// The evidence that a frame is over a book, a replica's or an observer's, which gave it this answer. A refusal 8
+    /// or 10 always has some; of the frames that are not refused a second proposal at the current height has. The book
+    /// may be that before the call or after it: what it has against a frame is never replaced.
     pub fn of(book: &[u8], frame: &[u8], answer: Result<Delivered, Refusal>) -> Option<Evidence> {
         let frame: &[u8; FRAME] = frame.try_into().ok()?;
         let height = height_at(frame, FRAME_HEIGHT);

@@ -9,8 +9,8 @@
 /// A height of a book, or a number of heights.
 pub type Height = u8;
 
-/// The height that a number is. A number that no height can be becomes the highest one, which no book has either: a call
-/// refuses both alike.
+/// The height that a number is. A number that no height can be becomes the highest one, which no book has either: a
+/// call refuses both alike.
 pub fn nearest_height(number: u64) -> Height {
     Height::try_from(number).unwrap_or(Height::MAX)
 }
