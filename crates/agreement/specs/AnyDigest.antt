@@ -11,7 +11,7 @@ use Rattle.protocol.specs.Frame.{finalizeCertificate}
 use Rattle.protocol.specs.Call.{signalling}
 use Rattle.agreement.specs.Lists.{Member, votesBlock, votesDummy, finalizes, writes}
 use Rattle.agreement.specs.Met.{Hears, MemberOf, Met}
-use Rattle.agreement.specs.Turns.{Turn, anything, build, dishonest, entry, hear, move, nextBlock, openings}
+use Rattle.agreement.specs.Turns.{fourEqual, Turn, anything, build, dishonest, entry, hear, move, nextBlock, openings}
 use Rattle.agreement.specs.Turns.{readings}
 
 -- ---- the list
@@ -53,7 +53,7 @@ module _ (digest : Bytes → Bytes) where
 
   -- ---- what it shows
   pub record AnyDigest : Type 0 where
-    pub met : Met digest 4 dishonest list entry
+    pub met : Met digest fourEqual dishonest list entry
     -- replica 3 has voted for two digests at one height
     pub one-vote : MemberOf list 0 (Hears digest 3 (votesBlock 1 oneDigest))
     pub other-vote : MemberOf list 1 (Hears digest 3 (votesBlock 1 otherDigest))

@@ -3,6 +3,7 @@ use Prim.Native.Nat.{ℕ, zero, suc}
 use mathlib.Core.Bool.{Bool, true, false, _&&_, _||_, not}
 use mathlib.Core.List.{List, [], _∷_, _++_}
 use mathlib.Core.Option.{Option, some, none}
+use lib.ListN.{length}
 use lib.Dec.{eqb, ltb}
 use Rattle.protocol.specs.Bytes.{Bytes, same, holds}
 use Rattle.protocol.specs.Tests.{implies}
@@ -26,8 +27,8 @@ unfoldable pub everyHonest : ℕ → (ℕ → Bool) → ℕ → Bool
 everyHonest dishonest test zero = true
 everyHonest dishonest test (suc s) = everyHonest dishonest test s && implies (not (inMask dishonest s)) (test s)
 
-unfoldable pub isHonest : ℕ → ℕ → ℕ → Bool
-isHonest n dishonest s = ltb s n && not (inMask dishonest s)
+unfoldable pub isHonest : List ℕ → ℕ → ℕ → Bool
+isHonest weights dishonest s = ltb s (length weights) && not (inMask dishonest s)
 
 -- ---- a statement as bytes, and back
 unfoldable pub statementBytes : Statement → Bytes
@@ -37,9 +38,9 @@ statementBytes (votesDummy h) = 3 ∷ h ∷ []
 statementBytes (finalizes h) = 4 ∷ h ∷ []
 
 -- ---- what a member opens and reads
-unfoldable pub opensFor : ℕ → ℕ → Option Opened → Bool
-opensFor n s none = false
-opensFor n s (some opened) = eqb (opened .n) n && eqb (opened .own) s
+unfoldable pub opensFor : List ℕ → ℕ → Option Opened → Bool
+opensFor weights s none = false
+opensFor weights s (some opened) = same (opened .weights) weights && eqb (opened .own) s
 
 unfoldable pub readsPart : Bytes → Option Bytes → Bool
 readsPart part none = false
@@ -53,15 +54,15 @@ isAmong blocks (some block) = holds block blocks
 module _ (digest : Bytes → Bytes) where
   -- ---- the book
   -- a member of replica `s` opens its book, or does not, as it has opened before
-  unfoldable pub opensInTurn : ℕ → ℕ → Bool → Member → Bool
-  opensInTurn n s true m = not (isSome (does digest m .opens))
-  opensInTurn n s false m = opensFor n s (does digest m .opens)
+  unfoldable pub opensInTurn : List ℕ → ℕ → Bool → Member → Bool
+  opensInTurn weights s true m = not (isSome (does digest m .opens))
+  opensInTurn weights s false m = opensFor weights s (does digest m .opens)
 
   -- the members of replica `s` open its book first and once, where `opened` says whether one did before these
-  unfoldable pub opensOnce : ℕ → ℕ → Bool → List Member → Bool
-  opensOnce n s opened [] = true
-  opensOnce n s opened (m ∷ ms) =
-      implies (eqb (m .replica) s) (opensInTurn n s opened m) && opensOnce n s (eqb (m .replica) s || opened) ms
+  unfoldable pub opensOnce : List ℕ → ℕ → Bool → List Member → Bool
+  opensOnce weights s opened [] = true
+  opensOnce weights s opened (m ∷ ms) =
+      implies (eqb (m .replica) s) (opensInTurn weights s opened m) && opensOnce weights s (eqb (m .replica) s || opened) ms
 
   -- ---- statements
   -- the statement that a frame makes in the name of `s`, with `s` in front, as bytes
@@ -74,20 +75,21 @@ module _ (digest : Bytes → Bytes) where
   signedIn s (frame ∷ frames) = signed s (statementOf digest frame s) ++ signedIn s frames
 
   -- every statement that a frame makes in an honest name is among those written
-  unfoldable pub isBacked : ℕ → ℕ → List Bytes → Bytes → Bool
-  isBacked n dishonest log frame =
-      everyHonest dishonest (λ s. everyIn (λ statement. holds statement log) (signed s (statementOf digest frame s))) n
+  unfoldable pub isBacked : List ℕ → ℕ → List Bytes → Bytes → Bool
+  isBacked weights dishonest log frame =
+      everyHonest dishonest (λ s. everyIn (λ statement. holds statement log) (signed s (statementOf digest frame s)))
+      (length weights)
 
   -- a member, if it is honest, delivers only frames that are backed
-  unfoldable pub deliversBacked : ℕ → ℕ → List Bytes → Member → Bool
-  deliversBacked n dishonest log m =
-      implies (isHonest n dishonest (m .replica)) (everyIn (isBacked n dishonest log) (delivers digest m))
+  unfoldable pub deliversBacked : List ℕ → ℕ → List Bytes → Member → Bool
+  deliversBacked weights dishonest log m =
+      implies (isHonest weights dishonest (m .replica)) (everyIn (isBacked weights dishonest log) (delivers digest m))
 
   -- nothing is forged, where `log` has the statements written before these members
-  unfoldable pub notForged : ℕ → ℕ → List Bytes → List Member → Bool
-  notForged n dishonest log [] = true
-  notForged n dishonest log (m ∷ ms) =
-      deliversBacked n dishonest log m && notForged n dishonest (signedIn (m .replica) (writes digest m) ++ log) ms
+  unfoldable pub notForged : List ℕ → ℕ → List Bytes → List Member → Bool
+  notForged weights dishonest log [] = true
+  notForged weights dishonest log (m ∷ ms) =
+      deliversBacked weights dishonest log m && notForged weights dishonest (signedIn (m .replica) (writes digest m) ++ log) ms
 
   -- ---- blocks
   -- a member shows these blocks and no others
@@ -95,8 +97,8 @@ module _ (digest : Bytes → Bytes) where
   shows blocks m = everyIn (λ frame. isAmong blocks (blockIn frame)) (delivers digest m ++ writes digest m)
 
   -- so does every honest member
-  unfoldable pub showsOnly : ℕ → ℕ → List Bytes → List Member → Bool
-  showsOnly n dishonest blocks ms = everyIn (λ m. implies (isHonest n dishonest (m .replica)) (shows blocks m)) ms
+  unfoldable pub showsOnly : List ℕ → ℕ → List Bytes → List Member → Bool
+  showsOnly weights dishonest blocks ms = everyIn (λ m. implies (isHonest weights dishonest (m .replica)) (shows blocks m)) ms
 
   unfoldable pub noCollision : List Bytes → Bool
   noCollision blocks =

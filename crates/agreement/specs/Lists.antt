@@ -1,4 +1,4 @@
--- Lists of calls on the books of `n` replicas, and demand 3 as one claim about a whole list.
+-- Lists of calls on the books of replicas of some weights, and demand 3 as one claim about a whole list.
 use Prim.Native.Nat.{ℕ, _*_, _<_}
 use mathlib.Core.Path.{_≡_}
 use mathlib.Core.Logic.{_⊎_}
@@ -11,7 +11,7 @@ use Rattle.protocol.specs.Bytes.{Bytes}
 use Rattle.protocol.specs.Frame.{kind, signer, frameHeight, signerMask, frameDigest, frameBlock, carriesBlock}
 use Rattle.protocol.specs.Frame.{isProposal, isBlockVote, isDummyVote, isFinalize, isBlockCertificate}
 use Rattle.protocol.specs.Frame.{isDummyCertificate, isFinalizeCertificate}
-use Rattle.protocol.specs.Mask.{inMask, ones}
+use Rattle.protocol.specs.Mask.{inMask, weigh, total}
 use Rattle.protocol.specs.Call.{Call, Effect, effect}
 
 -- ---- members of a list
@@ -44,13 +44,13 @@ blockIn frame = when (carriesBlock (kind frame)) (frameBlock frame)
 unfoldable pub Begins : Bytes → Bytes → Type 0
 Begins part other = part ≡ take (length part) other
 
--- of the replicas below `n` those are honest that the mask of the dishonest ones does not hold
-unfoldable pub HonestIn : ℕ → ℕ → ℕ → Type 0
-HonestIn n dishonest s = (s < n) × (inMask dishonest s ≡ false)
+-- there is a replica for each weight; those are honest that the mask of the dishonest ones does not hold
+unfoldable pub HonestIn : List ℕ → ℕ → ℕ → Type 0
+HonestIn weights dishonest s = (s < length weights) × (inMask dishonest s ≡ false)
 
--- fewer than a third of the replicas below `n` are dishonest
-abbrev pub FewDishonest : ℕ → ℕ → Type 0
-FewDishonest n dishonest = 3 * ones dishonest n < n
+-- the dishonest replicas weigh less than a third
+abbrev pub FewDishonest : List ℕ → ℕ → Type 0
+FewDishonest weights dishonest = 3 * weigh (λ s. inMask dishonest s) weights < total weights
 
 -- the first that there is
 unfoldable pub orElse : {A : Type 0} → Option A → Option A → Option A
@@ -95,24 +95,25 @@ module _ (digest : Bytes → Bytes) where
   lastLeft s [] = none
   lastLeft s (m ∷ ms) = orElse (lastLeft s ms) (leftBy s m)
 
-  -- an opening for `n` replicas under the own number `s`, not refused; its book may hold any bytes
-  unfoldable pub Opens : ℕ → ℕ → Member → Type 0
-  Opens n s m = does m .opens ≡ some (record { n = n; own = s })
+  -- an opening for replicas of these weights under the own number `s`, not refused; its book may hold any bytes and be of
+  -- any edition, of which the first has all weights 1
+  unfoldable pub Opens : List ℕ → ℕ → Member → Type 0
+  Opens weights s m = does m .opens ≡ some (record { weights = weights; own = s })
 
   -- a call that gets this book, and is no opening or a refused one
   unfoldable pub Continues : Bytes → Member → Type 0
   Continues book m = (m .book ≡ book) × (does m .opens ≡ none)
 
   -- what a member of replica `s` must be, after a last one that left this book, or as the first one
-  unfoldable pub Follows : ℕ → ℕ → Member → Option Bytes → Type 0
-  Follows n s m none = Opens n s m
-  Follows n s m (some book) = Continues book m
+  unfoldable pub Follows : List ℕ → ℕ → Member → Option Bytes → Type 0
+  Follows weights s m none = Opens weights s m
+  Follows weights s m (some book) = Continues book m
 
   -- replica `s` opens its book first and once, and only its own calls write to it
-  unfoldable pub KeepsOneBook : ℕ → List Member → ℕ → Type 0
-  KeepsOneBook n list s =
+  unfoldable pub KeepsOneBook : List ℕ → List Member → ℕ → Type 0
+  KeepsOneBook weights list s =
       (before : List Member) (m : Member) (after : List Member) →
-      list ≡ before ++ (m ∷ after) → m .replica ≡ s → Follows n s m (lastLeft s before)
+      list ≡ before ++ (m ∷ after) → m .replica ≡ s → Follows weights s m (lastLeft s before)
 
   -- ---- what is granted of statements and digests
   -- a member of replica `s` among these wrote a frame that makes this statement in its name
@@ -147,11 +148,11 @@ module _ (digest : Bytes → Bytes) where
   -- only honest replicas' books and names are meant in what is granted
   unfoldable pub Agreement : Type 0
   Agreement =
-      (n dishonest : ℕ) (list : List Member) →
-      FewDishonest n dishonest →
-      ((s : ℕ) → HonestIn n dishonest s → KeepsOneBook n list s) →
-      NotForged (HonestIn n dishonest) (HonestIn n dishonest) list →
-      NoCollision (HonestIn n dishonest) list →
+      (weights : List ℕ) (dishonest : ℕ) (list : List Member) →
+      FewDishonest weights dishonest →
+      ((s : ℕ) → HonestIn weights dishonest s → KeepsOneBook weights list s) →
+      NotForged (HonestIn weights dishonest) (HonestIn weights dishonest) list →
+      NoCollision (HonestIn weights dishonest) list →
       (m m′ : Member) (part part′ : Bytes) → List·Memᴰ m list → List·Memᴰ m′ list →
-      HonestIn n dishonest (m .replica) → HonestIn n dishonest (m′ .replica) →
+      HonestIn weights dishonest (m .replica) → HonestIn weights dishonest (m′ .replica) →
       Reads m part → Reads m′ part′ → Begins part part′ ⊎ Begins part′ part

@@ -38,24 +38,24 @@ module _ (digest : Bytes → Bytes) where
   -- demand 3 with any other conclusion about the two parts that are read; with its own it is `Agreement` (MetLaws)
   unfoldable pub Claim : (Bytes → Bytes → Type 0) → Type 0
   Claim Conclusion =
-      (n dishonest : ℕ) (list : List Member) →
-      FewDishonest n dishonest →
-      ((s : ℕ) → HonestIn n dishonest s → KeepsOneBook digest n list s) →
-      NotForged digest (HonestIn n dishonest) (HonestIn n dishonest) list →
-      NoCollision digest (HonestIn n dishonest) list →
+      (weights : List ℕ) (dishonest : ℕ) (list : List Member) →
+      FewDishonest weights dishonest →
+      ((s : ℕ) → HonestIn weights dishonest s → KeepsOneBook digest weights list s) →
+      NotForged digest (HonestIn weights dishonest) (HonestIn weights dishonest) list →
+      NoCollision digest (HonestIn weights dishonest) list →
       (m m′ : Member) (part part′ : Bytes) → List·Memᴰ m list → List·Memᴰ m′ list →
-      HonestIn n dishonest (m .replica) → HonestIn n dishonest (m′ .replica) →
+      HonestIn weights dishonest (m .replica) → HonestIn weights dishonest (m′ .replica) →
       Reads digest m part → Reads digest m′ part′ → Conclusion part part′
 
-  pub record Met (n dishonest : ℕ) (list : List Member) (part : Bytes) : Type 0 where
+  pub record Met (weights : List ℕ) (dishonest : ℕ) (list : List Member) (part : Bytes) : Type 0 where
     -- the premises
-    pub few : FewDishonest n dishonest
-    pub keeps : (s : ℕ) → HonestIn n dishonest s → KeepsOneBook digest n list s
-    pub unforged : NotForged digest (HonestIn n dishonest) (HonestIn n dishonest) list
-    pub collisionless : NoCollision digest (HonestIn n dishonest) list
+    pub few : FewDishonest weights dishonest
+    pub keeps : (s : ℕ) → HonestIn weights dishonest s → KeepsOneBook digest weights list s
+    pub unforged : NotForged digest (HonestIn weights dishonest) (HonestIn weights dishonest) list
+    pub collisionless : NoCollision digest (HonestIn weights dishonest) list
     -- replicas 0 and 1 are honest, and read this part, which is not empty
-    pub honest-0 : HonestIn n dishonest 0
-    pub honest-1 : HonestIn n dishonest 1
+    pub honest-0 : HonestIn weights dishonest 0
+    pub honest-1 : HonestIn weights dishonest 1
     pub reads-0 : MemberOf list 0 (λ m. Reads digest m part)
     pub reads-1 : MemberOf list 1 (λ m. Reads digest m part)
     pub not-empty : part ≢ []

@@ -70,18 +70,18 @@ module _ (digest : Bytes → Bytes) where
   observerLastLeft s [] = none
   observerLastLeft s (m ∷ ms) = orElse (observerLastLeft s ms) (observerLeftBy s m)
 
-  -- what a member of an observer must be, after a last one that left this book, or as the first one: an opening for `n`
-  -- replicas, not refused, whose book may hold any bytes and have any heights; or a call that gets this book, and is no
+  -- what a member of an observer must be, after a last one that left this book, or as the first one: an opening for
+  -- replicas of these weights, not refused, whose book may hold any bytes and be of any heights and edition; or a call that gets this book, and is no
   -- opening or a refused one
-  unfoldable pub ObserverFollows : ℕ → ObserverMember → Option Bytes → Type 0
-  ObserverFollows n m none = observes m .opens ≡ some n
-  ObserverFollows n m (some book) = (m .book ≡ book) × (observes m .opens ≡ none)
+  unfoldable pub ObserverFollows : List ℕ → ObserverMember → Option Bytes → Type 0
+  ObserverFollows weights m none = observes m .opens ≡ some weights
+  ObserverFollows weights m (some book) = (m .book ≡ book) × (observes m .opens ≡ none)
 
   -- observer `s` opens its book first and once, and only its own calls write to it
-  unfoldable pub ObserverKeepsOneBook : ℕ → List ObserverMember → ℕ → Type 0
-  ObserverKeepsOneBook n list s =
+  unfoldable pub ObserverKeepsOneBook : List ℕ → List ObserverMember → ℕ → Type 0
+  ObserverKeepsOneBook weights list s =
       (before : List ObserverMember) (m : ObserverMember) (after : List ObserverMember) →
-      list ≡ before ++ (m ∷ after) → m .observer ≡ s → ObserverFollows n m (observerLastLeft s before)
+      list ≡ before ++ (m ∷ after) → m .observer ≡ s → ObserverFollows weights m (observerLastLeft s before)
 
   -- ---- what is granted of statements and digests
   -- a statement in one of these names is delivered only after that replica wrote it; asked of these members
@@ -107,12 +107,12 @@ module _ (digest : Bytes → Bytes) where
   -- is a beginning of the other; only those observers are meant that keep their books
   unfoldable pub ObservedAgreement : Type 1
   ObservedAgreement =
-      (n dishonest : ℕ) (observers : ℕ → Type 0) (list : List AnyMember) →
-      FewDishonest n dishonest →
-      ((s : ℕ) → HonestIn n dishonest s → KeepsOneBook digest n (replicaCalls list) s) →
-      ((s : ℕ) → observers s → ObserverKeepsOneBook n (observerCalls list) s) →
-      NoneForged (Meant (HonestIn n dishonest) observers) (HonestIn n dishonest) list →
-      NoneCollide (Meant (HonestIn n dishonest) observers) list →
+      (weights : List ℕ) (dishonest : ℕ) (observers : ℕ → Type 0) (list : List AnyMember) →
+      FewDishonest weights dishonest →
+      ((s : ℕ) → HonestIn weights dishonest s → KeepsOneBook digest weights (replicaCalls list) s) →
+      ((s : ℕ) → observers s → ObserverKeepsOneBook weights (observerCalls list) s) →
+      NoneForged (Meant (HonestIn weights dishonest) observers) (HonestIn weights dishonest) list →
+      NoneCollide (Meant (HonestIn weights dishonest) observers) list →
       (m m′ : AnyMember) (part part′ : Bytes) → List·Memᴰ m list → List·Memᴰ m′ list →
-      Meant (HonestIn n dishonest) observers m → Meant (HonestIn n dishonest) observers m′ →
+      Meant (HonestIn weights dishonest) observers m → Meant (HonestIn weights dishonest) observers m′ →
       AnyReads m part → AnyReads m′ part′ → Begins part part′ ⊎ Begins part′ part

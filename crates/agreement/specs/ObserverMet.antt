@@ -25,26 +25,26 @@ module _ (digest : Bytes → Bytes) where
   -- (ObserverMetLaws)
   unfoldable pub ObservedClaim : (Bytes → Bytes → Type 0) → Type 1
   ObservedClaim Conclusion =
-      (n dishonest : ℕ) (observers : ℕ → Type 0) (list : List AnyMember) →
-      FewDishonest n dishonest →
-      ((s : ℕ) → HonestIn n dishonest s → KeepsOneBook digest n (replicaCalls list) s) →
-      ((s : ℕ) → observers s → ObserverKeepsOneBook digest n (observerCalls list) s) →
-      NoneForged digest (Meant (HonestIn n dishonest) observers) (HonestIn n dishonest) list →
-      NoneCollide digest (Meant (HonestIn n dishonest) observers) list →
+      (weights : List ℕ) (dishonest : ℕ) (observers : ℕ → Type 0) (list : List AnyMember) →
+      FewDishonest weights dishonest →
+      ((s : ℕ) → HonestIn weights dishonest s → KeepsOneBook digest weights (replicaCalls list) s) →
+      ((s : ℕ) → observers s → ObserverKeepsOneBook digest weights (observerCalls list) s) →
+      NoneForged digest (Meant (HonestIn weights dishonest) observers) (HonestIn weights dishonest) list →
+      NoneCollide digest (Meant (HonestIn weights dishonest) observers) list →
       (m m′ : AnyMember) (part part′ : Bytes) → List·Memᴰ m list → List·Memᴰ m′ list →
-      Meant (HonestIn n dishonest) observers m → Meant (HonestIn n dishonest) observers m′ →
+      Meant (HonestIn weights dishonest) observers m → Meant (HonestIn weights dishonest) observers m′ →
       AnyReads digest m part → AnyReads digest m′ part′ → Conclusion part part′
 
-  pub record ObservedMet (n dishonest : ℕ) (observers : ℕ → Type 0) (list : List AnyMember) (part : Bytes) :
+  pub record ObservedMet (weights : List ℕ) (dishonest : ℕ) (observers : ℕ → Type 0) (list : List AnyMember) (part : Bytes) :
       Type 0 where
     -- the premises
-    pub few : FewDishonest n dishonest
-    pub keeps : (s : ℕ) → HonestIn n dishonest s → KeepsOneBook digest n (replicaCalls list) s
-    pub observers-keep : (s : ℕ) → observers s → ObserverKeepsOneBook digest n (observerCalls list) s
-    pub unforged : NoneForged digest (Meant (HonestIn n dishonest) observers) (HonestIn n dishonest) list
-    pub collisionless : NoneCollide digest (Meant (HonestIn n dishonest) observers) list
+    pub few : FewDishonest weights dishonest
+    pub keeps : (s : ℕ) → HonestIn weights dishonest s → KeepsOneBook digest weights (replicaCalls list) s
+    pub observers-keep : (s : ℕ) → observers s → ObserverKeepsOneBook digest weights (observerCalls list) s
+    pub unforged : NoneForged digest (Meant (HonestIn weights dishonest) observers) (HonestIn weights dishonest) list
+    pub collisionless : NoneCollide digest (Meant (HonestIn weights dishonest) observers) list
     -- replica 0 is honest, observers 0 and 1 are meant, and all three read this part, which is not empty
-    pub honest-0 : HonestIn n dishonest 0
+    pub honest-0 : HonestIn weights dishonest 0
     pub meant-0 : observers 0
     pub meant-1 : observers 1
     pub reads-replica : MemberOf (replicaCalls list) 0 (λ m. Reads digest m part)

@@ -10,13 +10,14 @@ use lib.ListN.{getD, set, replicate}
 use Rattle.protocol.specs.Bytes.{Bytes, zeros}
 use Rattle.protocol.specs.Block.{newBlock}
 use Rattle.protocol.specs.Frame.{blockCertificate, dummyCertificate, dummyVote, finalizeCertificate}
+use Rattle.protocol.specs.Open.{unweighed}
 use Rattle.protocol.specs.Call.{bookAfter}
 use Rattle.protocol.specs.ObserverCall.{ObserverCall, observation, observerDelivery, observerMoving, observerOpening}
 use Rattle.protocol.specs.ObserverCall.{observerReading, observerSizing}
 use Rattle.agreement.specs.AnyDigest.{agreed, split, timeouts}
 use Rattle.agreement.specs.ObserverLists.{AnyMember, ofObserver, ofReplica}
 use Rattle.agreement.specs.ObserverMet.{ObservedMet, ObserverOf, ObserverReads}
-use Rattle.agreement.specs.Turns.{Turn, anything, dishonest, entry, nextBlock, openings, readings}
+use Rattle.agreement.specs.Turns.{fourEqual, Turn, anything, dishonest, entry, nextBlock, openings, readings}
 
 -- ---- lists by turns
 -- a turn: whose call, a replica's or an observer's, and the call
@@ -47,8 +48,8 @@ anythingObserved = replicate 432 9 ∷ replicate 616 9 ∷ replicate 248 9 ∷ [
 -- books that hold anything are opened; a second opening is refused
 unfoldable pub observerOpenings : List AnyTurn
 observerOpenings =
-    byObserver 0 (observerOpening 4 2) ∷ byObserver 1 (observerOpening 4 3) ∷ byObserver 2 (observerOpening 1 1) ∷
-    byObserver 0 (observerOpening 4 3) ∷ []
+    byObserver 0 (observerOpening unweighed 4 2) ∷ byObserver 1 (observerOpening unweighed 4 3) ∷ byObserver 2 (observerOpening unweighed 1 1) ∷
+    byObserver 0 (observerOpening unweighed 4 3) ∷ []
 
 -- observer 0 hears the certificate that height 1 passed with, and both hear those of height 2, in another order; a vote
 -- that replica 1 never cast is refused
@@ -92,10 +93,10 @@ module _ (digest : Bytes → Bytes) where
 
   -- ---- what it shows
   pub record ObserverWitness : Type 0 where
-    pub met : ObservedMet digest 4 dishonest meantObservers list entry
+    pub met : ObservedMet digest fourEqual dishonest meantObservers list entry
     -- observers 0 and 1 have books of different sizes
-    pub opens-0 : ObserverOf list 0 (λ m. m .call ≡ observerOpening 4 2)
-    pub opens-1 : ObserverOf list 1 (λ m. m .call ≡ observerOpening 4 3)
+    pub opens-0 : ObserverOf list 0 (λ m. m .call ≡ observerOpening unweighed 4 2)
+    pub opens-1 : ObserverOf list 1 (λ m. m .call ≡ observerOpening unweighed 4 3)
     -- an observer that is not meant reads another entry
     pub lonely-reads : ObserverOf list 2 (ObserverReads digest lonelyEntry)
     pub two-entries : lonelyEntry ≢ entry

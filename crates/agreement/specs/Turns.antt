@@ -5,6 +5,7 @@ use mathlib.Core.List.{List, [], _∷_}
 use lib.ListN.{getD, set, replicate}
 use Rattle.protocol.specs.Bytes.{Bytes, join, zeros}
 use Rattle.protocol.specs.Block.{newBlock}
+use Rattle.protocol.specs.Open.{unweighed}
 use Rattle.protocol.specs.Call.{Call, opening, delivery, packetDelivery, moving, submitting, sizing, reading, fetching}
 use Rattle.protocol.specs.Call.{bookAfter}
 use Rattle.protocol.specs.Computing.{everything}
@@ -54,14 +55,18 @@ nextBlock = newBlock 2 0 (zeros 32) (entry ∷ [])
 -- books that hold anything are opened; a second opening is refused
 unfoldable pub openings : List Turn
 openings =
-    (0, opening 4 0 2 leaders) ∷ (1, opening 4 1 2 leaders) ∷ (2, opening 4 2 2 leaders) ∷
-    (0, opening 4 0 1 (3 ∷ [])) ∷ (3, moving (zeros 5)) ∷ (0, submitting entry) ∷ []
+    (0, opening unweighed 4 0 2 leaders) ∷ (1, opening unweighed 4 1 2 leaders) ∷ (2, opening unweighed 4 2 2 leaders) ∷
+    (0, opening unweighed 4 0 1 (3 ∷ [])) ∷ (3, moving (zeros 5)) ∷ (0, submitting entry) ∷ []
 
 -- a size is asked for, a certificate is fetched, and the logs are read
 unfoldable pub readings : List Turn
 readings =
     (0, sizing) ∷ (1, fetching 5 2 (zeros 224)) ∷
     (0, reading (zeros 16)) ∷ (1, reading (zeros 20)) ∷ (2, reading (zeros 16)) ∷ []
+
+-- four replicas, each of weight 1
+abbrev pub fourEqual : List ℕ
+fourEqual = 1 ∷ 1 ∷ 1 ∷ 1 ∷ []
 
 -- the mask of the dishonest replicas: replica 3
 abbrev pub dishonest : ℕ

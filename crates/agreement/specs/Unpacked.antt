@@ -23,7 +23,7 @@ listed (some a) = a ∷ []
 
 -- the packet of a call that has one
 unfoldable pub packetIn : Call → Option Bytes
-packetIn (opening n own heights leaders) = none
+packetIn (opening way n own heights leaders) = none
 packetIn (delivery frame) = none
 packetIn (packetDelivery packet) = some packet
 packetIn (moving reply) = none
@@ -72,8 +72,8 @@ module _ (digest : Bytes → Bytes) where
     pub same-read : (s : ℕ) → gathered readBy s (unpacked list) ≡ gathered readBy s list
     -- a replica that opens its book first and once, and whose calls alone write to it, does so in both, and both leave
     -- the same book; not the other way round, since a refused packet before the opening is in the list alone
-    pub same-keeping : (n s : ℕ) → KeepsOneBook digest n list s → KeepsOneBook digest n (unpacked list) s
-    pub same-left : (n s : ℕ) → KeepsOneBook digest n list s →
+    pub same-keeping : (weights : List ℕ) (s : ℕ) → KeepsOneBook digest weights list s → KeepsOneBook digest weights (unpacked list) s
+    pub same-left : (weights : List ℕ) (s : ℕ) → KeepsOneBook digest weights list s →
         lastLeft digest s (unpacked list) ≡ lastLeft digest s list
     -- what is granted of statements and digests is granted of both or of neither
     pub same-unforged : (books names : ℕ → Type 0) →
@@ -87,10 +87,10 @@ module _ (digest : Bytes → Bytes) where
   -- ---- the claim of demand 3 about the readings of one list, with all that is granted asked of another one
   unfoldable pub AgreementOn : (granted list : List Member) → Type 0
   AgreementOn granted list =
-      (n dishonest : ℕ) → FewDishonest n dishonest →
-      ((s : ℕ) → HonestIn n dishonest s → KeepsOneBook digest n granted s) →
-      NotForged digest (HonestIn n dishonest) (HonestIn n dishonest) granted →
-      NoCollision digest (HonestIn n dishonest) granted →
+      (weights : List ℕ) (dishonest : ℕ) → FewDishonest weights dishonest →
+      ((s : ℕ) → HonestIn weights dishonest s → KeepsOneBook digest weights granted s) →
+      NotForged digest (HonestIn weights dishonest) (HonestIn weights dishonest) granted →
+      NoCollision digest (HonestIn weights dishonest) granted →
       (m m′ : Member) (part part′ : Bytes) → List·Memᴰ m list → List·Memᴰ m′ list →
-      HonestIn n dishonest (m .replica) → HonestIn n dishonest (m′ .replica) →
+      HonestIn weights dishonest (m .replica) → HonestIn weights dishonest (m′ .replica) →
       Reads digest m part → Reads digest m′ part′ → Begins part part′ ⊎ Begins part′ part

@@ -13,7 +13,7 @@ use Rattle.protocol.specs.Frame.{finalizeCertificate}
 use Rattle.protocol.specs.Call.{packetDelivery, signalling}
 use Rattle.agreement.specs.Lists.{Member, proposes, votesBlock, writes}
 use Rattle.agreement.specs.Met.{Hears, HearsWhere, MemberOf, Met, firesTimer, isPacket}
-use Rattle.agreement.specs.Turns.{Turn, anything, build, dishonest, entry, hear, hearPacket, move, nextBlock}
+use Rattle.agreement.specs.Turns.{fourEqual, Turn, anything, build, dishonest, entry, hear, hearPacket, move, nextBlock}
 use Rattle.agreement.specs.Turns.{openings, readings}
 
 -- the stand-in: a digest that computes, and tells the blocks of the list apart, by the height, then the first entry
@@ -69,7 +69,7 @@ list = build sample anything (openings ++ (split ++ (timeouts ++ (agreed ++ read
 
 -- ---- what it shows
 pub record Witness : Type 0 where
-  pub met : Met sample 4 dishonest list entry
+  pub met : Met sample fourEqual dishonest list entry
   -- replica 3 has proposed two blocks at one height
   pub one-proposal : MemberOf list 0 (Hears sample 3 (proposes 1 oneBlock))
   pub other-proposal : MemberOf list 1 (Hears sample 3 (proposes 1 otherBlock))

@@ -1,18 +1,21 @@
 // A new book: nothing is held or pending, and the replica is at height 1.
 use wire::bytes::clear;
+use wire::bytes::copy_to;
 ghost use mathlib.Core.Path.{_≡_};
 ghost use Prim.Native.Nat.{_+_, _*_, _<_, _≤_};
 ghost use lib.ListN.{length};
 ghost use Rattle.protocol.specs.Bytes.{zeros};
 ghost use Rattle.protocol.specs.State.{encode};
-ghost use Rattle.protocol.specs.Open.{newState};
+ghost use Rattle.protocol.specs.Open.{newState, weighed};
 ghost use Rattle.protocol.specs.Block.{maximumHeights};
 
-// Writes the book of `n` replicas and the replica's own number, with replica 0 as the leader of every height.
-fn led_by_zero(book: &mut [u8], n: usize, own: usize, heights: usize)
+// Writes the book of `n` replicas of these weights and the replica's own number, with replica 0 as the leader of every
+// height.
+fn led_by_zero(book: &mut [u8], n: usize, own: usize, heights: usize, weights: &[u8])
     requires { ⌜ length (now book) ≡ 576 + 880 * heights ⌝ }
-    requires { ⌜ (n < 256) × (own < 256) × (heights < 256) ⌝ }
-    ensures { λ _. ⌜ now (book .exit) ≡ encode (newState n own (zeros heights)) ⌝ }
+    requires { ⌜ (n ≤ 16) × (own < 256) × (heights < 256) ⌝ }
+    requires { ⌜ length (now weights) ≡ 2 * n ⌝ }
+    ensures { λ _. ⌜ now (book .exit) ≡ encode (newState (weighed (now (weights .entry))) n own (zeros heights)) ⌝ }
 {
     let size = book.len();
     clear(book, 0, size);
@@ -20,17 +23,20 @@ fn led_by_zero(book: &mut [u8], n: usize, own: usize, heights: usize)
     book[1] = own as u8;
     book[2] = heights as u8;
     book[4] = 1;
-    book[7] = 1;
+    book[7] = 2;
+    copy_to(book, 8, weights);
 }
 
-// Writes the book of `n` replicas, the replica's own number, and the leader of each height.
-pub fn new_book(book: &mut [u8], n: usize, own: usize, leaders: &[u8])
+// Writes the book of `n` replicas of these weights, the replica's own number, and the leader of each height.
+pub fn new_book(book: &mut [u8], n: usize, own: usize, weights: &[u8], leaders: &[u8])
     requires { ⌜ length (now book) ≡ 576 + 880 * length (now leaders) ⌝ }
     requires { ⌜ length (now leaders) ≤ maximumHeights ⌝ }
-    requires { ⌜ (n < 256) × (own < 256) ⌝ }
-    ensures { λ _. ⌜ now (book .exit) ≡ encode (newState n own (now (leaders .entry))) ⌝ }
+    requires { ⌜ (n ≤ 16) × (own < 256) ⌝ }
+    requires { ⌜ length (now weights) ≡ 2 * n ⌝ }
+    ensures { λ _. ⌜ now (book .exit) ≡
+        encode (newState (weighed (now (weights .entry))) n own (now (leaders .entry))) ⌝ }
 {
-    led_by_zero(book, n, own, leaders.len());
+    led_by_zero(book, n, own, leaders.len(), weights);
     let mut i = 0;
     while i < leaders.len() {
         book[576 + 16 * i] = leaders[i];

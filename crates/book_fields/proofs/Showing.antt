@@ -3,7 +3,9 @@
 use Prim.Native.Nat.{_≤_}
 use native.Mathlib.Omega.{arith}
 use mathlib.Core.Path.{_≡_, refl, sym, ap, subst}
-use lib.ListN.{length, replicate}
+use mathlib.Core.Bool.{Bool, true, false, cond}
+use mir.Val.{boolByte}
+use lib.ListN.{length}
 use Rattle.protocol.specs.Bytes.{Bytes, byteAt}
 use Rattle.protocol.specs.Sound.{view}
 use Rattle.protocol.specs.View.{View}
@@ -29,7 +31,11 @@ unfolding view
 replicas-at Replica book shown = shown .sized .n-byte
 replicas-at Observer book shown = shown .sized .n-byte
 
-pub weights-even : (kind : Kind) (book : Bytes) → viewOf kind book .weights ≡ replicate (viewOf kind book .n) 1
-unfolding view
-weights-even Replica book = refl
-weights-even Observer book = refl
+-- ---- a test as a number
+pub byte-number : (t : Bool) → boolByte t ≡ cond t 1 0
+byte-number true = refl
+byte-number false = refl
+
+pub byte-at-most : (t : Bool) → boolByte t ≤ 1
+byte-at-most true = omega arith
+byte-at-most false = omega arith

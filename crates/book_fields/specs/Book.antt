@@ -1,10 +1,11 @@
 -- What is asked of a book: that it can be read, written, is sound. Each of these rungs has the one before it.
-use Prim.Native.Nat.{ℕ, _+_, _*_, _≤_}
+use Prim.Native.Nat.{ℕ, _+_, _*_, _≤_, _<_}
 use mathlib.Core.Path.{_≡_}
-use mathlib.Core.Bool.{true}
-use lib.ListN.{length}
+use mathlib.Core.Bool.{true, cond}
+use lib.ListN.{length, getD}
+use lib.Dec.{eqb}
 use Rattle.protocol.specs.SoundState.{SoundState}
-use Rattle.protocol.specs.Bytes.{Bytes, byteAt}
+use Rattle.protocol.specs.Bytes.{Bytes, byteAt, word16}
 use Rattle.protocol.specs.Block.{maximumHeights}
 use Rattle.protocol.specs.State.{State, Height, at, last, decode, encode, withHeight, bookHeights, maximumReplicas}
 use Rattle.protocol.specs.View.{View}
@@ -81,6 +82,10 @@ pub record Shown (kind : Kind) (book : Bytes) : Type 0 where
   pub sized : SizedAs kind book
   pub replicas : byteAt book 0 ≤ maximumReplicas
   pub heights : bookHeights book ≤ maximumHeights
+  -- a weight is in two bytes of the head; edition 1 has them zero, and each replica weighs 1 more
+  pub weighs : (s : ℕ) → s < byteAt book 0 →
+      word16 book (8 + 2 * s) + cond (eqb (byteAt book 7) 1) 1 0 ≡ getD (viewOf kind book .weights) s 0
+  pub weight-each : length (viewOf kind book .weights) ≡ byteAt book 0
 
 -- of a replica's book
 abbrev pub Readable : Bytes → Type 0

@@ -2,3 +2,4 @@
 pub mod BookLaws
 pub mod HeadLaws
 pub mod ObserverBookLaws
+pub mod SettingRowsLaws

@@ -2,9 +2,10 @@
 // alone, so that a kind with other places is one more arm here.
 ghost use mathlib.Core.Path.{_≡_};
 ghost use Prim.Native.Nat.{_<_, _≤_};
-ghost use lib.ListN.{length};
+ghost use lib.ListN.{length, getD};
 ghost use Rattle.protocol.specs.View.{quorum as isQuorum, isDummy};
-ghost use Rattle.protocol.specs.Mask.{maskLimit};
+ghost use mathlib.Core.Bool.{cond};
+ghost use Rattle.protocol.specs.Mask.{inMask, maskLimit};
 ghost use Rattle.protocol.specs.Block.{maximumHeights};
 ghost use Rattle.protocol.specs.State.{bookHeights, maximumReplicas};
 ghost use Rattle.book_fields.specs.Book.{Within, Shown, viewOf};
@@ -77,14 +78,41 @@ pub fn heights(kind: Kind, book: &[u8]) -> usize
     wire::bytes::byte(book, 2)
 }
 
-// Whether a mask holds two thirds of the book's replicas.
+// The weight of replica `s`: two bytes of the head; edition 1 has them zero, and each replica weighs 1.
+fn weight(kind: Kind, book: &[u8], s: usize) -> usize
+    requires { ⌜ Shown kind (now book) ⌝ }
+    requires { ⌜ s < viewOf kind (now book) .n ⌝ }
+    ensures { λ r. ⌜ (r ≡ getD (viewOf kind (now (book .entry)) .weights) s 0) × (r ≤ 65536) ⌝ }
+{
+    let even = (wire::bytes::byte(book, 7) == 1) as usize;
+    wire::bytes::word(book, 8 + 2 * s) + even
+}
+
+// The weight of replica `s`, if it is in a mask, and 0 if not.
+fn weight_in(weight: usize, mask: usize, s: usize) -> usize
+    requires { ⌜ (weight ≤ 65536) × (s < maximumReplicas) ⌝ }
+    ensures { λ r. ⌜ (r ≡ cond (inMask mask s) weight 0) × (r ≤ weight) ⌝ }
+{
+    weight * wire::mask::one_if_in(mask, s)
+}
+
+// Whether a mask holds two thirds of the weight of the book's replicas: one pass over them.
 pub fn quorum(kind: Kind, book: &[u8], mask: usize) -> bool
     requires { ⌜ Shown kind (now book) ⌝ }
     requires { ⌜ mask < maskLimit ⌝ }
     ensures { λ r. ⌜ r ≡ isQuorum (viewOf kind (now (book .entry))) mask ⌝ }
 {
     let n = replicas(kind, book);
-    2 * n <= 3 * crate::quorum::count(n, mask)
+    let mut all = 0;
+    let mut held = 0;
+    let mut s = 0;
+    while s < n {
+        let weight = weight(kind, book, s);
+        all += weight;
+        held += weight_in(weight, mask, s);
+        s += 1;
+    }
+    2 * all <= 3 * held
 }
 
 // Whether the dummy block of height `h` is notarized.

@@ -6,3 +6,4 @@ pub mod kind;
 pub mod observed;
 pub mod pool;
 pub mod quorum;
+pub mod setting;

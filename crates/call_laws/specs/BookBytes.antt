@@ -5,14 +5,17 @@ use mathlib.Core.Path.{_≡_}
 use mathlib.Core.Bool.{false}
 use mathlib.Core.List.{List, [], _∷_, _++_, map}
 use lib.ListN.{length, set}
+use Rattle.protocol.specs.Open.{Opening, openedEdition, openedWeights}
 use Rattle.protocol.specs.Bytes.{Bytes, byteAt, zeros, join, put}
-use Rattle.protocol.specs.State.{State, decode, flag, pending}
+use Rattle.protocol.specs.State.{State, decode, flag, pending, weightBytes, padded}
 use Rattle.protocol.specs.Submit.{stillPending}
 
--- Open: n, own number, H, flags 0, c 1, g 0, no pending entry, edition 1; for each height its leader; and zeros
-unfoldable pub openedBook : ℕ → ℕ → ℕ → Bytes → Bytes
-openedBook n own heights leaders =
-    (n ∷ own ∷ heights ∷ 0 ∷ 1 ∷ 0 ∷ 0 ∷ 1 ∷ zeros 568) ++
+-- Open: n, own number, H, flags 0, c 1, g 0, no pending entry, the edition, the weights if it has any; for each height
+-- its leader; and zeros
+unfoldable pub openedBook : Opening → ℕ → ℕ → ℕ → Bytes → Bytes
+openedBook way n own heights leaders =
+    (n ∷ own ∷ heights ∷ 0 ∷ 1 ∷ 0 ∷ 0 ∷ openedEdition way ∷
+    (weightBytes (openedEdition way) (padded (openedWeights n way)) ++ zeros 536)) ++
     (join (map (λ leader. leader ∷ zeros 15) leaders) ++ zeros (864 * heights))
 
 -- Signal: flag 1 was clear and is added to byte 3; the height is the current one

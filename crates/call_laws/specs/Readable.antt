@@ -17,9 +17,10 @@ use Rattle.call_laws.specs.Fields.{Fields, fields}
 abbrev pub IsRead : State → Bytes → Type 0
 IsRead s frame = firstRefusal (readRows s frame) ≡ none
 
--- two states of the same n, H and leaders
+-- two states of the same n, weights, H and leaders
 pub record SameSetting (s s′ : State) : Type 0 where
   pub same-n : s′ .n ≡ s .n
+  pub same-weights : s′ .weights ≡ s .weights
   pub same-last : last s′ ≡ last s
   pub same-leaders : (h : ℕ) → 1 ≤ h → h ≤ last s → at s′ h .leader ≡ at s h .leader
 

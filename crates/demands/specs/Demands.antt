@@ -21,9 +21,9 @@
 -- below 256, as in a byte slice.
 use Prim.Native.Nat.{ℕ, _*_, _≤_}
 use mathlib.Core.Path.{_≡_}
-use mathlib.Core.Bool.{true, false}
+use mathlib.Core.Bool.{true, false, _&&_}
 use mathlib.Core.List.{List, [], _∷_, _++_, map}
-use lib.ListN.{length}
+use lib.ListN.{length, replicate}
 use borrow.Author.Tests.{le-leb}
 use Rattle.sha256.specs.Digest.{sha256}
 use Rattle.sha256.specs.Laws.DigestLaws.{sha256-length}
@@ -32,13 +32,15 @@ use Rattle.protocol.specs.Distinct.{distinctAfter, distinct, noneTwice}
 use Rattle.protocol.specs.Tests.{firstRefusal}
 use Rattle.protocol.specs.Frame.{frameSize}
 use Rattle.protocol.specs.State.{State, decode, flag}
-use Rattle.protocol.specs.View.{logAt}
+use Rattle.protocol.specs.Mask.{inMask, weigh}
+use Rattle.protocol.specs.View.{View, quorum, totalWeight, logAt}
+use Rattle.protocol.specs.Laws.QuorumLaws.{quorums-third, equal-third}
 use Rattle.protocol.specs.Sound.{view, sound, log}
 use Rattle.protocol.specs.Laws.DistinctLaws.{distinct-append}
 use Rattle.protocol.specs.Laws.LogLaws.{log-once, log-holds, log-whole}
 use Rattle.protocol.specs.Laws.SoundLaws.{sound-decode}
 use Rattle.protocol.specs.Answer.{Done, Delivery, Counts, Move, accepted, done}
-use Rattle.protocol.specs.Open.{openRows, openCall}
+use Rattle.protocol.specs.Open.{Opening, openRows, openCall}
 use Rattle.protocol.specs.Deliver.{deliverRows, deliverCall, deliverAll}
 use Rattle.protocol.specs.Packet.{packetFrames, counted, packetRows, packetCall}
 use Rattle.protocol.specs.Laws.PacketLaws.{packet-delivered, packet-sums}
@@ -90,9 +92,9 @@ use Rattle.paper.specs.Laws.RegisterExactLaws.{reads-exact}
 
 -- ---- demand 1: refusals
 -- each call is refused by the number of its first row that fails, if one does, and then no byte lent to it changes
-pub open-refused : (book : Bytes) (n own heights : ℕ) (leaders : Bytes) →
-    Refuses Done (openRows book n own heights leaders) (openCall book n own heights leaders .answer)
-    (book ∷ []) (openCall book n own heights leaders .book ∷ [])
+pub open-refused : (way : Opening) (book : Bytes) (n own heights : ℕ) (leaders : Bytes) →
+    Refuses Done (openRows way book n own heights leaders) (openCall way book n own heights leaders .answer)
+    (book ∷ []) (openCall way book n own heights leaders .book ∷ [])
 open-refused = open-refuses
 
 pub deliver-refused : (book frame : Bytes) →
@@ -134,9 +136,9 @@ pub read-refused : (book buffer : Bytes) → CannotRead sha256 book buffer →
 read-refused = reads-nothing sha256
 
 -- ---- demand 1: the bytes of the book where a call is not refused; those of a delivery are in `deliveries-keep` below
-pub open-writes : (book : Bytes) (n own heights : ℕ) (leaders : Bytes) →
-    openCall book n own heights leaders .answer ≡ accepted done →
-    openCall book n own heights leaders .book ≡ openedBook n own heights leaders
+pub open-writes : (way : Opening) (book : Bytes) (n own heights : ℕ) (leaders : Bytes) →
+    openCall way book n own heights leaders .answer ≡ accepted done →
+    openCall way book n own heights leaders .book ≡ openedBook way n own heights leaders
 open-writes = open-bytes
 
 pub signal-writes : (book : Bytes) → AreBytes book → (h : ℕ) → signalCall sha256 book h .answer ≡ accepted done →
@@ -157,9 +159,9 @@ pub sound-stays : (book : Bytes) (call : Call) → sound sha256 book ≡ true �
     sound sha256 (bookAfter sha256 book call) ≡ true
 sound-stays = stays-sound sha256
 
-pub open-makes-sound : (book : Bytes) (n own heights : ℕ) (leaders : Bytes) →
-    openCall book n own heights leaders .answer ≡ accepted done →
-    sound sha256 (openCall book n own heights leaders .book) ≡ true
+pub open-makes-sound : (way : Opening) (book : Bytes) (n own heights : ℕ) (leaders : Bytes) →
+    openCall way book n own heights leaders .answer ≡ accepted done →
+    sound sha256 (openCall way book n own heights leaders .book) ≡ true
 open-makes-sound = sound-opened sha256
 
 -- ---- demand 2: the five steps
@@ -237,12 +239,12 @@ pub packets-count : (book packet : Bytes) (counts : Counts) → packetCall sha25
 packets-count = packet-sums sha256
 
 -- on every book that calls make from an opened one, a proposal held with a quorum of kept votes is notarized
-pub votes-are-tallied : (book : Bytes) (n own heights : ℕ) (leaders : Bytes) (calls : List Call) →
-    openCall book n own heights leaders .answer ≡ accepted done →
-    AllTallied sha256 (decode (bookAfterAll sha256 (openCall book n own heights leaders .book) calls))
-votes-are-tallied book n own heights leaders calls opened =
-    tallied-stays-all sha256 _ calls (sound-opened sha256 book n own heights leaders opened)
-    (tallied-opened sha256 book n own heights leaders opened)
+pub votes-are-tallied : (way : Opening) (book : Bytes) (n own heights : ℕ) (leaders : Bytes) (calls : List Call) →
+    openCall way book n own heights leaders .answer ≡ accepted done →
+    AllTallied sha256 (decode (bookAfterAll sha256 (openCall way book n own heights leaders .book) calls))
+votes-are-tallied way book n own heights leaders calls opened =
+    tallied-stays-all sha256 _ calls (sound-opened sha256 way book n own heights leaders opened)
+    (tallied-opened sha256 way book n own heights leaders opened)
 
 -- ---- demand 2: what is read
 -- Read gives the linearization of the finalized blockchain that ends in block g, each entry at its first place ..
@@ -283,6 +285,17 @@ moves-are-read = move-written-read sha256 sha256-length
 pub fetches-are-read : (book : Bytes) (k h : ℕ) (reply other : Bytes) → SameSetting (decode book) (decode other) →
     FetchWritten sha256 book k h reply other
 fetches-are-read = fetch-written-read sha256
+
+-- ---- 2.6: over any weights the replicas that two quorums share weigh at least a third of all ..
+pub quorums-share-a-third : (v v′ : View) (a b : ℕ) → v′ .weights ≡ v .weights → quorum v a ≡ true →
+    quorum v′ b ≡ true → totalWeight v ≤ 3 * weigh (λ t. inMask a t && inMask b t) (v .weights)
+quorums-share-a-third = quorums-third
+
+-- .. so that of n replicas of weight 1 at least a third are in both
+pub equal-quorums-share-a-third : (v v′ : View) (n a b : ℕ) → v .weights ≡ replicate n 1 →
+    v′ .weights ≡ replicate n 1 → quorum v a ≡ true → quorum v′ b ≡ true →
+    n ≤ 3 * weigh (λ t. inMask a t && inMask b t) (replicate n 1)
+equal-quorums-share-a-third = equal-third
 
 -- ---- demand 3: of two logs read in any list of calls from observers and honest replicas one begins the other
 pub no-fork-with-observers : ObservedAgreement sha256

@@ -16,6 +16,7 @@ use mathlib.Core.List.{[], _∷_}
 use lib.ListN.{length}
 use Rattle.sha256.specs.Digest.{sha256}
 use Rattle.sha256.specs.Laws.DigestLaws.{sha256-length}
+use Rattle.protocol.specs.Open.{Opening}
 use Rattle.protocol.specs.Bytes.{Bytes, AreBytes, byteAt}
 use Rattle.protocol.specs.State.{decode}
 use Rattle.protocol.specs.Sound.{view, sound}
@@ -52,9 +53,9 @@ use Rattle.observer_laws.specs.Laws.TwinsMetLaws.{twins-met}
 
 -- ---- refusals
 -- each call is refused by the number of its first row that fails, if one does, and then no byte lent to it changes
-pub observer-open-refused : (book : Bytes) (n heights : ℕ) →
-    Refuses Done (observerOpenRows book n heights) (observerOpenCall book n heights .answer) (book ∷ [])
-    (observerOpenCall book n heights .book ∷ [])
+pub observer-open-refused : (way : Opening) (book : Bytes) (n heights : ℕ) →
+    Refuses Done (observerOpenRows way book n heights) (observerOpenCall way book n heights .answer) (book ∷ [])
+    (observerOpenCall way book n heights .book ∷ [])
 observer-open-refused = observer-open-refuses
 
 pub observer-deliver-refused : (book frame : Bytes) →
@@ -93,17 +94,17 @@ no-replica-book = observer-no-replica sha256
 
 -- ---- what is left
 -- every byte of an opened book; and each call leaves a sound book sound
-pub observer-open-writes : (book : Bytes) (n heights : ℕ) → observerOpenCall book n heights .answer ≡ accepted done →
-    observerOpenCall book n heights .book ≡ openedObserver n heights
+pub observer-open-writes : (way : Opening) (book : Bytes) (n heights : ℕ) → observerOpenCall way book n heights .answer ≡ accepted done →
+    observerOpenCall way book n heights .book ≡ openedObserver way n heights
 observer-open-writes = observer-open-bytes
 
 pub observers-stay-sound : (book : Bytes) (call : ObserverCall) → observerSound sha256 book ≡ true →
     observerSound sha256 (observation sha256 book call .book) ≡ true
 observers-stay-sound = observer-sound-stays sha256
 
-pub observer-open-makes-sound : (book : Bytes) (n heights : ℕ) →
-    observerOpenCall book n heights .answer ≡ accepted done →
-    observerSound sha256 (observerOpenCall book n heights .book) ≡ true
+pub observer-open-makes-sound : (way : Opening) (book : Bytes) (n heights : ℕ) →
+    observerOpenCall way book n heights .answer ≡ accepted done →
+    observerSound sha256 (observerOpenCall way book n heights .book) ≡ true
 observer-open-makes-sound = observer-sound-opened sha256
 
 -- a delivery that is not refused keeps what its certificate says, all that was kept before, and nothing else ..
@@ -141,12 +142,12 @@ observers-read-nothing-else book buffer size is fits part after size′ =
 
 -- each certificate that a replica writes is read over every observer's book of the same n that has its height, as the
 -- same statement
-pub moves-are-read-by-observers : (book reply other : Bytes) → observerState other .n ≡ decode book .n →
+pub moves-are-read-by-observers : (book reply other : Bytes) → observerState other .n ≡ decode book .n → observerState other .weights ≡ decode book .weights →
     MoveReadByObserver sha256 book reply other
 moves-are-read-by-observers = move-read-by-observer sha256 sha256-length
 
 pub fetches-are-read-by-observers : (book : Bytes) (k h : ℕ) (reply other : Bytes) →
-    observerState other .n ≡ decode book .n → FetchReadByObserver sha256 book k h reply other
+    observerState other .n ≡ decode book .n → observerState other .weights ≡ decode book .weights → FetchReadByObserver sha256 book k h reply other
 fetches-are-read-by-observers = fetch-read-by-observer sha256
 
 -- ---- a replica and an observer that are given the same certificates

@@ -3,10 +3,11 @@ use Prim.Native.Nat.{ℕ, zero, suc, _+_, _-_, _*_, _≤_, _<_}
 use native.Mathlib.Omega.{arith}
 use mathlib.Core.Path.{_≡_, sym, ap, subst, _∙_}
 use lib.ListN.{length, set}
-use Rattle.protocol.specs.Bytes.{Bytes, le16, zeros, put}
+use Rattle.protocol.specs.Bytes.{Bytes, le16, zeros, put, AreBytes}
 use Rattle.protocol.specs.State.{bookHeights}
 use Rattle.protocol.specs.Deliver.{withNotarized}
 use Rattle.protocol.specs.Observer.{encodeObserver}
+use Rattle.protocol.specs.Open.{weighed}
 use Rattle.protocol.specs.ObserverCalls.{newObserver}
 use Rattle.protocol.specs.Laws.BytesLaws.{put-all, length-zeros}
 use Rattle.protocol.specs.Laws.PlaceLaws.{suc-pred}
@@ -15,12 +16,12 @@ use Rattle.protocol.specs.Laws.ObserverPlaceLaws.{new-observer-from-zeros}
 use Rattle.book_fields.specs.Book.{ObserverReady, Within, observedIn, observerChanged}
 use Rattle.book_fields.specs.Numbered.{withMaskAt}
 
-pub observer-made : (n heights : ℕ) (book cleared : Bytes) → length book ≡ 64 + 184 * heights →
-    cleared ≡ put book 0 (zeros (length book)) →
-    set (set (set cleared 0 n) 2 heights) 7 1 ≡ encodeObserver (newObserver n heights)
-observer-made n heights book cleared size clear =
+pub observer-made : (n heights : ℕ) (weights book cleared : Bytes) → length book ≡ 64 + 184 * heights →
+    AreBytes weights → length weights ≡ 2 * n → n ≤ 16 → cleared ≡ put book 0 (zeros (length book)) →
+    put (set (set (set cleared 0 n) 2 heights) 7 2) 8 weights ≡ encodeObserver (newObserver (weighed weights) n heights)
+observer-made n heights weights book cleared size small given high clear =
     rw (clear ∙ put-all book (zeros (length book)) (sym (length-zeros (length book))) ∙ ap zeros size)
-    (new-observer-from-zeros n heights)
+    (new-observer-from-zeros n heights weights small given high)
 
 -- ---- height `h`, where the code has computed its places
 module _ (book : Bytes) (ready : ObserverReady book) (h : ℕ) (within : Within book h) (content : ℕ)

@@ -11,21 +11,24 @@ ghost use Rattle.protocol.specs.Mask.{maskLimit};
 ghost use Rattle.protocol.specs.Deliver.{withNotarized};
 ghost use Rattle.protocol.specs.State.{withHead};
 ghost use Rattle.protocol.specs.Observer.{encodeObserver};
+ghost use Rattle.protocol.specs.Open.{weighed};
 ghost use Rattle.protocol.specs.ObserverCalls.{newObserver};
 ghost use Rattle.book_fields.specs.Book.{ObserverReady, Within, observedIn, observerChanged, observerRecoded};
 ghost use Rattle.book_fields.specs.Numbered.{withMaskAt};
 
-// Writes the book of an observer of `n` replicas, who has heard nothing. Costs a store for each byte.
-pub fn new_book(book: &mut [u8], n: usize, heights: usize)
+// Writes the book of an observer of `n` replicas of these weights, who has heard nothing. Costs a store for each byte.
+pub fn new_book(book: &mut [u8], n: usize, heights: usize, weights: &[u8])
     requires { ⌜ length (now book) ≡ 64 + 184 * heights ⌝ }
-    requires { ⌜ (n < 256) × (heights < 256) ⌝ }
-    ensures { λ _. ⌜ now (book .exit) ≡ encodeObserver (newObserver n heights) ⌝ }
+    requires { ⌜ (n ≤ 16) × (heights < 256) ⌝ }
+    requires { ⌜ length (now weights) ≡ 2 * n ⌝ }
+    ensures { λ _. ⌜ now (book .exit) ≡ encodeObserver (newObserver (weighed (now (weights .entry))) n heights) ⌝ }
 {
     let size = book.len();
     clear(book, 0, size);
     book[0] = n as u8;
     book[2] = heights as u8;
-    book[7] = 1;
+    book[7] = 2;
+    copy_to(book, 8, weights);
 }
 
 // Keeps a block as the notarized block of height `h`, which has none, with the mask of its certificate.

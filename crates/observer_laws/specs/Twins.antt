@@ -14,7 +14,7 @@ use Rattle.protocol.specs.Bytes.{Bytes}
 use Rattle.protocol.specs.Every.{Every}
 use Rattle.protocol.specs.Frame.{kind, frameSize, isCertificate}
 use Rattle.protocol.specs.Answer.{Outcome, Done, Move, accepted, done, idle}
-use Rattle.protocol.specs.Open.{openCall}
+use Rattle.protocol.specs.Open.{Opening, openCall}
 use Rattle.protocol.specs.Deliver.{deliverCall}
 use Rattle.protocol.specs.Packet.{packetFrames}
 use Rattle.protocol.specs.State.{decode}
@@ -30,7 +30,7 @@ use Rattle.protocol.specs.ObserverCall.{observerReading, Observation, observati
 -- ---- the frames that a call gives to its book, refused or not, in order
 -- a packet whose length is no multiple of 224 is refused as a whole and gives none
 unfoldable pub given : Call → List Bytes
-given (opening n own heights leaders) = []
+given (opening way n own heights leaders) = []
 given (delivery frame) = frame ∷ []
 given (packetDelivery packet) = cond (eqb (length packet % frameSize) 0) (packetFrames packet) []
 given (moving reply) = []
@@ -45,7 +45,7 @@ allGiven [] = []
 allGiven (call ∷ calls) = given call ++ allGiven calls
 
 unfoldable pub givenToObserver : ObserverCall → List Bytes
-givenToObserver (observerOpening n heights) = []
+givenToObserver (observerOpening way n heights) = []
 givenToObserver (observerDelivery frame) = frame ∷ []
 givenToObserver observerMoving = []
 givenToObserver observerSizing = []
@@ -66,8 +66,9 @@ certificatesOf [] = []
 certificatesOf (frame ∷ frames) = cond (isCertificate (kind frame)) (frame ∷ []) [] ++ certificatesOf frames
 
 -- ---- a replica's and an observer's calls
--- the openings, with one n and H and over any old bytes, and the calls after them
+-- the openings, with one n, H and weights and over any old bytes, and the calls after them
 pub record Histories : Type 0 where
+  pub way : Opening
   pub n : ℕ
   pub heights : ℕ
   pub own : ℕ
@@ -78,10 +79,10 @@ pub record Histories : Type 0 where
   pub observerCalls : List ObserverCall
 
 abbrev pub opens : Histories → Outcome Done
-opens both = openCall (both .old) (both .n) (both .own) (both .heights) (both .leaders)
+opens both = openCall (both .way) (both .old) (both .n) (both .own) (both .heights) (both .leaders)
 
 abbrev pub observerOpens : Histories → Outcome Done
-observerOpens both = observerOpenCall (both .observerOld) (both .n) (both .heights)
+observerOpens both = observerOpenCall (both .way) (both .observerOld) (both .n) (both .heights)
 
 module _ (digest : Bytes → Bytes) where
   -- what calls do, each on the book that those before it left

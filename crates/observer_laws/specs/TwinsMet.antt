@@ -5,6 +5,7 @@ use Prim.Native.Nat.{ℕ}
 use mathlib.Core.Path.{_≡_}
 use mathlib.Core.List.{List, [], _∷_, _++_}
 use lib.ListN.{replicate}
+use Rattle.protocol.specs.Open.{unweighed}
 use Rattle.protocol.specs.Bytes.{Bytes, zeros}
 use Rattle.protocol.specs.Block.{newBlock}
 use Rattle.protocol.specs.Frame.{dummyVote, blockCertificate, dummyCertificate, finalizeCertificate}
@@ -48,7 +49,7 @@ move = moving (zeros 448)
 
 unfoldable pub calls : List Call
 calls =
-    move ∷ delivery (5 ∷ []) ∷ signalling 1 ∷ delivery (dummyCertificate 1 3) ∷ opening 0 2 2 (0 ∷ 1 ∷ []) ∷ move ∷
+    move ∷ delivery (5 ∷ []) ∷ signalling 1 ∷ delivery (dummyCertificate 1 3) ∷ opening unweighed 0 2 2 (0 ∷ 1 ∷ []) ∷ move ∷
     delivery (dummyCertificate 1 7) ∷ delivery strangersVote ∷ move ∷ move ∷
     packetDelivery (blockCertificate 2 7 block ++ strangersVote ++ blockCertificate 2 11 otherBlock) ∷
     delivery (finalizeCertificate 2 14) ∷ move ∷ move ∷ []
@@ -56,7 +57,7 @@ calls =
 unfoldable pub observerCalls : List ObserverCall
 observerCalls =
     observerDelivery (5 ∷ []) ∷ observerDelivery vote ∷ observerDelivery (dummyCertificate 1 3) ∷
-    observerDelivery (dummyCertificate 1 7) ∷ observerOpening 0 2 ∷ observerDelivery (blockCertificate 2 7 block) ∷
+    observerDelivery (dummyCertificate 1 7) ∷ observerOpening unweighed 0 2 ∷ observerDelivery (blockCertificate 2 7 block) ∷
     observerMoving ∷
     observerDelivery (blockCertificate 2 11 otherBlock) ∷ observerDelivery (finalizeCertificate 2 14) ∷
     observerMoving ∷ []
@@ -64,6 +65,7 @@ observerCalls =
 -- n 4 and H 2, the replica's own number 2
 unfoldable pub histories : Histories
 histories = record {
+  way = unweighed;
   n = 4;
   heights = 2;
   own = 2;

@@ -20,18 +20,13 @@ use Rattle.protocol.specs.Laws.RowLaws.{where-held, where-none, heads-pass, hea
 use Rattle.protocol.specs.Laws.PlaceLaws.{suc-pred}
 use Rattle.protocol.specs.Laws.ObserverCodecLaws.{at-observed}
 use Rattle.book_fields.specs.Book.{Within, observedIn}
-use Rattle.observer_soundness.specs.ObserverRows.{numberRows, headRows, heightRows, blockRow, certificateRow}
+use Rattle.book_fields.specs.Setting.{settingRows}
+use Rattle.observer_soundness.specs.ObserverRows.{headRows, heightRows, blockRow, certificateRow}
 use Rattle.observer_soundness.specs.ObserverRows.{bookRows, finalRow}
 use Rattle.observer_soundness.specs.Laws.ObserverRowsLaws.{observer-sound-is}
 
 -- ---- the head
 module _ (book : Bytes) where
-  pub numbers-are :
-      ((leb 1 (byteAt book 0) && leb (byteAt book 0) 16) &&
-      ((leb 1 (bookHeights book) && leb (bookHeights book) 63) && eqb (byteAt book 7) 1)) ≡ allOf (numberRows book)
-  unfolding numberRows asReplica decodeObserver inRange allOf
-  numbers-are = simp and-true
-
   pub replica-are :
       (eqb (byteAt book 1) 0 && (eqb (byteAt book 3) 0 && (eqb (byteAt book 4) 0 && eqb (byteAt book 6) 0))) ≡
       isZero (replicaHead book)
@@ -39,8 +34,9 @@ module _ (book : Bytes) where
   replica-are = simp and-true
 
   pub head-are : (eqb (length book) (64 + 184 * bookHeights book) &&
-      (allOf (numberRows book) && (isZero (replicaHead book) && isZero (part book 8 56)))) ≡ allOf (headRows book)
-  unfolding headRows observerBookSize allOf
+      (allOf (settingRows book) && ((leb 1 (bookHeights book) && leb (bookHeights book) 63) &&
+      isZero (replicaHead book)))) ≡ allOf (headRows book)
+  unfolding headRows observerBookSize inRange allOf
   head-are = simp and-true
 
   pub head-short : length book < 64 → allOf (headRows book) ≡ false

@@ -5,30 +5,24 @@ use mathlib.Core.Bool.{Bool, _||_}
 use mathlib.Core.List.{List, [], _∷_}
 use lib.ListN.{length}
 use lib.Dec.{eqb}
-use Rattle.protocol.specs.Bytes.{Bytes, part, isZero}
+use Rattle.protocol.specs.Bytes.{Bytes, isZero}
 use Rattle.protocol.specs.Tests.{allOf, implies, inRange, everyHeight}
 use Rattle.protocol.specs.Block.{maximumHeights, blockWellFormed}
-use Rattle.protocol.specs.State.{isNotarized, bookHeights, maximumReplicas}
+use Rattle.protocol.specs.State.{isNotarized, bookHeights}
 use Rattle.protocol.specs.View.{quorum, isFinalized}
 use Rattle.protocol.specs.Sound.{view, masksBelow}
 use Rattle.protocol.specs.Observer.{observerState, observerBookSize}
 use Rattle.protocol.specs.ObserverSound.{replicaHead, observedZero}
 use Rattle.book_fields.specs.Book.{observedIn}
-
--- what the numbers of the head must be
-unfoldable pub numberRows : Bytes → List Bool
-numberRows book =
-    inRange 1 maximumReplicas (observerState book .n) ∷
-    inRange 1 maximumHeights (bookHeights book) ∷
-    eqb (observerState book .edition) 1 ∷ []
+use Rattle.book_fields.specs.Setting.{settingRows}
 
 -- what the length and the first 64 bytes must be
 unfoldable pub headRows : Bytes → List Bool
 headRows book =
     eqb (length book) (observerBookSize (bookHeights book)) ∷
-    allOf (numberRows book) ∷
-    isZero (replicaHead book) ∷
-    isZero (part book 8 56) ∷ []
+    allOf (settingRows book) ∷
+    inRange 1 maximumHeights (bookHeights book) ∷
+    isZero (replicaHead book) ∷ []
 
 -- the notarized block of height `h`, if there is one, is well formed
 unfoldable pub blockRow : Bytes → ℕ → Bool

@@ -1,13 +1,11 @@
 // Soundness of an observer's book: one pass over its bytes, and one digest for each block of the finalized chain.
 use book_fields::bounds::MAXIMUM_HEIGHTS;
-use book_fields::bounds::MAXIMUM_REPLICAS;
 use book_fields::kind::Kind;
 use book_fields::observed::content_at;
 use book_fields::observed::is_notarized;
 use book_fields::observed::mask_at;
 use memory::SIZE;
 use wire::bytes::byte;
-use wire::bytes::is_zero;
 use wire::mask::below;
 ghost use mathlib.Core.Path.{_≡_};
 ghost use mathlib.Core.Bool.{true, _&&_};
@@ -23,21 +21,8 @@ ghost use Rattle.protocol.specs.ObserverSound.{observerSound, replicaHead};
 ghost use Rattle.book_fields.specs.Book.{Within, ObserverReadable, observedIn};
 ghost use Rattle.book_fields.specs.declared.kind.Kind.the-variants.{Observer};
 ghost use Rattle.memory.specs.Memo.{MemoAs, memorySize};
-ghost use Rattle.observer_soundness.specs.ObserverRows.{numberRows, headRows, blockRow, certificateRow};
+ghost use Rattle.observer_soundness.specs.ObserverRows.{headRows, blockRow, certificateRow};
 ghost use Rattle.observer_soundness.specs.ObserverRows.{heightRows, bookRows, finalRow};
-
-// Whether n, H and the edition are in their ranges.
-fn numbers_sound(book: &[u8]) -> bool
-    requires { ⌜ 64 ≤ length (now book) ⌝ }
-    ensures { λ r. ⌜ r ≡ allOf (numberRows (now (book .entry))) ⌝ }
-{
-    let n = byte(book, 0);
-    let heights = byte(book, 2);
-    let edition = byte(book, 7);
-    let replicas = (1 <= n) & (n <= MAXIMUM_REPLICAS);
-    let count = (1 <= heights) & (heights <= MAXIMUM_HEIGHTS);
-    replicas & (count & (edition == 1))
-}
 
 // Whether the numbers that only a replica has are zero: own number, flags, current height and pending count.
 fn replica_zero(book: &[u8]) -> bool
@@ -56,11 +41,12 @@ fn head_sound(book: &[u8]) -> bool
     ensures { λ r. ⌜ r ≡ allOf (headRows (now (book .entry))) ⌝ }
 {
     if 64 <= book.len() {
-        let size = book.len() == 64 + 184 * byte(book, 2);
-        let numbers = numbers_sound(book);
+        let heights = byte(book, 2);
+        let size = book.len() == 64 + 184 * heights;
+        let count = (1 <= heights) & (heights <= MAXIMUM_HEIGHTS);
+        let setting = book_fields::setting::setting_sound(book);
         let replica = replica_zero(book);
-        let unused = is_zero(&book[8..64]);
-        size & (numbers & (replica & unused))
+        size & (setting & (count & replica))
     } else {
         false
     }

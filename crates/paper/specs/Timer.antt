@@ -12,7 +12,7 @@ use Rattle.protocol.specs.Tests.{firstRefusal}
 use Rattle.protocol.specs.Frame.{frameBlock, dummyVote}
 use Rattle.protocol.specs.State.{State, last, flag, decode, withHead}
 use Rattle.protocol.specs.Answer.{Certificate, accepted, done, voteDummy, pass}
-use Rattle.protocol.specs.Open.{openCall}
+use Rattle.protocol.specs.Open.{Opening, openCall}
 use Rattle.protocol.specs.Deliver.{deliverCall}
 use Rattle.protocol.specs.Packet.{packetFrames, packetRows}
 use Rattle.protocol.specs.Move.{step}
@@ -50,8 +50,8 @@ module _ (digest : Bytes → Bytes) where
     byPass : (reply : Bytes) (certificate : Certificate) (finalized : Bool) → 448 ≤ length reply →
         step digest (decode book) .move ≡ pass (decode book .current) certificate finalized →
         Restarts book (moving reply)
-    byOpening : (n own heights : ℕ) (leaders : Bytes) → openCall book n own heights leaders .answer ≡ accepted done →
-        Restarts book (opening n own heights leaders)
+    byOpening : (way : Opening) (n own heights : ℕ) (leaders : Bytes) → openCall way book n own heights leaders .answer ≡ accepted done →
+        Restarts book (opening way n own heights leaders)
 
   -- ---- flag 1 goes up and comes down just by these
   pub record Timer (book : Bytes) (call : Call) : Type 0 where

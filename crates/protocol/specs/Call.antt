@@ -6,7 +6,7 @@ use mathlib.Core.List.{List, [], _∷_}
 use mathlib.Core.Option.{Option, some, none}
 use Rattle.protocol.specs.Bytes.{Bytes}
 use Rattle.protocol.specs.Answer.{Done, Delivery, Counts, Outcome, isAccepted}
-use Rattle.protocol.specs.Open.{openCall}
+use Rattle.protocol.specs.Open.{Opening, openedWeights, openCall}
 use Rattle.protocol.specs.Deliver.{deliverCall}
 use Rattle.protocol.specs.Packet.{packetFrames, acceptedOf, packetCall}
 use Rattle.protocol.specs.Move.{MoveOutcome, moveCall}
@@ -17,7 +17,7 @@ use Rattle.protocol.specs.Fetch.{FetchOutcome, fetchCall}
 
 -- a call with its arguments; `reply` and `buffer` are lent to it and hold any bytes
 pub data Call : Type 0 where
-  opening : (n own heights : ℕ) (leaders : Bytes) → Call
+  opening : (way : Opening) (n own heights : ℕ) (leaders : Bytes) → Call
   delivery : (frame : Bytes) → Call
   packetDelivery : (packet : Bytes) → Call
   moving : (reply : Bytes) → Call
@@ -27,9 +27,9 @@ pub data Call : Type 0 where
   reading : (buffer : Bytes) → Call
   fetching : (k h : ℕ) (reply : Bytes) → Call
 
--- an opened book: for how many replicas, and under which own number
+-- an opened book: of replicas of these weights, and under which own number
 pub record Opened : Type 0 where
-  pub n : ℕ
+  pub weights : List ℕ
   pub own : ℕ
 
 -- what a call does on a book
@@ -92,8 +92,8 @@ ofFetch book o =
 module _ (digest : Bytes → Bytes) where
   -- ---- the calls
   unfoldable pub effect : Bytes → Call → Effect
-  effect book (opening n own heights leaders) =
-      ofOpening (record { n = n; own = own }) (openCall book n own heights leaders)
+  effect book (opening way n own heights leaders) =
+      ofOpening (record { weights = openedWeights n way; own = own }) (openCall way book n own heights leaders)
   effect book (delivery frame) = ofDelivery frame (deliverCall digest book frame)
   effect book (packetDelivery packet) =
       ofPacket (acceptedOf digest book (packetFrames packet)) (packetCall digest book packet)

@@ -12,7 +12,7 @@ use Rattle.protocol.specs.Mask.{ones}
 use Rattle.protocol.specs.State.{State, at, decode, bookSize, isNotarized}
 use Rattle.protocol.specs.View.{View, quorum, isDummy, extends}
 use Rattle.protocol.specs.Answer.{accepted, done, idle, voteDummy, pass, propose, onDummy}
-use Rattle.protocol.specs.Open.{openCall}
+use Rattle.protocol.specs.Open.{unweighed, openCall}
 use Rattle.protocol.specs.Deliver.{deliverCall, deliverAll}
 use Rattle.protocol.specs.Signal.{signalCall}
 use Rattle.protocol.specs.Move.{step, MoveOutcome, moveCall}
@@ -25,12 +25,12 @@ pub record Start : Type 0 where
   pub heights : ℕ
   pub leaders : Bytes
   pub reply : Bytes
-  pub opens : openCall old n own heights leaders .answer ≡ accepted done
+  pub opens : openCall unweighed old n own heights leaders .answer ≡ accepted done
   pub room : 448 ≤ length reply
 
 -- the new book
 unfoldable pub opened : Start → Bytes
-opened x = openCall (x .old) (x .n) (x .own) (x .heights) (x .leaders) .book
+opened x = openCall unweighed (x .old) (x .n) (x .own) (x .heights) (x .leaders) .book
 
 -- the leader of height 1
 unfoldable pub firstLeader : Start → ℕ

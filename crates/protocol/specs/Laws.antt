@@ -2,6 +2,8 @@
 pub mod EveryLaws
 pub mod TestsLaws
 pub mod MaskLaws
+pub mod HeadLaws
+pub mod SettingLaws
 pub mod StateLaws
 pub mod ObserverStateLaws
 pub mod ObserverCodecLaws

@@ -5,7 +5,7 @@ use mathlib.Core.List.{List, [], _∷_, _++_, map}
 use lib.ListN.{drop}
 use Rattle.protocol.specs.Bytes.{Bytes, byteAt, word16, le16, zeros, join, pieces}
 use Rattle.protocol.specs.Block.{blockSize}
-use Rattle.protocol.specs.State.{State, Height, headBytes, bookHeights, poolSize}
+use Rattle.protocol.specs.State.{State, Height, headBytes, bookHeights, bookWeights, poolSize}
 use Rattle.protocol.specs.View.{View}
 use Rattle.protocol.specs.Sound.{view}
 
@@ -21,6 +21,8 @@ pub record ObservedHeight : Type 0 where
 pub record Observer : Type 0 where
   pub edition : ℕ
   pub n : ℕ
+  -- of 16 replicas; those from n up weigh nothing
+  pub weights : List ℕ
   -- the height that its log ends at (document 01: settled height, g)
   pub finalized : ℕ
   pub heights : List ObservedHeight
@@ -45,6 +47,7 @@ unfoldable pub asReplica : Observer → State
 asReplica o = record {
   edition = o .edition;
   n = o .n;
+  weights = o .weights;
   own = 0;
   flags = 0;
   current = 0;
@@ -68,6 +71,7 @@ unfoldable pub observed : State → Observer
 observed s = record {
   edition = s .edition;
   n = s .n;
+  weights = s .weights;
   finalized = s .finalized;
   heights = map observedHeight (s .heights);
 }
@@ -121,6 +125,7 @@ decodeObserver book =
     record {
       edition = byteAt book 7;
       n = byteAt book 0;
+      weights = bookWeights book;
       finalized = byteAt book 5;
       heights = decodeObservedHeights
           (pieces observedContentSize heights (drop 64 book))

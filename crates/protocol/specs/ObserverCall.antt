@@ -5,13 +5,14 @@ use mathlib.Core.Bool.{Bool, true, cond}
 use mathlib.Core.List.{List, [], _∷_}
 use mathlib.Core.Option.{Option, some, none}
 use Rattle.protocol.specs.Bytes.{Bytes}
+use Rattle.protocol.specs.Open.{Opening, openedWeights}
 use Rattle.protocol.specs.Answer.{Outcome, Done, Delivery, Move, isAccepted}
 use Rattle.protocol.specs.ObserverCalls.{observerOpenCall, observerDeliverCall, observerMoveCall}
 use Rattle.protocol.specs.ObserverCalls.{observerSizeCall, observerReadPart}
 
 -- a call with its arguments; `buffer` is lent to it and holds any bytes
 pub data ObserverCall : Type 0 where
-  observerOpening : (n heights : ℕ) → ObserverCall
+  observerOpening : (way : Opening) (n heights : ℕ) → ObserverCall
   observerDelivery : (frame : Bytes) → ObserverCall
   observerMoving : ObserverCall
   observerSizing : ObserverCall
@@ -23,8 +24,8 @@ pub record Observation : Type 0 where
   pub book : Bytes
   -- not refused; Read refuses nothing, it returns the empty part
   pub accepted : Bool
-  -- of an opening that is not refused, for how many replicas
-  pub opens : Option ℕ
+  -- of an opening that is not refused, the weights of the replicas
+  pub opens : Option (List ℕ)
   -- the frames that it delivers: that of a delivery that is not refused
   pub delivers : List Bytes
   -- of a reading the part that it returns, an empty one too
@@ -34,10 +35,10 @@ pub record Observation : Type 0 where
 abbrev pub observesBook : Bytes → Bool → Observation
 observesBook book unrefused = record { book = book; accepted = unrefused; opens = none; delivers = []; reads = none }
 
-abbrev pub observesOpening : ℕ → Outcome Done → Observation
-observesOpening n o =
+abbrev pub observesOpening : List ℕ → Outcome Done → Observation
+observesOpening weights o =
     let unrefused : Bool = isAccepted (o .answer) in
-    let opens : Option ℕ = cond unrefused (some n) none in
+    let opens : Option (List ℕ) = cond unrefused (some weights) none in
     record { book = o .book; accepted = unrefused; opens = opens; delivers = []; reads = none }
 
 abbrev pub observesDelivery : Bytes → Outcome Delivery → Observation
@@ -55,7 +56,8 @@ observesReading book part = record { book = book; accepted = true; opens = none;
 module _ (digest : Bytes → Bytes) where
   -- ---- the calls
   unfoldable pub observation : Bytes → ObserverCall → Observation
-  observation book (observerOpening n heights) = observesOpening n (observerOpenCall book n heights)
+  observation book (observerOpening way n heights) =
+      observesOpening (openedWeights n way) (observerOpenCall way book n heights)
   observation book (observerDelivery frame) = observesDelivery frame (observerDeliverCall digest book frame)
   observation book observerMoving = observesMove (observerMoveCall digest book)
   observation book observerSizing = observesBook book (isAccepted (observerSizeCall digest book))

@@ -9,7 +9,8 @@ use Rattle.protocol.specs.Bytes.{Bytes, zeros, join, overFront}
 use Rattle.protocol.specs.Tests.{allOf, inRange, Row, firstRefusal}
 use Rattle.protocol.specs.Block.{maximumHeights, entrySize}
 use Rattle.protocol.specs.Frame.{kind, frameHeight, frameWellFormed, isCertificate}
-use Rattle.protocol.specs.State.{State, Height, withHeight, maximumReplicas}
+use Rattle.protocol.specs.State.{State, Height, withHeight, maximumReplicas, padded}
+use Rattle.protocol.specs.Open.{Opening, openedEdition, openedWeights, weightsInRange}
 use Rattle.protocol.specs.Sound.{log}
 use Rattle.protocol.specs.Answer.{Answer, Outcome, Done, Delivery, Move, done, known, fresh, refused, accepted}
 use Rattle.protocol.specs.Answer.{unlessRefused}
@@ -29,23 +30,24 @@ newObservedHeight = record {
   notarized = zeros 176;
 }
 
-unfoldable pub newObserver : ℕ → ℕ → Observer
-newObserver n heights = record {
-  edition = 1;
+unfoldable pub newObserver : Opening → ℕ → ℕ → Observer
+newObserver way n heights = record {
+  edition = openedEdition way;
   n = n;
+  weights = padded (openedWeights n way);
   finalized = 0;
   heights = replicate heights newObservedHeight;
 }
 
-unfoldable pub observerOpenRows : Bytes → ℕ → ℕ → List Row
-observerOpenRows book n heights =
-    (2, allOf (inRange 1 maximumReplicas n ∷ inRange 1 maximumHeights heights ∷ [])) ∷
+unfoldable pub observerOpenRows : Opening → Bytes → ℕ → ℕ → List Row
+observerOpenRows way book n heights =
+    (2, allOf (inRange 1 maximumReplicas n ∷ inRange 1 maximumHeights heights ∷ weightsInRange n way ∷ [])) ∷
     (1, eqb (length book) (observerBookSize heights)) ∷ []
 
-unfoldable pub observerOpenCall : Bytes → ℕ → ℕ → Outcome Done
-observerOpenCall book n heights =
-    unlessRefused (firstRefusal (observerOpenRows book n heights)) book
-    (record { answer = accepted done; book = encodeObserver (newObserver n heights) })
+unfoldable pub observerOpenCall : Opening → Bytes → ℕ → ℕ → Outcome Done
+observerOpenCall way book n heights =
+    unlessRefused (firstRefusal (observerOpenRows way book n heights)) book
+    (record { answer = accepted done; book = encodeObserver (newObserver way n heights) })
 
 -- ---- Deliver
 -- the observer's book after a certificate: what document 01's rule keeps of it at its height, if anything

@@ -4,12 +4,12 @@ use mathlib.Core.Bool.{Bool, _||_}
 use mathlib.Core.List.{[], _∷_}
 use lib.ListN.{length}
 use lib.Dec.{eqb}
-use Rattle.protocol.specs.Bytes.{Bytes, byteAt, part, isZero}
+use Rattle.protocol.specs.Bytes.{Bytes, byteAt, isZero}
 use Rattle.protocol.specs.Tests.{allOf, implies, inRange, everyHeight}
 use Rattle.protocol.specs.Block.{maximumHeights, blockWellFormed}
-use Rattle.protocol.specs.State.{State, at, bookHeights, isNotarized, maximumReplicas}
+use Rattle.protocol.specs.State.{State, at, bookHeights, headUnused, isNotarized, maximumReplicas}
 use Rattle.protocol.specs.View.{quorum, isFinalized}
-use Rattle.protocol.specs.Sound.{view, masksBelow}
+use Rattle.protocol.specs.Sound.{view, masksBelow, weightsFit}
 use Rattle.protocol.specs.Observer.{observerState, observerBookSize, observedContentSize}
 
 -- what only a replica has in the head: own number, flags, current height, pending count
@@ -30,12 +30,13 @@ module _ (digest : Bytes → Bytes) where
       (eqb (length book) (observerBookSize heights) ∷
       inRange 1 maximumReplicas (s .n) ∷
       inRange 1 maximumHeights heights ∷
-      eqb (s .edition) 1 ∷
+      inRange 1 2 (s .edition) ∷
+      weightsFit (s .n) (s .weights) ∷
       everyHeight (λ h. masksBelow (s .n) (at s h)) heights ∷
       everyHeight (λ h. eqb (at s h .status) 0 || eqb (at s h .status) 2) heights ∷
       everyHeight (λ h. implies (isNotarized (at s h)) (blockWellFormed h (at s h .notarized))) heights ∷
       everyHeight (λ h. implies (isNotarized (at s h)) (quorum (view s) (at s h .certificateMask))) heights ∷
       isZero (replicaHead book) ∷
-      isZero (part book 8 56) ∷
+      isZero (headUnused book) ∷
       everyHeight (λ h. eqb (observedZero book h) 0) heights ∷
       (eqb (s .finalized) 0 || isFinalized digest (view s) (s .finalized)) ∷ [])

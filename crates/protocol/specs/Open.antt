@@ -1,13 +1,15 @@
--- Open: a new book for `n` replicas, the replica's own number, and the leader of each height.
-use Prim.Native.Nat.{ℕ}
-use mathlib.Core.Bool.{Bool}
+-- Open: a new book for `n` replicas, their weights, the replica's own number, and the leader of each height. Three
+-- requests open books: document 01 (edition 1, each replica weighs 1) and 2.6 (edition 2, weights of two bytes each).
+use Prim.Native.Nat.{ℕ, _*_}
+use mathlib.Core.Bool.{Bool, true, _&&_}
 use mathlib.Core.List.{List, [], _∷_, map}
-use lib.ListN.{length}
+use lib.ListN.{length, replicate}
 use lib.Dec.{eqb, ltb}
 use Rattle.protocol.specs.Bytes.{Bytes, zeros, all}
 use Rattle.protocol.specs.Tests.{allOf, inRange, Row, firstRefusal}
 use Rattle.protocol.specs.Block.{maximumHeights}
-use Rattle.protocol.specs.State.{State, Height, encode, bookSize, poolSize, maximumReplicas}
+use Rattle.protocol.specs.State.{State, Height, encode, bookSize, poolSize, maximumReplicas, maximumWeight}
+use Rattle.protocol.specs.State.{padded, words}
 use Rattle.protocol.specs.Answer.{Outcome, Done, done, accepted, unlessRefused}
 
 unfoldable pub newHeight : ℕ → Height
@@ -23,11 +25,35 @@ newHeight leader = record {
   voteDigests = zeros 512;
 }
 
+-- ---- the ways to open a book
+pub data Opening : Type 0 where
+  -- document 01: every replica weighs 1
+  unweighed : Opening
+  -- 2.6: two bytes for the weight of each replica
+  weighed : (weights : Bytes) → Opening
+
+-- the edition that it makes
+unfoldable pub openedEdition : Opening → ℕ
+openedEdition unweighed = 1
+openedEdition (weighed weights) = 2
+
+-- the weights of the `n` replicas
+unfoldable pub openedWeights : ℕ → Opening → List ℕ
+openedWeights n unweighed = replicate n 1
+openedWeights n (weighed weights) = words n weights
+
+-- there are n weights, each of 1 to 1,000
+unfoldable pub weightsInRange : ℕ → Opening → Bool
+weightsInRange n unweighed = true
+weightsInRange n (weighed weights) =
+    eqb (length weights) (2 * n) && all (λ w. inRange 1 maximumWeight w) (words n weights)
+
 -- a state at height 1 with nothing pending
-abbrev pub startState : (n own flags : ℕ) → List Height → State
-startState n own flags heights = record {
-  edition = 1;
+abbrev pub startState : (edition n : ℕ) (weights : List ℕ) (own flags : ℕ) → List Height → State
+startState edition n weights own flags heights = record {
+  edition = edition;
   n = n;
+  weights = padded weights;
   own = own;
   flags = flags;
   current = 1;
@@ -37,24 +63,25 @@ startState n own flags heights = record {
   heights = heights;
 }
 
-unfoldable pub newState : ℕ → ℕ → Bytes → State
-newState n own leaders = startState n own 0 (map newHeight leaders)
+unfoldable pub newState : Opening → ℕ → ℕ → Bytes → State
+newState way n own leaders = startState (openedEdition way) n (openedWeights n way) own 0 (map newHeight leaders)
 
 -- the ranges that refusal 2 asks for
-unfoldable pub openInRange : ℕ → ℕ → ℕ → Bytes → Bool
-openInRange n own heights leaders = allOf
+unfoldable pub openInRange : Opening → ℕ → ℕ → ℕ → Bytes → Bool
+openInRange way n own heights leaders = allOf
     (inRange 1 maximumReplicas n ∷
     ltb own n ∷
     inRange 1 maximumHeights heights ∷
     eqb (length leaders) heights ∷
-    all (λ leader. ltb leader n) leaders ∷ [])
+    all (λ leader. ltb leader n) leaders ∷
+    weightsInRange n way ∷ [])
 
-unfoldable pub openRows : Bytes → ℕ → ℕ → ℕ → Bytes → List Row
-openRows book n own heights leaders =
-    (2, openInRange n own heights leaders) ∷
+unfoldable pub openRows : Opening → Bytes → ℕ → ℕ → ℕ → Bytes → List Row
+openRows way book n own heights leaders =
+    (2, openInRange way n own heights leaders) ∷
     (1, eqb (length book) (bookSize heights)) ∷ []
 
-unfoldable pub openCall : Bytes → ℕ → ℕ → ℕ → Bytes → Outcome Done
-openCall book n own heights leaders =
-    unlessRefused (firstRefusal (openRows book n own heights leaders)) book
-    (record { answer = accepted done; book = encode (newState n own leaders) })
+unfoldable pub openCall : Opening → Bytes → ℕ → ℕ → ℕ → Bytes → Outcome Done
+openCall way book n own heights leaders =
+    unlessRefused (firstRefusal (openRows way book n own heights leaders)) book
+    (record { answer = accepted done; book = encode (newState way n own leaders) })

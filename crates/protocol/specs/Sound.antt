@@ -2,20 +2,20 @@
 use Prim.Native.Nat.{ℕ, _+_, _-_, _*_}
 use mathlib.Core.Bool.{Bool, _&&_, _||_}
 use mathlib.Core.List.{List, [], _∷_}
-use lib.ListN.{length, replicate}
+use lib.ListN.{length, take, drop}
 use lib.Dec.{eqb, leb, ltb}
-use Rattle.protocol.specs.Bytes.{Bytes, byteAt, part, isZero}
+use Rattle.protocol.specs.Bytes.{Bytes, part, all, isZero}
 use Rattle.protocol.specs.Tests.{allOf, implies, inRange, everyHeight}
 use Rattle.protocol.specs.Block.{maximumHeights, blockWellFormed}
 use Rattle.protocol.specs.Mask.{belowBit}
 use Rattle.protocol.specs.State.{State, Height, at, decode, bookSize, holdsProposal, isNotarized, bookHeights}
-use Rattle.protocol.specs.State.{maximumReplicas, maximumPending}
+use Rattle.protocol.specs.State.{maximumReplicas, maximumPending, maximumWeight, headUnused}
 use Rattle.protocol.specs.View.{View, quorum, isFinalized, logOf}
 
 unfoldable pub view : State → View
 view s = record {
   n = s .n;
-  weights = replicate (s .n) 1;
+  weights = take (s .n) (s .weights);
   hasBlock = λ h. isNotarized (at s h);
   block = λ h. at s h .notarized;
   certificateMask = λ h. at s h .certificateMask;
@@ -26,6 +26,10 @@ view s = record {
 -- the distinct entries of the finalized chain (documents 01 and 02: the register)
 unfoldable pub log : State → List Bytes
 log s = logOf (view s) (s .finalized)
+
+-- each of `n` replicas weighs 1 to 1,000, and those that are absent nothing
+unfoldable pub weightsFit : ℕ → List ℕ → Bool
+weightsFit n weights = all (λ w. inRange 1 maximumWeight w) (take n weights) && isZero (drop n weights)
 
 -- ---- rows about one height
 unfoldable pub masksBelow : ℕ → Height → Bool
@@ -55,7 +59,8 @@ module _ (digest : Bytes → Bytes) where
       inRange 1 maximumReplicas (s .n) ∷
       ltb (s .own) (s .n) ∷
       inRange 1 maximumHeights heights ∷
-      eqb (s .edition) 1 ∷
+      inRange 1 2 (s .edition) ∷
+      weightsFit (s .n) (s .weights) ∷
       inRange 1 (heights + 1) (s .current) ∷
       ltb (s .flags) 16 ∷
       leb (s .pendingCount) maximumPending ∷
@@ -64,6 +69,6 @@ module _ (digest : Bytes → Bytes) where
       everyHeight (λ h. leb (at s h .status) 3) heights ∷
       everyHeight (λ h. blocksWellFormed h (at s h)) heights ∷
       everyHeight (λ h. implies (isNotarized (at s h)) (quorum (view s) (at s h .certificateMask))) heights ∷
-      isZero (part book 8 56) ∷
+      isZero (headUnused book) ∷
       everyHeight (λ h. isZero (contentZeros book h)) heights ∷
       (eqb (s .finalized) 0 || isFinalized digest (view s) (s .finalized)) ∷ [])

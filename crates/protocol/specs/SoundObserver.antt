@@ -8,12 +8,12 @@ use Rattle.protocol.specs.Bytes.{Bytes}
 use Rattle.protocol.specs.Block.{maximumHeights}
 use Rattle.protocol.specs.State.{at, maximumReplicas}
 use Rattle.protocol.specs.View.{isFinalized}
-use Rattle.protocol.specs.SoundState.{Shaped, SoundHeight}
+use Rattle.protocol.specs.SoundState.{Shaped, SoundHeight, SoundSetting}
 use Rattle.protocol.specs.Observer.{Observer, asReplica, observerView}
 
 pub record SoundObserver (digest : Bytes → Bytes) (o : Observer) : Type 0 where
   pub shaped : Shaped (asReplica o)
-  pub first-edition : o .edition ≡ 1
+  pub setting : SoundSetting (o .edition) (o .n) (o .weights)
   pub n-low : 1 ≤ o .n
   pub n-high : o .n ≤ maximumReplicas
   pub last-low : 1 ≤ length (o .heights)

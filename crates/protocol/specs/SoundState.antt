@@ -3,22 +3,31 @@ use Prim.Native.Nat.{ℕ, _+_, _^_, _≤_, _<_}
 use mathlib.Core.Path.{_≡_}
 use mathlib.Core.Logic.{_⊎_}
 use mathlib.Core.Bool.{true}
+use mathlib.Core.List.{List}
 use lib.ListN.{length}
+use lib.Dec.{eqb}
 use Rattle.protocol.specs.Bytes.{Bytes}
+use Rattle.protocol.specs.Tests.{inRange}
 use Rattle.protocol.specs.Every.{Every}
 use Rattle.protocol.specs.Block.{maximumHeights, blockWellFormed}
 use Rattle.protocol.specs.Mask.{maskLimit}
 use Rattle.protocol.specs.State.{State, Height, at, last, holdsProposal, isNotarized, maximumReplicas}
-use Rattle.protocol.specs.State.{maximumPending}
+use Rattle.protocol.specs.State.{maximumPending, evenly}
 use Rattle.protocol.specs.View.{View, quorum, isFinalized}
-use Rattle.protocol.specs.Sound.{view}
+use Rattle.protocol.specs.Sound.{view, weightsFit}
 
 pub record ShapedHeight (x : Height) : Type 0 where
   pub proposal-size : length (x .proposal) ≡ 176
   pub notarized-size : length (x .notarized) ≡ 176
   pub votes-size : length (x .voteDigests) ≡ 512
 
+-- 16 weights, which edition 1 does not keep: there the n replicas weigh 1
+pub record Weighed (edition n : ℕ) (weights : List ℕ) : Type 0 where
+  pub sixteen : length weights ≡ maximumReplicas
+  pub even : eqb edition 1 ≡ true → weights ≡ evenly n
+
 pub record Shaped (b : State) : Type 0 where
+  pub weighed : Weighed (b .edition) (b .n) (b .weights)
   pub pool-size : length (b .pool) ≡ 512
   pub heights : Every ShapedHeight (b .heights)
 
@@ -34,9 +43,14 @@ pub record SoundHeight (v : View) (h : ℕ) (x : Height) : Type 0 where
   pub notarized-formed : isNotarized x ≡ true → blockWellFormed h (x .notarized) ≡ true
   pub certified : isNotarized x ≡ true → quorum v (x .certificateMask) ≡ true
 
+-- an edition that is known, and weights in range
+pub record SoundSetting (edition n : ℕ) (weights : List ℕ) : Type 0 where
+  pub edition-row : inRange 1 2 edition ≡ true
+  pub weights-row : weightsFit n weights ≡ true
+
 pub record SoundState (digest : Bytes → Bytes) (s : State) : Type 0 where
   pub shaped : Shaped s
-  pub first-edition : s .edition ≡ 1
+  pub setting : SoundSetting (s .edition) (s .n) (s .weights)
   pub n-low : 1 ≤ s .n
   pub n-high : s .n ≤ maximumReplicas
   pub own-below : s .own < s .n

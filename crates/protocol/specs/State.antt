@@ -1,8 +1,8 @@
 -- The state of a replica (document 01: the book), as a record and as bytes.
 use Prim.Native.Nat.{ℕ, _+_, _-_, _*_, _/_, _%_}
-use mathlib.Core.Bool.{Bool}
+use mathlib.Core.Bool.{Bool, cond}
 use mathlib.Core.List.{List, [], _∷_, _++_, map}
-use lib.ListN.{length, getD, set, drop}
+use lib.ListN.{length, getD, set, drop, take, replicate}
 use lib.Dec.{eqb, leb}
 use Rattle.protocol.specs.Bytes.{Bytes, byteAt, word16, le16, part, zeros, join, pieces}
 use Rattle.protocol.specs.Block.{entrySize, maximumHeights, blockEntries}
@@ -24,6 +24,8 @@ pub record State : Type 0 where
   -- the edition of its book's layout: what is encoded has it, and no rule goes by it
   pub edition : ℕ
   pub n : ℕ
+  -- of 16 replicas; those from n up weigh nothing
+  pub weights : List ℕ
   pub own : ℕ
   -- of the current height: 1 timer fired, 2 dummy vote cast, 4 block vote cast, 8 proposed
   pub flags : ℕ
@@ -41,6 +43,9 @@ maximumReplicas = 16
 
 abbrev pub maximumPending : ℕ
 maximumPending = 32
+
+abbrev pub maximumWeight : ℕ
+maximumWeight = 1000
 
 abbrev pub maximumEntries : ℕ
 maximumEntries = maximumHeights * blockEntries
@@ -63,10 +68,40 @@ bookSize heights = 576 + 880 * heights
 abbrev pub bookHeights : Bytes → ℕ
 bookHeights book = byteAt book 2
 
+-- ---- weights
+-- these weights, of 16 replicas
+unfoldable pub padded : List ℕ → List ℕ
+padded weights = take maximumReplicas (weights ++ replicate maximumReplicas 0)
+
+-- n replicas that weigh 1
+unfoldable pub evenly : ℕ → List ℕ
+evenly n = padded (replicate n 1)
+
+-- numbers of two bytes, one after the other
+unfoldable pub words : ℕ → Bytes → List ℕ
+words count bytes = map (λ (w : Bytes). word16 w 0) (pieces 2 count bytes)
+
+-- the 32 bytes of the weights, which edition 1 has not
+unfoldable pub weightBytes : ℕ → List ℕ → Bytes
+weightBytes edition weights = cond (eqb edition 1) (zeros 32) (take 32 (join (map le16 weights) ++ zeros 32))
+
+-- and back: in edition 1 every replica weighs 1
+unfoldable pub weightsIn : ℕ → ℕ → Bytes → List ℕ
+weightsIn edition n area = cond (eqb edition 1) (evenly n) (words maximumReplicas area)
+
+-- the weights that a book's head says
+abbrev pub bookWeights : Bytes → List ℕ
+bookWeights book = weightsIn (byteAt book 7) (byteAt book 0) (part book 8 32)
+
+-- the bytes of the head that its edition calls zero
+unfoldable pub headUnused : Bytes → Bytes
+headUnused book = cond (eqb (byteAt book 7) 1) (part book 8 56) (part book 40 24)
+
 -- ---- a state's bytes
 unfoldable pub headBytes : State → Bytes
 headBytes s =
-    s .n ∷ s .own ∷ length (s .heights) ∷ s .flags ∷ s .current ∷ s .finalized ∷ s .pendingCount ∷ s .edition ∷ zeros 56
+    s .n ∷ s .own ∷ length (s .heights) ∷ s .flags ∷ s .current ∷ s .finalized ∷ s .pendingCount ∷ s .edition ∷
+    (weightBytes (s .edition) (s .weights) ++ zeros 24)
 
 unfoldable pub contentBytes : Height → Bytes
 contentBytes x =
@@ -106,6 +141,7 @@ decode book =
     record {
       edition = byteAt book 7;
       n = byteAt book 0;
+      weights = bookWeights book;
       own = byteAt book 1;
       flags = byteAt book 3;
       current = byteAt book 4;
@@ -156,6 +192,7 @@ abbrev pub renewedIn : (edition : ℕ) → State → (flags current finalized pe
 renewedIn edition s flags current finalized pendingCount pool heights = record {
   edition = edition;
   n = s .n;
+  weights = s .weights;
   own = s .own;
   flags = flags;
   current = current;

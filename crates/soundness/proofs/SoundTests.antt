@@ -14,23 +14,22 @@ use Rattle.protocol.specs.State.{Height, at, decode, bookSize, holdsProposal, i
 use Rattle.protocol.specs.View.{quorum}
 use Rattle.protocol.specs.Sound.{view, masksBelow, blocksWellFormed, contentZeros, sound}
 use Rattle.protocol.specs.Laws.RowLaws.{heads-pass, heads-fail, last-decides, rows-decide}
+use Rattle.book_fields.specs.Setting.{settingRows}
 use Rattle.soundness.specs.SoundRows.{numberRows, headRows, heightRows, bookRows, finalRow}
 use Rattle.soundness.specs.Laws.SoundRowsLaws.{sound-is}
 
 -- ---- the head
 module _ (book : Bytes) where
   pub numbers-are :
-      ((leb 1 (byteAt book 0) && leb (byteAt book 0) 16) &&
       (ltb (byteAt book 1) (byteAt book 0) &&
       ((leb 1 (bookHeights book) && leb (bookHeights book) 63) &&
-      (eqb (byteAt book 7) 1 &&
       ((leb 1 (byteAt book 4) && leb (byteAt book 4) (bookHeights book + 1)) &&
-      (ltb (byteAt book 3) 16 && leb (byteAt book 6) 32)))))) ≡ allOf (numberRows book)
+      (ltb (byteAt book 3) 16 && leb (byteAt book 6) 32)))) ≡ allOf (numberRows book)
   unfolding numberRows decode inRange allOf
   numbers-are = simp and-true
 
   pub head-are : (eqb (length book) (576 + 880 * bookHeights book) &&
-      (allOf (numberRows book) && isZero (part book 8 56))) ≡ allOf (headRows book)
+      (allOf (settingRows book) && allOf (numberRows book))) ≡ allOf (headRows book)
   unfolding headRows bookSize allOf
   head-are = simp and-true
 

@@ -5,21 +5,20 @@ use mathlib.Core.Bool.{Bool, _||_}
 use mathlib.Core.List.{List, [], _∷_}
 use lib.ListN.{length}
 use lib.Dec.{eqb, leb, ltb}
-use Rattle.protocol.specs.Bytes.{Bytes, part, isZero}
+use Rattle.protocol.specs.Bytes.{Bytes, isZero}
 use Rattle.protocol.specs.Tests.{allOf, implies, inRange, everyHeight}
 use Rattle.protocol.specs.Block.{maximumHeights}
-use Rattle.protocol.specs.State.{decode, bookSize, isNotarized, bookHeights, maximumReplicas, maximumPending}
+use Rattle.protocol.specs.State.{decode, bookSize, isNotarized, bookHeights, maximumPending}
 use Rattle.protocol.specs.View.{quorum, isFinalized}
 use Rattle.protocol.specs.Sound.{masksBelow, blocksWellFormed, contentZeros}
 use Rattle.book_fields.specs.Book.{heightIn, bookView}
+use Rattle.book_fields.specs.Setting.{settingRows}
 
--- what the numbers of the head must be
+-- what the numbers must be that only a replica has, and the heights
 unfoldable pub numberRows : Bytes → List Bool
 numberRows book =
-    inRange 1 maximumReplicas (decode book .n) ∷
     ltb (decode book .own) (decode book .n) ∷
     inRange 1 maximumHeights (bookHeights book) ∷
-    eqb (decode book .edition) 1 ∷
     inRange 1 (bookHeights book + 1) (decode book .current) ∷
     ltb (decode book .flags) 16 ∷
     leb (decode book .pendingCount) maximumPending ∷ []
@@ -28,8 +27,8 @@ numberRows book =
 unfoldable pub headRows : Bytes → List Bool
 headRows book =
     eqb (length book) (bookSize (bookHeights book)) ∷
-    allOf (numberRows book) ∷
-    isZero (part book 8 56) ∷ []
+    allOf (settingRows book) ∷
+    allOf (numberRows book) ∷ []
 
 -- the notarized block of height `h`, if there is one, has the certificate of a quorum
 abbrev pub certificateRow : Bytes → ℕ → Bool

@@ -1,7 +1,6 @@
 // Soundness of a book: one pass over its bytes, and one digest for each block of the finalized chain.
 use book_fields::bounds::MAXIMUM_HEIGHTS;
 use book_fields::bounds::MAXIMUM_PENDING;
-use book_fields::bounds::MAXIMUM_REPLICAS;
 use book_fields::height::holds_proposal;
 use book_fields::height::is_notarized;
 use book_fields::height::notarized;
@@ -26,7 +25,7 @@ ghost use Rattle.book_fields.specs.Book.{Within, Readable, heightIn};
 ghost use Rattle.memory.specs.Memo.{Memo, memorySize};
 ghost use Rattle.soundness.specs.SoundRows.{numberRows, headRows, certificateRow, heightRows, bookRows, finalRow};
 
-// Whether the numbers of the head are in their ranges.
+// Whether the numbers that only a replica has are in their ranges, and the heights.
 fn numbers_sound(book: &[u8]) -> bool
     requires { ⌜ 576 ≤ length (now book) ⌝ }
     ensures { λ r. ⌜ r ≡ allOf (numberRows (now (book .entry))) ⌝ }
@@ -37,13 +36,9 @@ fn numbers_sound(book: &[u8]) -> bool
     let flags = byte(book, 3);
     let current = byte(book, 4);
     let pending = byte(book, 6);
-    let edition = byte(book, 7);
-    let replicas = (1 <= n) & (n <= MAXIMUM_REPLICAS);
     let length = (1 <= heights) & (heights <= MAXIMUM_HEIGHTS);
     let place = (1 <= current) & (current <= heights + 1);
-    replicas
-        & ((own < n)
-            & (length & ((edition == 1) & (place & ((flags < 16) & (pending <= MAXIMUM_PENDING))))))
+    (own < n) & (length & (place & ((flags < 16) & (pending <= MAXIMUM_PENDING))))
 }
 
 // Whether the length is that of the heights, and the head as it must be.
@@ -52,9 +47,9 @@ fn head_sound(book: &[u8]) -> bool
 {
     if 576 <= book.len() {
         let size = book.len() == 576 + 880 * byte(book, 2);
+        let setting = book_fields::setting::setting_sound(book);
         let numbers = numbers_sound(book);
-        let unused = is_zero(&book[8..64]);
-        size & (numbers & unused)
+        size & (setting & numbers)
     } else {
         false
     }

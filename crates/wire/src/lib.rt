@@ -2,3 +2,4 @@
 pub mod block;
 pub mod bytes;
 pub mod mask;
+pub mod weights;

@@ -35,34 +35,34 @@ use Rattle.agreement.specs.ObserverLists.{AnyMember, AnyReads, Meant, No
 use Rattle.agreement.specs.ObserverLists.{ObserverFollows, ObserverKeepsOneBook, ObserverMember, observerCalls}
 use Rattle.agreement.specs.ObserverLists.{observerLastLeft, observes, ofObserver, ofReplica, replicaCalls}
 
-module _ (digest : Bytes → Bytes) (n dishonest : ℕ) (observers : ℕ → Type 0) (l : List AnyMember)
-    (third : FewDishonest n dishonest)
-    (keeps : (s : ℕ) → HonestIn n dishonest s → KeepsOneBook digest n (replicaCalls l) s)
-    (observers-keep : (s : ℕ) → observers s → ObserverKeepsOneBook digest n (observerCalls l) s)
-    (unforged : NoneForged digest (Meant (HonestIn n dishonest) observers) (HonestIn n dishonest) l)
-    (collisionless : NoneCollide digest (Meant (HonestIn n dishonest) observers) l) where
+module _ (digest : Bytes → Bytes) (weights : List ℕ) (dishonest : ℕ) (observers : ℕ → Type 0) (l : List AnyMember)
+    (third : FewDishonest weights dishonest)
+    (keeps : (s : ℕ) → HonestIn weights dishonest s → KeepsOneBook digest weights (replicaCalls l) s)
+    (observers-keep : (s : ℕ) → observers s → ObserverKeepsOneBook digest weights (observerCalls l) s)
+    (unforged : NoneForged digest (Meant (HonestIn weights dishonest) observers) (HonestIn weights dishonest) l)
+    (collisionless : NoneCollide digest (Meant (HonestIn weights dishonest) observers) l) where
   abbrev Honest : ℕ → Type 0
-  Honest s = HonestIn n dishonest s
+  Honest s = HonestIn weights dishonest s
 
   abbrev calls : List Member
   calls = replicaCalls l
 
   abbrev Had : View → ℕ → Type 0
-  Had v g = HadView digest n dishonest observers l third keeps unforged collisionless v g
+  Had v g = HadView digest weights dishonest observers l third keeps unforged collisionless v g
 
   -- ---- the sound book that an honest replica has before some member
   module _ (before after : List Member) (whole : calls ≡ before ++ after) (s : ℕ) (hs : Honest s) (book : Bytes)
       (left : lastLeft digest s before ≡ some book) where
-    good : Good digest n Honest Honest before s (decode book)
-    good = subst (GoodBytes digest n Honest Honest before s) left
-        (good-after digest n Honest Honest calls (forged-to-replicas digest Honest Honest observers l unforged) before
+    good : Good digest weights Honest Honest before s (decode book)
+    good = subst (GoodBytes digest weights Honest Honest before s) left
+        (good-after digest weights Honest Honest calls (forged-to-replicas digest Honest Honest observers l unforged) before
         after whole s (keeps s hs) hs hs)
 
     pub replica-had : sound digest book ≡ true → Had (view (decode book)) (decode book .finalized)
     unfolding view
     replica-had ok = let granted = grants digest book ok in record {
-      shown = kept-shown digest n Honest Honest observers l before after whole (decode book) (good .kept);
-      same-weights = ap (λ (k : ℕ). replicate k 1) (good .same-n);
+      shown = kept-shown digest weights Honest Honest observers l before after whole (decode book) (good .kept);
+      same-weights = good .same-weights;
       certificates = granted .certificates;
       finalizes = granted .finalizes;
     }
@@ -74,15 +74,15 @@ module _ (digest : Bytes → Bytes) (n dishonest : ℕ) (observers : ℕ → Typ
   unfolding view
   observer-had before after whole s meant book left ok = record {
     shown = λ i. rw (at-suc (observerState book) i) (followed .shown i);
-    same-weights = ap (λ (k : ℕ). replicate k 1) (followed .same-n);
+    same-weights = followed .same-weights;
     certificates = observer-grants digest book ok .certificates;
     finalizes = observer-grants digest book ok .finalizes;
   }
     where
-      followed : Followed digest n Honest Honest observers l (observerState book)
-      followed = rw whole (followed-more digest n Honest Honest observers before after (observerState book)
-          (subst (FollowedBytes digest n Honest Honest observers before) left
-          (followed-after digest n Honest Honest observers l unforged s (observers-keep s meant) meant before after
+      followed : Followed digest weights Honest Honest observers l (observerState book)
+      followed = rw whole (followed-more digest weights Honest Honest observers before after (observerState book)
+          (subst (FollowedBytes digest weights Honest Honest observers before) left
+          (followed-after digest weights Honest Honest observers l unforged s (observers-keep s meant) meant before after
           whole)))
 
   -- ---- what is read
@@ -102,11 +102,11 @@ module _ (digest : Bytes → Bytes) (n dishonest : ℕ) (observers : ℕ → Typ
       split = member-split calls here
 
       go : sound digest (m .book) ≡ true → (o : Option Bytes) → lastLeft digest (m .replica) (split .0) ≡ o →
-          Follows digest n (m .replica) m o → Had (view (decode (m .book))) (decode (m .book) .finalized)
+          Follows digest weights (m .replica) m o → Had (view (decode (m .book))) (decode (m .book) .finalized)
       go ok none left o =
           let (buffer, e, q) = only-reading digest (m .book) (m .call) part x in
-          let (heights, leaders, e′, q′) = only-opening digest (m .book) (m .call) (record { n = n; own = m .replica })
-          o in
+          let (way, n, heights, leaders, e′, same, q′) = only-opening digest (m .book) (m .call)
+          (record { weights = weights; own = m .replica }) o in
           let z : _≡_ {A = ℕ} 0 1 = cc in absurd (omega arith)
       go ok (some book) left x =
           replica-had (split .0) (m ∷ split .1) (split .2) (m .replica) hm (m .book) (left ∙ ap some (sym (x .0))) ok
@@ -129,11 +129,11 @@ module _ (digest : Bytes → Bytes) (n dishonest : ℕ) (observers : ℕ → Typ
       split = member-split l here
 
       go : observerSound digest (m .book) ≡ true → (o : Option Bytes) →
-          observerLastLeft digest (m .observer) (observerCalls (split .0)) ≡ o → ObserverFollows digest n m o →
+          observerLastLeft digest (m .observer) (observerCalls (split .0)) ≡ o → ObserverFollows digest weights m o →
           Had (view (observerState (m .book))) (observerState (m .book) .finalized)
       go ok none left opens =
           let (buffer, e, q) = only-observer-reading digest (m .book) (m .call) part x in
-          let (heights, e′, q′) = only-observer-opening digest (m .book) (m .call) n opens in
+          let (way, n, heights, e′, same, passed, made) = only-observer-opening digest (m .book) (m .call) weights opens in
           let z : _≡_ {A = ℕ} 0 1 = cc in absurd (omega arith)
       go ok (some book) left (got, fixed) =
           observer-had (split .0) (ofObserver m ∷ split .1) (split .2) (m .observer) meant (m .book)
@@ -164,16 +164,16 @@ module _ (digest : Bytes → Bytes) (n dishonest : ℕ) (observers : ℕ → Typ
     where
       go : (g ≤ g′) ⊎ (g′ < g) → Begins (join (logOf v g)) (join (logOf v′ g′)) ⊎
           Begins (join (logOf v′ g′)) (join (logOf v g))
-      go (inl le) = inl (logs digest n dishonest observers l third keeps unforged collisionless v v′ g g′ x x′ le)
+      go (inl le) = inl (logs digest weights dishonest observers l third keeps unforged collisionless v v′ g g′ x x′ le)
       go (inr lt) = inr
-          (logs digest n dishonest observers l third keeps unforged collisionless v′ v g′ g x′ x (omega arith))
+          (logs digest weights dishonest observers l third keeps unforged collisionless v′ v g′ g x′ x (omega arith))
 
 pub observed-agreement : (digest : Bytes → Bytes) → ObservedAgreement digest
 unfolding ObservedAgreement
-observed-agreement digest n dishonest observers l third keeps kept unforged apart m m′ part part′ i i′ h h′ x x′ =
-    compare digest n dishonest observers l third keeps kept unforged apart part part′
-    (read-of digest n dishonest observers l third keeps kept unforged apart m part i h x)
-    (read-of digest n dishonest observers l third keeps kept unforged apart m′ part′ i′ h′ x′)
+observed-agreement digest weights dishonest observers l third keeps kept unforged apart m m′ part part′ i i′ h h′ x x′ =
+    compare digest weights dishonest observers l third keeps kept unforged apart part part′
+    (read-of digest weights dishonest observers l third keeps kept unforged apart m part i h x)
+    (read-of digest weights dishonest observers l third keeps kept unforged apart m′ part′ i′ h′ x′)
 
 pub agreement : (digest : Bytes → Bytes) → Agreement digest
 agreement digest = without-observers digest (observed-agreement digest)

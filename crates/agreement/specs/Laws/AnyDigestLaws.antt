@@ -21,7 +21,7 @@ use Rattle.agreement.specs.Laws.NotForgedLaws.{forged-sound}
 use Rattle.agreement.specs.Lists.{Member, Statement, finalizes, statementOf, votesBlock, votesDummy}
 use Rattle.agreement.specs.Met.{Met}
 use Rattle.agreement.specs.Laws.MetLaws.{OneBegins, applied}
-use Rattle.agreement.specs.Turns.{dishonest, entry, everyTurn, nextBlock}
+use Rattle.agreement.specs.Turns.{fourEqual, dishonest, entry, everyTurn, nextBlock}
 use Rattle.agreement.specs.Laws.TurnsLaws.{entry-not-empty, few, honest-0, honest-1, keeps}
 
 -- the digests differ in their first byte
@@ -36,8 +36,8 @@ module _ (digest : Bytes → Bytes) where
   tests : List Member → Bool × Bool
   tests l = (
     allOf
-        (everyHonest dishonest (λ s. opensOnce digest 4 s false l) 4 ∷
-        showsOnly digest 4 dishonest (nextBlock ∷ []) l ∷
+        (everyHonest dishonest (λ s. opensOnce digest fourEqual s false l) 4 ∷
+        showsOnly digest fourEqual dishonest (nextBlock ∷ []) l ∷
         someIn (readsAt digest entry 0) l ∷
         someIn (readsAt digest entry 1) l ∷
         someIn (hearsAt digest (blockVote 3 1 oneDigest) 0) l ∷
@@ -46,13 +46,13 @@ module _ (digest : Bytes → Bytes) where
         someIn (hearsAt digest (finalize 3 1) 1) l ∷
         someIn (writesAt digest (dummyCertificate 1 11) 0) l ∷
         someIn (writesAt digest (dummyCertificate 1 11) 1) l ∷ []),
-    notForged digest 4 dishonest [] l,
+    notForged digest fourEqual dishonest [] l,
   )
 
   -- what the rows say of a list, by name
   record Passes (l : List Member) : Type 0 where
-    opens : everyHonest dishonest (λ s. opensOnce digest 4 s false l) 4 ≡ true
-    shows : showsOnly digest 4 dishonest (nextBlock ∷ []) l ≡ true
+    opens : everyHonest dishonest (λ s. opensOnce digest fourEqual s false l) 4 ≡ true
+    shows : showsOnly digest fourEqual dishonest (nextBlock ∷ []) l ≡ true
     reads-0 : someIn (readsAt digest entry 0) l ≡ true
     reads-1 : someIn (readsAt digest entry 1) l ≡ true
     hears-one : someIn (hearsAt digest (blockVote 3 1 oneDigest) 0) l ≡ true
@@ -112,17 +112,17 @@ module _ (digest : Bytes → Bytes) where
         let front = take-append-seam (digest nextBlock) (zeros 176) in
         eq-same _ _ (sym front ∙ ap (λ (k : ℕ). take k (digest nextBlock ++ zeros 176)) size)
 
-    unforged : notForged digest 4 dishonest [] (list digest) ≡ true
+    unforged : notForged digest fourEqual dishonest [] (list digest) ≡ true
     unfolding tests
     unforged = ap (λ (r : Bool × Bool). r .1) comes-to ∙ ap backed own-vote
 
-    met : Met digest 4 dishonest (list digest) entry
+    met : Met digest fourEqual dishonest (list digest) entry
     unfolding list
     met = record {
       few = few;
       keeps = keeps digest _ (passes .opens);
-      unforged = forged-sound digest 4 dishonest (list digest) unforged;
-      collisionless = one-block-sound digest 4 dishonest nextBlock (list digest) (passes .shows);
+      unforged = forged-sound digest fourEqual dishonest (list digest) unforged;
+      collisionless = one-block-sound digest fourEqual dishonest nextBlock (list digest) (passes .shows);
       honest-0 = honest-0;
       honest-1 = honest-1;
       reads-0 = reads-found digest (list digest) entry 0 (passes .reads-0);
@@ -144,4 +144,4 @@ module _ (digest : Bytes → Bytes) where
 
     -- agreement, applied to the list
     pub agreed-on : OneBegins entry entry
-    agreed-on = applied digest 4 dishonest (list digest) entry met
+    agreed-on = applied digest fourEqual dishonest (list digest) entry met

@@ -14,9 +14,9 @@ use Rattle.protocol.specs.Deliver.{deliverAll, deliverCall}
 use Rattle.protocol.specs.Packet.{acceptedOf, countAll, packetCall, packetFrames, packetRows}
 use Rattle.protocol.specs.Laws.MoveLaws.{step-body}
 use Rattle.protocol.specs.Move.{Step, moveCall, moveRows, moved, step, unlessMoveRefused}
-use Rattle.protocol.specs.Open.{newState, openCall, openRows}
+use Rattle.protocol.specs.Open.{Opening, newState, openCall, openRows}
 use Rattle.protocol.specs.Signal.{signalCall, signalRows}
-use Rattle.protocol.specs.Sound.{sound}
+use Rattle.protocol.specs.Sound.{sound, view}
 use Rattle.protocol.specs.State.{Height, State, decode, encode, flag, noHeight}
 use Rattle.protocol.specs.Tests.{firstRefusal}
 use Rattle.protocol.specs.Laws.TestedLaws.{signal-tested, move-tested}
@@ -29,18 +29,18 @@ use Rattle.agreement.specs.Laws.RunLaws.{AllDelivered, BackedBy, Good, S
 use Rattle.agreement.specs.Laws.RunLaws.{frame-good, frames-good}
 use Rattle.agreement.specs.Laws.ListsLaws.{wrote-last, wrote-more}
 
-module _ (digest : Bytes → Bytes) (n : ℕ) (books names : ℕ → Type 0) (P : List Member) (m : Member) where
+module _ (digest : Bytes → Bytes) (weights : List ℕ) (books names : ℕ → Type 0) (P : List Member) (m : Member) where
   abbrev StatesIn : List Member → ℕ → Statement → Type 0
-  StatesIn Q = States digest n books names Q
+  StatesIn Q = States digest weights books names Q
 
   abbrev SeenIn : List Member → Bytes → Type 0
-  SeenIn Q = Seen digest n books names Q
+  SeenIn Q = Seen digest weights books names Q
 
   abbrev BackedIn : List Member → ℕ → Height → Type 0
-  BackedIn Q = BackedBy digest n books names Q
+  BackedIn Q = BackedBy digest weights books names Q
 
   abbrev GoodIn : List Member → ℕ → State → Type 0
-  GoodIn Q = Good digest n books names Q
+  GoodIn Q = Good digest weights books names Q
 
   abbrev pub P′ : List Member
   P′ = P ++ (m ∷ [])
@@ -66,12 +66,12 @@ module _ (digest : Bytes → Bytes) (n : ℕ) (books names : ℕ → Type 0) (P 
       go (inr v) = absurd (List·Memᴰ·not-nil (rw (e (v .0)) at (v .2)))
 
   -- and changes flags only upwards
-  pub quiet : (s : ℕ) (b b′ : State) → GoodIn P s b → (m .replica ≡ s → writes digest m ≡ []) → b′ .n ≡ b .n →
+  pub quiet : (s : ℕ) (b b′ : State) → GoodIn P s b → (m .replica ≡ s → writes digest m ≡ []) → view b′ .weights ≡ view b .weights →
       b′ .current ≡ b .current →
       (flag 1 b ≡ true → flag 1 b′ ≡ true) → (flag 4 b ≡ true → flag 4 b′ ≡ true) → Shaped b′ →
       ((i : ℕ) → BackedIn P′ (suc i) (getD (b′ .heights) i noHeight)) → GoodIn P′ s b′
   quiet s b b′ g e en ec e1 e4 sh k = record {
-    same-n = en ∙ g .same-n;
+    same-weights = en ∙ g .same-weights;
     kept = record { shaped = sh; backed = k };
     consistent = subst (λ (c : ℕ). Consistent (StatesIn P′ s) c (flag 1 b′) (flag 4 b′)) (sym ec)
         (stated-nothing (g .consistent) (λ st w. inl (λ h. nothing-new s e st (w h))) e1 e4);
@@ -92,14 +92,14 @@ module _ (digest : Bytes → Bytes) (n : ℕ) (books names : ℕ → Type 0) (P 
       StatesIn P t st) →
       GoodIn P′ s (decode (deliverCall digest book f .book))
   delivery-good s book f g silent ours e said =
-      frame-good digest n books names P′ m among ours s book f
+      frame-good digest weights books names P′ m among ours s book f
       (unchanged s (decode book) g (λ z. silent)) (λ ok. rw (e, ok) (List·Memᴰ·head refl))
       (λ d t st q. states-more t st (said d t st q))
 
   -- ---- a packet: each frame over the book that those before it left
   all-delivered : (ours : books (m .replica)) (book : Bytes) (frames : List Bytes) →
       ((f : Bytes) → List·Memᴰ f (acceptedOf digest book frames) → List·Memᴰ f (delivers digest m)) →
-      AllDelivered digest n books names P′ m among ours book frames
+      AllDelivered digest weights books names P′ m among ours book frames
   unfolding AllDelivered acceptedOf
   all-delivered ours book [] each = tt
   all-delivered ours book (f ∷ frames) each = (
@@ -130,7 +130,7 @@ module _ (digest : Bytes → Bytes) (n : ℕ) (books names : ℕ → Type 0) (P 
       go : (o : Option ℕ) →
           delivers digest m ≡ cond (isAccepted (unlessRefused o book delivered .answer)) (acceptedOf digest book frames)
           [] → GoodIn P′ s (decode (unlessRefused o book delivered .book))
-      go none q = frames-good digest n books names P′ m among ours s book frames
+      go none q = frames-good digest weights books names P′ m among ours s book frames
           (λ f d t st r. states-more t st (said f d t st r)) still (all-delivered ours book frames (λ f i. rw q i))
       go (some number) q = still
 
@@ -142,16 +142,16 @@ module _ (digest : Bytes → Bytes) (n : ℕ) (books names : ℕ → Type 0) (P 
   unless-refused-good s none book outcome g g′ = g′ refl
   unless-refused-good s (some number) book outcome g g′ = g
 
-  pub reopening-good : (s : ℕ) (book : Bytes) (n′ own heights : ℕ) (leaders : Bytes) → GoodIn P s (decode book) →
+  pub reopening-good : (s : ℕ) (way : Opening) (book : Bytes) (n′ own heights : ℕ) (leaders : Bytes) → GoodIn P s (decode book) →
       writes digest m ≡ [] →
-      isAccepted (openCall book n′ own heights leaders .answer) ≡ false → GoodIn P′ s
-      (decode (openCall book n′ own heights leaders .book))
+      isAccepted (openCall way book n′ own heights leaders .answer) ≡ false → GoodIn P′ s
+      (decode (openCall way book n′ own heights leaders .book))
   unfolding openCall unlessRefused isAccepted
-  reopening-good s book n′ own heights leaders g silent no-way =
-      go (firstRefusal (openRows book n′ own heights leaders)) no-way
+  reopening-good s way book n′ own heights leaders g silent no-way =
+      go (firstRefusal (openRows way book n′ own heights leaders)) no-way
     where
       opened : Outcome Done
-      opened = record { answer = accepted done; book = encode (newState n′ own leaders) }
+      opened = record { answer = accepted done; book = encode (newState way n′ own leaders) }
 
       go : (o : Option ℕ) → isAccepted (unlessRefused o book opened .answer) ≡ false →
           GoodIn P′ s (decode (unlessRefused o book opened .book))
@@ -164,7 +164,7 @@ module _ (digest : Bytes → Bytes) (n : ℕ) (books names : ℕ → Type 0) (P 
   signal-good s book h g silent =
       let still = unchanged s (decode book) g (λ q. silent) in
       unless-refused-good s (firstRefusal (signalRows digest book h)) book _ still
-      (λ e. encoded digest n books names P′ s _ (fired-good digest n books names P′ (decode book) s
+      (λ e. encoded digest weights books names P′ s _ (fired-good digest weights books names P′ (decode book) s
       (signal-tested digest book h e .not-fired) still))
 
   -- ---- a move
@@ -174,9 +174,10 @@ module _ (digest : Bytes → Bytes) (n : ℕ) (books names : ℕ → Type 0) (P 
   step-keeps s book hs g ok e =
       let body = step-body digest b in
       record {
-        same-n = body .same-n ∙ g .same-n;
+        same-weights = body .same-view ∙ g .same-weights;
         kept = record {
           shaped = record {
+            weighed = body .same-weighed (g .kept .shaped .weighed);
             pool-size = rw (body .same-pool) (g .kept .shaped .pool-size);
             heights = rw (body .same-heights) (g .kept .shaped .heights);
           };
@@ -210,5 +211,5 @@ module _ (digest : Bytes → Bytes) (n : ℕ) (books names : ℕ → Type 0) (P 
           GoodIn P′ s (decode (unlessMoveRefused o book reply st .book))
       go none p e =
           let ok = move-tested digest book reply p .was-sound in
-          encoded digest n books names P′ s (st .after) (step-keeps s book hs g ok e)
+          encoded digest weights books names P′ s (st .after) (step-keeps s book hs g ok e)
       go (some number) p e = unchanged s (decode book) g (λ z. e)

@@ -74,10 +74,10 @@ module _ (digest : Bytes → Bytes) where
           apart x x′ block block′ among among′ theirs theirs′ shown shown′
 
   -- ---- from the test
-  module _ (n dishonest : ℕ) (observers : ℕ → Bool) where
+  module _ (weights : List ℕ) (dishonest : ℕ) (observers : ℕ → Bool) where
     abbrev Heard : List AnyMember → List Bytes → Type 0
     Heard P heard =
-        (frame : Bytes) → List·Memᴰ frame heard → HeardBy (HonestIn n dishonest) (replicaCalls P) frame
+        (frame : Bytes) → List·Memᴰ frame heard → HeardBy (HonestIn weights dishonest) (replicaCalls P) frame
 
     heard-more : (P Q : List AnyMember) (heard : List Bytes) → Heard P heard → Heard (P ++ Q) heard
     heard-more P Q heard h frame i =
@@ -85,20 +85,20 @@ module _ (digest : Bytes → Bytes) where
         (m, rw (replicas-append P Q) (Memᴰ·append-left (replicaCalls Q) among), ours, delivered)
 
     heard-last : (P : List AnyMember) (m : Member) (heard : List Bytes) → Heard P heard →
-        Heard (P ++ (ofReplica m ∷ [])) (cond (isHonest n dishonest (m .replica)) (delivers digest m) [] ++ heard)
+        Heard (P ++ (ofReplica m ∷ [])) (cond (isHonest weights dishonest (m .replica)) (delivers digest m) [] ++ heard)
     unfolding replicaCalls
     heard-last P m heard h frame i =
-        go (isHonest n dishonest (m .replica)) refl (List·Memᴰ·append-cases _ i)
+        go (isHonest weights dishonest (m .replica)) refl (List·Memᴰ·append-cases _ i)
       where
-        go : (b : Bool) → isHonest n dishonest (m .replica) ≡ b →
+        go : (b : Bool) → isHonest weights dishonest (m .replica) ≡ b →
             List·Memᴰ frame (cond b (delivers digest m) []) ⊎ List·Memᴰ frame heard →
-            HeardBy (HonestIn n dishonest) (replicaCalls (P ++ (ofReplica m ∷ []))) frame
+            HeardBy (HonestIn weights dishonest) (replicaCalls (P ++ (ofReplica m ∷ []))) frame
         go b e (inr j) = heard-more P (ofReplica m ∷ []) heard h frame j
         go false e (inl j) = absurd (List·Memᴰ·not-nil j)
         go true e (inl j) = (
           m,
           rw (replicas-append P (ofReplica m ∷ [])) (Memᴰ·append-right (replicaCalls P) (List·Memᴰ·head refl)),
-          honest-in n dishonest (m .replica) e,
+          honest-in weights dishonest (m .replica) e,
           j,
         )
 
@@ -107,11 +107,11 @@ module _ (digest : Bytes → Bytes) where
         implies (observers (m .observer)) (everyIn (λ frame. holds frame heard) (observes digest m .delivers))
 
     echoes-from : (P : List AnyMember) (heard : List Bytes) (list : List AnyMember) → Heard P heard →
-        echoes digest n dishonest observers heard list ≡ true →
+        echoes digest weights dishonest observers heard list ≡ true →
         (before : List AnyMember) (m : ObserverMember) (after : List AnyMember) (frame : Bytes) →
         list ≡ before ++ (ofObserver m ∷ after) → observers (m .observer) ≡ true →
         List·Memᴰ frame (observes digest m .delivers) →
-        HeardBy (HonestIn n dishonest) (replicaCalls (P ++ before)) frame
+        HeardBy (HonestIn weights dishonest) (replicaCalls (P ++ before)) frame
     unfolding echoes
     echoes-from P heard [] h test before m after frame here ours delivered =
         absurd (split-never (ofObserver m) before after here)
@@ -120,24 +120,24 @@ module _ (digest : Bytes → Bytes) where
     echoes-from P heard (ofReplica x ∷ xs) h test (y ∷ before) m after frame here ours delivered =
         let rest = echoes-from (P ++ (ofReplica x ∷ [])) _ xs (heard-last P x heard h) test before m after frame
         (split-head here .1) ours delivered in
-        subst (λ (z : List AnyMember). HeardBy (HonestIn n dishonest) (replicaCalls z) frame)
+        subst (λ (z : List AnyMember). HeardBy (HonestIn weights dishonest) (replicaCalls z) frame)
         (append-snoc P (ofReplica x) before ∙ ap (λ (z : AnyMember). P ++ (z ∷ before)) (split-head here .0)) rest
     echoes-from P heard (ofObserver x ∷ xs) h test [] m after frame here ours delivered =
         let is = split-head here .0 in
         let same : x ≡ m = cc in
-        let first = and-both (hears heard x) (echoes digest n dishonest observers heard xs) test .0 in
+        let first = and-both (hears heard x) (echoes digest weights dishonest observers heard xs) test .0 in
         let each = subst (λ (z : ObserverMember). hears heard z ≡ true) same first in
         rw append-nil (h frame (holds-member frame heard
         (every-in (λ (f : Bytes). holds f heard) (observes digest m .delivers) (implies-true _ _ each ours) frame
         delivered)))
     echoes-from P heard (ofObserver x ∷ xs) h test (y ∷ before) m after frame here ours delivered =
         let rest = echoes-from (P ++ (ofObserver x ∷ [])) heard xs (heard-more P (ofObserver x ∷ []) heard h)
-        (and-both (hears heard x) (echoes digest n dishonest observers heard xs) test .1) before m after frame
+        (and-both (hears heard x) (echoes digest weights dishonest observers heard xs) test .1) before m after frame
         (split-head here .1) ours delivered in
-        subst (λ (z : List AnyMember). HeardBy (HonestIn n dishonest) (replicaCalls z) frame)
+        subst (λ (z : List AnyMember). HeardBy (HonestIn weights dishonest) (replicaCalls z) frame)
         (append-snoc P (ofObserver x) before ∙ ap (λ (z : AnyMember). P ++ (z ∷ before)) (split-head here .0)) rest
 
-    pub echoes-sound : (list : List AnyMember) → echoes digest n dishonest observers [] list ≡ true →
-        Echoes (HonestIn n dishonest) (λ s. observers s ≡ true) list
+    pub echoes-sound : (list : List AnyMember) → echoes digest weights dishonest observers [] list ≡ true →
+        Echoes (HonestIn weights dishonest) (λ s. observers s ≡ true) list
     unfolding Echoes
     echoes-sound list test = echoes-from [] [] list (λ frame i. absurd (List·Memᴰ·not-nil i)) test

@@ -23,9 +23,9 @@ use Rattle.agreement.specs.Laws.ListsLaws.{wrote-last}
 use Rattle.agreement.specs.Laws.RunLaws.{Good, Seen, States}
 use Rattle.agreement.specs.Laws.StatementsLaws.{stated-nothing}
 
-module _ (digest : Bytes → Bytes) (n : ℕ) (books names : ℕ → Type 0) (P : List Member) (m : Member) (s : ℕ)
+module _ (digest : Bytes → Bytes) (weights : List ℕ) (books names : ℕ → Type 0) (P : List Member) (m : Member) (s : ℕ)
     (book : Bytes) (k h : ℕ)
-    (reply : Bytes) (g : Good digest n books names P s (decode book)) where
+    (reply : Bytes) (g : Good digest weights books names P s (decode book)) where
   abbrev b : State
   b = decode book
 
@@ -33,10 +33,10 @@ module _ (digest : Bytes → Bytes) (n : ℕ) (books names : ℕ → Type 0) (P 
   P′ = P ++ (m ∷ [])
 
   abbrev Was : Statement → Type 0
-  Was st = States digest n books names P s st
+  Was st = States digest weights books names P s st
 
   abbrev BackedAs : ℕ → Height → Type 0
-  BackedAs j x = Backed digest (States digest n books names P) (Seen digest n books names P) j x
+  BackedAs j x = Backed digest (States digest weights books names P) (Seen digest weights books names P) j x
 
   backed-at : 1 ≤ h → BackedAs h (at b h)
   unfolding at
@@ -58,7 +58,7 @@ module _ (digest : Bytes → Bytes) (n : ℕ) (books names : ℕ → Type 0) (P 
       rw (q .0) (backed-at low .shown .finalizations s (q .1))))
 
   stated-before : writes digest m ≡ certificateFrame b k h ∷ [] → 1 ≤ h → (st : Statement) →
-      States digest n books names P′ s st → Was st
+      States digest weights books names P′ s st → Was st
   stated-before e low st w honest = go (wrote-last digest s st P m (w honest))
     where
       go : Wrote digest s st P ⊎
@@ -69,21 +69,21 @@ module _ (digest : Bytes → Bytes) (n : ℕ) (books names : ℕ → Type 0) (P 
           let z = List·Memᴰ·eq-of-singleton (rw e at i) in certificate-old low st (rw z at says) honest
 
   -- a replica that fetches stays as good as it was
-  pub fetch-good : writes digest m ≡ fetchCall digest book k h reply .frames → Good digest n books names P′ s b
+  pub fetch-good : writes digest m ≡ fetchCall digest book k h reply .frames → Good digest weights books names P′ s b
   unfolding fetchCall unlessFetchRefused
   fetch-good = go (firstRefusal (fetchRows digest book k h reply)) refl
     where
       go : (r : Option ℕ) → firstRefusal (fetchRows digest book k h reply) ≡ r →
           writes digest m ≡ unlessFetchRefused r (certificateFrame b k h) reply .frames →
-          Good digest n books names P′ s b
-      go (some number) p e = unchanged digest n books names P m s b g (λ z. e)
+          Good digest weights books names P′ s b
+      go (some number) p e = unchanged digest weights books names P m s b g (λ z. e)
       go none p e =
           let low = fetch-tested digest book k h reply p .gives .low in
           record {
-            same-n = g .same-n;
+            same-weights = g .same-weights;
             kept = record {
               shaped = g .kept .shaped;
-              backed = λ i. backed-more digest n books names P m (g .kept .backed i);
+              backed = λ i. backed-more digest weights books names P m (g .kept .backed i);
             };
             consistent = stated-nothing (g .consistent) (λ st w. inl (stated-before e low st w)) (λ q. q) (λ q. q);
           }

@@ -9,6 +9,7 @@ use mathlib.Core.List.{List·Memᴰ·cases-cons, List·Memᴰ·eq-of-singleton}
 use mathlib.Core.Option.{Option, some, none}
 use lib.Dec.{eqb, ltb}
 use borrow.Author.Tests.{eqb-true, leb-true, le-leb, not-true}
+use lib.ListN.{length}
 use Rattle.protocol.specs.Bytes.{Bytes, holds, same}
 use Rattle.protocol.specs.Mask.{inMask}
 use Rattle.protocol.specs.Laws.RowLaws.{eq-same, implies-true, same-eq}
@@ -47,8 +48,8 @@ some-in {A} test (y ∷ ys) e = go (or-either (test y) (someIn test ys) e) (some
     go (inr z) below = let r = below z in (r .0, List·Memᴰ·tail (r .1), r .2)
 
 pub every-honest : (dishonest : ℕ) (test : ℕ → Bool) (n : ℕ) → everyHonest dishonest test n ≡ true → (s : ℕ) →
-    HonestIn n dishonest s → test s ≡ true
-unfolding everyHonest HonestIn
+    (s < n) × (inMask dishonest s ≡ false) → test s ≡ true
+unfolding everyHonest
 every-honest dishonest test zero e s (low, h) = absurd (omega arith)
 every-honest dishonest test (suc k) e s (low, h) =
     go (le-or-lt k s) (λ l. every-honest dishonest test k (q .0) s (l, h))
@@ -60,15 +61,15 @@ every-honest dishonest test (suc k) e s (low, h) =
     go (inl l) below = let z : s ≡ k = omega arith in rw z (implies-true _ _ (q .1) (rw (rw z at h)))
     go (inr l) below = below l
 
-pub is-honest : (n dishonest s : ℕ) → HonestIn n dishonest s → isHonest n dishonest s ≡ true
+pub is-honest : (weights : List ℕ) (dishonest s : ℕ) → HonestIn weights dishonest s → isHonest weights dishonest s ≡ true
 unfolding isHonest HonestIn
-is-honest n dishonest s (low, h) = rw (h, le-leb (suc s) n low)
+is-honest weights dishonest s (low, h) = rw (h, le-leb (suc s) (length weights) low)
 
-pub honest-in : (n dishonest s : ℕ) → isHonest n dishonest s ≡ true → HonestIn n dishonest s
+pub honest-in : (weights : List ℕ) (dishonest s : ℕ) → isHonest weights dishonest s ≡ true → HonestIn weights dishonest s
 unfolding isHonest HonestIn
-honest-in n dishonest s e =
-    let q = and-both (ltb s n) (not (inMask dishonest s)) e in
-    (leb-true (suc s) n (q .0), not-true (inMask dishonest s) (q .1))
+honest-in weights dishonest s e =
+    let q = and-both (ltb s (length weights)) (not (inMask dishonest s)) e in
+    (leb-true (suc s) (length weights) (q .0), not-true (inMask dishonest s) (q .1))
 
 -- ---- bytes
 pub holds-member : (x : Bytes) (l : List Bytes) → holds x l ≡ true → List·Memᴰ x l
@@ -82,20 +83,20 @@ holds-member x (y ∷ ys) e = go (same x y) refl (λ h. List·Memᴰ·tail (hold
     go false q below h = below h
 
 module _ (digest : Bytes → Bytes) where
-  module _ (n dishonest : ℕ) where
+  module _ (weights : List ℕ) (dishonest : ℕ) where
     -- ---- blocks
-    shown-among : (blocks : List Bytes) (l : List Member) → showsOnly digest n dishonest blocks l ≡ true →
-        (m : Member) (block : Bytes) → List·Memᴰ m l → HonestIn n dishonest (m .replica) → Shows digest m block →
+    shown-among : (blocks : List Bytes) (l : List Member) → showsOnly digest weights dishonest blocks l ≡ true →
+        (m : Member) (block : Bytes) → List·Memᴰ m l → HonestIn weights dishonest (m .replica) → Shows digest m block →
         List·Memᴰ block blocks
     unfolding showsOnly shows Shows isAmong
     shown-among blocks l t m block i hm (frame, j, e) =
         let q = every-in _ l t m i in
         let k = every-in (λ (f : Bytes). isAmong blocks (blockIn f)) (delivers digest m ++ writes digest m)
-        (implies-true _ _ q (is-honest n dishonest (m .replica) hm)) frame j in
+        (implies-true _ _ q (is-honest weights dishonest (m .replica) hm)) frame j in
         holds-member block blocks (rw e at k)
 
-    pub collision-sound : (blocks : List Bytes) (l : List Member) → showsOnly digest n dishonest blocks l ≡ true →
-        noCollision digest blocks ≡ true → NoCollision digest (HonestIn n dishonest) l
+    pub collision-sound : (blocks : List Bytes) (l : List Member) → showsOnly digest weights dishonest blocks l ≡ true →
+        noCollision digest blocks ≡ true → NoCollision digest (HonestIn weights dishonest) l
     unfolding NoCollision noCollision
     collision-sound blocks l t u m m′ p p′ i i′ hm hm′ w w′ e =
         let q = every-in _ blocks u p (shown-among blocks l t m p i hm w) in
@@ -104,8 +105,8 @@ module _ (digest : Bytes → Bytes) where
         same-eq p p′ (implies-true _ _ r (eq-same (digest p) (digest p′) e))
 
     -- where one block alone is shown, nothing has to be known of its digest
-    pub one-block-sound : (block : Bytes) (l : List Member) → showsOnly digest n dishonest (block ∷ []) l ≡ true →
-        NoCollision digest (HonestIn n dishonest) l
+    pub one-block-sound : (block : Bytes) (l : List Member) → showsOnly digest weights dishonest (block ∷ []) l ≡ true →
+        NoCollision digest (HonestIn weights dishonest) l
     unfolding NoCollision
     one-block-sound block l t m m′ p p′ i i′ hm hm′ w w′ e =
         let q = List·Memᴰ·eq-of-singleton (shown-among (block ∷ []) l t m p i hm w) in

@@ -18,14 +18,14 @@ module _ (digest : Bytes → Bytes) where
   unfolding Claim Agreement
   claim-is-agreement = refl
 
-  module _ (n dishonest : ℕ) (list : List Member) (part : Bytes) (met : Met digest n dishonest list part) where
+  module _ (weights : List ℕ) (dishonest : ℕ) (list : List Member) (part : Bytes) (met : Met digest weights dishonest list part) where
     -- whatever the claim concluded, it would say it of the part that both replicas read
     pub applies : (Conclusion : Bytes → Bytes → Type 0) → Claim digest Conclusion → Conclusion part part
     unfolding Claim
     applies Conclusion claim =
         let (m, here, own, reads) = met .reads-0 in
         let (m′, here′, own′, reads′) = met .reads-1 in
-        claim n dishonest list (met .few) (met .keeps) (met .unforged) (met .collisionless) m m′ part part here here′
+        claim weights dishonest list (met .few) (met .keeps) (met .unforged) (met .collisionless) m m′ part part here here′
         (rw own (met .honest-0)) (rw own′ (met .honest-1)) reads reads′
 
     -- what agreement says of it

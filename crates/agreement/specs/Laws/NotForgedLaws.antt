@@ -6,7 +6,7 @@ use mathlib.Core.Bool.{true, cond}
 use mathlib.Core.List.{List, [], _∷_, _++_, append-nil, List·Memᴰ, List·Memᴰ·head, List·Memᴰ·tail, List·Memᴰ·not-nil}
 use mathlib.Core.List.{List·Memᴰ·append-cases, List·Memᴰ·eq-of-singleton, Memᴰ·append-right}
 use mathlib.Core.Option.{Option, some, none}
-use lib.ListN.{drop}
+use lib.ListN.{length, drop}
 use lib.Seq.{append-snoc}
 use lib.Dec.{eqb}
 use Rattle.protocol.specs.Bytes.{Bytes, byteAt, holds}
@@ -42,7 +42,7 @@ same-statement s t a b e = (
       ∙ statement-back b,
 )
 
-module _ (digest : Bytes → Bytes) (n dishonest : ℕ) where
+module _ (digest : Bytes → Bytes) (weights : List ℕ) (dishonest : ℕ) where
   -- the statements of a log were written by these members
   abbrev Logged : List Member → List Bytes → Type 0
   Logged P log = (s : ℕ) (st : Statement) → List·Memᴰ (s ∷ statementBytes st) log → Wrote digest s st P
@@ -89,46 +89,46 @@ module _ (digest : Bytes → Bytes) (n dishonest : ℕ) where
       go (inr j) = wrote-more digest s st P (m ∷ []) (h s st j)
 
   backed-sound : (P : List Member) (log : List Bytes) (frame : Bytes) → Logged P log →
-      isBacked digest n dishonest log frame ≡ true →
-      (s : ℕ) (st : Statement) → HonestIn n dishonest s → statementOf digest frame s ≡ some st → Wrote digest s st P
-  unfolding isBacked signed
+      isBacked digest weights dishonest log frame ≡ true →
+      (s : ℕ) (st : Statement) → HonestIn weights dishonest s → statementOf digest frame s ≡ some st → Wrote digest s st P
+  unfolding isBacked signed HonestIn
   backed-sound P log frame h t s st hs e =
       let q = every-honest dishonest
-      (λ s. everyIn (λ statement. holds statement log) (signed digest s (statementOf digest frame s))) n t s hs in
+      (λ s. everyIn (λ statement. holds statement log) (signed digest s (statementOf digest frame s))) (length weights) t s hs in
       let r = every-in (λ (x : Bytes). holds x log) (signed digest s (some st)) (rw e at q) (s ∷ statementBytes st)
       (List·Memᴰ·head refl) in
       h s st (holds-member (s ∷ statementBytes st) log r)
 
-  delivers-backed : (log : List Bytes) (m : Member) → deliversBacked digest n dishonest log m ≡ true →
-      HonestIn n dishonest (m .replica) →
-      (frame : Bytes) → List·Memᴰ frame (delivers digest m) → isBacked digest n dishonest log frame ≡ true
+  delivers-backed : (log : List Bytes) (m : Member) → deliversBacked digest weights dishonest log m ≡ true →
+      HonestIn weights dishonest (m .replica) →
+      (frame : Bytes) → List·Memᴰ frame (delivers digest m) → isBacked digest weights dishonest log frame ≡ true
   unfolding deliversBacked
   delivers-backed log m t hm frame d =
-      every-in (isBacked digest n dishonest log) (delivers digest m)
-      (implies-true _ _ t (is-honest n dishonest (m .replica) hm)) frame d
+      every-in (isBacked digest weights dishonest log) (delivers digest m)
+      (implies-true _ _ t (is-honest weights dishonest (m .replica) hm)) frame d
 
   forged-from : (P : List Member) (log : List Bytes) (l : List Member) → Logged P log →
-      notForged digest n dishonest log l ≡ true →
+      notForged digest weights dishonest log l ≡ true →
       (before : List Member) (m : Member) (after : List Member) (frame : Bytes) (s : ℕ) (st : Statement) →
       l ≡ before ++ (m ∷ after) →
-      HonestIn n dishonest (m .replica) → HonestIn n dishonest s → List·Memᴰ frame (delivers digest m)
+      HonestIn weights dishonest (m .replica) → HonestIn weights dishonest s → List·Memᴰ frame (delivers digest m)
       → statementOf digest frame s ≡ some st → Wrote digest s st (P ++ before)
   unfolding notForged
   forged-from P log [] h t before m after frame s st e hm hs d r = absurd (split-never m before after e)
   forged-from P log (x ∷ xs) h t [] m after frame s st e hm hs d r =
-      let q = subst (λ (y : Member). deliversBacked digest n dishonest log y ≡ true) (split-head e .0)
+      let q = subst (λ (y : Member). deliversBacked digest weights dishonest log y ≡ true) (split-head e .0)
       (and-both _ _ t .0) in
       rw append-nil (backed-sound P log frame h (delivers-backed log m q hm frame d) s st hs r)
   forged-from P log (x ∷ xs) h t (y ∷ before) m after frame s st e hm hs d r =
       let rest = signedIn digest (x .replica) (writes digest x) ++ log in
-      let q = and-both (deliversBacked digest n dishonest log x) (notForged digest n dishonest rest xs) t .1 in
+      let q = and-both (deliversBacked digest weights dishonest log x) (notForged digest weights dishonest rest xs) t .1 in
       let w = forged-from (P ++ (x ∷ [])) rest xs (logged-more P log x h) q before m after frame s st
       (split-head e .1) hm hs d r in
       subst (λ (z : List Member). Wrote digest s st z)
       (append-snoc P x before ∙ ap (λ (z : Member). P ++ (z ∷ before)) (split-head e .0)) w
 
-  pub forged-sound : (l : List Member) → notForged digest n dishonest [] l ≡ true →
-      NotForged digest (HonestIn n dishonest) (HonestIn n dishonest) l
+  pub forged-sound : (l : List Member) → notForged digest weights dishonest [] l ≡ true →
+      NotForged digest (HonestIn weights dishonest) (HonestIn weights dishonest) l
   unfolding NotForged
   forged-sound l t before m after frame s st e hm hs d r =
       forged-from [] [] l (λ s st i. absurd (List·Memᴰ·not-nil i)) t before m after frame s st e hm hs d r

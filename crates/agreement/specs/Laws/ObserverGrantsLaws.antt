@@ -31,7 +31,7 @@ module _ (digest : Bytes → Bytes) (book : Bytes) where
 
   pub observer-grants : observerSound digest book ≡ true → ObserverGrants digest b
   unfolding observerSound holdsProposal
-  observer-grants e = by-rows _ e λ size replicas many edition masks status formed certified head zeros content final.
+  observer-grants e = by-rows _ e λ size replicas many edition weights masks status formed certified head zeros content final.
       record {
         few = in-range 1 16 (b .n) replicas .1;
         none-held = λ h low high holds.

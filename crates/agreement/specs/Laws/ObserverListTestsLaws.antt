@@ -15,41 +15,41 @@ use Rattle.agreement.specs.Laws.ListTestsLaws.{reads-part, some-in}
 use Rattle.agreement.specs.Laws.ListsLaws.{or-else-assoc, or-else-none, split-head, split-never}
 use Rattle.agreement.specs.ListTests.{readsPart, someIn}
 use Rattle.agreement.specs.Lists.{orElse}
-use Rattle.agreement.specs.ObserverListTests.{isNumber, observerFollows, observerKeeps, observerReadsAt}
+use Rattle.agreement.specs.ObserverListTests.{areWeights, observerFollows, observerKeeps, observerReadsAt}
 use Rattle.agreement.specs.ObserverLists.{AnyMember, ObserverFollows, ObserverKeepsOneBook, ObserverMember}
 use Rattle.agreement.specs.ObserverLists.{observerLastLeft, observerLeftBy, observes, ofObserver, ofReplica}
 use Rattle.agreement.specs.ObserverMet.{ObserverOf, ObserverReads}
 
-is-number : (n : ℕ) (o : Option ℕ) → isNumber n o ≡ true → o ≡ some n
-unfolding isNumber
-is-number n none e = absurd (false≢true e)
-is-number n (some k) e = ap some (eqb-true k n e)
+are-weights : (weights : List ℕ) (o : Option (List ℕ)) → areWeights weights o ≡ true → o ≡ some weights
+unfolding areWeights
+are-weights weights none e = absurd (false≢true e)
+are-weights weights (some opened) e = ap some (same-eq opened weights e)
 
-is-none : (o : Option ℕ) → not (isSome o) ≡ true → o ≡ none
+is-none : (o : Option (List ℕ)) → not (isSome o) ≡ true → o ≡ none
 unfolding isSome
 is-none none e = refl
 is-none (some k) e = absurd (false≢true e)
 
 module _ (digest : Bytes → Bytes) where
-  module _ (n s : ℕ) where
-    follows-sound : (m : ObserverMember) (left : Option Bytes) → observerFollows digest n m left ≡ true →
-        ObserverFollows digest n m left
+  module _ (weights : List ℕ) (s : ℕ) where
+    follows-sound : (m : ObserverMember) (left : Option Bytes) → observerFollows digest weights m left ≡ true →
+        ObserverFollows digest weights m left
     unfolding observerFollows ObserverFollows
-    follows-sound m none e = is-number n (observes digest m .opens) e
+    follows-sound m none e = are-weights weights (observes digest m .opens) e
     follows-sound m (some book) e =
         let q = and-both (same (m .book) book) (not (isSome (observes digest m .opens))) e in
         (same-eq (m .book) book (q .0), is-none (observes digest m .opens) (q .1))
 
     abbrev mine : Option Bytes → ObserverMember → Bool
-    mine left m = implies (eqb (m .observer) s) (observerFollows digest n m left)
+    mine left m = implies (eqb (m .observer) s) (observerFollows digest weights m left)
 
     abbrev later : Option Bytes → ObserverMember → List ObserverMember → Bool
-    later left m ms = observerKeeps digest n s (orElse (observerLeftBy digest s m) left) ms
+    later left m ms = observerKeeps digest weights s (orElse (observerLeftBy digest s m) left) ms
 
-    keeps-from : (left : Option Bytes) (list : List ObserverMember) → observerKeeps digest n s left list ≡ true →
+    keeps-from : (left : Option Bytes) (list : List ObserverMember) → observerKeeps digest weights s left list ≡ true →
         (before : List ObserverMember) (m : ObserverMember) (after : List ObserverMember) →
         list ≡ before ++ (m ∷ after) → m .observer ≡ s →
-        ObserverFollows digest n m (orElse (observerLastLeft digest s before) left)
+        ObserverFollows digest weights m (orElse (observerLastLeft digest s before) left)
     unfolding observerKeeps observerLastLeft orElse
     keeps-from left [] test before m after e own = absurd (split-never m before after e)
     keeps-from left (x ∷ xs) test [] m after e own =
@@ -59,16 +59,16 @@ module _ (digest : Bytes → Bytes) where
     keeps-from left (x ∷ xs) test (y ∷ before) m after e own =
         let q = and-both (mine left x) (later left x xs) test .1 in
         let r = keeps-from (orElse (observerLeftBy digest s x) left) xs q before m after (split-head e .1) own in
-        subst (λ (o : Option Bytes). ObserverFollows digest n m o)
+        subst (λ (o : Option Bytes). ObserverFollows digest weights m o)
         (ap (λ (z : ObserverMember). orElse (observerLastLeft digest s before)
         (orElse (observerLeftBy digest s z) left)) (split-head e .0)
         ∙ sym (or-else-assoc (observerLastLeft digest s before) (observerLeftBy digest s y) left)) r
 
-    pub observer-keeps : (list : List ObserverMember) → observerKeeps digest n s none list ≡ true →
-        ObserverKeepsOneBook digest n list s
+    pub observer-keeps : (list : List ObserverMember) → observerKeeps digest weights s none list ≡ true →
+        ObserverKeepsOneBook digest weights list s
     unfolding ObserverKeepsOneBook
     observer-keeps list test before m after e own =
-        subst (λ (o : Option Bytes). ObserverFollows digest n m o)
+        subst (λ (o : Option Bytes). ObserverFollows digest weights m o)
         (sym (or-else-none (observerLastLeft digest s before)))
         (keeps-from none list test before m after e own)
 

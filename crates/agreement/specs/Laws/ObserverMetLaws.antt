@@ -16,8 +16,8 @@ module _ (digest : Bytes → Bytes) where
   unfolding ObservedClaim ObservedAgreement
   claim-is-observed = refl
 
-  module _ (n dishonest : ℕ) (observers : ℕ → Type 0) (list : List AnyMember) (part : Bytes)
-      (met : ObservedMet digest n dishonest observers list part) where
+  module _ (weights : List ℕ) (dishonest : ℕ) (observers : ℕ → Type 0) (list : List AnyMember) (part : Bytes)
+      (met : ObservedMet digest weights dishonest observers list part) where
     -- whatever the claim concluded, it would say it of the part that both observers read, and of that which a replica
     -- and an observer read
     pub observed-applies : (Conclusion : Bytes → Bytes → Type 0) → ObservedClaim digest Conclusion →
@@ -27,7 +27,7 @@ module _ (digest : Bytes → Bytes) where
         let (m, here, own, reads) = met .reads-0 in
         let (m′, here′, own′, reads′) = met .reads-1 in
         let (x, among, own″, reads″) = met .reads-replica in
-        let granted = claim n dishonest observers list (met .few) (met .keeps) (met .observers-keep) (met .unforged)
+        let granted = claim weights dishonest observers list (met .few) (met .keeps) (met .observers-keep) (met .unforged)
         (met .collisionless) in (
           granted (ofObserver m) (ofObserver m′) part part here here′ (rw own (met .meant-0)) (rw own′ (met .meant-1))
               reads reads′,

@@ -1,7 +1,7 @@
 -- The book of an observer along a list of calls: all that it shows is backed by what was stated and seen.
-use Prim.Native.Nat.{ℕ, zero, suc, _-_, _<_}
+use Prim.Native.Nat.{ℕ, zero, suc, _-_, _≤_, _<_}
 use native.Mathlib.Omega.{arith}
-use mathlib.Core.Path.{_≡_, refl, sym, subst}
+use mathlib.Core.Path.{_≡_, refl, sym, subst, _∙_}
 use mathlib.Core.Bool.{true}
 use mathlib.Core.List.{List, [], _∷_, _++_, map, List·Memᴰ, Memᴰ·append-left}
 use mathlib.Core.Option.{Option, some, none}
@@ -16,12 +16,15 @@ use Rattle.protocol.specs.Laws.ObserverStateLaws.{as-shaped, decode-encode-obse
 use Rattle.protocol.specs.Laws.TestsLaws.{cond-elim}
 use Rattle.protocol.specs.Move.{Step, outputApplies, outputStep, idleStep, firstStep}
 use Rattle.protocol.specs.Observer.{Observer, ObservedHeight, asReplica, asReplicaHeight, decodeObserver}
+use Rattle.protocol.specs.Open.{Opening, openedWeights}
+use Rattle.protocol.specs.Sound.{view}
+use Rattle.protocol.specs.Laws.NewStateLaws.{opened-front, opened-weighed}
 use Rattle.protocol.specs.Observer.{encodeObserver, observed, observedHeight, observerState}
 use Rattle.protocol.specs.ObserverCalls.{newObservedHeight, newObserver, observerStep}
 use Rattle.protocol.specs.ObserverSound.{observerSound}
 use Rattle.protocol.specs.ReadFrame.{ReadFrame}
 use Rattle.protocol.specs.SoundState.{Shaped, ShapedHeight}
-use Rattle.protocol.specs.State.{Height, State, at, last, noHeight, withHead, withHeight, isNotarized}
+use Rattle.protocol.specs.State.{maximumReplicas, Height, State, at, last, noHeight, withHead, withHeight, isNotarized}
 use Rattle.agreement.specs.Laws.BackingLaws.{Backed, ShownOf, shown-later}
 use Rattle.agreement.specs.Laws.KeepingLaws.{keep-good}
 use Rattle.agreement.specs.Laws.ListsLaws.{wrote-more}
@@ -57,7 +60,7 @@ no-voters [] i = refl
 no-voters (x ∷ heights) zero = refl
 no-voters (x ∷ heights) (suc i) = no-voters heights i
 
-module _ (digest : Bytes → Bytes) (n : ℕ) (books names observers : ℕ → Type 0) where
+module _ (digest : Bytes → Bytes) (weights : List ℕ) (books names observers : ℕ → Type 0) where
   -- what the named have stated, and the blocks that were delivered to the meant members or written by them
   abbrev pub AnyStates : List AnyMember → ℕ → Statement → Type 0
   AnyStates P t st = names t → Wrote digest t st (replicaCalls P)
@@ -70,7 +73,7 @@ module _ (digest : Bytes → Bytes) (n : ℕ) (books names observers : ℕ → T
 
   -- all that a state shows is backed
   pub record Followed (P : List AnyMember) (b : State) : Type 0 where
-    pub same-n : b .n ≡ n
+    pub same-weights : view b .weights ≡ weights
     pub shaped : Shaped b
     pub shown : (i : ℕ) → ShownBy P (suc i) (getD (b .heights) i noHeight)
 
@@ -89,7 +92,7 @@ module _ (digest : Bytes → Bytes) (n : ℕ) (books names observers : ℕ → T
 
     pub followed-more : (b : State) → Followed P b → Followed (P ++ Q) b
     followed-more b f = record {
-      same-n = f .same-n;
+      same-weights = f .same-weights;
       shaped = f .shaped;
       shown = λ i. shown-later digest states-more seen-more (f .shown i);
     }
@@ -106,10 +109,14 @@ module _ (digest : Bytes → Bytes) (n : ℕ) (books names observers : ℕ → T
         (sym (decode-encode-observer o (as-shaped o (f .shaped)))) f
 
     pub observed-followed : (b : State) → Followed P b → Followed P (observerState (encodeObserver (observed b)))
-    unfolding observed asReplica
+    unfolding observed asReplica view
     observed-followed b f = encoded (observed b) (record {
-      same-n = f .same-n;
-      shaped = record { pool-size = length-zeros 512; heights = observed-shaped (f .shaped .heights) };
+      same-weights = f .same-weights;
+      shaped = record {
+        weighed = f .shaped .weighed;
+        pool-size = length-zeros 512;
+        heights = observed-shaped (f .shaped .heights);
+      };
       shown = λ i. observed-shown digest (b .heights) i (suc i) (f .shown i);
     })
 
@@ -129,21 +136,22 @@ module _ (digest : Bytes → Bytes) (n : ℕ) (books names observers : ℕ → T
         backed-nothing digest h (asReplicaHeight newObservedHeight) refl refl refl refl refl .shown
     new-shown (suc count) (suc i) h = new-shown count i h
 
-    pub new-followed : (count : ℕ) → Followed P (observerState (encodeObserver (newObserver n count)))
-    unfolding newObserver asReplica
-    new-followed count = encoded (newObserver n count) (record {
-      same-n = refl;
-      shaped = record { pool-size = length-zeros 512; heights = new-shaped count };
+    pub new-followed : (way : Opening) (n count : ℕ) → n ≤ maximumReplicas → openedWeights n way ≡ weights →
+        Followed P (observerState (encodeObserver (newObserver way n count)))
+    unfolding newObserver asReplica view
+    new-followed way n count few same = encoded (newObserver way n count) (record {
+      same-weights = opened-front way n few ∙ same;
+      shaped = record { weighed = opened-weighed way n; pool-size = length-zeros 512; heights = new-shaped count };
       shown = λ i. new-shown count i (suc i);
     })
 
     -- ---- a move changes the head alone
     pub move-followed : (b : State) → Followed P b → Followed P (observerStep digest b .after)
-    unfolding observerStep firstStep outputStep idleStep withHead
+    unfolding observerStep firstStep outputStep idleStep withHead view
     move-followed b f = cond-elim (λ (st : Step). Followed P (st .after)) (outputApplies digest b)
         (λ _. record {
-          same-n = f .same-n;
-          shaped = record { pool-size = f .shaped .pool-size; heights = f .shaped .heights };
+          same-weights = f .same-weights;
+          shaped = record { weighed = f .shaped .weighed; pool-size = f .shaped .pool-size; heights = f .shaped .heights };
           shown = f .shown;
         }) (λ _. f)
 
@@ -190,10 +198,11 @@ module _ (digest : Bytes → Bytes) (n : ℕ) (books names observers : ℕ → T
         (observer-grants digest book is-sound .few))
 
     pub changed-followed : Followed P (withHeight was place new)
-    unfolding withHeight
+    unfolding withHeight view
     changed-followed = record {
-      same-n = f .same-n;
+      same-weights = f .same-weights;
       shaped = record {
+        weighed = f .shaped .weighed;
         pool-size = f .shaped .pool-size;
         heights = every-set (place - 1) new (new-good .1) (f .shaped .heights);
       };

@@ -11,6 +11,7 @@ use lib.ListN.{getD, length, set}
 use lib.Dec.{ltb}
 use borrow.Author.Tests.{lt-ltb}
 use Rattle.protocol.specs.Bytes.{Bytes, byteAt}
+use Rattle.protocol.specs.Open.{unweighed}
 use Rattle.protocol.specs.Call.{bookAfter}
 use Rattle.protocol.specs.Laws.RowLaws.{by-rows}
 use Rattle.protocol.specs.ObserverCall.{observation, observerOpening}
@@ -24,14 +25,14 @@ use Rattle.agreement.specs.ListTests.{someIn}
 use Rattle.agreement.specs.Laws.ObserverListTestsLaws.{observer-keeps, observer-reads-found}
 use Rattle.agreement.specs.Lists.{HonestIn, Member, orElse}
 use Rattle.agreement.specs.Met.{Met}
-use Rattle.agreement.specs.ObserverListTests.{echoes, isNumber, observerFollows, observerKeeps, observerReadsAt}
+use Rattle.agreement.specs.ObserverListTests.{echoes, areWeights, observerFollows, observerKeeps, observerReadsAt}
 use Rattle.agreement.specs.ObserverLists.{AnyMember, ObserverKeepsOneBook, observerCalls, observerLeftBy}
 use Rattle.agreement.specs.ObserverLists.{replicaCalls}
 use Rattle.agreement.specs.ObserverMet.{ObservedMet, ObserverOf}
 use Rattle.agreement.specs.ObserverWitness.{AnyTurn, ObserverWitness, anyTurns, anythingObserved, buildAny}
 use Rattle.agreement.specs.ObserverWitness.{byObserver, byReplica, list, lonely, lonelyBlock, lonelyEntry}
 use Rattle.agreement.specs.ObserverWitness.{meantObservers, observerHearings, observerHears, observerOpenings}
-use Rattle.agreement.specs.Turns.{Turn, anything, build, dishonest, entry, everyTurn, nextBlock, openings}
+use Rattle.agreement.specs.Turns.{fourEqual, Turn, anything, build, dishonest, entry, everyTurn, nextBlock, openings}
 use Rattle.agreement.specs.Turns.{readings}
 
 -- ---- the replicas' calls
@@ -59,23 +60,23 @@ module _ (digest : Bytes → Bytes) where
   -- ---- the tests
   tests : List AnyMember → Bool
   tests l = allOf
-      (observerKeeps digest 4 0 none (observerCalls l) ∷
-      observerKeeps digest 4 1 none (observerCalls l) ∷
-      echoes digest 4 dishonest (λ s. ltb s 2) [] l ∷
+      (observerKeeps digest fourEqual 0 none (observerCalls l) ∷
+      observerKeeps digest fourEqual 1 none (observerCalls l) ∷
+      echoes digest fourEqual dishonest (λ s. ltb s 2) [] l ∷
       someIn (observerReadsAt digest entry 0) l ∷
       someIn (observerReadsAt digest entry 1) l ∷
       someIn (observerReadsAt digest lonelyEntry 2) l ∷ [])
 
   tested : tests (list digest) ≡ true
   unfolding everyTurn tests list split timeouts agreed anyTurns buildAny anythingObserved observerOpenings
-      observerHearings observerHears lonely lonelyBlock lonelyEntry observerKeeps observerFollows isNumber
+      observerHearings observerHears lonely lonelyBlock lonelyEntry observerKeeps observerFollows areWeights
       observerReadsAt echoes observerCalls observerLeftBy orElse oneDigest otherDigest
   tested = refl
 
   record Passes (l : List AnyMember) : Type 0 where
-    keeps-0 : observerKeeps digest 4 0 none (observerCalls l) ≡ true
-    keeps-1 : observerKeeps digest 4 1 none (observerCalls l) ≡ true
-    echo : echoes digest 4 dishonest (λ s. ltb s 2) [] l ≡ true
+    keeps-0 : observerKeeps digest fourEqual 0 none (observerCalls l) ≡ true
+    keeps-1 : observerKeeps digest fourEqual 1 none (observerCalls l) ≡ true
+    echo : echoes digest fourEqual dishonest (λ s. ltb s 2) [] l ≡ true
     reads-0 : someIn (observerReadsAt digest entry 0) l ≡ true
     reads-1 : someIn (observerReadsAt digest entry 1) l ≡ true
     lonely-reads : someIn (observerReadsAt digest lonelyEntry 2) l ≡ true
@@ -95,20 +96,20 @@ module _ (digest : Bytes → Bytes) where
   passes = passes-rows (list digest) tested
 
   -- ---- from tests to facts
-  keeps-each : (s : ℕ) → s < 2 → ObserverKeepsOneBook digest 4 (observerCalls (list digest)) s
-  keeps-each zero low = observer-keeps digest 4 0 (observerCalls (list digest)) (passes .keeps-0)
-  keeps-each (suc zero) low = observer-keeps digest 4 1 (observerCalls (list digest)) (passes .keeps-1)
+  keeps-each : (s : ℕ) → s < 2 → ObserverKeepsOneBook digest fourEqual (observerCalls (list digest)) s
+  keeps-each zero low = observer-keeps digest fourEqual 0 (observerCalls (list digest)) (passes .keeps-0)
+  keeps-each (suc zero) low = observer-keeps digest fourEqual 1 (observerCalls (list digest)) (passes .keeps-1)
   keeps-each (suc (suc s)) low = absurd (omega arith)
 
-  echo : Echoes digest (HonestIn 4 dishonest) meantObservers (list digest)
+  echo : Echoes digest (HonestIn fourEqual dishonest) meantObservers (list digest)
   unfolding Echoes
   echo before m after frame here low delivered =
-      echoes-sound digest 4 dishonest (λ s. ltb s 2) (list digest) (passes .echo) before m after frame here
+      echoes-sound digest fourEqual dishonest (λ s. ltb s 2) (list digest) (passes .echo) before m after frame here
       (lt-ltb (m .observer) 2 low) delivered
 
   -- the first two calls
-  openings-found : ObserverOf (list digest) 0 (λ m. m .call ≡ observerOpening 4 2) ×
-      ObserverOf (list digest) 1 (λ m. m .call ≡ observerOpening 4 3)
+  openings-found : ObserverOf (list digest) 0 (λ m. m .call ≡ observerOpening unweighed 4 2) ×
+      ObserverOf (list digest) 1 (λ m. m .call ≡ observerOpening unweighed 4 3)
   unfolding list anyTurns observerOpenings buildAny
   openings-found =
       ((_, List·Memᴰ·head refl, refl, refl), (_, List·Memᴰ·tail (List·Memᴰ·head refl), refl, refl))
@@ -119,17 +120,17 @@ module _ (digest : Bytes → Bytes) where
   two-entries e = let z : _≡_ {A = ℕ} 4 3 = ap (λ (bytes : Bytes). byteAt bytes 0) e in omega arith
 
   module _ (size : length (digest nextBlock) ≡ 32) where
-    replicas-met : Met digest 4 dishonest (replicaCalls (list digest)) entry
+    replicas-met : Met digest fourEqual dishonest (replicaCalls (list digest)) entry
     replicas-met = rw same-calls (any-digest digest size .met)
 
-    met : ObservedMet digest 4 dishonest meantObservers (list digest) entry
+    met : ObservedMet digest fourEqual dishonest meantObservers (list digest) entry
     met = record {
       few = replicas-met .few;
       keeps = replicas-met .keeps;
       observers-keep = keeps-each;
-      unforged = echo-forged digest (HonestIn 4 dishonest) meantObservers (list digest) echo (HonestIn 4 dishonest)
+      unforged = echo-forged digest (HonestIn fourEqual dishonest) meantObservers (list digest) echo (HonestIn fourEqual dishonest)
           (replicas-met .unforged);
-      collisionless = echo-collide digest (HonestIn 4 dishonest) meantObservers (list digest) echo
+      collisionless = echo-collide digest (HonestIn fourEqual dishonest) meantObservers (list digest) echo
           (replicas-met .collisionless);
       honest-0 = replicas-met .honest-0;
       meant-0 = omega arith;
@@ -151,4 +152,4 @@ module _ (digest : Bytes → Bytes) where
 
     -- agreement, applied to the list
     pub observed-on : OneBegins entry entry × OneBegins entry entry
-    observed-on = observed-applied digest 4 dishonest meantObservers (list digest) entry met
+    observed-on = observed-applied digest fourEqual dishonest meantObservers (list digest) entry met

@@ -9,39 +9,39 @@ use lib.ListN.{length, getD, set}
 use lib.Seq.{getD-set-same, getD-set-other, lt-length-set}
 use lib.Dec.{eqb}
 use borrow.Author.Tests.{eqb-true, eqb-false, eq-eqb, not-true}
-use Rattle.protocol.specs.Bytes.{Bytes}
+use Rattle.protocol.specs.Bytes.{Bytes, same}
 use Rattle.protocol.specs.Move.{isSome}
 use Rattle.protocol.specs.Call.{Call, Opened, bookAfter}
 use Rattle.protocol.specs.Tests.{implies}
-use Rattle.protocol.specs.Laws.RowLaws.{implies-true}
+use Rattle.protocol.specs.Laws.RowLaws.{implies-true, same-eq}
 use Rattle.protocol.specs.Laws.TestsLaws.{and-both}
 use Rattle.agreement.specs.ListTests.{opensInTurn, opensOnce, opensFor}
 use Rattle.agreement.specs.Lists.{Continues, Follows, KeepsOneBook, Member, Opens, does, lastLeft, leftBy, orElse}
 use Rattle.agreement.specs.Laws.ListsLaws.{or-else-assoc, or-else-none, split-head, split-never}
 use Rattle.agreement.specs.Turns.{Turn, build}
 
-opens-for : (n s : ℕ) (o : Option Opened) → opensFor n s o ≡ true → o ≡ some (record { n = n; own = s })
+opens-for : (weights : List ℕ) (s : ℕ) (o : Option Opened) → opensFor weights s o ≡ true → o ≡ some (record { weights = weights; own = s })
 unfolding opensFor
-opens-for n s none e = absurd (false≢true e)
-opens-for n s (some opened) e =
-    let q = and-both (eqb (opened .n) n) (eqb (opened .own) s) e in
-    rw (← eqb-true (opened .n) n (q .0), ← eqb-true (opened .own) s (q .1)) refl
+opens-for weights s none e = absurd (false≢true e)
+opens-for weights s (some opened) e =
+    let q = and-both (same (opened .weights) weights) (eqb (opened .own) s) e in
+    rw (← same-eq (opened .weights) weights (q .0), ← eqb-true (opened .own) s (q .1)) refl
 
 opens-nothing : (o : Option Opened) → isSome o ≡ false → o ≡ none
 unfolding isSome
 opens-nothing none e = refl
 opens-nothing (some opened) e = absurd (false≢true (sym e))
 
-module _ (digest : Bytes → Bytes) (n s : ℕ) where
+module _ (digest : Bytes → Bytes) (weights : List ℕ) (s : ℕ) where
   -- the book that replica `s` left before the turns that start with these books, if it had a turn
   abbrev left : Bool → List Bytes → Option Bytes
   left opened books = cond opened (some (getD books s [])) none
 
   follows-sound : (m : Member) (opened : Bool) (books : List Bytes) → m .book ≡ getD books s [] →
-      opensInTurn digest n s opened m ≡ true → Follows digest n s m (left opened books)
+      opensInTurn digest weights s opened m ≡ true → Follows digest weights s m (left opened books)
   unfolding opensInTurn Follows Opens Continues
   follows-sound m true books got e = (got, opens-nothing (does digest m .opens) (not-true _ e))
-  follows-sound m false books got e = opens-for n s (does digest m .opens) e
+  follows-sound m false books got e = opens-for weights s (does digest m .opens) e
 
   module _ (books : List Bytes) (inside : s < length books) (t : ℕ) (call : Call) where
     abbrev first : Member
@@ -51,7 +51,7 @@ module _ (digest : Bytes → Bytes) (n s : ℕ) where
     booksAfter = set books t (bookAfter digest (getD books t []) call)
 
     abbrev opens : Bool → Bool
-    opens opened = implies (eqb t s) (opensInTurn digest n s opened first)
+    opens opened = implies (eqb t s) (opensInTurn digest weights s opened first)
 
     left-next : (opened : Bool) →
         left (eqb t s || opened) booksAfter ≡ orElse (leftBy digest s first) (left opened books)
@@ -68,31 +68,31 @@ module _ (digest : Bytes → Bytes) (n s : ℕ) where
         go false e false = refl
 
   keeps-from : (books : List Bytes) → s < length books → (opened : Bool) (turns : List Turn) →
-      opensOnce digest n s opened (build digest books turns) ≡ true → (before : List Member) (m : Member)
+      opensOnce digest weights s opened (build digest books turns) ≡ true → (before : List Member) (m : Member)
       (after : List Member) →
       build digest books turns ≡ before ++ (m ∷ after) → m .replica ≡ s →
-      Follows digest n s m (orElse (lastLeft digest s before) (left opened books))
+      Follows digest weights s m (orElse (lastLeft digest s before) (left opened books))
   unfolding opensOnce lastLeft orElse build
   keeps-from books inside opened [] test before m after e own = absurd (split-never m before after e)
   keeps-from books inside opened ((t, call) ∷ turns) test [] m after e own =
       let x≡m = split-head e .0 in
       let t≡s : t ≡ s = ap (λ (y : Member). y .replica) x≡m ∙ own in
       let q = and-both (opens books inside t call opened) _ test .0 in
-      subst (λ (y : Member). Follows digest n s y (left opened books)) x≡m
+      subst (λ (y : Member). Follows digest weights s y (left opened books)) x≡m
       (follows-sound (first books inside t call) opened books (ap (λ (j : ℕ). getD books j []) t≡s)
       (implies-true _ _ q (eq-eqb t s t≡s)))
   keeps-from books inside opened ((t, call) ∷ turns) test (y ∷ before) m after e own =
       let x≡y = split-head e .0 in
       let r = keeps-from (booksAfter books inside t call) (lt-length-set books t _ inside) (eqb t s || opened) turns
       (and-both (opens books inside t call opened) _ test .1) before m after (split-head e .1) own in
-      subst (λ (o : Option Bytes). Follows digest n s m o)
+      subst (λ (o : Option Bytes). Follows digest weights s m o)
       (ap (orElse (lastLeft digest s before)) (left-next books inside t call opened
       ∙ ap (λ (z : Member). orElse (leftBy digest s z) (left opened books)) x≡y)
       ∙ sym (or-else-assoc (lastLeft digest s before) (leftBy digest s y) (left opened books))) r
 
   pub keeps-one-book : (books : List Bytes) → s < length books → (turns : List Turn) →
-      opensOnce digest n s false (build digest books turns) ≡ true → KeepsOneBook digest n (build digest books turns) s
+      opensOnce digest weights s false (build digest books turns) ≡ true → KeepsOneBook digest weights (build digest books turns) s
   unfolding KeepsOneBook
   keeps-one-book books inside turns test before m after e own =
-      subst (λ (o : Option Bytes). Follows digest n s m o) (sym (or-else-none (lastLeft digest s before)))
+      subst (λ (o : Option Bytes). Follows digest weights s m o) (sym (or-else-none (lastLeft digest s before)))
       (keeps-from books inside false turns test before m after e own)

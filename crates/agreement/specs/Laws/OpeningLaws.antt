@@ -1,5 +1,5 @@
 -- A new book, and a book with one more pending entry.
-use Prim.Native.Nat.{ℕ, zero, suc}
+use Prim.Native.Nat.{ℕ, zero, suc, _≤_}
 use native.Mathlib.Omega.{arith}
 use mathlib.Core.Path.{_≡_, refl, sym, ap, _∙_}
 use mathlib.Core.Bool.{true, true≢false, false≢true}
@@ -13,11 +13,12 @@ use Rattle.protocol.specs.Laws.EveryLaws.{every-append}
 use Rattle.protocol.specs.Frame.{finalize}
 use Rattle.protocol.specs.Mask.{inMask}
 use Rattle.protocol.specs.Laws.MaskLaws.{inMask-zero}
-use Rattle.protocol.specs.Laws.NewStateLaws.{new-shaped}
-use Rattle.protocol.specs.Open.{newHeight, newState, openCall, openRows}
-use Rattle.protocol.specs.Laws.TestedLaws.{submit-tested}
-use Rattle.protocol.specs.Sound.{log}
+use Rattle.protocol.specs.Laws.NewStateLaws.{new-shaped, opened-front}
+use Rattle.protocol.specs.Open.{Opening, openedWeights, newHeight, newState, openCall, openRows}
+use Rattle.protocol.specs.Laws.TestedLaws.{submit-tested, open-ranges, open-tested}
+use Rattle.protocol.specs.Sound.{log, view}
 use Rattle.protocol.specs.State.{Height, State, decode, encode, flag, holdsProposal, isNotarized, noHeight, pending}
+use Rattle.protocol.specs.State.{maximumReplicas}
 use Rattle.protocol.specs.Laws.PiecesLaws.{pieces-sized}
 use Rattle.protocol.specs.Laws.PoolLaws.{every-without, pending-pool-size}
 use Rattle.protocol.specs.Submit.{stillPending, submitCall, submitRows, withPending}
@@ -29,14 +30,14 @@ use Rattle.agreement.specs.Laws.CallingLaws.{backed-more, nothing-new, q
 use Rattle.agreement.specs.Laws.RunLaws.{Good, States, encoded}
 
 -- ---- one more pending entry
-module _ (digest : Bytes → Bytes) (n : ℕ) (books names : ℕ → Type 0) (P : List Member) (m : Member) where
-  pub submit-good : (s : ℕ) (book entry : Bytes) → Good digest n books names P s (decode book) → writes digest m ≡ [] →
-      Good digest n books names (P ++ (m ∷ [])) s (decode (submitCall digest book entry .book))
+module _ (digest : Bytes → Bytes) (weights : List ℕ) (books names : ℕ → Type 0) (P : List Member) (m : Member) where
+  pub submit-good : (s : ℕ) (book entry : Bytes) → Good digest weights books names P s (decode book) → writes digest m ≡ [] →
+      Good digest weights books names (P ++ (m ∷ [])) s (decode (submitCall digest book entry .book))
   unfolding submitCall stillPending withPending flag pending
   submit-good s book entry g silent =
-      unless-refused-good digest n books names P m s (firstRefusal (submitRows digest book entry)) book _
-      (unchanged digest n books names P m s b g (λ q. silent))
-      (λ r. encoded digest n books names (P ++ (m ∷ [])) s _ (added r))
+      unless-refused-good digest weights books names P m s (firstRefusal (submitRows digest book entry)) book _
+      (unchanged digest weights books names P m s b g (λ q. silent))
+      (λ r. encoded digest weights books names (P ++ (m ∷ [])) s _ (added r))
     where
       b : State
       b = decode book
@@ -48,7 +49,7 @@ module _ (digest : Bytes → Bytes) (n : ℕ) (books names : ℕ → Type 0) (P 
       es = still ++ (entry ∷ [])
 
       added : firstRefusal (submitRows digest book entry) ≡ none →
-          Good digest n books names (P ++ (m ∷ [])) s (withPending b es)
+          Good digest weights books names (P ++ (m ∷ [])) s (withPending b es)
       added r =
           let tested = submit-tested digest book entry r in
           let w = grants digest book (tested .was-sound) .pends in
@@ -57,13 +58,14 @@ module _ (digest : Bytes → Bytes) (n : ℕ) (books names : ℕ → Type 0) (P 
           (every-without (log b) (pieces-sized 16 (b .pendingCount) (b .pool) (omega arith)))
           (one (tested .size) no-more) in
           let room = tested .room in
-          quiet digest n books names P m s b (withPending b es) g (λ q. silent) refl refl (λ q. q) (λ q. q)
+          quiet digest weights books names P m s b (withPending b es) g (λ q. silent) (unfold view in refl) refl (λ q. q) (λ q. q)
           (record {
+            weighed = g .kept .shaped .weighed;
             pool-size = pending-pool-size es full (rw length-append (omega arith));
             heights =
                 g .kept .shaped .heights;
           })
-          (λ i. backed-more digest n books names P m (g .kept .backed i))
+          (λ i. backed-more digest weights books names P m (g .kept .backed i))
 
 -- ---- a new book
 pub nobody : {A : Type 0} (mask t : ℕ) → mask ≡ 0 → inMask mask t ≡ true → A
@@ -94,27 +96,30 @@ module _ (digest : Bytes → Bytes) {W : ℕ → Statement → Type 0} {S : Byte
   backed-leaders (l ∷ leaders) zero h = backed-nothing h (newHeight l) refl refl refl refl refl
   backed-leaders (l ∷ leaders) (suc i) h = backed-leaders leaders i h
 
-open-unrefused : (book : Bytes) (n own heights : ℕ) (leaders : Bytes) →
-    isAccepted (openCall book n own heights leaders .answer) ≡ true →
-    openCall book n own heights leaders .book ≡ encode (newState n own leaders)
+open-unrefused : (way : Opening) (book : Bytes) (n own heights : ℕ) (leaders : Bytes) →
+    isAccepted (openCall way book n own heights leaders .answer) ≡ true →
+    (n ≤ maximumReplicas) × (openCall way book n own heights leaders .book ≡ encode (newState way n own leaders))
 unfolding openCall unlessRefused isAccepted
-open-unrefused book n own heights leaders = go (firstRefusal (openRows book n own heights leaders))
+open-unrefused way book n own heights leaders = go (firstRefusal (openRows way book n own heights leaders)) refl
   where
     opened : Outcome Done
-    opened = record { answer = accepted done; book = encode (newState n own leaders) }
+    opened = record { answer = accepted done; book = encode (newState way n own leaders) }
 
-    go : (o : Option ℕ) → isAccepted (unlessRefused o book opened .answer) ≡ true →
-        unlessRefused o book opened .book ≡ encode (newState n own leaders)
-    go none e = refl
-    go (some number) e = absurd (false≢true e)
+    go : (o : Option ℕ) → firstRefusal (openRows way book n own heights leaders) ≡ o →
+        isAccepted (unlessRefused o book opened .answer) ≡ true →
+        (n ≤ maximumReplicas) × (unlessRefused o book opened .book ≡ encode (newState way n own leaders))
+    go none passed e =
+        (open-ranges way n own heights leaders (open-tested way n own heights leaders book passed .in-ranges) .n-high, refl)
+    go (some number) passed e = absurd (false≢true e)
 
-module _ (digest : Bytes → Bytes) (n : ℕ) (books names : ℕ → Type 0) (P : List Member) (m : Member) where
-  new-book-good : (s : ℕ) (leaders : Bytes) → names s → ((st : Statement) → Wrote digest s st P → ⊥) →
-      writes digest m ≡ [] → Good digest n books names (P ++ (m ∷ [])) s (newState n s leaders)
-  unfolding newState
-  new-book-good s leaders hs none-before silent = record {
-    same-n = refl;
-    kept = record { shaped = new-shaped n s leaders; backed = λ i. backed-leaders digest leaders i (suc i) };
+module _ (digest : Bytes → Bytes) (weights : List ℕ) (books names : ℕ → Type 0) (P : List Member) (m : Member) where
+  new-book-good : (s : ℕ) (way : Opening) (n : ℕ) (leaders : Bytes) → n ≤ maximumReplicas →
+      openedWeights n way ≡ weights → names s → ((st : Statement) → Wrote digest s st P → ⊥) →
+      writes digest m ≡ [] → Good digest weights books names (P ++ (m ∷ [])) s (newState way n s leaders)
+  unfolding newState view
+  new-book-good s way n leaders few same hs none-before silent = record {
+    same-weights = opened-front way n few ∙ same;
+    kept = record { shaped = new-shaped way n s leaders; backed = λ i. backed-leaders digest leaders i (suc i) };
     consistent = record {
       dummy-old = λ h w. absurd (never _ w);
       finalize-old = λ h w. absurd (never _ w);
@@ -124,14 +129,16 @@ module _ (digest : Bytes → Bytes) (n : ℕ) (books names : ℕ → Type 0) (P 
     };
   }
     where
-      never : (st : Statement) → States digest n books names (P ++ (m ∷ [])) s st → ⊥
-      never st w = none-before st (nothing-new digest n books names P m s (λ e. silent) st (w hs))
+      never : (st : Statement) → States digest weights books names (P ++ (m ∷ [])) s st → ⊥
+      never st w = none-before st (nothing-new digest weights books names P m s (λ e. silent) st (w hs))
 
-  pub opening-good : (s : ℕ) (book : Bytes) (heights : ℕ) (leaders : Bytes) → names s →
+  pub opening-good : (s : ℕ) (way : Opening) (n : ℕ) (book : Bytes) (heights : ℕ) (leaders : Bytes) →
+      openedWeights n way ≡ weights → names s →
       ((st : Statement) → Wrote digest s st P → ⊥) → writes digest m ≡ [] →
-      isAccepted (openCall book n s heights leaders .answer) ≡ true → Good digest n books names (P ++ (m ∷ [])) s
-      (decode (openCall book n s heights leaders .book))
-  opening-good s book heights leaders hs none-before silent e =
-      rw (open-unrefused book n s heights leaders e)
-      (encoded digest n books names (P ++ (m ∷ [])) s (newState n s leaders)
-      (new-book-good s leaders hs none-before silent))
+      isAccepted (openCall way book n s heights leaders .answer) ≡ true → Good digest weights books names (P ++ (m ∷ [])) s
+      (decode (openCall way book n s heights leaders .book))
+  opening-good s way n book heights leaders same hs none-before silent e =
+      let (few, made) = open-unrefused way book n s heights leaders e in
+      rw made
+      (encoded digest weights books names (P ++ (m ∷ [])) s (newState way n s leaders)
+      (new-book-good s way n leaders few same hs none-before silent))

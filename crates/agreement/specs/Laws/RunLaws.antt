@@ -19,6 +19,7 @@ use Rattle.protocol.specs.Frame.{frameHeight}
 use Rattle.protocol.specs.Laws.DeliverLaws.{Accepts, deliver-cases}
 use Rattle.protocol.specs.State.{Height, State, at, decode, encode, flag, last, noHeight, withHead, withHeight}
 use Rattle.protocol.specs.State.{withTimerFired}
+use Rattle.protocol.specs.Sound.{view}
 use Rattle.protocol.specs.Laws.StateLaws.{decode-encode}
 use Rattle.protocol.specs.Laws.FlagLaws.{flag-set, flag-kept}
 use Rattle.agreement.specs.Laws.BackingLaws.{Backed}
@@ -39,7 +40,7 @@ each-set Q heights k new inside is each i = go (eqb i k) refl
 
 module _ (digest : Bytes → Bytes) where
   -- `books`: whose books are meant; `names`: whose statements. An honest replica is among both
-  module _ (n : ℕ) (books names : ℕ → Type 0) where
+  module _ (weights : List ℕ) (books names : ℕ → Type 0) where
     -- what the named have stated, and the blocks that were delivered to those books or written from them
     abbrev pub States : List Member → ℕ → Statement → Type 0
     States P t st = names t → Wrote digest t st P
@@ -57,7 +58,7 @@ module _ (digest : Bytes → Bytes) where
 
     -- and what the replica itself has stated is consistent
     pub record Good (P : List Member) (s : ℕ) (b : State) : Type 0 where
-      pub same-n : b .n ≡ n
+      pub same-weights : view b .weights ≡ weights
       pub kept : Kept P b
       pub consistent : Consistent (States P s) (b .current) (flag 1 b) (flag 4 b)
 
@@ -73,14 +74,14 @@ module _ (digest : Bytes → Bytes) where
       fired-kept : Kept P b → Kept P (withTimerFired b)
       unfolding withTimerFired withHead
       fired-kept k = record {
-        shaped = record { pool-size = k .shaped .pool-size; heights = k .shaped .heights };
+        shaped = record { weighed = k .shaped .weighed; pool-size = k .shaped .pool-size; heights = k .shaped .heights };
         backed = k .backed;
       }
 
       pub fired-good : (s : ℕ) → flag 1 b ≡ false → Good P s b → Good P s (withTimerFired b)
-      unfolding withTimerFired withHead
+      unfolding withTimerFired withHead view
       fired-good s clear g = record {
-        same-n = g .same-n;
+        same-weights = g .same-weights;
         kept = fired-kept (g .kept);
         consistent = stated-nothing (g .consistent) (λ st w. inl w)
             (λ _. flag-set b (b .current) (b .finalized) 0 clear)
@@ -126,6 +127,7 @@ module _ (digest : Bytes → Bytes) where
         unfolding withHeight
         changed = record {
           shaped = record {
+            weighed = k .shaped .weighed;
             pool-size = k .shaped .pool-size;
             heights = every-set (place - 1) new (new-good .1) (k .shaped .heights);
           };
@@ -134,8 +136,8 @@ module _ (digest : Bytes → Bytes) where
         }
 
         changed-good : (s : ℕ) → Good P s was → Good P s (withHeight was place new)
-        unfolding withHeight flag
-        changed-good s g = record { same-n = g .same-n; kept = changed; consistent = g .consistent }
+        unfolding withHeight flag view
+        changed-good s g = record { same-weights = g .same-weights; kept = changed; consistent = g .consistent }
 
       -- a frame that is refused leaves the book; of one that is not, what it states was stated
       abbrev pub Delivered : Bytes → Bytes → Type 0

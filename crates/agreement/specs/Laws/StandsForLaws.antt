@@ -24,7 +24,7 @@ never e = let z : _≡_ {A = ℕ} 0 1 = cc in absurd (omega arith)
 -- the only call with a packet
 pub packet-call : (call : Call) (packet : Bytes) → packetIn call ≡ some packet → call ≡ packetDelivery packet
 unfolding packetIn
-packet-call (opening n own heights leaders) packet e = never e
+packet-call (opening way n own heights leaders) packet e = never e
 packet-call (delivery frame) packet e = never e
 packet-call (packetDelivery other) packet e = cc
 packet-call (moving reply) packet e = never e

@@ -10,36 +10,37 @@ use lib.ListN.{length}
 use lib.Dec.{ltb}
 use borrow.Author.Tests.{leb-true}
 use Rattle.protocol.specs.Bytes.{Bytes}
-use Rattle.protocol.specs.Mask.{inMask, ones}
+use Rattle.protocol.specs.Mask.{inMask, weigh, total}
 use Rattle.protocol.specs.Tests.{implies}
 use Rattle.agreement.specs.ListTests.{everyHonest, isHonest, opensOnce}
 use Rattle.agreement.specs.Laws.ListTestsLaws.{every-honest, honest-in}
 use Rattle.agreement.specs.Laws.OneBookLaws.{keeps-one-book}
 use Rattle.agreement.specs.Lists.{FewDishonest, HonestIn, KeepsOneBook}
-use Rattle.agreement.specs.Turns.{Turn, anything, build, dishonest, entry}
+use Rattle.agreement.specs.Turns.{fourEqual, Turn, anything, build, dishonest, entry}
 
-pub few : FewDishonest 4 dishonest
-unfolding ones
+pub few : FewDishonest fourEqual dishonest
+unfolding weigh total inMask
 few = omega arith
 
-pub honest-0 : HonestIn 4 dishonest 0
+pub honest-0 : HonestIn fourEqual dishonest 0
 unfolding isHonest inMask
-honest-0 = honest-in 4 dishonest 0 refl
+honest-0 = honest-in fourEqual dishonest 0 refl
 
-pub honest-1 : HonestIn 4 dishonest 1
+pub honest-1 : HonestIn fourEqual dishonest 1
 unfolding isHonest inMask
-honest-1 = honest-in 4 dishonest 1 refl
+honest-1 = honest-in fourEqual dishonest 1 refl
 
-has-book : (s : ℕ) → HonestIn 4 dishonest s → s < length anything
-unfolding everyHonest implies inMask anything
+has-book : (s : ℕ) → HonestIn fourEqual dishonest s → s < length anything
+unfolding everyHonest implies inMask anything HonestIn
 has-book s h =
     leb-true (suc s) (length anything) (every-honest dishonest (λ (t : ℕ). ltb t (length anything)) 4 refl s h)
 
 pub keeps : (digest : Bytes → Bytes) (turns : List Turn) →
-    everyHonest dishonest (λ s. opensOnce digest 4 s false (build digest anything turns)) 4 ≡ true →
-    (s : ℕ) → HonestIn 4 dishonest s → KeepsOneBook digest 4 (build digest anything turns) s
-keeps digest turns test s h = keeps-one-book digest 4 s anything (has-book s h) turns
-    (every-honest dishonest (λ (t : ℕ). opensOnce digest 4 t false (build digest anything turns)) 4 test s h)
+    everyHonest dishonest (λ s. opensOnce digest fourEqual s false (build digest anything turns)) 4 ≡ true →
+    (s : ℕ) → HonestIn fourEqual dishonest s → KeepsOneBook digest fourEqual (build digest anything turns) s
+unfolding HonestIn
+keeps digest turns test s h = keeps-one-book digest fourEqual s anything (has-book s h) turns
+    (every-honest dishonest (λ (t : ℕ). opensOnce digest fourEqual t false (build digest anything turns)) 4 test s h)
 
 pub entry-not-empty : entry ≢ []
 unfolding entry

@@ -18,13 +18,13 @@ use Rattle.agreement.specs.Laws.ListsLaws.{last-left-snoc}
 use Rattle.agreement.specs.Laws.StandsForLaws.{deliveryTo, is-delivery, never, packet-opens, stands-for}
 use Rattle.agreement.specs.Laws.UnpackedLaws.{Standing, standing}
 
-module _ (digest : Bytes → Bytes) (n s : ℕ) where
+module _ (digest : Bytes → Bytes) (weights : List ℕ) (s : ℕ) where
   abbrev left : List Member → Option Bytes
   left P = lastLeft digest s P
 
   -- a member of replica `s` goes on with the book that was last left
   abbrev Keeping : List Member → Member → Type 0
-  Keeping P m = m .replica ≡ s → Follows digest n s m (left P)
+  Keeping P m = m .replica ≡ s → Follows digest weights s m (left P)
 
   abbrev KeepsAlong : (P list : List Member) → Type 0
   KeepsAlong P list = Along Keeping P list
@@ -70,7 +70,7 @@ module _ (digest : Bytes → Bytes) (n s : ℕ) where
     itself : Replaces P P′ m (m ∷ [])
     unfolding Along
     itself = (
-      (λ own. subst (λ (o : Option Bytes). Follows digest n s m o) same (follows own), tt),
+      (λ own. subst (λ (o : Option Bytes). Follows digest weights s m o) same (follows own), tt),
       last-left-snoc digest s P m ∙ ap (orElse (leftBy digest s m)) same ∙ sym (last-left-snoc digest s P′ m),
     )
 
@@ -78,7 +78,7 @@ module _ (digest : Bytes → Bytes) (n s : ℕ) where
     goes-on : (packet : Bytes) → m .call ≡ packetDelivery packet → m .replica ≡ s → left P ≡ some (m .book)
     goes-on packet is own = go (left P) (follows own)
       where
-        go : (o : Option Bytes) → Follows digest n s m o → o ≡ some (m .book)
+        go : (o : Option Bytes) → Follows digest weights s m o → o ≡ some (m .book)
         go none opens = unfold Follows Opens in never (sym (packet-opens digest m packet is) ∙ opens)
         go (some book) continues = unfold Follows Continues in ap some (sym (continues .0))
 
@@ -117,8 +117,8 @@ module _ (digest : Bytes → Bytes) (n s : ℕ) where
             ∙ ap left (append-assoc P′ (Standing digest m) (unpacked digest ms)),
       )
 
-  pub keeping-stays : (list : List Member) → KeepsOneBook digest n list s →
-      KeepsOneBook digest n (unpacked digest list) s × (left (unpacked digest list) ≡ left list)
+  pub keeping-stays : (list : List Member) → KeepsOneBook digest weights list s →
+      KeepsOneBook digest weights (unpacked digest list) s × (left (unpacked digest list) ≡ left list)
   unfolding KeepsOneBook
   keeping-stays list keeps =
       let (unpacked-along, end) = unpacked-keeps [] [] list refl (along Keeping [] list keeps) in

@@ -28,17 +28,17 @@ use Rattle.agreement.specs.ObserverLists.{AnyMember, AnyShows, Meant, No
 use Rattle.agreement.specs.ObserverLists.{ofReplica, replicaCalls}
 
 -- ---- `books` and `observers` are those whose members are meant, `names` those whose statements are
-module _ (digest : Bytes → Bytes) (n : ℕ) (books names observers : ℕ → Type 0) (l : List AnyMember) where
+module _ (digest : Bytes → Bytes) (weights : List ℕ) (books names observers : ℕ → Type 0) (l : List AnyMember) where
   -- all that a view shows was stated and seen in the list
   abbrev pub ShownIn : View → Type 0
   ShownIn v = (i : ℕ) →
-      Shown digest (AnyStates digest n books names observers l) (AnySeen digest n books names observers l) (suc i)
+      Shown digest (AnyStates digest weights books names observers l) (AnySeen digest weights books names observers l) (suc i)
       (v .dummyMask (suc i)) (v .finalizeMask (suc i)) (v .certificateMask (suc i)) (v .hasBlock (suc i))
       (v .block (suc i))
 
   -- so does the view of a state that is backed by some first of the replicas' calls
   pub kept-shown : (before after : List Member) → replicaCalls l ≡ before ++ after → (b : State) →
-      Kept digest n books names before b → ShownIn (view b)
+      Kept digest weights books names before b → ShownIn (view b)
   unfolding view AnyShows anyShows Shows Meant
   kept-shown before after whole b kept i =
       rw (at-suc b i)
@@ -47,16 +47,16 @@ module _ (digest : Bytes → Bytes) (n : ℕ) (books names observers : ℕ → T
       (kept .backed i .shown))
 
 -- ---- however many are dishonest
-module _ (digest : Bytes → Bytes) (n : ℕ) (books names observers : ℕ → Type 0) (l : List AnyMember)
+module _ (digest : Bytes → Bytes) (weights : List ℕ) (books names observers : ℕ → Type 0) (l : List AnyMember)
     (unforged : NoneForged digest (Meant books observers) names l)
-    (t : ℕ) (keeps : KeepsOneBook digest n (replicaCalls l) t) (mine : books t) (named : names t) where
+    (t : ℕ) (keeps : KeepsOneBook digest weights (replicaCalls l) t) (mine : books t) (named : names t) where
   abbrev calls : List Member
   calls = replicaCalls l
 
   -- ---- what one replica states in the whole list
-  whole-list : GoodBytes digest n books names calls t (lastLeft digest t calls)
+  whole-list : GoodBytes digest weights books names calls t (lastLeft digest t calls)
   whole-list =
-      good-after digest n books names calls (forged-to-replicas digest books names observers l unforged) calls []
+      good-after digest weights books names calls (forged-to-replicas digest books names observers l unforged) calls []
       (sym (append-nil calls)) t keeps mine named
 
   -- it votes for one block at a height
@@ -64,7 +64,7 @@ module _ (digest : Bytes → Bytes) (n : ℕ) (books names observers : ℕ → T
       Wrote digest t (votesBlock h d′) calls → d ≡ d′
   one-vote h d d′ w w′ = go (lastLeft digest t calls) whole-list
     where
-      go : (o : Option Bytes) → GoodBytes digest n books names calls t o → d ≡ d′
+      go : (o : Option Bytes) → GoodBytes digest weights books names calls t o → d ≡ d′
       go none g = absurd (g _ w)
       go (some book) g = g .consistent .block-one h d d′ (λ q. w) (λ q. w′)
 
@@ -72,13 +72,13 @@ module _ (digest : Bytes → Bytes) (n : ℕ) (books names observers : ℕ → T
   pub never-both : (h : ℕ) → Wrote digest t (votesDummy h) calls → Wrote digest t (finalizes h) calls → ⊥
   never-both h w w′ = go (lastLeft digest t calls) whole-list
     where
-      go : (o : Option Bytes) → GoodBytes digest n books names calls t o → ⊥
+      go : (o : Option Bytes) → GoodBytes digest weights books names calls t o → ⊥
       go none g = g _ w
       go (some book) g = g .consistent .not-both h (λ q. w) (λ q. w′)
 
   -- ---- what two views show of it
-  module _ (v v′ : View) (x : ShownIn digest n books names observers l v)
-      (x′ : ShownIn digest n books names observers l v′) (i : ℕ) where
+  module _ (v v′ : View) (x : ShownIn digest weights books names observers l v)
+      (x′ : ShownIn digest weights books names observers l v′) (i : ℕ) where
     pub one-digest : inMask (v .certificateMask (suc i)) t ≡ true → inMask (v′ .certificateMask (suc i)) t ≡ true →
         digest (v .block (suc i)) ≡ digest (v′ .block (suc i))
     one-digest e e′ = one-vote (suc i) _ _ (x i .certifiers t e named) (x′ i .certifiers t e′ named)
@@ -89,18 +89,18 @@ module _ (digest : Bytes → Bytes) (n : ℕ) (books names observers : ℕ → T
         never-both (suc i) (x′ i .dummies t e′ named) (x i .finalizations t e named)
 
 -- ---- where fewer than a third are dishonest, and no two blocks collide
-module _ (digest : Bytes → Bytes) (n dishonest : ℕ) (observers : ℕ → Type 0) (l : List AnyMember)
-    (third : FewDishonest n dishonest)
-    (keeps : (s : ℕ) → HonestIn n dishonest s → KeepsOneBook digest n (replicaCalls l) s)
-    (unforged : NoneForged digest (Meant (HonestIn n dishonest) observers) (HonestIn n dishonest) l)
-    (collisionless : NoneCollide digest (Meant (HonestIn n dishonest) observers) l) where
+module _ (digest : Bytes → Bytes) (weights : List ℕ) (dishonest : ℕ) (observers : ℕ → Type 0) (l : List AnyMember)
+    (third : FewDishonest weights dishonest)
+    (keeps : (s : ℕ) → HonestIn weights dishonest s → KeepsOneBook digest weights (replicaCalls l) s)
+    (unforged : NoneForged digest (Meant (HonestIn weights dishonest) observers) (HonestIn weights dishonest) l)
+    (collisionless : NoneCollide digest (Meant (HonestIn weights dishonest) observers) l) where
   abbrev Honest : ℕ → Type 0
-  Honest s = HonestIn n dishonest s
+  Honest s = HonestIn weights dishonest s
 
   -- the view of a sound book of n replicas, a replica's or an observer's, and its finalized height
   pub record HadView (v : View) (g : ℕ) : Type 0 where
-    pub shown : ShownIn digest n Honest Honest observers l v
-    pub same-weights : v .weights ≡ replicate n 1
+    pub shown : ShownIn digest weights Honest Honest observers l v
+    pub same-weights : v .weights ≡ weights
     pub certificates : (i : ℕ) → v .hasBlock (suc i) ≡ true → quorum v (v .certificateMask (suc i)) ≡ true
     pub finalizes : (g ≡ 0) ⊎ (isFinalized digest v g ≡ true)
 
@@ -114,11 +114,11 @@ module _ (digest : Bytes → Bytes) (n dishonest : ℕ) (observers : ℕ → Typ
     shared m m′ e e′ =
         let (t, low, inA, inB, notD) = quorums-meet v v′ m m′ dishonest (x′ .same-weights ∙ sym (x .same-weights)) e e′
         few in
-        let all : length (v .weights) ≡ n = ap length (x .same-weights) ∙ length-replicate {A = ℕ} n 1 in
+        let all : length (v .weights) ≡ length weights = ap length (x .same-weights) in
         (t, (omega arith, notD), inA, inB)
       where
         few : 3 * maskWeight v dishonest < totalWeight v
-        few = rw (x .same-weights, sym (ones-weigh dishonest n), total-equal n) third
+        few = rw (x .same-weights) third
 
     pub equal-blocks : (i : ℕ) → v .hasBlock (suc i) ≡ true → v′ .hasBlock (suc i) ≡ true →
         v .block (suc i) ≡ v′ .block (suc i)
@@ -129,14 +129,14 @@ module _ (digest : Bytes → Bytes) (n dishonest : ℕ) (observers : ℕ → Typ
         let (m, here, meant, shows) = x .shown i .notarized-seen e in
         let (m′, here′, meant′, shows′) = x′ .shown i .notarized-seen e′ in
         collisionless m m′ (v .block (suc i)) (v′ .block (suc i)) here here′ meant meant′ shows shows′
-        (one-digest digest n Honest Honest observers l unforged t (keeps t ht) ht ht v v′ (x .shown) (x′ .shown) i inA
+        (one-digest digest weights Honest Honest observers l unforged t (keeps t ht) ht ht v v′ (x .shown) (x′ .shown) i inA
         inB)
 
     pub final-not-dummy : (i : ℕ) → quorum v (v .finalizeMask (suc i)) ≡ true →
         quorum v′ (v′ .dummyMask (suc i)) ≡ true → ⊥
     final-not-dummy i e e′ =
         let (t, ht, inA, inB) = shared (v .finalizeMask (suc i)) (v′ .dummyMask (suc i)) e e′ in
-        not-finalize-and-dummy digest n Honest Honest observers l unforged t (keeps t ht) ht ht v v′ (x .shown)
+        not-finalize-and-dummy digest weights Honest Honest observers l unforged t (keeps t ht) ht ht v v′ (x .shown)
         (x′ .shown) i inA inB
 
     -- ---- chains of finalized heights

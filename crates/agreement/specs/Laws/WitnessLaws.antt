@@ -19,7 +19,7 @@ use Rattle.agreement.specs.Laws.NotForgedLaws.{forged-sound}
 use Rattle.agreement.specs.Lists.{Member, proposes, statementOf, votesBlock, when}
 use Rattle.agreement.specs.Met.{Met, firesTimer, isPacket}
 use Rattle.agreement.specs.Laws.MetLaws.{OneBegins, applied}
-use Rattle.agreement.specs.Turns.{dishonest, entry, everyTurn, nextBlock}
+use Rattle.agreement.specs.Turns.{fourEqual, dishonest, entry, everyTurn, nextBlock}
 use Rattle.agreement.specs.Laws.TurnsLaws.{entry-not-empty, few, honest-0, honest-1, keeps}
 use Rattle.agreement.specs.Witness.{Witness, agreed, list, oneBlock, otherBlock, sample, split, timeouts, votes}
 
@@ -29,9 +29,9 @@ blocks = oneBlock ∷ otherBlock ∷ nextBlock ∷ []
 -- all that is to be computed, in one test
 tests : List Member → Bool
 tests l = allOf
-    (everyHonest dishonest (λ s. opensOnce sample 4 s false l) 4 ∷
-    notForged sample 4 dishonest [] l ∷
-    showsOnly sample 4 dishonest blocks l ∷
+    (everyHonest dishonest (λ s. opensOnce sample fourEqual s false l) 4 ∷
+    notForged sample fourEqual dishonest [] l ∷
+    showsOnly sample fourEqual dishonest blocks l ∷
     noCollision sample blocks ∷
     someIn (readsAt sample entry 0) l ∷
     someIn (readsAt sample entry 1) l ∷
@@ -44,9 +44,9 @@ tests l = allOf
 
 -- what they say of a list, by name
 record Passes (l : List Member) : Type 0 where
-  opens : everyHonest dishonest (λ s. opensOnce sample 4 s false l) 4 ≡ true
-  unforged : notForged sample 4 dishonest [] l ≡ true
-  shows : showsOnly sample 4 dishonest blocks l ≡ true
+  opens : everyHonest dishonest (λ s. opensOnce sample fourEqual s false l) 4 ≡ true
+  unforged : notForged sample fourEqual dishonest [] l ≡ true
+  shows : showsOnly sample fourEqual dishonest blocks l ≡ true
   no-collision : noCollision sample blocks ≡ true
   reads-0 : someIn (readsAt sample entry 0) l ≡ true
   reads-1 : someIn (readsAt sample entry 1) l ≡ true
@@ -97,13 +97,13 @@ two-blocks : oneBlock ≢ otherBlock
 unfolding oneBlock otherBlock newBlock le16 zeros join
 two-blocks e = let z : _≡_ {A = ℕ} 1 2 = ap (λ (b : Bytes). byteAt b 48) e in omega arith
 
-met : Met sample 4 dishonest list entry
+met : Met sample fourEqual dishonest list entry
 unfolding list
 met = record {
   few = few;
   keeps = keeps sample _ (passes .opens);
-  unforged = forged-sound sample 4 dishonest list (passes .unforged);
-  collisionless = collision-sound sample 4 dishonest blocks list (passes .shows) (passes .no-collision);
+  unforged = forged-sound sample fourEqual dishonest list (passes .unforged);
+  collisionless = collision-sound sample fourEqual dishonest blocks list (passes .shows) (passes .no-collision);
   honest-0 = honest-0;
   honest-1 = honest-1;
   reads-0 = reads-found sample list entry 0 (passes .reads-0);
@@ -126,4 +126,4 @@ witness = record {
 
 -- agreement, applied to the list
 pub agreed-on : OneBegins entry entry
-agreed-on = applied sample 4 dishonest list entry met
+agreed-on = applied sample fourEqual dishonest list entry met

@@ -12,7 +12,7 @@ use Rattle.protocol.specs.State.{State, decode, encode, last, bookSize}
 use Rattle.protocol.specs.Sound.{sound}
 use Rattle.protocol.specs.Frame.{isCertificate}
 use Rattle.protocol.specs.Answer.{Outcome, Done, done, refused, accepted, unlessRefused}
-use Rattle.protocol.specs.Open.{newState, openInRange, openRows, openCall}
+use Rattle.protocol.specs.Open.{Opening, newState, openInRange, openRows, openCall}
 use Rattle.protocol.specs.Signal.{signalRows, signalCall}
 use Rattle.protocol.specs.Fetch.{FetchOutcome, hasCertificate, unlessFetchRefused, fetchRows, fetchCall}
 use Rattle.protocol.specs.Certificates.{certificateFrame}
@@ -26,18 +26,18 @@ abbrev pub doing : State → Outcome Done
 doing s = record { answer = accepted done; book = encode s }
 
 -- ---- Open
-module _ (book : Bytes) (n own heights : ℕ) (leaders : Bytes) where
-  pub open-unfit : openInRange n own heights leaders ≡ false → openCall book n own heights leaders ≡ refusal book 2
+module _ (way : Opening) (book : Bytes) (n own heights : ℕ) (leaders : Bytes) where
+  pub open-unfit : openInRange way n own heights leaders ≡ false → openCall way book n own heights leaders ≡ refusal book 2
   unfolding openCall openRows firstRefusal unlessRefused
   open-unfit e = rw e
 
-  pub open-short : openInRange n own heights leaders ≡ true → eqb (length book) (bookSize heights) ≡ false →
-      openCall book n own heights leaders ≡ refusal book 1
+  pub open-short : openInRange way n own heights leaders ≡ true → eqb (length book) (bookSize heights) ≡ false →
+      openCall way book n own heights leaders ≡ refusal book 1
   unfolding openCall openRows firstRefusal unlessRefused
   open-short e f = rw (e, f)
 
-  pub open-done : openInRange n own heights leaders ≡ true → eqb (length book) (bookSize heights) ≡ true →
-      openCall book n own heights leaders ≡ doing (newState n own leaders)
+  pub open-done : openInRange way n own heights leaders ≡ true → eqb (length book) (bookSize heights) ≡ true →
+      openCall way book n own heights leaders ≡ doing (newState way n own leaders)
   unfolding openCall openRows firstRefusal unlessRefused
   open-done e f = rw (e, f)
 

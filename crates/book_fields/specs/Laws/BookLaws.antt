@@ -7,24 +7,25 @@ use mathlib.Core.List.{List}
 use lib.ListN.{length, length-set}
 use Rattle.protocol.specs.SoundState.{ShapedHeight, Shaped, SoundState}
 use Rattle.protocol.specs.Every.{Every}
-use Rattle.protocol.specs.Bytes.{Bytes, AreBytes, Sized as SizedBytes}
+use Rattle.protocol.specs.Bytes.{Bytes, isZero, AreBytes, Sized as SizedBytes}
 use Rattle.protocol.specs.Block.{maximumHeights}
 use Rattle.protocol.specs.State.{State, Height, last, decode, encode, withHeight, withPool, bookHeights}
-use Rattle.protocol.specs.State.{maximumReplicas, maximumPending}
-use Rattle.protocol.specs.Sound.{sound}
+use Rattle.protocol.specs.State.{maximumReplicas, maximumPending, headUnused}
+use Rattle.protocol.specs.Sound.{sound, view}
+use Rattle.protocol.specs.Laws.HeadLaws.{head-weighs, head-weight-each}
 use Rattle.protocol.specs.Laws.StateLaws.{decode-encode}
 use Rattle.protocol.specs.Laws.EveryLaws.{every-set}
 use Rattle.protocol.specs.Laws.CodecLaws.{last-decode, decode-shaped}
-use Rattle.protocol.specs.Laws.PlaceLaws.{length-encode, count-encode}
+use Rattle.protocol.specs.Laws.PlaceLaws.{length-encode, count-encode, clean-encode}
 use Rattle.protocol.specs.Laws.PoolLaws.{moved, moved-last, moved-shaped}
-use Rattle.protocol.specs.Laws.SoundLaws.{finalized-in, exact, sound-decode, encode-decode}
+use Rattle.protocol.specs.Laws.SoundLaws.{finalized-in, exact, sound-decode, sound-clean, encode-decode}
 use Rattle.protocol.specs.Laws.FieldLaws.{read-n, read-own, read-flags, read-current, read-finalized}
 use Rattle.protocol.specs.Laws.FieldLaws.{read-pending-count}
 use Rattle.book_fields.specs.Book.{Readable, Ready, SoundBook}
 
 pub readable : (book : Bytes) → length book ≡ 576 + 880 * bookHeights book → decode book .n ≤ maximumReplicas →
-    bookHeights book ≤ maximumHeights → Readable book
-readable book size replicas heights = record {
+    bookHeights book ≤ maximumHeights → isZero (headUnused book) ≡ true → Readable book
+readable book size replicas heights unused = record {
   sized = record {
     size = size;
     count = last-decode book;
@@ -37,6 +38,8 @@ readable book size replicas heights = record {
   };
   replicas = rw (read-n book) replicas;
   heights = heights;
+  weighs = unfold view decode in head-weighs book (omega arith) unused (rw (read-n book) replicas);
+  weight-each = unfold view decode in head-weight-each book (rw (read-n book) replicas);
 }
 
 -- the number of replicas, as the state has it
@@ -52,7 +55,8 @@ sound-book digest book small e =
     record {
       is-sound = e;
       ready = record {
-        readable = readable book (exact digest book e) (state .n-high) (rw count at (state .last-high));
+        readable = readable book (exact digest book e) (state .n-high) (rw count at (state .last-high))
+            (sound-clean digest book e .head-zeros);
         whole = encode-decode digest book e small;
       };
       state = state;
@@ -65,7 +69,7 @@ ready-shaped s shaped replicas few =
     let back : decode (encode s) ≡ s = decode-encode s shaped in
     record {
       readable = readable (encode s) (rw (count-encode s) (length-encode s shaped)) (rw back replicas)
-          (rw (count-encode s) few);
+          (rw (count-encode s) few) (clean-encode s shaped .head-zeros);
       whole = ap encode back;
     }
 
@@ -92,7 +96,7 @@ unfolding withHeight
 ready-height book r h x fits =
     let shaped = ready-state book r in
     ready-after book r (withHeight (decode book) h x)
-    (record { pool-size = shaped .pool-size; heights = every-set (h - 1) x fits (shaped .heights) })
+    (record { weighed = shaped .weighed; pool-size = shaped .pool-size; heights = every-set (h - 1) x fits (shaped .heights) })
     refl
     (last-with-height (decode book) h x)
 

@@ -1,23 +1,27 @@
 -- Which books of observers stand on which rung: those of the right length, and the sound ones.
 use Prim.Native.Nat.{ℕ, _+_, _*_, _≤_}
+use native.Mathlib.Omega.{arith}
 use mathlib.Core.Path.{_≡_}
 use mathlib.Core.Bool.{true}
 use lib.ListN.{length}
-use Rattle.protocol.specs.Bytes.{Bytes, AreBytes}
+use Rattle.protocol.specs.Bytes.{Bytes, isZero, AreBytes}
 use Rattle.protocol.specs.Block.{maximumHeights}
-use Rattle.protocol.specs.State.{bookHeights, maximumReplicas}
+use Rattle.protocol.specs.State.{bookHeights, headUnused, maximumReplicas}
+use Rattle.protocol.specs.Sound.{view}
+use Rattle.protocol.specs.Laws.HeadLaws.{head-weighs, head-weight-each}
 use Rattle.protocol.specs.Observer.{asReplica, decodeObserver, observerState}
 use Rattle.protocol.specs.ObserverSound.{observerSound}
 use Rattle.protocol.specs.SoundObserver.{SoundObserver}
 use Rattle.protocol.specs.Laws.ObserverCodecLaws.{count-observed, last-observed}
 use Rattle.protocol.specs.Laws.ObserverFieldLaws.{read-observer-n, read-observer-finalized}
-use Rattle.protocol.specs.Laws.ObserverSoundLaws.{exact-observer, sound-observer, encode-decode-observer}
+use Rattle.protocol.specs.Laws.ObserverSoundLaws.{exact-observer, sound-observer, sound-clean-observer, encode-decode-observer}
 use Rattle.protocol.specs.Laws.ObserverSoundLaws.{observer-finalized-in}
 use Rattle.book_fields.specs.Book.{ObserverReadable, SoundObserverBook}
 
 pub observer-readable : (book : Bytes) → length book ≡ 64 + 184 * bookHeights book →
-    observerState book .n ≤ maximumReplicas → bookHeights book ≤ maximumHeights → ObserverReadable book
-observer-readable book size replicas heights = record {
+    observerState book .n ≤ maximumReplicas → bookHeights book ≤ maximumHeights →
+    isZero (headUnused book) ≡ true → ObserverReadable book
+observer-readable book size replicas heights unused = record {
   sized = record {
     size = size;
     count = last-observed book;
@@ -26,6 +30,9 @@ observer-readable book size replicas heights = record {
   };
   replicas = rw (read-observer-n book) replicas;
   heights = heights;
+  weighs = unfold view asReplica decodeObserver in
+      head-weighs book (omega arith) unused (rw (read-observer-n book) replicas);
+  weight-each = unfold view asReplica decodeObserver in head-weight-each book (rw (read-observer-n book) replicas);
 }
 
 -- a sound book, as every call is granted
@@ -39,7 +46,7 @@ sound-observer-book digest book small e =
       is-sound = e;
       ready = record {
         readable = observer-readable book (exact-observer digest book e) (state .n-high)
-            (rw count at (state .last-high));
+            (rw count at (state .last-high)) (sound-clean-observer digest book e .head-zeros);
         whole = encode-decode-observer digest book e small;
       };
       state = state;

@@ -13,9 +13,9 @@ use Rattle.protocol.specs.Tests.{firstRefusal}
 use Rattle.protocol.specs.Laws.BytesLaws.{put-all, zeros-add}
 use Rattle.protocol.specs.Answer.{done, accepted, unlessRefused}
 use Rattle.protocol.specs.State.{State, decode, encode, headBytes, contentBytes, bodyBytes, withHead, withTimerFired}
-use Rattle.protocol.specs.State.{pending, withPool}
+use Rattle.protocol.specs.State.{pending, withPool, weightBytes, padded}
 use Rattle.protocol.specs.Sound.{sound, log}
-use Rattle.protocol.specs.Open.{newHeight, newState, openRows, openCall}
+use Rattle.protocol.specs.Open.{Opening, openedEdition, openedWeights, newHeight, newState, openRows, openCall}
 use Rattle.protocol.specs.Move.{step, moved, moveRows, moveCall, unlessMoveRefused}
 use Rattle.protocol.specs.Signal.{signalRows, signalCall}
 use Rattle.protocol.specs.Submit.{withPending, stillPending, submitRows, submitCall}
@@ -60,25 +60,35 @@ new-bodies (leader ∷ leaders) =
     rw (zeros-add 176 512, zeros-add 176 688) in
     rw (first, new-bodies leaders, ← more) (zeros-add 864 (864 * length leaders))
 
-new-book : (n own : ℕ) (leaders : Bytes) → encode (newState n own leaders) ≡ openedBook n own (length leaders) leaders
+new-book : (way : Opening) (n own : ℕ) (leaders : Bytes) →
+    encode (newState way n own leaders) ≡ openedBook way n own (length leaders) leaders
 unfolding encode headBytes newState openedBook
-new-book n own leaders =
-    rw (new-content leaders, new-bodies leaders, length-map leaders newHeight, ← zeros-add 56 512)
-    (simp append-assoc)
+new-book way n own leaders =
+    let weights = weightBytes (openedEdition way) (padded (openedWeights n way)) in
+    let contents = join (map (λ (leader : ℕ). leader ∷ zeros 15) leaders) ++ zeros (864 * length leaders) in
+    rw (
+      new-content leaders,
+      new-bodies leaders,
+      length-map leaders newHeight,
+      ← zeros-add 24 512,
+      append-assoc weights (zeros 24) (zeros 512 ++ contents),
+      append-assoc weights (zeros 24 ++ zeros 512) contents,
+      append-assoc (zeros 24) (zeros 512) contents,
+    )
 
-pub open-bytes : (book : Bytes) (n own heights : ℕ) (leaders : Bytes) →
-    openCall book n own heights leaders .answer ≡ accepted done →
-    openCall book n own heights leaders .book ≡ openedBook n own heights leaders
+pub open-bytes : (way : Opening) (book : Bytes) (n own heights : ℕ) (leaders : Bytes) →
+    openCall way book n own heights leaders .answer ≡ accepted done →
+    openCall way book n own heights leaders .book ≡ openedBook way n own heights leaders
 unfolding openCall
-open-bytes book n own heights leaders =
-    done-call (λ (b : Bytes). b ≡ openedBook n own heights leaders)
-    (firstRefusal (openRows book n own heights leaders)) book (encode (newState n own leaders)) made
+open-bytes way book n own heights leaders =
+    done-call (λ (b : Bytes). b ≡ openedBook way n own heights leaders)
+    (firstRefusal (openRows way book n own heights leaders)) book (encode (newState way n own leaders)) made
   where
-    made : firstRefusal (openRows book n own heights leaders) ≡ none →
-        encode (newState n own leaders) ≡ openedBook n own heights leaders
+    made : firstRefusal (openRows way book n own heights leaders) ≡ none →
+        encode (newState way n own leaders) ≡ openedBook way n own heights leaders
     made passes =
-        let ranges = open-ranges n own heights leaders (open-tested n own heights leaders book passes .in-ranges) in
-        new-book n own leaders ∙ ap (λ (k : ℕ). openedBook n own k leaders) (ranges .listed)
+        let ranges = open-ranges way n own heights leaders (open-tested way n own heights leaders book passes .in-ranges) in
+        new-book way n own leaders ∙ ap (λ (k : ℕ). openedBook way n own k leaders) (ranges .listed)
 
 -- ---- calls on a sound book, whose numbers are bytes
 module _ (digest : Bytes → Bytes) (book : Bytes) (small : AreBytes book) where

@@ -36,7 +36,7 @@ use Rattle.call_laws.specs.Laws.WrittenReadLaws.{finalize-certificate}
 use Rattle.call_laws.specs.WrittenRead.{MoveWritten, FetchWritten}
 
 pub same-setting : (s : State) → SameSetting s s
-same-setting s = record { same-n = refl; same-last = refl; same-leaders = λ h low high. refl }
+same-setting s = record { same-n = refl; same-weights = refl; same-last = refl; same-leaders = λ h low high. refl }
 
 module _ (digest : Bytes → Bytes) (s : State) where
   -- ---- the frames of a step, by its name

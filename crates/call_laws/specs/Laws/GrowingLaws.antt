@@ -23,14 +23,14 @@ module _ (digest : Bytes → Bytes) where
       Grows (view (decode book)) (view (decode (deliverCall digest book frame .book)))
   deliver-grows book frame was =
       deliver-cases digest book frame (λ (o : Outcome Delivery). Grows (view s) (view (decode (o .book))))
-      (λ _ _. same-grows s s refl refl) (λ _ _ _. same-grows s s refl refl)
+      (λ _ _. same) (λ _ _ _. same)
       (λ y accepts _ e.
       rw (decode-encode (withHeight s (frameHeight frame) y)
       (keep-sound digest s state frame (accepts .read) y e .shaped))
       (keep-grows digest s state frame (accepts .read) y e))
       (λ _ _ clear.
       rw (decode-encode (withTimerFired s) (timer-sound digest s state clear .shaped))
-      (unfold withTimerFired withHead in same-grows s (withTimerFired s) refl refl))
+      (unfold withTimerFired withHead in same-grows s (withTimerFired s) (state .shaped) (state .n-high) refl refl refl))
     where
       s : State
       s = decode book
@@ -38,7 +38,11 @@ module _ (digest : Bytes → Bytes) where
       state : SoundState digest s
       state = sound-decode digest book was
 
-  pub step-grows : (s : State) → Grows (view s) (view (step digest s .after))
-  step-grows s =
+      same : Grows (view s) (view s)
+      same = same-grows s s (state .shaped) (state .n-high) refl refl refl
+
+  pub step-grows : (s : State) → SoundState digest s → Grows (view s) (view (step digest s .after))
+  step-grows s state =
       let body = step-body digest s in
-      same-grows s (step digest s .after) (body .same-n) (body .same-heights)
+      same-grows s (step digest s .after) (state .shaped) (state .n-high) (body .same-n) (body .same-weights)
+      (body .same-heights)

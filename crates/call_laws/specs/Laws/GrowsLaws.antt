@@ -3,10 +3,12 @@ use Prim.Native.Nat.{ℕ, zero, suc, _≤_}
 use native.Mathlib.Omega.{arith}
 use mathlib.Core.Path.{_≡_, refl, sym, ap, _∙_}
 use mathlib.Core.Bool.{true}
-use lib.ListN.{length, length-replicate}
+use lib.ListN.{length}
+use lib.Seq.{length-take-le}
+use Rattle.protocol.specs.SoundState.{Shaped}
 use Rattle.protocol.specs.Mask.{Within}
 use Rattle.protocol.specs.Bytes.{Bytes}
-use Rattle.protocol.specs.State.{State, at}
+use Rattle.protocol.specs.State.{State, at, maximumReplicas}
 use Rattle.protocol.specs.Sound.{view}
 use Rattle.protocol.specs.Block.{parentHeight, parentDigest}
 use Rattle.protocol.specs.View.{View, quorum, isDummy, digestAt, isFinalized}
@@ -15,14 +17,14 @@ use Rattle.protocol.specs.Laws.LinkedLaws.{finalized-sound, finalized-complete}
 use Rattle.protocol.specs.Laws.OnesLaws.{quorum-mono}
 use Rattle.call_laws.specs.Grows.{Grows, SameReplicas}
 
--- states of the same n have views of the same replicas, each of which has a weight
-pub views-alike : (s s′ : State) → s′ .n ≡ s .n → SameReplicas (view s) (view s′)
+-- states of the same n and weights have views of the same replicas, each of which has a weight
+pub views-alike : (s s′ : State) → s′ .n ≡ s .n → s′ .weights ≡ s .weights → SameReplicas (view s) (view s′)
 unfolding view
-views-alike s s′ e = record { same-n = e; same-weights = rw e }
+views-alike s s′ e w = record { same-n = e; same-weights = rw (e, w) }
 
-pub weights-many : (s : State) → length (view s .weights) ≡ view s .n
+pub weights-many : (s : State) → Shaped s → s .n ≤ maximumReplicas → length (view s .weights) ≡ view s .n
 unfolding view
-weights-many s = length-replicate (s .n) 1
+weights-many s shaped few = length-take-le (s .n) (s .weights) (rw (shaped .weighed .sixteen) few)
 
 -- quorums are the same in views of the same replicas
 pub same-quorum : (v v′ : View) (mask : ℕ) → SameReplicas v v′ → quorum v mask ≡ true → quorum v′ mask ≡ true
@@ -30,11 +32,12 @@ unfolding quorum
 same-quorum v v′ mask same q = rw (same .same-weights) q
 
 -- a state with the same heights and the same n shows the same
-pub same-grows : (s s′ : State) → s′ .n ≡ s .n → s′ .heights ≡ s .heights → Grows (view s) (view s′)
+pub same-grows : (s s′ : State) → Shaped s → s .n ≤ maximumReplicas → s′ .n ≡ s .n → s′ .weights ≡ s .weights →
+    s′ .heights ≡ s .heights → Grows (view s) (view s′)
 unfolding view at
-same-grows s s′ e e′ = record {
-  same-replicas = views-alike s s′ e;
-  weight-each = weights-many s;
+same-grows s s′ shaped few e w e′ = record {
+  same-replicas = views-alike s s′ e w;
+  weight-each = weights-many s shaped few;
   keeps-block = λ h low has. rw e′ (has, refl);
   more-dummies = λ h low t l m. rw e′ m;
   more-finalizes = λ h low t l m. rw e′ m;

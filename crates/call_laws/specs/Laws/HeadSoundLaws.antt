@@ -17,8 +17,8 @@ module _ (digest : Bytes → Bytes) (s : State) (is : SoundState digest s) where
       SoundState digest (renewed s flags current finalized pendingCount pool (s .heights))
   unfolding view at last
   head-sound flags current finalized pendingCount pool small low high ended few size = record {
-    shaped = record { pool-size = size; heights = is .shaped .heights };
-    first-edition = is .first-edition;
+    shaped = record { weighed = is .shaped .weighed; pool-size = size; heights = is .shaped .heights };
+    setting = is .setting;
     n-low = is .n-low;
     n-high = is .n-high;
     own-below = is .own-below;

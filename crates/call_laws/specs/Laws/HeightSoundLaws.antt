@@ -58,7 +58,7 @@ module _ (s : State) (i : ℕ) (high : i < last s) (y : Height) where
   module _ (digest : Bytes → Bytes) (is : SoundState digest s) (fits : Replaces (view s) (suc i) (at s (suc i)) y) where
     same : SameReplicas (view s) (view s′)
     unfolding withHeight
-    same = views-alike s s′ refl
+    same = views-alike s s′ refl refl
 
     grown-each : (h : ℕ) → 1 ≤ h → GrownHeight (view s .n) (at s h) (at s′ h)
     grown-each = each-height (λ (h : ℕ) (x : Height). GrownHeight (view s .n) (at s h) x) (fits .grown)
@@ -68,7 +68,7 @@ module _ (s : State) (i : ℕ) (high : i < last s) (y : Height) where
     unfolding view
     grows = record {
       same-replicas = same;
-      weight-each = weights-many s;
+      weight-each = weights-many s (is .shaped) (is .n-high);
       keeps-block = λ h low. grown-each h low .keeps-block;
       more-dummies = λ h low. grown-each h low .more-dummies;
       more-finalizes = λ h low. grown-each h low .more-finalizes;
@@ -90,7 +90,7 @@ module _ (s : State) (i : ℕ) (high : i < last s) (y : Height) where
         let count : last s′ ≡ last s = last-with s i y in
         record {
           shaped = shaped-with s i y (is .shaped) (fits .shaped);
-          first-edition = unfold withHeight in is .first-edition;
+          setting = unfold withHeight in is .setting;
           n-low = unfold withHeight in is .n-low;
           n-high = unfold withHeight in is .n-high;
           own-below = unfold withHeight in is .own-below;

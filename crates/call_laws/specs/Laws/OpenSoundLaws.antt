@@ -10,21 +10,21 @@ use Rattle.protocol.specs.Every.{Every}
 use Rattle.protocol.specs.Bytes.{Bytes}
 use Rattle.protocol.specs.State.{State, noHeight, at, last}
 use Rattle.protocol.specs.Sound.{view}
-use Rattle.protocol.specs.Open.{newState, openInRange}
+use Rattle.protocol.specs.Open.{Opening, newState, openInRange}
 use Rattle.protocol.specs.Laws.EveryLaws.{every-at}
 use Rattle.protocol.specs.Laws.TestedLaws.{OpenRanges, open-ranges}
 use Rattle.protocol.specs.Laws.CodecLaws.{at-suc}
 use Rattle.protocol.specs.Laws.NewBookLaws.{Bare, all-bare, bare-sound}
-use Rattle.protocol.specs.Laws.NewStateLaws.{new-shaped}
+use Rattle.protocol.specs.Laws.NewStateLaws.{new-shaped, opened-setting}
 use Rattle.protocol.specs.Block.{maximumHeights}
 
-module _ (digest : Bytes → Bytes) (n own heights : ℕ) (leaders : Bytes)
-    (ranges : openInRange n own heights leaders ≡ true) where
+module _ (digest : Bytes → Bytes) (way : Opening) (n own heights : ℕ) (leaders : Bytes)
+    (ranges : openInRange way n own heights leaders ≡ true) where
   abbrev s : State
-  s = newState n own leaders
+  s = newState way n own leaders
 
-  in-ranges : OpenRanges n own heights leaders
-  in-ranges = open-ranges n own heights leaders ranges
+  in-ranges : OpenRanges way n own heights leaders
+  in-ranges = open-ranges way n own heights leaders ranges
 
   last-range : (1 ≤ last s) × (last s ≤ maximumHeights)
   unfolding last newState
@@ -42,8 +42,8 @@ module _ (digest : Bytes → Bytes) (n own heights : ℕ) (leaders : Bytes)
   pub open-sound : SoundState digest s
   unfolding newState
   open-sound = record {
-    shaped = new-shaped n own leaders;
-    first-edition = refl;
+    shaped = new-shaped way n own leaders;
+    setting = opened-setting way n (in-ranges .n-high) (in-ranges .weights-fit);
     n-low = in-ranges .n-low;
     n-high = in-ranges .n-high;
     own-below = in-ranges .own-below;

@@ -9,7 +9,7 @@ use Rattle.protocol.specs.Tests.{Row, firstRefusal}
 use Rattle.protocol.specs.Answer.{Answer, Outcome, Done, Delivery, Counts, Move, refused, accepted, unlessRefused}
 use Rattle.protocol.specs.State.{decode}
 use Rattle.protocol.specs.Sound.{sound}
-use Rattle.protocol.specs.Open.{openRows, openCall}
+use Rattle.protocol.specs.Open.{Opening, openRows, openCall}
 use Rattle.protocol.specs.Deliver.{deliverRows, heard, deliverCall}
 use Rattle.protocol.specs.Packet.{packetRows, packetCall}
 use Rattle.protocol.specs.Move.{MoveOutcome, moved, step, unlessMoveRefused, moveRows, moveCall}
@@ -73,11 +73,11 @@ test-refuses {A} test a = subst (λ (z : Answer A). Refuses A ((1, test) ∷ [])
     by-test true = refl
     by-test false = refl
 
-pub open-refuses : (book : Bytes) (n own heights : ℕ) (leaders : Bytes) →
-    Refuses Done (openRows book n own heights leaders) (openCall book n own heights leaders .answer) (book ∷ [])
-    (openCall book n own heights leaders .book ∷ [])
+pub open-refuses : (way : Opening) (book : Bytes) (n own heights : ℕ) (leaders : Bytes) →
+    Refuses Done (openRows way book n own heights leaders) (openCall way book n own heights leaders .answer) (book ∷ [])
+    (openCall way book n own heights leaders .book ∷ [])
 unfolding openCall
-open-refuses book n own heights leaders = outcome-refuses (openRows book n own heights leaders) book _ _ refl
+open-refuses way book n own heights leaders = outcome-refuses (openRows way book n own heights leaders) book _ _ refl
 
 module _ (digest : Bytes → Bytes) (book : Bytes) where
   pub deliver-refuses : (frame : Bytes) →

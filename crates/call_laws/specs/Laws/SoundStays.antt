@@ -7,7 +7,7 @@ use mathlib.Core.List.{List, [], _∷_}
 use Rattle.protocol.specs.Bytes.{Bytes}
 use Rattle.protocol.specs.Sound.{sound}
 use Rattle.protocol.specs.Answer.{accepted, done}
-use Rattle.protocol.specs.Open.{openCall}
+use Rattle.protocol.specs.Open.{Opening, openCall}
 use Rattle.protocol.specs.Call.{Call, opening, delivery, packetDelivery, moving, signalling, submitting, sizing}
 use Rattle.protocol.specs.Call.{reading, fetching, effect, bookAfter, bookAfterAll}
 use Rattle.call_laws.specs.Laws.SoundStaysLaws.{open-stays, open-made, deliver-stays, move-stays, signal-stays}
@@ -18,7 +18,7 @@ module _ (digest : Bytes → Bytes) where
   pub sound-stays : (book : Bytes) (call : Call) → sound digest book ≡ true →
       sound digest (bookAfter digest book call) ≡ true
   unfolding effect
-  sound-stays book (opening n own heights leaders) was = open-stays digest book n own heights leaders was
+  sound-stays book (opening way n own heights leaders) was = open-stays digest way book n own heights leaders was
   sound-stays book (delivery frame) was = deliver-stays digest book was frame
   sound-stays book (packetDelivery packet) was = packet-stays digest book was packet
   sound-stays book (moving reply) was = move-stays digest book was reply
@@ -37,7 +37,7 @@ module _ (digest : Bytes → Bytes) where
       sound-stays-all (bookAfter digest book call) calls (sound-stays book call was)
 
   -- Open that is not refused leaves a sound book, whatever bytes were there
-  pub sound-opened : (book : Bytes) (n own heights : ℕ) (leaders : Bytes) →
-      openCall book n own heights leaders .answer ≡ accepted done →
-      sound digest (openCall book n own heights leaders .book) ≡ true
-  sound-opened book n own heights leaders opened = open-made digest book n own heights leaders opened
+  pub sound-opened : (way : Opening) (book : Bytes) (n own heights : ℕ) (leaders : Bytes) →
+      openCall way book n own heights leaders .answer ≡ accepted done →
+      sound digest (openCall way book n own heights leaders .book) ≡ true
+  sound-opened way book n own heights leaders opened = open-made digest way book n own heights leaders opened

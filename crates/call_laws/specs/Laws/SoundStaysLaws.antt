@@ -12,7 +12,7 @@ use Rattle.protocol.specs.Frame.{frameHeight}
 use Rattle.protocol.specs.State.{State, encode, decode, withHeight, flag, withTimerFired}
 use Rattle.protocol.specs.Sound.{sound}
 use Rattle.protocol.specs.Answer.{Answer, refused, accepted, Outcome, Delivery, Done, done, unlessRefused}
-use Rattle.protocol.specs.Open.{newState, openRows, openCall}
+use Rattle.protocol.specs.Open.{Opening, newState, openRows, openCall}
 use Rattle.protocol.specs.Deliver.{deliverCall, deliverAll}
 use Rattle.protocol.specs.Packet.{packetFrames, packetRows, packetCall}
 use Rattle.protocol.specs.Move.{step, moved, unlessMoveRefused, moveRows, moveCall}
@@ -98,25 +98,25 @@ module _ (digest : Bytes → Bytes) where
       (λ _. frames-stay book was (packetFrames packet))
 
   -- ---- Open, over any bytes
-  module _ (book : Bytes) (n own heights : ℕ) (leaders : Bytes) where
-    made : firstRefusal (openRows book n own heights leaders) ≡ none → Sound (encode (newState n own leaders))
-    made passes = sound-encode digest (newState n own leaders)
-        (open-sound digest n own heights leaders (open-tested n own heights leaders book passes .in-ranges))
+  module _ (way : Opening) (book : Bytes) (n own heights : ℕ) (leaders : Bytes) where
+    made : firstRefusal (openRows way book n own heights leaders) ≡ none → Sound (encode (newState way n own leaders))
+    made passes = sound-encode digest (newState way n own leaders)
+        (open-sound digest way n own heights leaders (open-tested way n own heights leaders book passes .in-ranges))
 
-    pub open-stays : Sound book → Sound (openCall book n own heights leaders .book)
+    pub open-stays : Sound book → Sound (openCall way book n own heights leaders .book)
     unfolding openCall
-    open-stays was = unless-refused Sound (openRows book n own heights leaders) book
-        (record { answer = accepted done; book = encode (newState n own leaders) }) was made
+    open-stays was = unless-refused Sound (openRows way book n own heights leaders) book
+        (record { answer = accepted done; book = encode (newState way n own leaders) }) was made
 
-    pub open-made : openCall book n own heights leaders .answer ≡ accepted done →
-        Sound (openCall book n own heights leaders .book)
+    pub open-made : openCall way book n own heights leaders .answer ≡ accepted done →
+        Sound (openCall way book n own heights leaders .book)
     unfolding openCall
-    open-made opened = go (firstRefusal (openRows book n own heights leaders)) made opened
+    open-made opened = go (firstRefusal (openRows way book n own heights leaders)) made opened
       where
-        go : (r : Option ℕ) → (r ≡ none → Sound (encode (newState n own leaders))) →
-            unlessRefused r book (record { answer = accepted done; book = encode (newState n own leaders) })
+        go : (r : Option ℕ) → (r ≡ none → Sound (encode (newState way n own leaders))) →
+            unlessRefused r book (record { answer = accepted done; book = encode (newState way n own leaders) })
             .answer ≡ accepted done →
-            Sound (unlessRefused r book (record { answer = accepted done; book = encode (newState n own leaders) })
+            Sound (unlessRefused r book (record { answer = accepted done; book = encode (newState way n own leaders) })
             .book)
         go none f e = unfold unlessRefused in f refl
         go (some number) f e = unfold unlessRefused in

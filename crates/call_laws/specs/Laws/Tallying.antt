@@ -8,7 +8,7 @@ use Rattle.protocol.specs.Bytes.{Bytes}
 use Rattle.protocol.specs.Sound.{sound}
 use Rattle.protocol.specs.State.{decode}
 use Rattle.protocol.specs.Answer.{accepted, done}
-use Rattle.protocol.specs.Open.{openCall}
+use Rattle.protocol.specs.Open.{Opening, openCall}
 use Rattle.protocol.specs.Call.{Call, opening, delivery, packetDelivery, moving, signalling, submitting, sizing}
 use Rattle.protocol.specs.Call.{reading, fetching, effect, bookAfter, bookAfterAll}
 use Rattle.call_laws.specs.Keeping.{AllTallied}
@@ -21,7 +21,7 @@ module _ (digest : Bytes → Bytes) where
   pub tallied-stays : (book : Bytes) (call : Call) → sound digest book ≡ true → AllTallied digest (decode book) →
       AllTallied digest (decode (bookAfter digest book call))
   unfolding effect
-  tallied-stays book (opening n own heights leaders) was all = open-keeps digest book n own heights leaders all
+  tallied-stays book (opening way n own heights leaders) was all = open-keeps digest way book n own heights leaders all
   tallied-stays book (delivery frame) was all = deliver-keeps-tallies digest book was all frame
   tallied-stays book (packetDelivery packet) was all = packet-keeps-tallies digest book was all packet
   tallied-stays book (moving reply) was all = move-keeps digest book was all reply
@@ -41,7 +41,7 @@ module _ (digest : Bytes → Bytes) where
       (tallied-stays book call was all)
 
   -- Open that is not refused leaves such a book, whatever bytes were there
-  pub tallied-opened : (book : Bytes) (n own heights : ℕ) (leaders : Bytes) →
-      openCall book n own heights leaders .answer ≡ accepted done →
-      AllTallied digest (decode (openCall book n own heights leaders .book))
-  tallied-opened book n own heights leaders opened = open-tallied digest book n own heights leaders opened
+  pub tallied-opened : (way : Opening) (book : Bytes) (n own heights : ℕ) (leaders : Bytes) →
+      openCall way book n own heights leaders .answer ≡ accepted done →
+      AllTallied digest (decode (openCall way book n own heights leaders .book))
+  tallied-opened way book n own heights leaders opened = open-tallied digest way book n own heights leaders opened

@@ -15,7 +15,7 @@ use Rattle.protocol.specs.Frame.{frameHeight}
 use Rattle.protocol.specs.View.{View, quorum}
 use Rattle.protocol.specs.Sound.{view, sound}
 use Rattle.protocol.specs.Answer.{Outcome, accepted, Delivery, Done, done, unlessRefused}
-use Rattle.protocol.specs.Open.{newHeight, newState, openRows, openCall}
+use Rattle.protocol.specs.Open.{Opening, newHeight, newState, openRows, openCall}
 use Rattle.protocol.specs.Deliver.{votersFor, deliverCall, deliverAll}
 use Rattle.protocol.specs.Packet.{packetFrames, packetRows, packetCall}
 use Rattle.protocol.specs.Move.{step, moved, unlessMoveRefused, moveRows, moveCall}
@@ -47,11 +47,11 @@ module _ (digest : Bytes → Bytes) where
       let counted = same-quorum v′ v (votersFor x (digest (x .proposal)) (v′ .n)) back enough in
       all (held, subst (λ (k : ℕ). quorum v (votersFor x (digest (x .proposal)) k) ≡ true) (same .same-n) counted)
 
-  -- a state with the same heights and the same n
-  same-heights : (s s′ : State) → s′ .n ≡ s .n → s′ .heights ≡ s .heights → AllTallied digest s → AllTallied digest s′
-  same-heights s s′ e e′ all h low =
+  -- a state with the same heights, the same n and the same weights
+  same-heights : (s s′ : State) → s′ .n ≡ s .n → s′ .weights ≡ s .weights → s′ .heights ≡ s .heights → AllTallied digest s → AllTallied digest s′
+  same-heights s s′ e w e′ all h low =
       let here : at s′ h ≡ at s h = unfold at in rw e′ in
-      rw here (same-tally (view s) (view s′) (at s h) (views-alike s s′ e) (all h low))
+      rw here (same-tally (view s) (view s′) (at s h) (views-alike s s′ e w) (all h low))
 
   none-held : (v : View) (x : Height) → holdsProposal x ≡ false → Tallied digest v x
   unfolding Tallied Voted
@@ -64,32 +64,32 @@ module _ (digest : Bytes → Bytes) where
   new-free (x ∷ xs) zero = refl
   new-free (x ∷ xs) (suc i) = new-free xs i
 
-  new-tallied : (n own : ℕ) (leaders : Bytes) → AllTallied digest (newState n own leaders)
-  new-tallied n own leaders zero low = absurd (omega arith)
-  new-tallied n own leaders (suc i) low = none-held _ _ (rw at-suc (unfold newState in new-free leaders i))
+  new-tallied : (way : Opening) (n own : ℕ) (leaders : Bytes) → AllTallied digest (newState way n own leaders)
+  new-tallied way n own leaders zero low = absurd (omega arith)
+  new-tallied way n own leaders (suc i) low = none-held _ _ (rw at-suc (unfold newState in new-free leaders i))
 
   -- ---- the calls
-  module _ (book : Bytes) (n own heights : ℕ) (leaders : Bytes) where
-    opened : firstRefusal (openRows book n own heights leaders) ≡ none →
-        AllTallied digest (decode (encode (newState n own leaders)))
-    opened passes = rw (decode-encode (newState n own leaders) (new-shaped n own leaders)) (new-tallied n own leaders)
+  module _ (way : Opening) (book : Bytes) (n own heights : ℕ) (leaders : Bytes) where
+    opened : firstRefusal (openRows way book n own heights leaders) ≡ none →
+        AllTallied digest (decode (encode (newState way n own leaders)))
+    opened passes = rw (decode-encode (newState way n own leaders) (new-shaped way n own leaders)) (new-tallied way n own leaders)
 
     pub open-keeps : AllTallied digest (decode book) →
-        AllTallied digest (decode (openCall book n own heights leaders .book))
+        AllTallied digest (decode (openCall way book n own heights leaders .book))
     unfolding openCall
-    open-keeps all = unless-refused (λ (b : Bytes). AllTallied digest (decode b)) (openRows book n own heights leaders)
+    open-keeps all = unless-refused (λ (b : Bytes). AllTallied digest (decode b)) (openRows way book n own heights leaders)
         book
-        (record { answer = accepted done; book = encode (newState n own leaders) }) all opened
+        (record { answer = accepted done; book = encode (newState way n own leaders) }) all opened
 
-    pub open-tallied : openCall book n own heights leaders .answer ≡ accepted done →
-        AllTallied digest (decode (openCall book n own heights leaders .book))
+    pub open-tallied : openCall way book n own heights leaders .answer ≡ accepted done →
+        AllTallied digest (decode (openCall way book n own heights leaders .book))
     unfolding openCall
-    open-tallied = go (firstRefusal (openRows book n own heights leaders)) refl
+    open-tallied = go (firstRefusal (openRows way book n own heights leaders)) refl
       where
         made : Option ℕ → Outcome Done
-        made r = unlessRefused r book (record { answer = accepted done; book = encode (newState n own leaders) })
+        made r = unlessRefused r book (record { answer = accepted done; book = encode (newState way n own leaders) })
 
-        go : (r : Option ℕ) → firstRefusal (openRows book n own heights leaders) ≡ r → made r .answer ≡ accepted done →
+        go : (r : Option ℕ) → firstRefusal (openRows way book n own heights leaders) ≡ r → made r .answer ≡ accepted done →
             AllTallied digest (decode (made r .book))
         go none e accepts = unfold unlessRefused in opened e
         go (some number) e accepts = absurd (refused≢accepted number done (unfold unlessRefused in accepts))
@@ -102,9 +102,9 @@ module _ (digest : Bytes → Bytes) where
     state = sound-decode digest book was
 
     -- a state that goes back to bytes, with the heights and n of the old one
-    rewritten : (s′ : State) → Shaped s′ → s′ .n ≡ s .n → s′ .heights ≡ s .heights →
+    rewritten : (s′ : State) → Shaped s′ → s′ .n ≡ s .n → s′ .weights ≡ s .weights → s′ .heights ≡ s .heights →
         AllTallied digest (decode (encode s′))
-    rewritten s′ shaped e e′ = rw (decode-encode s′ shaped) (same-heights s s′ e e′ all)
+    rewritten s′ shaped e w e′ = rw (decode-encode s′ shaped) (same-heights s s′ e w e′ all)
 
     pub move-keeps : (reply : Bytes) → AllTallied digest (decode (moveCall digest book reply .book))
     unfolding moveCall
@@ -119,13 +119,15 @@ module _ (digest : Bytes → Bytes) where
         go : (r : Option ℕ) → AllTallied digest (decode (unlessMoveRefused r book reply (step digest s) .book))
         go none = unfold unlessMoveRefused moved in rewritten after (step-sound digest s state .shaped)
             (ap (λ (z : State). z .n) (head .3) ∙ unfold withHead in refl)
+            (ap (λ (z : State). z .weights) (head .3) ∙ unfold withHead in refl)
             (ap (λ (z : State). z .heights) (head .3) ∙ unfold withHead in refl)
         go (some number) = unfold unlessMoveRefused in all
 
     fired : AllTallied digest (decode (encode (withTimerFired s)))
     unfolding withTimerFired withHead
     fired = rewritten (withTimerFired s)
-        (record { pool-size = state .shaped .pool-size; heights = state .shaped .heights }) refl refl
+        (record { weighed = state .shaped .weighed; pool-size = state .shaped .pool-size; heights = state .shaped .heights }) refl
+        refl refl
 
     pub signal-keeps : (h : ℕ) → AllTallied digest (decode (signalCall digest book h .book))
     unfolding signalCall
@@ -145,7 +147,7 @@ module _ (digest : Bytes → Bytes) where
         book
         (record { answer = accepted done; book = encode (withPending s (stillPending s ++ (entry ∷ []))) }) all
         (λ passes. rewritten (withPending s (stillPending s ++ (entry ∷ []))) (submitted entry passes .shaped)
-        (unfold withPending in refl) (unfold withPending in refl))
+        (unfold withPending in refl) (unfold withPending in refl) (unfold withPending in refl))
 
     -- one height gives way to another whose votes are tallied
     placed : (h : ℕ) (y : Height) → 1 ≤ h → h ≤ last s → Tallied digest (view s) y →
@@ -153,7 +155,7 @@ module _ (digest : Bytes → Bytes) where
     placed zero y low high new = λ _ _. absurd (omega arith)
     placed (suc i) y low high new = λ h from.
         same-tally (view s) (view (withHeight s (suc i) y)) (at (withHeight s (suc i) y) h)
-        (views-alike s (withHeight s (suc i) y) (unfold withHeight in refl))
+        (views-alike s (withHeight s (suc i) y) (unfold withHeight in refl) (unfold withHeight in refl))
         (each-height s i high y (λ (k : ℕ) (z : Height). Tallied digest (view s) z) new all h from)
 
     delivered : (frame : Bytes) (after : State) → KeepsState digest s after frame →

@@ -53,7 +53,7 @@ module _ (digest : Bytes → Bytes) (s : State) (is : SoundState digest s) (t : 
   mask-small mask small = rw (same .same-n) (lt-ltb mask (2 ^ s .n) small)
 
   as-many : (mask : ℕ) → quorum (view s) mask ≡ true → quorum (view t) mask ≡ true
-  as-many mask e = same-quorum (view s) (view t) mask (views-alike s t (same .same-n)) e
+  as-many mask e = same-quorum (view s) (view t) mask (views-alike s t (same .same-n) (same .same-weights)) e
 
   -- ---- certificates of a height
   module _ (h : ℕ) (low : 1 ≤ h) (high : h ≤ last s) where

@@ -16,7 +16,7 @@ use Rattle.protocol.specs.Block.{newBlock}
 use Rattle.protocol.specs.Frame.{blockCertificate, dummyVote, proposal}
 use Rattle.protocol.specs.State.{encode, decode, withHeight, at}
 use Rattle.protocol.specs.Deliver.{withNotarized, deliverCall}
-use Rattle.protocol.specs.Open.{openCall}
+use Rattle.protocol.specs.Open.{unweighed, openCall}
 use Rattle.protocol.specs.Answer.{Delivery, known, fresh, accepted}
 use Rattle.protocol.specs.Computing.{everything}
 use Rattle.call_laws.specs.KeptBytes.{inParts, proposalParts, dummyParts, keptParts, newlyNotarized}
@@ -29,7 +29,7 @@ standIn : Bytes → Bytes
 standIn bytes = zeros 32
 
 book : Bytes
-book = openCall (zeros 1456) 4 0 1 (0 ∷ []) .book
+book = openCall unweighed (zeros 1456) 4 0 1 (0 ∷ []) .book
 
 block : Bytes
 block = newBlock 1 0 (zeros 32) []
@@ -130,7 +130,7 @@ only-new (inr (inr (inl (e, held), by))) = true≢false held
 only-new (inr (inr (inr (e, voted), by))) = omega arith
 
 uncounted : Bytes
-uncounted = put (set (set (openCall (zeros 1456) 1 0 1 (0 ∷ []) .book) 577 1) 584 1) 592 block
+uncounted = put (set (set (openCall unweighed (zeros 1456) 1 0 1 (0 ∷ []) .book) 577 1) 584 1) 592 block
 
 late-count : Keeps standIn uncounted (proposal 0 1 block) fresh
     (encode (withHeight (decode uncounted) 1 (withNotarized (at (decode uncounted) 1) 1 block))) → ⊥

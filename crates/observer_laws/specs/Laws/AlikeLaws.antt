@@ -2,7 +2,7 @@
 use Prim.Native.Nat.{ℕ, _-_}
 use mathlib.Core.Path.{_≡_, refl, sym, ap, ap₂, _∙_}
 use mathlib.Core.List.{List, map}
-use lib.ListN.{length, getD, length-map, List·getD-map, replicate}
+use lib.ListN.{length, getD, length-map, List·getD-map, take}
 use lib.Dec.{leb}
 use Rattle.protocol.specs.State.{State, noHeight, at, last, isNotarized}
 use Rattle.protocol.specs.View.{View, logOf}
@@ -11,6 +11,7 @@ use Rattle.protocol.specs.Observer.{ObservedHeight, observedHeight}
 
 pub record Alike (s t : State) : Type 0 where
   pub same-n : t .n ≡ s .n
+  pub same-weights : t .weights ≡ s .weights
   pub same-heights : map observedHeight (t .heights) ≡ map observedHeight (s .heights)
 
 -- what a state shows of height `h`
@@ -23,10 +24,10 @@ unfolding at
 shown-from s h = sym (List·getD-map observedHeight (s .heights) (h - 1) noHeight)
 
 -- a view goes by what is shown
-viewOf : ℕ → (ℕ → ObservedHeight) → View
-viewOf n shown = record {
+viewOf : ℕ → List ℕ → (ℕ → ObservedHeight) → View
+viewOf n weights shown = record {
   n = n;
-  weights = replicate n 1;
+  weights = take n weights;
   hasBlock = λ h. leb 2 (shown h .status);
   block = λ h. shown h .notarized;
   certificateMask = λ h. shown h .certificateMask;
@@ -34,7 +35,7 @@ viewOf n shown = record {
   finalizeMask = λ h. shown h .finalizeMask;
 }
 
-view-shown : (s : State) → view s ≡ viewOf (s .n) (shownAt s)
+view-shown : (s : State) → view s ≡ viewOf (s .n) (s .weights) (shownAt s)
 unfolding view viewOf isNotarized observedHeight
 view-shown s = refl
 
@@ -51,7 +52,9 @@ module _ {s t : State} (alike : Alike s t) where
 
   pub same-view : view t ≡ view s
   same-view =
-      view-shown t ∙ ap₂ viewOf (alike .same-n) (λ i h. same-shown h i) ∙ sym (view-shown s)
+      view-shown t ∙ ap₂ (λ (n : ℕ) (shown : ℕ → ObservedHeight). viewOf n (t .weights) shown) (alike .same-n)
+      (λ i h. same-shown h i) ∙ ap (λ (weights : List ℕ). viewOf (s .n) weights (shownAt s)) (alike .same-weights)
+      ∙ sym (view-shown s)
 
   pub same-log : t .finalized ≡ s .finalized → log t ≡ log s
   unfolding log

@@ -25,8 +25,8 @@ module _ (digest : Bytes → Bytes) where
   awake-sound o is =
       let count = last-as o in
       record {
-        shaped = record { pool-size = is .shaped .pool-size; heights = is .shaped .heights };
-        first-edition = is .first-edition;
+        shaped = record { weighed = is .shaped .weighed; pool-size = is .shaped .pool-size; heights = is .shaped .heights };
+        setting = is .setting;
         n-low = is .n-low;
         n-high = is .n-high;
         own-below = is .n-low;
@@ -46,8 +46,8 @@ module _ (digest : Bytes → Bytes) where
   awake-observer o is holds-none =
       let count = last-as o in
       record {
-        shaped = record { pool-size = is .shaped .pool-size; heights = is .shaped .heights };
-        first-edition = is .first-edition;
+        shaped = record { weighed = is .shaped .weighed; pool-size = is .shaped .pool-size; heights = is .shaped .heights };
+        setting = is .setting;
         n-low = is .n-low;
         n-high = is .n-high;
         last-low = rw count at (is .last-low);

@@ -27,10 +27,10 @@ use Rattle.observer_laws.specs.Laws.CertificateLaws.{readRowsOf, read-ro
 use Rattle.observer_laws.specs.Laws.RefusingLaws.{observer-deliver-refuses}
 
 -- ---- the rows
-read-there : (s t : State) → t .n ≡ s .n → (frame : Bytes) → isCertificate (kind frame) ≡ true →
+read-there : (s t : State) → t .n ≡ s .n → t .weights ≡ s .weights → (frame : Bytes) → isCertificate (kind frame) ≡ true →
     frameHeight frame ≤ last t → IsRead s frame → firstRefusal (certificateRows t frame) ≡ none
 unfolding certificateRows readRowsOf firstRefusal
-read-there s t e frame is high read =
+read-there s t e w frame is high read =
     by-tested (readRowsOf (s .n) (last s) (view s) frame) (ap firstRefusal (sym (read-rows-are frame is s)) ∙ read)
     λ formed height members led enough.
     let (low, below) = in-range 1 (last s) (frameHeight frame) height in
@@ -39,7 +39,7 @@ read-there s t e frame is high read =
       is,
       range-in 1 (last t) (frameHeight frame) low high,
       subst (λ (n : ℕ). belowBit n (signerMask frame) ≡ true) (sym e) members,
-      same-quorum (view s) (view t) _ (views-alike s t e) enough,
+      same-quorum (view s) (view t) _ (views-alike s t e w) enough,
     )
 
 -- ---- what is left
@@ -75,38 +75,38 @@ module _ (s : State) (frame : Bytes) where
       go false q f = (cc, unlike-block q)
 
 module _ (digest : Bytes → Bytes) where
-  read-by-observer : (s : State) (other : Bytes) → observerState other .n ≡ s .n → (frame : Bytes) →
+  read-by-observer : (s : State) (other : Bytes) → observerState other .n ≡ s .n → observerState other .weights ≡ s .weights → (frame : Bytes) →
       isCertificate (kind frame) ≡ true → frameHeight frame ≤ last (observerState other) → IsRead s frame →
       ReadByObserver digest other frame
-  read-by-observer s other e frame is high read = record {
+  read-by-observer s other e w frame is high read = record {
     read = passes;
     refused-with = λ is-sound number answer. other-block (observerState other) frame number
         (sym (rest is-sound) ∙ observer-deliver-refuses digest other frame .by-number number .0 answer);
   }
     where
       passes : firstRefusal (certificateRows (observerState other) frame) ≡ none
-      passes = read-there s (observerState other) e frame is high read
+      passes = read-there s (observerState other) e w frame is high read
 
       rest : observerSound digest other ≡ true →
           firstRefusal (refusalRows digest other frame) ≡ firstRefusal (notarizedRow (observerState other) frame ∷ [])
       rest is-sound = unfold refusalRows in
           (pass-row _ _ is-sound ∙ pass-rows (certificateRows (observerState other) frame) _ passes)
 
-  all-read : (s : State) (other : Bytes) → observerState other .n ≡ s .n → {frames : List Bytes} →
+  all-read : (s : State) (other : Bytes) → observerState other .n ≡ s .n → observerState other .weights ≡ s .weights → {frames : List Bytes} →
       Every (IsRead s) frames → CertificatesRead digest frames other
   unfolding CertificatesRead
-  all-read s other e none = none
-  all-read s other e (one {x = frame} read reads) =
-      one (λ is high. read-by-observer s other e frame is high read) (all-read s other e reads)
+  all-read s other e w none = none
+  all-read s other e w (one {x = frame} read reads) =
+      one (λ is high. read-by-observer s other e w frame is high read) (all-read s other e w reads)
 
   pub move-read-by-observer : DigestSized digest → (book reply other : Bytes) →
-      observerState other .n ≡ decode book .n → MoveReadByObserver digest book reply other
-  move-read-by-observer sized book reply other e =
+      observerState other .n ≡ decode book .n → observerState other .weights ≡ decode book .weights → MoveReadByObserver digest book reply other
+  move-read-by-observer sized book reply other e w =
       let written = move-written-read digest sized book reply book (same-setting (decode book)) in
-      record { says = written .said .says; read = all-read (decode book) other e (written .said .read) }
+      record { says = written .said .says; read = all-read (decode book) other e w (written .said .read) }
 
   pub fetch-read-by-observer : (book : Bytes) (k h : ℕ) (reply other : Bytes) →
-      observerState other .n ≡ decode book .n → FetchReadByObserver digest book k h reply other
-  fetch-read-by-observer book k h reply other e =
+      observerState other .n ≡ decode book .n → observerState other .weights ≡ decode book .weights → FetchReadByObserver digest book k h reply other
+  fetch-read-by-observer book k h reply other e w =
       let written = fetch-written-read digest book k h reply book (same-setting (decode book)) in
-      record { says = written .said .says; read = all-read (decode book) other e (written .said .read) }
+      record { says = written .said .says; read = all-read (decode book) other e w (written .said .read) }

@@ -28,14 +28,15 @@ leftBy s frame none (some y) = withHeight s (frameHeight frame) y
 
 -- ---- states that show the same
 pub alike-self : (s : State) → Alike s s
-alike-self s = record { same-n = refl; same-heights = refl }
+alike-self s = record { same-n = refl; same-weights = refl; same-heights = refl }
 
 pub alike-back : {s t : State} → Alike s t → Alike t s
-alike-back alike = record { same-n = sym (alike .same-n); same-heights = sym (alike .same-heights) }
+alike-back alike = record { same-n = sym (alike .same-n); same-weights = sym (alike .same-weights); same-heights = sym (alike .same-heights) }
 
 pub alike-over : {s t u : State} → Alike s t → Alike t u → Alike s u
 alike-over first second = record {
   same-n = second .same-n ∙ first .same-n;
+  same-weights = second .same-weights ∙ first .same-weights;
   same-heights = second .same-heights ∙ first .same-heights;
 }
 
@@ -44,6 +45,7 @@ pub alike-with : {s t : State} → Alike s t → (h : ℕ) (y z : Height) → ob
 unfolding withHeight
 alike-with {s} {t} alike h y z e = record {
   same-n = alike .same-n;
+  same-weights = alike .same-weights;
   same-heights =
       map-set observedHeight (t .heights) (h - 1) z ∙
       ap₂ (λ (l : List ObservedHeight) (x : ObservedHeight). set l (h - 1) x) (alike .same-heights) e ∙

@@ -4,6 +4,7 @@ use Prim.Native.Nat.{ℕ}
 use mathlib.Core.Path.{_≡_}
 use mathlib.Core.Bool.{true}
 use mathlib.Core.List.{List, [], _∷_}
+use Rattle.protocol.specs.Open.{Opening}
 use Rattle.protocol.specs.Bytes.{Bytes}
 use Rattle.protocol.specs.Answer.{accepted, done}
 use Rattle.protocol.specs.ObserverSound.{observerSound}
@@ -18,7 +19,7 @@ module _ (digest : Bytes → Bytes) where
   pub observer-sound-stays : (book : Bytes) (call : ObserverCall) → observerSound digest book ≡ true →
       observerSound digest (observation digest book call .book) ≡ true
   unfolding observation
-  observer-sound-stays book (observerOpening n heights) was = observer-open-stays digest book n heights was
+  observer-sound-stays book (observerOpening way n heights) was = observer-open-stays digest way book n heights was
   observer-sound-stays book (observerDelivery frame) was = observer-deliver-stays digest book was frame
   observer-sound-stays book observerMoving was = observer-move-stays digest book was
   observer-sound-stays book observerSizing was = was
@@ -33,7 +34,7 @@ module _ (digest : Bytes → Bytes) where
       observer-sound-stays-all (observation digest book call .book) calls (observer-sound-stays book call was)
 
   -- Open that is not refused leaves a sound book, whatever bytes were there
-  pub observer-sound-opened : (book : Bytes) (n heights : ℕ) →
-      observerOpenCall book n heights .answer ≡ accepted done →
-      observerSound digest (observerOpenCall book n heights .book) ≡ true
-  observer-sound-opened book n heights opened = observer-open-made book n heights digest opened
+  pub observer-sound-opened : (way : Opening) (book : Bytes) (n heights : ℕ) →
+      observerOpenCall way book n heights .answer ≡ accepted done →
+      observerSound digest (observerOpenCall way book n heights .book) ≡ true
+  observer-sound-opened way book n heights opened = observer-open-made way book n heights digest opened

@@ -5,6 +5,7 @@ use mathlib.Core.Path.{_≡_, refl, sym, ap, _∙_}
 use mathlib.Core.Bool.{Bool, true, false, true≢false}
 use mathlib.Core.List.{List, [], _∷_, _++_}
 use mathlib.Core.Option.{Option, some, none}
+use Rattle.protocol.specs.Open.{Opening, openedWeights}
 use Rattle.protocol.specs.Bytes.{Bytes}
 use Rattle.protocol.specs.Tests.{Row, firstRefusal}
 use Rattle.protocol.specs.Frame.{kind, frameWellFormed, isCertificate, isStatement}
@@ -27,11 +28,11 @@ use Rattle.observer_laws.specs.Refusing.{certificateRows, notarizedRow, 
 use Rattle.observer_laws.specs.Laws.CertificateLaws.{readRowsOf, clashRowsOf, read-rows-are, clash-rows-are}
 use Rattle.observer_laws.specs.Laws.CertificateLaws.{again}
 
-pub observer-open-refuses : (book : Bytes) (n heights : ℕ) →
-    Refuses Done (observerOpenRows book n heights) (observerOpenCall book n heights .answer) (book ∷ [])
-    (observerOpenCall book n heights .book ∷ [])
+pub observer-open-refuses : (way : Opening) (book : Bytes) (n heights : ℕ) →
+    Refuses Done (observerOpenRows way book n heights) (observerOpenCall way book n heights .answer) (book ∷ [])
+    (observerOpenCall way book n heights .book ∷ [])
 unfolding observerOpenCall
-observer-open-refuses book n heights = outcome-refuses (observerOpenRows book n heights) book _ _ refl
+observer-open-refuses way book n heights = outcome-refuses (observerOpenRows way book n heights) book _ _ refl
 
 -- ---- Deliver: the rows that can fail
 module _ (s : State) (frame : Bytes) where
@@ -125,8 +126,8 @@ module _ (digest : Bytes → Bytes) where
   pub observer-refused-does-nothing : (book : Bytes) (call : ObserverCall) →
       observation digest book call .accepted ≡ false → observation digest book call ≡ observesBook book false
   unfolding observation isAccepted observerOpenCall observerDeliverCall observerMoveCall observerMoved
-  observer-refused-does-nothing book (observerOpening n heights) =
-      nothing-done (observesOpening n) book (λ number. refl) _ refl (firstRefusal (observerOpenRows book n heights))
+  observer-refused-does-nothing book (observerOpening way n heights) =
+      nothing-done (observesOpening (openedWeights n way)) book (λ number. refl) _ refl (firstRefusal (observerOpenRows way book n heights))
   observer-refused-does-nothing book (observerDelivery frame) =
       nothing-done (observesDelivery frame) book (λ number. refl)
       (observerKept book frame (keep digest (observerState book) frame))

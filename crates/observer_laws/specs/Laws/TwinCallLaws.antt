@@ -13,7 +13,7 @@ use Rattle.protocol.specs.Every.{Every, none, one}
 use Rattle.protocol.specs.Tests.{firstRefusal}
 use Rattle.protocol.specs.Frame.{kind, frameSize, isCertificate, frameWellFormed}
 use Rattle.protocol.specs.State.{State, encode, decode, withHead, withTimerFired}
-use Rattle.protocol.specs.Sound.{sound}
+use Rattle.protocol.specs.Sound.{sound, view}
 use Rattle.protocol.specs.Answer.{Outcome, Counts, Delivery, Move, accepted, isAccepted, unlessRefused}
 use Rattle.protocol.specs.Deliver.{deliverCall, deliverAll}
 use Rattle.protocol.specs.Packet.{packetFrames, countAll, acceptedOf, packetRows, packetCall}
@@ -73,7 +73,8 @@ certificates-append (x ∷ xs) ys =
     sym (append-assoc (alone x) (certificatesOf xs) (certificatesOf ys))
 
 pub body-alike : {s t : State} → SameBody s t → Alike s t
-body-alike same = record { same-n = same .same-n; same-heights = ap (map observedHeight) (same .same-heights) }
+body-alike same =
+    record { same-n = same .same-n; same-weights = same .same-weights; same-heights = ap (map observedHeight) (same .same-heights) }
 
 module _ (digest : Bytes → Bytes) where
   -- certificates, and then those of more frames
@@ -159,7 +160,14 @@ module _ (digest : Bytes → Bytes) where
     unfolding signalCall
     signal-same h = unless-refused Same (signalRows digest book h) book _ (alike-self s) (λ passes.
         same-encoded (withTimerFired s) (timer-sound digest s state (signal-tested digest book h passes .not-fired))
-        (unfold withTimerFired withHead in record { same-n = refl; same-pool = refl; same-heights = refl }))
+        (unfold withTimerFired withHead in record {
+          same-n = refl;
+          same-pool = refl;
+          same-heights = refl;
+          same-weights = refl;
+          same-view = unfold view in refl;
+          same-weighed = λ w. w;
+        }))
 
     submit-same : (entry : Bytes) → Same (submitCall digest book entry .book)
     unfolding submitCall
@@ -167,7 +175,7 @@ module _ (digest : Bytes → Bytes) where
         let tested = submit-tested digest book entry passes in
         subst (Alike s) (sym (decode-encode (withPending s (stillPending s ++ (entry ∷ [])))
         (submit-sound digest s state entry (tested .size) (tested .room) .shaped)))
-        (unfold withPending in record { same-n = refl; same-heights = refl }))
+        (unfold withPending in record { same-n = refl; same-weights = refl; same-heights = refl }))
 
     packet-shows : (packet : Bytes) → Every IsCertificate (effect digest book (packetDelivery packet) .delivers) →
         Shows s (certificatesOf (given (packetDelivery packet))) (packetCall digest book packet .book)
@@ -191,9 +199,9 @@ module _ (digest : Bytes → Bytes) where
         Every IsCertificate (effect digest book call .delivers) →
         Shows s (certificatesOf (given call)) (bookAfter digest book call)
     unfolding effect given certificatesOf hearAll
-    call-shows (opening n own heights leaders) no-opening are =
+    call-shows (opening way n own heights leaders) no-opening are =
         subst (λ (after : Bytes). Alike s (decode after))
-        (sym (refused-same book (opening n own heights leaders) (opens-nothing digest book n own heights leaders
+        (sym (refused-same book (opening way n own heights leaders) (opens-nothing digest book way n own heights leaders
         no-opening))) (alike-self s)
     call-shows (delivery frame) no-opening are =
         subst (λ (frames : List Bytes). Shows s frames (deliverCall digest book frame .book))
@@ -237,7 +245,7 @@ module _ (digest : Bytes → Bytes) where
         (λ _ _. subst (Alike t) (sym state-back) (alike-self t))
         (λ _ _. unfold outputStep in
         subst (Alike t) (sym (observer-output digest book was (newFinalized digest t)))
-        (unfold withHead in record { same-n = refl; same-heights = refl }))
+        (unfold withHead in record { same-n = refl; same-weights = refl; same-heights = refl }))
 
     -- it refuses every frame that is no certificate
     observer-refuses : (frame : Bytes) → isCertificate (kind frame) ≡ false →
@@ -264,9 +272,9 @@ module _ (digest : Bytes → Bytes) where
     observer-call-shows : (call : ObserverCall) → observation digest book call .opens ≡ none →
         ObserverShows t (certificatesOf (givenToObserver call)) (observation digest book call .book)
     unfolding observation givenToObserver certificatesOf hearAll
-    observer-call-shows (observerOpening n heights) no-opening =
+    observer-call-shows (observerOpening way n heights) no-opening =
         subst (λ (after : Bytes). Alike t (observerState after))
-        (sym (observer-opens-nothing digest book n heights no-opening)) (alike-self t)
+        (sym (observer-opens-nothing digest book way n heights no-opening)) (alike-self t)
     observer-call-shows (observerDelivery frame) no-opening =
         subst (λ (frames : List Bytes). ObserverShows t frames (observerDeliverCall digest book frame .book))
         (sym (append-nil (alone frame))) (observer-frame-shows frame)

@@ -16,7 +16,7 @@ use Rattle.protocol.specs.State.{State, at, last, encode, decode, withHead}
 use Rattle.protocol.specs.View.{isFinalized, largestFinalized}
 use Rattle.protocol.specs.Sound.{view, sound, log}
 use Rattle.protocol.specs.Answer.{Outcome, Move, accepted, done, idle, moveNumber}
-use Rattle.protocol.specs.Open.{newState, openRows, openCall}
+use Rattle.protocol.specs.Open.{Opening, newState, openRows, openCall}
 use Rattle.protocol.specs.Move.{Step, step, moved, unlessMoveRefused, moveRows, moveCall, newFinalized, outputApplies}
 use Rattle.protocol.specs.Move.{dummyVoteStep, outputStep, passStep, proposeStep, blockVoteStep}
 use Rattle.protocol.specs.Read.{logSize, sizeCall, readPart, readBuffer}
@@ -51,36 +51,37 @@ use Rattle.observer_laws.specs.Laws.ObserverSoundStaysLaws.{observer-mov
 use Rattle.observer_laws.specs.Laws.ObserverOpenLaws.{new-shown, opened-by, observer-opened, new-observer-shaped}
 
 -- ---- new books
-module _ (n heights own : ℕ) (leaders : Bytes) where
-  new-alike : length leaders ≡ heights → Alike (newState n own leaders) (asReplica (newObserver n heights))
+module _ (way : Opening) (n heights own : ℕ) (leaders : Bytes) where
+  new-alike : length leaders ≡ heights → Alike (newState way n own leaders) (asReplica (newObserver way n heights))
   unfolding newState newObserver observed asReplica
   new-alike listed = record {
     same-n = refl;
+    same-weights = refl;
     same-heights =
-        ap (λ (o : Observer). o .heights) (observed-as (newObserver n heights)) ∙
+        ap (λ (o : Observer). o .heights) (observed-as (newObserver way n heights)) ∙
         ap (λ (k : ℕ). replicate k newObservedHeight) (sym listed) ∙ sym (new-shown leaders);
   }
 
   -- an opening that is not refused: the leaders are as many as the heights, and the book is the new one
-  opened-new : (old : Bytes) → openCall old n own heights leaders .answer ≡ accepted done →
-      (length leaders ≡ heights) × (openCall old n own heights leaders .book ≡ encode (newState n own leaders))
+  opened-new : (old : Bytes) → openCall way old n own heights leaders .answer ≡ accepted done →
+      (length leaders ≡ heights) × (openCall way old n own heights leaders .book ≡ encode (newState way n own leaders))
   unfolding openCall
   opened-new old opened =
-      let (passes, is) = opened-by (openRows old n own heights leaders) old (encode (newState n own leaders)) opened in
-      (open-ranges n own heights leaders (open-tested n own heights leaders old passes .in-ranges) .listed, is)
+      let (passes, is) = opened-by (openRows way old n own heights leaders) old (encode (newState way n own leaders)) opened in
+      (open-ranges way n own heights leaders (open-tested way n own heights leaders old passes .in-ranges) .listed, is)
 
-  opened-alike : (old observerOld : Bytes) → openCall old n own heights leaders .answer ≡ accepted done →
-      observerOpenCall observerOld n heights .answer ≡ accepted done →
-      Alike (decode (openCall old n own heights leaders .book))
-      (observerState (observerOpenCall observerOld n heights .book))
+  opened-alike : (old observerOld : Bytes) → openCall way old n own heights leaders .answer ≡ accepted done →
+      observerOpenCall way observerOld n heights .answer ≡ accepted done →
+      Alike (decode (openCall way old n own heights leaders .book))
+      (observerState (observerOpenCall way observerOld n heights .book))
   opened-alike old observerOld opened observer-is =
       let (listed, made) = opened-new old opened in
-      let (passes, observer-made) = observer-opened observerOld n heights observer-is in
-      subst (λ (s : State). Alike s (observerState (observerOpenCall observerOld n heights .book)))
-      (sym (ap decode made ∙ decode-encode (newState n own leaders) (new-shaped n own leaders)))
-      (subst (λ (t : State). Alike (newState n own leaders) t)
+      let (passes, observer-made) = observer-opened way observerOld n heights observer-is in
+      subst (λ (s : State). Alike s (observerState (observerOpenCall way observerOld n heights .book)))
+      (sym (ap decode made ∙ decode-encode (newState way n own leaders) (new-shaped way n own leaders)))
+      (subst (λ (t : State). Alike (newState way n own leaders) t)
       (sym (ap observerState observer-made ∙ ap asReplica
-      (decode-encode-observer (newObserver n heights) (new-observer-shaped n heights)))) (new-alike listed))
+      (decode-encode-observer (newObserver way n heights) (new-observer-shaped way n heights)))) (new-alike listed))
 
 -- ---- idle
 module _ (digest : Bytes → Bytes) where
@@ -167,10 +168,10 @@ module _ (digest : Bytes → Bytes) where
   -- ---- the claim
   module _ (both : Histories) (is : SameCertificates digest both) where
     was : sound digest (opens both .book) ≡ true
-    was = sound-opened digest (both .old) (both .n) (both .own) (both .heights) (both .leaders) (is .opened)
+    was = sound-opened digest (both .way) (both .old) (both .n) (both .own) (both .heights) (both .leaders) (is .opened)
 
     observer-was : observerSound digest (observerOpens both .book) ≡ true
-    observer-was = observer-sound-opened digest (both .observerOld) (both .n) (both .heights) (is .observer-opened)
+    observer-was = observer-sound-opened digest (both .way) (both .observerOld) (both .n) (both .heights) (is .observer-opened)
 
     pub book-sound : sound digest (bookOf digest both) ≡ true
     book-sound = sound-stays-all digest (opens both .book) (both .calls) was
@@ -194,8 +195,8 @@ module _ (digest : Bytes → Bytes) where
         (alike-back (calls-show digest (opens both .book) was (both .calls) (is .opened-once) (is .certificates)))
         (alike-over
         (hear-all-alike digest
-        (opened-alike (both .n) (both .heights) (both .own) (both .leaders) (both .old) (both .observerOld) (is .opened)
-        (is .observer-opened)) (certificatesOf (allGiven (both .calls))) (are-certificates (allGiven (both .calls))))
+        (opened-alike (both .way) (both .n) (both .heights) (both .own) (both .leaders) (both .old) (both .observerOld)
+        (is .opened) (is .observer-opened)) (certificatesOf (allGiven (both .calls))) (are-certificates (allGiven (both .calls))))
         observer-shows)
 
   pub twins : Twins digest

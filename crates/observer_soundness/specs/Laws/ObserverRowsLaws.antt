@@ -6,40 +6,37 @@ use lib.ListN.{length}
 use lib.Dec.{eqb}
 use borrow.Author.Tests.{eqb-true}
 use Rattle.protocol.specs.Every.{none, one}
-use Rattle.protocol.specs.Bytes.{Bytes, part, isZero}
+use Rattle.protocol.specs.Bytes.{Bytes, isZero}
 use Rattle.protocol.specs.Tests.{allOf, inRange, everyHeight}
 use Rattle.protocol.specs.Block.{maximumHeights}
-use Rattle.protocol.specs.State.{bookHeights, maximumReplicas}
+use Rattle.protocol.specs.State.{bookHeights, weightsIn}
 use Rattle.protocol.specs.Sound.{masksBelow}
-use Rattle.protocol.specs.Observer.{observerState, observerBookSize}
+use Rattle.protocol.specs.Observer.{asReplica, decodeObserver, observerState, observerBookSize}
 use Rattle.protocol.specs.ObserverSound.{observerSound, replicaHead, observedZero}
 use Rattle.protocol.specs.Laws.TestsLaws.{and-both, both-ways}
 use Rattle.protocol.specs.Laws.RowLaws.{by-rows, all-of, true-and, every-height-at, every-height, in-range}
 use Rattle.book_fields.specs.Laws.ObserverBookLaws.{observer-readable}
+use Rattle.book_fields.specs.Laws.SettingRowsLaws.{SettingPasses, setting-passes, setting-pass}
 use Rattle.book_fields.specs.Book.{ObserverReadable, observedIn}
-use Rattle.observer_soundness.specs.ObserverRows.{numberRows, headRows, heightRows, blockRow, certificateRow}
+use Rattle.observer_soundness.specs.ObserverRows.{headRows, heightRows, blockRow, certificateRow}
 use Rattle.observer_soundness.specs.ObserverRows.{finalRow}
 
 -- ---- the rows of each group by name
 module _ (book : Bytes) where
   record HeadPasses : Type 0 where
     size : eqb (length book) (observerBookSize (bookHeights book)) ≡ true
-    replicas : inRange 1 maximumReplicas (observerState book .n) ≡ true
+    setting : SettingPasses book
     heights : inRange 1 maximumHeights (bookHeights book) ≡ true
-    edition : eqb (observerState book .edition) 1 ≡ true
     replica : isZero (replicaHead book) ≡ true
-    zeros : isZero (part book 8 56) ≡ true
 
   head-rows : allOf (headRows book) ≡ true → HeadPasses
-  unfolding headRows numberRows
+  unfolding headRows
   head-rows e =
-      by-rows _ e λ size numbers replica zeros. by-rows _ numbers λ replicas heights edition. record {
+      by-rows _ e λ size setting heights replica. record {
         size = size;
-        replicas = replicas;
+        setting = setting-passes book setting;
         heights = heights;
-        edition = edition;
         replica = replica;
-        zeros = zeros;
       }
 
   record HeightPasses (h : ℕ) : Type 0 where
@@ -68,10 +65,13 @@ module _ (digest : Bytes → Bytes) (book : Bytes) where
 
   groups-pass : observerSound digest book ≡ true →
       (allOf (headRows book) ≡ true) × (every ≡ true) × (finalRow digest book ≡ true)
-  unfolding observerSound headRows numberRows heightRows blockRow certificateRow finalRow
+  unfolding observerSound headRows heightRows blockRow certificateRow finalRow asReplica decodeObserver
   groups-pass e =
-      by-rows _ e λ size replicas heights edition masks status block certificate replica zeros zero final. (
-        all-of (one size (one (all-of (one replicas (one heights (one edition none)))) (one replica (one zeros none)))),
+      by-rows _ e λ size replicas heights edition weights masks status block certificate replica zeros zero final. (
+        all-of
+            (one size
+            (one (setting-pass book (record { replicas = replicas; edition = edition; weights = weights; unused = zeros }))
+            (one heights (one replica none)))),
         every-height _ _ (λ h low high. all-of
             (one (every-height-at _ _ h masks low high)
             (one (every-height-at _ _ h status low high)
@@ -86,19 +86,20 @@ module _ (digest : Bytes → Bytes) (book : Bytes) where
     at-height h low high = height-rows book h (every-height-at _ (bookHeights book) h heights low high)
 
     sound-passes : observerSound digest book ≡ true
-    unfolding observerSound blockRow certificateRow finalRow
+    unfolding observerSound blockRow certificateRow finalRow asReplica decodeObserver weightsIn
     sound-passes =
         let is = head-rows book head in
         all-of
-        (one (is .size) (one (is .replicas) (one (is .heights) (one (is .edition)
+        (one (is .size) (one (is .setting .replicas) (one (is .heights) (one (is .setting .edition)
+        (one (is .setting .weights)
         (one (every-height _ _ (λ h low high. at-height h low high .masks))
         (one (every-height _ _ (λ h low high. at-height h low high .status))
         (one (every-height _ _ (λ h low high. at-height h low high .block))
         (one (every-height _ _ (λ h low high. at-height h low high .certificate))
         (one (is .replica)
-        (one (is .zeros)
+        (one (is .setting .unused)
         (one (every-height _ _ (λ h low high. at-height h low high .zero))
-        (one final none))))))))))))
+        (one final none)))))))))))))
 
   -- soundness, group by group
   pub observer-sound-is : observerSound digest book ≡ (allOf (headRows book) && (every && finalRow digest book))
@@ -111,8 +112,9 @@ module _ (digest : Bytes → Bytes) (book : Bytes) where
 
 -- the head's rows are all that reading asks
 pub head-readable : (book : Bytes) → allOf (headRows book) ≡ true → ObserverReadable book
-unfolding observerBookSize
+unfolding observerBookSize asReplica decodeObserver
 head-readable book e =
     let is = head-rows book e in
     let size : length book ≡ 64 + 184 * bookHeights book = eqb-true _ _ (is .size) in
-    observer-readable book size (in-range _ _ _ (is .replicas) .1) (in-range _ _ _ (is .heights) .1)
+    observer-readable book size (in-range _ _ _ (is .setting .replicas) .1) (in-range _ _ _ (is .heights) .1)
+    (is .setting .unused)

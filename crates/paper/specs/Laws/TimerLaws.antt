@@ -15,7 +15,7 @@ use Rattle.protocol.specs.State.{State, Height, at, last, flag, decode, encode,
 use Rattle.protocol.specs.State.{withTimerFired}
 use Rattle.protocol.specs.Frame.{frameHeight}
 use Rattle.protocol.specs.Sound.{sound}
-use Rattle.protocol.specs.Open.{newState, openRows, openCall}
+use Rattle.protocol.specs.Open.{Opening, newState, openRows, openCall}
 use Rattle.protocol.specs.Deliver.{deliverCall, deliverAll, leaderEquivocates, timerFires}
 use Rattle.protocol.specs.Laws.DeliverLaws.{deliver-cases, proposal-fires}
 use Rattle.protocol.specs.Laws.RowLaws.{range-in}
@@ -168,9 +168,9 @@ module _ (digest : Bytes → Bytes) (book : Bytes) where
       (448 ≤ length reply) × Passes digest (decode book) (step digest (decode book))
   by-pass reply (byPass r certificate finalized room is) = (room, (certificate, finalized, is))
 
-  by-opening : (n own heights : ℕ) (leaders : Bytes) → Restarts digest book (opening n own heights leaders) →
-      openCall book n own heights leaders .answer ≡ accepted done
-  by-opening n own heights leaders (byOpening m o k l e) = e
+  by-opening : (way : Opening) (n own heights : ℕ) (leaders : Bytes) → Restarts digest book (opening way n own heights leaders) →
+      openCall way book n own heights leaders .answer ≡ accepted done
+  by-opening way n own heights leaders (byOpening w m o k l e) = e
 
 -- ---- each call
 module _ (digest : Bytes → Bytes) (book : Bytes) (was : sound digest book ≡ true) where
@@ -291,22 +291,22 @@ module _ (digest : Bytes → Bytes) (book : Bytes) (was : sound digest book ≡ 
       (λ _ set. step-raises digest s clear (sym (flag-back 1 _) ∙ set)))
       (λ f. elim f [ ])
 
-  opening-timer : (n own heights : ℕ) (leaders : Bytes) → Timer digest book (opening n own heights leaders)
+  opening-timer : (way : Opening) (n own heights : ℕ) (leaders : Bytes) → Timer digest book (opening way n own heights leaders)
   unfolding effect openCall
-  opening-timer n own heights leaders = clears-flag (opening n own heights leaders)
+  opening-timer way n own heights leaders = clears-flag (opening way n own heights leaders)
       (λ set. unless-refused (λ (b : Bytes). flag 1 (decode b) ≡ false →
-      Restarts digest book (opening n own heights leaders))
+      Restarts digest book (opening way n own heights leaders))
       rows book _ (λ clear. absurd (true≢false (sym set ∙ clear)))
-      (λ passes _. byOpening n own heights leaders (unfold openCall unlessRefused in rw passes)))
-      (λ r. rw (open-bytes book n own heights leaders (by-opening digest book n own heights leaders r))
+      (λ passes _. byOpening way n own heights leaders (unfold openCall unlessRefused in rw passes)))
+      (λ r. rw (open-bytes way book n own heights leaders (by-opening digest book way n own heights leaders r))
       (unfold openedBook decode flag in refl))
       (λ clear. unless-refused (λ (b : Bytes). flag 1 (decode b) ≡ true → ⊥) rows book _
       (λ set. true≢false (sym set ∙ clear))
-      (λ _ set. true≢false (sym set ∙ flag-back 1 (newState n own leaders) ∙ unfold newState flag in refl)))
+      (λ _ set. true≢false (sym set ∙ flag-back 1 (newState way n own leaders) ∙ unfold newState flag in refl)))
       (λ f. elim f [ ])
     where
       rows : List Row
-      rows = openRows book n own heights leaders
+      rows = openRows way book n own heights leaders
 
   submitting-timer : (entry : Bytes) → Timer digest book (submitting entry)
   unfolding effect submitCall
@@ -316,7 +316,7 @@ module _ (digest : Bytes → Bytes) (book : Bytes) (was : sound digest book ≡ 
 
   pub timer : (call : Call) → Timer digest book call
   unfolding effect
-  timer (opening n own heights leaders) = opening-timer n own heights leaders
+  timer (opening way n own heights leaders) = opening-timer way n own heights leaders
   timer (delivery frame) = delivery-timer frame
   timer (packetDelivery packet) = packet-timer packet
   timer (moving reply) = move-timer reply

@@ -8,7 +8,7 @@ use Rattle.protocol.specs.Bytes.{Bytes}
 use Rattle.protocol.specs.Tests.{firstRefusal}
 use Rattle.protocol.specs.State.{decode}
 use Rattle.protocol.specs.Answer.{Outcome, refused, isAccepted, unlessRefused}
-use Rattle.protocol.specs.Open.{openCall, openRows}
+use Rattle.protocol.specs.Open.{Opening, openedWeights, openCall, openRows}
 use Rattle.protocol.specs.Deliver.{deliverCall, deliverRows}
 use Rattle.protocol.specs.Packet.{acceptedOf, packetCall, packetFrames, packetRows}
 use Rattle.protocol.specs.Move.{moveCall, moveRows, moved, step, unlessMoveRefused}
@@ -40,9 +40,9 @@ module _ (digest : Bytes → Bytes) (book : Bytes) where
   pub refused-does-nothing : (call : Call) → effect digest book call .accepted ≡ false →
       effect digest book call ≡ leaves book false
   unfolding effect isAccepted openCall deliverCall packetCall signalCall submitCall
-  refused-does-nothing (opening n own heights leaders) =
-      unless-refused (ofOpening (record { n = n; own = own })) (λ number. refl) _ refl
-      (firstRefusal (openRows book n own heights leaders))
+  refused-does-nothing (opening way n own heights leaders) =
+      unless-refused (ofOpening (record { weights = openedWeights n way; own = own })) (λ number. refl) _ refl
+      (firstRefusal (openRows way book n own heights leaders))
   refused-does-nothing (delivery frame) =
       unless-refused (ofDelivery frame) (λ number. refl) _
       (ap isAccepted (heard-accepted digest book frame .1))
@@ -71,8 +71,9 @@ module _ (digest : Bytes → Bytes) (book : Bytes) where
   -- ---- openings and readings
   -- the opening that opened such a book, not refused
   abbrev pub OpensBy : Call → Opened → Type 0
-  OpensBy call opened = (heights : ℕ) × (leaders : Bytes) × (call ≡ opening (opened .n) (opened .own) heights leaders) ×
-      (isAccepted (openCall book (opened .n) (opened .own) heights leaders .answer) ≡ true)
+  OpensBy call opened = (way : Opening) × (n : ℕ) × (heights : ℕ) × (leaders : Bytes) ×
+      (call ≡ opening way n (opened .own) heights leaders) × (openedWeights n way ≡ opened .weights) ×
+      (isAccepted (openCall way book n (opened .own) heights leaders .answer) ≡ true)
 
   -- the reading that returned such a part
   abbrev pub ReadsBy : Call → Bytes → Type 0
@@ -90,19 +91,19 @@ module _ (digest : Bytes → Bytes) (book : Bytes) where
   refuses true opened e = nothing (sym e)
   refuses false opened e = refl
 
-  pub opens-nothing : (n own heights : ℕ) (leaders : Bytes) →
-      effect digest book (opening n own heights leaders) .opens ≡ none →
-      isAccepted (openCall book n own heights leaders .answer) ≡ false
+  pub opens-nothing : (way : Opening) (n own heights : ℕ) (leaders : Bytes) →
+      effect digest book (opening way n own heights leaders) .opens ≡ none →
+      isAccepted (openCall way book n own heights leaders .answer) ≡ false
   unfolding effect
-  opens-nothing n own heights leaders e = refuses _ _ e
+  opens-nothing way n own heights leaders e = refuses _ _ e
 
   pub only-opening : (call : Call) (opened : Opened) → effect digest book call .opens ≡ some opened →
       OpensBy call opened
   unfolding effect
-  only-opening (opening n own heights leaders) opened e =
-      let unrefused = isAccepted (openCall book n own heights leaders .answer) in
-      let (unrefused-is, same) = accepts unrefused (record { n = n; own = own }) opened e in
-      rw (← same) (heights, leaders, refl, unrefused-is)
+  only-opening (opening way n own heights leaders) opened e =
+      let unrefused = isAccepted (openCall way book n own heights leaders .answer) in
+      let (unrefused-is, same) = accepts unrefused (record { weights = openedWeights n way; own = own }) opened e in
+      rw (← same) (way, n, heights, leaders, refl, refl, unrefused-is)
   only-opening (delivery frame) opened e = nothing e
   only-opening (packetDelivery packet) opened e = nothing e
   only-opening (moving reply) opened e = nothing e
@@ -114,7 +115,7 @@ module _ (digest : Bytes → Bytes) (book : Bytes) where
 
   pub only-reading : (call : Call) (part : Bytes) → effect digest book call .reads ≡ some part → ReadsBy call part
   unfolding effect
-  only-reading (opening n own heights leaders) part e = nothing e
+  only-reading (opening way n own heights leaders) part e = nothing e
   only-reading (delivery frame) part e = nothing e
   only-reading (packetDelivery packet) part e = nothing e
   only-reading (moving reply) part e = nothing e

@@ -95,7 +95,7 @@ shaped-vote x r digest h e fits =
 
 pub shaped-pool : (s : State) (count : ℕ) (pool : Bytes) → length pool ≡ 512 → Shaped s → Shaped (withPool s count pool)
 unfolding withPool
-shaped-pool s count pool e shaped = record { pool-size = e; heights = shaped .heights }
+shaped-pool s count pool e shaped = record { weighed = shaped .weighed; pool-size = e; heights = shaped .heights }
 
 -- ---- the bytes of a book, with one of its heights named
 pub named-height : (book : Bytes) (i : ℕ) → encode (decode book) ≡ book →

@@ -9,9 +9,10 @@ use mathlib.Core.List.{_++_, map}
 use lib.ListN.{length, getD, take, drop, length-drop, take-append-drop, List·getD-eq-default}
 use lib.Seq.{take-all, take-add, drop-drop, length-take-le}
 use Rattle.protocol.specs.SoundState.{ShapedHeight, Shaped}
-use Rattle.protocol.specs.Bytes.{Bytes, byteAt, le16, part, zeros, join, pieces, AreBytes}
+use Rattle.protocol.specs.Bytes.{Bytes, byteAt, le16, part, zeros, isZero, join, pieces, AreBytes}
 use Rattle.protocol.specs.State.{State, noHeight, at, last, isNotarized, encode, decode, headBytes, contentBytes}
-use Rattle.protocol.specs.State.{bodyBytes, decodeHeight, decodeHeights, bookHeights}
+use Rattle.protocol.specs.State.{bodyBytes, decodeHeight, decodeHeights, bookHeights, headUnused}
+use Rattle.protocol.specs.Laws.HeadLaws.{weights-weighed, rest-back, head-spelled}
 use Rattle.protocol.specs.Laws.TestsLaws.{le-or-lt}
 use Rattle.protocol.specs.Laws.EveryLaws.{every-from}
 use Rattle.protocol.specs.Laws.BytesLaws.{are-bytes-take, are-bytes-drop, word-low, word-high, length-part}
@@ -83,6 +84,7 @@ decode-height-shaped content body e = record {
 pub decode-shaped : (book : Bytes) → Exact book → Shaped (decode book)
 unfolding last
 decode-shaped book exact = record {
+  weighed = unfold decode in weights-weighed (byteAt book 7) (byteAt book 0) (part book 8 32);
   pool-size = pool-size;
   heights = every-from ShapedHeight noHeight (decode book .heights)
       (λ i h. rw (← at-suc (decode book) i) (height-shaped i (rw (last-decode book) at h)));
@@ -99,7 +101,7 @@ decode-shaped book exact = record {
 -- ---- a book whose bytes called zero are zero is the bytes of its state
 pub record Clean (book : Bytes) : Type 0 where
   pub size : Exact book
-  pub head-zeros : part book 8 56 ≡ zeros 56
+  pub head-zeros : isZero (headUnused book) ≡ true
   pub content-zeros : (i : ℕ) → i < bookHeights book → part book (576 + 16 * i + 10) 6 ≡ zeros 6
 
 content-back : (content body : Bytes) → length content ≡ 16 → AreBytes content → part content 10 6 ≡ zeros 6 →
@@ -155,13 +157,12 @@ bodies-back (suc count) contents bodies h =
     let r = bodies-back count (drop 16 contents) (drop 864 bodies) (rw length-drop (omega arith)) in
     rw (c, r, e) (sym (take-add 864 (864 * count) bodies))
 
-head-back : (book : Bytes) → Clean book → headBytes (decode book) ≡ take 64 book
+head-back : (book : Bytes) → AreBytes book → Clean book → headBytes (decode book) ≡ take 64 book
 unfolding headBytes decode
-head-back book clean =
+head-back book small clean =
     let size : length book ≡ 576 + 880 * bookHeights book = clean .size in
-    let e : take 64 book ≡ firsts 8 0 book ++ take 56 (drop 8 book) =
-    ap (λ (l : Bytes). take 64 l) (spell 8 0 book (omega arith)) in
-    let z : take 56 (drop 8 book) ≡ zeros 56 = unfold part in clean .head-zeros in
+    let e = head-spelled book (omega arith) in
+    let z = rest-back book (omega arith) small (clean .head-zeros) in
     let h = length-heights (bookHeights book) (drop 576 book) (drop (576 + 16 * bookHeights book) book) in
     cc
 
@@ -194,4 +195,4 @@ module _ (book : Bytes) (small : AreBytes book) (clean : Clean book) where
 
   pub clean-back : encode (decode book) ≡ book
   unfolding encode
-  clean-back = rw (head-back book clean, from-contents, from-pool) (take-append-drop 64 book)
+  clean-back = rw (head-back book small clean, from-contents, from-pool) (take-append-drop 64 book)

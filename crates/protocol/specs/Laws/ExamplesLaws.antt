@@ -15,7 +15,7 @@ use Rattle.protocol.specs.State.{encode, bookSize, flag, pending, withHe
 use Rattle.protocol.specs.View.{View, quorum, isDummy, dummyRun, digestAt, parentOf, chain, chainWithin, logAt}
 use Rattle.protocol.specs.View.{extends, extendsOver}
 use Rattle.protocol.specs.Answer.{idle, voteDummy, accepted, done}
-use Rattle.protocol.specs.Open.{openCall}
+use Rattle.protocol.specs.Open.{unweighed, openCall}
 use Rattle.protocol.specs.Signal.{signalCall}
 use Rattle.protocol.specs.Frame.{kind, frameBlock, frameOf, proposal, dummyVote, finalize}
 use Rattle.protocol.specs.Move.{moveCall, moved, MoveOutcome, dummyVoteStep, passStep, proposeStep, written}
@@ -191,7 +191,7 @@ examples Letter.l = away
 
 -- ---- the premises of f to k can be met
 -- replica 2 of 4 with one height, which another or the replica itself leads
-start : (leader : ℕ) → openCall (zeros 1456) 4 2 1 (leader ∷ []) .answer ≡ accepted done → Start
+start : (leader : ℕ) → openCall unweighed (zeros 1456) 4 2 1 (leader ∷ []) .answer ≡ accepted done → Start
 start leader opens = record {
   old = zeros 1456;
   n = 4;

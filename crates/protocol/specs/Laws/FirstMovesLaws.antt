@@ -5,7 +5,7 @@ use native.Mathlib.Nat.{zero-div}
 use mathlib.Core.Path.{_≡_, refl, ap, _∙_}
 use mathlib.Core.Logic.{_≢_}
 use mathlib.Core.Bool.{true, false, _&&_, not}
-use lib.ListN.{length}
+use lib.ListN.{length, replicate, length-replicate}
 use lib.Pow.{pow-pos}
 use borrow.Author.Tests.{lt-leb}
 use Rattle.protocol.specs.Bytes.{Bytes}
@@ -19,6 +19,7 @@ use Rattle.protocol.specs.Deliver.{withMasks}
 use Rattle.protocol.specs.Signal.{signalCall}
 use Rattle.protocol.specs.Move.{moveCall, moved, idleStep, dummyVoteStep, proposeStep, dummyVoteApplies}
 use Rattle.protocol.specs.Laws.QuorumLaws.{quorum-even}
+use Rattle.protocol.specs.Laws.HeadLaws.{padded-front}
 use Rattle.protocol.specs.Laws.NewBookLaws.{Ranges, early, firstHeight}
 use Rattle.protocol.specs.Laws.NewBookCallsLaws.{early-move, voting, step-idle, step-vote, step-propose}
 use Rattle.protocol.specs.Laws.NewBookCallsLaws.{early-signal}
@@ -32,7 +33,8 @@ module _ (digest : Bytes → Bytes) (n own leader : ℕ) (leaders : Bytes) (rang
   not-dummy : (flags : ℕ) → isDummy (view (early n own flags 0 0 leader leaders)) 1 ≡ false
   unfolding isDummy view at firstHeight withMasks newHeight
   not-dummy flags =
-      quorum-even (view (early n own flags 0 0 leader leaders)) n 0 refl ∙
+      quorum-even (view (early n own flags 0 0 leader leaders)) n 0
+      (padded-front n (replicate n 1) (length-replicate n 1) (ranges .few-replicas)) ∙
       rw (none-signed n) (lt-leb (2 * n) (3 * 0) (omega (arith, ranges .some-replica)))
 
   zero-below : 0 < 2 ^ n

@@ -7,7 +7,7 @@ use mathlib.Core.List.{List, [], _∷_}
 use lib.ListN.{length}
 use Rattle.protocol.specs.Bytes.{Bytes, byteAt, word16, le16}
 use Rattle.protocol.specs.Mask.{inMask, maskOf, union, belowBit, weigh, total}
-use Rattle.protocol.specs.State.{State, at, last, encode, decode, headBytes, flag, withHead}
+use Rattle.protocol.specs.State.{State, at, last, encode, decode, headBytes, flag, withHead, padded}
 use Rattle.protocol.specs.View.{quorum, isDummy}
 use Rattle.protocol.specs.Sound.{view}
 use Rattle.protocol.specs.Answer.{Outcome, Delivery, fresh, accepted}
@@ -52,7 +52,7 @@ module _ (digest : Bytes → Bytes) (own leader : ℕ) (leaders : Bytes) (ranges
       one-vote flags 3 2 [] p (omega arith) (omega arith) refl)
 
   dummy-now : (flags : ℕ) → isDummy (view (early 4 own flags 7 0 leader leaders)) 1 ≡ true
-  unfolding isDummy quorum view at firstHeight withMasks newHeight weigh total inMask
+  unfolding isDummy quorum view at firstHeight withMasks newHeight weigh total inMask padded
   dummy-now flags = refl
 
   -- the move after the three votes
@@ -73,7 +73,7 @@ module _ (digest : Bytes → Bytes) (own leader : ℕ) (leaders : Bytes) (ranges
   -- the move after the finalize certificate
   finalizes : (reply : Bytes) → 448 ≤ length reply →
       afterFinalizes digest (B 0 0 0) reply ≡ moved reply (step digest (early 4 own 0 0 7 leader leaders))
-  unfolding afterFinalizes word16 le16 belowBit quorum union maskOf inMask weigh total view
+  unfolding afterFinalizes word16 le16 belowBit quorum union maskOf inMask weigh total padded view
   finalizes reply room =
       rw (
         early-certificate 4 own 0 0 0 leader leaders ranges (omega arith) (omega arith) (omega arith) digest 7 refl refl

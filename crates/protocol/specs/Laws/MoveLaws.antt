@@ -9,6 +9,7 @@ use Rattle.protocol.specs.Bytes.{Bytes}
 use Rattle.protocol.specs.State.{State, at, flag, holdsProposal, withHead}
 use Rattle.protocol.specs.View.{extends}
 use Rattle.protocol.specs.Sound.{view}
+use Rattle.protocol.specs.SoundState.{Weighed}
 use Rattle.protocol.specs.Move.{Step, firstStep, step, afterMoves, dummyVoteApplies, dummyVoteStep, outputApplies}
 use Rattle.protocol.specs.Move.{outputStep, passApplies, passStep, proposeApplies, proposeStep, blockVoteApplies}
 use Rattle.protocol.specs.Move.{blockVoteStep, idleStep, isRunning, isSome, parentBelow}
@@ -52,10 +53,20 @@ pub record SameBody (s t : State) : Type 0 where
   pub same-n : t .n ≡ s .n
   pub same-pool : t .pool ≡ s .pool
   pub same-heights : t .heights ≡ s .heights
+  pub same-weights : t .weights ≡ s .weights
+  pub same-view : view t .weights ≡ view s .weights
+  pub same-weighed : Weighed (s .edition) (s .n) (s .weights) → Weighed (t .edition) (t .n) (t .weights)
 
 with-head-same : (s : State) (flags current finalized : ℕ) → SameBody s (withHead s flags current finalized)
 unfolding withHead
-with-head-same s flags current finalized = record { same-n = refl; same-pool = refl; same-heights = refl }
+with-head-same s flags current finalized = record {
+  same-n = refl;
+  same-pool = refl;
+  same-heights = refl;
+  same-weights = refl;
+  same-view = unfold view in refl;
+  same-weighed = λ w. w;
+}
 
 module _ (digest : Bytes → Bytes) where
   pub step-body : (s : State) → SameBody s (step digest s .after)
@@ -66,12 +77,16 @@ module _ (digest : Bytes → Bytes) where
   -- so do several moves
   pub moves-body : (k : ℕ) (s : State) → SameBody s (afterMoves digest k s)
   unfolding afterMoves
-  moves-body zero s = record { same-n = refl; same-pool = refl; same-heights = refl }
+  moves-body zero s =
+      record { same-n = refl; same-pool = refl; same-heights = refl; same-weights = refl; same-view = refl; same-weighed = λ w. w }
   moves-body (suc k) s =
       let first = step-body s in
       let rest = moves-body k (step digest s .after) in
       record {
         same-n = rest .same-n ∙ first .same-n;
+        same-weights = rest .same-weights ∙ first .same-weights;
+        same-view = rest .same-view ∙ first .same-view;
+        same-weighed = λ w. rest .same-weighed (first .same-weighed w);
         same-pool = rest .same-pool ∙ first .same-pool;
         same-heights = rest .same-heights ∙ first .same-heights;
       }

@@ -5,7 +5,7 @@ use mathlib.Core.Path.{_≡_, refl}
 use mathlib.Core.Logic.{inl}
 use mathlib.Core.Bool.{true, false≢true}
 use mathlib.Core.List.{List, [], _∷_, map}
-use lib.ListN.{length, getD, length-map}
+use lib.ListN.{length, getD, replicate, length-map}
 use lib.Dec.{ltb}
 use lib.Pow.{pow-pos}
 use borrow.Author.Tests.{ltb-true}
@@ -20,8 +20,8 @@ use Rattle.protocol.specs.Laws.StateLaws.{decode-encode}
 use Rattle.protocol.specs.View.{View}
 use Rattle.protocol.specs.Sound.{view, sound}
 use Rattle.protocol.specs.Laws.SoundLaws.{sound-encode}
-use Rattle.protocol.specs.Laws.NewStateLaws.{new-shaped}
-use Rattle.protocol.specs.Open.{newHeight, startState, newState}
+use Rattle.protocol.specs.Laws.NewStateLaws.{new-shaped, even-weighed, even-setting}
+use Rattle.protocol.specs.Open.{unweighed, newHeight, startState, newState}
 use Rattle.protocol.specs.Deliver.{withMasks}
 
 -- what holds of each element and of the default holds of any place
@@ -102,7 +102,7 @@ bare-sound v h x b = record {
 -- the new state of these leaders, but with flags, and with a dummy and a finalize mask at height 1
 module _ (n own flags dummy final leader : ℕ) (leaders : Bytes) where
   abbrev pub early : State
-  early = startState n own flags (firstHeight leader dummy final ∷ map newHeight leaders)
+  early = startState 1 n (replicate n 1) own flags (firstHeight leader dummy final ∷ map newHeight leaders)
 
 -- what Open asks of its arguments, for a list of leaders that is not empty
 pub record Ranges (n own leader : ℕ) (leaders : Bytes) : Type 0 where
@@ -128,9 +128,10 @@ module _ (n own flags dummy final leader : ℕ) (leaders : Bytes) (ranges : Rang
   early-shaped : Shaped E
   unfolding zeros newState
   early-shaped = record {
+    weighed = even-weighed n;
     pool-size = refl;
     heights =
-        one (first-shaped leader dummy final) (new-shaped n own leaders .heights);
+        one (first-shaped leader dummy final) (new-shaped unweighed n own leaders .heights);
   }
 
   pub early-back : decode (encode E) ≡ E
@@ -142,7 +143,7 @@ module _ (n own flags dummy final leader : ℕ) (leaders : Bytes) (ranges : Rang
       let count = length-map leaders newHeight in
       sound-encode digest E (record {
         shaped = early-shaped;
-        first-edition = refl;
+        setting = even-setting n (ranges .some-replica) (ranges .few-replicas);
         n-low = ranges .some-replica;
         n-high = ranges .few-replicas;
         own-below = ranges .own-below;

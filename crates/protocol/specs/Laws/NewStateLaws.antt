@@ -1,20 +1,29 @@
 -- The bytes of a new state: zero bytes with five bytes of the head set, and then a leader for each height.
-use Prim.Native.Nat.{ℕ, zero, suc, _+_, _-_, _*_, _<_}
+use Prim.Native.Nat.{ℕ, zero, suc, _+_, _-_, _*_, _≤_, _<_}
 use native.Mathlib.Omega.{arith}
 use native.Mathlib.Nat.{mul-zero}
 use mathlib.Core.Path.{_≡_, refl, sym, ap, _∙_}
-use mathlib.Core.List.{List, [], _∷_, _++_, map}
-use lib.ListN.{length, getD, set, length-map}
-use Rattle.protocol.specs.SoundState.{ShapedHeight, Shaped}
+use mathlib.Core.Bool.{true, false≢true}
+use mathlib.Core.List.{List, [], _∷_, _++_, map, append-assoc}
+use lib.ListN.{length, getD, set, take, drop, replicate, length-map, length-replicate}
+use lib.Seq.{drop-at}
+use lib.Dec.{eqb}
+use Rattle.protocol.specs.SoundState.{ShapedHeight, Shaped, Weighed, SoundSetting}
+use Rattle.protocol.specs.Tests.{inRange}
+use Rattle.protocol.specs.Sound.{weightsFit}
+use Rattle.protocol.specs.Laws.TestsLaws.{and-both}
+use Rattle.protocol.specs.Laws.RowLaws.{zeros-is-zero}
+use Rattle.protocol.specs.Laws.HeadLaws.{padded-sixteen, padded-front, padded-back, words-count, opened-bytes}
 use Rattle.protocol.specs.Every.{Every, none, one}
-use Rattle.protocol.specs.Bytes.{Bytes, le16, zeros, join}
+use Rattle.protocol.specs.Bytes.{Bytes, le16, zeros, all, join, put, AreBytes}
 use Rattle.protocol.specs.State.{State, Height, at, last, noHeight, withHeight, encode, headBytes, contentBytes}
-use Rattle.protocol.specs.State.{bodyBytes}
-use Rattle.protocol.specs.Open.{newHeight, newState}
+use Rattle.protocol.specs.State.{bodyBytes, padded, evenly, words, maximumWeight}
+use Rattle.protocol.specs.Open.{Opening, unweighed, weighed, openedEdition, openedWeights, weightsInRange, newHeight}
+use Rattle.protocol.specs.Open.{newState}
 use Rattle.protocol.specs.Laws.CodecLaws.{at-suc}
 use Rattle.protocol.specs.Laws.PlaceLaws.{with-at}
 use Rattle.protocol.specs.Laws.WriteLaws.{withLeader, write-leader}
-use Rattle.protocol.specs.Laws.BytesLaws.{length-zeros, zeros-add}
+use Rattle.protocol.specs.Laws.BytesLaws.{length-zeros, zeros-add, put-at}
 
 -- ---- the shape of a new state
 pub new-height-shaped : (leader : ℕ) → ShapedHeight (newHeight leader)
@@ -30,13 +39,64 @@ new-heights-shaped : (leaders : Bytes) → Every ShapedHeight (map newHeight lea
 new-heights-shaped [] = none
 new-heights-shaped (leader ∷ leaders) = one (new-height-shaped leader) (new-heights-shaped leaders)
 
-pub new-shaped : (n own : ℕ) (leaders : Bytes) → Shaped (newState n own leaders)
-unfolding newState
-new-shaped n own leaders = record { pool-size = length-zeros 512; heights = new-heights-shaped leaders }
+-- ---- the weights of a new state
+-- every replica weighs 1
+pub even-weighed : (n : ℕ) → Weighed 1 n (padded (replicate n 1))
+even-weighed n = record { sixteen = padded-sixteen (replicate n 1); even = λ e. unfold evenly in refl }
 
-pub new-last : (n own : ℕ) (leaders : Bytes) → last (newState n own leaders) ≡ length leaders
+pub opened-weighed : (way : Opening) (n : ℕ) → Weighed (openedEdition way) n (padded (openedWeights n way))
+unfolding openedEdition openedWeights
+opened-weighed unweighed n = even-weighed n
+opened-weighed (weighed weights) n = record {
+  sixteen = padded-sixteen (words n weights);
+  even = λ e. absurd (false≢true e);
+}
+
+-- those that are there have the weights that were given
+pub opened-counted : (way : Opening) (n : ℕ) → length (openedWeights n way) ≡ n
+unfolding openedWeights
+opened-counted unweighed n = length-replicate n 1
+opened-counted (weighed weights) n = words-count n weights
+
+pub opened-front : (way : Opening) (n : ℕ) → n ≤ 16 → take n (padded (openedWeights n way)) ≡ openedWeights n way
+opened-front way n high = padded-front n (openedWeights n way) (opened-counted way n) high
+
+-- weights in range are those of a sound book
+fits : (n : ℕ) (ws : List ℕ) → length ws ≡ n → n ≤ 16 → all (λ w. inRange 1 maximumWeight w) ws ≡ true →
+    weightsFit n (padded ws) ≡ true
+unfolding weightsFit
+fits n ws e high range = rw (padded-front n ws e high, range, padded-back n ws e high) (zeros-is-zero (16 - n))
+
+ones-range : (n : ℕ) → all (λ w. inRange 1 maximumWeight w) (replicate n 1) ≡ true
+unfolding all inRange
+ones-range zero = refl
+ones-range (suc n) = ones-range n
+
+pub opened-setting : (way : Opening) (n : ℕ) → n ≤ 16 → weightsInRange n way ≡ true →
+    SoundSetting (openedEdition way) n (padded (openedWeights n way))
+unfolding openedEdition openedWeights weightsInRange
+opened-setting unweighed n high e = record {
+  edition-row = unfold inRange in refl;
+  weights-row = fits n (replicate n 1) (length-replicate n 1) high (ones-range n);
+}
+opened-setting (weighed weights) n high e = record {
+  edition-row = unfold inRange in refl;
+  weights-row = fits n (words n weights) (words-count n weights) high
+      (and-both (eqb (length weights) (2 * n)) (all (λ w. inRange 1 maximumWeight w) (words n weights)) e .1);
+}
+
+pub even-setting : (n : ℕ) → 1 ≤ n → n ≤ 16 → SoundSetting 1 n (padded (replicate n 1))
+unfolding openedEdition openedWeights weightsInRange
+even-setting n low high = opened-setting unweighed n high refl
+
+pub new-shaped : (way : Opening) (n own : ℕ) (leaders : Bytes) → Shaped (newState way n own leaders)
+unfolding newState
+new-shaped way n own leaders =
+    record { weighed = opened-weighed way n; pool-size = length-zeros 512; heights = new-heights-shaped leaders }
+
+pub new-last : (way : Opening) (n own : ℕ) (leaders : Bytes) → last (newState way n own leaders) ≡ length leaders
 unfolding newState last
-new-last n own leaders = length-map leaders newHeight
+new-last way n own leaders = length-map leaders newHeight
 
 -- ---- all leaders 0
 zero-content : contentBytes (newHeight 0) ≡ zeros 16
@@ -60,31 +120,44 @@ unfolding zeros
 eight-zeros k = sym (zeros-add 8 k)
 
 -- the rest of the book past its first eight bytes
-rest-zeros : (heights : ℕ) → zeros 56 ++ (zeros 512 ++ (zeros (16 * heights) ++ zeros (864 * heights))) ≡ zeros
-    (568 + 880 * heights)
-rest-zeros heights =
-    let size : 56 + (512 + (16 * heights + 864 * heights)) ≡ 568 + 880 * heights = omega arith in
+rest-zeros : (n heights : ℕ) → n ≤ 16 →
+    zeros (56 - 2 * n) ++ (zeros 512 ++ (zeros (16 * heights) ++ zeros (864 * heights))) ≡ zeros
+    (568 + 880 * heights - 2 * n)
+rest-zeros n heights high =
+    let size : 56 - 2 * n + (512 + (16 * heights + 864 * heights)) ≡ 568 + 880 * heights - 2 * n = omega arith in
     rw (
       zeros-add (16 * heights) (864 * heights),
       zeros-add 512 (16 * heights + 864 * heights),
-      zeros-add 56 (512 + (16 * heights + 864 * heights)),
+      zeros-add (56 - 2 * n) (512 + (16 * heights + 864 * heights)),
       size,
     )
 
-pub new-from-zeros : (n own heights : ℕ) →
-    set (set (set (set (set (zeros (576 + 880 * heights)) 0 n) 1 own) 2 heights) 4 1) 7 1 ≡ encode
-    (newState n own (zeros heights))
-unfolding encode headBytes newState
-new-from-zeros n own heights =
+pub drop-zeros : (n k : ℕ) → 2 * n ≤ k → drop (2 * n) (zeros k) ≡ zeros (k - 2 * n)
+drop-zeros n k few =
+    let e : 2 * n + (k - 2 * n) ≡ k = omega arith in
+    ap (λ (j : ℕ). drop (2 * n) (zeros j)) (sym e)
+    ∙ rw (← zeros-add (2 * n) (k - 2 * n)) (drop-at (zeros (2 * n)) (zeros (k - 2 * n)) (2 * n) (length-zeros (2 * n)))
+
+-- the weights are written after the first eight bytes
+pub new-from-zeros : (n own heights : ℕ) (weights : Bytes) → AreBytes weights → length weights ≡ 2 * n → n ≤ 16 →
+    put (set (set (set (set (set (zeros (576 + 880 * heights)) 0 n) 1 own) 2 heights) 4 1) 7 2) 8 weights ≡ encode
+    (newState (weighed weights) n own (zeros heights))
+unfolding encode headBytes newState openedEdition openedWeights
+new-from-zeros n own heights weights small given high =
     let size : 576 + 880 * heights ≡ 8 + (568 + 880 * heights) = omega arith in
     rw (
       size,
       eight-zeros (568 + 880 * heights),
+      put-at (n ∷ own ∷ heights ∷ 0 ∷ 1 ∷ 0 ∷ 0 ∷ 2 ∷ []) (zeros (568 + 880 * heights)) weights 8 refl,
       length-map (zeros heights) newHeight,
       length-zeros heights,
       zero-join contentBytes 16 zero-content heights,
       zero-join bodyBytes 864 zero-body heights,
-      rest-zeros heights,
+      opened-bytes n weights small given high,
+      append-assoc weights (zeros (56 - 2 * n)) (zeros 512 ++ (zeros (16 * heights) ++ zeros (864 * heights))),
+      rest-zeros n heights high,
+      given,
+      drop-zeros n (568 + 880 * heights) (omega arith),
     )
 
 -- ---- one leader
@@ -93,26 +166,26 @@ map-set f [] i v = refl
 map-set f (x ∷ xs) zero v = refl
 map-set f (x ∷ xs) (suc i) v = ap (λ (l : List _). f x ∷ l) (map-set f xs i v)
 
-new-at : (n own : ℕ) (leaders : Bytes) (i v : ℕ) → i < length leaders →
-    withLeader (at (newState n own leaders) (suc i)) v ≡ newHeight v
+new-at : (way : Opening) (n own : ℕ) (leaders : Bytes) (i v : ℕ) → i < length leaders →
+    withLeader (at (newState way n own leaders) (suc i)) v ≡ newHeight v
 unfolding newState
-new-at n own leaders i v h = rw (at-suc (newState n own leaders) i) (led leaders i h)
+new-at way n own leaders i v h = rw (at-suc (newState way n own leaders) i) (led leaders i h)
   where
     led : (l : Bytes) (j : ℕ) → j < length l → withLeader (getD (map newHeight l) j noHeight) v ≡ newHeight v
     led [] j k = absurd (omega arith)
     led (x ∷ xs) zero k = unfold withLeader newHeight in refl
     led (x ∷ xs) (suc j) k = led xs j (omega arith)
 
-new-with : (n own : ℕ) (leaders : Bytes) (i v : ℕ) →
-    withHeight (newState n own leaders) (suc i) (newHeight v) ≡ newState n own (set leaders i v)
+new-with : (way : Opening) (n own : ℕ) (leaders : Bytes) (i v : ℕ) →
+    withHeight (newState way n own leaders) (suc i) (newHeight v) ≡ newState way n own (set leaders i v)
 unfolding withHeight newState
-new-with n own leaders i v = let place : suc i - 1 ≡ i = omega arith in rw (place, map-set newHeight leaders i v)
+new-with way n own leaders i v = let place : suc i - 1 ≡ i = omega arith in rw (place, map-set newHeight leaders i v)
 
-pub new-leader : (n own : ℕ) (leaders : Bytes) (i v : ℕ) → i < length leaders →
-    set (encode (newState n own leaders)) (576 + 16 * i) v ≡ encode (newState n own (set leaders i v))
-new-leader n own leaders i v h =
-    let s : State = newState n own leaders in
+pub new-leader : (way : Opening) (n own : ℕ) (leaders : Bytes) (i v : ℕ) → i < length leaders →
+    set (encode (newState way n own leaders)) (576 + 16 * i) v ≡ encode (newState way n own (set leaders i v))
+new-leader way n own leaders i v h =
+    let s : State = newState way n own leaders in
     ap (λ (t : State). set (encode t) (576 + 16 * i) v) (sym (with-at s i)) ∙
-    write-leader s (new-shaped n own leaders) i (rw (new-last n own leaders) h) (at s (suc i)) v ∙
-    ap (λ (x : Height). encode (withHeight s (suc i) x)) (new-at n own leaders i v h) ∙
-    ap encode (new-with n own leaders i v)
+    write-leader s (new-shaped way n own leaders) i (rw (new-last way n own leaders) h) (at s (suc i)) v ∙
+    ap (λ (x : Height). encode (withHeight s (suc i) x)) (new-at way n own leaders i v h) ∙
+    ap encode (new-with way n own leaders i v)

@@ -3,13 +3,15 @@ use Prim.Native.Nat.{ℕ, zero, suc, _+_, _*_, _≤_, _<_}
 use native.Mathlib.Omega.{arith}
 use native.Mathlib.Nat.{add-assoc, le-of-suc-le-suc, not-suc-le-zero}
 use mathlib.Core.Path.{_≡_, refl, sym, ap, _∙_}
+use mathlib.Core.Bool.{true}
 use mathlib.Core.List.{List, [], _∷_, _++_, map}
 use lib.ListN.{length, getD, take, drop, length-drop, length-map, take-append-drop, drop-of-length-le}
 use lib.Seq.{take-all, take-add, drop-drop, getD-drop, length-take-le}
 use Rattle.protocol.specs.SoundState.{Shaped}
 use Rattle.protocol.specs.Every.{Every, none, one}
-use Rattle.protocol.specs.Bytes.{Bytes, byteAt, le16, part, zeros, join, pieces, AreBytes, Sized}
-use Rattle.protocol.specs.State.{at, last, headBytes, bookHeights}
+use Rattle.protocol.specs.Bytes.{Bytes, byteAt, le16, part, isZero, join, pieces, AreBytes, Sized}
+use Rattle.protocol.specs.State.{at, last, headBytes, bookHeights, headUnused}
+use Rattle.protocol.specs.Laws.HeadLaws.{weights-weighed, rest-back, head-spelled, head-unused}
 use Rattle.protocol.specs.Observer.{Observer, ObservedHeight, asReplica, asReplicaHeight, decodeObserver}
 use Rattle.protocol.specs.Observer.{decodeObservedHeight, decodeObservedHeights, encodeObserver}
 use Rattle.protocol.specs.Observer.{observedContentBytes, observedBodyBytes, observerState}
@@ -74,8 +76,11 @@ bodies-shaped (suc count) contents bodies h = one (length-take-le 176 bodies (om
 
 pub decode-observer-shaped : (book : Bytes) → ExactObserver book → ShapedObserver (decodeObserver book)
 unfolding decodeObserver
-decode-observer-shaped book exact = bodies-shaped (bookHeights book) (drop 64 book)
-    (drop (64 + 8 * bookHeights book) book) (rw length-drop (omega arith))
+decode-observer-shaped book exact = record {
+  weighed = weights-weighed (byteAt book 7) (byteAt book 0) (part book 8 32);
+  blocks = bodies-shaped (bookHeights book) (drop 64 book) (drop (64 + 8 * bookHeights book) book)
+      (rw length-drop (omega arith));
+}
 
 pub observer-state-shaped : (book : Bytes) → ExactObserver book → Shaped (observerState book)
 observer-state-shaped book exact = shaped-as (decodeObserver book) (decode-observer-shaped book exact)
@@ -87,7 +92,7 @@ pub record CleanObserver (book : Bytes) : Type 0 where
   pub flags-zero : byteAt book 3 ≡ 0
   pub current-zero : byteAt book 4 ≡ 0
   pub pending-zero : byteAt book 6 ≡ 0
-  pub head-zeros : part book 8 56 ≡ zeros 56
+  pub head-zeros : isZero (headUnused book) ≡ true
   pub content-zero : (i : ℕ) → i < bookHeights book → byteAt book (64 + 8 * i + 1) ≡ 0
 
 content-back : (content body : Bytes) → length content ≡ 8 → AreBytes content → byteAt content 1 ≡ 0 →
@@ -132,13 +137,12 @@ bodies-back (suc count) contents bodies =
     let r = bodies-back count (drop 8 contents) (drop 176 bodies) in
     rw (r, e) (sym (take-add 176 (176 * count) bodies))
 
-head-back : (book : Bytes) → CleanObserver book → headBytes (observerState book) ≡ take 64 book
+head-back : (book : Bytes) → AreBytes book → CleanObserver book → headBytes (observerState book) ≡ take 64 book
 unfolding headBytes asReplica decodeObserver
-head-back book clean =
+head-back book small clean =
     let size : length book ≡ 64 + 184 * bookHeights book = clean .size in
-    let e : take 64 book ≡ firsts 8 0 book ++ take 56 (drop 8 book) =
-    ap (λ (l : Bytes). take 64 l) (spell 8 0 book (omega arith)) in
-    let z : take 56 (drop 8 book) ≡ zeros 56 = unfold part in clean .head-zeros in
+    let e = head-spelled book (omega arith) in
+    let z = rest-back book (omega arith) small (clean .head-zeros) in
     let h = count-observed book in
     let k = length-map (decodeObserver book .heights) asReplicaHeight in
     let own = clean .own-zero in
@@ -171,7 +175,7 @@ module _ (book : Bytes) (small : AreBytes book) (clean : CleanObserver book) whe
 
   pub clean-observer-back : encodeObserver (decodeObserver book) ≡ book
   unfolding encodeObserver
-  clean-observer-back = rw (head-back book clean, from-contents) (take-append-drop 64 book)
+  clean-observer-back = rw (head-back book small clean, from-contents) (take-append-drop 64 book)
 
 -- ---- the bytes of an observer of the right shape are those of a clean book
 contents-zero : (xs : List ObservedHeight) (rest : Bytes) (i : ℕ) → i < length xs →
@@ -192,13 +196,13 @@ module _ (o : Observer) (shaped : ShapedObserver o) where
       ∙ rw (contents-from o shaped) (contents-zero (o .heights) _ i h))
 
   pub clean-encode-observer : CleanObserver (encodeObserver o)
-  unfolding encodeObserver headBytes asReplica part zeros
+  unfolding encodeObserver headBytes asReplica
   clean-encode-observer = record {
     size = length-encode-observer o shaped ∙ rw (length-map (o .heights) asReplicaHeight);
     own-zero = refl;
     flags-zero = refl;
     current-zero = refl;
     pending-zero = refl;
-    head-zeros = refl;
+    head-zeros = head-unused (asReplica o) _;
     content-zero = λ i h. content-zero-at i (rw (length-map (o .heights) asReplicaHeight) at h);
   }

@@ -8,17 +8,19 @@ use mathlib.Core.List.{List, [], _∷_, _++_, map, append-assoc}
 use lib.ListN.{length, take, drop, set, replicate, length-append, length-map, length-set, length-drop, length-replicate}
 use lib.Seq.{length-take-le}
 use Rattle.protocol.specs.Every.{Every, none, one}
-use Rattle.protocol.specs.Bytes.{Bytes, le16, zeros, join, put, Sized}
+use Rattle.protocol.specs.Bytes.{Bytes, le16, zeros, join, put, Sized, AreBytes}
 use Rattle.protocol.specs.State.{State, Height, at, headBytes, withHead, withHeight, bookHeights}
 use Rattle.protocol.specs.Deliver.{withNotarized, withMasks}
 use Rattle.protocol.specs.Observer.{Observer, ObservedHeight, asReplica, asReplicaHeight, observed}
 use Rattle.protocol.specs.Observer.{observedHeight, observedContentBytes, observedBodyBytes, encodeObserver}
 use Rattle.protocol.specs.Observer.{decodeObserver, observerState}
 use Rattle.protocol.specs.ObserverCalls.{newObserver, newObservedHeight}
-use Rattle.protocol.specs.Laws.BytesLaws.{middle-set, middle-put, put-all, zeros-add}
+use Rattle.protocol.specs.Laws.BytesLaws.{middle-set, middle-put, put-all, put-at, zeros-add}
 use Rattle.protocol.specs.Laws.PiecesLaws.{length-join, cut-set}
 use Rattle.protocol.specs.Laws.PlaceLaws.{with-at, shaped-at}
-use Rattle.protocol.specs.Laws.NewStateLaws.{eight-zeros}
+use Rattle.protocol.specs.Laws.NewStateLaws.{eight-zeros, drop-zeros}
+use Rattle.protocol.specs.Laws.HeadLaws.{opened-bytes}
+use Rattle.protocol.specs.Open.{weighed, openedEdition, openedWeights}
 use Rattle.protocol.specs.Laws.WriteLaws.{withStatus}
 use Rattle.protocol.specs.Laws.WriteLaws.{withNotarizedBytes}
 use Rattle.protocol.specs.Laws.ObserverStateLaws.{ShapedObserver, withObservedHeights, map-set, observed-heights}
@@ -84,7 +86,7 @@ module _ (o : Observer) (shaped : ShapedObserver o) (i : ℕ) (inside : i < leng
   between-size =
       let contents = contents-length (drop (suc i) (o .heights)) in
       let bodies : length (join (map observedBodyBytes (take i (o .heights)))) ≡ 176 * length (take i (o .heights)) =
-      length-join 176 (map observedBodyBytes (take i (o .heights))) (sized-before (o .heights) i shaped)
+      length-join 176 (map observedBodyBytes (take i (o .heights))) (sized-before (o .heights) i (shaped .blocks))
       ∙ rw length-map in
       simp length-append (omega (arith, heights-before, length-drop (suc i) (o .heights)))
 
@@ -203,15 +205,15 @@ module _ (book : Bytes) (exact : ExactObserver book) (whole : encodeObserver (de
   book-observed-finalized g = ap (λ (bytes : Bytes). set bytes 5 g) (sym whole) ∙ sym (output-set o g)
 
 -- ---- a new observer
-zero-content : observedContentBytes newObservedHeight ≡ zeros 8
+pub zero-content : observedContentBytes newObservedHeight ≡ zeros 8
 unfolding observedContentBytes newObservedHeight le16 zeros
 zero-content = refl
 
-zero-body : observedBodyBytes newObservedHeight ≡ zeros 176
+pub zero-body : observedBodyBytes newObservedHeight ≡ zeros 176
 unfolding observedBodyBytes newObservedHeight
 zero-body = refl
 
-zero-join : (f : ObservedHeight → Bytes) (k : ℕ) → f newObservedHeight ≡ zeros k → (count : ℕ) →
+pub zero-join : (f : ObservedHeight → Bytes) (k : ℕ) → f newObservedHeight ≡ zeros k → (count : ℕ) →
     join (map f (replicate count newObservedHeight)) ≡ zeros (k * count)
 unfolding join
 zero-join f k e zero = unfold zeros in rw (mul-zero k)
@@ -220,22 +222,29 @@ zero-join f k e (suc count) =
     rw (e, zero-join f k e count) (zeros-add k (k * count) ∙ ap zeros size)
 
 -- the rest of the book past its first eight bytes
-rest-zeros : (heights : ℕ) → zeros 56 ++ (zeros (8 * heights) ++ zeros (176 * heights)) ≡ zeros (56 + 184 * heights)
-rest-zeros heights =
-    let size : 56 + (8 * heights + 176 * heights) ≡ 56 + 184 * heights = omega arith in
-    rw (zeros-add (8 * heights) (176 * heights), zeros-add 56 (8 * heights + 176 * heights), size)
+rest-zeros : (n heights : ℕ) → n ≤ 16 → zeros (56 - 2 * n) ++ (zeros (8 * heights) ++ zeros (176 * heights)) ≡ zeros
+    (56 + 184 * heights - 2 * n)
+rest-zeros n heights high =
+    let size : 56 - 2 * n + (8 * heights + 176 * heights) ≡ 56 + 184 * heights - 2 * n = omega arith in
+    rw (zeros-add (8 * heights) (176 * heights), zeros-add (56 - 2 * n) (8 * heights + 176 * heights), size)
 
-pub new-observer-from-zeros : (n heights : ℕ) →
-    set (set (set (zeros (64 + 184 * heights)) 0 n) 2 heights) 7 1 ≡ encodeObserver (newObserver n heights)
-unfolding encodeObserver headBytes asReplica newObserver
-new-observer-from-zeros n heights =
+pub new-observer-from-zeros : (n heights : ℕ) (weights : Bytes) → AreBytes weights → length weights ≡ 2 * n → n ≤ 16 →
+    put (set (set (set (zeros (64 + 184 * heights)) 0 n) 2 heights) 7 2) 8 weights ≡ encodeObserver
+    (newObserver (weighed weights) n heights)
+unfolding encodeObserver headBytes asReplica newObserver openedEdition openedWeights
+new-observer-from-zeros n heights weights small given high =
     let size : 64 + 184 * heights ≡ 8 + (56 + 184 * heights) = omega arith in
     rw (
       size,
       eight-zeros (56 + 184 * heights),
+      put-at (n ∷ 0 ∷ heights ∷ 0 ∷ 0 ∷ 0 ∷ 0 ∷ 2 ∷ []) (zeros (56 + 184 * heights)) weights 8 refl,
       length-map (replicate heights newObservedHeight) asReplicaHeight,
       length-replicate heights newObservedHeight,
       zero-join observedContentBytes 8 zero-content heights,
       zero-join observedBodyBytes 176 zero-body heights,
-      rest-zeros heights,
+      opened-bytes n weights small given high,
+      append-assoc weights (zeros (56 - 2 * n)) (zeros (8 * heights) ++ zeros (176 * heights)),
+      rest-zeros n heights high,
+      given,
+      drop-zeros n (56 + 184 * heights) (omega arith),
     )

@@ -9,14 +9,14 @@ use mathlib.Core.List.{[], _∷_}
 use lib.ListN.{length}
 use lib.Dec.{eqb}
 use borrow.Author.Tests.{eqb-true, eq-eqb, ltb-true}
-use Rattle.protocol.specs.SoundState.{SoundHeight, CertifiedState}
+use Rattle.protocol.specs.SoundState.{SoundHeight, SoundSetting, CertifiedState}
 use Rattle.protocol.specs.SoundObserver.{SoundObserver}
 use Rattle.protocol.specs.Every.{none, one}
 use Rattle.protocol.specs.Bytes.{Bytes, byteAt, part, all, isZero, AreBytes}
 use Rattle.protocol.specs.Tests.{implies, inRange}
 use Rattle.protocol.specs.Block.{maximumHeights, blockWellFormed}
 use Rattle.protocol.specs.Mask.{belowBit}
-use Rattle.protocol.specs.State.{State, Height, at, last, bookHeights, holdsProposal, isNotarized}
+use Rattle.protocol.specs.State.{State, Height, at, last, bookHeights, headUnused, holdsProposal, isNotarized}
 use Rattle.protocol.specs.State.{maximumReplicas}
 use Rattle.protocol.specs.View.{View, quorum, isFinalized}
 use Rattle.protocol.specs.Sound.{view, masksBelow}
@@ -105,7 +105,7 @@ module _ (digest : Bytes → Bytes) where
     pub exact : ExactObserver book
     pub few : inRange 1 maximumReplicas (observerState book .n) ≡ true
     pub many : inRange 1 maximumHeights (bookHeights book) ≡ true
-    pub edition : observerState book .edition ≡ 1
+    pub setting : SoundSetting (observerState book .edition) (observerState book .n) (observerState book .weights)
     pub masks : (h : ℕ) → 1 ≤ h → h ≤ bookHeights book →
         masksBelow (observerState book .n) (at (observerState book) h) ≡ true
     pub status : (h : ℕ) → 1 ≤ h → h ≤ bookHeights book →
@@ -117,7 +117,7 @@ module _ (digest : Bytes → Bytes) where
         implies (isNotarized (at (observerState book) h))
         (quorum (view (observerState book)) (at (observerState book) h .certificateMask)) ≡ true
     pub head : isZero (replicaHead book) ≡ true
-    pub rest : isZero (part book 8 56) ≡ true
+    pub rest : isZero (headUnused book) ≡ true
     pub unused : (h : ℕ) → 1 ≤ h → h ≤ bookHeights book → observedZero book h ≡ 0
     pub final : (observerState book .finalized ≡ 0) ⊎
         (isFinalized digest (view (observerState book)) (observerState book .finalized) ≡ true)
@@ -130,11 +130,11 @@ module _ (digest : Bytes → Bytes) where
   unfolding observerSound observerBookSize
   observer-rows book e =
       let H : ℕ = bookHeights book in
-      by-rows _ e λ exact few many edition masks status formed certified head rest unused final. record {
+      by-rows _ e λ exact few many edition weights masks status formed certified head rest unused final. record {
         exact = eqb-true _ _ exact;
         few = few;
         many = many;
-        edition = eqb-true _ _ edition;
+        setting = record { edition-row = edition; weights-row = weights };
         masks = λ h low high. every-height-at _ H h masks low high;
         status = λ h low high. status-of _ (every-height-at _ H h status low high);
         formed = λ h low high. every-height-at _ H h formed low high;
@@ -160,7 +160,7 @@ module _ (digest : Bytes → Bytes) where
         let (low, high) = in-range 1 maximumHeights (bookHeights book) (R .many) in
         record {
           shaped = observer-state-shaped book exact-observer;
-          first-edition = R .edition;
+          setting = R .setting;
           n-low = n-low;
           n-high = n-high;
           last-low = rw count low;
@@ -187,7 +187,7 @@ module _ (digest : Bytes → Bytes) where
           flags-zero = flags;
           current-zero = current;
           pending-zero = pending;
-          head-zeros = zero-part book 8 56 (omega arith) (R .rest);
+          head-zeros = R .rest;
           content-zero = λ i h.
               let place : suc i - 1 ≡ i = omega arith in
               rw place at (R .unused (suc i) (omega arith) (omega arith));
@@ -234,15 +234,16 @@ module _ (digest : Bytes → Bytes) where
         (one size-row
         (one (range-in _ _ _ (facts .n-low) (facts .n-high))
         (one (range-in _ _ _ (rw count at (facts .last-low)) (rw count at (facts .last-high)))
-        (one (eq-eqb _ _ (facts .first-edition))
+        (one (facts .setting .edition-row)
+        (one (facts .setting .weights-row)
         (one (every-height _ _ (λ h low high. masks-row (view D) h (at D h) (height-of h low high)))
         (one (every-height _ _ (λ h low high. of-status _ (facts .holds-none h low (rw count high))))
         (one (every-height _ _ (λ h low high. true-implies _ _ (height-of h low high .notarized-formed)))
         (one (every-height _ _ (λ h low high. certificate-row (view D) h (at D h) (height-of h low high)))
         (one head-row
-        (one (rw (clean .head-zeros) (zeros-is-zero 56))
+        (one (clean .head-zeros)
         (one (every-height _ _ unused-row)
-        (one (final-or (facts .final)) none))))))))))))
+        (one (final-or (facts .final)) none)))))))))))))
 
   pub observer-sound-encode : (o : Observer) → SoundObserver digest o → observerSound digest (encodeObserver o) ≡ true
   observer-sound-encode o facts =

@@ -5,17 +5,17 @@ use mathlib.Core.Path.{_≡_, refl, sym, ap, ap₂, subst, _∙_}
 use mathlib.Core.List.{List, [], _∷_, _++_, map, append-nil}
 use lib.ListN.{length, getD, drop, set, length-append, length-map}
 use lib.Seq.{drop-at, drop-drop}
-use Rattle.protocol.specs.SoundState.{ShapedHeight, Shaped}
+use Rattle.protocol.specs.SoundState.{ShapedHeight, Shaped, Weighed}
 use Rattle.protocol.specs.Every.{Every, none, one}
 use Rattle.protocol.specs.Bytes.{Bytes, word16, le16, zeros, join, pieces, Sized, byteAt}
 use Rattle.protocol.specs.Deliver.{withNotarized, withMasks}
-use Rattle.protocol.specs.State.{State, Height, headBytes, noHeight, at, last, withHeight, withHead}
+use Rattle.protocol.specs.State.{State, Height, headBytes, bookWeights, noHeight, at, last, withHeight, withHead}
 use Rattle.protocol.specs.Observer.{Observer, ObservedHeight, asReplica, asReplicaHeight, observed}
 use Rattle.protocol.specs.Observer.{observedHeight, observedContentBytes, observedBodyBytes, encodeObserver}
 use Rattle.protocol.specs.Observer.{decodeObserver, decodeObservedHeight, decodeObservedHeights, observerState}
 use Rattle.protocol.specs.Laws.BytesLaws.{length-zeros, word16-le16}
 use Rattle.protocol.specs.Laws.PiecesLaws.{length-join, pieces-join}
-use Rattle.protocol.specs.Laws.StateLaws.{head-size}
+use Rattle.protocol.specs.Laws.HeadLaws.{head-size, head-weights}
 
 -- ---- as a replica's, and back
 observed-height : (x : ObservedHeight) → observedHeight (asReplicaHeight x) ≡ x
@@ -28,7 +28,7 @@ observed-heights (x ∷ xs) = ap₂ _∷_ (observed-height x) (observed-heights 
 
 abbrev pub withObservedHeights : Observer → List ObservedHeight → Observer
 withObservedHeights o heights =
-    record { edition = o .edition; n = o .n; finalized = o .finalized; heights = heights }
+    record { edition = o .edition; n = o .n; weights = o .weights; finalized = o .finalized; heights = heights }
 
 pub observed-as : (o : Observer) → observed (asReplica o) ≡ o
 unfolding observed asReplica
@@ -65,6 +65,7 @@ abbrev pub withReplicaHeights : Observer → List Height → State
 withReplicaHeights o heights = record {
   edition = o .edition;
   n = o .n;
+  weights = o .weights;
   own = 0;
   flags = 0;
   current = 0;
@@ -87,7 +88,7 @@ module _ (o : Observer) where
   observing-finalized-as : (g : ℕ) → Observing (withHead (asReplica o) 0 0 g)
   unfolding asReplica observed withHead
   observing-finalized-as g =
-      ap (withReplicaHeights (record { edition = o .edition; n = o .n; finalized = g; heights = o .heights }))
+      ap (withReplicaHeights (record { edition = o .edition; n = o .n; weights = o .weights; finalized = g; heights = o .heights }))
       (ap (map asReplicaHeight) (observed-heights (o .heights)))
 
 pub observing-with : (s : State) → Observing s → (h : ℕ) (x : Height) → ObservingHeight x → Observing (withHeight s h x)
@@ -144,9 +145,10 @@ pub observed-contents-sized : (xs : List ObservedHeight) → Every (Sized 8) (ma
 observed-contents-sized [] = none
 observed-contents-sized (x ∷ xs) = one (observed-content-size x) (observed-contents-sized xs)
 
--- every notarized block's place has its size
-abbrev pub ShapedObserver : Observer → Type 0
-ShapedObserver o = Every (Sized 176) (map observedBodyBytes (o .heights))
+-- its weights are those of 16 replicas, and every notarized block's place has its size
+pub record ShapedObserver (o : Observer) : Type 0 where
+  pub weighed : Weighed (o .edition) (o .n) (o .weights)
+  pub blocks : Every (Sized 176) (map observedBodyBytes (o .heights))
 
 bodies-of : (xs : List ObservedHeight) → Every ShapedHeight (map asReplicaHeight xs) →
     Every (Sized 176) (map observedBodyBytes xs)
@@ -164,11 +166,15 @@ of-bodies (x ∷ xs) (one h hs) = one
 
 pub shaped-as : (o : Observer) → ShapedObserver o → Shaped (asReplica o)
 unfolding asReplica
-shaped-as o bodies = record { pool-size = length-zeros 512; heights = of-bodies (o .heights) bodies }
+shaped-as o shaped = record {
+  weighed = shaped .weighed;
+  pool-size = length-zeros 512;
+  heights = of-bodies (o .heights) (shaped .blocks);
+}
 
 pub as-shaped : (o : Observer) → Shaped (asReplica o) → ShapedObserver o
 unfolding asReplica
-as-shaped o shaped = bodies-of (o .heights) (shaped .heights)
+as-shaped o shaped = record { weighed = shaped .weighed; blocks = bodies-of (o .heights) (shaped .heights) }
 
 module _ (o : Observer) (shaped : ShapedObserver o) where
   abbrev C : Bytes
@@ -182,7 +188,7 @@ module _ (o : Observer) (shaped : ShapedObserver o) where
       length-join 8 (map observedContentBytes (o .heights)) (observed-contents-sized (o .heights)) ∙ rw length-map
 
   pub observed-bodies-length : length D ≡ 176 * length (o .heights)
-  observed-bodies-length = length-join 176 (map observedBodyBytes (o .heights)) shaped ∙ rw length-map
+  observed-bodies-length = length-join 176 (map observedBodyBytes (o .heights)) (shaped .blocks) ∙ rw length-map
 
   pub length-encode-observer : length (encodeObserver o) ≡ 64 + 184 * length (o .heights)
   unfolding encodeObserver
@@ -210,7 +216,7 @@ module _ (o : Observer) (shaped : ShapedObserver o) where
       (length-map (o .heights) observedBodyBytes)
       (subst (λ (d : Bytes). pieces 176 (length (map observedBodyBytes (o .heights))) d ≡
       map observedBodyBytes (o .heights))
-      (append-nil D) (pieces-join 176 (map observedBodyBytes (o .heights)) [] shaped))
+      (append-nil D) (pieces-join 176 (map observedBodyBytes (o .heights)) [] (shaped .blocks)))
 
   heights-back : (count : ℕ) → count ≡ length (o .heights) →
       decodeObservedHeights (pieces 8 count (drop 64 (encodeObserver o)))
@@ -222,9 +228,21 @@ module _ (o : Observer) (shaped : ShapedObserver o) where
   unfolding encodeObserver headBytes asReplica
   count-encode-observer = length-map (o .heights) asReplicaHeight
 
+  weights-back : bookWeights (encodeObserver o) ≡ o .weights
+  unfolding encodeObserver asReplica
+  weights-back = head-weights (asReplica o) (C ++ D) (shaped .weighed)
+
   pub decode-encode-observer : decodeObserver (encodeObserver o) ≡ o
   unfolding decodeObserver encodeObserver headBytes asReplica
-  decode-encode-observer = ap (withObservedHeights o) (heights-back _ (length-map (o .heights) asReplicaHeight))
+  decode-encode-observer =
+      let heights = heights-back _ (length-map (o .heights) asReplicaHeight) in
+      λ i. record {
+        edition = o .edition;
+        n = o .n;
+        weights = weights-back i;
+        finalized = o .finalized;
+        heights = heights i;
+      }
 
 -- the state that is read back from the bytes of what an observer keeps of a state
 pub state-encode-observer : (s : State) → Observing s → Shaped s → observerState (encodeObserver (observed s)) ≡ s
@@ -233,7 +251,7 @@ state-encode-observer s e shaped =
 
 -- ---- the store of a move: byte 5 is the finalized height
 abbrev withFinalized : Observer → ℕ → Observer
-withFinalized o g = record { edition = o .edition; n = o .n; finalized = g; heights = o .heights }
+withFinalized o g = record { edition = o .edition; n = o .n; weights = o .weights; finalized = g; heights = o .heights }
 
 observed-output : (o : Observer) (g : ℕ) →
     observed (withHead (asReplica o) (asReplica o .flags) (asReplica o .current) g) ≡ withFinalized o g

@@ -2,17 +2,19 @@
 use Prim.Native.Nat.{ℕ, suc, _+_, _-_, _*_, _≤_, _<_}
 use native.Mathlib.Omega.{arith}
 use mathlib.Core.Path.{_≡_, refl, sym, ap, _∙_}
+use mathlib.Core.Bool.{true}
 use mathlib.Core.List.{List, _++_, map, append-assoc}
 use lib.ListN.{length, take, drop, set, length-append, length-map, length-set, length-drop}
 use lib.Seq.{set-getD, set-set, getD-set-same, getD-set-other, length-take-le}
 use Rattle.protocol.specs.SoundState.{ShapedHeight, Shaped}
 use Rattle.protocol.specs.Every.{Every}
-use Rattle.protocol.specs.Bytes.{Bytes, byteAt, le16, part, zeros, join, put}
+use Rattle.protocol.specs.Bytes.{Bytes, byteAt, le16, part, zeros, isZero, join, put}
 use Rattle.protocol.specs.State.{State, Height, noHeight, at, last, withHeight, encode, headBytes, contentBytes}
-use Rattle.protocol.specs.State.{bodyBytes, bookHeights, renewed}
+use Rattle.protocol.specs.State.{bodyBytes, bookHeights, headUnused, renewed}
 use Rattle.protocol.specs.Laws.EveryLaws.{every-set, every-at, every-take}
 use Rattle.protocol.specs.Laws.BytesLaws.{middle-part, middle-set, middle-put}
-use Rattle.protocol.specs.Laws.StateLaws.{head-size, content-size, body-size, contents-sized, bodies-sized}
+use Rattle.protocol.specs.Laws.HeadLaws.{head-size, head-unused}
+use Rattle.protocol.specs.Laws.StateLaws.{content-size, body-size, contents-sized, bodies-sized}
 use Rattle.protocol.specs.Laws.PiecesLaws.{length-join, cut-set}
 use Rattle.protocol.specs.Laws.CodecLaws.{Clean, at-suc}
 
@@ -70,6 +72,7 @@ module _ (s : State) (i : ℕ) where
   pub shaped-with : (x : Height) → Shaped s → ShapedHeight x → Shaped (withHeight s (suc i) x)
   unfolding withHeight
   shaped-with x shaped fits = record {
+    weighed = shaped .weighed;
     pool-size = shaped .pool-size;
     heights =
         every-set (suc i - 1) x fits (shaped .heights);
@@ -167,9 +170,9 @@ pub count-encode : (s : State) → bookHeights (encode s) ≡ last s
 unfolding encode headBytes last
 count-encode s = refl
 
-head-zeros : (s : State) → part (encode s) 8 56 ≡ zeros 56
-unfolding encode headBytes part zeros
-head-zeros s = refl
+head-zeros : (s : State) → isZero (headUnused (encode s)) ≡ true
+unfolding encode
+head-zeros s = head-unused s _
 
 pub clean-encode : (s : State) → Shaped s → Clean (encode s)
 clean-encode s shaped = record {

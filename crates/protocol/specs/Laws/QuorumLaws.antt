@@ -2,10 +2,12 @@
 use Prim.Native.Nat.{ℕ, zero, suc, _+_, _*_, _/_, _%_, _^_, _≤_, _<_}
 use native.Mathlib.Omega.{arith}
 use native.Mathlib.Nat.{mod-lt}
-use mathlib.Core.Path.{_≡_, refl, sym, ap₂, subst, _∙_}
+use mathlib.Core.Path.{_≡_, refl, sym, ap, ap₂, subst, _∙_}
 use mathlib.Core.Bool.{Bool, true, false, _&&_, cond}
 use mathlib.Core.List.{List, [], _∷_}
-use lib.ListN.{length, replicate}
+use native.Mathlib.Nat.{le-of-suc-le-suc, not-suc-le-zero}
+use lib.ListN.{length, getD, take, replicate}
+use Rattle.protocol.specs.Laws.OneOrZeroLaws.{times-test}
 use lib.Dec.{eqb, leb}
 use Rattle.protocol.specs.Mask.{inMask, ones, weigh, total}
 use Rattle.protocol.specs.View.{View, quorum, maskWeight, totalWeight}
@@ -101,3 +103,45 @@ quorums-meet v v′ a b d e p q h = found (outside (λ t. inMask a t && inMask b
     found : Outside (λ t. inMask a t && inMask b t) (λ t. inMask d t) (length (v .weights)) →
         (t : ℕ) × (t < length (v .weights)) × (inMask a t ≡ true) × (inMask b t ≡ true) × (inMask d t ≡ false)
     found (t, l, ab, nd) = let k = and-both (inMask a t) (inMask b t) ab in (t, l, k .0, k .1, nd)
+
+-- ---- one replica more
+pub total-more : (ws : List ℕ) (s : ℕ) → s < length ws → total (take (s + 1) ws) ≡ total (take s ws) + getD ws s 0
+unfolding total
+total-more [] s h = absurd (not-suc-le-zero h)
+total-more (w ∷ ws) zero h = omega arith
+total-more (w ∷ ws) (suc s) h =
+    let e : suc s + 1 ≡ suc (s + 1) = omega arith in
+    let rest = total-more ws s (le-of-suc-le-suc h) in
+    rw e (omega arith)
+
+pub weigh-more : (p : ℕ → Bool) (ws : List ℕ) (s : ℕ) → s < length ws →
+    weigh p (take (s + 1) ws) ≡ weigh p (take s ws) + cond (p s) (getD ws s 0) 0
+unfolding weigh
+weigh-more p [] s h = absurd (not-suc-le-zero h)
+weigh-more p (w ∷ ws) zero h = omega arith
+weigh-more p (w ∷ ws) (suc s) h =
+    let e : suc s + 1 ≡ suc (s + 1) = omega arith in
+    let rest = weigh-more (λ t. p (suc t)) ws s (le-of-suc-le-suc h) in
+    rw e (omega arith)
+
+-- its weight times its bit
+pub weighed-bit : (mask s w : ℕ) → w * (mask / 2 ^ s % 2) ≡ cond (inMask mask s) w 0
+unfolding inMask
+weighed-bit mask s w =
+    ap (λ (x : ℕ). w * x) (bit-weight (mask / 2 ^ s % 2) (mod-lt _ (omega arith)))
+    ∙ times-test (eqb (mask / 2 ^ s % 2) 1) w
+
+-- ---- what two quorums share
+pub quorums-third : (v v′ : View) (a b : ℕ) → v′ .weights ≡ v .weights → quorum v a ≡ true → quorum v′ b ≡ true →
+    totalWeight v ≤ 3 * weigh (λ t. inMask a t && inMask b t) (v .weights)
+unfolding quorum
+quorums-third v v′ a b e p q =
+    quorums-share (λ t. inMask a t) (λ t. inMask b t) (v .weights)
+    (leb-true (2 * total (v .weights)) (3 * weigh (λ t. inMask a t) (v .weights)) p)
+    (leb-true (2 * total (v .weights)) (3 * weigh (λ t. inMask b t) (v .weights))
+    (subst (λ (ws : List ℕ). leb (2 * total ws) (3 * weigh (λ t. inMask b t) ws) ≡ true) e q))
+
+-- where all weigh 1: a third of the replicas
+pub equal-third : (v v′ : View) (n a b : ℕ) → v .weights ≡ replicate n 1 → v′ .weights ≡ replicate n 1 →
+    quorum v a ≡ true → quorum v′ b ≡ true → n ≤ 3 * weigh (λ t. inMask a t && inMask b t) (replicate n 1)
+equal-third v v′ n a b e e′ p q = rw (e, total-equal n) at (quorums-third v v′ a b (e′ ∙ sym e) p q)

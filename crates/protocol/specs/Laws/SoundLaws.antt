@@ -8,14 +8,14 @@ use mathlib.Core.Bool.{true, false, _&&_, _||_}
 use lib.ListN.{length}
 use lib.Dec.{eqb, leb, ltb}
 use borrow.Author.Tests.{eqb-true, eq-eqb, leb-true, le-leb, ltb-true, lt-ltb}
-use Rattle.protocol.specs.SoundState.{SoundHeight, SoundState, CertifiedState}
+use Rattle.protocol.specs.SoundState.{SoundHeight, SoundSetting, SoundState, CertifiedState}
 use Rattle.protocol.specs.Every.{none, one}
 use Rattle.protocol.specs.Bytes.{Bytes, part, isZero, AreBytes}
 use Rattle.protocol.specs.Tests.{implies}
 use Rattle.protocol.specs.Block.{maximumHeights, blockWellFormed}
 use Rattle.protocol.specs.Mask.{belowBit}
 use Rattle.protocol.specs.State.{State, Height, at, last, decode, encode, bookSize, holdsProposal, isNotarized}
-use Rattle.protocol.specs.State.{bookHeights, maximumReplicas}
+use Rattle.protocol.specs.State.{bookHeights, headUnused, maximumReplicas}
 use Rattle.protocol.specs.View.{View, quorum, extendsOver, linkedWithin, linked, isFinalized}
 use Rattle.protocol.specs.Sound.{view, masksBelow, blocksWellFormed, contentZeros, sound}
 use Rattle.protocol.specs.Laws.TestsLaws.{and-both, or-either, or-right}
@@ -25,7 +25,7 @@ use Rattle.protocol.specs.Laws.StateLaws.{decode-encode}
 use Rattle.protocol.specs.Laws.BytesLaws.{zero-part}
 use Rattle.protocol.specs.Laws.CodecLaws.{Exact, Clean, last-decode, decode-shaped, clean-back, notarized-in}
 use Rattle.protocol.specs.Laws.PlaceLaws.{clean-encode}
-use Rattle.protocol.specs.Laws.SoundRowNames.{lengthRow, replicasRow, ownRow, heightsRow, editionRow, currentRow}
+use Rattle.protocol.specs.Laws.SoundRowNames.{lengthRow, replicasRow, ownRow, heightsRow, editionRow, weightsRow, currentRow}
 use Rattle.protocol.specs.Laws.SoundRowNames.{flagsRow, pendingRow, leadersRow, masksRow, statusRow, blocksRow}
 use Rattle.protocol.specs.Laws.SoundRowNames.{certifiedRow, headZerosRow, contentZerosRow, finalizedRow}
 
@@ -119,9 +119,9 @@ module _ (digest : Bytes → Bytes) where
     unfolding sound
     heights-range = in-range _ _ _ (row _ heightsRow e)
 
-    edition-row : S .edition ≡ 1
+    setting-rows : SoundSetting (S .edition) (S .n) (S .weights)
     unfolding sound
-    edition-row = eqb-true _ _ (row _ editionRow e)
+    setting-rows = record { edition-row = row _ editionRow e; weights-row = row _ weightsRow e }
 
     current-range : (1 ≤ S .current) × (S .current ≤ H + 1)
     unfolding sound
@@ -140,7 +140,7 @@ module _ (digest : Bytes → Bytes) where
         (every-height-at _ H h (row _ blocksRow e) low high)
         (every-height-at _ H h (row _ certifiedRow e) low high)
 
-    head-zero-row : isZero (part book 8 56) ≡ true
+    head-zero-row : isZero (headUnused book) ≡ true
     unfolding sound
     head-zero-row = row _ headZerosRow e
 
@@ -162,7 +162,7 @@ module _ (digest : Bytes → Bytes) where
         let count = last-decode book in
         record {
           shaped = decode-shaped book exact;
-          first-edition = edition-row;
+          setting = setting-rows;
           n-low = n-range .0;
           n-high = n-range .1;
           own-below = ltb-true _ _ (row _ ownRow e);
@@ -181,7 +181,7 @@ module _ (digest : Bytes → Bytes) where
     unfolding contentZeros
     sound-clean = record {
       size = exact;
-      head-zeros = let size : length book ≡ 576 + 880 * H = exact in zero-part book 8 56 (omega arith) head-zero-row;
+      head-zeros = head-zero-row;
       content-zeros = λ i h.
           let size : length book ≡ 576 + 880 * H = exact in
           let place : suc i - 1 ≡ i = omega arith in
@@ -223,7 +223,8 @@ module _ (digest : Bytes → Bytes) where
         (one (range-in _ _ _ (facts .n-low) (facts .n-high))
         (one (lt-ltb _ _ (facts .own-below))
         (one (range-in _ _ _ (rw count at (facts .last-low)) (rw count at (facts .last-high)))
-        (one (eq-eqb _ _ (facts .first-edition))
+        (one (facts .setting .edition-row)
+        (one (facts .setting .weights-row)
         (one (range-in _ _ _ (facts .current-low) (rw count at (facts .current-high)))
         (one (lt-ltb _ _ (facts .flags-small))
         (one (le-leb _ _ (facts .pending-few))
@@ -232,9 +233,9 @@ module _ (digest : Bytes → Bytes) where
         (one (every-height _ _ (λ h low high. le-leb _ _ (height-of h low high .status-small)))
         (one (every-height _ _ (λ h low high. blocks-row (view D) h (at D h) (height-of h low high)))
         (one (every-height _ _ (λ h low high. certificate-row (view D) h (at D h) (height-of h low high)))
-        (one (rw (clean .head-zeros) (zeros-is-zero 56))
+        (one (clean .head-zeros)
         (one (every-height _ _ zeros-row)
-        (one (final-or (facts .final)) none))))))))))))))))
+        (one (final-or (facts .final)) none)))))))))))))))))
 
   pub sound-encode : (s : State) → SoundState digest s → sound digest (encode s) ≡ true
   sound-encode s facts =

@@ -21,46 +21,50 @@ heightsRow = 3
 abbrev pub editionRow : ℕ
 editionRow = 4
 
+-- the weights
+abbrev pub weightsRow : ℕ
+weightsRow = 5
+
 -- the current height
 abbrev pub currentRow : ℕ
-currentRow = 5
+currentRow = 6
 
 -- the flags
 abbrev pub flagsRow : ℕ
-flagsRow = 6
+flagsRow = 7
 
 -- how many entries are pending
 abbrev pub pendingRow : ℕ
-pendingRow = 7
+pendingRow = 8
 
 -- each leader is a replica
 abbrev pub leadersRow : ℕ
-leadersRow = 8
+leadersRow = 9
 
 -- each mask is below 2 to the n
 abbrev pub masksRow : ℕ
-masksRow = 9
+masksRow = 10
 
 -- each status
 abbrev pub statusRow : ℕ
-statusRow = 10
+statusRow = 11
 
 -- blocks are well formed
 abbrev pub blocksRow : ℕ
-blocksRow = 11
+blocksRow = 12
 
 -- notarized blocks have their quorum
 abbrev pub certifiedRow : ℕ
-certifiedRow = 12
+certifiedRow = 13
 
 -- zero bytes of the head
 abbrev pub headZerosRow : ℕ
-headZerosRow = 13
+headZerosRow = 14
 
 -- zero bytes of each height
 abbrev pub contentZerosRow : ℕ
-contentZerosRow = 14
+contentZerosRow = 15
 
 -- the finalized height
 abbrev pub finalizedRow : ℕ
-finalizedRow = 15
+finalizedRow = 16

@@ -8,15 +8,12 @@ use lib.Seq.{take-at, drop-at, take-all, drop-drop}
 use Rattle.protocol.specs.SoundState.{ShapedHeight, Shaped}
 use Rattle.protocol.specs.Every.{Every, none, one}
 use Rattle.protocol.specs.Bytes.{Bytes, word16, le16, part, zeros, join, pieces, Sized}
-use Rattle.protocol.specs.Laws.BytesLaws.{length-zeros, word16-le16}
+use Rattle.protocol.specs.Laws.BytesLaws.{word16-le16}
+use Rattle.protocol.specs.Laws.HeadLaws.{head-size, head-weights}
 use Rattle.protocol.specs.Laws.EveryLaws.{every-map}
 use Rattle.protocol.specs.Laws.PiecesLaws.{length-join, pieces-join}
 use Rattle.protocol.specs.State.{State, Height, encode, decode, headBytes, contentBytes, bodyBytes, decodeHeight}
-use Rattle.protocol.specs.State.{decodeHeights, renewed}
-
-pub head-size : (s : State) → length (headBytes s) ≡ 64
-unfolding headBytes
-head-size s = let rest = length-zeros 56 in omega arith
+use Rattle.protocol.specs.State.{decodeHeights, bookWeights}
 
 decode-height : (x : Height) → ShapedHeight x → decodeHeight (contentBytes x) (bodyBytes x) ≡ x
 unfolding decodeHeight contentBytes bodyBytes part word16 le16
@@ -107,6 +104,21 @@ module _ (s : State) (shaped : Shaped s) where
       (pieces 864 (length (s .heights)) (drop (576 + 16 * length (s .heights)) (encode s))) ≡ s .heights
   heights-back = rw (contents-from, bodies-from, contents-back, bodies-back) (heights-zip (shaped .heights))
 
+  weights-back : bookWeights (encode s) ≡ s .weights
+  unfolding encode
+  weights-back = head-weights s (s .pool ++ (C ++ D)) (shaped .weighed)
+
   pub decode-encode : decode (encode s) ≡ s
   unfolding decode encode headBytes
-  decode-encode = ap₂ (renewed s (s .flags) (s .current) (s .finalized) (s .pendingCount)) pool-back heights-back
+  decode-encode = λ i. record {
+    edition = s .edition;
+    n = s .n;
+    weights = weights-back i;
+    own = s .own;
+    flags = s .flags;
+    current = s .current;
+    finalized = s .finalized;
+    pendingCount = s .pendingCount;
+    pool = pool-back i;
+    heights = heights-back i;
+  }

@@ -12,7 +12,7 @@ use Rattle.protocol.specs.Tests.{firstRefusal}
 use Rattle.protocol.specs.Block.{maximumHeights, entrySize}
 use Rattle.protocol.specs.State.{State, last, decode, flag, pending, bookSize, maximumReplicas, maximumPending}
 use Rattle.protocol.specs.Sound.{sound, log}
-use Rattle.protocol.specs.Open.{openInRange, openRows}
+use Rattle.protocol.specs.Open.{Opening, weightsInRange, openInRange, openRows}
 use Rattle.protocol.specs.Signal.{signalRows}
 use Rattle.protocol.specs.Submit.{stillPending, submitRows}
 use Rattle.protocol.specs.Move.{moveRows}
@@ -20,7 +20,7 @@ use Rattle.protocol.specs.Laws.TestsLaws.{and-both}
 use Rattle.protocol.specs.Laws.RowLaws.{by-rows, by-tested, in-range}
 
 -- ---- Open
-module _ (n own heights : ℕ) (leaders : Bytes) where
+module _ (way : Opening) (n own heights : ℕ) (leaders : Bytes) where
   pub record OpenRanges : Type 0 where
     pub n-low : 1 ≤ n
     pub n-high : n ≤ maximumReplicas
@@ -29,11 +29,12 @@ module _ (n own heights : ℕ) (leaders : Bytes) where
     pub heights-high : heights ≤ maximumHeights
     pub listed : length leaders ≡ heights
     pub leaders-below : all (λ leader. ltb leader n) leaders ≡ true
+    pub weights-fit : weightsInRange n way ≡ true
 
-  pub open-ranges : openInRange n own heights leaders ≡ true → OpenRanges
+  pub open-ranges : openInRange way n own heights leaders ≡ true → OpenRanges
   unfolding openInRange
   open-ranges e =
-      by-rows _ e λ replicas own-below many listed leaders-below.
+      by-rows _ e λ replicas own-below many listed leaders-below weights-fit.
       let few = in-range 1 maximumReplicas n replicas in
       let range = in-range 1 maximumHeights heights many in
       record {
@@ -44,13 +45,14 @@ module _ (n own heights : ℕ) (leaders : Bytes) where
         heights-high = range .1;
         listed = eqb-true _ _ listed;
         leaders-below = leaders-below;
+        weights-fit = weights-fit;
       }
 
   pub record OpenTested (book : Bytes) : Type 0 where
-    pub in-ranges : openInRange n own heights leaders ≡ true
+    pub in-ranges : openInRange way n own heights leaders ≡ true
     pub exact : length book ≡ bookSize heights
 
-  pub open-tested : (book : Bytes) → firstRefusal (openRows book n own heights leaders) ≡ none → OpenTested book
+  pub open-tested : (book : Bytes) → firstRefusal (openRows way book n own heights leaders) ≡ none → OpenTested book
   unfolding openRows
   open-tested book e = by-tested _ e λ ranges exact. record { in-ranges = ranges; exact = eqb-true _ _ exact }
 

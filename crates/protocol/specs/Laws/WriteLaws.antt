@@ -10,7 +10,7 @@ use Rattle.protocol.specs.Bytes.{Bytes, le16, join, put}
 use Rattle.protocol.specs.State.{State, Height, at, last, withHeight, withPool, encode, headBytes, contentBytes}
 use Rattle.protocol.specs.State.{bodyBytes}
 use Rattle.protocol.specs.Laws.BytesLaws.{put-front, put-after, middle-put}
-use Rattle.protocol.specs.Laws.StateLaws.{head-size}
+use Rattle.protocol.specs.Laws.HeadLaws.{head-size}
 use Rattle.protocol.specs.Laws.PlaceLaws.{content-set, content-put, body-put}
 
 -- ---- the pool

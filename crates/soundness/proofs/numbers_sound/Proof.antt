@@ -6,16 +6,14 @@ use Rattle.soundness.proofs.numbers_sound.Tie as tie
 
 returns : tie.Need-returns
 returns c =
-    let after-byte6 = c .before in
-    let after-byte5 = after-byte6 .before in
+    let after-byte5 = c .before in
     let after-byte4 = after-byte5 .before in
     let after-byte3 = after-byte4 .before in
     let after-byte2 = after-byte3 .before in
     let after-byte = after-byte2 .before in
     let start = after-byte .before .before in
     rw (
-      c .byte7 .ensures .0,
-      after-byte6 .byte6 .ensures .0,
+      c .byte6 .ensures .0,
       after-byte5 .byte5 .ensures .0,
       after-byte4 .byte4 .ensures .0,
       after-byte3 .byte3 .ensures .0,
@@ -28,7 +26,6 @@ pub numbers-sound-spec : {M : Type 1} → statement M
 numbers-sound-spec =
     tie.close
     (tie.spec
-    (λ c κs. search needs)
     (λ c κs. search needs)
     (λ c κs. search needs)
     (λ c κs. search needs)

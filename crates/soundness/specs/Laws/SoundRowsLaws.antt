@@ -6,29 +6,28 @@ use lib.ListN.{length}
 use lib.Dec.{eqb, leb, ltb}
 use borrow.Author.Tests.{eqb-true}
 use Rattle.protocol.specs.Every.{none, one}
-use Rattle.protocol.specs.Bytes.{Bytes, part, zeros, isZero}
+use Rattle.protocol.specs.Bytes.{Bytes, zeros, isZero}
 use Rattle.protocol.specs.Tests.{allOf, inRange, everyHeight}
 use Rattle.protocol.specs.Block.{maximumHeights}
-use Rattle.protocol.specs.State.{decode, bookSize, bookHeights, maximumReplicas, maximumPending}
+use Rattle.protocol.specs.State.{decode, weightsIn, bookSize, bookHeights, maximumPending}
 use Rattle.protocol.specs.Sound.{sound, masksBelow, blocksWellFormed, contentZeros}
 use Rattle.protocol.specs.Laws.TestsLaws.{and-both, both-ways}
 use Rattle.protocol.specs.Laws.RowLaws.{row, by-rows, all-of, true-and, every-height-at, every-height, in-range}
 use Rattle.book_fields.specs.Laws.BookLaws.{readable as make-readable}
 use Rattle.book_fields.specs.Book.{Readable, heightIn, bookView}
+use Rattle.book_fields.specs.Laws.SettingRowsLaws.{SettingPasses, setting-passes, setting-pass}
 use Rattle.memory.specs.Memo.{Memo, memorySize}
 use Rattle.memory.specs.Laws.FreshLaws.{zero-known}
 use Rattle.soundness.specs.SoundRows.{numberRows, headRows, heightRows, certificateRow, finalRow}
-use Rattle.protocol.specs.Laws.SoundRowNames.{lengthRow, replicasRow, ownRow, heightsRow, editionRow, currentRow}
+use Rattle.protocol.specs.Laws.SoundRowNames.{lengthRow, replicasRow, ownRow, heightsRow, editionRow, weightsRow, currentRow}
 use Rattle.protocol.specs.Laws.SoundRowNames.{flagsRow, pendingRow, leadersRow, masksRow, statusRow, blocksRow}
 use Rattle.protocol.specs.Laws.SoundRowNames.{certifiedRow, headZerosRow, contentZerosRow, finalizedRow}
 
 -- ---- the rows of each group by name
 module _ (book : Bytes) where
   record NumbersPass : Type 0 where
-    replicas : inRange 1 maximumReplicas (decode book .n) ≡ true
     own : ltb (decode book .own) (decode book .n) ≡ true
     heights : inRange 1 maximumHeights (bookHeights book) ≡ true
-    edition : eqb (decode book .edition) 1 ≡ true
     current : inRange 1 (bookHeights book + 1) (decode book .current) ≡ true
     flags : ltb (decode book .flags) 16 ≡ true
     pending : leb (decode book .pendingCount) maximumPending ≡ true
@@ -36,11 +35,9 @@ module _ (book : Bytes) where
   number-rows : allOf (numberRows book) ≡ true → NumbersPass
   unfolding numberRows
   number-rows e =
-      by-rows _ e λ replicas own heights edition current flags pending. record {
-        replicas = replicas;
+      by-rows _ e λ own heights current flags pending. record {
         own = own;
         heights = heights;
-        edition = edition;
         current = current;
         flags = flags;
         pending = pending;
@@ -48,13 +45,17 @@ module _ (book : Bytes) where
 
   record HeadPasses : Type 0 where
     size : eqb (length book) (bookSize (bookHeights book)) ≡ true
+    setting : SettingPasses book
     numbers : NumbersPass
-    zeros : isZero (part book 8 56) ≡ true
 
   head-rows : allOf (headRows book) ≡ true → HeadPasses
   unfolding headRows
   head-rows e =
-      by-rows _ e λ size numbers zeros. record { size = size; numbers = number-rows numbers; zeros = zeros }
+      by-rows _ e λ size setting numbers. record {
+        size = size;
+        setting = setting-passes book setting;
+        numbers = number-rows numbers;
+      }
 
   record HeightPasses (h : ℕ) : Type 0 where
     leader : ltb (heightIn book h .leader) (decode book .n) ≡ true
@@ -84,13 +85,18 @@ module _ (digest : Bytes → Bytes) (book : Bytes) where
 
   module _ (e : sound digest book ≡ true) where
     head-passes : allOf (headRows book) ≡ true
-    unfolding sound headRows numberRows
+    unfolding sound headRows numberRows decode
     head-passes =
+        let setting = setting-pass book (record {
+          replicas = row _ replicasRow e;
+          edition = row _ editionRow e;
+          weights = row _ weightsRow e;
+          unused = row _ headZerosRow e;
+        }) in
         let numbers = all-of
-        (one (row _ replicasRow e) (one (row _ ownRow e) (one (row _ heightsRow e)
-        (one (row _ editionRow e) (one (row _ currentRow e)
-        (one (row _ flagsRow e) (one (row _ pendingRow e) none))))))) in
-        all-of (one (row _ lengthRow e) (one numbers (one (row _ headZerosRow e) none)))
+        (one (row _ ownRow e) (one (row _ heightsRow e) (one (row _ currentRow e)
+        (one (row _ flagsRow e) (one (row _ pendingRow e) none))))) in
+        all-of (one (row _ lengthRow e) (one setting (one numbers none)))
 
     height-passes : (h : ℕ) → 1 ≤ h → h ≤ bookHeights book → allOf (heightRows book h) ≡ true
     unfolding sound heightRows
@@ -111,22 +117,23 @@ module _ (digest : Bytes → Bytes) (book : Bytes) where
     at-height h low high = height-rows book h (every-height-at _ (bookHeights book) h heights low high)
 
     sound-passes : sound digest book ≡ true
-    unfolding sound finalRow
+    unfolding sound finalRow decode weightsIn
     sound-passes =
         let is = head-rows book head in
         let n = is .numbers in
+        let set = is .setting in
         all-of
         (one (is .size)
-        (one (n .replicas) (one (n .own) (one (n .heights) (one (n .edition) (one (n .current) (one (n .flags)
-        (one (n .pending)
+        (one (set .replicas) (one (n .own) (one (n .heights) (one (set .edition) (one (set .weights)
+        (one (n .current) (one (n .flags) (one (n .pending)
         (one (every-height _ _ (λ h low high. at-height h low high .leader))
         (one (every-height _ _ (λ h low high. at-height h low high .masks))
         (one (every-height _ _ (λ h low high. at-height h low high .status))
         (one (every-height _ _ (λ h low high. at-height h low high .blocks))
         (one (every-height _ _ (λ h low high. at-height h low high .certificate))
-        (one (is .zeros)
+        (one (set .unused)
         (one (every-height _ _ (λ h low high. at-height h low high .zeros))
-        (one final none))))))))))))))))
+        (one final none)))))))))))))))))
 
   -- soundness, group by group
   pub sound-is : sound digest book ≡ (allOf (headRows book) && (every && finalRow digest book))
@@ -139,11 +146,12 @@ module _ (digest : Bytes → Bytes) (book : Bytes) where
 
 -- the head's rows are all that reading asks
 pub readable : (book : Bytes) → allOf (headRows book) ≡ true → Readable book
-unfolding bookSize
+unfolding bookSize decode
 readable book e =
     let is = head-rows book e in
     let size : length book ≡ 576 + 880 * bookHeights book = eqb-true _ _ (is .size) in
-    make-readable book size (in-range _ _ _ (is .numbers .replicas) .1) (in-range _ _ _ (is .numbers .heights) .1)
+    make-readable book size (in-range _ _ _ (is .setting .replicas) .1) (in-range _ _ _ (is .numbers .heights) .1)
+    (is .setting .unused)
 
 -- zeros say nothing of any height
 pub zero-memo : (book known : Bytes) → Readable book → known ≡ zeros memorySize → Memo book known

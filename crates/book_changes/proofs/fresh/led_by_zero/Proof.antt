@@ -1,6 +1,8 @@
--- `led_by_zero` meets its contract: the book is cleared, and five bytes of its head are set.
+-- `led_by_zero` meets its contract: the book is cleared, five bytes of its head are set, and the weights written.
 use native.Mathlib.Omega.{arith}
+use mathlib.Core.Path.{_∙_}
 use lib.ListN.{length-set}
+use Rattle.protocol.specs.Bytes.{AreBytes}
 use Rattle.book_changes.proofs.Leaders.{head-made}
 use borrow.Author.Needs.{needs}
 use Rattle.book_changes.proofs.fresh.led_by_zero.Statement.{statement}
@@ -18,12 +20,25 @@ slice-write-book-4 c = simp length-set (omega arith)
 slice-write-book-5 : tie.Need-slice-write-book-5
 slice-write-book-5 c = simp length-set (omega arith)
 
+copy-to-requires : tie.Need-copy-to-requires
+copy-to-requires c κs = simp length-set (omega arith)
+
+same-length : tie.Need-same-length
+same-length c =
+    let after-copy-to = c .before .before in
+    let after-clear = after-copy-to .before .before .before .before in
+    after-copy-to .copy-to .kept .0 ∙ simp length-set (after-clear .clear .kept .0)
+
 returns : tie.Need-returns
 returns c =
-    let after-clear = c .before .before in
-    let start = after-clear .before .before .before in
-    head-made (start .args .n) (start .args .own) (start .args .heights) (start .args .book .now) _ (start .pre .0)
-    (after-clear .clear .ensures)
+    let after-copy-to = c .before .before in
+    let after-clear = after-copy-to .before .before .before .before in
+    let given = after-clear .before .before in
+    let start = given .before .before in
+    let weights = start .args .weights .now in
+    let small : AreBytes weights = λ i. omega (arith, given .shared-slice-known .given i) in
+    after-copy-to .copy-to .ensures ∙ head-made (start .args .n) (start .args .own) (start .args .heights) weights
+    (start .args .book .now) _ (start .pre .0) small (start .pre .1 .1) (start .pre .1 .0 .0) (after-clear .clear .ensures)
 
 pub led-by-zero-spec : {M : Type 1} → statement M
 led-by-zero-spec =
@@ -38,5 +53,6 @@ led-by-zero-spec =
     slice-write-book-3
     slice-write-book-4
     slice-write-book-5
-    (λ c. search needs)
+    copy-to-requires
+    same-length
     returns)

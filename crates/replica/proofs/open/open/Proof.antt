@@ -1,6 +1,14 @@
 -- `open` meets its contract: the ranges first, then the length.
 use native.Mathlib.Omega.{arith}
-use Prim.Native.Nat.{_+_, _*_, _≤_}
+use Prim.Native.Nat.{ℕ, _+_, _*_, _≤_}
+use mathlib.Core.Bool.{true}
+use lib.Dec.{eqb}
+use borrow.Author.Tests.{eqb-true}
+use Rattle.protocol.specs.Bytes.{Bytes, all}
+use Rattle.protocol.specs.Tests.{inRange}
+use Rattle.protocol.specs.State.{words, maximumWeight}
+use Rattle.protocol.specs.Open.{weighed, weightsInRange}
+use Rattle.protocol.specs.Laws.TestsLaws.{and-both}
 use mathlib.Core.Path.{_≡_, sym, _∙_}
 use lib.ListN.{length}
 use Rattle.answers.specs.Laws.AnswerLaws.{outcome-done, outcome-refused}
@@ -12,19 +20,26 @@ use Rattle.replica.proofs.open.open.Tie as tie
 use Rattle.protocol.specs.Block.{maximumHeights}
 use Rattle.protocol.specs.Laws.TestedLaws.{open-ranges}
 
+counted : (n : ℕ) (weights : Bytes) → weightsInRange n (weighed weights) ≡ true → length weights ≡ 2 * n
+unfolding weightsInRange
+counted n weights e = eqb-true _ _
+    (and-both (eqb (length weights) (2 * n)) (all (λ w. inRange 1 maximumWeight w) (words n weights)) e .0)
+
 mul-if2 : tie.Need-mul-if2
 mul-if2 c =
     let after-numbers-fit = c .before in
-    let z = after-numbers-fit .before .before .before in
-    let fits = open-ranges (z .args .n) (z .args .own) (z .args .heights) (z .args .leaders .now)
+    let z = after-numbers-fit .before .before .before .before in
+    let way = weighed (z .args .weights .now) in
+    let fits = open-ranges way (z .args .n) (z .args .own) (z .args .heights) (z .args .leaders .now)
     (sym (after-numbers-fit .numbers-fit .ensures) ∙ c .if1 .taken) in
     omega arith
 
 add-if2 : tie.Need-add-if2
 add-if2 c =
     let after-numbers-fit = c .before in
-    let z = after-numbers-fit .before .before .before in
-    let fits = open-ranges (z .args .n) (z .args .own) (z .args .heights) (z .args .leaders .now)
+    let z = after-numbers-fit .before .before .before .before in
+    let way = weighed (z .args .weights .now) in
+    let fits = open-ranges way (z .args .n) (z .args .own) (z .args .heights) (z .args .leaders .now)
     (sym (after-numbers-fit .numbers-fit .ensures) ∙ c .if1 .taken) in
     omega arith
 
@@ -32,12 +47,14 @@ new-book-requires : tie.Need-new-book-requires
 new-book-requires c κs =
     let after-if1 = c .before .before in
     let after-numbers-fit = after-if1 .before in
-    let z = after-numbers-fit .before .before .before in
-    let fits = open-ranges (z .args .n) (z .args .own) (z .args .heights) (z .args .leaders .now)
+    let z = after-numbers-fit .before .before .before .before in
+    let way = weighed (z .args .weights .now) in
+    let fits = open-ranges way (z .args .n) (z .args .own) (z .args .heights) (z .args .leaders .now)
     (sym (after-numbers-fit .numbers-fit .ensures) ∙ after-if1 .if1 .taken) in
     let size : length (z .args .book .now) ≡ 576 + 880 * length (z .args .leaders .now) = omega arith in
+    let given : length (z .args .weights .now) ≡ 2 * z .args .n = counted (z .args .n) (z .args .weights .now) (fits .weights-fit) in
     let few : length (z .args .leaders .now) ≤ maximumHeights = omega arith in
-    (size, (few, (omega arith, omega arith)))
+    (size, (few, ((fits .n-high, omega arith), given)))
 
 returns : tie.Need-returns
 returns c =
@@ -45,8 +62,9 @@ returns c =
     let after-if2 = after-new-book .before .before in
     let after-if1 = after-if2 .before in
     let after-numbers-fit = after-if1 .before in
-    let z = after-numbers-fit .before .before .before in
-    outcome-done (open-done (z .args .book .now) (z .args .n) (z .args .own) (z .args .heights) (z .args .leaders .now)
+    let z = after-numbers-fit .before .before .before .before in
+    let way = weighed (z .args .weights .now) in
+    outcome-done (open-done way (z .args .book .now) (z .args .n) (z .args .own) (z .args .heights) (z .args .leaders .now)
     (sym (after-numbers-fit .numbers-fit .ensures) ∙ after-if1 .if1 .taken)
     (long-enough (z .args .book .now) (z .args .heights) (after-if2 .if2 .taken)))
     (after-new-book .new-book .ensures)
@@ -55,16 +73,18 @@ returns-2 : tie.Need-returns-2
 returns-2 c =
     let after-if1 = c .before in
     let after-numbers-fit = after-if1 .before in
-    let z = after-numbers-fit .before .before .before in
-    outcome-refused (open-short (z .args .book .now) (z .args .n) (z .args .own) (z .args .heights)
+    let z = after-numbers-fit .before .before .before .before in
+    let way = weighed (z .args .weights .now) in
+    outcome-refused (open-short way (z .args .book .now) (z .args .n) (z .args .own) (z .args .heights)
     (z .args .leaders .now) (sym (after-numbers-fit .numbers-fit .ensures) ∙ after-if1 .if1 .taken)
     (not-long-enough (z .args .book .now) (z .args .heights) (c .if2 .left)))
 
 returns-3 : tie.Need-returns-3
 returns-3 c =
     let after-numbers-fit = c .before in
-    let z = after-numbers-fit .before .before .before in
-    outcome-refused (open-unfit (z .args .book .now) (z .args .n) (z .args .own) (z .args .heights)
+    let z = after-numbers-fit .before .before .before .before in
+    let way = weighed (z .args .weights .now) in
+    outcome-refused (open-unfit way (z .args .book .now) (z .args .n) (z .args .own) (z .args .heights)
     (z .args .leaders .now) (sym (after-numbers-fit .numbers-fit .ensures) ∙ c .if1 .left))
 
 pub open-spec : {M : Type 1} → statement M

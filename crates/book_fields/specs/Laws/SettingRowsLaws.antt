@@ -1,0 +1,27 @@
+-- The rows that the heads of all kinds share, by name.
+use mathlib.Core.Path.{_≡_}
+use mathlib.Core.Bool.{true}
+use Rattle.protocol.specs.Every.{none, one}
+use Rattle.protocol.specs.Bytes.{Bytes, byteAt, isZero}
+use Rattle.protocol.specs.Tests.{allOf, inRange}
+use Rattle.protocol.specs.State.{bookWeights, headUnused, maximumReplicas}
+use Rattle.protocol.specs.Sound.{weightsFit}
+use Rattle.protocol.specs.Laws.RowLaws.{by-rows, all-of}
+use Rattle.book_fields.specs.Setting.{weightRows, settingRows}
+
+pub record SettingPasses (book : Bytes) : Type 0 where
+  pub replicas : inRange 1 maximumReplicas (byteAt book 0) ≡ true
+  pub edition : inRange 1 2 (byteAt book 7) ≡ true
+  pub weights : weightsFit (byteAt book 0) (bookWeights book) ≡ true
+  pub unused : isZero (headUnused book) ≡ true
+
+pub setting-passes : (book : Bytes) → allOf (settingRows book) ≡ true → SettingPasses book
+unfolding settingRows weightRows headUnused
+setting-passes book e =
+    by-rows _ e λ replicas edition both.
+    by-rows _ both λ weights unused. record { replicas = replicas; edition = edition; weights = weights; unused = unused }
+
+pub setting-pass : (book : Bytes) → SettingPasses book → allOf (settingRows book) ≡ true
+unfolding settingRows weightRows headUnused
+setting-pass book is = all-of
+    (one (is .replicas) (one (is .edition) (one (all-of (one (is .weights) (one (is .unused) none))) none)))

@@ -1,0 +1,24 @@
+// Weights of replicas: two bytes each, the low byte first, as the head has them and Open gets them.
+ghost use mathlib.Core.Path.{_≡_};
+ghost use Prim.Native.Nat.{_*_, _≤_};
+ghost use lib.ListN.{length};
+ghost use Rattle.protocol.specs.Bytes.{all};
+ghost use Rattle.protocol.specs.Tests.{inRange};
+ghost use Rattle.protocol.specs.State.{words, maximumWeight};
+
+pub const MAXIMUM_WEIGHT: usize = 1000;
+
+// Whether each of the first `n` weights is 1 to 1,000. One pass, with no early end.
+pub fn in_range(weights: &[u8], n: usize) -> bool
+    requires { ⌜ 2 * n ≤ length (now weights) ⌝ }
+    ensures { λ r. ⌜ r ≡ all (λ w. inRange 1 maximumWeight w) (words n (now (weights .entry))) ⌝ }
+{
+    let mut good = true;
+    let mut s = 0;
+    while s < n {
+        let weight = crate::bytes::word(weights, 2 * s);
+        good = good & ((1 <= weight) & (weight <= MAXIMUM_WEIGHT));
+        s += 1;
+    }
+    good
+}
