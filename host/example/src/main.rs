@@ -83,7 +83,7 @@ fn run(words: &[String]) -> Result<(), Ended> {
 /// The station's book: the one in the file, or a new one where there is none. It stays locked until the host ends.
 fn open(path: &Path, n: u64, own: u64, leaders: &[u8]) -> Result<FileBook<Replica>, Error> {
     if !path.exists() {
-        return FileBook::create(Book::open(REPLICA, n, own, leaders)?, path);
+        return FileBook::create(Book::open(REPLICA, n, own, &vec![1; n as usize], leaders)?, path);
     }
     FileBook::open(REPLICA, path)
 }

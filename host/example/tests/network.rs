@@ -98,7 +98,7 @@ fn frames_that_wait_go_out_first() {
     for (at, cast) in casts().iter().enumerate() {
         let setting = Setting { name: format!("waiting{at}"), leaders: turns(0, 12), delta: 5000 };
         let mut network = Network::new(setting, cast);
-        let book = Book::open(reference::Rules::SHA256, 4, 0, &turns(0, 12)).unwrap();
+        let book = Book::open(reference::Rules::SHA256, 4, 0, &[1; 4], &turns(0, 12)).unwrap();
         let mut book = FileBook::create(book, network.file("book", 0)).unwrap();
         assert_eq!(book.move_and_take().unwrap(), Move::Offer { height: 1 });
         let waits = digits(&book.unsent()[0]);

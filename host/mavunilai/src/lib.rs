@@ -7,8 +7,8 @@
 //! ```
 //! # fn main() -> Result<(), mavunilai::Refusal> {
 //! use mavunilai::{Book, Frame, Refusal};
-//! // With the feature: mavunilai::open(4, 2, &[0, 1, 2])?
-//! let mut book = Book::open(reference::Rules::SHA256, 4, 2, &[0, 1, 2])?;
+//! // With the feature: mavunilai::open(4, 2, &[1; 4], &[0, 1, 2])?
+//! let mut book = Book::open(reference::Rules::SHA256, 4, 2, &[1; 4], &[0, 1, 2])?;
 //! for signer in [0, 1, 2] {
 //!     book.deliver(&Frame::DummyVote { signer, height: 1 }.bytes())?;
 //! }
@@ -27,8 +27,8 @@
 //! ```
 //! # fn main() -> Result<(), mavunilai::Refusal> {
 //! use mavunilai::{Block, Frame, Move, ObserverBook, Refusal};
-//! // With the feature: mavunilai::observe(4, 3)?
-//! let mut book = ObserverBook::open(reference::Rules::SHA256, 4, 3)?;
+//! // With the feature: mavunilai::observe(4, 3, &[1; 4])?
+//! let mut book = ObserverBook::open(reference::Rules::SHA256, 4, 3, &[1; 4])?;
 //! let block = Block { height: 1, entries: [[1; 16]].into(), ..Block::default() };
 //! let vote = Frame::Finalize { signer: 0, height: 1 }.bytes();
 //! assert_eq!(book.deliver(&vote), Err(Refusal::NotACertificate));
@@ -62,14 +62,15 @@ pub use types::{
 #[cfg(feature = "proved")]
 pub const ARCHIVE: &str = env!("MAVUNILAI_ARCHIVE");
 
-/// A new book of the proved replica for replica `own` of `n`, with one leader for each height.
+/// A new book of the proved replica for replica `own` of `n`, with one weight for each replica and one leader for each
+/// height.
 #[cfg(feature = "proved")]
-pub fn open(n: u64, own: u64, leaders: &[u8]) -> Result<Book<Proved>, Refusal> {
-    Book::open(Proved, n, own, leaders)
+pub fn open(n: u64, own: u64, weights: &[u16], leaders: &[u8]) -> Result<Book<Proved>, Refusal> {
+    Book::open(Proved, n, own, weights, leaders)
 }
 
-/// A new observer's book of the proved replica, over `n` replicas and so many heights.
+/// A new observer's book of the proved replica, over `n` replicas of these weights and so many heights.
 #[cfg(feature = "proved")]
-pub fn observe(n: u64, heights: Height) -> Result<ObserverBook<Proved>, Refusal> {
-    ObserverBook::open(Proved, n, heights)
+pub fn observe(n: u64, heights: Height, weights: &[u16]) -> Result<ObserverBook<Proved>, Refusal> {
+    ObserverBook::open(Proved, n, heights, weights)
 }

@@ -80,7 +80,7 @@ fn row(bytes: &[u8]) -> String {
 fn a_second_page_is_told_as_by_the_types() {
     let page = |height, byte| Block { height, entries: [[byte; 16]].into(), ..Block::default() };
     let proposal = |height, byte| Frame::Proposal { signer: 0, block: page(height, byte) }.bytes();
-    let mut book = Book::open(reference::Rules::SHA256, 4, 2, &[0; 3]).unwrap();
+    let mut book = Book::open(reference::Rules::SHA256, 4, 2, &[1; 4], &[0; 3]).unwrap();
     book.deliver(&proposal(2, 1)).unwrap();
     let certificate = Frame::BlockCertificate { mask: 7, block: page(2, 2) }.bytes();
     let frames = [(2, 1), (2, 2), (1, 2), (3, 2), (0, 2), (4, 2), (255, 2)];
@@ -181,7 +181,7 @@ fn fields_of_an_observers_book_are_where_the_types_have_them() {
         ("OBSERVER_ROW_FINALISE", Frame::FinalizeCertificate { mask: 7, height: 1 }),
     ];
     for (name, frame) in certificates {
-        let mut book = ObserverBook::open(reference::Rules::SHA256, 4, 3).unwrap();
+        let mut book = ObserverBook::open(reference::Rules::SHA256, 4, 3, &[1; 4]).unwrap();
         book.deliver(&frame.bytes()).unwrap();
         is(name, book.bytes()[row.clone()].iter().position(|byte| *byte == 7).unwrap());
         let state = if name == "OBSERVER_ROW_PAGE" { numbers["STATE_NOTARISED"] } else { 0 };

@@ -39,7 +39,7 @@ fn second() -> [u8; types::FRAME] {
 /// A book of so many heights, led by stations 3, 2, 1, 0 in turn, which holds a page of height 1.
 fn station(heights: Height) -> Book<reference::Rules> {
     let leaders: Vec<u8> = (0..heights).map(|height| 3 - height % 4).collect();
-    let mut book = Book::open(reference::Rules::SHA256, 4, 2, &leaders).unwrap();
+    let mut book = Book::open(reference::Rules::SHA256, 4, 2, &[1; 4], &leaders).unwrap();
     let block = Block { height: 1, entries: [[1; 16]].into(), ..Block::default() };
     book.deliver(&Frame::Proposal { signer: 3, block }.bytes()).unwrap();
     book
@@ -68,7 +68,7 @@ fn readers_keep_to_the_book() {
         assert_eq!(book.bytes().len(), book_length(heights));
         assert!(book.is_second_block(&second()));
         put(book.bytes(), line(book.bytes(), |height| book.leader(height), true));
-        let book = ObserverBook::open(reference::Rules::SHA256, 4, heights).unwrap();
+        let book = ObserverBook::open(reference::Rules::SHA256, 4, heights, &[1; 4]).unwrap();
         assert_eq!(book.bytes().len(), observer_book_length(heights));
         assert!(!types::is_second_block(book.bytes(), &second()));
         put(book.bytes(), line(book.bytes(), |_| None, false));
@@ -115,7 +115,7 @@ fn pages_and_frames_are_made_as_by_the_types() {
 fn quorums(n: u8) -> String {
     let is = |mask: u16| {
         let in_range = (1..=MOST_REPLICAS).contains(&n) && u32::from(mask) >> n == 0;
-        in_range && reference::is_quorum(mask, n)
+        in_range && reference::is_quorum(mask, &vec![1; n.into()])
     };
     (0..=u16::MAX).map(|mask| if is(mask) { '1' } else { '0' }).collect()
 }
