@@ -28,12 +28,15 @@ impl Network {
         let mut random = Random::new(seed);
         let n = weights.len() as u8;
         let leaders: Vec<u8> = (0..LAST).map(|_| random.below(n.into()) as u8).collect();
-        let book = |own: u8| match own == 0
-            && seed % 2 == 0
-            && weights.iter().all(|&weight| weight == 1)
-        {
-            true => first_edition(&weighed_book(weights, own.into(), &leaders)),
-            false => weighed_book(weights, own.into(), &leaders),
+        let equal = weights.iter().all(|&weight| weight == 1);
+        let book = |own: u8| {
+            let book = weighed_book(weights, own.into(), &leaders);
+            let first = equal && own == 0 && seed.is_multiple_of(2);
+            if first {
+                first_edition(&book)
+            } else {
+                book
+            }
         };
         let books = (0..honest).map(book).collect();
         let logs = vec![Vec::new(); honest.into()];
