@@ -10,7 +10,8 @@ fn list(lines: &str) -> Result<List, Problem> {
 
 /// A short list with all expectations.
 fn sample() -> String {
-    let calls = "give book 5a*1456\ngive reply aa*448\nopen book 4 2 1 0100010001000100 00\nsignal book 1\nmove book reply\nsize book";
+    let calls = "give book 5a*1456\ngive reply aa*448\nopen book 4 2 1 0100010001000100 00\n\
+                 signal book 1\nmove book reply\nsize book";
     record(&list(calls).unwrap(), &Rules::SHA256).unwrap().to_string()
 }
 

@@ -85,11 +85,14 @@ fn each_byte_of_the_head_is_broken_alone_in_both_editions() {
     }
 }
 
+/// Which openings are wanted, by n, weights and the book before.
+type Wanted<'a> = dyn Fn(u64, &[u8], &[u8]) -> bool + 'a;
+
 #[test]
 fn openings_are_refused_for_each_edge_of_the_weights() {
     let calls = played(&list("weights"));
     for station in [true, false] {
-        let of = |wanted: &dyn Fn(u64, &[u8], &[u8]) -> bool, answer: Answer| {
+        let of = |wanted: &Wanted, answer: Answer| {
             let is = |made: &&Played| match opening(&made.call) {
                 Some((whose, n, weights)) => {
                     whose == station && made.answer == answer && wanted(n, weights, &made.book)
@@ -204,11 +207,13 @@ fn the_unequal_season_goes_as_told() {
     };
     assert_eq!(
         moves("large"),
-        "offer 1,vote 1,pass 1 5 4,final 1,vote 2,pass 2 5 4,vote 3,pass 3 5 4,offer 4,final 3,vote 4,pass 4 5 4,final 4"
+        "offer 1,vote 1,pass 1 5 4,final 1,vote 2,pass 2 5 4,vote 3,pass 3 5 4,offer 4,final 3,vote 4,\
+         pass 4 5 4,final 4"
     );
     assert_eq!(
         moves("middle"),
-        "vote 1,pass 1 5 4,offer 2,final 1,vote 2,dummy 2,pass 2 5 0,vote 3,pass 3 5 4,final 3,vote 4,pass 4 5 4,final 4"
+        "vote 1,pass 1 5 4,offer 2,final 1,vote 2,dummy 2,pass 2 5 0,vote 3,pass 3 5 4,final 3,vote 4,\
+         pass 4 5 4,final 4"
     );
     assert_eq!(
         moves("small"),

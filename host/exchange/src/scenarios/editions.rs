@@ -20,7 +20,7 @@ const HEAD: usize = 64;
 
 /// Records the list.
 pub fn run<C: Calls>(to: &mut Recorder<C>) {
-    to.remark("Edition 2 has weights in its head, edition 1 has none: it is read as all weights 1, and stays as it is.");
+    to.remark("Edition 2 has weights in its head. Edition 1 has none, is read as all weights 1, and stays edition 1.");
     to.give(REPLY, vec![0xaa; 448]);
     for book in [BOOK, WATCH] {
         first_edition(to, book);
@@ -86,7 +86,8 @@ fn first_edition<C: Calls>(to: &mut Recorder<C>, book: &str) {
 }
 
 fn second_edition<C: Calls>(to: &mut Recorder<C>, book: &str) {
-    to.part(&format!("Edition 2, {}: each station in turn weighs 0 and 1,001, then 1,000 and 256, which are sound", whose(book)));
+    let book_of = whose(book);
+    to.part(&format!("Edition 2, {book_of}: sound; each station weighs 0, 1,001, and 1,000 and 256, which are sound"));
     let sound = new(to, book);
     ask(to, book, &sound, &[]);
     let places = (field::WEIGHTS..).step_by(2).take(4);
@@ -141,7 +142,7 @@ fn numbers_of_stations<C: Calls>(to: &mut Recorder<C>, book: &str) {
 }
 
 fn quorums<C: Calls>(to: &mut Recorder<C>) {
-    to.part("Edition 1: three of four are a quorum, two not, for each kind of certificate; a book's masks go by it too");
+    to.part("Edition 1: three of four are a quorum, two not, for each kind of certificate, and for a book's own masks");
     let first = in_first_edition(&new(to, BOOK));
     to.give(BOOK, first);
     let earlier = in_first_edition(&new(to, WATCH));
@@ -165,7 +166,7 @@ fn on_both<C: Calls>(to: &mut Recorder<C>, make: impl Fn(&mut Recorder<C>, &str)
 }
 
 fn calls<C: Calls>(to: &mut Recorder<C>) {
-    to.part("Every call on a book of edition 2 with weights of 1, and on the same book in edition 1: alike but for the head");
+    to.part("Every call on a book of edition 2 with weights of 1, and on the same in edition 1: alike but for the head");
     to.open(BOOK, 4, 2, &[0, 2]);
     let first = in_first_edition(to.bytes(BOOK));
     to.give(FIRST, first);

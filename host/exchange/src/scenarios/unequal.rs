@@ -76,7 +76,7 @@ fn block_of(frames: &[Vec<u8>]) -> Block {
 
 /// Returns the proposal of height 2.
 fn two_are_enough<C: Calls>(to: &mut Recorder<C>) -> Vec<Vec<u8>> {
-    to.part("Height 1: the votes of 0 and 1 are a quorum, two stations of five: both pass, and their finalises settle it");
+    to.part("Height 1: the votes of 0 and 1 are a quorum, two stations of five; both pass, their finalises settle it");
     submit(to, "large", entry("swap A12 to B40"));
     submit(to, "middle", entry("seed lot 7 to 3"));
     let offer = all_move(to, &["large"], &[1]);
@@ -134,7 +134,7 @@ fn two_pages<C: Calls>(to: &mut Recorder<C>, below: &[Vec<u8>]) -> Vec<Vec<u8>> 
     send(to, &votes, &OTHERS);
     send(to, &dishonest(|signer| vote(signer, &one)), &["large"]);
     send(to, &votes, &["large"]);
-    to.remark("The page of the large station has 15 of 20, the other one 10: it passes there alone, and then by certificate");
+    to.remark("The page of the large station has 15 of 20, the other one 10; the certificate lets the others pass");
     all_move(to, &OTHERS, &[]);
     let passed = all_move(to, &["large"], &[1, 4, 5]);
     send(to, &of(passed.clone(), &[5]), &OTHERS);

@@ -109,7 +109,7 @@ fn observer_opening<C: Calls>(to: &mut Recorder<C>) {
 }
 
 fn certificates<C: Calls>(to: &mut Recorder<C>) {
-    to.part("Certificates of each kind, to a station and to an observer: 9 below two thirds of the weight, taken on it");
+    to.part("Certificates of each kind, to a station and to an observer: 9 below two thirds of the weight, else taken");
     for (weights, enough, few) in EDGES {
         to.open_weighed(BOOK, weights, 0, &[0]);
         to.open_weighed_observer(WATCH, weights, 1);
@@ -189,7 +189,7 @@ fn settling<C: Calls>(to: &mut Recorder<C>) {
 }
 
 fn orders<C: Calls>(to: &mut Recorder<C>) {
-    to.part("An absent station is 5 before its mask is weighed; no quorum is 9 before 10, also where it is one by number");
+    to.part("An absent station is 5 before the mask is weighed; no quorum is 9 before 10, though it be one by number");
     let (one, other) = (first(1, &[]), first(1, &[entry("other")]));
     to.open_weighed(BOOK, &[9, 1, 1, 1], 0, &[0]);
     to.open_weighed_observer(WATCH, &[9, 1, 1, 1], 1);
@@ -210,7 +210,7 @@ fn orders<C: Calls>(to: &mut Recorder<C>) {
 }
 
 fn same_weights<C: Calls>(to: &mut Recorder<C>) {
-    to.part("One certificate over two books: stations 1, 2, 3 are a quorum of equal weights, and none where 0 weighs nine");
+    to.part("One certificate over two books: 1, 2 and 3 are a quorum of equal weights, and none where 0 weighs nine");
     for weights in [[1, 1, 1, 1], [9, 1, 1, 1]] {
         to.open_weighed(BOOK, &weights, 0, &[1]);
         to.open_weighed_observer(WATCH, &weights, 1);
