@@ -1,6 +1,7 @@
 //! Random books: new ones, sound ones that no run makes, damaged ones and garbage.
 
 use crate::frames::{any_block, any_entry, any_mask};
+use crate::weights::{any_weights, damage_weights, some_edition};
 use crate::Random;
 use reference::{is_quorum, sha256, Rules};
 use types::{book_length, field, head_height, mask_at, put_head_height, Weights};
@@ -36,16 +37,18 @@ pub fn arguments_for(random: &mut Random, heights: Height) -> (u8, u8, Vec<u8>) 
     (n, random.byte_below(n), leaders)
 }
 
-/// A new book.
-fn opened(n: u8, own: u8, leaders: &[u8]) -> Vec<u8> {
-    let book = Book::open(Rules::SHA256, n.into(), own.into(), &vec![1; n.into()], leaders);
+/// A new book for stations of these weights.
+fn opened(weights: &[u16], own: u8, leaders: &[u8]) -> Vec<u8> {
+    let n = weights.len() as u64;
+    let book = Book::open(Rules::SHA256, n, own.into(), weights, leaders);
     book.map_or_else(|_| Vec::new(), |book| book.bytes().to_vec())
 }
 
-/// A sound book with any flags, any current height, junk in every free byte, and blocks that may not fit together.
+/// A sound book of either edition with any weights, any flags, any current height, junk in every free byte, and blocks that may not fit together.
 pub fn strange_book(random: &mut Random, heights: Height) -> Vec<u8> {
     let (n, own, leaders) = arguments_for(random, heights);
-    let mut book = opened(n, own, &leaders);
+    let mut book = opened(&any_weights(random, n), own, &leaders);
+    some_edition(random, &mut book);
     let layout = Layout::new(heights);
     random.fill(&mut book[layout.area(1, Area::Held).start..]);
     let current = random.height_below(heights.saturating_add(1)).saturating_add(1);
@@ -66,19 +69,17 @@ pub fn strange_book(random: &mut Random, heights: Height) -> Vec<u8> {
 /// The row and the blocks of one height.
 fn fill_height(random: &mut Random, book: &mut [u8], height: Height, leader: u8) {
     let (n, layout) = (book[field::N], Layout::new(head_height(book, field::HEIGHTS)));
+    let weights = Weights::of(book);
     let all = u16::MAX >> 16_u8.saturating_sub(n).min(15);
     let state = random.byte_below(4) | if random.one_in(3) { 0 } else { 2 };
     let mut row = [0; 16];
     (row[0], row[1]) = (leader, state);
     for mask in row[2..10].chunks_mut(2) {
-        mask.copy_from_slice(&(any_mask(random, n) & all).to_le_bytes());
+        mask.copy_from_slice(&(any_mask(random, &weights) & all).to_le_bytes());
     }
     if state & 2 != 0 {
-        let mask = if is_quorum(mask_at(&row, 2), Weights::equal(n).each()) {
-            mask_at(&row, 2)
-        } else {
-            all
-        };
+        let some = is_quorum(mask_at(&row, 2), weights.each());
+        let mask = if some { mask_at(&row, 2) } else { all };
         row[2..4].copy_from_slice(&mask.to_le_bytes());
         let block = any_block(random, book, height).bytes();
         book[layout.area(height, Area::Notarized)].copy_from_slice(&block);
@@ -113,8 +114,11 @@ fn settle(random: &mut Random, book: &mut [u8]) {
     put_head_height(book, field::FINALIZED, 0);
 }
 
-/// Changes one byte, or cuts or lengthens the book.
+/// Changes one byte, a weight or the edition, or cuts or lengthens the book.
 pub fn damage(random: &mut Random, book: &mut Vec<u8>) {
+    if random.one_in(6) {
+        return damage_weights(random, book);
+    }
     let at = any_place(random, book);
     let bit = 1 << random.below(8);
     let any = if random.one_in(2) { random.byte() } else { random.byte_below(66) };
@@ -156,9 +160,10 @@ pub fn garbage(random: &mut Random) -> Vec<u8> {
     if random.one_in(2) {
         random.fill(&mut book);
     }
-    let like = opened(4, 2, &vec![0; heights.into()]);
+    let mut like = opened(&any_weights(random, 4), 2, &vec![0; heights.into()]);
+    some_edition(random, &mut like);
     if random.one_in(2) {
-        book.iter_mut().zip(like).take(8).for_each(|(to, from)| *to = from);
+        book.iter_mut().zip(like).take(64).for_each(|(to, from)| *to = from);
     }
     book
 }

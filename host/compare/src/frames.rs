@@ -1,5 +1,6 @@
 //! Random frames for a book: mostly ones that it takes, some that it must refuse.
 
+use crate::weights::near_quorum;
 use crate::Random;
 use exchange::colliding;
 use reference::sha256;
@@ -7,7 +8,9 @@ use std::sync::LazyLock;
 use types::{
     field, head_height, height_at, put_height, Area, Block, Entries, Frame, Height, Layout,
 };
-use types::{BLOCK, BLOCK_HEIGHT, ENTRY, FRAME, FRAME_HEIGHT, MOST_HEIGHTS};
+use types::{
+    Weights, BLOCK, BLOCK_HEIGHT, ENTRY, FRAME, FRAME_HEIGHT, MOST_HEIGHTS, MOST_REPLICAS,
+};
 
 /// Where the block in a frame has its height.
 const PAGE_HEIGHT: usize = FRAME - BLOCK + BLOCK_HEIGHT;
@@ -50,15 +53,17 @@ pub fn any_entries(random: &mut Random) -> Vec<[u8; ENTRY]> {
     }
 }
 
-/// A mask: any, all, or all but one; seldom with a bit that names nobody.
-pub fn any_mask(random: &mut Random, n: u8) -> u16 {
+/// A mask: any, all, all but one, or one that weighs about two thirds; seldom with a bit that names nobody.
+pub fn any_mask(random: &mut Random, weights: &Weights) -> u16 {
+    let n = u8::try_from(weights.each().len()).unwrap_or(MOST_REPLICAS);
     let [low, high, ..] = random.next_bits().to_be_bytes();
     let any = u16::from_le_bytes([low, high]);
     let all = u16::MAX.checked_shr(16_u32.saturating_sub(n.into())).unwrap_or(0);
     match random.below(16) {
         0 => any,
         1..=3 => any & all,
-        4..=6 => all & !1_u16.checked_shl(random.byte_below(n).into()).unwrap_or(0),
+        4 | 5 => all & !1_u16.checked_shl(random.byte_below(n).into()).unwrap_or(0),
+        6..=9 => near_quorum(random, weights),
         _ => all,
     }
 }
@@ -106,7 +111,7 @@ pub fn any_frame(random: &mut Random, book: &[u8]) -> Frame {
     let n = byte(book, field::N);
     let height = any_height(random, book);
     let signer = if random.one_in(24) { random.byte() } else { random.byte_below(n) };
-    let mask = any_mask(random, n);
+    let mask = any_mask(random, &Weights::of(book));
     let block = likely_block(random, book, height);
     let leader = byte(area(book, height, Area::Row), 0);
     match random.below(16) {

@@ -3,7 +3,7 @@
 use crate::traits::{observer_read_length, read_length, reply_length};
 use crate::{
     listening, observer_kinds, observer_single, packet_kinds, repeat_kinds, second_page_kinds,
-    two_pages,
+    two_pages, weight_kinds,
 };
 use exchange::{Answer, Call, ObserverCall};
 use std::collections::{BTreeMap, BTreeSet};
@@ -91,13 +91,13 @@ fn expected() -> Vec<String> {
     let timers = (0..16).step_by(2).map(timer);
     let two_pages = second_page_kinds::NAMES.into_iter().chain(two_pages::NAMES);
     let observers = observer_kinds::NAMES.into_iter().chain(observer_single::NAMES);
-    let observers = observers.chain(listening::NAMES);
+    let observers = observers.chain(listening::NAMES).chain(weight_kinds::NAMES);
     let named = NAMED.into_iter().chain(packet_kinds::NAMES).chain(two_pages).chain(observers);
     let named = named.map(str::to_string);
     let mut all: Vec<String> = REFUSALS.into_iter().flat_map(refused).collect();
     all.extend(done.into_iter().chain(kinds).chain(lengths).chain(timers).chain(named));
     all.extend(second_page_kinds::by_flags().chain(observer_kinds::by_kind()));
-    all.extend(repeat_kinds::names());
+    all.extend(repeat_kinds::names().into_iter().chain(weight_kinds::names()));
     all
 }
 
@@ -142,6 +142,7 @@ impl Kinds {
         }
         observer_kinds::kinds(call, book, answer).iter().for_each(|name| self.saw(name));
         repeat_kinds::kinds(call, book, lent, answer).iter().for_each(|name| self.saw(name));
+        weight_kinds::kinds(call, book, answer).iter().for_each(|name| self.saw(name));
         let flags = book.get(field::FLAGS).copied().unwrap_or(0);
         if let (Call::Signal { .. }, Answer::Done) = (call, answer) {
             self.saw(&timer(flags));
@@ -243,11 +244,12 @@ mod tests {
         let all = kinds.missing();
         assert_eq!(all.len(), expected().len() + SIZES.len());
         kinds.saw("frame: sent again to one book");
-        kinds.see(&Call::Signal { height: 1 }, &[4, 0, 1, 6, 1], 0, Answer::Done);
+        kinds.see(&Call::Signal { height: 1 }, &[4, 0, 1, 6, 1, 0, 0, 1], 0, Answer::Done);
         let left = kinds.missing();
         let gone: Vec<_> = all.iter().filter(|name| !left.contains(name)).collect();
         assert!(gone.iter().any(|name| *name == "timer: fires with flags  6"));
         assert!(left.contains(&"15 of 16 numbers of stations".to_string()));
-        assert_eq!(gone.len(), 6);
+        assert!(gone.iter().any(|name| *name == "weights: book of edition 1, a station"));
+        assert_eq!(gone.len(), 7);
     }
 }

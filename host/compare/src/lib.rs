@@ -33,6 +33,8 @@ mod second_page_kinds;
 mod single;
 mod traits;
 mod two_pages;
+mod weight_kinds;
+mod weights;
 
 pub use difference::{Difference, Halt, Outcome, Stop};
 pub use kinds::Kinds;

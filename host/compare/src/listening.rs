@@ -1,9 +1,11 @@
 //! The observers of a network: they hear certificates, settle now and then, and their logs are read like all others.
 
 use crate::network::{Network, Outcome};
+use crate::weights::some_edition;
 use crate::{Halt, Second};
-use exchange::{equal_weights, Answer, Call, ObserverCall};
-use types::{observer_book_length, Calls, Height, Move, FRAME, MOST_HEIGHTS};
+use exchange::{Answer, Call, ObserverCall};
+use types::{field, observer_book_length, weight_bytes, Calls, Height, Move};
+use types::{FIRST_EDITION, FRAME, MOST_HEIGHTS};
 
 /// The names of what must have happened.
 pub const NAMES: [&str; 6] = [
@@ -28,9 +30,13 @@ impl<A: Calls, B: Second> Network<'_, A, B> {
             };
             let mut book = vec![0; observer_book_length(own)];
             self.random.fill(&mut book);
-            let (n, weights) = (self.n.into(), equal_weights(self.n.into()));
+            let (n, weights) = (self.n.into(), weight_bytes(&self.weights));
             let open = ObserverCall::Open { n, heights: own.into(), weights };
             self.pair.make(&Call::Observer(open), &mut book, &mut [])?;
+            some_edition(self.random, &mut book);
+            if book.get(field::EDITION) == Some(&FIRST_EDITION) {
+                self.saw("an observer's book of edition 1");
+            }
             self.observers.push(book);
             self.logs.push(Vec::new());
             self.pair.kinds.saw(match own.cmp(&heights) {

@@ -2,18 +2,23 @@
 
 use crate::books::{any_heights, any_replicas};
 use crate::frames::any_entry;
+use crate::weight_kinds::singles;
+use crate::weights::{any_weights, some_edition};
 use crate::Random;
 use crate::{repeat_kinds, Halt, Pair, Second};
-use exchange::{equal_weights, Answer, Call};
-use types::{book_length, field, head_height};
+use exchange::{Answer, Call};
+use reference::is_quorum;
+use types::{book_length, field, head_height, weight_bytes, Weights};
 use types::{Block, Calls, Counts, Delivered, Frame, Height, Move};
-use types::{BLOCK, ENTRY, FRAME, MOST_LOG};
+use types::{BLOCK, EDITION, ENTRY, FIRST_EDITION, FRAME, MOST_LOG};
 
 /// The replicas and what is under way between them. The last few replicas are dishonest and have no book here.
 pub struct Network<'a, A, B> {
     pub pair: &'a mut Pair<A, B>,
     pub random: &'a mut Random,
     pub n: u8,
+    /// What each replica weighs.
+    pub weights: Vec<u16>,
     pub honest: u8,
     pub leaders: Vec<u8>,
     pub books: Vec<Vec<u8>>,
@@ -36,14 +41,35 @@ pub struct Network<'a, A, B> {
 /// Nothing, or why it ends here.
 pub type Outcome = Result<(), Halt>;
 
+/// Weights for the replicas of a network; every other time the small ones are the last, which are the dishonest.
+fn network_weights(random: &mut Random, n: u8) -> Vec<u16> {
+    let mut weights = any_weights(random, n);
+    if random.one_in(2) {
+        weights.sort_unstable_by(|one, two| two.cmp(one));
+    }
+    weights
+}
+
+/// How many of the last replicas weigh less than a third of all together.
+fn most_dishonest(weights: &[u16]) -> u8 {
+    let total: u32 = weights.iter().map(|weight| u32::from(*weight)).sum();
+    let sums = weights.iter().rev().scan(0_u32, |sum, weight| {
+        *sum = sum.saturating_add(u32::from(*weight));
+        Some(*sum)
+    });
+    sums.take_while(|sum| sum.saturating_mul(3) < total)
+        .fold(0, |count: u8, _| count.saturating_add(1))
+}
+
 impl<'a, A: Calls, B: Second> Network<'a, A, B> {
-    /// Opens the honest books over junk; fewer than a third of the replicas are dishonest.
+    /// Opens the honest books over junk; the dishonest replicas weigh less than a third.
     pub fn open(
         pair: &'a mut Pair<A, B>,
         random: &'a mut Random,
     ) -> Result<Network<'a, A, B>, Halt> {
         let n = if random.one_in(3) { 4 } else { any_replicas(random) };
-        let bound = n.saturating_sub(1) / 3 + 1;
+        let weights = network_weights(random, n);
+        let bound = most_dishonest(&weights).saturating_add(1);
         let dishonest = random.byte_below(bound).max(random.byte_below(bound));
         let honest = n.saturating_sub(dishonest);
         let heights = any_heights(random).max(3);
@@ -55,6 +81,7 @@ impl<'a, A: Calls, B: Second> Network<'a, A, B> {
             pair,
             random,
             n,
+            weights,
             honest,
             leaders,
             books,
@@ -70,10 +97,28 @@ impl<'a, A: Calls, B: Second> Network<'a, A, B> {
             network.open_book(own, heights)?;
         }
         network.open_observers(heights)?;
-        if dishonest > 0 {
-            network.saw("with dishonest stations");
-        }
+        network.see_weights();
         Ok(network)
+    }
+
+    /// Counts what the network is by the weights of its replicas.
+    fn see_weights(&mut self) {
+        let all = Weights::of(self.books.first().map_or(&[], |book| book));
+        let by_number = self.n.saturating_sub(self.honest).saturating_mul(3) >= self.n;
+        let alone = singles(&all).any(|mask| is_quorum(mask, &self.weights));
+        let edition =
+            |edition| self.books.iter().any(|book| book.get(field::EDITION) == Some(&edition));
+        let told = [
+            (self.honest < self.n, "with dishonest stations"),
+            (self.weights.iter().any(|weight| *weight != 1), "unequal weights"),
+            (self.n > 1 && alone, "one station of several is a quorum alone"),
+            (by_number, "a third or more are dishonest by number, not by weight"),
+            (
+                edition(FIRST_EDITION) && edition(EDITION),
+                "a book of edition 1 among others of edition 2",
+            ),
+        ];
+        told.into_iter().filter(|(is, _)| *is).for_each(|(_, name)| self.saw(name));
     }
 
     /// Counts something that happened in the network.
@@ -86,9 +131,10 @@ impl<'a, A: Calls, B: Second> Network<'a, A, B> {
         let mut book = vec![0; book_length(heights)];
         self.random.fill(&mut book);
         let (n, own, heights) = (self.n.into(), own.into(), heights.into());
-        let (weights, leaders) = (equal_weights(n), self.leaders.clone());
+        let (weights, leaders) = (weight_bytes(&self.weights), self.leaders.clone());
         let open = Call::Open { n, own, heights, weights, leaders };
         self.pair.make(&open, &mut book, &mut [])?;
+        some_edition(self.random, &mut book);
         self.books.push(book);
         Ok(())
     }

@@ -3,22 +3,24 @@
 use crate::books::{any_heights, any_replicas};
 use crate::frames::any_mask;
 use crate::observer_frames::{any_observed_block, observed};
+use crate::weights::{any_weights, damage_weights, some_edition};
 use crate::Random;
 use reference::inspect::{inspect_observer, ObservedHeight};
 use reference::{is_quorum, Rules};
 use types::{field, head_height, mask_at, observer_book_length, put_head_height, Weights};
 use types::{Calls, Height, ObserverArea, ObserverBook, ObserverLayout};
 
-/// A new observer's book.
-pub fn opened(n: u8, heights: Height) -> Vec<u8> {
-    let book = ObserverBook::open(Rules::SHA256, n.into(), heights, &vec![1; n.into()]);
+/// A new observer's book over stations of these weights.
+pub fn opened(weights: &[u16], heights: Height) -> Vec<u8> {
+    let book = ObserverBook::open(Rules::SHA256, weights.len() as u64, heights, weights);
     book.map_or_else(|_| Vec::new(), |book| book.bytes().to_vec())
 }
 
-/// A sound book with junk in every free byte, and blocks that may not fit together.
+/// A sound book of either edition with any weights, junk in every free byte, and blocks that may not fit together.
 pub fn strange_observer(random: &mut Random, heights: Height) -> Vec<u8> {
     let n = any_replicas(random);
-    let mut book = opened(n, heights);
+    let mut book = opened(&any_weights(random, n), heights);
+    some_edition(random, &mut book);
     random.fill(&mut book[ObserverLayout::new(heights).area(1, ObserverArea::Notarized).start..]);
     (1..=heights).for_each(|height| fill_height(random, &mut book, height));
     settle(random, &mut book);
@@ -28,18 +30,16 @@ pub fn strange_observer(random: &mut Random, heights: Height) -> Vec<u8> {
 /// The row and the block of one height.
 fn fill_height(random: &mut Random, book: &mut [u8], height: Height) {
     let (n, layout) = (book[field::N], ObserverLayout::new(head_height(book, field::HEIGHTS)));
+    let weights = Weights::of(book);
     let all = u16::MAX >> 16_u8.saturating_sub(n).min(15);
     let mut row = [0; 8];
     for mask in row[2..].chunks_mut(2) {
-        mask.copy_from_slice(&(any_mask(random, n) & all).to_le_bytes());
+        mask.copy_from_slice(&(any_mask(random, &weights) & all).to_le_bytes());
     }
     if !random.one_in(3) {
         row[0] = 2;
-        let mask = if is_quorum(mask_at(&row, 2), Weights::equal(n).each()) {
-            mask_at(&row, 2)
-        } else {
-            all
-        };
+        let some = is_quorum(mask_at(&row, 2), weights.each());
+        let mask = if some { mask_at(&row, 2) } else { all };
         row[2..4].copy_from_slice(&mask.to_le_bytes());
         let block = any_observed_block(random, book, height).bytes();
         book[layout.area(height, ObserverArea::Notarized)].copy_from_slice(&block);
@@ -59,8 +59,12 @@ fn settle(random: &mut Random, book: &mut [u8]) {
     put_head_height(book, field::FINALIZED, 0);
 }
 
-/// Changes one byte, often to a value that a station's book has there, or cuts or lengthens the book.
+/// Changes one byte, often to a value that a station's book has there, a weight or the edition, or cuts or lengthens
+/// the book.
 pub fn damage(random: &mut Random, book: &mut Vec<u8>) {
+    if random.one_in(6) {
+        return damage_weights(random, book);
+    }
     let at = any_place(random, book);
     let bit = 1 << random.below(8);
     let any = if random.one_in(3) { random.byte() } else { random.byte_below(5) };
@@ -105,7 +109,9 @@ pub fn garbage(random: &mut Random) -> Vec<u8> {
         random.fill(&mut book);
     }
     if random.one_in(2) {
-        book.iter_mut().zip(opened(4, heights)).take(8).for_each(|(to, from)| *to = from);
+        let mut like = opened(&any_weights(random, 4), heights);
+        some_edition(random, &mut like);
+        book.iter_mut().zip(like).take(64).for_each(|(to, from)| *to = from);
     }
     book
 }

@@ -24,10 +24,9 @@ fn notarized(book: &[u8], height: Height) -> Option<&[u8; BLOCK]> {
 /// The first height of which neither a block nor the dummy block is certified; the last if each is.
 fn frontier(book: &[u8]) -> Height {
     let last = head_height(book, field::HEIGHTS);
-    let n = byte(book, field::N);
-    let dummy = |height| {
-        is_quorum(mask_at(observed(book, height, ObserverArea::Row), 4), Weights::equal(n).each())
-    };
+    let weights = Weights::of(book);
+    let dummy =
+        |height| is_quorum(mask_at(observed(book, height, ObserverArea::Row), 4), weights.each());
     let open = |height: &Height| notarized(book, *height).is_none() && !dummy(*height);
     (1..=last).find(open).unwrap_or(last)
 }
@@ -60,7 +59,7 @@ pub fn any_observed_block(random: &mut Random, book: &[u8], height: Height) -> B
 /// A certificate; of a page the notarized one now and then, or one that differs from it.
 pub fn any_certificate(random: &mut Random, book: &[u8]) -> Frame {
     let height = any_observed_height(random, book);
-    let mask = any_mask(random, byte(book, field::N));
+    let mask = any_mask(random, &Weights::of(book));
     let known = notarized(book, height).filter(|_| random.one_in(2)).map(Block::parts);
     match random.below(6) {
         0..=2 => {

@@ -4,11 +4,12 @@ use crate::books::{any_heights, any_replicas, arguments_for};
 use crate::choose::{any_call, near_size, Recent};
 use crate::observer_books::{damage, garbage, strange_observer, traits};
 use crate::observer_frames::{any_certificate, any_observed_bytes};
+use crate::weights::{any_weights, some_edition, weights_to_open};
 use crate::Random;
-use crate::{repeat_kinds, Halt, Pair, Second};
-use exchange::{equal_weights, Answer, Call, ObserverCall};
+use crate::{repeat_kinds, weight_kinds, Halt, Pair, Second};
+use exchange::{Answer, Call, ObserverCall};
 use reference::Rules;
-use types::{book_length, is_observers, observer_book_length, Calls, Height, Move};
+use types::{book_length, is_observers, observer_book_length, weight_bytes, Calls, Height, Move};
 use types::{FRAME, MOST_HEIGHTS, MOST_LOG, MOST_REPLICAS};
 
 /// Nothing, or why it ends here.
@@ -77,18 +78,23 @@ fn every_size<A: Calls, B: Second>(pair: &mut Pair<A, B>, random: &mut Random) -
     })
 }
 
-/// Opens a book over junk.
+/// Opens a book over junk, sometimes after an opening that may be refused, for stations of these weights.
 fn open<A: Calls, B: Second>(
     pair: &mut Pair<A, B>,
     random: &mut Random,
-    n: u8,
+    weights: &[u16],
     heights: Height,
 ) -> Result<Vec<u8>, Halt> {
     let mut book = vec![0; observer_book_length(heights)];
     random.fill(&mut book);
-    let weights = equal_weights(n.into());
-    let open = ObserverCall::Open { n: n.into(), heights: heights.into(), weights };
+    if random.one_in(2) {
+        let open = Call::Observer(any_open(random, &book));
+        pair.make(&open, &mut book, &mut [])?;
+    }
+    let (n, weights) = (weights.len() as u64, weight_bytes(weights));
+    let open = ObserverCall::Open { n, heights: heights.into(), weights };
     pair.make(&Call::Observer(open), &mut book, &mut [])?;
+    some_edition(random, &mut book);
     Ok(book)
 }
 
@@ -100,7 +106,8 @@ fn from_new<A: Calls, B: Second>(
     count: u64,
 ) -> Outcome {
     let n = any_replicas(random);
-    let mut book = open(pair, random, n, heights)?;
+    let weights = any_weights(random, n);
+    let mut book = open(pair, random, &weights, heights)?;
     pair.kinds.saw("observer's book: new, opened over junk");
     calls(pair, random, &mut book, count)
 }
@@ -118,14 +125,17 @@ fn from_strange<A: Calls, B: Second>(
     calls(pair, random, &mut book, count)
 }
 
-/// Begins with a sound book in which something was damaged, again and again.
+/// Begins with a sound book in which something was damaged, again and again, and now and then with another one.
 fn from_damaged<A: Calls, B: Second>(
     pair: &mut Pair<A, B>,
     random: &mut Random,
     heights: Height,
 ) -> Outcome {
-    let sound = strange_observer(random, heights);
+    let mut sound = strange_observer(random, heights);
     for _ in 0..random.below(60) {
+        if random.one_in(6) {
+            sound = strange_observer(random, heights);
+        }
         let mut book = sound.clone();
         damage(random, &mut book);
         let name = match Calls::observer_size(&Rules::SHA256, &book) {
@@ -135,6 +145,8 @@ fn from_damaged<A: Calls, B: Second>(
             Err(_) => "observer's book: damaged at one byte, no longer sound",
         };
         pair.kinds.saw(name);
+        let is_sound = name == "observer's book: damaged at one byte, still sound";
+        weight_kinds::damaged(&sound, &book, is_sound).iter().for_each(|name| pair.kinds.saw(name));
         pair.make(&Call::Observer(ObserverCall::Size), &mut book, &mut [])?;
         let count = random.below(3);
         calls(pair, random, &mut book, count)?;
@@ -172,7 +184,7 @@ pub fn any_open(random: &mut Random, book: &[u8]) -> ObserverCall {
         }
         _ => {}
     }
-    ObserverCall::Open { n, heights, weights: equal_weights(n) }
+    ObserverCall::Open { n, heights, weights: weights_to_open(random, n) }
 }
 
 /// An observer's call and the length of its buffer.
@@ -226,11 +238,17 @@ fn side_by_side<A: Calls, B: Second>(
 ) -> Found {
     let (n, own, leaders) = arguments_for(random, heights);
     let mut station = vec![0; book_length(heights)];
-    let weights = equal_weights(n.into());
-    let opening =
-        Call::Open { n: n.into(), own: own.into(), heights: heights.into(), weights, leaders };
+    let weights = any_weights(random, n);
+    let opening = Call::Open {
+        n: n.into(),
+        own: own.into(),
+        heights: heights.into(),
+        weights: weight_bytes(&weights),
+        leaders,
+    };
     pair.make(&opening, &mut station, &mut [])?;
-    let mut observer = open(pair, random, n, heights)?;
+    some_edition(random, &mut station);
+    let mut observer = open(pair, random, &weights, heights)?;
     for _ in 0..random.below(80) {
         let frame = any_certificate(random, &observer).bytes().to_vec();
         pair.make(&Call::Deliver { frame: frame.clone() }, &mut station, &mut [])?;

@@ -2,11 +2,12 @@
 
 use crate::books::{any_heights, arguments_for, damage, garbage, strange_book};
 use crate::choose::{any_call, any_open, Recent};
+use crate::weights::{any_weights, some_edition};
 use crate::Random;
-use crate::{traits, two_pages, Halt, Pair, Second};
-use exchange::{equal_weights, Call};
+use crate::{traits, two_pages, weight_kinds, Halt, Pair, Second};
+use exchange::Call;
 use reference::Rules;
-use types::{book_length, field, head_height, Calls, Height, MOST_HEIGHTS};
+use types::{book_length, field, head_height, weight_bytes, Calls, Height, MOST_HEIGHTS};
 
 /// Nothing, or why it ends here.
 type Outcome = Result<(), Halt>;
@@ -52,7 +53,7 @@ fn every_size<A: Calls, B: Second>(pair: &mut Pair<A, B>, random: &mut Random) -
     })
 }
 
-/// Opens a book over junk and goes on from there.
+/// Opens a book over junk, sometimes after an opening that may be refused, and goes on from there.
 fn from_new<A: Calls, B: Second>(
     pair: &mut Pair<A, B>,
     random: &mut Random,
@@ -62,10 +63,15 @@ fn from_new<A: Calls, B: Second>(
     let (n, own, leaders) = arguments_for(random, heights);
     let mut book = vec![0; book_length(heights)];
     random.fill(&mut book);
-    let weights = equal_weights(n.into());
+    if random.one_in(2) {
+        let open = any_open(random, &book);
+        pair.make(&open, &mut book, &mut [])?;
+    }
+    let weights = weight_bytes(&any_weights(random, n));
     let open =
         Call::Open { n: n.into(), own: own.into(), heights: heights.into(), weights, leaders };
     pair.make(&open, &mut book, &mut [])?;
+    some_edition(random, &mut book);
     pair.kinds.saw("book: new, opened over junk");
     calls(pair, random, &mut book, count)
 }
@@ -87,14 +93,17 @@ fn from_strange<A: Calls, B: Second>(
     calls(pair, random, &mut book, count)
 }
 
-/// Begins with a sound book in which something was damaged, again and again.
+/// Begins with a sound book in which something was damaged, again and again, and now and then with another one.
 fn from_damaged<A: Calls, B: Second>(
     pair: &mut Pair<A, B>,
     random: &mut Random,
     heights: Height,
 ) -> Outcome {
-    let sound = strange_book(random, heights);
+    let mut sound = strange_book(random, heights);
     for _ in 0..random.below(80) {
+        if random.one_in(6) {
+            sound = strange_book(random, heights);
+        }
         let mut book = sound.clone();
         damage(random, &mut book);
         let name = match Calls::size(&Rules::SHA256, &book) {
@@ -104,6 +113,8 @@ fn from_damaged<A: Calls, B: Second>(
             Err(_) => "book: damaged at one byte, no longer sound",
         };
         pair.kinds.saw(name);
+        let is_sound = name == "book: damaged at one byte, still sound";
+        weight_kinds::damaged(&sound, &book, is_sound).iter().for_each(|name| pair.kinds.saw(name));
         let count = random.below(3).saturating_add(1);
         calls(pair, random, &mut book, count)?;
     }

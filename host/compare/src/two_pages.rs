@@ -2,10 +2,11 @@
 
 use crate::books::{arguments_for, strange_book};
 use crate::frames::{any_block, any_frame, any_height, area, byte, likely_block};
+use crate::weights::{any_weights, some_edition};
 use crate::Random;
 use crate::{Halt, Pair, Second};
-use exchange::{equal_weights, Answer, Call};
-use types::{book_length, field, head_height, is_second_block, put_head_height};
+use exchange::{Answer, Call};
+use types::{book_length, field, head_height, is_second_block, put_head_height, weight_bytes};
 use types::{Area, Calls, Delivered, Frame, Height, Move, FRAME};
 
 /// The names of what happens after a second page.
@@ -57,10 +58,11 @@ fn new_book<A: Calls, B: Second>(
 ) -> Result<Vec<u8>, Halt> {
     let (n, own, leaders) = arguments_for(random, heights);
     let mut book = vec![0; book_length(heights)];
-    let weights = equal_weights(n.into());
+    let weights = weight_bytes(&any_weights(random, n));
     let open =
         Call::Open { n: n.into(), own: own.into(), heights: heights.into(), weights, leaders };
     pair.make(&open, &mut book, &mut [])?;
+    some_edition(random, &mut book);
     Ok(book)
 }
 

@@ -166,7 +166,7 @@ fn on_both<C: Calls>(to: &mut Recorder<C>, make: impl Fn(&mut Recorder<C>, &str)
 }
 
 fn calls<C: Calls>(to: &mut Recorder<C>) {
-    to.part("Every call on a book of edition 2 with weights of 1, and on the same in edition 1: alike but for the head");
+    to.part("Every call on a book of edition 2 with weights of 1 and on it in edition 1: alike but for the head");
     to.open(BOOK, 4, 2, &[0, 2]);
     let first = in_first_edition(to.bytes(BOOK));
     to.give(FIRST, first);
