@@ -14,6 +14,8 @@ unsafe extern "C" {
         n: u64,
         own: u64,
         heights: u64,
+        weights: *const u8,
+        weights_len: usize,
         leaders: *const u8,
         leaders_len: usize,
     ) -> u64;
@@ -45,7 +47,14 @@ unsafe extern "C" {
         digest: *mut u8,
         digest_len: usize,
     ) -> u64;
-    fn mavunilai_observer_open(book: *mut u8, book_len: usize, n: u64, heights: u64) -> u64;
+    fn mavunilai_observer_open(
+        book: *mut u8,
+        book_len: usize,
+        n: u64,
+        heights: u64,
+        weights: *const u8,
+        weights_len: usize,
+    ) -> u64;
     fn mavunilai_observer_deliver(
         book: *mut u8,
         book_len: usize,
@@ -101,12 +110,22 @@ impl Calls for Proved {
         n: u64,
         own: u64,
         heights: u64,
+        weights: &[u8],
         leaders: &[u8],
     ) -> Result<(), u8> {
-        let (at, length) = (leaders.as_ptr(), leaders.len());
         // SAFETY: see Proved.
         unpack_done(fitting(|| unsafe {
-            mavunilai_open(book.as_mut_ptr(), book.len(), n, own, heights, at, length)
+            mavunilai_open(
+                book.as_mut_ptr(),
+                book.len(),
+                n,
+                own,
+                heights,
+                weights.as_ptr(),
+                weights.len(),
+                leaders.as_ptr(),
+                leaders.len(),
+            )
         }))
     }
 
@@ -167,10 +186,17 @@ impl Calls for Proved {
         }))
     }
 
-    fn observer_open(&self, book: &mut [u8], n: u64, heights: u64) -> Result<(), u8> {
+    fn observer_open(
+        &self,
+        book: &mut [u8],
+        n: u64,
+        heights: u64,
+        weights: &[u8],
+    ) -> Result<(), u8> {
+        let (at, length) = (weights.as_ptr(), weights.len());
         // SAFETY: see Proved.
         unpack_done(fitting(|| unsafe {
-            mavunilai_observer_open(book.as_mut_ptr(), book.len(), n, heights)
+            mavunilai_observer_open(book.as_mut_ptr(), book.len(), n, heights, at, length)
         }))
     }
 

@@ -18,7 +18,7 @@ use types::{
 
 /// Replica 2 of 4 with three heights.
 fn book() -> Book<Proved> {
-    Book::open(Proved, 4, 2, &[0, 1, 2]).unwrap()
+    Book::open(Proved, 4, 2, &[1; 4], &[0, 1, 2]).unwrap()
 }
 
 #[test]
@@ -58,7 +58,7 @@ fn a_packet_is_counted() {
 
 /// The book of a replica alone, after all its moves on one entry.
 fn logged() -> Book<Proved> {
-    let mut book = Book::open(Proved, 1, 0, &[0, 0]).unwrap();
+    let mut book = Book::open(Proved, 1, 0, &[1], &[0, 0]).unwrap();
     assert_eq!(book.submit(&[3; 16]), Ok(()));
     assert_eq!(book.submit(&[3; 16]), Err(Refusal::EntryKnown));
     assert_eq!(book.pending(), [[3; 16]]);
@@ -81,8 +81,8 @@ fn a_log_of_one_replica() {
 
 #[test]
 fn refusals_come_through() {
-    assert_eq!(Book::open(Proved, 4, 4, &[0]).err(), Some(Refusal::OutOfRange));
-    assert_eq!(Book::open(Proved, 4, 0, &[0; 300]).err(), Some(Refusal::OutOfRange));
+    assert_eq!(Book::open(Proved, 4, 4, &[1; 4], &[0]).err(), Some(Refusal::OutOfRange));
+    assert_eq!(Book::open(Proved, 4, 0, &[1; 4], &[0; 300]).err(), Some(Refusal::OutOfRange));
     assert_eq!(Book::from_bytes(Proved, vec![]).err(), Some(Refusal::Unsound));
     assert_eq!(Proved.make_move(&mut [], &mut []), Err(1));
     let mut book = book();
@@ -112,7 +112,7 @@ fn digests_are_those_of_the_host() {
 fn observer() -> (ObserverBook<Proved>, [u8; types::FRAME]) {
     let block = Block { height: 1, entries: [[3; 16]].into(), ..Block::default() };
     let certificate = Frame::BlockCertificate { mask: 7, block }.bytes();
-    (ObserverBook::open(Proved, 4, 2).unwrap(), certificate)
+    (ObserverBook::open(Proved, 4, 2, &[1; 4]).unwrap(), certificate)
 }
 
 #[test]
@@ -144,16 +144,40 @@ fn refusals_of_an_observer_come_through() {
     let high = Frame::DummyCertificate { mask: 7, height: 3 }.bytes();
     assert_eq!(observer.deliver(&high), Err(Refusal::NoSuchHeight));
     for (n, heights) in [(0, 1), (17, 1), (4, 0), (4, 64), (4, Height::MAX)] {
-        assert_eq!(ObserverBook::open(Proved, n, heights).err(), Some(Refusal::OutOfRange));
+        assert_eq!(ObserverBook::open(Proved, n, heights, &[1; 4]).err(), Some(Refusal::OutOfRange));
     }
     let mut station = book().bytes().to_vec();
     assert_eq!(ObserverBook::from_bytes(Proved, station.clone()).err(), Some(Refusal::Unsound));
     assert_eq!(Book::from_bytes(Proved, observer.bytes().to_vec()).err(), Some(Refusal::Unsound));
     assert_eq!(Proved.observer_deliver(&mut station, &certificate), Err(1));
     assert_eq!(Proved.observer_move(&mut station), Err(1));
-    assert_eq!(Proved.observer_open(&mut station, 4, 2), Err(1));
+    assert_eq!(Proved.observer_open(&mut station, 4, 2, &[1, 0, 1, 0, 1, 0, 1, 0]), Err(1));
     assert_eq!(Proved.observer_read(&station, &mut [0; 16]), 0);
     assert_eq!(station, book().bytes());
+}
+
+/// Weights come through both opening calls, in their order and width; those out of range, or not n of them, are refused.
+#[test]
+fn weights_come_through() {
+    let weights = [1000, 1, 256, 513];
+    let bytes = [0xe8, 3, 1, 0, 0, 1, 1, 2, 0, 0];
+    let station = Book::open(Proved, 4, 0, &weights, &[0]).unwrap();
+    let observer = ObserverBook::open(Proved, 4, 1, &weights).unwrap();
+    assert_eq!((station.bytes()[7], &station.bytes()[8..18]), (2, &bytes[..]));
+    assert_eq!((observer.bytes()[7], &observer.bytes()[8..18]), (2, &bytes[..]));
+    let refused: [&[u16]; 6] =
+        [&[], &[1; 3], &[1; 5], &[1, 0, 1, 1], &[1, 1, 1, 1001], &[65535, 1, 1, 1]];
+    for weights in refused {
+        assert_eq!(Book::open(Proved, 4, 0, weights, &[0]).err(), Some(Refusal::OutOfRange));
+        assert_eq!(ObserverBook::open(Proved, 4, 1, weights).err(), Some(Refusal::OutOfRange));
+    }
+    let (mut station, mut observer) = (station.bytes().to_vec(), observer.bytes().to_vec());
+    for length in [0, 7, 9, 10] {
+        assert_eq!(Proved.open(&mut station, 4, 0, 1, &bytes[..length], &[0]), Err(2));
+        assert_eq!(Proved.observer_open(&mut observer, 4, 1, &bytes[..length]), Err(2));
+    }
+    assert_eq!(Proved.open(&mut station, 4, 0, 1, &bytes[..8], &[0]), Ok(()));
+    assert_eq!(Proved.observer_open(&mut observer, 4, 1, &bytes[..8]), Ok(()));
 }
 
 /// One of many entries, which begin with 0 to 3 in turn.
@@ -165,7 +189,7 @@ fn entry(number: u8) -> [u8; 16] {
 
 #[test]
 fn the_head_is_read() {
-    let mut book = Book::open(Proved, 7, 3, &[6, 5, 4]).unwrap();
+    let mut book = Book::open(Proved, 7, 3, &[1; 7], &[6, 5, 4]).unwrap();
     assert_eq!((book.n(), book.own(), book.heights()), (7, 3, 3));
     assert_eq!((book.current(), book.finalized()), (1, 0));
     let leaders: Vec<_> = (0..=4).map(|height| book.leader(height)).collect();
@@ -192,7 +216,7 @@ fn a_library_of_another_interface_is_not_called() {
     assert_eq!(Proved.read(logged.bytes(), &mut [0; 16]), 16);
     exports::CLAIMED.set(INTERFACE + 1);
     assert!(!fits());
-    assert_eq!(Book::open(Proved, 4, 2, &[0]).err(), Some(Refusal::OtherInterface));
+    assert_eq!(Book::open(Proved, 4, 2, &[1; 4], &[0]).err(), Some(Refusal::OtherInterface));
     let vote = Frame::DummyVote { signer: 0, height: 1 }.bytes();
     assert_eq!(book.deliver(&vote), Err(Refusal::OtherInterface));
     assert_eq!(book.deliver_packet(&vote), Err(Refusal::OtherInterface));
@@ -204,7 +228,7 @@ fn a_library_of_another_interface_is_not_called() {
     assert_eq!(book.fetch(6, 1), Err(Refusal::OtherInterface));
     assert_eq!(Proved.read(logged.bytes(), &mut [0; 16]), 0);
     assert_eq!(book.bytes(), before);
-    assert_eq!(ObserverBook::open(Proved, 4, 2).err(), Some(Refusal::OtherInterface));
+    assert_eq!(ObserverBook::open(Proved, 4, 2, &[1; 4]).err(), Some(Refusal::OtherInterface));
     assert_eq!(observer.deliver(&certificate), Err(Refusal::OtherInterface));
     assert_eq!(observer.make_move(), Err(Refusal::OtherInterface));
     assert_eq!(observer.log(), Err(Refusal::OtherInterface));

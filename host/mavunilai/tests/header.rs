@@ -30,8 +30,18 @@ fn numbers() -> BTreeMap<String, u64> {
 }
 
 /// The programs in C that tests here and beside this file run.
-const TESTS: [&str; 8] =
-    ["promises", "observers", "repeats", "texts", "readers", "makers", "digests", "packet_each"];
+const TESTS: [&str; 10] = [
+    "promises",
+    "observers",
+    "repeats",
+    "weights",
+    "texts",
+    "readers",
+    "weighing",
+    "makers",
+    "digests",
+    "packet_each",
+];
 
 #[test]
 fn header_example_and_tests_compile_without_warnings() {
@@ -80,7 +90,7 @@ fn row(bytes: &[u8]) -> String {
 fn a_second_page_is_told_as_by_the_types() {
     let page = |height, byte| Block { height, entries: [[byte; 16]].into(), ..Block::default() };
     let proposal = |height, byte| Frame::Proposal { signer: 0, block: page(height, byte) }.bytes();
-    let mut book = Book::open(reference::Rules::SHA256, 4, 2, &[0; 3]).unwrap();
+    let mut book = Book::open(reference::Rules::SHA256, 4, 2, &[1; 4], &[0; 3]).unwrap();
     book.deliver(&proposal(2, 1)).unwrap();
     let certificate = Frame::BlockCertificate { mask: 7, block: page(2, 2) }.bytes();
     let frames = [(2, 1), (2, 2), (1, 2), (3, 2), (0, 2), (4, 2), (255, 2)];
@@ -137,6 +147,7 @@ fn lengths_and_maxima_are_those_of_the_types() {
     is("MOVE_REPLY", 2 * types::FRAME);
     is("FETCH_REPLY", types::FRAME);
     is("MOST_STATIONS", types::MOST_REPLICAS.into());
+    is("MOST_WEIGHT", types::MOST_WEIGHT.into());
     is("MOST_HEIGHTS", types::MOST_HEIGHTS.into());
     is("MOST_PENDING", Layout::new(1).pending().len() / types::ENTRY);
     is("MOST_BOOK", book_length(types::MOST_HEIGHTS));
@@ -159,6 +170,12 @@ fn fields_of_the_book_are_where_the_types_have_them() {
     is("HEAD_SETTLED", field::FINALIZED);
     is("HEAD_PENDING", field::PENDING);
     is("HEAD_EDITION", field::EDITION);
+    is("HEAD_WEIGHTS", field::WEIGHTS);
+    let edition = |book: &[u8]| usize::from(book[field::EDITION]);
+    let station = Book::open(reference::Rules::SHA256, 1, 0, &[1], &[0]).unwrap();
+    let observer = ObserverBook::open(reference::Rules::SHA256, 1, 1, &[1]).unwrap();
+    is("EDITION_WEIGHED", edition(station.bytes()));
+    is("EDITION_WEIGHED", edition(observer.bytes()));
     is("PENDING_AT", Layout::new(1).pending().start);
     is("CONTENTS_AT", Layout::new(1).area(1, Area::Row).start);
     is("ROW", Layout::new(1).area(1, Area::Row).len());
@@ -181,7 +198,7 @@ fn fields_of_an_observers_book_are_where_the_types_have_them() {
         ("OBSERVER_ROW_FINALISE", Frame::FinalizeCertificate { mask: 7, height: 1 }),
     ];
     for (name, frame) in certificates {
-        let mut book = ObserverBook::open(reference::Rules::SHA256, 4, 3).unwrap();
+        let mut book = ObserverBook::open(reference::Rules::SHA256, 4, 3, &[1; 4]).unwrap();
         book.deliver(&frame.bytes()).unwrap();
         is(name, book.bytes()[row.clone()].iter().position(|byte| *byte == 7).unwrap());
         let state = if name == "OBSERVER_ROW_PAGE" { numbers["STATE_NOTARISED"] } else { 0 };
@@ -269,7 +286,7 @@ fn interface_is_that_of_the_wrapper() {
 #[test]
 #[cfg(feature = "proved")]
 fn promises_are_kept() {
-    for name in ["promises", "observers", "repeats", "packet_each"] {
+    for name in ["promises", "observers", "repeats", "weights", "packet_each"] {
         let program = word(&format!("mavunilai/tests/c/{name}.c"));
         for language in LANGUAGES {
             let files = [&program, "-x", "none", env!("MAVUNILAI_ARCHIVE")];

@@ -28,12 +28,15 @@ unsafe extern "C" fn mavunilai_open(
     n: u64,
     own: u64,
     heights: u64,
+    weights: *const u8,
+    weights_length: usize,
     leaders: *const u8,
     leaders_length: usize,
 ) -> u64 {
     let book = unsafe { from_raw_parts_mut(book, length) };
+    let weights = unsafe { from_raw_parts(weights, weights_length) };
     let leaders = unsafe { from_raw_parts(leaders, leaders_length) };
-    pack_done(Calls::open(&RULES, book, n, own, heights, leaders))
+    pack_done(Calls::open(&RULES, book, n, own, heights, weights, leaders))
 }
 
 #[unsafe(no_mangle)]
@@ -108,8 +111,17 @@ unsafe extern "C" fn mavunilai_digest(b: *const u8, bl: usize, d: *mut u8, dl: u
 }
 
 #[unsafe(no_mangle)]
-unsafe extern "C" fn mavunilai_observer_open(book: *mut u8, length: usize, n: u64, h: u64) -> u64 {
-    pack_done(Calls::observer_open(&RULES, unsafe { from_raw_parts_mut(book, length) }, n, h))
+unsafe extern "C" fn mavunilai_observer_open(
+    book: *mut u8,
+    length: usize,
+    n: u64,
+    heights: u64,
+    weights: *const u8,
+    weights_length: usize,
+) -> u64 {
+    let book = unsafe { from_raw_parts_mut(book, length) };
+    let weights = unsafe { from_raw_parts(weights, weights_length) };
+    pack_done(Calls::observer_open(&RULES, book, n, heights, weights))
 }
 
 #[unsafe(no_mangle)]
