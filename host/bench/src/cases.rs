@@ -3,7 +3,7 @@
 use crate::observer_cases::observer_cases;
 use crate::station::{entry, Fill, Size, Station};
 use crate::Case;
-use exchange::Call;
+use exchange::{equal_weights, Call};
 use types::{Frame, Height, FRAME, MOST_LOG};
 
 /// What all cases of one size and filling begin with.
@@ -31,7 +31,8 @@ impl Start {
         let byte = if self.fill == Fill::Empty { 0 } else { 0xff };
         let book = vec![byte; types::book_length(heights)];
         let leaders = vec![0; heights.into()];
-        let call = Call::Open { n: n.into(), own: 0, heights: heights.into(), leaders };
+        let (n, weights) = (n.into(), equal_weights(n.into()));
+        let call = Call::Open { n, own: 0, heights: heights.into(), weights, leaders };
         Case { name: "Open", book, call, lent: 0, answer: "done".to_string() }
     }
 

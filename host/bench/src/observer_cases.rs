@@ -2,7 +2,7 @@
 
 use crate::station::{Fill, Size, Station};
 use crate::Case;
-use exchange::{Call, ObserverCall};
+use exchange::{equal_weights, Call, ObserverCall};
 use reference::Rules;
 use types::{observer_book_length, Book, Frame, Move, ObserverBook, FRAME, MOST_LOG};
 
@@ -39,7 +39,8 @@ pub fn observer_cases(
 fn beside(size: Size, station: &Station, moves: bool) -> Result<Vec<u8>, String> {
     let refused = |refusal| format!("an observer's book cannot be prepared: {refusal}");
     let told = Book::from_bytes(Rules::SHA256, station.book.clone()).map_err(refused)?;
-    let opened = ObserverBook::open(Rules::SHA256, size.n.into(), size.heights);
+    let opened =
+        ObserverBook::open(Rules::SHA256, size.n.into(), size.heights, &vec![1; size.n.into()]);
     let mut book = opened.map_err(refused)?;
     for frame in told.certificates() {
         book.deliver(&frame).map_err(refused)?;
@@ -52,7 +53,8 @@ fn beside(size: Size, station: &Station, moves: bool) -> Result<Vec<u8>, String>
 fn opening(size: Size, fill: Fill) -> Case {
     let byte = if fill == Fill::Empty { 0 } else { 0xff };
     let book = vec![byte; observer_book_length(size.heights)];
-    let open = ObserverCall::Open { n: size.n.into(), heights: size.heights.into() };
+    let (n, weights) = (size.n.into(), equal_weights(size.n.into()));
+    let open = ObserverCall::Open { n, heights: size.heights.into(), weights };
     case("Observer, open", &book, open, "done".to_string())
 }
 

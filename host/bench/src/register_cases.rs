@@ -107,8 +107,9 @@ pub fn register_cases(size: Size) -> Result<Vec<Case>, String> {
 /// The books of a station and of an observer that have settled such a chain.
 fn books(size: Size, entries: Entries) -> Result<[Vec<u8>; 2], Refusal> {
     let leaders = vec![0; size.heights.into()];
-    let mut station = Book::open(Rules::SHA256, size.n.into(), 0, &leaders)?;
-    let mut observer = ObserverBook::open(Rules::SHA256, size.n.into(), size.heights)?;
+    let weights = vec![1; size.n.into()];
+    let mut station = Book::open(Rules::SHA256, size.n.into(), 0, &weights, &leaders)?;
+    let mut observer = ObserverBook::open(Rules::SHA256, size.n.into(), size.heights, &weights)?;
     for frame in entries.certificates(size) {
         station.deliver(&frame.bytes())?;
         observer.deliver(&frame.bytes())?;

@@ -1,7 +1,7 @@
 //! The station whose book is measured: a run of the reference brings the book where a case needs it.
 
 use reference::{sha256, Rules};
-use types::{book_length, field, head_height, height_bytes, quorum};
+use types::{book_length, field, head_height, height_bytes, weight_bytes, Weights};
 use types::{Block, Calls, Entries, Frame, Height, Move, ENTRY, FRAME, MOST_ENTRIES};
 
 /// How large a book is.
@@ -38,7 +38,9 @@ impl Station {
         let mut book = vec![0; book_length(size.heights)];
         let leaders = leaders(size, led);
         let own = u64::from(size.n.saturating_sub(1));
-        Calls::open(&Rules::SHA256, &mut book, size.n.into(), own, size.heights.into(), &leaders)
+        let (n, heights) = (size.n.into(), size.heights.into());
+        let weights = weight_bytes(&vec![1; size.n.into()]);
+        Calls::open(&Rules::SHA256, &mut book, n, own, heights, &weights, &leaders)
             .map_err(refused)?;
         Ok(Station { book, size, chain: 0, digest: [0; 32] })
     }
@@ -120,7 +122,7 @@ impl Station {
 
     /// Delivers the votes of the first replicas, one less than a quorum.
     pub fn almost_notarized(self) -> Result<Station, String> {
-        let fewer = quorum(self.size.n).saturating_sub(1);
+        let fewer = Weights::equal(self.size.n).needed().saturating_sub(1);
         let votes = (1..self.size.n).take(fewer as usize).map(|signer| self.vote(signer));
         let votes: Vec<Frame> = votes.collect();
         self.deliver(&votes)

@@ -3,7 +3,7 @@
 use crate::chosen::REPLICA;
 use crate::pages;
 use reference::inspect::{AtHeight, Inspection};
-use types::{quorum, Area, Calls, Move, FRAME};
+use types::{Area, Calls, Move, FRAME};
 
 /// What a station's book waits for: a move, if one applies; else what would let it pass the current height.
 pub fn station(told: &Inspection, bytes: &[u8]) -> String {
@@ -18,7 +18,7 @@ pub fn station(told: &Inspection, bytes: &[u8]) -> String {
 
 /// What would let a station pass its current height.
 fn at_height(told: &Inspection, bytes: &[u8], slot: &AtHeight) -> String {
-    let needed = quorum(told.n);
+    let needed = told.weights.needed();
     let [_, blank, _] = slot.masks;
     let height = told.current;
     let held = pages::page(bytes, height, Area::Held);

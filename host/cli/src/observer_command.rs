@@ -52,7 +52,7 @@ fn open(all: &[String], output: &mut Vec<u8>) -> Result<(), Problem> {
     let [file, _] =
         arguments.plain("the file of the new book, or - for standard output, then `open`")?;
     let (n, heights) = (arguments.byte("n")?, arguments.byte("heights")?);
-    let book = ObserverBook::open(REPLICA, n.into(), heights)
+    let book = ObserverBook::open(REPLICA, n.into(), heights, &vec![1; n.into()])
         .map_err(|refusal| Problem::refused(refusal.number()))?;
     let disk = waiting::disk(&arguments)?;
     let kept = match (file.as_str(), arguments.has("force")) {

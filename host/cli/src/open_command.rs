@@ -13,7 +13,7 @@ pub fn run(words: &[String], output: &mut Vec<u8>) -> Result<(), Problem> {
     let [file] = arguments.plain("the file of the new book, or - for standard output")?;
     let roll = words::numbers("roll", arguments.needed("roll")?)?;
     let (n, own) = (arguments.byte("n")?, arguments.byte("own")?);
-    let book = Book::open(REPLICA, n.into(), own.into(), &roll)
+    let book = Book::open(REPLICA, n.into(), own.into(), &vec![1; n.into()], &roll)
         .map_err(|refusal| Problem::refused(refusal.number()))?;
     let disk = waiting::disk(&arguments)?;
     let kept = match (file.as_str(), arguments.has("force")) {

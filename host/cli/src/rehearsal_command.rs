@@ -16,7 +16,7 @@ pub fn run(words: &[String], output: &mut Vec<u8>) -> Result<(), Problem> {
     let refused = |refusal: Refusal| {
         Problem::input(format!("the rehearsal was refused with {}", refusal.number()))
     };
-    let mut book = Book::open(REPLICA, 4, 2, &ROLL).map_err(refused)?;
+    let mut book = Book::open(REPLICA, 4, 2, &[1; 4], &ROLL).map_err(refused)?;
     for frame in files::read("-")?.chunks(FRAME) {
         print(output, delivery(&mut book, frame));
         loop {

@@ -6,7 +6,7 @@ use crate::words::{count, entry, members};
 use crate::{show_observer, table, unsound, why};
 use reference::inspect::{inspect, AtHeight, Inspection};
 use types::refusal::meaning;
-use types::{is_observers, quorum, Area, Height};
+use types::{is_observers, Area, Height};
 
 /// The lines about a book, a station's or an observer's.
 pub fn text(bytes: &[u8]) -> Result<String, Problem> {
@@ -50,7 +50,7 @@ fn head(book: &Inspection) -> String {
         count(book.heights.len(), "height", "heights"),
         book.finalized,
         count(book.pending.into(), "pending entry", "pending entries"),
-        quorum(book.n)
+        book.weights.needed()
     )
 }
 

@@ -3,7 +3,7 @@
 use crate::problem::Problem;
 use crate::words::count;
 use crate::{files, pages, register, show_book, show_observer, table};
-use types::{is_observers, quorum, Area, Height};
+use types::{is_observers, Area, Height, Weights};
 
 /// What a book says of a height.
 struct Slot {
@@ -114,7 +114,10 @@ fn fits(one: &Shown, two: &Shown) -> Result<(), Problem> {
 fn head(first: &Shown, number: usize) -> String {
     let (books, n) = (count(number, "book", "books"), first.n);
     let heights = count(first.heights.len(), "height", "heights");
-    format!("{books} of {n} stations: {heights}; a quorum is {} or more.", quorum(n))
+    format!(
+        "{books} of {n} stations: {heights}; a quorum is {} or more.",
+        Weights::equal(n).needed()
+    )
 }
 
 /// A line about a book as a whole.

@@ -50,7 +50,13 @@ fn strange(bytes: &[u8; FRAME]) -> String {
 /// Whether the largest book refuses the frame for its form alone.
 fn is_refused_for_form(bytes: &[u8]) -> bool {
     let leaders = [0; MOST_HEIGHTS as usize];
-    let book = Book::open(reference::Rules::SHA256, MOST_REPLICAS.into(), 0, &leaders);
+    let book = Book::open(
+        reference::Rules::SHA256,
+        MOST_REPLICAS.into(),
+        0,
+        &[1; MOST_REPLICAS as usize],
+        &leaders,
+    );
     book.and_then(|mut book| book.deliver(bytes)) == Err(Refusal::Malformed)
 }
 

@@ -9,7 +9,7 @@ use crate::words::hex;
 use crate::{show_book, show_frame, show_observer};
 use reference::inspect::AtHeight;
 use reference::sha256;
-use types::{field, head_height, is_observers, quorum, Area, Block, Calls, Frame, Height, FRAME};
+use types::{field, head_height, is_observers, Area, Block, Calls, Frame, Height, Weights, FRAME};
 
 /// The fields of an object.
 type Fields = Vec<(&'static str, Json)>;
@@ -117,7 +117,7 @@ fn common(kind: &str, bytes: &[u8], heights: usize) -> Fields {
     vec![
         ("kind", Json::text(kind)),
         ("n", Json::number(n)),
-        ("quorum", Json::number(quorum(n))),
+        ("quorum", Json::number(Weights::equal(n).needed())),
         ("heights", Json::number(heights)),
         ("settled", Json::number(head_height(bytes, field::FINALIZED))),
     ]

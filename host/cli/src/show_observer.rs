@@ -6,7 +6,7 @@ use crate::problem::Problem;
 use crate::words::{count, members};
 use crate::{show_book, table};
 use reference::inspect::{inspect_observer, ObservedHeight, ObserverInspection};
-use types::{quorum, Area, Calls, Height};
+use types::{Area, Calls, Height};
 
 /// The lines about an observer's book.
 pub fn text(bytes: &[u8]) -> Result<String, Problem> {
@@ -38,7 +38,7 @@ fn head(book: &ObserverInspection) -> String {
         count(book.n.into(), "station", "stations"),
         count(book.heights.len(), "height", "heights"),
         book.finalized,
-        quorum(book.n)
+        book.weights.needed()
     )
 }
 

@@ -4,7 +4,7 @@ use crate::unsound_observer;
 use exchange::fields;
 use reference::inspect::inspect;
 use reference::is_quorum;
-use types::{book_length, field, head_height, height_at, mask_at, observer_book_length};
+use types::{book_length, field, head_height, height_at, mask_at, observer_book_length, Weights};
 use types::{
     put_head_height, Area, Height, Layout, ALL_FLAGS, BLOCK, BLOCK_HEIGHT, BLOCK_PARENT, EDITION,
     ENTRY,
@@ -113,7 +113,7 @@ fn slot(book: &[u8], height: Height) -> Option<Fault> {
         ));
     }
     let certificate = mask_at(book, place(2));
-    let short = state & 2 != 0 && !is_quorum(certificate, n);
+    let short = state & 2 != 0 && !is_quorum(certificate, Weights::of(book).each());
     let quorum = || {
         let rule = "a page is notarised, and the signers of its certificate are no quorum";
         short.then(|| (place(2), rule.to_string()))

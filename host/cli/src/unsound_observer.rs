@@ -3,7 +3,7 @@
 use crate::unsound::{at, page, zeros, Fault};
 use reference::inspect::inspect_observer;
 use reference::is_quorum;
-use types::{field, head_height, mask_at, put_head_height, Height};
+use types::{field, head_height, mask_at, put_head_height, Height, Weights};
 use types::{ObserverArea, ObserverLayout, EDITION, MOST_REPLICAS};
 
 /// What is wrong with bytes of the length of an observer's book with so many heights.
@@ -54,7 +54,7 @@ fn row(book: &[u8], heights: Height, height: Height) -> Option<Fault> {
         let rule = format!("the mask has a bit that is not below n, which is {n}");
         return Some((place(offset), rule));
     }
-    let short = state == 2 && !is_quorum(mask_at(book, place(2)), n);
+    let short = state == 2 && !is_quorum(mask_at(book, place(2)), Weights::of(book).each());
     let quorum = || {
         let rule = "a page is notarised, and the signers of its certificate are no quorum";
         short.then(|| (place(2), rule.to_string()))

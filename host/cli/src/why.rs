@@ -3,7 +3,7 @@
 use crate::chosen::REPLICA;
 use crate::words::count;
 use reference::inspect::{AtHeight, Inspection};
-use types::{quorum, Calls, Height, FRAME};
+use types::{Calls, Height, FRAME};
 
 /// The lines about the current height.
 pub fn lines(book: &Inspection, bytes: &[u8]) -> Vec<String> {
@@ -41,7 +41,7 @@ fn flags(flags: u8) -> String {
 /// Whether the page lets the station pass, and if not why.
 fn page(book: &Inspection, slot: &AtHeight) -> String {
     let votes = slot.voters.count_ones();
-    let needed = quorum(book.n);
+    let needed = book.weights.needed();
     match (slot.notarized, slot.held) {
         (Some(_), _) if slot.linked => {
             "Its page is notarised and linked: it can be passed.".to_string()
@@ -87,7 +87,11 @@ fn blank(book: &Inspection, slot: &AtHeight) -> String {
     let [_, mask, _] = slot.masks;
     match (slot.dummy, book.parent) {
         (false, _) => {
-            format!("It is not blank: {} of {} blank votes.", mask.count_ones(), quorum(book.n))
+            format!(
+                "It is not blank: {} of {} blank votes.",
+                mask.count_ones(),
+                book.weights.needed()
+            )
         }
         (true, None) => {
             "It is blank, but no chain ends just below it, so it cannot be passed yet.".to_string()

@@ -8,7 +8,7 @@ use types::{Block, Book, Frame};
 
 /// A book with three heights after these frames.
 fn book(frames: &[Frame]) -> Book<Rules> {
-    let mut book = Book::open(Rules::SHA256, 4, 2, &[0, 1, 2]).unwrap();
+    let mut book = Book::open(Rules::SHA256, 4, 2, &[1; 4], &[0, 1, 2]).unwrap();
     frames.iter().for_each(|frame| assert!(book.deliver(&frame.bytes()).is_ok()));
     book
 }

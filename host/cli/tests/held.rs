@@ -18,7 +18,7 @@ fn book(name: &str) -> String {
     for ending in ["", ".said", ".frames", ".lock"] {
         _ = remove_file(format!("{path}{ending}"));
     }
-    write(&path, Book::open(Rules::SHA256, 4, 0, &[0]).unwrap().bytes()).unwrap();
+    write(&path, Book::open(Rules::SHA256, 4, 0, &[1; 4], &[0]).unwrap().bytes()).unwrap();
     path
 }
 
@@ -76,7 +76,7 @@ fn a_call_that_waits_says_for_whom() {
 #[test]
 fn a_call_leaves_the_book_to_its_owner() {
     let (path, watch) = (book("owned"), book("watched"));
-    let observer = ObserverBook::open(Rules::SHA256, 4, 3).unwrap();
+    let observer = ObserverBook::open(Rules::SHA256, 4, 3, &[1; 4]).unwrap();
     write(&watch, observer.bytes()).unwrap();
     for path in [&path, &watch] {
         if chown(path, Some(12345), Some(12346)).is_err() {

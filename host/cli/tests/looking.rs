@@ -58,7 +58,7 @@ Of any two registers one begins the other.
 
 /// The bytes of a book of station 0 with one height, whose page with this entry is settled.
 fn settled(entry: &[u8; 16]) -> Vec<u8> {
-    let mut book = Book::open(Rules::SHA256, 4, 0, &[0]).unwrap();
+    let mut book = Book::open(Rules::SHA256, 4, 0, &[1; 4], &[0]).unwrap();
     let block = Block { height: 1, entries: [*entry].into(), ..Block::default() };
     book.deliver(&Frame::BlockCertificate { mask: 7, block }.bytes()).unwrap();
     book.deliver(&Frame::FinalizeCertificate { mask: 7, height: 1 }.bytes()).unwrap();
@@ -68,7 +68,7 @@ fn settled(entry: &[u8; 16]) -> Vec<u8> {
 
 /// The bytes of a new book of station 1 with these leaders.
 fn opened(leaders: &[u8]) -> Vec<u8> {
-    Book::open(Rules::SHA256, 4, 1, leaders).unwrap().bytes().to_vec()
+    Book::open(Rules::SHA256, 4, 1, &[1; 4], leaders).unwrap().bytes().to_vec()
 }
 
 #[test]
@@ -102,8 +102,8 @@ fn repeating() -> Vec<Frame> {
 
 #[test]
 fn entries_that_were_filed_before_are_marked() {
-    let mut station = Book::open(Rules::SHA256, 4, 0, &[0, 1, 2]).unwrap();
-    let mut observer = ObserverBook::open(Rules::SHA256, 4, 3).unwrap();
+    let mut station = Book::open(Rules::SHA256, 4, 0, &[1; 4], &[0, 1, 2]).unwrap();
+    let mut observer = ObserverBook::open(Rules::SHA256, 4, 3, &[1; 4]).unwrap();
     for frame in repeating() {
         station.deliver(&frame.bytes()).unwrap();
         observer.deliver(&frame.bytes()).unwrap();
@@ -164,7 +164,7 @@ fn the_rule_that_a_book_breaks_is_told_with_its_byte() {
 #[test]
 fn two_books_are_held_against_each_other() {
     let at = folder("diff").to_str().unwrap().to_string();
-    let mut book = Book::open(Rules::SHA256, 4, 2, &[0]).unwrap();
+    let mut book = Book::open(Rules::SHA256, 4, 2, &[1; 4], &[0]).unwrap();
     std::fs::write(format!("{at}/one"), book.bytes()).unwrap();
     book.deliver(&Frame::DummyVote { signer: 1, height: 1 }.bytes()).unwrap();
     book.signal(1).unwrap();

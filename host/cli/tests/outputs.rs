@@ -13,7 +13,7 @@ const NOWHERE: [&str; 3] = [">&-", "> /dev/null", "> /dev/zero"];
 
 /// The path of a book that can be passed on a blank: station 2 of 4 with two heights, alone in a folder of this name.
 fn book(name: &str) -> String {
-    let mut book = Book::open(reference::Rules::SHA256, 4, 2, &[0, 0]).unwrap();
+    let mut book = Book::open(reference::Rules::SHA256, 4, 2, &[1; 4], &[0, 0]).unwrap();
     for signer in [0, 1, 3] {
         book.deliver(&Frame::DummyVote { signer, height: 1 }.bytes()).unwrap();
     }

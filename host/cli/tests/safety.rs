@@ -12,7 +12,7 @@ use types::{Book, Frame};
 
 /// The path of a book with these blank votes at height 1: station 2 of 4, so many heights that station 0 leads.
 fn book(name: &str, heights: usize, signers: &[u8]) -> String {
-    let mut book = Book::open(Rules::SHA256, 4, 2, &vec![0; heights]).unwrap();
+    let mut book = Book::open(Rules::SHA256, 4, 2, &[1; 4], &vec![0; heights]).unwrap();
     for signer in signers {
         book.deliver(&Frame::DummyVote { signer: *signer, height: 1 }.bytes()).unwrap();
     }

@@ -22,7 +22,7 @@ fn book(name: &str) -> [String; 2] {
             _ = remove_file(format!("{path}{ending}"));
         }
     }
-    let book = Book::open(Rules::SHA256, 4, 2, &[0; 63]).unwrap();
+    let book = Book::open(Rules::SHA256, 4, 2, &[1; 4], &[0; 63]).unwrap();
     write(&paths[0], book.bytes()).unwrap();
     paths
 }

@@ -3,7 +3,7 @@
 use crate::frames::{any_block, any_entry, any_mask};
 use crate::Random;
 use reference::{is_quorum, sha256, Rules};
-use types::{book_length, field, head_height, mask_at, put_head_height};
+use types::{book_length, field, head_height, mask_at, put_head_height, Weights};
 use types::{Area, Book, Calls, Height, Layout};
 use types::{ALL_FLAGS, BLOCK, MOST_HEIGHTS, MOST_PENDING, MOST_REPLICAS};
 
@@ -38,7 +38,7 @@ pub fn arguments_for(random: &mut Random, heights: Height) -> (u8, u8, Vec<u8>) 
 
 /// A new book.
 fn opened(n: u8, own: u8, leaders: &[u8]) -> Vec<u8> {
-    let book = Book::open(Rules::SHA256, n.into(), own.into(), leaders);
+    let book = Book::open(Rules::SHA256, n.into(), own.into(), &vec![1; n.into()], leaders);
     book.map_or_else(|_| Vec::new(), |book| book.bytes().to_vec())
 }
 
@@ -74,7 +74,11 @@ fn fill_height(random: &mut Random, book: &mut [u8], height: Height, leader: u8)
         mask.copy_from_slice(&(any_mask(random, n) & all).to_le_bytes());
     }
     if state & 2 != 0 {
-        let mask = if is_quorum(mask_at(&row, 2), n) { mask_at(&row, 2) } else { all };
+        let mask = if is_quorum(mask_at(&row, 2), Weights::equal(n).each()) {
+            mask_at(&row, 2)
+        } else {
+            all
+        };
         row[2..4].copy_from_slice(&mask.to_le_bytes());
         let block = any_block(random, book, height).bytes();
         book[layout.area(height, Area::Notarized)].copy_from_slice(&block);

@@ -5,7 +5,7 @@ use crate::frames::{any_entry, any_frame_bytes, any_height};
 use crate::observer_single::any_observer_call;
 use crate::packets::any_packet;
 use crate::{repeat_kinds, Random};
-use exchange::Call;
+use exchange::{equal_weights, Call};
 use reference::Rules;
 use types::{book_length, field, head_height, Calls, ENTRY, MOST_HEIGHTS, MOST_LOG};
 
@@ -162,5 +162,5 @@ pub fn any_open(random: &mut Random, book: &[u8]) -> Call {
         }
         _ => {}
     }
-    Call::Open { n, own, heights, leaders }
+    Call::Open { n, own, heights, weights: equal_weights(n), leaders }
 }

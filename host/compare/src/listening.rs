@@ -2,7 +2,7 @@
 
 use crate::network::{Network, Outcome};
 use crate::{Halt, Second};
-use exchange::{Answer, Call, ObserverCall};
+use exchange::{equal_weights, Answer, Call, ObserverCall};
 use types::{observer_book_length, Calls, Height, Move, FRAME, MOST_HEIGHTS};
 
 /// The names of what must have happened.
@@ -28,7 +28,8 @@ impl<A: Calls, B: Second> Network<'_, A, B> {
             };
             let mut book = vec![0; observer_book_length(own)];
             self.random.fill(&mut book);
-            let open = ObserverCall::Open { n: self.n.into(), heights: own.into() };
+            let (n, weights) = (self.n.into(), equal_weights(self.n.into()));
+            let open = ObserverCall::Open { n, heights: own.into(), weights };
             self.pair.make(&Call::Observer(open), &mut book, &mut [])?;
             self.observers.push(book);
             self.logs.push(Vec::new());

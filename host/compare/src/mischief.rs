@@ -5,7 +5,7 @@ use crate::frames::any_entry;
 use crate::network::Network;
 use crate::Second;
 use reference::{is_quorum, sha256};
-use types::{field, head_height, height_at, Block, Calls, Entries, Frame, Height};
+use types::{field, head_height, height_at, Block, Calls, Entries, Frame, Height, Weights};
 use types::{ENTRY, FRAME_HEIGHT};
 
 impl<A: Calls, B: Second> Network<'_, A, B> {
@@ -127,7 +127,7 @@ impl<A: Calls, B: Second> Network<'_, A, B> {
 
     /// Sends a certificate to some, if its mask is a quorum.
     fn whisper_if_quorum(&mut self, mask: u16, frame: Frame) {
-        if is_quorum(mask, self.n) {
+        if is_quorum(mask, Weights::equal(self.n).each()) {
             self.saw("a certificate sent to some only");
             self.whisper(&frame);
         }

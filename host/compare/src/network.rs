@@ -4,7 +4,7 @@ use crate::books::{any_heights, any_replicas};
 use crate::frames::any_entry;
 use crate::Random;
 use crate::{repeat_kinds, Halt, Pair, Second};
-use exchange::{Answer, Call};
+use exchange::{equal_weights, Answer, Call};
 use types::{book_length, field, head_height};
 use types::{Block, Calls, Counts, Delivered, Frame, Height, Move};
 use types::{BLOCK, ENTRY, FRAME, MOST_LOG};
@@ -86,7 +86,8 @@ impl<'a, A: Calls, B: Second> Network<'a, A, B> {
         let mut book = vec![0; book_length(heights)];
         self.random.fill(&mut book);
         let (n, own, heights) = (self.n.into(), own.into(), heights.into());
-        let open = Call::Open { n, own, heights, leaders: self.leaders.clone() };
+        let (weights, leaders) = (equal_weights(n), self.leaders.clone());
+        let open = Call::Open { n, own, heights, weights, leaders };
         self.pair.make(&open, &mut book, &mut [])?;
         self.books.push(book);
         Ok(())

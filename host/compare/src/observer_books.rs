@@ -6,12 +6,12 @@ use crate::observer_frames::{any_observed_block, observed};
 use crate::Random;
 use reference::inspect::{inspect_observer, ObservedHeight};
 use reference::{is_quorum, Rules};
-use types::{field, head_height, mask_at, observer_book_length, put_head_height};
+use types::{field, head_height, mask_at, observer_book_length, put_head_height, Weights};
 use types::{Calls, Height, ObserverArea, ObserverBook, ObserverLayout};
 
 /// A new observer's book.
 pub fn opened(n: u8, heights: Height) -> Vec<u8> {
-    let book = ObserverBook::open(Rules::SHA256, n.into(), heights);
+    let book = ObserverBook::open(Rules::SHA256, n.into(), heights, &vec![1; n.into()]);
     book.map_or_else(|_| Vec::new(), |book| book.bytes().to_vec())
 }
 
@@ -35,7 +35,11 @@ fn fill_height(random: &mut Random, book: &mut [u8], height: Height) {
     }
     if !random.one_in(3) {
         row[0] = 2;
-        let mask = if is_quorum(mask_at(&row, 2), n) { mask_at(&row, 2) } else { all };
+        let mask = if is_quorum(mask_at(&row, 2), Weights::equal(n).each()) {
+            mask_at(&row, 2)
+        } else {
+            all
+        };
         row[2..4].copy_from_slice(&mask.to_le_bytes());
         let block = any_observed_block(random, book, height).bytes();
         book[layout.area(height, ObserverArea::Notarized)].copy_from_slice(&block);

@@ -3,7 +3,7 @@
 use crate::frames::{any_entries, any_frame_bytes, any_mask, byte};
 use crate::Random;
 use reference::{is_quorum, sha256};
-use types::{field, head_height, mask_at, put_height, Block, Entries, Frame, Height};
+use types::{field, head_height, mask_at, put_height, Block, Entries, Frame, Height, Weights};
 use types::{ObserverArea, ObserverLayout, BLOCK, BLOCK_HEIGHT, FRAME, FRAME_HEIGHT};
 
 /// Where the block in a frame has its height.
@@ -25,7 +25,9 @@ fn notarized(book: &[u8], height: Height) -> Option<&[u8; BLOCK]> {
 fn frontier(book: &[u8]) -> Height {
     let last = head_height(book, field::HEIGHTS);
     let n = byte(book, field::N);
-    let dummy = |height| is_quorum(mask_at(observed(book, height, ObserverArea::Row), 4), n);
+    let dummy = |height| {
+        is_quorum(mask_at(observed(book, height, ObserverArea::Row), 4), Weights::equal(n).each())
+    };
     let open = |height: &Height| notarized(book, *height).is_none() && !dummy(*height);
     (1..=last).find(open).unwrap_or(last)
 }

@@ -6,7 +6,7 @@ use crate::observer_books::{damage, garbage, strange_observer, traits};
 use crate::observer_frames::{any_certificate, any_observed_bytes};
 use crate::Random;
 use crate::{repeat_kinds, Halt, Pair, Second};
-use exchange::{Answer, Call, ObserverCall};
+use exchange::{equal_weights, Answer, Call, ObserverCall};
 use reference::Rules;
 use types::{book_length, is_observers, observer_book_length, Calls, Height, Move};
 use types::{FRAME, MOST_HEIGHTS, MOST_LOG, MOST_REPLICAS};
@@ -86,7 +86,8 @@ fn open<A: Calls, B: Second>(
 ) -> Result<Vec<u8>, Halt> {
     let mut book = vec![0; observer_book_length(heights)];
     random.fill(&mut book);
-    let open = ObserverCall::Open { n: n.into(), heights: heights.into() };
+    let weights = equal_weights(n.into());
+    let open = ObserverCall::Open { n: n.into(), heights: heights.into(), weights };
     pair.make(&Call::Observer(open), &mut book, &mut [])?;
     Ok(book)
 }
@@ -171,7 +172,7 @@ pub fn any_open(random: &mut Random, book: &[u8]) -> ObserverCall {
         }
         _ => {}
     }
-    ObserverCall::Open { n, heights }
+    ObserverCall::Open { n, heights, weights: equal_weights(n) }
 }
 
 /// An observer's call and the length of its buffer.
@@ -225,7 +226,9 @@ fn side_by_side<A: Calls, B: Second>(
 ) -> Found {
     let (n, own, leaders) = arguments_for(random, heights);
     let mut station = vec![0; book_length(heights)];
-    let opening = Call::Open { n: n.into(), own: own.into(), heights: heights.into(), leaders };
+    let weights = equal_weights(n.into());
+    let opening =
+        Call::Open { n: n.into(), own: own.into(), heights: heights.into(), weights, leaders };
     pair.make(&opening, &mut station, &mut [])?;
     let mut observer = open(pair, random, n, heights)?;
     for _ in 0..random.below(80) {

@@ -118,7 +118,8 @@ mod tests {
 
     /// The kinds of these frames over a new book, and of so many bytes behind them.
     fn of(frames: &[Frame], stray: usize) -> Vec<&'static str> {
-        let book = Book::open(Rules::SHA256, 4, 2, &[0, 1]).map(|book| book.bytes().to_vec());
+        let book =
+            Book::open(Rules::SHA256, 4, 2, &[1; 4], &[0, 1]).map(|book| book.bytes().to_vec());
         let mut book = book.unwrap_or_default();
         let mut packet: Vec<u8> = frames.iter().flat_map(Frame::bytes).collect();
         packet.resize(packet.len() + stray, 0);

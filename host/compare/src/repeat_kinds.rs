@@ -197,7 +197,7 @@ mod tests {
 
     /// A book in which a page with these entries, and one on it with these, are settled.
     fn book(one: &[Entry], two: &[Entry]) -> Result<Vec<u8>, u8> {
-        let mut book = Book::open(Rules::SHA256, 4, 2, &[0, 1, 2])?;
+        let mut book = Book::open(Rules::SHA256, 4, 2, &[1; 4], &[0, 1, 2])?;
         let first = Block { height: 1, entries: Entries::first_of(one), ..Block::default() };
         let digest = reference::sha256::digest(&first.bytes());
         let second = Block { height: 2, parent: 1, digest, entries: Entries::first_of(two) };

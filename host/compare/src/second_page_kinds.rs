@@ -102,7 +102,7 @@ mod tests {
 
     /// The kinds of the last of these frames, over a book of station `own` with these flags and this current height.
     fn of(own: u64, flags: u8, current: Height, frames: &[Frame]) -> Result<Vec<String>, u8> {
-        let mut book = Book::open(Rules::SHA256, 4, own, &[0, 0])?.bytes().to_vec();
+        let mut book = Book::open(Rules::SHA256, 4, own, &[1; 4], &[0, 0])?.bytes().to_vec();
         book[field::FLAGS] = flags;
         put_head_height(&mut book, field::CURRENT, current);
         let mut told = Vec::new();

@@ -4,7 +4,7 @@ use crate::books::{any_heights, arguments_for, damage, garbage, strange_book};
 use crate::choose::{any_call, any_open, Recent};
 use crate::Random;
 use crate::{traits, two_pages, Halt, Pair, Second};
-use exchange::Call;
+use exchange::{equal_weights, Call};
 use reference::Rules;
 use types::{book_length, field, head_height, Calls, Height, MOST_HEIGHTS};
 
@@ -62,7 +62,9 @@ fn from_new<A: Calls, B: Second>(
     let (n, own, leaders) = arguments_for(random, heights);
     let mut book = vec![0; book_length(heights)];
     random.fill(&mut book);
-    let open = Call::Open { n: n.into(), own: own.into(), heights: heights.into(), leaders };
+    let weights = equal_weights(n.into());
+    let open =
+        Call::Open { n: n.into(), own: own.into(), heights: heights.into(), weights, leaders };
     pair.make(&open, &mut book, &mut [])?;
     pair.kinds.saw("book: new, opened over junk");
     calls(pair, random, &mut book, count)

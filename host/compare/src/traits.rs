@@ -65,14 +65,14 @@ mod tests {
 
     #[test]
     fn a_new_book_is_of_no_kind() -> Result<(), u8> {
-        let book = Book::open(Rules::SHA256, 4, 2, &[0, 1, 2])?;
+        let book = Book::open(Rules::SHA256, 4, 2, &[1; 4], &[0, 1, 2])?;
         assert_eq!(kinds(book.bytes()), Vec::<&str>::new());
         Ok(())
     }
 
     #[test]
     fn free_bytes_and_flags_are_seen() -> Result<(), u8> {
-        let mut book = Book::open(Rules::SHA256, 4, 2, &[0, 1, 2])?.bytes().to_vec();
+        let mut book = Book::open(Rules::SHA256, 4, 2, &[1; 4], &[0, 1, 2])?.bytes().to_vec();
         book[field::FLAGS] = 2;
         book[64] = 1;
         assert_eq!(

@@ -4,7 +4,7 @@ use crate::books::{arguments_for, strange_book};
 use crate::frames::{any_block, any_frame, any_height, area, byte, likely_block};
 use crate::Random;
 use crate::{Halt, Pair, Second};
-use exchange::{Answer, Call};
+use exchange::{equal_weights, Answer, Call};
 use types::{book_length, field, head_height, is_second_block, put_head_height};
 use types::{Area, Calls, Delivered, Frame, Height, Move, FRAME};
 
@@ -57,7 +57,9 @@ fn new_book<A: Calls, B: Second>(
 ) -> Result<Vec<u8>, Halt> {
     let (n, own, leaders) = arguments_for(random, heights);
     let mut book = vec![0; book_length(heights)];
-    let open = Call::Open { n: n.into(), own: own.into(), heights: heights.into(), leaders };
+    let weights = equal_weights(n.into());
+    let open =
+        Call::Open { n: n.into(), own: own.into(), heights: heights.into(), weights, leaders };
     pair.make(&open, &mut book, &mut [])?;
     Ok(book)
 }

@@ -51,9 +51,17 @@ impl Faulty {
 impl Calls for Faulty {
     as_reference! { submit observer_open observer_deliver observer_size observer_read }
 
-    fn open(&self, book: &mut [u8], n: u64, own: u64, h: u64, leaders: &[u8]) -> Result<(), u8> {
+    fn open(
+        &self,
+        book: &mut [u8],
+        n: u64,
+        own: u64,
+        heights: u64,
+        weights: &[u8],
+        leaders: &[u8],
+    ) -> Result<(), u8> {
         let last = book.last().copied();
-        let answer = Calls::open(&RULES, book, n, own, h, leaders);
+        let answer = Calls::open(&RULES, book, n, own, heights, weights, leaders);
         if let (true, Some(byte), Some(last)) =
             (self.is(Fault::OpenLeavesJunk), book.last_mut(), last)
         {

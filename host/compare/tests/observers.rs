@@ -5,7 +5,7 @@ mod as_reference;
 
 use compare::run;
 use reference::Rules;
-use types::{field, is_observers, mask_at, quorum, Calls, Delivered, Height, Move};
+use types::{field, is_observers, mask_at, Calls, Delivered, Height, Move, Weights};
 use types::{ObserverArea, ObserverLayout, FRAME};
 
 /// What a faulty observer does wrong.
@@ -71,10 +71,10 @@ impl Faulty {
 
 /// The largest height whose finalizes are a quorum, linked or not.
 fn finalized_alone(book: &[u8]) -> Height {
-    let (n, layout) = (book[field::N], ObserverLayout::new(book[field::HEIGHTS]));
+    let (weights, layout) = (Weights::of(book), ObserverLayout::new(book[field::HEIGHTS]));
     let masked = |height: &Height| {
         let row = &book[layout.area(*height, ObserverArea::Row)];
-        row[0] == 2 && mask_at(row, 6).count_ones() >= quorum(n)
+        row[0] == 2 && weights.weight_of(mask_at(row, 6)) >= weights.needed()
     };
     (1..=book[field::HEIGHTS]).rev().find(masked).unwrap_or(0)
 }
@@ -82,9 +82,15 @@ fn finalized_alone(book: &[u8]) -> Height {
 impl Calls for Faulty {
     as_reference! { open deliver packet make_move signal submit size read fetch }
 
-    fn observer_open(&self, book: &mut [u8], n: u64, heights: u64) -> Result<(), u8> {
+    fn observer_open(
+        &self,
+        book: &mut [u8],
+        n: u64,
+        heights: u64,
+        weights: &[u8],
+    ) -> Result<(), u8> {
         let last = book.last().copied().unwrap_or(0);
-        Calls::observer_open(&RULES, book, n, heights)?;
+        Calls::observer_open(&RULES, book, n, heights, weights)?;
         match self.0 {
             Fault::OpenLeavesJunk => *book.last_mut().unwrap() = last,
             Fault::OpenSetsCurrent => book[field::CURRENT] = 1,

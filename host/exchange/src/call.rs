@@ -9,7 +9,7 @@ use types::Calls;
 #[allow(missing_docs)] // the fields are the calls' arguments
 pub enum Call {
     /// Makes a new book.
-    Open { n: u64, own: u64, heights: u64, leaders: Vec<u8> },
+    Open { n: u64, own: u64, heights: u64, weights: Vec<u8>, leaders: Vec<u8> },
     /// Takes a frame.
     Deliver { frame: Vec<u8> },
     /// Takes the frames of a packet.
@@ -54,8 +54,8 @@ impl Call {
     /// Makes the call. Those that are lent no second buffer leave it alone.
     pub fn make(&self, calls: &impl Calls, book: &mut [u8], buffer: &mut [u8]) -> Answer {
         match self {
-            Call::Open { n, own, heights, leaders } => {
-                done(calls.open(book, *n, *own, *heights, leaders))
+            Call::Open { n, own, heights, weights, leaders } => {
+                done(calls.open(book, *n, *own, *heights, weights, leaders))
             }
             Call::Deliver { frame } => {
                 calls.deliver(book, frame).map_or_else(Answer::Deny, Answer::Delivered)
@@ -76,8 +76,9 @@ impl Call {
     /// The words of the call on a book and a second buffer of these names.
     pub fn words(&self, book: &str, buffer: &str) -> String {
         match self {
-            Call::Open { n, own, heights, leaders } => {
-                format!("open {book} {n} {own} {heights} {}", bytes::print(leaders))
+            Call::Open { n, own, heights, weights, leaders } => {
+                let [weights, leaders] = [weights, leaders].map(|bytes| bytes::print(bytes));
+                format!("open {book} {n} {own} {heights} {weights} {leaders}")
             }
             Call::Deliver { frame } => format!("deliver {book} {}", bytes::print(frame)),
             Call::Packet { packet } => format!("packet {book} {}", bytes::print(packet)),
@@ -95,9 +96,10 @@ impl Call {
     pub fn parse(words: &[&str]) -> Result<(Call, String, String), String> {
         let mut second = "";
         let (call, book) = match *words {
-            ["open", book, n, own, heights, leaders] => {
+            ["open", book, n, own, heights, weights, leaders] => {
                 let (n, own, heights) = (number(n)?, number(own)?, number(heights)?);
-                (Call::Open { n, own, heights, leaders: bytes::parse(leaders)? }, book)
+                let (weights, leaders) = (bytes::parse(weights)?, bytes::parse(leaders)?);
+                (Call::Open { n, own, heights, weights, leaders }, book)
             }
             ["deliver", book, frame] => (Call::Deliver { frame: bytes::parse(frame)? }, book),
             ["packet", book, packet] => (Call::Packet { packet: bytes::parse(packet)? }, book),

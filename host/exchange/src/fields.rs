@@ -143,7 +143,9 @@ impl Fields {
         self.add("settled height", 1, Sort::Number);
         self.add("number of pending entries", 1, Sort::Number);
         self.add("edition", 1, Sort::Number);
-        self.add("zeros of the head", 56, Sort::Bytes);
+        (0..MOST_REPLICAS)
+            .for_each(|at| self.add(format!("weight of station {at}"), 2, Sort::Number));
+        self.add("zeros of the head", 24, Sort::Bytes);
     }
 
     /// The fields of a book.
@@ -233,6 +235,7 @@ fn told(sort: Sort, one: &[u8], two: &[u8]) -> [String; 2] {
     }
     [one, two].map(|part| match (sort, part) {
         (Sort::Number, [number]) => number.to_string(),
+        (Sort::Number, [_, _]) => mask_at(part, 0).to_string(),
         (Sort::Flags, _) => bits(part, words::flags),
         (Sort::State, _) => bits(part, words::state),
         (Sort::Mask, [_, _]) => words::members(mask_at(part, 0)),

@@ -31,7 +31,7 @@ pub use failure::{Failure, Unmet};
 pub use line::{Expected, Line};
 pub use list::{List, Problem, HEADING};
 pub use observer_call::ObserverCall;
-pub use recorder::Recorder;
+pub use recorder::{equal_weights, Recorder};
 pub use replay::{record, record_in_full, replay, replay_until, Replayed};
 pub use stage::Stage;
 pub use tally::Tally;

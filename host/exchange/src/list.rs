@@ -6,7 +6,7 @@ use std::collections::BTreeSet;
 use std::fmt;
 
 /// The first line of every list.
-pub const HEADING: &str = "mavunilai exchange 1";
+pub const HEADING: &str = "mavunilai exchange 2";
 
 /// A list of lines.
 #[derive(Clone, Debug, Default, PartialEq, Eq)]

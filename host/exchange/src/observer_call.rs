@@ -9,7 +9,7 @@ use types::Calls;
 #[allow(missing_docs)] // the fields are the calls' arguments
 pub enum ObserverCall {
     /// Makes a new book.
-    Open { n: u64, heights: u64 },
+    Open { n: u64, heights: u64, weights: Vec<u8> },
     /// Takes a certificate.
     Deliver { frame: Vec<u8> },
     /// Settles.
@@ -37,7 +37,9 @@ impl ObserverCall {
     /// Makes the call. Those that are lent no second buffer leave it alone.
     pub fn make(&self, calls: &impl Calls, book: &mut [u8], buffer: &mut [u8]) -> Answer {
         match self {
-            ObserverCall::Open { n, heights } => done(calls.observer_open(book, *n, *heights)),
+            ObserverCall::Open { n, heights, weights } => {
+                done(calls.observer_open(book, *n, *heights, weights))
+            }
             ObserverCall::Deliver { frame } => {
                 calls.observer_deliver(book, frame).map_or_else(Answer::Deny, Answer::Delivered)
             }
@@ -52,7 +54,9 @@ impl ObserverCall {
     /// The words of the call on a book and a second buffer of these names.
     pub fn words(&self, book: &str, buffer: &str) -> String {
         match self {
-            ObserverCall::Open { n, heights } => format!("observer-open {book} {n} {heights}"),
+            ObserverCall::Open { n, heights, weights } => {
+                format!("observer-open {book} {n} {heights} {}", bytes::print(weights))
+            }
             ObserverCall::Deliver { frame } => {
                 format!("observer-deliver {book} {}", bytes::print(frame))
             }
@@ -67,8 +71,9 @@ impl ObserverCall {
         words: &[&'a str],
     ) -> Result<Option<(ObserverCall, &'a str, &'a str)>, String> {
         Ok(Some(match *words {
-            ["observer-open", book, n, heights] => {
-                (ObserverCall::Open { n: number(n)?, heights: number(heights)? }, book, "")
+            ["observer-open", book, n, heights, weights] => {
+                let (n, heights, weights) = (number(n)?, number(heights)?, bytes::parse(weights)?);
+                (ObserverCall::Open { n, heights, weights }, book, "")
             }
             ["observer-deliver", book, frame] => {
                 (ObserverCall::Deliver { frame: bytes::parse(frame)? }, book, "")

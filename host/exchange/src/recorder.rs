@@ -1,7 +1,17 @@
 //! Writes a list while it makes the calls.
 
 use crate::{Answer, Call, Line, List, ObserverCall, Stage};
-use types::{Calls, Height, Move, FRAME};
+use types::{weight_bytes, Calls, Height, Move, FRAME};
+
+/// The most stations that [`equal_weights`] has weights for: more than any book.
+const MOST_EQUAL: u64 = 1_000;
+
+/// The bytes of a weight of 1 for each of n stations; of at most 1,000 stations, since an n that is out of range may be
+/// any number.
+pub fn equal_weights(n: u64) -> Vec<u8> {
+    let one = |_| 1u16.to_le_bytes();
+    (0..n.min(MOST_EQUAL)).flat_map(one).collect()
+}
 
 /// Calls on named buffers, kept as a list with their answers and digests.
 #[derive(Clone, Debug)]
@@ -54,18 +64,36 @@ impl<C: Calls> Recorder<C> {
         Some(answer)
     }
 
-    /// Opens a book of the right length over bytes `5a`.
+    /// Opens a book of the right length over bytes `5a`; all stations weigh 1.
     pub fn open(&mut self, book: &str, n: u64, own: u64, leaders: &[u8]) {
+        self.open_with(book, n, own, equal_weights(n), leaders);
+    }
+
+    /// Opens a book for stations of these weights, one for each.
+    pub fn open_weighed(&mut self, book: &str, weights: &[u16], own: u64, leaders: &[u8]) {
+        self.open_with(book, weights.len() as u64, own, weight_bytes(weights), leaders);
+    }
+
+    /// Opens a book with the bytes of weights.
+    fn open_with(&mut self, book: &str, n: u64, own: u64, weights: Vec<u8>, leaders: &[u8]) {
         let heights = Height::try_from(leaders.len()).unwrap_or(Height::MAX);
         self.give(book, vec![0x5a; types::book_length(heights)]);
         let (heights, leaders) = (leaders.len() as u64, leaders.to_vec());
-        self.make(Call::Open { n, own, heights, leaders }, book, "");
+        self.make(Call::Open { n, own, heights, weights, leaders }, book, "");
     }
 
-    /// Opens an observer's book of the right length over bytes `5a`.
+    /// Opens an observer's book of the right length over bytes `5a`; all stations weigh 1.
     pub fn open_observer(&mut self, book: &str, n: u64, heights: Height) {
         self.give(book, vec![0x5a; types::observer_book_length(heights)]);
-        self.observer(book, ObserverCall::Open { n, heights: heights.into() });
+        let (heights, weights) = (heights.into(), equal_weights(n));
+        self.observer(book, ObserverCall::Open { n, heights, weights });
+    }
+
+    /// Opens an observer's book for stations of these weights, one for each.
+    pub fn open_weighed_observer(&mut self, book: &str, weights: &[u16], heights: Height) {
+        self.give(book, vec![0x5a; types::observer_book_length(heights)]);
+        let (n, weights) = (weights.len() as u64, weight_bytes(weights));
+        self.observer(book, ObserverCall::Open { n, heights: heights.into(), weights });
     }
 
     /// Makes a call of an observer that is lent no second buffer.

@@ -55,14 +55,14 @@ mod tests {
     #[test]
     fn a_call_and_its_answer_come_back() {
         let calls = [
-            Call::Open { n: 4, own: 2, heights: 1, leaders: vec![] },
+            Call::Open { n: 4, own: 2, heights: 1, weights: vec![1, 0], leaders: vec![] },
             Call::Deliver { frame: vec![3; 224] },
             Call::Packet { packet: vec![] },
             Call::Packet { packet: vec![3; 448] },
             Call::Move,
             Call::Read,
             Call::Fetch { kind: 5, height: u64::MAX },
-            Call::Observer(ObserverCall::Open { n: 4, heights: u64::MAX }),
+            Call::Observer(ObserverCall::Open { n: 4, heights: u64::MAX, weights: vec![] }),
             Call::Observer(ObserverCall::Deliver { frame: vec![6; 224] }),
             Call::Observer(ObserverCall::Move),
             Call::Observer(ObserverCall::Size),

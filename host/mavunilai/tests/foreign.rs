@@ -144,7 +144,10 @@ fn refusals_of_an_observer_come_through() {
     let high = Frame::DummyCertificate { mask: 7, height: 3 }.bytes();
     assert_eq!(observer.deliver(&high), Err(Refusal::NoSuchHeight));
     for (n, heights) in [(0, 1), (17, 1), (4, 0), (4, 64), (4, Height::MAX)] {
-        assert_eq!(ObserverBook::open(Proved, n, heights, &[1; 4]).err(), Some(Refusal::OutOfRange));
+        assert_eq!(
+            ObserverBook::open(Proved, n, heights, &[1; 4]).err(),
+            Some(Refusal::OutOfRange)
+        );
     }
     let mut station = book().bytes().to_vec();
     assert_eq!(ObserverBook::from_bytes(Proved, station.clone()).err(), Some(Refusal::Unsound));

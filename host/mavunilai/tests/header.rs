@@ -171,11 +171,8 @@ fn fields_of_the_book_are_where_the_types_have_them() {
     is("HEAD_PENDING", field::PENDING);
     is("HEAD_EDITION", field::EDITION);
     is("HEAD_WEIGHTS", field::WEIGHTS);
-    let edition = |book: &[u8]| usize::from(book[field::EDITION]);
-    let station = Book::open(reference::Rules::SHA256, 1, 0, &[1], &[0]).unwrap();
-    let observer = ObserverBook::open(reference::Rules::SHA256, 1, 1, &[1]).unwrap();
-    is("EDITION_WEIGHED", edition(station.bytes()));
-    is("EDITION_WEIGHED", edition(observer.bytes()));
+    is("EDITION_UNWEIGHED", types::FIRST_EDITION.into());
+    is("EDITION_WEIGHED", types::EDITION.into());
     is("PENDING_AT", Layout::new(1).pending().start);
     is("CONTENTS_AT", Layout::new(1).area(1, Area::Row).start);
     is("ROW", Layout::new(1).area(1, Area::Row).len());

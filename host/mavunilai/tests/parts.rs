@@ -121,9 +121,7 @@ fn weight(weights: &[u16], mask: u32) -> u32 {
 /// The lines that `weighing.c` is to print of a book with these weights, worked out from the numbers.
 fn weighed(weights: &[u16]) -> [String; 3] {
     let all = weight(weights, u32::MAX);
-    let is_quorum = |mask: u32| {
-        mask >> weights.len() == 0 && 3 * weight(weights, mask) >= 2 * all
-    };
+    let is_quorum = |mask: u32| mask >> weights.len() == 0 && 3 * weight(weights, mask) >= 2 * all;
     let mut first: Vec<u32> = weights.iter().map(|weight| (*weight).into()).collect();
     first.resize(26, 0);
     first.extend([all, (2 * all).div_ceil(3)]);
@@ -150,8 +148,7 @@ fn weights_are_read_from_the_head() {
         let station = Book::open(reference::Rules::SHA256, n, 0, &weights, &[0]).unwrap();
         let observer = ObserverBook::open(reference::Rules::SHA256, n, 1, &weights).unwrap();
         let mut older = station.bytes().to_vec();
-        older[field::EDITION] = 1;
-        older[8..64].fill(0);
+        types::put_first_edition(&mut older);
         assert!(Book::from_bytes(reference::Rules::SHA256, older.clone()).is_ok());
         [station.bytes(), observer.bytes(), &older].map(|book| input.extend(&book[..64]));
         let ones = vec![1; weights.len()];

@@ -10,9 +10,10 @@ impl Calls for Rules {
         n: u64,
         own: u64,
         heights: u64,
+        weights: &[u8],
         leaders: &[u8],
     ) -> Result<(), u8> {
-        Rules::open(self, book, n, own, heights, leaders)
+        Rules::open(self, book, n, own, heights, weights, leaders)
     }
 
     fn deliver(&self, book: &mut [u8], frame: &[u8]) -> Result<Delivered, u8> {
@@ -47,8 +48,14 @@ impl Calls for Rules {
         Rules::fetch(self, book, kind, height, reply)
     }
 
-    fn observer_open(&self, book: &mut [u8], n: u64, heights: u64) -> Result<(), u8> {
-        Rules::observer_open(self, book, n, heights)
+    fn observer_open(
+        &self,
+        book: &mut [u8],
+        n: u64,
+        heights: u64,
+        weights: &[u8],
+    ) -> Result<(), u8> {
+        Rules::observer_open(self, book, n, heights, weights)
     }
 
     fn observer_deliver(&self, book: &mut [u8], frame: &[u8]) -> Result<Delivered, u8> {

@@ -23,7 +23,7 @@ impl<'a> Chain<'a> {
     /// Whether a quorum voted for the dummy block of a height (document 01: blank).
     pub fn is_dummy(&self, height: Height) -> bool {
         let shown = self.view.shown(height);
-        shown.is_some_and(|shown| quorum::is_quorum(shown.dummies, self.view.n()))
+        shown.is_some_and(|shown| quorum::is_quorum(shown.dummies, self.view.weights()))
     }
 
     /// The notarized block of a height.
@@ -56,7 +56,7 @@ impl<'a> Chain<'a> {
     /// Whether a height is linked and a quorum finalized it (document 01: settled).
     pub fn is_finalized(&self, height: Height) -> bool {
         let shown = self.view.shown(height);
-        shown.is_some_and(|shown| quorum::is_quorum(shown.finalizes, self.view.n()))
+        shown.is_some_and(|shown| quorum::is_quorum(shown.finalizes, self.view.weights()))
             && self.is_linked(height)
     }
 

@@ -3,9 +3,7 @@
 use crate::block::BLOCK;
 use crate::entry::ENTRY;
 use crate::state::{book_length, Slot, State, PLACES, REPLICAS};
-
-/// The number in byte 7 of every book.
-const EDITION: u8 = 1;
+use crate::weights;
 
 /// The lengths of the book's parts.
 const HEAD: usize = 64;
@@ -15,11 +13,11 @@ const BODY: usize = 2 * BLOCK + VOTES;
 const VOTES: usize = REPLICAS * 32;
 
 impl State {
-    /// The state in these bytes, if the length and the edition are right and all that must be zero
-    /// is zero: writing the state again gives the same bytes.
+    /// The state in these bytes, if the length is right and all that must be zero in a book of this edition is zero:
+    /// writing the state again gives the same bytes.
     pub fn decode(book: &[u8]) -> Option<State> {
         let (head, rest) = book.split_first_chunk::<HEAD>()?;
-        let [n, own, heights, flags, current, finalized, pending_count, ..] = *head;
+        let [n, own, heights, flags, current, finalized, pending_count, edition, ..] = *head;
         if book.len() != book_length(heights) {
             return None;
         }
@@ -28,7 +26,19 @@ impl State {
         let pending = *pending.as_chunks::<ENTRY>().0.as_array()?;
         let both = rows.as_chunks::<ROW>().0.iter().zip(bodies.as_chunks::<BODY>().0);
         let slots = both.map(|(row, body)| Slot::decode(row, body)).collect::<Option<_>>()?;
-        let state = State { n, own, flags, current, finalized, pending_count, pending, slots };
+        let weights = weights::decode(head, n, edition)?;
+        let state = State {
+            n,
+            own,
+            flags,
+            current,
+            finalized,
+            pending_count,
+            edition,
+            weights,
+            pending,
+            slots,
+        };
         (state.encode() == book).then_some(state)
     }
 
@@ -37,8 +47,8 @@ impl State {
         let mut book = Vec::with_capacity(book_length(self.heights()));
         let head = [self.n, self.own, self.heights(), self.flags, self.current, self.finalized];
         book.extend(head);
-        book.extend([self.pending_count, EDITION]);
-        book.resize(HEAD, 0);
+        book.extend([self.pending_count, self.edition]);
+        book.extend(weights::encode(&self.weights, self.edition));
         book.extend(self.pending.as_flattened());
         self.slots.iter().for_each(|slot| book.extend(slot.encode_row()));
         self.slots.iter().for_each(|slot| slot.encode_body(&mut book));

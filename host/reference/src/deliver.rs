@@ -4,6 +4,7 @@ use crate::block::Block;
 use crate::frame::{Frame, Statement};
 use crate::height::Height;
 use crate::state::{Slot, State, HELD, NOTARIZED, TIMER_FIRED};
+use crate::weights::Weights;
 use crate::{quorum, refusal, Delivered, Digest, Rules};
 
 impl Rules {
@@ -37,7 +38,7 @@ fn admit(state: &State, frame: &Frame) -> Result<(), u8> {
         | Statement::DummyCertificate { mask }
         | Statement::FinalizeCertificate { mask } => {
             require(quorum::is_within(mask, state.n), refusal::NO_SUCH_REPLICA)?;
-            require(quorum::is_quorum(mask, state.n), refusal::NO_QUORUM)
+            require(quorum::is_quorum(mask, &state.weights), refusal::NO_QUORUM)
         }
     }
 }
@@ -50,12 +51,12 @@ pub(crate) fn require(condition: bool, refusal: u8) -> Result<(), u8> {
 impl State {
     /// Takes an admitted frame; refuses with 8 or 10 before anything is changed.
     fn take(&mut self, frame: &Frame, digest: Digest) -> Result<Delivered, u8> {
-        let n = self.n;
+        let weights = self.weights;
         let slot = self.slot_mut(frame.height).ok_or(refusal::NO_SUCH_HEIGHT)?;
         match frame.statement {
             Statement::Proposal { block, .. } => self.take_proposal(frame.height, block, digest),
             Statement::BlockVote { signer, digest: vote } => {
-                slot.take_vote(signer, vote, n, digest)
+                slot.take_vote(signer, vote, &weights, digest)
             }
             Statement::DummyVote { signer } => Ok(join(&mut slot.dummies, quorum::only(signer))),
             Statement::Finalize { signer } => Ok(join(&mut slot.finalizes, quorum::only(signer))),
@@ -73,10 +74,10 @@ impl State {
         block: &Block,
         digest: Digest,
     ) -> Result<Delivered, u8> {
-        let n = self.n;
+        let weights = self.weights;
         let slot = self.slot_mut(height).ok_or(refusal::NO_SUCH_HEIGHT)?;
         match slot.held().map(|held| held == block) {
-            None => Ok(slot.hold(block, n, digest)),
+            None => Ok(slot.hold(block, &weights, digest)),
             Some(true) => Ok(Delivered::Known),
             Some(false) => self.leader_equivocates(height),
         }
@@ -97,10 +98,10 @@ impl State {
 
 impl Slot {
     /// Holds the first proposal.
-    fn hold(&mut self, block: &Block, n: u8, digest: Digest) -> Delivered {
+    fn hold(&mut self, block: &Block, weights: &Weights, digest: Digest) -> Delivered {
         self.proposal = *block;
         self.marks |= HELD;
-        self.tally(n, digest);
+        self.tally(weights, digest);
         Delivered::Fresh
     }
 
@@ -109,7 +110,7 @@ impl Slot {
         &mut self,
         signer: u8,
         vote: &[u8; 32],
-        n: u8,
+        weights: &Weights,
         digest: Digest,
     ) -> Result<Delivered, u8> {
         if let Some(kept) = self.vote(signer) {
@@ -118,7 +119,7 @@ impl Slot {
         let place = self.votes.get_mut(usize::from(signer)).ok_or(refusal::NO_SUCH_REPLICA)?;
         *place = *vote;
         self.voters |= quorum::only(signer);
-        self.tally(n, digest);
+        self.tally(weights, digest);
         Ok(Delivered::Fresh)
     }
 
@@ -132,14 +133,15 @@ impl Slot {
     }
 
     /// Notarizes the held proposal once a quorum voted for it, unless a block is notarized already.
-    fn tally(&mut self, n: u8, digest: Digest) {
+    fn tally(&mut self, weights: &Weights, digest: Digest) {
         let (None, Some(&held)) = (self.notarized(), self.held()) else {
             return;
         };
         let wanted = digest(&held);
         let agrees = |&replica: &u8| self.vote(replica).is_some_and(|vote| *vote == wanted);
-        let mask = (0..n).filter(agrees).map(quorum::only).fold(0, |all, one| all | one);
-        if quorum::is_quorum(mask, n) {
+        let replicas = (0..).zip(weights).map(|(replica, _)| replica);
+        let mask = replicas.filter(agrees).map(quorum::only).fold(0, |all, one| all | one);
+        if quorum::is_quorum(mask, weights) {
             self.notarize(held, mask);
         }
     }

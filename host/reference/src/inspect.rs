@@ -7,12 +7,15 @@ use crate::entry::ENTRY;
 use crate::height::Height;
 use crate::state::Slot;
 use crate::Rules;
+use types::Weights;
 
 /// What a sound book says as a whole.
 #[derive(Clone, Debug)]
 pub struct Inspection {
     /// The number of replicas.
     pub n: u8,
+    /// What each replica weighs.
+    pub weights: Weights,
     /// The replica's own number.
     pub own: u8,
     /// The flags of the current height.
@@ -72,6 +75,7 @@ pub fn inspect(book: &[u8]) -> Result<Inspection, u8> {
     };
     Ok(Inspection {
         n: state.n,
+        weights: Weights::of(book),
         own: state.own,
         flags: state.flags,
         current: state.current,

@@ -1,4 +1,4 @@
-//! The reference replica: the rules of document 01, and of requests 2.1 to 2.5 of document 02, in plain Rust, apart
+//! The reference replica: the rules of document 01, and of requests 2.1 to 2.6 of document 02, in plain Rust, apart
 //! from the proved replica.
 //!
 //! Every call takes the bytes that it may read or write and answers with a value or with the number
@@ -37,6 +37,7 @@ mod soundness;
 mod state;
 mod submit;
 mod view;
+mod weights;
 
 pub use entry::ENTRY;
 pub use frame::FRAME;

@@ -4,11 +4,12 @@ use crate::block::BLOCK;
 use crate::entry::ENTRY;
 use crate::soundness::{MOST_HEIGHTS, MOST_REPLICAS};
 use crate::state::{Slot, State, PLACES, REPLICAS};
+use crate::weights::{self, WEIGHED_EDITION};
 use crate::{refusal, Rules};
 
 impl Rules {
-    /// Makes a new book for replica `own` of `n`, with `heights` heights and the leader of each
-    /// (document 01: the roll). Whatever the book held before is lost.
+    /// Makes a new book for replica `own` of `n`, with `heights` heights, the weight of each replica in two bytes, and
+    /// the leader of each height (document 01: the roll). Whatever the book held before is lost.
     ///
     /// Refuses with 2, 1 in this order.
     pub fn open(
@@ -17,9 +18,10 @@ impl Rules {
         n: u64,
         own: u64,
         heights: u64,
+        weights: &[u8],
         leaders: &[u8],
     ) -> Result<(), u8> {
-        let state = new_state(n, own, heights, leaders).ok_or(refusal::OUT_OF_RANGE)?;
+        let state = new_state(n, own, heights, weights, leaders).ok_or(refusal::OUT_OF_RANGE)?;
         let bytes = state.encode();
         if bytes.len() != book.len() {
             return Err(refusal::UNSOUND);
@@ -30,7 +32,8 @@ impl Rules {
 }
 
 /// The state that a replica begins with, if all arguments are in range.
-fn new_state(n: u64, own: u64, heights: u64, leaders: &[u8]) -> Option<State> {
+fn new_state(n: u64, own: u64, heights: u64, weights: &[u8], leaders: &[u8]) -> Option<State> {
+    let weights = weights::opened(n, weights)?;
     let in_range = (1..=MOST_REPLICAS).contains(&n)
         && own < n
         && (1..=MOST_HEIGHTS).contains(&heights)
@@ -43,6 +46,8 @@ fn new_state(n: u64, own: u64, heights: u64, leaders: &[u8]) -> Option<State> {
         current: 1,
         finalized: 0,
         pending_count: 0,
+        edition: WEIGHED_EDITION,
+        weights,
         pending: [[0; ENTRY]; PLACES],
         slots: leaders.iter().map(|&leader| new_slot(leader)).collect(),
     })

@@ -1,9 +1,11 @@
 //! Masks: sets of replicas, one bit for each.
 
-/// Whether the members of a mask are at least two thirds of n replicas.
-pub fn is_quorum(mask: u16, n: u8) -> bool {
-    let members = mask.count_ones();
-    members.saturating_mul(3) >= u32::from(n).saturating_mul(2)
+/// Whether the members of a mask weigh at least two thirds of all; the weights are one for each replica from 0 up.
+pub fn is_quorum(mask: u16, weights: &[u16]) -> bool {
+    let members = (0..).zip(weights).filter(|&(replica, _)| mask & only(replica) != 0);
+    let held: u32 = members.map(|(_, &weight)| u32::from(weight)).sum();
+    let total: u32 = weights.iter().map(|&weight| u32::from(weight)).sum();
+    held.saturating_mul(3) >= total.saturating_mul(2)
 }
 
 /// Whether every member of a mask is one of n replicas.

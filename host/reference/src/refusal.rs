@@ -16,7 +16,7 @@ pub const NO_SUCH_HEIGHT: u8 = 6;
 pub const NOT_LEADER: u8 = 7;
 /// Another vote of the same signer is kept already, or another proposal at a height that is not the current one.
 pub const CONFLICT: u8 = 8;
-/// Too few signers stand in a certificate.
+/// The signers of a certificate do not weigh enough.
 pub const NO_QUORUM: u8 = 9;
 /// Another block is notarized at the height.
 pub const OTHER_BLOCK: u8 = 10;

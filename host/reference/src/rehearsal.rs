@@ -10,13 +10,15 @@ const RULES: Rules = Rules::SHA256;
 const N: u64 = 4;
 const OWN: u64 = 2;
 const HEIGHTS: Height = 3;
+/// Four weights of 1, two bytes each.
+const WEIGHTS: [u8; 8] = [1, 0, 1, 0, 1, 0, 1, 0];
 const LEADERS: [u8; 3] = [0, 1, 2];
 
 /// Delivers the frames of the input one by one, a short last one too, and moves until idle after
 /// each. What the replica writes is not delivered to it.
 pub fn rehearse(mut input: impl Read, mut output: impl Write) -> io::Result<()> {
     let mut book = vec![0; book_length(HEIGHTS)];
-    RULES.open(&mut book, N, OWN, HEIGHTS.into(), &LEADERS).map_err(refused)?;
+    RULES.open(&mut book, N, OWN, HEIGHTS.into(), &WEIGHTS, &LEADERS).map_err(refused)?;
     let mut frame = Vec::with_capacity(FRAME);
     loop {
         frame.clear();

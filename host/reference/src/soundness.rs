@@ -2,6 +2,7 @@
 
 use crate::height::Height;
 use crate::state::{Slot, State, HELD, NOTARIZED, PLACES};
+use crate::weights::{self, Weights};
 use crate::{block, quorum, refusal, Rules};
 
 /// The most heights of a book.
@@ -17,7 +18,9 @@ impl Rules {
     pub(crate) fn sound(&self, book: &[u8]) -> Result<State, u8> {
         let state = State::decode(book).ok_or(refusal::UNSOUND)?;
         let sound = head_is_sound(&state)
-            && (1..).zip(&state.slots).all(|(height, slot)| slot_is_sound(slot, height, state.n))
+            && (1..)
+                .zip(&state.slots)
+                .all(|(height, slot)| slot_is_sound(slot, height, state.n, &state.weights))
             && (state.finalized == 0 || self.chain(&state).is_finalized(state.finalized));
         sound.then_some(state).ok_or(refusal::UNSOUND)
     }
@@ -32,16 +35,17 @@ fn head_is_sound(state: &State) -> bool {
         && (1..=heights.saturating_add(1)).contains(&state.current)
         && state.flags <= ALL_FLAGS
         && usize::from(state.pending_count) <= PLACES
+        && weights::fit(state.edition, state.n, &state.weights)
 }
 
 /// Whether what the book keeps of a height is in order by itself.
-fn slot_is_sound(slot: &Slot, height: Height, n: u8) -> bool {
+fn slot_is_sound(slot: &Slot, height: Height, n: u8, weights: &Weights) -> bool {
     let masks = [slot.certificate, slot.dummies, slot.finalizes, slot.voters];
     slot.leader < n
         && masks.into_iter().all(|mask| quorum::is_within(mask, n))
         && slot.marks <= HELD | NOTARIZED
         && slot.held().is_none_or(|held| block::is_well_formed(held, height))
         && slot.notarized().is_none_or(|notarized| {
-            block::is_well_formed(notarized, height) && quorum::is_quorum(slot.certificate, n)
+            block::is_well_formed(notarized, height) && quorum::is_quorum(slot.certificate, weights)
         })
 }

@@ -5,6 +5,7 @@ use crate::entry::Entry;
 use crate::height::Height;
 use crate::quorum;
 use crate::view::{Shown, View};
+use crate::weights::Weights;
 
 /// The places for pending entries.
 pub(crate) const PLACES: usize = 32;
@@ -40,6 +41,8 @@ pub(crate) struct State {
     pub current: Height,
     pub finalized: Height,
     pub pending_count: u8,
+    pub edition: u8,
+    pub weights: Weights,
     pub pending: [Entry; PLACES],
     pub slots: Vec<Slot>,
 }
@@ -86,8 +89,8 @@ impl State {
 }
 
 impl View for State {
-    fn n(&self) -> u8 {
-        self.n
+    fn weights(&self) -> &[u16] {
+        &self.weights
     }
 
     fn heights(&self) -> Height {

@@ -5,8 +5,8 @@ use crate::height::Height;
 
 /// A state that chains can be seen in.
 pub(crate) trait View {
-    /// The number of replicas.
-    fn n(&self) -> u8;
+    /// What each replica weighs.
+    fn weights(&self) -> &[u16];
 
     /// The last height.
     fn heights(&self) -> Height;

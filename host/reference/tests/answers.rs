@@ -54,7 +54,7 @@ fn answers_sum_to_the_counts_of_the_packet() {
     let mut dice = Dice(1);
     let mut seen = [0; 3];
     for _ in 0..300 {
-        let mut book = Book::open(Rules::SHA256, 4, 2, &[0; 3]).unwrap();
+        let mut book = Book::open(Rules::SHA256, 4, 2, &[1; 4], &[0; 3]).unwrap();
         for _ in 0..4 {
             let (frames, before) = (dice.packet(), book.bytes().to_vec());
             let told = book.packet_answers(frames.as_flattened()).unwrap();
@@ -89,7 +89,7 @@ fn holds(book: &Book<Rules>, evidence: &Evidence, frame: &[u8; FRAME]) {
 
 #[test]
 fn a_packet_that_is_refused_has_no_answers() {
-    let book = Book::open(Rules::SHA256, 4, 2, &[0; 3]).unwrap();
+    let book = Book::open(Rules::SHA256, 4, 2, &[1; 4], &[0; 3]).unwrap();
     assert_eq!(book.packet_answers(&[0; 225]), Err(Refusal::UnevenPacket));
     assert_eq!(book.packet_answers(&[]), Ok(Vec::new()));
 }
@@ -99,7 +99,7 @@ fn an_observer_has_two_certificates_as_evidence() {
     let mut dice = Dice(2);
     let mut tens = 0;
     for _ in 0..1000 {
-        let mut book = ObserverBook::open(Rules::SHA256, 4, 3).unwrap();
+        let mut book = ObserverBook::open(Rules::SHA256, 4, 3, &[1; 4]).unwrap();
         let (frames, before) = (dice.packet(), book.bytes().to_vec());
         let told = book.answers(frames.iter().map(<[u8; FRAME]>::as_slice));
         assert_eq!(book.bytes(), before);

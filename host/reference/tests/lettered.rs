@@ -7,8 +7,8 @@ use reference::{is_quorum, Certificate, Move};
 fn a_to_d_quorums() {
     for (n, enough) in [(4, 3), (6, 4), (16, 11), (1, 1)] {
         let mask = |members: u32| ((1u32 << members) - 1) as u16;
-        assert!(is_quorum(mask(enough), n), "n {n}");
-        assert!(!is_quorum(mask(enough - 1), n), "n {n}");
+        assert!(is_quorum(mask(enough), &vec![1; n]), "n {n}");
+        assert!(!is_quorum(mask(enough - 1), &vec![1; n]), "n {n}");
     }
 }
 

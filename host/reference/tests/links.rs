@@ -15,7 +15,7 @@ fn notarized(book: &[u8], height: usize) -> Option<&[u8]> {
 }
 
 fn is_dummy(book: &[u8], height: usize) -> bool {
-    is_quorum(mask(book, row(height) + 4), book[0])
+    is_quorum(mask(book, row(height) + 4), &vec![1; book[0].into()])
 }
 
 /// Which heights are linked, from 0 up: each looks only at those before it.
@@ -51,8 +51,9 @@ fn the_largest_finalized_height() {
         book[3] = 0;
         assert!(is_sound(&book));
         let linked = links(&book);
-        let finalized =
-            |&height: &usize| linked[height] && is_quorum(mask(&book, row(height) + 6), book[0]);
+        let finalized = |&height: &usize| {
+            linked[height] && is_quorum(mask(&book, row(height) + 6), &vec![1; book[0].into()])
+        };
         let largest = (1..linked.len()).filter(finalized).max().unwrap_or(0);
         let (made, _) = one_move(&mut book);
         let final_made = matches!(made, Move::Final { height } if usize::from(height) == largest);

@@ -27,7 +27,9 @@ impl Network {
         let leaders: Vec<u8> = (0..LAST).map(|_| random.below(n.into()) as u8).collect();
         let book = |own: u8| {
             let mut book = random.bytes(book_length(LAST));
-            RULES.open(&mut book, n.into(), own.into(), LAST.into(), &leaders).unwrap();
+            RULES
+                .open(&mut book, n.into(), own.into(), LAST.into(), &ones(n.into()), &leaders)
+                .unwrap();
             book
         };
         let books = (0..honest).map(book).collect();
@@ -168,7 +170,7 @@ impl Network {
     }
 
     fn whisper_if_quorum(&mut self, frame: FrameBytes, mask: u16) {
-        if is_quorum(mask, self.n) {
+        if is_quorum(mask, &vec![1; self.n.into()]) {
             self.whisper(frame);
         }
     }

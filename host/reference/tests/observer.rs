@@ -35,14 +35,14 @@ fn open_2_then_1() {
     for (n, heights) in
         [(0, 1), (17, 1), (4, 0), (4, 64), (260, 1), (4, 257), (u64::MAX, 1), (4, u64::MAX)]
     {
-        assert_eq!(RULES.observer_open(&mut book, n, heights), Err(2), "{n} {heights}");
-        assert_eq!(RULES.observer_open(&mut [], n, heights), Err(2), "{n} {heights}");
+        assert_eq!(RULES.observer_open(&mut book, n, heights, &ones(n)), Err(2), "{n} {heights}");
+        assert_eq!(RULES.observer_open(&mut [], n, heights, &ones(n)), Err(2), "{n} {heights}");
     }
     for length in [0, 64, 247, 249, 432, 1456] {
-        assert_eq!(RULES.observer_open(&mut vec![0; length], 4, 1), Err(1), "{length}");
+        assert_eq!(RULES.observer_open(&mut vec![0; length], 4, 1, &ones(4)), Err(1), "{length}");
     }
     assert_eq!(book, [0x5a; 248]);
-    assert_eq!(RULES.observer_open(&mut book, 4, 1), Ok(()));
+    assert_eq!(RULES.observer_open(&mut book, 4, 1, &ones(4)), Ok(()));
 }
 
 #[test]
@@ -241,13 +241,13 @@ fn calls_of_the_other_kind_are_refused_with_1() {
     assert_eq!(RULES.size(&book), Err(1));
     assert_eq!(RULES.fetch(&book, 5, 1, &mut reply), Err(1));
     assert!(RULES.read(&book, &mut reply).is_empty());
-    assert_eq!(RULES.open(&mut book, 4, 2, 2, &[0, 1]), Err(1));
+    assert_eq!(RULES.open(&mut book, 4, 2, 2, &ones(4), &[0, 1]), Err(1));
     assert_eq!((&book, reply), (&observer, [0xaa; 448]));
     let mut book = station.clone();
     assert_eq!(RULES.observer_deliver(&mut book, &dummy_certificate(7, 1)), Err(1));
     assert_eq!(RULES.observer_move(&mut book), Err(1));
     assert_eq!(RULES.observer_size(&book), Err(1));
-    assert_eq!(RULES.observer_open(&mut book, 4, 2), Err(1));
+    assert_eq!(RULES.observer_open(&mut book, 4, 2, &ones(4)), Err(1));
     assert!(RULES.observer_read(&book, &mut reply).is_empty());
     assert_eq!(book, station);
 }

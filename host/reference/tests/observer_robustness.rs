@@ -51,7 +51,10 @@ fn try_calls(random: &mut Random, book: &mut [u8], calls: usize) -> usize {
             false => (4, 3),
         };
         let answer = match random.below(8) {
-            0 => RULES.observer_open(book, any_number(random), any_number(random)).map(|()| true),
+            0 => {
+                let (n, heights) = (any_number(random), any_number(random));
+                RULES.observer_open(book, n, heights, &ones(n)).map(|()| true)
+            }
             1..=4 => {
                 let frame = any_frame(random, n, heights);
                 RULES.observer_deliver(book, &frame).map(|answer| answer == Delivered::Fresh)

@@ -20,8 +20,8 @@ fn spoilt(mut frame: FrameBytes) -> FrameBytes {
 
 #[test]
 fn open_2_then_1() {
-    assert_eq!(RULES.open(&mut [0; 7], 4, 4, 1, &[0]), Err(2));
-    assert_eq!(RULES.open(&mut [0; 7], 4, 3, 1, &[0]), Err(1));
+    assert_eq!(RULES.open(&mut [0; 7], 4, 4, 1, &ones(4), &[0]), Err(2));
+    assert_eq!(RULES.open(&mut [0; 7], 4, 3, 1, &ones(4), &[0]), Err(1));
 }
 
 #[test]

@@ -22,7 +22,7 @@ fn no_fetch(book: &[u8], kind: u64, height: u64, length: usize) -> u8 {
 #[test]
 fn number_1_length() {
     let mut book = vec![0xee; 1455];
-    assert_eq!(RULES.open(&mut book, 4, 2, 1, &[0]), Err(1));
+    assert_eq!(RULES.open(&mut book, 4, 2, 1, &ones(4), &[0]), Err(1));
     assert_eq!(book, vec![0xee; 1455]);
     let mut book = new_book(4, 2, &[0]);
     book.pop();
@@ -57,10 +57,10 @@ fn number_2_arguments_of_open() {
         (4, 2, 1, &[4]),
     ];
     for (n, own, heights, leaders) in cases {
-        assert_eq!(RULES.open(&mut book, n, own, heights, leaders), Err(2));
+        assert_eq!(RULES.open(&mut book, n, own, heights, &ones(n), leaders), Err(2));
         assert_eq!(book, vec![0xee; 1456]);
     }
-    assert_eq!(RULES.open(&mut book, 4, 3, 1, &[3]), Ok(()));
+    assert_eq!(RULES.open(&mut book, 4, 3, 1, &ones(4), &[3]), Ok(()));
 }
 
 #[test]

@@ -55,7 +55,8 @@ fn any_call(random: &mut Random, book: &mut [u8], reply: &mut [u8]) -> bool {
             let length = if random.one_in(2) { heights % 70 } else { 3 };
             let leaders = random.bytes(length as usize);
             let (n, own) = (any_number(random), any_number(random));
-            RULES.open(book, n, own, heights, &leaders).is_err()
+            let weights = if random.one_in(4) { random.bytes(length as usize) } else { ones(n) };
+            RULES.open(book, n, own, heights, &weights, &leaders).is_err()
         }
         1 | 2 => {
             let frame = any_frame(random, book);

@@ -30,7 +30,7 @@
 //! # fn send(_: &[[u8; types::FRAME]]) {}
 //! use store::FileBook;
 //! // Over the proved replica: mavunilai::Proved in place of the reference.
-//! let new = types::Book::open(reference::Rules::SHA256, 1, 0, &[0, 0])?;
+//! let new = types::Book::open(reference::Rules::SHA256, 1, 0, &[1; 1], &[0, 0])?;
 //! FileBook::create(new, &path)?;
 //!
 //! let mut book = FileBook::open(reference::Rules::SHA256, &path)?;

@@ -55,7 +55,7 @@ fn the_scripts_have_packets_and_single_frames() {
 
 /// How many second pages of a leader fire the timer, if a script is gone through without a file.
 fn fired_by_second_pages(seed: u64) -> usize {
-    let mut book = Book::open(Rules::SHA256, 4, 2, &LEADERS).unwrap();
+    let mut book = Book::open(Rules::SHA256, 4, 2, &[1; 4], &LEADERS).unwrap();
     let mut fired = 0;
     for input in script(seed) {
         let frames = match input {
@@ -90,7 +90,7 @@ fn second_page_and_end(files: Fake, steps: usize, seed: u64) -> (bool, bool) {
     let page = |byte| Block { height: 1, entries: [[byte; 16]].into(), ..Block::default() };
     let [first, second] =
         [1, 2].map(|byte| Frame::Proposal { signer: 0, block: page(byte) }.bytes());
-    let mut new = Book::open(Rules::SHA256, 4, 2, &[0]).unwrap();
+    let mut new = Book::open(Rules::SHA256, 4, 2, &[1; 4], &[0]).unwrap();
     new.deliver(&first).unwrap();
     new.deliver(&Frame::DummyCertificate { mask: 11, height: 1 }.bytes()).unwrap();
     let mut book = FileBook::create_in(files.clone(), new, BOOK.as_ref()).unwrap();
@@ -205,7 +205,7 @@ fn a_timer_that_fires_between_two_lives() {
 /// A call that could not be committed may be, or not: the book must be opened again.
 #[test]
 fn a_failed_commit_is_not_gone_over() {
-    let new = Book::open(Rules::SHA256, 4, 2, &[0]).unwrap();
+    let new = Book::open(Rules::SHA256, 4, 2, &[1; 4], &[0]).unwrap();
     let files = Fake::default();
     let mut book = FileBook::create_in(files.clone(), new, BOOK.as_ref()).unwrap();
     files.fault(10, Fault::Refusal);
@@ -225,7 +225,8 @@ fn packet(signers: &[u8]) -> Vec<u8> {
 /// of its frames.
 #[test]
 fn a_packet_is_taken_whole_or_not_at_all() {
-    let (new, packet) = (Book::open(Rules::SHA256, 4, 2, &[0]).unwrap(), packet(&[0, 9, 1, 0, 3]));
+    let (new, packet) =
+        (Book::open(Rules::SHA256, 4, 2, &[1; 4], &[0]).unwrap(), packet(&[0, 9, 1, 0, 3]));
     let mut whole = new.clone();
     let counted = Counts { fresh: 3, known: 1, refused: 1 };
     assert_eq!(whole.deliver_packet(&packet), Ok(counted));
@@ -251,7 +252,7 @@ fn a_packet_is_taken_whole_or_not_at_all() {
 /// The steps that a call takes on a new book: as many as must go well for it to succeed.
 fn steps(call: impl Fn(&mut FileBook<Rules, Fake>) -> Result<(), Error>) -> usize {
     let succeeds = |steps: &usize| {
-        let new = Book::open(Rules::SHA256, 4, 2, &[0]).unwrap();
+        let new = Book::open(Rules::SHA256, 4, 2, &[1; 4], &[0]).unwrap();
         let files = Fake::default();
         let mut book = FileBook::create_in(files.clone(), new, BOOK.as_ref()).unwrap();
         files.fault(*steps, Fault::Process);
@@ -274,7 +275,7 @@ fn a_packet_is_one_commit() {
 fn what_is_read_is_synced() {
     let mut ends = 0;
     for steps in 0..14 {
-        let new = Book::open(Rules::SHA256, 4, 2, &[0]).unwrap();
+        let new = Book::open(Rules::SHA256, 4, 2, &[1; 4], &[0]).unwrap();
         let files = Fake::default();
         let mut book = FileBook::create_in(files.clone(), new, BOOK.as_ref()).unwrap();
         files.fault(steps, Fault::Process);

@@ -17,7 +17,7 @@ fn folder(name: &str) -> PathBuf {
 
 /// A new book: station 2 of 4, one height.
 fn new() -> Book<Rules> {
-    Book::open(Rules::SHA256, 4, 2, &[0]).unwrap()
+    Book::open(Rules::SHA256, 4, 2, &[1; 4], &[0]).unwrap()
 }
 
 /// The book in a file, with three blank votes in it, so that it can pass height 1.

@@ -22,7 +22,7 @@ fn folder(name: &str) -> PathBuf {
 
 /// The book of station 2 of 4, which leads height 1 if asked for.
 fn new(leads: bool) -> Book<Rules> {
-    Book::open(Rules::SHA256, 4, 2, if leads { &[2, 0] } else { &[0, 0] }).unwrap()
+    Book::open(Rules::SHA256, 4, 2, &[1; 4], if leads { &[2, 0] } else { &[0, 0] }).unwrap()
 }
 
 /// A page of height 1.
@@ -155,7 +155,7 @@ fn a_book_alone_shows_what_it_said() {
         };
         assert_eq!(shown, expected, "{heard:?}");
     }
-    let mut taken = Book::open(Rules::SHA256, 1, 0, &[0, 0]).unwrap();
+    let mut taken = Book::open(Rules::SHA256, 1, 0, &[1; 1], &[0, 0]).unwrap();
     let mut said = Vec::new();
     loop {
         let (made, frames) = taken.make_move().unwrap();

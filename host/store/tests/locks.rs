@@ -19,7 +19,7 @@ fn folder(name: &str) -> PathBuf {
 
 /// A new book: station 0 of 4, which leads its one height.
 fn new() -> Book<Rules> {
-    Book::open(Rules::SHA256, 4, 0, &[0]).unwrap()
+    Book::open(Rules::SHA256, 4, 0, &[1; 4], &[0]).unwrap()
 }
 
 /// This process, as a holder.
@@ -77,7 +77,7 @@ fn tell(path: &Path, holder: Holder) {
 #[test]
 fn after_two_seconds_it_is_told_who_has_it() {
     let path = folder("told").join("book");
-    let watch = ObserverBook::open(Rules::SHA256, 4, 3).unwrap();
+    let watch = ObserverBook::open(Rules::SHA256, 4, 3, &[1; 4]).unwrap();
     let (book, begun) = (FileObserver::create(watch, &path).unwrap(), Instant::now());
     let waits = std::thread::spawn(move || {
         let patience = Patience { longest: None, tell };

@@ -25,7 +25,7 @@ fn folder(name: &str) -> PathBuf {
 
 /// The book of station 2 of 4 with two heights, three blank votes for the first: it can pass, with a finalise.
 fn passable(path: &Path) -> FileBook<Rules> {
-    let mut new = Book::open(Rules::SHA256, 4, 2, &[0, 0]).unwrap();
+    let mut new = Book::open(Rules::SHA256, 4, 2, &[1; 4], &[0, 0]).unwrap();
     for signer in [0, 1, 3] {
         new.deliver(&Frame::DummyVote { signer, height: 1 }.bytes()).unwrap();
     }
@@ -52,7 +52,7 @@ const MEDDLERS: [(&str, Meddler); 6] = [
         Some(path.with_extension("moved"))
     }),
     ("rewritten", |path| {
-        let older = Book::open(Rules::SHA256, 4, 2, &[0, 0]).unwrap();
+        let older = Book::open(Rules::SHA256, 4, 2, &[1; 4], &[0, 0]).unwrap();
         fs::write(path, older.bytes()).unwrap();
         Some(path.to_path_buf())
     }),
@@ -92,7 +92,7 @@ fn so_with_an_observers_book() {
     let certificate = Frame::DummyCertificate { mask: 11, height: 1 }.bytes();
     for (name, meddler) in MEDDLERS {
         let path = folder(&format!("observer {name}")).join("book");
-        let new = ObserverBook::open(Rules::SHA256, 4, 3).unwrap();
+        let new = ObserverBook::open(Rules::SHA256, 4, 3, &[1; 4]).unwrap();
         let mut book = FileObserver::create(new, &path).unwrap();
         meddler(&path);
         let there = fs::read(&path).ok();
@@ -242,7 +242,10 @@ fn a_renaming_at_every_step_that_does_not_show() {
 
 #[test]
 fn a_removal_and_an_older_copy_at_every_step() {
-    let older = Book::open(Rules::SHA256, 4, 2, &common::script::LEADERS).unwrap().bytes().to_vec();
+    let older = Book::open(Rules::SHA256, 4, 2, &[1; 4], &common::script::LEADERS)
+        .unwrap()
+        .bytes()
+        .to_vec();
     let others = [Meddling::Remove, Meddling::Replace(older.clone()), Meddling::Rewrite(older)];
     others.iter().for_each(|meddling| meddle_at_every_step(meddling, false));
 }

@@ -15,7 +15,7 @@ const BOOK: &str = "folder/book";
 
 /// A new book over four replicas, three heights.
 fn new() -> ObserverBook<Rules> {
-    ObserverBook::open(Rules::SHA256, 4, 3).unwrap()
+    ObserverBook::open(Rules::SHA256, 4, 3, &[1; 4]).unwrap()
 }
 
 /// Certificates of three heights, each block on the one below, finalized one after another, with a vote amid them.
@@ -143,7 +143,7 @@ fn neither_kind_opens_the_others_book() {
     let folder = folder("kinds");
     let (watch, station) = (folder.join("watch"), folder.join("book"));
     FileObserver::create(new(), &watch).unwrap();
-    FileBook::create(Book::open(Rules::SHA256, 4, 2, &[0]).unwrap(), &station).unwrap();
+    FileBook::create(Book::open(Rules::SHA256, 4, 2, &[1; 4], &[0]).unwrap(), &station).unwrap();
     let wrong = [
         FileObserver::open(Rules::SHA256, &station).err(),
         FileBook::open(Rules::SHA256, &watch).err(),
@@ -158,7 +158,7 @@ fn neither_kind_opens_the_others_book() {
 fn an_observer_in_the_place_of_a_station_leaves_no_frames() {
     let path = folder("replaced").join("book");
     let mut station =
-        FileBook::create(Book::open(Rules::SHA256, 4, 0, &[0]).unwrap(), &path).unwrap();
+        FileBook::create(Book::open(Rules::SHA256, 4, 0, &[1; 4], &[0]).unwrap(), &path).unwrap();
     station.make_move().unwrap();
     assert_eq!(station.unsent().len(), 1);
     drop(station);

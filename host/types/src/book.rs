@@ -2,8 +2,8 @@
 
 use crate::refusal::Refusal;
 use crate::{
-    book_length, field, head_height, held_block, is_second_block, Area, Calls, Counts, Delivered,
-    Height, Layout, Move, BLOCK, ENTRY, FRAME,
+    book_length, field, head_height, held_block, is_second_block, weight_bytes, Area, Calls,
+    Counts, Delivered, Height, Layout, Move, Weights, BLOCK, ENTRY, FRAME,
 };
 
 /// The bytes of a book together with the replica that works on them.
@@ -17,11 +17,18 @@ pub struct Book<C> {
 pub type Written = Vec<[u8; FRAME]>;
 
 impl<C: Calls> Book<C> {
-    /// A new book for replica `own` of `n`; the leaders are one for each height.
-    pub fn open(calls: C, n: u64, own: u64, leaders: &[u8]) -> Result<Book<C>, Refusal> {
+    /// A new book for replica `own` of `n`; the weights are one for each replica, the leaders one for each height.
+    pub fn open(
+        calls: C,
+        n: u64,
+        own: u64,
+        weights: &[u16],
+        leaders: &[u8],
+    ) -> Result<Book<C>, Refusal> {
         let heights = Height::try_from(leaders.len()).unwrap_or(Height::MAX);
         let mut bytes = vec![0; book_length(heights)];
-        let opened = calls.open(&mut bytes, n, own, leaders.len() as u64, leaders);
+        let weights = weight_bytes(weights);
+        let opened = calls.open(&mut bytes, n, own, leaders.len() as u64, &weights, leaders);
         opened.map_err(Refusal::of)?;
         Ok(Book { calls, bytes })
     }
@@ -45,6 +52,11 @@ impl<C: Calls> Book<C> {
     /// The replica's own number, below n.
     pub fn own(&self) -> u8 {
         self.byte(field::OWN)
+    }
+
+    /// The weights of the replicas as read: all 1 in a book of the first edition.
+    pub fn weights(&self) -> Weights {
+        Weights::of(&self.bytes)
     }
 
     /// The number of heights, H.

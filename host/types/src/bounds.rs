@@ -17,16 +17,17 @@ pub const MOST_PENDING: u8 = 32;
 /// The bytes of the longest log: all blocks are full, and no entry repeats another.
 pub const MOST_LOG: usize = MOST_HEIGHTS as usize * MOST_ENTRIES as usize * ENTRY;
 
-/// The edition of every book.
-pub const EDITION: u8 = 1;
+/// The most that a replica weighs; the least is 1.
+pub const MOST_WEIGHT: u16 = 1_000;
+
+/// The edition of books without weights in their head: all are read as 1. It is document 01's.
+pub const FIRST_EDITION: u8 = 1;
+
+/// The edition of books with weights, which open makes; no later one is sound.
+pub const EDITION: u8 = 2;
 
 /// All flags of the current height together.
 pub const ALL_FLAGS: u8 = 15;
 
 /// The last number of the table of refusals.
 pub const LAST_REFUSAL: u8 = 16;
-
-/// The fewest of n replicas that are a quorum.
-pub fn quorum(n: u8) -> u32 {
-    u32::from(n).saturating_mul(2).div_ceil(3)
-}

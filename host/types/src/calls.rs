@@ -5,13 +5,14 @@ use crate::{Counts, Delivered, Move};
 /// A replica's calls, then those of an observer, on books of another length: a replica's call finds an observer's book
 /// not sound, and the other way round. An error is the number of a refusal; a refused call changes no byte.
 pub trait Calls {
-    /// Makes a new book: 2, 1.
+    /// Makes a new book. The weights are two bytes for each replica, the low one first ([`crate::weight_bytes`]): 2, 1.
     fn open(
         &self,
         book: &mut [u8],
         n: u64,
         own: u64,
         heights: u64,
+        weights: &[u8],
         leaders: &[u8],
     ) -> Result<(), u8>;
 
@@ -42,8 +43,14 @@ pub trait Calls {
     /// Writes a certificate of kind 5, 6 or 7 to the reply's front: 1, 4, 6, 3, 11.
     fn fetch(&self, book: &[u8], kind: u64, height: u64, reply: &mut [u8]) -> Result<(), u8>;
 
-    /// Makes a new observer's book: 2, 1.
-    fn observer_open(&self, book: &mut [u8], n: u64, heights: u64) -> Result<(), u8>;
+    /// Makes a new observer's book, with weights as [`Calls::open`] takes them: 2, 1.
+    fn observer_open(
+        &self,
+        book: &mut [u8],
+        n: u64,
+        heights: u64,
+        weights: &[u8],
+    ) -> Result<(), u8>;
 
     /// Takes a certificate into an observer's book: 1, 4, 16, 6, 5, 9, 10.
     fn observer_deliver(&self, book: &mut [u8], frame: &[u8]) -> Result<Delivered, u8>;

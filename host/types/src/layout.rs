@@ -22,8 +22,12 @@ pub mod field {
     pub const FINALIZED: usize = 5;
     /// The number of pending entries.
     pub const PENDING: usize = 6;
-    /// The edition, 1.
+    /// The edition, 1 or 2.
     pub const EDITION: usize = 7;
+    /// The weights of edition 2, two bytes for each of sixteen replicas.
+    pub const WEIGHTS: usize = 8;
+    /// The first byte of the head that both editions call zero, up to its end.
+    pub const UNUSED: usize = 40;
 }
 
 /// What the contents and the body of a height consist of.

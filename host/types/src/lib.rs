@@ -22,6 +22,7 @@ mod observer_layout;
 pub mod packing;
 pub mod refusal;
 mod second_block;
+mod weights;
 
 pub use answer::{Certificate, Counts, Delivered, Move};
 pub use block::{Block, BLOCK, BLOCK_HEIGHT, BLOCK_PARENT};
@@ -39,3 +40,4 @@ pub use observer_book::ObserverBook;
 pub use observer_layout::{is_observers, observer_book_length, ObserverArea, ObserverLayout};
 pub use refusal::Refusal;
 pub use second_block::{held_block, is_second_block};
+pub use weights::{put_first_edition, put_weights, weight_bytes, Weights};

@@ -1,7 +1,10 @@
 //! An observer's book that owns its bytes, over any implementation of the calls.
 
 use crate::refusal::Refusal;
-use crate::{field, head_height, observer_book_length, Calls, Delivered, Height, Move, ENTRY};
+use crate::{
+    field, head_height, observer_book_length, weight_bytes, Calls, Delivered, Height, Move,
+    Weights, ENTRY,
+};
 
 /// The bytes of an observer's book together with what works on them. An observer has no vote: it is given certificates,
 /// follows the log, and says nothing.
@@ -12,10 +15,16 @@ pub struct ObserverBook<C> {
 }
 
 impl<C: Calls> ObserverBook<C> {
-    /// A new book over `n` replicas and so many heights.
-    pub fn open(calls: C, n: u64, heights: Height) -> Result<ObserverBook<C>, Refusal> {
+    /// A new book over `n` replicas and so many heights; the weights are one for each replica.
+    pub fn open(
+        calls: C,
+        n: u64,
+        heights: Height,
+        weights: &[u16],
+    ) -> Result<ObserverBook<C>, Refusal> {
         let mut bytes = vec![0; observer_book_length(heights)];
-        calls.observer_open(&mut bytes, n, heights.into()).map_err(Refusal::of)?;
+        let opened = calls.observer_open(&mut bytes, n, heights.into(), &weight_bytes(weights));
+        opened.map_err(Refusal::of)?;
         Ok(ObserverBook { calls, bytes })
     }
 
@@ -33,6 +42,11 @@ impl<C: Calls> ObserverBook<C> {
     /// The number of replicas.
     pub fn n(&self) -> u8 {
         self.bytes.get(field::N).copied().unwrap_or(0)
+    }
+
+    /// The weights of the replicas as read: all 1 in a book of the first edition.
+    pub fn weights(&self) -> Weights {
+        Weights::of(&self.bytes)
     }
 
     /// The number of heights, H.

@@ -13,7 +13,7 @@ use std::fmt;
 pub enum Refusal {
     /// The bytes are no sound book; at open, their length does not fit the number of heights.
     Unsound = 1,
-    /// N, own number, number of heights or a leader is out of range.
+    /// N, own number, number of heights, a weight or a leader is out of range, or there are not n weights.
     OutOfRange = 2,
     /// The reply is too short.
     ShortReply = 3,
@@ -104,7 +104,7 @@ impl From<Refusal> for u8 {
 pub fn meaning(number: u8) -> &'static str {
     match number {
         1 => "the book is not sound, or its length does not fit the number of heights",
-        2 => "n, own number, number of heights or a leader is out of range",
+        2 => "n, own number, number of heights, a weight or a leader is out of range",
         3 => "the reply buffer is too short",
         4 => "the frame, entry or kind does not have the required form",
         5 => "a signer or a bit of the mask names no station",

@@ -6,7 +6,9 @@ macro_rules! as_reference {
         $(as_reference! { @$call })+
     };
     (@open) => {
-        as_reference! { open(book: &mut [u8], n: u64, own: u64, h: u64, leaders: &[u8]) -> Result<(), u8> }
+        as_reference! {
+            open(book: &mut [u8], n: u64, own: u64, h: u64, weights: &[u8], leaders: &[u8]) -> Result<(), u8>
+        }
     };
     (@deliver) => {
         as_reference! { deliver(book: &mut [u8], frame: &[u8]) -> Result<types::Delivered, u8> }
@@ -33,7 +35,7 @@ macro_rules! as_reference {
         as_reference! { fetch(book: &[u8], kind: u64, height: u64, reply: &mut [u8]) -> Result<(), u8> }
     };
     (@observer_open) => {
-        as_reference! { observer_open(book: &mut [u8], n: u64, heights: u64) -> Result<(), u8> }
+        as_reference! { observer_open(book: &mut [u8], n: u64, heights: u64, weights: &[u8]) -> Result<(), u8> }
     };
     (@observer_deliver) => {
         as_reference! { observer_deliver(book: &mut [u8], frame: &[u8]) -> Result<types::Delivered, u8> }

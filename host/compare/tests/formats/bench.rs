@@ -1,6 +1,7 @@
 //! A replica, the page that it is held to, and pages, frames and books made by the places of that page.
 
 use super::page::Formats;
+use exchange::equal_weights;
 use reference::sha256;
 use std::ops::Range;
 use types::{Calls, Delivered};
@@ -25,7 +26,7 @@ impl<C: Calls + Copy> Bench<'_, C> {
     /// A book opened over old bytes that are not zero.
     pub fn opened(&self, n: u64, own: u64, roll: &[u8]) -> Vec<u8> {
         let mut book = vec![0xa5; 576 + 880 * roll.len()];
-        self.calls.open(&mut book, n, own, roll.len() as u64, roll).unwrap();
+        self.calls.open(&mut book, n, own, roll.len() as u64, &equal_weights(n), roll).unwrap();
         book
     }
 

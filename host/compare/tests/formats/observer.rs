@@ -1,6 +1,7 @@
 //! An observer's book against the page: what each certificate writes, the settled height, and the zeros.
 
 use super::bench::{changed, shifted, Bench, HEIGHTS, N};
+use exchange::equal_weights;
 use std::ops::Range;
 use types::{Calls, Delivered, Move};
 
@@ -12,7 +13,7 @@ impl<C: Calls + Copy> Bench<'_, C> {
     /// A new observer's book, opened over old bytes that are not zero.
     fn observer(&self) -> Vec<u8> {
         let mut book = vec![0xa5; 64 + 184 * HEIGHTS];
-        self.calls.observer_open(&mut book, N, HEIGHTS as u64).unwrap();
+        self.calls.observer_open(&mut book, N, HEIGHTS as u64, &equal_weights(N)).unwrap();
         book
     }
 

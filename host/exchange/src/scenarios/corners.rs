@@ -3,7 +3,7 @@
 use super::parts::*;
 use super::{edges, packets, two_pages};
 use crate::{Call, Recorder};
-use types::{field, put_head_height, Calls, Frame, MOST_REPLICAS};
+use types::{field, put_head_height, Calls, Frame, Weights, MOST_REPLICAS};
 
 /// The one book of the list, opened anew in each part.
 const BOOK: &str = "book";
@@ -32,7 +32,7 @@ fn quorums<C: Calls>(to: &mut Recorder<C>) {
     to.part("For n from 1 to 16: one signer fewer than a quorum is refused, a quorum is taken");
     for n in 1..=MOST_REPLICAS {
         to.open(BOOK, n.into(), 0, &[0]);
-        let quorum = types::quorum(n);
+        let quorum = Weights::equal(n).needed();
         for count in [quorum.saturating_sub(1), quorum] {
             let mask = first_replicas(count);
             deliver(to, BOOK, &[Frame::FinalizeCertificate { mask, height: 1 }]);

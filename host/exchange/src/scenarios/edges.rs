@@ -1,7 +1,7 @@
 //! The end of the list of corners: fields that a frame does not use, lengths one byte off, the largest book.
 
 use super::parts::*;
-use crate::{Call, Recorder};
+use crate::{equal_weights, Call, Recorder};
 use types::{Calls, Frame, MOST_HEIGHTS};
 
 /// The one book of the list.
@@ -72,7 +72,8 @@ fn one_byte_more<C: Calls>(to: &mut Recorder<C>) {
     longer.push(0);
     to.give(BOOK, longer);
     to.make(Call::Size, BOOK, "");
-    to.make(Call::Open { n: 4, own: 2, heights: 1, leaders: vec![0] }, BOOK, "");
+    let weights = equal_weights(4);
+    to.make(Call::Open { n: 4, own: 2, heights: 1, weights, leaders: vec![0] }, BOOK, "");
 }
 
 fn largest_book<C: Calls>(to: &mut Recorder<C>) {

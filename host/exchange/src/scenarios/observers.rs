@@ -2,8 +2,8 @@
 
 use super::observer_chains;
 use super::parts::*;
-use crate::{Call, ObserverCall, Recorder};
-use types::{Block, Calls, Frame, Height, MOST_HEIGHTS, MOST_REPLICAS};
+use crate::{equal_weights, Call, ObserverCall, Recorder};
+use types::{Block, Calls, Frame, Height, Weights, MOST_HEIGHTS, MOST_REPLICAS};
 
 /// The book of most lines: an observer of 4 stations.
 pub const WATCH: &str = "watch";
@@ -52,7 +52,7 @@ fn opening<C: Calls>(to: &mut Recorder<C>) {
     to.part("Open: n or H out of range is 2, also where the length does not fit; a length that does not fit is 1");
     to.give(WATCH, vec![0x5a; 247]);
     let past = u64::from(MOST_HEIGHTS).saturating_add(1);
-    let open = |n, heights| ObserverCall::Open { n, heights };
+    let open = |n, heights| ObserverCall::Open { n, heights, weights: equal_weights(n) };
     for (n, heights) in [(0, 1), (17, 1), (4, 0), (4, past)] {
         to.observer(WATCH, open(n, heights));
     }
@@ -184,7 +184,7 @@ fn quorums<C: Calls>(to: &mut Recorder<C>) {
     to.part("For n from 1 to 16: one signer fewer than a quorum is 9, a quorum is taken");
     for n in 1..=MOST_REPLICAS {
         to.open_observer(WATCH, n.into(), 1);
-        let quorum = types::quorum(n);
+        let quorum = Weights::equal(n).needed();
         for count in [quorum.saturating_sub(1), quorum] {
             observe(to, WATCH, &[blank(first_replicas(count), 1)]);
         }
@@ -203,13 +203,15 @@ fn other_kind<C: Calls>(to: &mut Recorder<C>) {
     to.make(Call::Size, WATCH, "");
     to.make(Call::Read, WATCH, REPLY);
     to.make(Call::Fetch { kind: 6, height: 1 }, WATCH, REPLY);
-    to.make(Call::Open { n: 4, own: 0, heights: 1, leaders: vec![0] }, WATCH, "");
+    let (n, heights, weights) = (4, 1, equal_weights(4));
+    let open = ObserverCall::Open { n, heights, weights: weights.clone() };
+    to.make(Call::Open { n, own: 0, heights, weights, leaders: vec![0] }, WATCH, "");
     to.part("An observer's calls find a station's book not sound, and read it as empty");
     to.open("book", 4, 2, &[0]);
     observe(to, "book", &[blank(7, 1), Frame::DummyVote { signer: 0, height: 1 }]);
     to.observer("book", ObserverCall::Move);
     to.observer("book", ObserverCall::Size);
     to.make(Call::Observer(ObserverCall::Read), "book", REPLY);
-    to.observer("book", ObserverCall::Open { n: 4, heights: 1 });
+    to.observer("book", open);
     to.make(Call::Size, "book", "");
 }

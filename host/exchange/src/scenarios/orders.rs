@@ -1,7 +1,7 @@
 //! The list of orders: calls that are wrong in two ways, and books that break one rule of soundness each.
 
 use super::parts::*;
-use crate::{Call, Recorder};
+use crate::{equal_weights, Call, Recorder};
 use types::{field, Area, Calls, Frame, Layout};
 
 /// The one book of the list.
@@ -64,8 +64,10 @@ fn fetches<C: Calls>(to: &mut Recorder<C>) {
 fn other_calls<C: Calls>(to: &mut Recorder<C>) {
     to.part("Open: 2 before 1. Submit: 4, then 13 before 12. Move: 1 before 3");
     let leaders = vec![0, 0];
-    to.make(Call::Open { n: 4, own: 4, heights: 2, leaders: leaders.clone() }, BOOK, "");
-    to.make(Call::Open { n: 4, own: 2, heights: 2, leaders }, BOOK, "");
+    for own in [4, 2] {
+        let (weights, leaders) = (equal_weights(4), leaders.clone());
+        to.make(Call::Open { n: 4, own, heights: 2, weights, leaders }, BOOK, "");
+    }
     for number in 1..=32 {
         submit(to, BOOK, numbered(number));
     }

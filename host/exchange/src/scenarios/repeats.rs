@@ -58,8 +58,8 @@ pub fn pages(carried: &[Vec<Entry>]) -> Vec<Block> {
 
 /// A station and an observer that got the same certificates and have settled what they could.
 fn both<C: Calls>(to: &mut Recorder<C>, heights: Height, frames: &[Frame]) {
-    let station = Book::open(Rules::SHA256, 4, 2, &vec![0; heights.into()]);
-    let observer = ObserverBook::open(Rules::SHA256, 4, heights);
+    let station = Book::open(Rules::SHA256, 4, 2, &[1; 4], &vec![0; heights.into()]);
+    let observer = ObserverBook::open(Rules::SHA256, 4, heights, &[1; 4]);
     let (Ok(mut station), Ok(mut observer)) = (station, observer) else { return };
     for frame in frames {
         _ = station.deliver(&frame.bytes());

@@ -3,35 +3,35 @@
 use super::state::{observer_book_length, Observed, ObserverState};
 use crate::block::BLOCK;
 use crate::view::View;
-
-/// The number in byte 7 of every book.
-const EDITION: u8 = 1;
+use crate::weights;
 
 /// The lengths of the book's parts.
 const HEAD: usize = 64;
 const ROW: usize = 8;
 
 impl ObserverState {
-    /// The state in these bytes, if the length and the edition are right and all that must be zero is zero: writing the
-    /// state again gives the same bytes. Own number, flags, current height and pending count are among the zeros.
+    /// The state in these bytes, if the length is right and all that must be zero in a book of this edition is zero:
+    /// writing the state again gives the same bytes. Own number, flags, current height and pending count are among the
+    /// zeros.
     pub fn decode(book: &[u8]) -> Option<ObserverState> {
         let (head, rest) = book.split_first_chunk::<HEAD>()?;
-        let [n, _, heights, _, _, finalized, ..] = *head;
+        let [n, _, heights, _, _, finalized, _, edition, ..] = *head;
         if book.len() != observer_book_length(heights) {
             return None;
         }
         let (rows, blocks) = rest.split_at_checked(ROW.checked_mul(usize::from(heights))?)?;
         let both = rows.as_chunks::<ROW>().0.iter().zip(blocks.as_chunks::<BLOCK>().0);
         let slots = both.map(|(row, block)| Observed::decode(row, block)).collect::<Option<_>>()?;
-        let state = ObserverState { n, finalized, slots };
+        let weights = weights::decode(head, n, edition)?;
+        let state = ObserverState { n, finalized, edition, weights, slots };
         (state.encode() == book).then_some(state)
     }
 
     /// The bytes of the state.
     pub fn encode(&self) -> Vec<u8> {
         let mut book = Vec::with_capacity(observer_book_length(self.heights()));
-        book.extend([self.n, 0, self.heights(), 0, 0, self.finalized, 0, EDITION]);
-        book.resize(HEAD, 0);
+        book.extend([self.n, 0, self.heights(), 0, 0, self.finalized, 0, self.edition]);
+        book.extend(weights::encode(&self.weights, self.edition));
         self.slots.iter().for_each(|slot| book.extend(slot.encode_row()));
         self.slots.iter().for_each(|slot| book.extend(slot.block));
         book

@@ -5,12 +5,15 @@ use crate::block;
 use crate::entry::ENTRY;
 use crate::height::Height;
 use crate::Rules;
+use types::Weights;
 
 /// What a sound observer's book says as a whole.
 #[derive(Clone, Debug)]
 pub struct ObserverInspection {
     /// The number of replicas.
     pub n: u8,
+    /// What each replica weighs.
+    pub weights: Weights,
     /// The finalized height.
     pub finalized: Height,
     /// The largest height that the book shows as finalized: that to which a move goes.
@@ -50,6 +53,7 @@ pub fn inspect_observer(book: &[u8]) -> Result<ObserverInspection, u8> {
     };
     Ok(ObserverInspection {
         n: state.n,
+        weights: Weights::of(book),
         finalized: state.finalized,
         largest: chain.largest_finalized(),
         carried: chain.entries(state.finalized).into_iter().copied().collect(),

@@ -4,6 +4,7 @@ use crate::block::Block;
 use crate::height::Height;
 use crate::state::NOTARIZED;
 use crate::view::{Shown, View};
+use crate::weights::Weights;
 
 /// The length in bytes of an observer's book with this many heights.
 pub fn observer_book_length(heights: Height) -> usize {
@@ -15,6 +16,8 @@ pub fn observer_book_length(heights: Height) -> usize {
 pub(crate) struct ObserverState {
     pub n: u8,
     pub finalized: Height,
+    pub edition: u8,
+    pub weights: Weights,
     pub slots: Vec<Observed>,
 }
 
@@ -37,8 +40,8 @@ impl ObserverState {
 }
 
 impl View for ObserverState {
-    fn n(&self) -> u8 {
-        self.n
+    fn weights(&self) -> &[u16] {
+        &self.weights
     }
 
     fn heights(&self) -> Height {

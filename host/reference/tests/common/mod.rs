@@ -24,10 +24,15 @@ pub const FINALIZED: usize = 5;
 pub const PENDING: usize = 64;
 pub const CONTENTS: usize = 576;
 
+/// The bytes of a weight of 1 for each of n replicas, of a few hundred at most.
+pub fn ones(n: u64) -> Vec<u8> {
+    [1, 0].repeat(n.min(300) as usize)
+}
+
 /// A new book.
 pub fn new_book(n: u64, own: u64, leaders: &[u8]) -> Vec<u8> {
     let mut book = vec![0xee; book_length(leaders.len() as Height)];
-    RULES.open(&mut book, n, own, leaders.len() as u64, leaders).unwrap();
+    RULES.open(&mut book, n, own, leaders.len() as u64, &ones(n), leaders).unwrap();
     book
 }
 

@@ -1,12 +1,12 @@
 //! Observers' books for the tests: where their bytes are, and their calls in short.
 
-use super::{FrameBytes, Height, RULES};
+use super::{ones, FrameBytes, Height, RULES};
 use reference::{observer_book_length, Delivered, Move};
 
 /// A new observer's book.
 pub fn new_observer(n: u64, heights: Height) -> Vec<u8> {
     let mut book = vec![0xee; observer_book_length(heights)];
-    RULES.observer_open(&mut book, n, heights.into()).unwrap();
+    RULES.observer_open(&mut book, n, heights.into(), &ones(n)).unwrap();
     book
 }
 

@@ -46,7 +46,7 @@ pub struct Station {
 impl Station {
     /// A station with a new book that is synced.
     pub fn new(files: Fake, script: Vec<Input>, way: Way) -> Station {
-        let new = Book::open(Rules::SHA256, 4, 2, &LEADERS).unwrap();
+        let new = Book::open(Rules::SHA256, 4, 2, &[1; 4], &LEADERS).unwrap();
         FileBook::create_in(files.clone(), new, Path::new(BOOK)).unwrap();
         let (said, broken) = (Vec::new(), None);
         let (path, meddled) = (BOOK, false);
