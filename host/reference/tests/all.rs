@@ -22,6 +22,9 @@ mod repeats;
 mod robustness;
 mod sha256;
 mod soundness;
+mod weights;
+mod weights_in_books;
+mod weights_in_quorums;
 
 /// No file of tests is forgotten here.
 #[test]

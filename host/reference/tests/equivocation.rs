@@ -101,7 +101,7 @@ fn what_comes_before_it_is_refused_as_ever() {
     changes_nothing(&mut book, &spoilt, Err(4));
     changes_nothing(&mut book, &proposal(4, &page(1, 2)), Err(5));
     changes_nothing(&mut book, &proposal(1, &page(1, 2)), Err(7));
-    book[UNUSED] = 1;
+    book[63] = 1;
     changes_nothing(&mut book, &proposal(0, &page(1, 2)), Err(1));
 }
 

@@ -15,7 +15,7 @@ fn notarized(book: &[u8], height: usize) -> Option<&[u8]> {
 }
 
 fn is_dummy(book: &[u8], height: usize) -> bool {
-    is_quorum(mask(book, row(height) + 4), &vec![1; book[0].into()])
+    is_quorum(mask(book, row(height) + 4), &weights_of(book))
 }
 
 /// Which heights are linked, from 0 up: each looks only at those before it.
@@ -52,7 +52,7 @@ fn the_largest_finalized_height() {
         assert!(is_sound(&book));
         let linked = links(&book);
         let finalized = |&height: &usize| {
-            linked[height] && is_quorum(mask(&book, row(height) + 6), &vec![1; book[0].into()])
+            linked[height] && is_quorum(mask(&book, row(height) + 6), &weights_of(&book))
         };
         let largest = (1..linked.len()).filter(finalized).max().unwrap_or(0);
         let (made, _) = one_move(&mut book);

@@ -2,7 +2,7 @@
 
 use crate::common::random::Random;
 use crate::common::*;
-use reference::{book_length, is_quorum, Move};
+use reference::{is_quorum, Move};
 
 const LAST: Height = 12;
 
@@ -10,6 +10,7 @@ const LAST: Height = 12;
 struct Network {
     random: Random,
     n: u8,
+    weights: Vec<u16>,
     honest: u8,
     leaders: Vec<u8>,
     books: Vec<Vec<u8>>,
@@ -22,20 +23,26 @@ struct Network {
 }
 
 impl Network {
-    fn new(seed: u64, n: u8, honest: u8) -> Network {
+    /// The first replicas are honest; one in two networks of equal weights has a book of edition 1.
+    fn new(seed: u64, weights: &[u16], honest: u8) -> Network {
         let mut random = Random::new(seed);
+        let n = weights.len() as u8;
         let leaders: Vec<u8> = (0..LAST).map(|_| random.below(n.into()) as u8).collect();
+        let equal = weights.iter().all(|&weight| weight == 1);
         let book = |own: u8| {
-            let mut book = random.bytes(book_length(LAST));
-            RULES
-                .open(&mut book, n.into(), own.into(), LAST.into(), &ones(n.into()), &leaders)
-                .unwrap();
-            book
+            let book = weighed_book(weights, own.into(), &leaders);
+            let first = equal && own == 0 && seed.is_multiple_of(2);
+            if first {
+                first_edition(&book)
+            } else {
+                book
+            }
         };
         let books = (0..honest).map(book).collect();
         let logs = vec![Vec::new(); honest.into()];
         let (wire, spoken, blocks) = (Vec::new(), Vec::new(), Vec::new());
-        Network { random, n, honest, leaders, books, logs, wire, spoken, blocks, fired: 0 }
+        let weights = weights.to_vec();
+        Network { random, n, weights, honest, leaders, books, logs, wire, spoken, blocks, fired: 0 }
     }
 
     fn any_honest(&mut self) -> usize {
@@ -170,7 +177,7 @@ impl Network {
     }
 
     fn whisper_if_quorum(&mut self, frame: FrameBytes, mask: u16) {
-        if is_quorum(mask, &vec![1; self.n.into()]) {
+        if is_quorum(mask, &self.weights) {
             self.whisper(frame);
         }
     }
@@ -209,12 +216,14 @@ impl Network {
     }
 }
 
-/// Runs a few networks; returns the lengths of all logs at the end. Timers are fired by two proposals of one leader
+/// Runs a few networks of these weights, whose last replicas are dishonest; returns the lengths of all logs at the end. Timers are fired by two proposals of one leader
 /// where a replica is dishonest, and nowhere else.
-fn run(n: u8, honest: u8, seeds: std::ops::Range<u64>, events: usize) -> Vec<usize> {
+fn run(weights: &[u16], honest: u8, seeds: std::ops::Range<u64>, events: usize) -> Vec<usize> {
+    let dishonest: u16 = weights[honest.into()..].iter().sum();
+    assert!(3 * dishonest < weights.iter().sum());
     let (mut lengths, mut fired) = (Vec::new(), 0);
     for seed in seeds {
-        let mut network = Network::new(seed, n, honest);
+        let mut network = Network::new(seed, weights, honest);
         for event in 0..events {
             network.event();
             if event % 100 == 99 {
@@ -225,27 +234,41 @@ fn run(n: u8, honest: u8, seeds: std::ops::Range<u64>, events: usize) -> Vec<usi
         lengths.extend(network.logs.iter().map(Vec::len));
         fired += network.fired;
     }
-    assert_eq!(fired > 0, honest < n, "{fired}");
+    assert_eq!(fired > 0, usize::from(honest) < weights.len(), "{fired}");
     lengths
 }
 
 #[test]
 fn four_with_one_equivocating() {
-    let lengths = run(4, 3, 1..41, 3000);
+    let lengths = run(&[1; 4], 3, 1..41, 3000);
     let some = lengths.iter().filter(|&&length| length > 0).count();
     assert!(some > lengths.len() / 2, "{lengths:?}");
 }
 
 #[test]
 fn seven_with_two_equivocating() {
-    let lengths = run(7, 5, 1..9, 6000);
+    let lengths = run(&[1; 7], 5, 1..9, 6000);
     assert!(lengths.iter().any(|&length| length > 0), "{lengths:?}");
 }
 
 #[test]
 fn all_honest_or_alone() {
     for n in [1, 2, 4] {
-        let lengths = run(n, n, 1..9, 3000);
+        let lengths = run(&vec![1; n.into()], n, 1..9, 3000);
         assert!(lengths.iter().any(|&length| length > 0), "{lengths:?}");
     }
+}
+
+/// Half of the stations are dishonest, and weigh less than a third: two large ones and two small ones against four.
+#[test]
+fn many_small_ones_equivocating() {
+    let lengths = run(&[10, 10, 6, 4, 4, 4, 4, 2], 4, 1..13, 6000);
+    assert!(lengths.iter().any(|&length| length > 0), "{lengths:?}");
+}
+
+/// One station weighs two thirds: it goes on alone, whatever three of the others say.
+#[test]
+fn one_that_is_a_quorum_alone() {
+    let lengths = run(&[9, 1, 1, 1], 1, 1..9, 3000);
+    assert!(lengths.iter().all(|&length| length > 0), "{lengths:?}");
 }

@@ -20,11 +20,13 @@ fn lengths() {
 }
 
 #[test]
-fn a_new_book_has_n_heights_and_edition_alone() {
+fn a_new_book_has_n_heights_edition_and_weights_alone() {
     for (n, heights) in [(1, 1), (4, 3), (16, 63)] {
         let book = new_observer(n.into(), heights);
-        assert_eq!(book[..8], [n, 0, heights, 0, 0, 0, 0, 1]);
-        assert!(book[8..].iter().all(|&byte| byte == 0));
+        assert_eq!(book[..8], [n, 0, heights, 0, 0, 0, 0, 2]);
+        let (weights, rest) = book[8..].split_at(2 * usize::from(n));
+        assert_eq!(weights, ones(n.into()));
+        assert!(rest.iter().all(|&byte| byte == 0));
         assert_eq!(RULES.observer_size(&book), Ok(0));
     }
 }

@@ -105,7 +105,7 @@ fn number_15_an_uneven_length() {
 #[test]
 fn packet_1_then_15() {
     let mut book = new_book(4, 2, &[0]);
-    book[UNUSED] = 1;
+    book[63] = 1;
     for length in [0, 1, 224, 225] {
         assert_eq!(refused(&book, &dummy_vote(0, 1).repeat(2)[..length]), 1);
     }

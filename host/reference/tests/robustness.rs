@@ -17,7 +17,8 @@ fn any_number(random: &mut Random) -> u64 {
 
 /// A frame that a book of this kind may well take, or one with a few bytes changed.
 fn any_frame(random: &mut Random, book: &[u8]) -> Vec<u8> {
-    let (n, heights) = (book[0].clamp(1, 16), book[HEIGHTS].clamp(1, 7));
+    let [n, heights] = [0, HEIGHTS].map(|at| book.get(at).copied().unwrap_or(0));
+    let (n, heights) = (n.clamp(1, 16), heights.clamp(1, 7));
     let (signer, height) =
         (random.below(n.into()) as u8, 1 + random.below(heights.into()) as Height);
     let fits = is_sound(book);
@@ -90,11 +91,13 @@ fn try_calls(random: &mut Random, book: &mut [u8], calls: usize) -> usize {
         let mut reply = vec![0xaa; length];
         let (before, was_sound) = (book.to_vec(), is_sound(book));
         let refused = any_call(random, book, &mut reply);
+        let opened = before.get(EDITION) != book.get(EDITION);
         if refused {
             assert_eq!(book, before);
             assert!(reply.iter().all(|&byte| byte == 0xaa));
         } else {
             assert!(is_sound(book));
+            assert!(!opened || book[EDITION] == 2);
             taken += 1;
         }
         assert!(reply.iter().skip(448).all(|&byte| byte == 0xaa));
@@ -153,7 +156,7 @@ fn random_bytes_as_frames() {
     }
 }
 
-/// Whatever a move or fetch writes is not refused for its form by any book of the same group.
+/// Whatever a move or fetch writes is not refused for its form by any book of the same n, H, roll and weights.
 #[test]
 fn written_frames_are_read() {
     let mut random = Random::new(6);
@@ -161,7 +164,7 @@ fn written_frames_are_read() {
     for _ in 0..2000 {
         let mut book = random_book(&mut random, digest);
         let leaders: Vec<u8> = (1..=book[HEIGHTS]).map(|height| book[row(height.into())]).collect();
-        let mut other = new_book(book[0].into(), 0, &leaders);
+        let mut other = weighed_book(&weights_of(&book), 0, &leaders);
         for _ in 0..6 {
             let mut reply = [0; 448];
             RULES.make_move(&mut book, &mut reply).unwrap();

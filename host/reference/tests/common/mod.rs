@@ -14,11 +14,12 @@ pub type Block = [u8; 176];
 pub type FrameBytes = [u8; 224];
 pub const ZERO: [u8; 32] = [0; 32];
 
-/// Where the head has its heights, H, the current and the finalized one, and the flags.
+/// Where the head has its heights, H, the current and the finalized one, the flags and the edition.
 pub const HEIGHTS: usize = 2;
 pub const FLAGS: usize = 3;
 pub const CURRENT: usize = 4;
 pub const FINALIZED: usize = 5;
+pub const EDITION: usize = 7;
 
 /// Where the parts of a book begin.
 pub const PENDING: usize = 64;
@@ -29,11 +30,38 @@ pub fn ones(n: u64) -> Vec<u8> {
     [1, 0].repeat(n.min(300) as usize)
 }
 
+/// The bytes of weights, the low one first.
+pub fn weight_bytes(weights: &[u16]) -> Vec<u8> {
+    weights.iter().flat_map(|weight| [*weight as u8, (weight >> 8) as u8]).collect()
+}
+
+/// The weights of a sound book as read.
+pub fn weights_of(book: &[u8]) -> Vec<u16> {
+    let at = |replica: usize| u16::from_le_bytes([book[8 + 2 * replica], book[9 + 2 * replica]]);
+    let weight = |replica| if book[EDITION] == 1 { 1 } else { at(replica) };
+    (0..book[0].into()).map(weight).collect()
+}
+
+/// The same book in edition 1, a replica's or an observer's; its replicas must all weigh 1.
+pub fn first_edition(book: &[u8]) -> Vec<u8> {
+    let mut first = book.to_vec();
+    assert_eq!((book[EDITION], weights_of(book)), (2, vec![1; book[0].into()]));
+    first[EDITION] = 1;
+    first[8..64].fill(0);
+    first
+}
+
+/// A new book of replicas of these weights.
+pub fn weighed_book(weights: &[u16], own: u64, leaders: &[u8]) -> Vec<u8> {
+    let mut book = vec![0xee; book_length(leaders.len() as Height)];
+    let (n, heights) = (weights.len() as u64, leaders.len() as u64);
+    RULES.open(&mut book, n, own, heights, &weight_bytes(weights), leaders).unwrap();
+    book
+}
+
 /// A new book.
 pub fn new_book(n: u64, own: u64, leaders: &[u8]) -> Vec<u8> {
-    let mut book = vec![0xee; book_length(leaders.len() as Height)];
-    RULES.open(&mut book, n, own, leaders.len() as u64, &ones(n), leaders).unwrap();
-    book
+    weighed_book(&vec![1; n as usize], own, leaders)
 }
 
 /// The bytes of a block that follow its heights; request 2.7 makes them their high bytes.

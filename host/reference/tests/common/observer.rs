@@ -1,12 +1,18 @@
 //! Observers' books for the tests: where their bytes are, and their calls in short.
 
-use super::{ones, FrameBytes, Height, RULES};
+use super::{weight_bytes, FrameBytes, Height, RULES};
 use reference::{observer_book_length, Delivered, Move};
 
 /// A new observer's book.
 pub fn new_observer(n: u64, heights: Height) -> Vec<u8> {
+    weighed_observer(&vec![1; n as usize], heights)
+}
+
+/// A new observer's book over replicas of these weights.
+pub fn weighed_observer(weights: &[u16], heights: Height) -> Vec<u8> {
     let mut book = vec![0xee; observer_book_length(heights)];
-    RULES.observer_open(&mut book, n, heights.into(), &ones(n)).unwrap();
+    let n = weights.len() as u64;
+    RULES.observer_open(&mut book, n, heights.into(), &weight_bytes(weights)).unwrap();
     book
 }
 

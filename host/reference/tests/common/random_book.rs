@@ -4,11 +4,15 @@ use super::random::Random;
 use super::*;
 use reference::Digest;
 
-/// A book of a few heights. Its finalized height is 0.
+/// A book of a few heights, of weights of any kind, some in edition 1. Its finalized height is 0.
 pub fn random_book(random: &mut Random, digest: Digest) -> Vec<u8> {
     let (n, heights) = (1 + random.below(16) as u8, 1 + random.below(7) as Height);
     let own = random.below(n.into()) as u64;
-    let mut book = new_book(n.into(), own, &vec![0; heights.into()]);
+    let weights = random_weights(random, n);
+    let mut book = weighed_book(&weights, own, &vec![0; heights.into()]);
+    if weights.iter().all(|&weight| weight == 1) && random.one_in(2) {
+        book = first_edition(&book);
+    }
     book[3] = random.below(16) as u8;
     book[CURRENT] = 1 + random.below(usize::from(heights) + 1) as u8;
     book[6] = random.below(33) as u8;
@@ -22,6 +26,20 @@ pub fn random_book(random: &mut Random, digest: Digest) -> Vec<u8> {
         fill_height(&mut book, random, height, digest);
     }
     book
+}
+
+/// Weights for n replicas: all 1, some large and some small, one that outweighs all others, or any.
+pub fn random_weights(random: &mut Random, n: u8) -> Vec<u16> {
+    let kind = random.below(4);
+    let large = random.below(n.into());
+    let weight = |at: usize| match kind {
+        0 => 1,
+        1 => [1, 1, 10, 100][random.below(4)],
+        2 if at == large => 1000,
+        2 => 1 + random.below(40) as u16,
+        _ => 1 + random.below(1000) as u16,
+    };
+    (0..n.into()).map(weight).collect()
 }
 
 /// One of few entries, so that repeats are common.
