@@ -8,6 +8,9 @@ use std::fmt;
 /// The first line of every list.
 pub const HEADING: &str = "mavunilai exchange 2";
 
+/// The first line of the lists before stations had weights.
+const EARLIER_HEADING: &str = "mavunilai exchange 1";
+
 /// A list of lines.
 #[derive(Clone, Debug, Default, PartialEq, Eq)]
 pub struct List {
@@ -36,8 +39,8 @@ impl List {
         let mut lines = (1..).zip(text.lines());
         match lines.next() {
             Some((_, heading)) if heading.trim() == HEADING => {}
-            _ => {
-                let sentence = format!("a list begins with the line '{HEADING}'");
+            first => {
+                let sentence = wrong_heading(first.map_or("", |(_, heading)| heading.trim()));
                 return Err(Problem { line: 1, sentence });
             }
         }
@@ -62,6 +65,18 @@ impl List {
             }
         }
         name
+    }
+}
+
+/// What is wrong with another heading.
+fn wrong_heading(heading: &str) -> String {
+    let begins = format!("a list begins with the line '{HEADING}'");
+    match heading {
+        EARLIER_HEADING => {
+            let weights = "the lines open and observer-open have the stations' weights behind H";
+            format!("{begins}; this one is older: since then {weights}")
+        }
+        _ => begins,
     }
 }
 

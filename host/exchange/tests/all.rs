@@ -6,6 +6,7 @@ mod observers;
 mod played;
 mod repeats;
 mod replay;
+mod weights;
 
 /// No file of tests is forgotten here.
 #[test]

@@ -53,7 +53,7 @@ fn each_row_answers_what_its_remark_says() {
             }
         }
     }
-    assert!(rows > 200, "{rows} rows");
+    assert!(rows > 300, "{rows} rows");
 }
 
 #[test]

@@ -157,7 +157,7 @@ fn text_comes_back() {
 #[test]
 fn files_are_small() {
     for name in scenarios::NAMES {
-        assert!(std::fs::metadata(file(name)).unwrap().len() < 64 * 1024, "{name}");
+        assert!(std::fs::metadata(file(name)).unwrap().len() < 68 * 1024, "{name}");
     }
 }
 

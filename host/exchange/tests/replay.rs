@@ -10,7 +10,7 @@ fn list(lines: &str) -> Result<List, Problem> {
 
 /// A short list with all expectations.
 fn sample() -> String {
-    let calls = "give book 5a*1456\ngive reply aa*448\nopen book 4 2 1 00\nsignal book 1\nmove book reply\nsize book";
+    let calls = "give book 5a*1456\ngive reply aa*448\nopen book 4 2 1 0100010001000100 00\nsignal book 1\nmove book reply\nsize book";
     record(&list(calls).unwrap(), &Rules::SHA256).unwrap().to_string()
 }
 
@@ -58,7 +58,10 @@ fn other_bytes_are_found() {
 fn a_list_in_full_has_bytes_and_replays() {
     let text = full_sample();
     assert_eq!(problem(&text), None);
-    assert!(text.contains("\nsignal book 1 == done 0402010101000001+00*1448\n"), "{text}");
+    assert!(
+        text.contains("\nsignal book 1 == done 040201010100000201000100010001+00*1441\n"),
+        "{text}"
+    );
     assert!(text.contains(" == dummy 1 04020103") && text.contains(" 030201+00*221+aa*224\n"));
     let list = List::parse(&text).unwrap();
     assert_eq!(list.to_string(), text);
@@ -120,14 +123,18 @@ fn every_digit_of_the_digests_counts() {
 #[test]
 fn bad_lists_get_a_sentence() {
     assert!(problem("").is_some());
-    assert!(problem("mavunilai exchange 2\n").is_some());
+    assert!(problem("mavunilai exchange 3\n").is_some());
     let zeros = "0".repeat(64);
     let with_two = format!("size book = size 0 {zeros} {zeros}");
     let without_third = format!("packet book - = counts 0 0 {zeros}");
     for line in [
-        "opne book 4 2 1 00",
+        "opne book 4 2 1 0100 00",
         "open book 4 2 1",
-        "open book 4 2 x 00",
+        "open book 4 2 1 00",
+        "open book 4 2 x 0100 00",
+        "open book 4 2 1 010 00",
+        "observer-open book 4 1",
+        "observer-open book 4 1 x",
         "signal book -1",
         "signal book 18446744073709551616",
         "deliver book 0",
@@ -156,4 +163,14 @@ fn bad_lists_get_a_sentence() {
             "{line} {found:?}"
         );
     }
+}
+
+/// A list from before stations had weights says so in its heading, and is told what changed.
+#[test]
+fn an_older_list_is_told_what_changed() {
+    let older = problem("mavunilai exchange 1\ngive book 00*1456\nopen book 4 2 1 00\n").unwrap();
+    let newer = format!("line 1: a list begins with the line '{HEADING}'");
+    assert!(older.starts_with(&newer) && older.contains("weights behind H"), "{older}");
+    assert_eq!(problem("mavunilai exchange 3\n"), Some(newer.clone()));
+    assert_eq!(problem(""), Some(newer));
 }

@@ -3,6 +3,7 @@
 mod books;
 mod corners;
 mod edges;
+mod editions;
 mod moves;
 mod observer_books;
 mod observer_chains;
@@ -17,7 +18,9 @@ mod repeats_pool;
 mod season;
 mod tallies;
 mod two_pages;
+mod unequal;
 mod vectors;
+mod weights;
 
 use crate::{List, Recorder};
 use types::Calls;
@@ -25,7 +28,7 @@ use types::Calls;
 pub use vectors::vectors;
 
 /// The names of the lists; each is a file of the folder with `.txt` behind it.
-pub const NAMES: [&str; 10] = [
+pub const NAMES: [&str; 13] = [
     "refusals",
     "orders",
     "moves",
@@ -36,6 +39,9 @@ pub const NAMES: [&str; 10] = [
     "season",
     "books",
     "observers",
+    "weights",
+    "editions",
+    "unequal",
 ];
 
 /// Records a list by its name.
@@ -52,6 +58,9 @@ pub fn record(name: &str, calls: impl Calls) -> Option<List> {
         "season" => season::run(&mut to),
         "books" => books::run(&mut to),
         "observers" => observers::run(&mut to),
+        "weights" => weights::run(&mut to),
+        "editions" => editions::run(&mut to),
+        "unequal" => unequal::run(&mut to),
         _ => return None,
     }
     Some(to.into_list())

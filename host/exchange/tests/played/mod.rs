@@ -16,11 +16,12 @@ pub fn list(name: &str) -> List {
     List::parse(&text).unwrap_or_else(|problem| panic!("{name}: {problem}"))
 }
 
-/// A call of a list: the name of its book, the book and the second buffer before it, that buffer after it, the answer.
+/// A call of a list: the name of its book, the book and the second buffer before it and after it, the answer.
 pub struct Played {
     pub call: Call,
     pub name: String,
     pub book: Vec<u8>,
+    pub left: Vec<u8>,
     pub before: Vec<u8>,
     pub after: Vec<u8>,
     pub answer: Answer,
@@ -38,8 +39,9 @@ pub fn played(list: &List) -> Vec<Played> {
                     |stage: &Stage| stage.bytes(buffer).map(<[u8]>::to_vec).unwrap_or_default();
                 let (book, before) = (stage.bytes(name).unwrap().to_vec(), lent(&stage));
                 let answer = stage.make(&Rules::SHA256, call, name, buffer).unwrap().answer;
+                let left = stage.bytes(name).unwrap().to_vec();
                 let (call, name, after) = (call.clone(), name.clone(), lent(&stage));
-                found.push(Played { call, name, book, before, after, answer });
+                found.push(Played { call, name, book, left, before, after, answer });
             }
         }
     }
