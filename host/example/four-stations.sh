@@ -15,7 +15,7 @@ registers. The books are kept in FOLDER, which is made and must be new; without 
                      and three small ones
 
 The command `mavunilai` is built first, with cargo, unless the variable MAVUNILAI names one that is ready.
-Status 0: the same entries in all registers; 1: not so; 2: bad usage, or no command.
+Status 0: the same entries in all registers; 1: not so; 2: bad usage, or no command; 3: weights out of range.
 END
 }
 

@@ -6,12 +6,12 @@ use common::{fine, folder, list, refused, run, Ended};
 
 /// A timer fires at station 2 of 4, and it moves.
 const CALLS: &str = "\
-mavunilai exchange 1
+mavunilai exchange 2
 
 # The timer fires
 give book 5a*1456
 give reply aa*448
-open book 4 2 1 00
+open book 4 2 1 0100010001000100 00
 signal book 1
 move book reply
 ";
