@@ -150,9 +150,13 @@ fn weights_are_read_from_the_head() {
         let mut older = station.bytes().to_vec();
         types::put_first_edition(&mut older);
         assert!(Book::from_bytes(reference::Rules::SHA256, older.clone()).is_ok());
-        [station.bytes(), observer.bytes(), &older].map(|book| input.extend(&book[..64]));
+        for book in [station.bytes(), observer.bytes(), &older] {
+            input.extend(&book[..64]);
+        }
         let ones = vec![1; weights.len()];
-        [&weights, &weights, &ones].map(|weights| expected.extend(weighed(weights)));
+        for weights in [&weights, &weights, &ones] {
+            expected.extend(weighed(weights));
+        }
     }
     let program = word("mavunilai/tests/c/weighing.c");
     let words = [&watched()[..], &[&program]].concat();
