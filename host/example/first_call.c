@@ -1,4 +1,4 @@
-/* A first call from C: a book for station 2 of 4, three blank votes, and the moves that follow.
+/* A first call from C: a book for station 2 of 4, which weigh the same, three blank votes, and the moves that follow.
  *
  * From the repository's root, once target/staticlib/libreplica_c.a is there:
  *   cc -Ihost/include host/example/first_call.c target/staticlib/libreplica_c.a -o first_call && ./first_call
@@ -8,6 +8,7 @@
 
 #include "mavunilai.h"
 
+#define STATIONS 4
 #define HEIGHTS 3
 
 /* Says why a call was refused; 1 if it was, else 0. */
@@ -50,9 +51,11 @@ static int move_until_idle(uint8_t *book) {
 
 /* Opens the book and makes the calls; 0 if all were taken. */
 static int run(uint8_t *book) {
+    static const uint8_t weights[MAVUNILAI_WEIGHTS(STATIONS)] = {1, 0, 1, 0, 1, 0, 1, 0}; /* the low byte first */
     static const uint8_t roll[HEIGHTS] = {0, 1, 2};
     uint8_t signer;
-    if (is_refused("open", mavunilai_open(book, MAVUNILAI_BOOK(HEIGHTS), 4, 2, HEIGHTS, roll, sizeof roll))) {
+    if (is_refused("open", mavunilai_open(book, MAVUNILAI_BOOK(HEIGHTS), STATIONS, 2, HEIGHTS, weights, sizeof weights,
+                                          roll, sizeof roll))) {
         return 1;
     }
     for (signer = 0; signer < 3; signer++) {

@@ -1,5 +1,5 @@
 #!/usr/bin/env python3
-"""A first call from Python: a book for station 2 of 4, three blank votes, and the moves that follow.
+"""A first call from Python: a book for station 2 of 4, all of weight 1, three blank votes, and the moves that follow.
 
 host/install PREFIX puts the shared object there; then: python3 host/example/first_call.py PREFIX/lib/libmavunilai.so
 """
@@ -29,10 +29,11 @@ def taken(number):
     return rest
 
 
-if call("interface") != 5:
+if call("interface") != 6:
     sys.exit("the library is of another interface than this program")
 book, reply = ctypes.create_string_buffer(576 + 880 * 3), ctypes.create_string_buffer(448)
-taken(call("open", book, 4, 2, 3, bytes([0, 1, 2])))
+weights, roll = bytes([1, 0] * 4), bytes([0, 1, 2])  # of a weight the low byte first
+taken(call("open", book, 4, 2, 3, weights, roll))
 for signer in range(3):
     fresh, *_ = taken(call("deliver", book, bytes([3, signer, 1]).ljust(224, b"\0")))
     print(f"blank vote of {signer}: {'fresh' if fresh else 'known'}")

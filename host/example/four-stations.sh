@@ -5,25 +5,28 @@ set -eu -o pipefail
 
 usage() {
     cat <<'END'
-usage: host/example/four-stations.sh [--proved] [FOLDER]
+usage: host/example/four-stations.sh [--proved] [--weights=W,W,W,W] [FOLDER]
 
 Four stations file an entry each, agree on the order, and an observer follows them. Shows every move and then all five
 registers. The books are kept in FOLDER, which is made and must be new; without it nothing stays.
 
-  --proved   on the proved replica, and not on the reference; needs the static library (docs/PARTNERS.md)
+  --proved           on the proved replica, and not on the reference; needs the static library (docs/PARTNERS.md)
+  --weights=W,W,W,W  what each station weighs, 1 to 1000; 1,1,1,1 where it is not given. Try 10,1,1,1: a large partner
+                     and three small ones
 
 The command `mavunilai` is built first, with cargo, unless the variable MAVUNILAI names one that is ready.
-Status 0: the same entries in all registers; 1: not so; 2: bad usage, or no command.
+Status 0: the same entries in all registers; 1: not so; 2: bad usage, or no command; 3: weights out of range.
 END
 }
 
 say() { printf 'four-stations: %s\n' "$2" >&2; exit "$1"; }
 
-folder='' features=''
+folder='' features='' weights=1,1,1,1
 for word in "$@"; do
     case $word in
     --help | -h) usage; exit 0 ;;
     --proved) features=proved ;;
+    --weights=*) weights=${word#--weights=} ;;
     -*) say 2 "no option '$word'; see --help" ;;
     *) [ -z "$folder" ] || say 2 "one FOLDER, not two: '$folder' and '$word'"; folder=$word ;;
     esac
@@ -59,11 +62,11 @@ hand_on() {
 mavunilai --version
 entries=("swap A12 to B40" "seed lot 7 to 3" "undo A12 to B40" "plot C7 fallow")
 for station in 0 1 2 3; do
-    mavunilai open "station$station" --n 4 --own "$station" --roll 0,1,2,3
+    mavunilai open "station$station" --n 4 --own "$station" --weights "$weights" --roll 0,1,2,3
     mavunilai call "station$station" submit "${entries[station]}" > /dev/null
     echo "station $station files: ${entries[station]}"
 done
-mavunilai observer watch open --n 4 --heights 4
+mavunilai observer watch open --n 4 --heights 4 --weights "$weights"
 
 # ---- round and round until nobody has anything to say
 echo begun > moves

@@ -11,10 +11,10 @@
  *
  * The same messages, in Rust: host/example/src/main.rs, which keeps its book by host/store. That crate also remembers
  * what the station has said, against an older copy that is put back; this one does not. From the repository's root,
- * once target/staticlib/libreplica_c.a is there; station 0 of 4, with a delta of half a second:
+ * once target/staticlib/libreplica_c.a is there; station 0 of 4, which weigh the same, with a delta of half a second:
  *
  *   cc -Ihost/include host/example/host.c target/staticlib/libreplica_c.a -o host
- *   ./host BOOK 4 0 0,1,2,3 500 EVIDENCE
+ *   ./host BOOK 4 0 1,1,1,1 0,1,2,3 500 EVIDENCE
  *
  * BOOK is made where it is not there; else the station goes on with it, whatever ended it before. */
 #define _DEFAULT_SOURCE /* flock */
@@ -432,27 +432,44 @@ static void name_files(const char *name, const char *evidence) {
     strcpy(folder_name, dirname(copy));
 }
 
-/* Makes a new book in a file that is not there. */
-static void make_book(unsigned long n, unsigned long own, const char *roll) {
-    uint8_t leaders[MAVUNILAI_MOST_HEIGHTS];
-    size_t heights = 0;
-    unsigned refusal;
+/* Reads numbers with commas between them, at most so many, and gives how many there are. One that is too large for two
+ * bytes becomes the largest: nothing that is opened takes it. */
+static size_t read_numbers(const char *list, uint16_t *numbers, size_t most) {
+    size_t count = 0;
     char *end = NULL;
-    for (; roll != NULL && heights < sizeof leaders; roll = *end == ',' ? end + 1 : NULL) {
-        unsigned long leader = strtoul(roll, &end, 10);
-        leaders[heights++] = leader < MAVUNILAI_MOST_STATIONS ? (uint8_t)leader : (uint8_t)MAVUNILAI_NO_STATION;
+    for (; list != NULL && count < most; list = *end == ',' ? end + 1 : NULL) {
+        unsigned long number = strtoul(list, &end, 10);
+        numbers[count++] = number < UINT16_MAX ? (uint16_t)number : (uint16_t)UINT16_MAX;
+    }
+    if (list != NULL) {
+        die(mavunilai_refusal_text(MAVUNILAI_REFUSED_OUT_OF_RANGE));
+    }
+    return count;
+}
+
+/* Makes a new book in a file that is not there. */
+static void make_book(unsigned long n, unsigned long own, const char *weight_list, const char *roll) {
+    uint8_t weights[MAVUNILAI_WEIGHTS(MAVUNILAI_MOST_STATIONS)], leaders[MAVUNILAI_MOST_HEIGHTS];
+    uint16_t numbers[MAVUNILAI_MOST_HEIGHTS];
+    size_t stations = read_numbers(weight_list, numbers, MAVUNILAI_MOST_STATIONS), heights, at;
+    unsigned refusal;
+    mavunilai_make_weights(weights, numbers, stations);
+    heights = read_numbers(roll, numbers, MAVUNILAI_MOST_HEIGHTS);
+    for (at = 0; at < heights; at++) {
+        leaders[at] = (uint8_t)(numbers[at] < MAVUNILAI_MOST_STATIONS ? numbers[at] : MAVUNILAI_NO_STATION);
     }
     book_length = MAVUNILAI_BOOK(heights);
-    refusal = mavunilai_refusal(mavunilai_open(book, book_length, n, own, heights, leaders, heights));
-    if (roll != NULL || refusal != 0) {
-        die(mavunilai_refusal_text(refusal != 0 ? refusal : MAVUNILAI_REFUSED_OUT_OF_RANGE));
+    refusal = mavunilai_refusal(mavunilai_open(book, book_length, n, own, heights, weights, MAVUNILAI_WEIGHTS(stations),
+                                               leaders, heights));
+    if (refusal != 0) {
+        die(mavunilai_refusal_text(refusal));
     }
     book_file = write_new(book);
     rename_file(new_name, book_name);
 }
 
 /* Reads the book that is in the file, or makes it; the lock is held until the process ends. */
-static void open_book(unsigned long n, unsigned long own, const char *roll) {
+static void open_book(unsigned long n, unsigned long own, const char *weight_list, const char *roll) {
     int lock = open(lock_name, O_RDWR | O_CREAT, 0644);
     FILE *file;
     if (lock < 0 || flock(lock, LOCK_EX) != 0) {
@@ -460,7 +477,7 @@ static void open_book(unsigned long n, unsigned long own, const char *roll) {
     }
     file = fopen(book_name, "r");
     if (file == NULL && errno == ENOENT) {
-        make_book(n, own, roll);
+        make_book(n, own, weight_list, roll);
     } else if (file == NULL || fstat(fileno(file), &book_file) != 0) {
         fail(book_name);
     } else {
@@ -474,16 +491,16 @@ static void open_book(unsigned long n, unsigned long own, const char *roll) {
 }
 
 int main(int count, char **words) {
-    if (count != 7) {
-        fprintf(stderr, "usage: host BOOK N OWN LEADER,LEADER,.. MILLISECONDS EVIDENCE\n");
+    if (count != 8) {
+        fprintf(stderr, "usage: host BOOK N OWN WEIGHT,WEIGHT,.. LEADER,LEADER,.. MILLISECONDS EVIDENCE\n");
         return 2;
     }
     if (!mavunilai_fits()) {
         die("the library is of another interface than the header");
     }
-    name_files(words[1], words[6]);
-    delta = strtol(words[5], NULL, 10);
-    open_book(strtoul(words[2], NULL, 10), strtoul(words[3], NULL, 10), words[4]);
+    name_files(words[1], words[7]);
+    delta = strtol(words[6], NULL, 10);
+    open_book(strtoul(words[2], NULL, 10), strtoul(words[3], NULL, 10), words[4], words[5]);
     fclose(open_file(evidence_name, "a"));
     send_waiting();
     printf("hello\n");

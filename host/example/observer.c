@@ -1,7 +1,7 @@
 /* An observer in C: takes the frames of the standard input, 224 bytes each, settles, and prints the register.
  *
- * It follows 4 stations through 3 heights. Before a frame goes in, a host checks the signature of each of its signers;
- * this example leaves that out, and keeps its book in memory. From the repository's root, once
+ * It follows 4 stations of equal weight through 3 heights. Before a frame goes in, a host checks the signature of each
+ * of its signers; this example leaves that out, and keeps its book in memory. From the repository's root, once
  * target/staticlib/libreplica_c.a is there:
  *   cc -Ihost/include host/example/observer.c target/staticlib/libreplica_c.a -o observer && ./observer < frames
  */
@@ -45,12 +45,14 @@ static void print_register(void) {
 }
 
 int main(void) {
+    static const uint8_t weights[MAVUNILAI_WEIGHTS(STATIONS)] = {1, 0, 1, 0, 1, 0, 1, 0}; /* the low byte first */
     mavunilai_answer answer;
     if (!mavunilai_fits()) {
         fprintf(stderr, "the library's interface is not that of the header, %u\n", MAVUNILAI_INTERFACE);
         return 1;
     }
-    if (mavunilai_refusal(mavunilai_observer_open(book, sizeof book, STATIONS, HEIGHTS)) != 0) {
+    answer = mavunilai_observer_open(book, sizeof book, STATIONS, HEIGHTS, weights, sizeof weights);
+    if (mavunilai_refusal(answer) != 0) {
         fprintf(stderr, "no book can be opened\n");
         return 1;
     }

@@ -26,14 +26,16 @@ def replica(name, book, buffer, words):
     """Makes the call on two bytearrays and returns its answer in words; words are its other arguments as text."""
     if name != "open":
         return "part 0" if name.endswith("read") else "deny 1"
-    n, own, heights, roll = int(words[0]), int(words[1]), int(words[2]), parse(words[3])
-    in_range = 1 <= n <= 16 and own < n and 1 <= heights <= 63 and len(roll) == heights
-    if not in_range or any(leader >= n for leader in roll):
+    n, own, heights = (int(word) for word in words[:3])
+    weights, roll = parse(words[3]), parse(words[4])
+    in_range = 1 <= n <= 16 and own < n and 1 <= heights <= 63 and len(weights) == 2 * n and len(roll) == heights
+    pairs = zip(weights[::2], weights[1::2])
+    if not in_range or any(not 1 <= low + 256 * high <= 1000 for low, high in pairs) or any(s >= n for s in roll):
         return "deny 2"
     if len(book) != 576 + 880 * heights:
         return "deny 1"
     book[:] = bytes(len(book))
-    book[0:8] = bytes([n, own, heights, 0, 1, 0, 0, 1])
+    book[0:8 + 2 * n] = bytes([n, own, heights, 0, 1, 0, 0, 2]) + weights
     book[576:576 + 16 * heights:16] = roll
     return "done"
 

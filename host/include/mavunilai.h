@@ -5,6 +5,11 @@
  * long as each has a book and buffers of its own. An observer, which follows the register without a vote, has a book of
  * 64 + 184 * H bytes and calls of its own, mavunilai_observer_..; neither's calls take the other's book.
  *
+ * Each station has a weight, 1 to 1000, which is fixed when a book is opened and must be the same in the books of all
+ * stations and observers of a season. Stations are a quorum if they weigh two thirds of all or more, and the register
+ * is safe while the dishonest ones weigh less than a third. A book of edition 1, kept from before there were weights,
+ * is read as one in which all weights are 1; it works on and stays of edition 1.
+ *
  * What you owe for each pointer and the length behind it, and nothing checks:
  *   - So many bytes are there, readable, and writable too where the pointer is not const. No alignment is needed.
  *   - Nobody else writes them during the call, and bytes that the call may write overlap with no others lent to it.
@@ -51,10 +56,10 @@ extern "C" {
 
 /* The number of the interface that this header declares. It goes up with each call that is added, with each change to
  * a call's arguments or to the set of its answers, and where a replica would read another register from the same book:
- * so with 4, where an entry that its chain repeats is read once; with 5 there is mavunilai_digest. A change of another
- * rule by which a call chooses another of the answers that it had leaves the number as it is: a program that was built
- * before still fits. */
-#define MAVUNILAI_INTERFACE 5u
+ * so with 4, where an entry that its chain repeats is read once; with 5 there is mavunilai_digest; with 6 both opening
+ * calls take the stations' weights. A change of another rule by which a call chooses another of the answers that it had
+ * leaves the number as it is: a program that was built before still fits. */
+#define MAVUNILAI_INTERFACE 6u
 
 /* The number of the interface that the library has. */
 MAVUNILAI_LOOK uint64_t mavunilai_interface(void);
@@ -68,6 +73,7 @@ MAVUNILAI_LOOK static inline int mavunilai_fits(void) {
 
 #define MAVUNILAI_BOOK(heights) (576u + 880u * (size_t)(heights))
 #define MAVUNILAI_OBSERVER_BOOK(heights) (64u + 184u * (size_t)(heights))
+#define MAVUNILAI_WEIGHTS(stations) (2u * (size_t)(stations)) /* what both opening calls are lent as weights */
 #define MAVUNILAI_FRAME 224u
 #define MAVUNILAI_PAGE 176u
 #define MAVUNILAI_ENTRY 16u
@@ -78,6 +84,7 @@ MAVUNILAI_LOOK static inline int mavunilai_fits(void) {
 /* ---- The most there can be ---- */
 
 #define MAVUNILAI_MOST_STATIONS 16u
+#define MAVUNILAI_MOST_WEIGHT 1000u    /* of one station; the least is 1 */
 #define MAVUNILAI_MOST_HEIGHTS 63u
 #define MAVUNILAI_MOST_PENDING 32u     /* entries */
 #define MAVUNILAI_MOST_PAGE_ENTRIES 8u /* entries of one page */
@@ -90,7 +97,7 @@ MAVUNILAI_LOOK static inline int mavunilai_fits(void) {
 /* ---- Refusals ---- */
 
 #define MAVUNILAI_REFUSED_UNSOUND 1u          /* the book is not sound (open: its length does not fit H) */
-#define MAVUNILAI_REFUSED_OUT_OF_RANGE 2u     /* n, own number, H, roll length or a leader out of range */
+#define MAVUNILAI_REFUSED_OUT_OF_RANGE 2u     /* n, own number, H, a weight, a leader or how many there are of these */
 #define MAVUNILAI_REFUSED_SHORT_REPLY 3u      /* the reply is too short */
 #define MAVUNILAI_REFUSED_MALFORMED 4u        /* frame, kind to fetch or entry not of the required form */
 #define MAVUNILAI_REFUSED_NO_SUCH_SIGNER 5u   /* signer or mask bit not below n */
@@ -111,7 +118,8 @@ static inline const char *mavunilai_refusal_text(unsigned refusal) {
     switch (refusal) {
     case 0: return "not refused";
     case MAVUNILAI_REFUSED_UNSOUND: return "the book is not sound, or its length does not fit the number of heights";
-    case MAVUNILAI_REFUSED_OUT_OF_RANGE: return "n, own number, number of heights or a leader is out of range";
+    case MAVUNILAI_REFUSED_OUT_OF_RANGE:
+        return "n, own number, number of heights, a weight or a leader is out of range";
     case MAVUNILAI_REFUSED_SHORT_REPLY: return "the reply buffer is too short";
     case MAVUNILAI_REFUSED_MALFORMED: return "the frame, entry or kind does not have the required form";
     case MAVUNILAI_REFUSED_NO_SUCH_SIGNER: return "a signer or a bit of the mask names no station";
@@ -163,7 +171,10 @@ static inline const char *mavunilai_refusal_text(unsigned refusal) {
 #define MAVUNILAI_HEAD_CURRENT 4u  /* c */
 #define MAVUNILAI_HEAD_SETTLED 5u  /* g */
 #define MAVUNILAI_HEAD_PENDING 6u  /* how many entries are pending */
-#define MAVUNILAI_HEAD_EDITION 7u
+#define MAVUNILAI_HEAD_EDITION 7u  /* 1 or 2; no call changes it but the opening ones, which make 2 */
+#define MAVUNILAI_HEAD_WEIGHTS 8u  /* edition 2: two bytes for each of 16 stations, the low one first, 0 from n up */
+#define MAVUNILAI_EDITION_UNWEIGHED 1u /* the edition in which bytes 8 to 63 are 0 and all weights 1 */
+#define MAVUNILAI_EDITION_WEIGHED 2u   /* the edition with weights in the head */
 #define MAVUNILAI_PENDING_AT 64u   /* the pending entries, 16 bytes each */
 #define MAVUNILAI_CONTENTS_AT 576u /* the rows, 16 bytes for each height; a row's first byte is the leader */
 #define MAVUNILAI_ROW 16u
@@ -203,6 +214,48 @@ static inline unsigned mavunilai_settled(const uint8_t *book) {
 /* 1 if a book is a station's and has that height, 1 to H; 0 for every other height, and for an observer's book. */
 static inline int mavunilai_has_height(const uint8_t *book, unsigned height) {
     return mavunilai_current(book) != 0 && height != 0 && height <= book[MAVUNILAI_HEAD_HEIGHTS];
+}
+
+/* The weight of a station as the book is read, 1 to 1000: in a book of edition 1 it is 1. 0 for a station that is not
+ * below n. */
+static inline unsigned mavunilai_weight(const uint8_t *book, unsigned station) {
+    const uint8_t *weight = book + MAVUNILAI_HEAD_WEIGHTS;
+    if (station >= MAVUNILAI_MOST_STATIONS || station >= book[MAVUNILAI_HEAD_STATIONS]) {
+        return 0;
+    }
+    if (book[MAVUNILAI_HEAD_EDITION] == MAVUNILAI_EDITION_UNWEIGHED) {
+        return 1;
+    }
+    return weight[2u * station] + 256u * weight[2u * station + 1u];
+}
+
+/* The weight of the stations of a mask together, bit i for station i; bits from n up weigh nothing. */
+static inline unsigned mavunilai_mask_weight(const uint8_t *book, unsigned mask) {
+    unsigned weight = 0, station;
+    for (station = 0; station < MAVUNILAI_MOST_STATIONS; station++) {
+        weight += (mask >> station & 1u) * mavunilai_weight(book, station);
+    }
+    return weight;
+}
+
+/* The total weight: that of all stations together, n where each weighs 1. */
+static inline unsigned mavunilai_total_weight(const uint8_t *book) {
+    return mavunilai_mask_weight(book, 65535u);
+}
+
+/* The least weight of a quorum: two thirds of the total weight, rounded up. */
+static inline unsigned mavunilai_needed_weight(const uint8_t *book) {
+    return (2u * mavunilai_total_weight(book) + 2u) / 3u;
+}
+
+/* 1 if the stations of a mask, bit i for station i, are a quorum: if they weigh two thirds of the total weight or more.
+ * 0 if they do not, and if the mask has a bit for a station that is not below n. */
+static inline int mavunilai_quorum(const uint8_t *book, unsigned mask) {
+    unsigned n = book[MAVUNILAI_HEAD_STATIONS];
+    if (n > MAVUNILAI_MOST_STATIONS || mask >> n != 0) {
+        return 0;
+    }
+    return 3u * mavunilai_mask_weight(book, mask) >= 2u * mavunilai_total_weight(book);
 }
 
 /* The leader of a height; MAVUNILAI_NO_STATION if the book is not a station's or has no such height. */
@@ -305,13 +358,16 @@ static inline uint64_t mavunilai_bytes(mavunilai_answer answer) {
 
 /* ---- The calls ---- */
 
-/* Makes a new book for station `own` of `n`, with `heights` heights; byte h - 1 of `leaders` leads height h, so
- * `leaders_len` must equal `heights`, and `book_len` MAVUNILAI_BOOK(heights). The book's old bytes do not matter.
- * Refusals: 2, 1. After 0 the book is new: n, own number, heights, current height 1, edition 1 and the leaders stand in
- * it, and every other byte is 0. */
+/* Makes a new book for station `own` of `n`, with `heights` heights. `weights` has two bytes for each station, the low
+ * one first, each weight 1 to 1000, so `weights_len` must be MAVUNILAI_WEIGHTS(n); mavunilai_make_weights writes them.
+ * Byte h - 1 of `leaders` leads height h, so `leaders_len` must equal `heights`, and `book_len`
+ * MAVUNILAI_BOOK(heights). The book's old bytes do not matter.
+ * Refusals: 2, 1. After 0 the book is new: n, own number, heights, current height 1, edition 2, the weights and the
+ * leaders stand in it, and every other byte is 0. So it is where all weights are 1. */
 MAVUNILAI_LOOK
 mavunilai_answer mavunilai_open(uint8_t *book, size_t book_len, uint64_t n, uint64_t own, uint64_t heights,
-                                const uint8_t *leaders, size_t leaders_len);
+                                const uint8_t *weights, size_t weights_len, const uint8_t *leaders,
+                                size_t leaders_len);
 
 /* Takes one frame of 224 bytes whose signatures you have checked; a station's own frames too.
  * Refusals: 1, 4, 6, 5, 7, 9, 8, 10. Else byte 1 of the answer (mavunilai_fresh) is 1 if the frame was fresh: the book
@@ -386,14 +442,18 @@ mavunilai_answer mavunilai_digest(const uint8_t *bytes, size_t bytes_len, uint8_
  *
  * An observer has no vote, no timer and nothing to send. It is given certificates, settles, and reads. Of any two
  * registers that it and honest stations read, one begins the other, on the premises that docs/HOST.md names: among them
- * that fewer than a third of the stations are dishonest, and that you have checked the signatures. These calls take an
- * observer's book alone; to them a station's book is not sound, and to the calls above an observer's is not. */
+ * that the dishonest stations weigh less than a third of all, that the books share the weights, and that you have
+ * checked the signatures. These calls take an observer's book alone; to them a station's book is not sound, and to the
+ * calls above an observer's is not. */
 
 /* Makes a new observer's book over `n` stations, with `heights` heights: `book_len` must be
- * MAVUNILAI_OBSERVER_BOOK(heights). The book's old bytes do not matter.
- * Refusals: 2, 1. After 0 the book is new: n, heights and edition 1 stand in it, and every other byte is 0. */
+ * MAVUNILAI_OBSERVER_BOOK(heights). `weights` and `weights_len` are as for mavunilai_open, and must be the stations'.
+ * The book's old bytes do not matter.
+ * Refusals: 2, 1. After 0 the book is new: n, heights, edition 2 and the weights stand in it, and every other byte
+ * is 0. */
 MAVUNILAI_LOOK
-mavunilai_answer mavunilai_observer_open(uint8_t *book, size_t book_len, uint64_t n, uint64_t heights);
+mavunilai_answer mavunilai_observer_open(uint8_t *book, size_t book_len, uint64_t n, uint64_t heights,
+                                         const uint8_t *weights, size_t weights_len);
 
 /* Takes one certificate, a frame of kind 5, 6 or 7, whose signatures you have checked, each one's.
  * Refusals: 1, 4, 16, 6, 5, 9, 10. A frame of kinds 1 to 4 that is well formed is 16, whatever its height and signer.
@@ -420,19 +480,16 @@ mavunilai_answer mavunilai_observer_size(const uint8_t *book, size_t book_len);
 MAVUNILAI_LOOK
 uint64_t mavunilai_observer_read(const uint8_t *book, size_t book_len, uint8_t *buffer, size_t buffer_len);
 
-/* ---- Masks ---- */
+/* ---- Weights out of numbers ---- */
 
-/* 1 if the stations of a mask, bit i for station i, are a quorum of n: two thirds of them or more. 0 if they are not,
- * if n is not 1 to 16, and if the mask has a bit for a station that is not below n. */
-static inline int mavunilai_quorum(unsigned n, unsigned mask) {
-    unsigned members = 0, station;
-    if (n == 0 || n > MAVUNILAI_MOST_STATIONS || mask >> n != 0) {
-        return 0;
-    }
+/* Writes the weights of n stations as the opening calls take them, to bytes 0 to 2 * n - 1. Nothing is judged: what is
+ * out of range the opening call refuses. */
+static inline void mavunilai_make_weights(uint8_t *bytes, const uint16_t *weights, size_t n) {
+    size_t station;
     for (station = 0; station < n; station++) {
-        members += mask >> station & 1u;
+        bytes[2u * station] = (uint8_t)(weights[station] & 255u);
+        bytes[2u * station + 1u] = (uint8_t)(weights[station] >> 8);
     }
-    return 3u * members >= 2u * n;
 }
 
 /* ---- Pages and frames out of their parts, for tests ----

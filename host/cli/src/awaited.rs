@@ -1,7 +1,7 @@
 //! What a book waits for, in a few words.
 
 use crate::chosen::REPLICA;
-use crate::pages;
+use crate::{pages, weighed};
 use reference::inspect::{AtHeight, Inspection};
 use types::{Area, Calls, Move, FRAME};
 
@@ -18,25 +18,24 @@ pub fn station(told: &Inspection, bytes: &[u8]) -> String {
 
 /// What would let a station pass its current height.
 fn at_height(told: &Inspection, bytes: &[u8], slot: &AtHeight) -> String {
-    let needed = told.weights.needed();
+    let weigh = |mask| format!("weigh {}", weighed::beside_quorum(&told.weights, mask));
     let [_, blank, _] = slot.masks;
     let height = told.current;
     let held = pages::page(bytes, height, Area::Held);
-    let votes = pages::kept_votes(bytes, height, slot.voters);
-    let for_held = |page: &pages::Page| votes.iter().filter(|(_, of)| *of == page.digest).count();
+    let for_held = |page: &pages::Page| pages::voters_for(bytes, height, slot.voters, &page.digest);
     let page = match held {
         None if slot.notarized.is_none() => match slot.leader == told.own {
             true => "delivery of its own proposal".to_string(),
             false => format!("the proposal of station {}", slot.leader),
         },
         Some(page) if slot.notarized.is_none() && slot.held_extends => {
-            format!("page votes ({} of {needed})", for_held(&page))
+            format!("page votes ({})", weigh(for_held(&page)))
         }
         _ => format!("certificates below height {height}"),
     };
     let other = match told.flags & 1 {
         0 => "the timer".to_string(),
-        _ => format!("blank votes ({} of {needed})", blank.count_ones()),
+        _ => format!("blank votes ({})", weigh(blank)),
     };
     format!("{page} or {other}")
 }

@@ -3,6 +3,7 @@
 use crate::arguments::Arguments;
 use crate::problem::Problem;
 use crate::standing::Standing;
+use crate::weighed;
 use crate::words::count;
 
 /// Prints a line about the book and one about each thing beside it. The status is that of the first trouble: 2 if the
@@ -20,7 +21,11 @@ pub fn run(words: &[String], output: &mut Vec<u8>) -> Result<(), Problem> {
                 None => format!("an observer of {}", told.n),
             };
             let entries = count(entries, "entry", "entries");
-            format!("sound, {whose}, {heights}, settled height {}, {entries}", told.settled)
+            let (edition, weights) = (told.edition, weighed::column(&told.weights));
+            let settled = told.settled;
+            format!(
+                "sound, {whose}, edition {edition}, weights {weights}, {heights}, settled height {settled}, {entries}"
+            )
         }
         Err(why) => format!("not sound: {why}"),
     };

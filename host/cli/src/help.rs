@@ -95,33 +95,39 @@ mavunilai show frame FILE [--json]
 mavunilai show book FILE [--json]
 mavunilai show books FILE FILE .. [--json]
 
-Shows frames or books in words; FILE may be - for standard input, and may hold the
-bytes as they are or as hexadecimal digits, wrapped over lines or not. A file may have
-several frames, one behind the other. A book is shown as a table of heights (leader,
-held proposal, page votes, notarised page, signers of the page certificate, blank and
-finalise signers, whether it is linked, settled and in the register), with its pending
-entries and those of its pages, the reason why the current height is where it is, and
-the next move of the replica at hand. An entry of a page in the register that equals an
-earlier one of the chain is marked `filed before`: it is not counted or read again. Pages
-and votes are named by the first eight digits of the digest. Of a book that is not sound
-the first byte is told that breaks a rule. Several books, of stations with the same roll
-and of observers, are shown side by side: a row for each height, a column for each book,
-<- at a station's current height. A station's column has its number, an observer's its
-file. An observer's book is told from a station's by its length. Of frames, FILE may
-also be what `call` printed. --json prints an object for each frame or book
-(docs/JSON.md).
+Shows frames or books in words; FILE may be - for standard input, and may hold the bytes
+as they are or as hexadecimal digits, wrapped over lines or not. A file may have several
+frames, one behind the other. A book is shown with its edition, the weights of its
+stations and what a quorum weighs, and a table of heights (leader, held proposal, page
+votes, notarised page, signers of the page certificate, blank and finalise signers, with
+what they weigh together if not each weighs 1, whether it is linked, settled and in the
+register), with its pending entries and those of its pages, the reason why the current
+height is where it is, and the next move of the replica at hand. An entry of a page in
+the register that equals an earlier one of the chain is marked `filed before`: it is not
+counted or read again. Pages and votes are named by the first eight digits of the
+digest. Of a book that is not sound the first byte is told that breaks a rule. Several
+books, of stations with the same roll and of observers, all with the same weights, are
+shown side by side: a row for each height, a column for each book, <- at a station's
+current height. A book of edition 1 counts as one in which each station weighs 1. A
+station's column has its number, an observer's its file. An observer's book is told from
+a station's by its length. Of frames, FILE may also be what `call` printed. --json
+prints an object for each frame or book (docs/JSON.md).
 ";
 
 const OPEN: &str = "\
-mavunilai open FILE --n N --own S --roll L,L,.. [--force] [--wait SECONDS]
+mavunilai open FILE --n N --own S --roll L,L,.. [--weights W,W,..] [--force] [--wait T]
 
-Keeps a new book in FILE, for station S of N, with one leader L for each height. A file
-that is there is left alone, unless --force begins a new book in its place: a station
-that forgets what it said may say another thing, so do this for a new season only. So
-too where the book is gone and FILE.said still tells what it said. FILE may be - for
-standard output. --wait is as for `call`.
+Keeps a new book in FILE, for station S of N, with one leader L for each height and one
+weight W for each station, 1 to 1000; each weighs 1 if not said. Stations that weigh two
+thirds of all or more are a quorum, and the register is safe while the dishonest ones
+weigh less than a third: the books of all stations and observers must have the same
+weights. A file that is there is left alone, unless --force begins a new book in its
+place: a station that forgets what it said may say another thing, so do this for a new
+season only. So too where the book is gone and FILE.said still tells what it said. FILE
+may be - for standard output. --wait is as for `call`, with T seconds.
 
 Example: mavunilai open book --n 4 --own 2 --roll 0,1,2
+Example: mavunilai open book --n 4 --own 2 --roll 0,1,2 --weights 10,1,1,1
 ";
 
 const CALL: &str = "\
@@ -196,24 +202,25 @@ Example: mavunilai call one run | mavunilai call other deliver -
 ";
 
 const OBSERVER: &str = "\
-mavunilai observer BOOK open --n N --heights H [--force] [--wait SECONDS]
-mavunilai observer BOOK deliver FRAMES [--evidence FOLDER] [--wait SECONDS]
-mavunilai observer BOOK move [--wait SECONDS]
+mavunilai observer BOOK open --n N --heights H [--weights W,W,..] [--force] [--wait T]
+mavunilai observer BOOK deliver FRAMES [--evidence FOLDER] [--wait T]
+mavunilai observer BOOK move [--wait T]
 mavunilai observer BOOK size
 mavunilai observer BOOK read
-mavunilai observer BOOK follow [--since HEIGHT] [--evidence FOLDER] [--wait SECONDS]
+mavunilai observer BOOK follow [--since HEIGHT] [--evidence FOLDER] [--wait T]
 
 An observer follows the register of N stations without a vote: it is given certificates,
 frames of kinds 5 to 7, settles, and reads. It has no timer and sends nothing. open keeps
-a new book in the file BOOK (- is standard output), for H heights, those of the stations;
-a file that is there is left alone unless --force begins anew. deliver takes the frames of
-the file FRAMES (- is standard input) in order; `help call` says how they are written, and
-what becomes of a cut one and of none. Each has its line, fresh, known, or `deny` and a
-number: 16 for a frame that is no certificate. Any refusal makes the status 3, while the
-others are taken all the same; 10 makes it 4, and both certificates are kept in FOLDER, as
-by `mavunilai call`. move prints `final` and the settled height if it grew, else `idle`;
-after deliver one move is enough. size and read print what the register holds by then, an
-entry that the chain repeats once. --json prints each answer as an object (docs/JSON.md).
+a new book in the file BOOK (- is standard output), for H heights and with the weights W,
+those of the stations (1 each if not said, as for `mavunilai open`); a file that is there
+is left alone unless --force begins anew. deliver takes the frames of the file FRAMES (-
+is standard input) in order; `help call` says how they are written, and what becomes of a
+cut one and of none. Each has its line, fresh, known, or `deny` and a number: 16 for a
+frame that is no certificate. Any refusal makes the status 3, while the others are taken
+all the same; 10 makes it 4, and both certificates are kept in FOLDER, as by `mavunilai
+call`. move prints `final` and the settled height if it grew, else `idle`; after deliver
+one move is enough. size and read print what the register holds by then, an entry that
+the chain repeats once. --json prints each answer as an object (docs/JSON.md).
 
 follow goes on reading standard input, a frame in digits on each line, as `certificates`
 prints them; answers between them are skipped. It delivers each, moves, and prints each
@@ -223,10 +230,10 @@ frame at a time. A refused frame is said on the standard error and makes the sta
 the end; 10 ends it at once. A line that is neither is left out, said, and makes it 2.
 
 What a call prints is synced to the file first, however many frames it was given, and the
-book is locked meanwhile (BOOK.lock, which stays); --wait is as for `call`. A book that
-was renamed, removed or replaced meanwhile is left alone. Only deliver certificates whose
-signatures you have checked, each signer's. `mavunilai call` does not take an observer's
-book, nor this command a station's: both refuse with 1.
+book is locked meanwhile (BOOK.lock, which stays); --wait is as for `call`, with T
+seconds. A book that was renamed, removed or replaced meanwhile is left alone. Only
+deliver certificates whose signatures you have checked, each signer's. `mavunilai call`
+does not take an observer's book, nor this command a station's: both refuse with 1.
 
 Example: mavunilai call book certificates | mavunilai observer watch deliver -
 ";
@@ -252,7 +259,8 @@ mavunilai record --folder FOLDER
 
 Prints the list of FILE (- is standard input) with the answers and digests that the
 replica gives now; the calls may stand there without any. --scenario prints a ready list:
-refusals, orders, moves, corners, tallies, repeats, rehearsal, season, books or observers.
+refusals, orders, moves, corners, tallies, repeats, rehearsal, season, books, observers,
+weights, editions or unequal.
 --random prints N calls (1000 if not said) as `try` makes them from this seed. With --full
 the list has the bytes of the buffers and not their digests. --folder writes all ready
 lists there.

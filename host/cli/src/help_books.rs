@@ -17,7 +17,8 @@ mavunilai check BOOK
 Looks at the book in the file BOOK and at what stands beside it, locks nothing and changes
 nothing. Prints a line each:
 
-  book:    sound, or the first byte that breaks a rule, and the rule
+  book:    sound, with whose it is, its edition and the stations' weights; or the first
+           byte that breaks a rule, and the rule
   frames:  whether frames wait in BOOK.frames, or the file is cut or of no use
   said:    whether the book knows what its station has said (BOOK.said); one that does
            not is an older copy: do not go on with it
@@ -31,10 +32,12 @@ is not sound.
 pub const STATUS: &str = "\
 mavunilai status BOOK .. [--json]
 
-A row for each book, of stations and of observers: whose it is, n, H, the current height
-c, the settled height g, pending entries, entries of the register, frames that wait, who
-has it open to change it, and what it waits for: a move, or what would let it pass the
-current height. One that is not sound, or cannot be read, has its row too. Nothing is
-locked or changed. --json prints an object for each (docs/JSON.md). The status is that of
-the worst row, as `mavunilai check` counts them.
+A row for each book, of stations and of observers: whose it is, n, the stations'
+weights, H, the current height c, the settled height g, pending entries, entries of the
+register, frames that wait, who has it open to change it, and what it waits for: a move,
+or what would let it pass the current height, with what the votes for that weigh. One
+that is not sound, or cannot be read, has its row too. A line below says so if books of
+the same n and H have other weights: they are not of one roll. Nothing is locked or
+changed. --json prints an object for each (docs/JSON.md). The status is that of the
+worst row, as `mavunilai check` counts them.
 ";

@@ -1,6 +1,7 @@
 //! Values as JSON on one line, in plain ASCII; docs/JSON.md has the fields of each object.
 
 use std::fmt::{self, Write};
+use types::Weights;
 
 /// A value. The fields of an object stand in the order in which they are given.
 #[derive(Clone, Debug, PartialEq, Eq)]
@@ -26,6 +27,11 @@ impl Json {
     /// A list.
     pub fn list(values: impl IntoIterator<Item = Json>) -> Json {
         Json::List(values.into_iter().collect())
+    }
+
+    /// The weights of stations, from 0 up.
+    pub fn weights(weights: &Weights) -> Json {
+        Json::list(weights.each().iter().map(|weight| Json::number(*weight)))
     }
 
     /// The stations of a mask, by their numbers.

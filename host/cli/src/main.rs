@@ -52,7 +52,10 @@ mod try_command;
 mod unmet;
 mod unsound;
 mod unsound_observer;
+mod unsound_setting;
 mod waiting;
+mod weighed;
+mod weights_option;
 mod why;
 mod words;
 

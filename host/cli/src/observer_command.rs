@@ -7,6 +7,7 @@ use crate::follow::Follower;
 use crate::json_answer::{self, denied};
 use crate::output::print;
 use crate::problem::Problem;
+use crate::weights_option::Weighing;
 use crate::{frame_input, open_command, station, waiting, words};
 use exchange::{Answer, Call, ObserverCall};
 use store::{Disk, FileObserver};
@@ -48,12 +49,13 @@ pub fn run(all: &[String], output: &mut Vec<u8>) -> Result<(), Problem> {
 
 /// Writes a new book to a file, to one that is there only if it is forced to, or to standard output.
 fn open(all: &[String], output: &mut Vec<u8>) -> Result<(), Problem> {
-    let arguments = Arguments::sort(all, &["n", "heights", "wait"], &["force"])?;
+    let arguments = Arguments::sort(all, &["n", "heights", "weights", "wait"], &["force"])?;
     let [file, _] =
         arguments.plain("the file of the new book, or - for standard output, then `open`")?;
     let (n, heights) = (arguments.byte("n")?, arguments.byte("heights")?);
-    let book = ObserverBook::open(REPLICA, n.into(), heights, &vec![1; n.into()])
-        .map_err(|refusal| Problem::refused(refusal.number()))?;
+    let weighing = Weighing::read(&arguments, n)?;
+    let book = ObserverBook::open(REPLICA, n.into(), heights, &weighing.numbers())
+        .map_err(|refusal| weighing.refused(refusal))?;
     let disk = waiting::disk(&arguments)?;
     let kept = match (file.as_str(), arguments.has("force")) {
         ("-", true) => return Err(Problem::input("standard output needs no --force")),

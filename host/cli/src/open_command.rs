@@ -3,18 +3,20 @@
 use crate::arguments::Arguments;
 use crate::chosen::REPLICA;
 use crate::problem::Problem;
+use crate::weights_option::Weighing;
 use crate::{waiting, words};
 use store::{Error, FileBook};
 use types::Book;
 
 /// Writes a new book to a file, to one that is there only if it is forced to, or to standard output.
 pub fn run(words: &[String], output: &mut Vec<u8>) -> Result<(), Problem> {
-    let arguments = Arguments::sort(words, &["n", "own", "roll", "wait"], &["force"])?;
+    let arguments = Arguments::sort(words, &["n", "own", "weights", "roll", "wait"], &["force"])?;
     let [file] = arguments.plain("the file of the new book, or - for standard output")?;
     let roll = words::numbers("roll", arguments.needed("roll")?)?;
     let (n, own) = (arguments.byte("n")?, arguments.byte("own")?);
-    let book = Book::open(REPLICA, n.into(), own.into(), &vec![1; n.into()], &roll)
-        .map_err(|refusal| Problem::refused(refusal.number()))?;
+    let weighing = Weighing::read(&arguments, n)?;
+    let book = Book::open(REPLICA, n.into(), own.into(), &weighing.numbers(), &roll)
+        .map_err(|refusal| weighing.refused(refusal))?;
     let disk = waiting::disk(&arguments)?;
     let kept = match (file.as_str(), arguments.has("force")) {
         ("-", true) => return Err(Problem::input("standard output needs no --force")),

@@ -61,6 +61,12 @@ pub fn kept_votes(book: &[u8], height: Height, voters: u16) -> Vec<(u32, [u8; 32
     votes.filter(|(station, _)| 1_u16.checked_shl(*station).unwrap_or(0) & voters != 0).collect()
 }
 
+/// The stations whose kept page votes are for this digest, as a mask.
+pub fn voters_for(book: &[u8], height: Height, voters: u16, digest: &[u8; 32]) -> u16 {
+    let votes = kept_votes(book, height, voters).into_iter().filter(|(_, of)| of == digest);
+    votes.fold(0, |mask, (station, _)| mask | 1_u16.checked_shl(station).unwrap_or(0))
+}
+
 /// Who voted for which digest, as `0 1 for 3fa2c9d1; 2 for 77ab0122`; `-` if nobody did.
 pub fn votes(book: &[u8], height: Height, voters: u16) -> String {
     let mut groups: Vec<([u8; 32], u16)> = Vec::new();

@@ -2,11 +2,11 @@
 
 use crate::pages::{self, Page};
 use crate::problem::Problem;
-use crate::words::{count, entry, members};
-use crate::{show_observer, table, unsound, why};
+use crate::words::{count, entry};
+use crate::{show_observer, table, unsound, weighed, why};
 use reference::inspect::{inspect, AtHeight, Inspection};
 use types::refusal::meaning;
-use types::{is_observers, Area, Height};
+use types::{field, is_observers, Area, Height};
 
 /// The lines about a book, a station's or an observer's.
 pub fn text(bytes: &[u8]) -> Result<String, Problem> {
@@ -21,7 +21,12 @@ pub fn text(bytes: &[u8]) -> Result<String, Problem> {
         row(&book, bytes, height, slot, listed)
     }));
     let parts = [
-        vec![head(&book), String::new(), table::print(&rows)],
+        vec![
+            head(&book, bytes),
+            weighed::sentence(&book.weights),
+            String::new(),
+            table::print(&rows),
+        ],
         pending(&book, bytes),
         entries(bytes, Height::try_from(book.heights.len()).unwrap_or(Height::MAX), &register),
         why::lines(&book, bytes),
@@ -42,16 +47,21 @@ pub fn not_sound(bytes: &[u8], number: u8) -> Problem {
 }
 
 /// The first line.
-fn head(book: &Inspection) -> String {
+fn head(book: &Inspection, bytes: &[u8]) -> String {
     format!(
-        "Book of station {} of {}: {}, settled height {}, {}; a quorum is {} or more.",
+        "Book of station {} of {}, edition {}: {}, settled height {}, {}.",
         book.own,
         book.n,
+        edition(bytes),
         count(book.heights.len(), "height", "heights"),
         book.finalized,
         count(book.pending.into(), "pending entry", "pending entries"),
-        book.weights.needed()
     )
+}
+
+/// The edition of a book.
+pub fn edition(bytes: &[u8]) -> u8 {
+    bytes.get(field::EDITION).copied().unwrap_or(0)
 }
 
 /// The headings of the table.
@@ -82,6 +92,7 @@ fn row(
     let yes = |yes: bool| if yes { "yes" } else { "-" }.to_string();
     let [certificate, blank, finalise] = slot.masks;
     let quorum = if slot.dummy { " (quorum)" } else { "" };
+    let members = |mask| weighed::members(&book.weights, mask);
     let certificate = if slot.notarized.is_some() { members(certificate) } else { "-".to_string() };
     let mark = if height == book.current { "<- current" } else { "" };
     vec![

@@ -2,7 +2,7 @@
 
 use crate::problem::Problem;
 use crate::words::count;
-use crate::{files, pages, register, show_book, show_observer, table};
+use crate::{files, pages, register, show_book, show_observer, table, weighed};
 use types::{is_observers, Area, Height, Weights};
 
 /// What a book says of a height.
@@ -25,6 +25,7 @@ struct Shown {
     name: String,
     bytes: Vec<u8>,
     n: u8,
+    weights: Weights,
     finalized: Height,
     station: Option<Station>,
     heights: Vec<Slot>,
@@ -39,7 +40,7 @@ pub fn text(names: &[String]) -> Result<String, Problem> {
     };
     let station = books.iter().find(|book| book.station.is_some()).unwrap_or(first);
     books.iter().try_for_each(|book| fits(station, book))?;
-    let mut lines = vec![head(first, books.len())];
+    let mut lines = vec![head(first, books.len()), weighed::sentence(&first.weights)];
     lines.extend(books.iter().map(line));
     lines.push(String::new());
     lines.push(table::print(&rows(station, &books)));
@@ -67,6 +68,7 @@ fn station(name: &str, bytes: Vec<u8>) -> Result<Shown, Problem> {
     Ok(Shown {
         name: name.to_string(),
         n: told.n,
+        weights: told.weights,
         finalized: told.finalized,
         station: Some(station),
         heights: slots.collect(),
@@ -86,6 +88,7 @@ fn observer(name: &str, bytes: Vec<u8>) -> Result<Shown, Problem> {
     Ok(Shown {
         name: name.to_string(),
         n: told.n,
+        weights: told.weights,
         finalized: told.finalized,
         station: None,
         heights: slots.collect(),
@@ -94,13 +97,19 @@ fn observer(name: &str, bytes: Vec<u8>) -> Result<Shown, Problem> {
     })
 }
 
-/// Whether two books are of one season: the same n and H, and the same roll where both are stations'.
+/// Whether two books are of one season: the same n, weights and H, and the same roll where both are stations'. Weights
+/// are compared as they are read, so that an edition 1 goes with weights of 1.
 fn fits(one: &Shown, two: &Shown) -> Result<(), Problem> {
     let rolls = [one, two].map(|book| book.station.as_ref().map(|station| &station.roll));
+    let weights = || {
+        let [one, two] = [one, two].map(|book| weighed::list(&book.weights));
+        format!("weights: {one} and {two}")
+    };
     let what = [
-        (one.n != two.n, "number of stations"),
-        (one.heights.len() != two.heights.len(), "number of heights"),
-        (rolls.iter().all(Option::is_some) && rolls[0] != rolls[1], "roll"),
+        (one.n != two.n, "number of stations".to_string()),
+        (one.weights != two.weights, weights()),
+        (one.heights.len() != two.heights.len(), "number of heights".to_string()),
+        (rolls.iter().all(Option::is_some) && rolls[0] != rolls[1], "roll".to_string()),
     ];
     match what.into_iter().find(|(differs, _)| *differs) {
         Some((_, what)) => {
@@ -114,17 +123,14 @@ fn fits(one: &Shown, two: &Shown) -> Result<(), Problem> {
 fn head(first: &Shown, number: usize) -> String {
     let (books, n) = (count(number, "book", "books"), first.n);
     let heights = count(first.heights.len(), "height", "heights");
-    format!(
-        "{books} of {n} stations: {heights}; a quorum is {} or more.",
-        Weights::equal(n).needed()
-    )
+    format!("{books} of {n} stations: {heights}.")
 }
 
 /// A line about a book as a whole.
 fn line(book: &Shown) -> String {
-    let settled = book.finalized;
+    let (settled, edition) = (book.finalized, show_book::edition(&book.bytes));
     let Some(station) = &book.station else {
-        return format!("Observer ({}): settled height {settled}.", book.name);
+        return format!("Observer ({}), edition {edition}: settled height {settled}.", book.name);
     };
     let current = match usize::from(station.current) > book.heights.len() {
         true => "all heights passed".to_string(),
@@ -132,7 +138,10 @@ fn line(book: &Shown) -> String {
     };
     let pending = count(station.pending.into(), "pending entry", "pending entries");
     let own = station.own;
-    format!("Station {own} ({}): {current}, settled height {settled}, {pending}.", book.name)
+    let name = &book.name;
+    format!(
+        "Station {own} ({name}), edition {edition}: {current}, settled height {settled}, {pending}."
+    )
 }
 
 /// The table; leaders are told by a station's book, if there is one. An observer has no number, so it has its file.

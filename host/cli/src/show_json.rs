@@ -114,10 +114,14 @@ fn observer(bytes: &[u8]) -> Result<Fields, Problem> {
 /// The fields that both kinds of book begin with.
 fn common(kind: &str, bytes: &[u8], heights: usize) -> Fields {
     let n = bytes.get(field::N).copied().unwrap_or(0);
+    let weights = Weights::of(bytes);
     vec![
         ("kind", Json::text(kind)),
+        ("edition", Json::number(show_book::edition(bytes))),
         ("n", Json::number(n)),
-        ("quorum", Json::number(Weights::equal(n).needed())),
+        ("weights", Json::weights(&weights)),
+        ("total_weight", Json::number(weights.total())),
+        ("quorum", Json::number(weights.needed())),
         ("heights", Json::number(heights)),
         ("settled", Json::number(head_height(bytes, field::FINALIZED))),
     ]
@@ -148,17 +152,22 @@ fn station_row(bytes: &[u8], height: Height, slot: &AtHeight) -> Json {
     Json::Object(fields)
 }
 
-/// The fields of a height that both kinds of book have: its masks, and whether it is blank, linked and settled.
+/// The fields of a height that both kinds of book have: its masks and what they weigh, and whether it is blank, linked and settled.
 fn row(bytes: &[u8], height: Height, masks: [u16; 3], standing: [bool; 3]) -> Fields {
     let notarized = pages::page(bytes, height, Area::Notarized);
     let ([certificate, blank, finalise], [is_blank, linked, settled]) = (masks, standing);
     let certificate = if notarized.is_some() { certificate } else { 0 };
+    let weights = Weights::of(bytes);
+    let weight = |mask| Json::number(weights.weight_of(mask));
     let mut fields = vec![("height", Json::number(height))];
     fields.extend(notarized.map(|one| ("page", page(&one))));
     fields.extend([
         ("page_certificate", Json::members(certificate)),
         ("blank", Json::members(blank)),
         ("finalise", Json::members(finalise)),
+        ("page_certificate_weight", weight(certificate)),
+        ("blank_weight", weight(blank)),
+        ("finalise_weight", weight(finalise)),
         ("is_blank", Json::Yes(is_blank)),
         ("linked", Json::Yes(linked)),
         ("settled", Json::Yes(settled)),

@@ -3,8 +3,8 @@
 use crate::chosen::REPLICA;
 use crate::pages;
 use crate::problem::Problem;
-use crate::words::{count, members};
-use crate::{show_book, table};
+use crate::words::count;
+use crate::{show_book, table, weighed};
 use reference::inspect::{inspect_observer, ObservedHeight, ObserverInspection};
 use types::{Area, Calls, Height};
 
@@ -15,11 +15,16 @@ pub fn text(bytes: &[u8]) -> Result<String, Problem> {
     let mut rows = vec![HEADINGS.map(str::to_string).to_vec()];
     rows.extend((1..).zip(&book.heights).map(|(height, slot)| {
         let listed = register.contains(&height);
-        row(bytes, height, slot, listed)
+        row(&book, bytes, height, slot, listed)
     }));
     let last = Height::try_from(book.heights.len()).unwrap_or(Height::MAX);
     let parts = [
-        vec![head(&book), String::new(), table::print(&rows)],
+        vec![
+            head(&book, bytes),
+            weighed::sentence(&book.weights),
+            String::new(),
+            table::print(&rows),
+        ],
         show_book::entries(bytes, last, &register),
         vec![next_move(bytes)],
     ];
@@ -32,13 +37,13 @@ pub fn told(bytes: &[u8]) -> Result<ObserverInspection, Problem> {
 }
 
 /// The first line.
-fn head(book: &ObserverInspection) -> String {
+fn head(book: &ObserverInspection, bytes: &[u8]) -> String {
     format!(
-        "Observer's book of {}: {}, settled height {}; a quorum is {} or more.",
+        "Observer's book of {}, edition {}: {}, settled height {}.",
         count(book.n.into(), "station", "stations"),
+        show_book::edition(bytes),
         count(book.heights.len(), "height", "heights"),
         book.finalized,
-        book.weights.needed()
     )
 }
 
@@ -47,7 +52,14 @@ const HEADINGS: [&str; 8] =
     ["height", "page", "page certificate", "blank", "finalise", "linked", "settled", "in register"];
 
 /// The row of a height.
-fn row(bytes: &[u8], height: Height, slot: &ObservedHeight, listed: bool) -> Vec<String> {
+fn row(
+    book: &ObserverInspection,
+    bytes: &[u8],
+    height: Height,
+    slot: &ObservedHeight,
+    listed: bool,
+) -> Vec<String> {
+    let members = |mask| weighed::members(&book.weights, mask);
     let page = pages::page(bytes, height, Area::Notarized);
     let yes = |yes: bool| if yes { "yes" } else { "-" }.to_string();
     let [certificate, blank, finalise] = slot.masks;

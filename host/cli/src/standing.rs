@@ -3,7 +3,7 @@
 use crate::beside::{self, Beside};
 use crate::problem::Problem;
 use crate::{awaited, register, show_book, show_observer, unsound};
-use types::{field, head_height, is_observers, Height};
+use types::{field, head_height, is_observers, Height, Weights};
 
 /// A book that could be read.
 pub struct Standing {
@@ -17,6 +17,9 @@ pub struct Told {
     /// The number of its station; none of an observer's.
     pub station: Option<u8>,
     pub n: u8,
+    pub edition: u8,
+    /// What each station weighs, as the book is read.
+    pub weights: Weights,
     pub heights: Height,
     /// The current height and the number of pending entries, of a station's book.
     pub current: Height,
@@ -61,6 +64,8 @@ fn told(bytes: &[u8]) -> Result<Told, Problem> {
     Ok(Told {
         station: (!observers).then_some(byte(field::OWN)),
         n: byte(field::N),
+        edition: byte(field::EDITION),
+        weights: Weights::of(bytes),
         heights: head_height(bytes, field::HEIGHTS),
         current: head_height(bytes, field::CURRENT),
         pending: byte(field::PENDING),

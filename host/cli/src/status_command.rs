@@ -5,12 +5,24 @@ use crate::beside::Frames;
 use crate::json::Json;
 use crate::problem::Problem;
 use crate::standing::{Standing, Told};
-use crate::table;
 use crate::words::count;
+use crate::{table, weighed};
 
 /// The headings of the columns.
-const HEADINGS: [&str; 11] =
-    ["book", "of", "n", "H", "c", "g", "pending", "entries", "frames", "held by", "waits for"];
+const HEADINGS: [&str; 12] = [
+    "book",
+    "of",
+    "n",
+    "weights",
+    "H",
+    "c",
+    "g",
+    "pending",
+    "entries",
+    "frames",
+    "held by",
+    "waits for",
+];
 
 /// A book with the name of its file.
 type Named<'a> = (&'a str, Result<Standing, Problem>);
@@ -27,7 +39,8 @@ pub fn run(words: &[String], output: &mut Vec<u8>) -> Result<(), Problem> {
         true => books.iter().map(|book| format!("{}\n", object(book))).collect::<String>(),
         false => {
             let heading = HEADINGS.map(str::to_string).to_vec();
-            table::print(&[vec![heading], books.iter().map(row).collect()].concat())
+            let rows = [vec![heading], books.iter().map(row).collect()].concat();
+            format!("{}{}", table::print(&rows), other_weights(&books).unwrap_or_default())
         }
     };
     output.extend(text.into_bytes());
@@ -44,6 +57,25 @@ pub fn run(words: &[String], output: &mut Vec<u8>) -> Result<(), Problem> {
     }
 }
 
+/// A line about the first two books that agree in n and H and not in the weights: one of them is not of the others' roll.
+/// A book of edition 1 agrees with one in which all weights are 1.
+fn other_weights(books: &[Named]) -> Option<String> {
+    let sound: Vec<(&str, &Told)> = books.iter().filter_map(sound).collect();
+    let (one, two) = (0..).zip(&sound).find_map(|(at, one)| {
+        let like = |two: &&(&str, &Told)| (one.1.n, one.1.heights) == (two.1.n, two.1.heights);
+        let mut others = sound.iter().skip(at).filter(like);
+        Some((one, others.find(|two| two.1.weights != one.1.weights)?))
+    })?;
+    let [of_one, of_two] = [one, two].map(|(_, told)| weighed::list(&told.weights));
+    let differ = format!("{} has the weights {of_one}, and {} has {of_two}", one.0, two.0);
+    Some(format!("These books are not of one roll: {differ}.\n"))
+}
+
+/// The name of a sound book, and what it tells.
+fn sound<'a>((file, book): &'a Named) -> Option<(&'a str, &'a Told)> {
+    Some((file, book.as_ref().ok()?.told.as_ref().ok()?))
+}
+
 /// What is wrong with a book, if anything is.
 fn trouble((_, book): &Named) -> Option<Problem> {
     match book {
@@ -58,7 +90,7 @@ fn row(book: &Named) -> Vec<String> {
     let wrong = trouble(book).map(|problem| problem.sentence);
     let Some((standing, Ok(told))) = standing.map(|standing| (standing, &standing.told)) else {
         let kind = if standing.is_some() { "not sound" } else { "unreadable" };
-        let dashes = vec!["-".to_string(); 8];
+        let dashes = vec!["-".to_string(); 9];
         let named = vec![file.to_string(), kind.to_string()];
         return [named, dashes, vec![wrong.unwrap_or_default()]].concat();
     };
@@ -74,6 +106,7 @@ fn row(book: &Named) -> Vec<String> {
         file.to_string(),
         told.station.map_or("observer".to_string(), |own| format!("station {own}")),
         told.n.to_string(),
+        weighed::column(&told.weights),
         told.heights.to_string(),
         of_station(told.current.to_string()),
         told.settled.to_string(),
@@ -108,7 +141,9 @@ fn object(book: &Named) -> Json {
         ("book", Some(Json::text(book.0))),
         ("kind", Some(Json::text(kind))),
         ("own", station.and_then(|told| told.station).map(Json::number)),
+        ("edition", told.map(|told| Json::number(told.edition))),
         ("n", told.map(|told| Json::number(told.n))),
+        ("weights", told.map(|told| Json::weights(&told.weights))),
         ("heights", told.map(|told| Json::number(told.heights))),
         ("current", station.map(|told| Json::number(told.current))),
         ("settled", told.map(|told| Json::number(told.settled))),

@@ -1,13 +1,12 @@
 //! Why bytes are no sound book: the first rule that is broken, with its height and its byte.
 
-use crate::unsound_observer;
+use crate::{unsound_observer, unsound_setting, weighed};
 use exchange::fields;
 use reference::inspect::inspect;
 use reference::is_quorum;
 use types::{book_length, field, head_height, height_at, mask_at, observer_book_length, Weights};
 use types::{
-    put_head_height, Area, Height, Layout, ALL_FLAGS, BLOCK, BLOCK_HEIGHT, BLOCK_PARENT, EDITION,
-    ENTRY,
+    put_head_height, Area, Height, Layout, ALL_FLAGS, BLOCK, BLOCK_HEIGHT, BLOCK_PARENT, ENTRY,
 };
 use types::{MOST_ENTRIES, MOST_HEIGHTS, MOST_PENDING, MOST_REPLICAS};
 
@@ -60,7 +59,7 @@ fn head(book: &[u8], fitting: Height) -> Option<Fault> {
     let value = |byte| at(book, byte);
     let [heights, current] = [field::HEIGHTS, field::CURRENT].map(|at| head_height(book, at));
     let (n, own, flags) = (value(field::N), value(field::OWN), value(field::FLAGS));
-    let (pending, edition) = (value(field::PENDING), value(field::EDITION));
+    let pending = value(field::PENDING);
     let last = fitting.saturating_add(1);
     let rules = [
         (
@@ -85,10 +84,9 @@ fn head(book: &[u8], fitting: Height) -> Option<Fault> {
             field::PENDING,
             format!("{pending} entries are pending, {MOST_PENDING} at most can be"),
         ),
-        (edition != EDITION, field::EDITION, format!("the edition is {edition}, not {EDITION}")),
     ];
     let broken = rules.into_iter().find(|(broken, ..)| *broken);
-    broken.map(|(_, byte, rule)| (byte, rule)).or_else(|| zeros(book, 8..64))
+    broken.map(|(_, byte, rule)| (byte, rule)).or_else(|| unsound_setting::fault(book))
 }
 
 /// What is wrong with a height by itself.
@@ -113,17 +111,28 @@ fn slot(book: &[u8], height: Height) -> Option<Fault> {
         ));
     }
     let certificate = mask_at(book, place(2));
-    let short = state & 2 != 0 && !is_quorum(certificate, Weights::of(book).each());
-    let quorum = || {
-        let rule = "a page is notarised, and the signers of its certificate are no quorum";
-        short.then(|| (place(2), rule.to_string()))
-    };
+    let short = if state & 2 != 0 { no_quorum(book, certificate) } else { None };
+    let quorum = || short.map(|rule| (place(2), rule));
     let page =
         |bit: u8, start: usize| if state & bit != 0 { page(book, height, start) } else { None };
     zeros(book, place(10)..place(16))
         .or_else(|| page(1, held))
         .or_else(|| page(2, notarized))
         .or_else(quorum)
+}
+
+/// What is wrong with the signers of a notarised page's certificate, if they are no quorum.
+pub fn no_quorum(book: &[u8], certificate: u16) -> Option<String> {
+    let weights = Weights::of(book);
+    let weigh = weighed::beside_quorum(&weights, certificate);
+    let rule = "a page is notarised, and the signers of its certificate are no quorum";
+    (!is_quorum(certificate, weights.each())).then(|| format!("{rule}: they weigh {weigh}"))
+}
+
+/// Why a linked height is not settled: what its finalises weigh.
+pub fn few_finalises(book: &[u8], settled: Height, finalises: u16) -> String {
+    let weigh = weighed::beside_quorum(&Weights::of(book), finalises);
+    format!("height {settled} is not settled: its finalises are no quorum, they weigh {weigh}")
 }
 
 /// What is wrong with a page of a height that begins at a byte.
@@ -167,7 +176,10 @@ fn settled(book: &[u8]) -> Option<Fault> {
         Some(height) if !height.linked => {
             format!("height {settled} is not settled: it is not linked")
         }
-        Some(_) => format!("height {settled} is not settled: its finalises are no quorum"),
+        Some(height) => {
+            let [.., finalises] = height.masks;
+            few_finalises(book, settled, finalises)
+        }
     };
     Some((field::FINALIZED, rule))
 }

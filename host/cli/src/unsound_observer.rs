@@ -1,10 +1,10 @@
 //! Why an observer's book is not sound: the first byte that breaks a rule.
 
-use crate::unsound::{at, page, zeros, Fault};
+use crate::unsound::{at, few_finalises, no_quorum, page, zeros, Fault};
+use crate::unsound_setting;
 use reference::inspect::inspect_observer;
-use reference::is_quorum;
-use types::{field, head_height, mask_at, put_head_height, Height, Weights};
-use types::{ObserverArea, ObserverLayout, EDITION, MOST_REPLICAS};
+use types::{field, head_height, mask_at, put_head_height, Height};
+use types::{ObserverArea, ObserverLayout, MOST_REPLICAS};
 
 /// What is wrong with bytes of the length of an observer's book with so many heights.
 pub fn fault(book: &[u8], fitting: Height) -> Option<Fault> {
@@ -16,7 +16,7 @@ pub fn fault(book: &[u8], fitting: Height) -> Option<Fault> {
 /// What is wrong with the head; the settled height aside.
 fn head(book: &[u8], fitting: Height) -> Option<Fault> {
     let heights = head_height(book, field::HEIGHTS);
-    let (n, edition) = (at(book, field::N), at(book, field::EDITION));
+    let n = at(book, field::N);
     let rules = [
         (
             heights != fitting,
@@ -28,7 +28,6 @@ fn head(book: &[u8], fitting: Height) -> Option<Fault> {
             field::N,
             format!("n is {n}, not 1 to {MOST_REPLICAS}"),
         ),
-        (edition != EDITION, field::EDITION, format!("the edition is {edition}, not {EDITION}")),
     ];
     let broken = rules.into_iter().find(|(broken, ..)| *broken);
     let of_stations = [field::OWN, field::FLAGS, field::CURRENT, field::PENDING];
@@ -36,7 +35,7 @@ fn head(book: &[u8], fitting: Height) -> Option<Fault> {
         let value = at(book, byte);
         (byte, format!("it is {value}, and must be zero in an observer's book"))
     });
-    broken.map(|(_, byte, rule)| (byte, rule)).or(unused).or_else(|| zeros(book, 8..64))
+    broken.map(|(_, byte, rule)| (byte, rule)).or(unused).or_else(|| unsound_setting::fault(book))
 }
 
 /// What is wrong with a height by itself.
@@ -54,11 +53,8 @@ fn row(book: &[u8], heights: Height, height: Height) -> Option<Fault> {
         let rule = format!("the mask has a bit that is not below n, which is {n}");
         return Some((place(offset), rule));
     }
-    let short = state == 2 && !is_quorum(mask_at(book, place(2)), Weights::of(book).each());
-    let quorum = || {
-        let rule = "a page is notarised, and the signers of its certificate are no quorum";
-        short.then(|| (place(2), rule.to_string()))
-    };
+    let short = if state == 2 { no_quorum(book, mask_at(book, place(2))) } else { None };
+    let quorum = || short.map(|rule| (place(2), rule));
     zeros(book, place(1)..place(2))
         .or_else(|| if state == 2 { page(book, height, notarized) } else { None })
         .or_else(quorum)
@@ -76,7 +72,10 @@ fn settled(book: &[u8]) -> Option<Fault> {
         Some(height) if !height.linked => {
             format!("height {settled} is not settled: it is not linked")
         }
-        Some(_) => format!("height {settled} is not settled: its finalises are no quorum"),
+        Some(height) => {
+            let [.., finalises] = height.masks;
+            few_finalises(book, settled, finalises)
+        }
     };
     Some((field::FINALIZED, rule))
 }

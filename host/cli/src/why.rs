@@ -2,8 +2,9 @@
 
 use crate::chosen::REPLICA;
 use crate::words::count;
+use crate::{pages, weighed};
 use reference::inspect::{AtHeight, Inspection};
-use types::{Calls, Height, FRAME};
+use types::{Area, Calls, Height, FRAME};
 
 /// The lines about the current height.
 pub fn lines(book: &Inspection, bytes: &[u8]) -> Vec<String> {
@@ -13,7 +14,7 @@ pub fn lines(book: &Inspection, bytes: &[u8]) -> Vec<String> {
         Some(slot) => {
             lines.push(place(book.current));
             lines.push(flags(book.flags));
-            lines.push(page(book, slot));
+            lines.push(page(book, bytes, slot));
             lines.push(blank(book, slot));
         }
     }
@@ -39,9 +40,8 @@ fn flags(flags: u8) -> String {
 }
 
 /// Whether the page lets the station pass, and if not why.
-fn page(book: &Inspection, slot: &AtHeight) -> String {
-    let votes = slot.voters.count_ones();
-    let needed = book.weights.needed();
+fn page(book: &Inspection, bytes: &[u8], slot: &AtHeight) -> String {
+    let votes = count(slot.voters.count_ones() as usize, "page vote is", "page votes are");
     match (slot.notarized, slot.held) {
         (Some(_), _) if slot.linked => {
             "Its page is notarised and linked: it can be passed.".to_string()
@@ -54,16 +54,16 @@ fn page(book: &Inspection, slot: &AtHeight) -> String {
                 true => "stands".to_string(),
                 false => format!("does not stand ({})", gap(book, back)),
             };
+            let of_page = pages::page(bytes, book.current, Area::Held).map_or(0, |page| {
+                pages::voters_for(bytes, book.current, slot.voters, &page.digest)
+            });
+            let weigh = weighed::beside_quorum(&book.weights, of_page);
             format!(
-                "A proposal is held and {stands}; its page is not notarised: {} kept, and {needed} for this page are \
-                 needed.",
-                count(votes as usize, "page vote is", "page votes are")
+                "A proposal is held and {stands}; its page is not notarised: {votes} kept, and those for this page \
+                 weigh {weigh}."
             )
         }
-        (None, None) => {
-            let votes = count(votes as usize, "page vote is", "page votes are");
-            format!("No proposal is held and no page is notarised; {votes} kept.")
-        }
+        (None, None) => format!("No proposal is held and no page is notarised; {votes} kept."),
     }
 }
 
@@ -87,11 +87,8 @@ fn blank(book: &Inspection, slot: &AtHeight) -> String {
     let [_, mask, _] = slot.masks;
     match (slot.dummy, book.parent) {
         (false, _) => {
-            format!(
-                "It is not blank: {} of {} blank votes.",
-                mask.count_ones(),
-                book.weights.needed()
-            )
+            let weigh = weighed::beside_quorum(&book.weights, mask);
+            format!("It is not blank: its blank votes weigh {weigh}.")
         }
         (true, None) => {
             "It is blank, but no chain ends just below it, so it cannot be passed yet.".to_string()

@@ -23,11 +23,15 @@ fn a_new_book() {
     let bytes = fine("open - --n 4 --own 2 --roll 0,1,2", &[]);
     assert_eq!(bytes, book(&[]).bytes());
     let text = shown(&book(&[]));
-    let head = "Book of station 2 of 4: 3 heights, settled height 0, 0 pending entries; a quorum is 3 or more.";
+    let head = "\
+Book of station 2 of 4, edition 2: 3 heights, settled height 0, 0 pending entries.
+Each station weighs 1; a quorum weighs 3 or more of 4.
+
+";
     assert!(text.starts_with(head), "{text}");
     assert!(text.contains("The current height is 1: none is passed yet.\n"));
     assert!(text.contains("No proposal is held and no page is notarised; 0 page votes are kept.\n"));
-    assert!(text.contains("It is not blank: 0 of 3 blank votes.\n"));
+    assert!(text.contains("It is not blank: its blank votes weigh 0 of 4, 3 needed.\n"));
     assert!(text.ends_with("The next move is: idle.\n"), "{text}");
 }
 
@@ -38,7 +42,8 @@ fn a_held_proposal_and_a_timer() {
     book.signal(1).unwrap();
     let text = shown(&book);
     assert!(text.contains(
-        "A proposal is held and stands; its page is not notarised: 0 page votes are kept"
+        "A proposal is held and stands; its page is not notarised: 0 page votes are kept, and those for this page \
+         weigh 0 of 4, 3 needed.\n"
     ));
     assert!(text.contains("Done at this height so far: timer fired.\n"));
     assert!(text.ends_with("The next move is: dummy 1.\n"), "{text}");

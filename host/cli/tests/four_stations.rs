@@ -68,9 +68,27 @@ fn four_stations_and_an_observer_read_one_register() {
     assert_eq!(again.status.code(), Some(2));
 }
 
+/// A large partner and three small ones come to the same register; the large one passes height 1 by its own vote.
+#[test]
+fn stations_of_unequal_weight_read_one_register() {
+    let kept = folder("four_stations").join("weighed");
+    _ = std::fs::remove_dir_all(&kept);
+    let ended = script(&["--weights=10,1,1,1", kept.to_str().unwrap()]);
+    let printed = String::from_utf8(ended.stdout).unwrap();
+    let complaint = String::from_utf8(ended.stderr).unwrap();
+    assert_eq!((ended.status.code(), complaint.as_str()), (Some(0), ""), "{printed}");
+    assert!(printed.contains("\nstation 0: offer 1, vote 1, pass 1 5 4, final 1\n"), "{printed}");
+    for name in ["station3", "watch"] {
+        let shown = fine(&format!("show book {}/{name}", kept.display()), &[]);
+        let shown = String::from_utf8(shown).unwrap();
+        assert!(shown.contains("\nThe stations weigh 10,1,1,1; a quorum weighs 9 or more of 13.\n"));
+    }
+}
+
 #[test]
 fn words_that_are_not_understood_end_the_script() {
-    for (words, status) in [(&["--help"][..], 0), (&["--quick"], 2), (&["one", "two"], 2)] {
+    let words = [(&["--help"][..], 0), (&["--quick"], 2), (&["one", "two"], 2)];
+    for (words, status) in words.into_iter().chain([(&["--weights=1,1,0,1"][..], 3)]) {
         assert_eq!(script(words).status.code(), Some(status), "{words:?}");
     }
 }

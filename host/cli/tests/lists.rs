@@ -35,8 +35,9 @@ fn buffers_are_kept() {
     for station in 0..4 {
         let text = fine(&format!("show book {kept}/book{station}"), &[]);
         let text = String::from_utf8(text).unwrap();
-        assert!(text
-            .starts_with(&format!("Book of station {station} of 4: 5 heights, settled height 4")));
+        assert!(text.starts_with(&format!(
+            "Book of station {station} of 4, edition 2: 5 heights, settled height 4"
+        )));
     }
 }
 
@@ -55,11 +56,12 @@ fn a_difference_has_status_1() {
 
 #[test]
 fn recording_fills_in_and_repeats() {
-    let calls = "mavunilai exchange 1\ngive book 00*1456\ngive reply -\nopen book 4 2 1 00\nmove book reply\n";
+    let calls = "mavunilai exchange 2\ngive book 00*1456\ngive reply -\nopen book 4 2 1 0100010001000100 00\nmove book reply\n";
     let recorded = fine("record -", calls.as_bytes());
     let text = String::from_utf8(recorded.clone()).unwrap();
     assert!(
-        text.contains("open book 4 2 1 00 = done ") && text.contains("move book reply = deny 3 ")
+        text.contains("open book 4 2 1 0100010001000100 00 = done ")
+            && text.contains("move book reply = deny 3 ")
     );
     assert_eq!(fine("record -", &recorded), recorded);
     fine("replay -", &recorded);
@@ -78,23 +80,30 @@ fn ready_lists_are_those_of_the_folder() {
 }
 
 #[test]
+fn help_names_every_ready_list() {
+    let text = String::from_utf8(fine("help record", &[])).unwrap();
+    let words: Vec<&str> = text.split(|letter: char| !letter.is_ascii_lowercase()).collect();
+    NAMES.iter().for_each(|name| assert!(words.contains(name), "{name}"));
+}
+
+#[test]
 fn bad_input_gets_a_sentence() {
     refused("replay", &[], "a list is missing");
     refused("replay /no/such/list", &[], "cannot be read");
     refused("replay -", b"hello", "begins with the line");
     refused(
         "replay -",
-        b"mavunilai exchange 1\nmovve book reply\n",
+        b"mavunilai exchange 2\nmovve book reply\n",
         "line 2: 'movve book reply' is no call",
     );
-    let unknown = b"mavunilai exchange 1\nsize book\n";
+    let unknown = b"mavunilai exchange 2\nsize book\n";
     refused("replay -", unknown, "line 2: no line before gives 'book'");
     refused("replay -", &[0xff, 0xfe], "is no text");
     refused("record", &[], "one file, or --scenario");
     refused("record --scenario winter", &[], "no scenario");
     refused(
         "record -",
-        b"mavunilai exchange 1\nsize book\n",
+        b"mavunilai exchange 2\nsize book\n",
         "line 2: no line before gives 'book'",
     );
     refused("record --folder /no/such/folder", &[], "cannot be written");

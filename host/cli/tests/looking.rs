@@ -32,11 +32,12 @@ fn several_books_side_by_side() {
     let shown =
         text(&format!("show books {}", files.join(" ")), &[]).replace(&format!("{kept}/"), "");
     let expected = "\
-4 books of 4 stations: 5 heights; a quorum is 3 or more.
-Station 0 (book0): current height 2, settled height 0, 1 pending entry.
-Station 1 (book1): current height 2, settled height 0, 2 pending entries.
-Station 2 (book2): current height 1, settled height 0, 0 pending entries.
-Station 3 (book3): current height 1, settled height 0, 0 pending entries.
+4 books of 4 stations: 5 heights.
+Each station weighs 1; a quorum weighs 3 or more of 4.
+Station 0 (book0), edition 2: current height 2, settled height 0, 1 pending entry.
+Station 1 (book1), edition 2: current height 2, settled height 0, 2 pending entries.
+Station 2 (book2), edition 2: current height 1, settled height 0, 0 pending entries.
+Station 3 (book3), edition 2: current height 1, settled height 0, 0 pending entries.
 
 height  leader  station 0             station 1             station 2                station 3
 1       0       page 0d4594f8 linked  page 0d4594f8 linked  page 0d4594f8 linked <-  - <-
@@ -139,13 +140,21 @@ fn the_rule_that_a_book_breaks_is_told_with_its_byte() {
         (4, 3, "byte 4 (current height): the current height is 3, not 1 to 2"),
         (5, 2, "byte 5 (settled height): the settled height is 2, above the last one"),
         (6, 33, "byte 6 (number of pending entries): 33 entries are pending, 32 at most can be"),
-        (7, 255, "byte 7 (edition): the edition is 255, not 1"),
-        (63, 1, "byte 63 (zeros of the head): it is 1, and must be zero"),
+        (7, 255, "byte 7 (edition): the edition is 255, not 1 or 2"),
+        (63, 1, "byte 63 (zeros of the head): it is 1, and must be zero in a book of edition 2"),
         (576, 4, "byte 576 (height 1, leader): leader 4 is not below n, which is 4"),
         (577, 4, "byte 577 (height 1, state): the state is 4, above 3"),
         (581, 1, "byte 580 (height 1, blank): the mask has a bit that is not below n, which is 4"),
-        (578, 3, "byte 578 (height 1, page certificate): a page is notarised, and the signers"),
-        (582, 3, "byte 5 (settled height): height 1 is not settled: its finalises are no quorum"),
+        (
+            578,
+            3,
+            "byte 578 (height 1, page certificate): a page is notarised, and the signers of its",
+        ),
+        (
+            582,
+            3,
+            "height 1 is not settled: its finalises are no quorum, they weigh 2 of 4, 3 needed",
+        ),
         (page + 4, 0, "notarised page, entry 1): it is 111, and must be zero"),
         (page + 2, 1, "notarised page, back height): its back height 1 is not below 1"),
     ];

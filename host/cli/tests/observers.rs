@@ -154,9 +154,10 @@ fn books_of_both_kinds_side_by_side() {
     fine(&format!("replay {} --keep {kept}", list("season.txt")), &[]);
     let shown = text(&format!("show books {kept}/watch {kept}/book3"), &[]);
     let expected = "\
-2 books of 4 stations: 5 heights; a quorum is 3 or more.
-Observer (watch): settled height 4.
-Station 3 (book3): current height 5, settled height 4, 1 pending entry.
+2 books of 4 stations: 5 heights.
+Each station weighs 1; a quorum weighs 3 or more of 4.
+Observer (watch), edition 2: settled height 4.
+Station 3 (book3), edition 2: current height 5, settled height 4, 1 pending entry.
 
 height | leader | observer watch | station 3
 1 | 0 | page 0d4594f8 in register | page 0d4594f8 in register
@@ -239,7 +240,7 @@ fn what_is_wrong_with_a_book_is_told() {
         (1, 2, "byte 1 (own number): it is 2, and must be zero in an observer's book"),
         (5, 1, "byte 5 (settled height): height 1 is not settled: its finalises are no quorum"),
         (5, 2, "byte 5 (settled height): height 2 is not settled: it is not linked"),
-        (7, 2, "byte 7 (edition): the edition is 2, not 1"),
+        (7, 3, "byte 7 (edition): the edition is 3, not 1 or 2"),
         (2, 3, "byte 2: it says 3 heights, the length is that of an observer's of 2"),
         (64, 1, "byte 64 (height 1, state): the state is 1, neither 0 nor 2"),
         (65, 1, "byte 65 (height 1, zero behind the state): it is 1, and must be zero"),

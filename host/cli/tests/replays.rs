@@ -6,12 +6,12 @@ use common::{fine, folder, list, refused, run, Ended};
 
 /// A timer fires at station 2 of 4, and it moves.
 const CALLS: &str = "\
-mavunilai exchange 1
+mavunilai exchange 2
 
 # The timer fires
 give book 5a*1456
 give reply aa*448
-open book 4 2 1 00
+open book 4 2 1 0100010001000100 00
 signal book 1
 move book reply
 ";
@@ -88,7 +88,10 @@ fn a_list_is_left_behind_a_line_and_its_buffers_are_kept() {
         String::from_utf8(fine(&format!("replay {file} --stop-at 6 --keep {kept}"), &[])).unwrap();
     assert!(told.ends_with(" up to line 6, all as expected\n"), "{told}");
     let shown = String::from_utf8(fine(&format!("show book {kept}/book"), &[])).unwrap();
-    assert!(shown.contains("It is not blank: 1 of 3 blank votes.\n"), "{shown}");
+    assert!(
+        shown.contains("It is not blank: its blank votes weigh 1 of 4, 3 needed.\n"),
+        "{shown}"
+    );
     refused(&format!("replay {file} --stop-at 0"), &[], "has lines 1 to");
     refused(&format!("replay {file} --stop-at 9999"), &[], "--stop-at 9999");
     refused(

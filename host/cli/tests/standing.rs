@@ -39,13 +39,13 @@ fn deliver(book: &str, frames: &[Frame]) {
 #[test]
 fn a_book_that_is_well_has_status_0() {
     let book = book("well");
-    let sound = "book: sound, station 2 of 4, 3 heights, settled height 0, 0 entries";
+    let sound = "book: sound, station 2 of 4, edition 2, weights all 1, 3 heights, settled height 0, 0 entries";
     let lines = [sound, "frames: none wait", "said: nothing is kept", "lock: nobody has it"];
     assert_eq!(check(&book), (0, lines.map(str::to_string).to_vec()));
     let kept = folder("standing").join("season").to_str().unwrap().to_string();
     fine(&format!("replay {} --keep {kept}", list("season.txt")), &[]);
     let (status, lines) = check(&format!("{kept}/watch"));
-    let sound = "book: sound, an observer of 4, 5 heights, settled height 4, 4 entries";
+    let sound = "book: sound, an observer of 4, edition 2, weights all 1, 5 heights, settled height 4, 4 entries";
     assert_eq!((status, lines[0].as_str()), (0, sound));
 }
 
@@ -163,12 +163,13 @@ fn a_row_says_what_a_book_waits_for() {
     deliver(&book, &[Frame::Proposal { signer: 0, block }]);
     assert_eq!(waits(&book), "a move (vote 1)");
     fine(&format!("call {book} move"), &[]);
-    assert_eq!(waits(&book), "page votes (0 of 3) or the timer");
+    assert_eq!(waits(&book), "page votes (weigh 0 of 4, 3 needed) or the timer");
     let vote = |signer| Frame::BlockVote { signer, height: 1, digest };
     deliver(&book, &[vote(0), vote(2), Frame::DummyVote { signer: 3, height: 1 }]);
     fine(&format!("call {book} signal 1"), &[]);
     fine(&format!("call {book} move"), &[]);
-    assert_eq!(waits(&book), "page votes (2 of 3) or blank votes (1 of 3)");
+    let votes = "page votes (weigh 2 of 4, 3 needed) or blank votes (weigh 1 of 4, 3 needed)";
+    assert_eq!(waits(&book), votes);
     deliver(&book, &[vote(1)]);
     fine(&format!("call {book} move"), &[]);
     deliver(&book, &[2, 3].map(|height| Frame::DummyCertificate { mask: 11, height }));
@@ -195,12 +196,13 @@ fn a_row_for_each_book_whatever_it_is() {
     let ended = run(&format!("status {book} {} nowhere", spoilt.display()), &[]);
     let text = ended.text();
     let rows: Vec<Vec<&str>> = text.lines().map(|row| row.split_whitespace().collect()).collect();
-    let heading = "book of n H c g pending entries frames held by waits for";
+    let heading = "book of n weights H c g pending entries frames held by waits for";
     assert_eq!(rows[0], heading.split(' ').collect::<Vec<_>>());
-    let row = format!("{book} station 2 4 3 1 0 0 0 0 - the proposal of station 0 or the timer");
+    let row =
+        format!("{book} station 2 4 all 1 3 1 0 0 0 0 - the proposal of station 0 or the timer");
     assert_eq!(rows[1], row.split(' ').collect::<Vec<_>>());
-    assert_eq!(rows[2][1..11], "not sound - - - - - - - -".split(' ').collect::<Vec<_>>());
-    assert_eq!(rows[3][1..10], "unreadable - - - - - - - -".split(' ').collect::<Vec<_>>());
+    assert_eq!(rows[2][1..12], "not sound - - - - - - - - -".split(' ').collect::<Vec<_>>());
+    assert_eq!(rows[3][1..11], "unreadable - - - - - - - - -".split(' ').collect::<Vec<_>>());
     assert_eq!(ended.status, 3);
     assert!(ended.complaint.starts_with("mavunilai: 2 of 3 books should be looked at"));
     assert_eq!(run(&format!("status {book} nowhere"), &[]).status, 2);

@@ -64,7 +64,7 @@ books: the same
     assert_eq!(ended.complaint, expected);
     let shown = ended.text();
     let mut lines = shown.lines();
-    assert_eq!(lines.next(), Some("mavunilai exchange 1"));
+    assert_eq!(lines.next(), Some("mavunilai exchange 2"));
     assert_eq!(lines.next(), Some("# seed 1, part 1, a sound book that no run makes"));
     assert!(shown.contains("\ndeliver book 030002+00*221 == known 01"), "{shown}");
     let replayed = run("replay -", shown.as_bytes());
@@ -145,7 +145,7 @@ fn what_a_program_may_do_but_answer() {
             "{line}: {}",
             ended.complaint
         );
-        assert!(ended.text().starts_with("mavunilai exchange 1\n"), "{line}");
+        assert!(ended.text().starts_with("mavunilai exchange 2\n"), "{line}");
     }
 }
 

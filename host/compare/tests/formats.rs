@@ -5,11 +5,13 @@ mod formats {
     pub mod bench;
     pub mod observer;
     pub mod page;
+    pub mod weights;
 }
 
 use formats::bench::{changed, shifted, Bench, HEIGHTS, N, OWN, ROLL};
 use formats::observer;
 use formats::page::Formats;
+use formats::weights;
 use reference::{sha256, Rules};
 use types::{Calls, Move};
 
@@ -27,6 +29,7 @@ fn holds<C: Calls + Copy>(calls: C) {
     unused_fields(&bench);
     zeros_of_books(&bench);
     observer::holds(&bench);
+    weights::hold(&bench);
     formats.all_asked();
 }
 
@@ -41,13 +44,16 @@ fn the_proved_replica_has_the_formats_of_the_page() {
     holds(mavunilai::Proved);
 }
 
-/// Opening writes each number to its place in the head and each leader to its row; all else is zero.
+/// Opening writes each number to its place in the head, a weight of 1 for each station, and each leader to its row; all
+/// else is zero.
 fn opening<C: Calls + Copy>(bench: &Bench<C>) {
     let mut expected = vec![0; 576 + 880 * HEIGHTS];
     let head = [("n", N as u8), ("own number", OWN as u8), ("H", HEIGHTS as u8)];
-    for (field, value) in head.into_iter().chain([("current height", 1), ("edition", 1)]) {
+    for (field, value) in head.into_iter().chain([("current height", 1), ("edition", 2)]) {
         expected[bench.head(field).start] = value;
     }
+    let weights = bench.head("weights").start;
+    expected[weights..weights + 8].copy_from_slice(&[1, 0, 1, 0, 1, 0, 1, 0]);
     for (height, leader) in (1..).zip(ROLL) {
         expected[bench.row(height, "leader").start] = leader;
     }

@@ -11,10 +11,10 @@
 //! settled 32-DIGITS    out: an entry of the register, each once and in order
 //! ```
 //!
-//! The same messages, in C: host/example/host.c. To begin station 0 of 4, with Δ of half a second:
+//! The same messages, in C: host/example/host.c. To begin station 0 of 4, which weigh the same, with Δ of half a second:
 //!
 //! ```text
-//! example-host BOOK 4 0 0,1,2,3 500 EVIDENCE
+//! example-host BOOK 4 0 1,1,1,1 0,1,2,3 500 EVIDENCE
 //! ```
 //!
 //! BOOK is made where it is not there; else the station goes on with it, whatever ended it before.
@@ -55,11 +55,13 @@ fn main() -> ExitCode {
 
 /// Begins the station that the words name, and works until the input ends.
 fn run(words: &[String]) -> Result<(), Ended> {
-    let [book, n, own, leaders, delta, evidence] = words else {
-        return Err("expected: BOOK N OWN LEADER,LEADER,.. MILLISECONDS EVIDENCE".into());
+    let [book, n, own, weights, leaders, delta, evidence] = words else {
+        let expected = "BOOK N OWN WEIGHT,WEIGHT,.. LEADER,LEADER,.. MILLISECONDS EVIDENCE";
+        return Err(format!("expected: {expected}").into());
     };
+    let weights = weights.split(',').map(str::parse).collect::<Result<Vec<u16>, _>>()?;
     let leaders = leaders.split(',').map(str::parse).collect::<Result<Vec<u8>, _>>()?;
-    let book = open(Path::new(book), n.parse()?, own.parse()?, &leaders)?;
+    let book = open(Path::new(book), n.parse()?, own.parse()?, &weights, &leaders)?;
     let mut host = Host {
         book,
         delta: Duration::from_millis(delta.parse()?),
@@ -81,9 +83,15 @@ fn run(words: &[String]) -> Result<(), Ended> {
 }
 
 /// The station's book: the one in the file, or a new one where there is none. It stays locked until the host ends.
-fn open(path: &Path, n: u64, own: u64, leaders: &[u8]) -> Result<FileBook<Replica>, Error> {
+fn open(
+    path: &Path,
+    n: u64,
+    own: u64,
+    weights: &[u16],
+    leaders: &[u8],
+) -> Result<FileBook<Replica>, Error> {
     if !path.exists() {
-        return FileBook::create(Book::open(REPLICA, n, own, &vec![1; n as usize], leaders)?, path);
+        return FileBook::create(Book::open(REPLICA, n, own, weights, leaders)?, path);
     }
     FileBook::open(REPLICA, path)
 }

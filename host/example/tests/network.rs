@@ -32,6 +32,11 @@ fn turns(first: u8, heights: u8) -> Vec<u8> {
     (0..heights).map(|height| (first + height) % 4).collect()
 }
 
+/// A network of stations that weigh the same.
+fn setting(name: String, leaders: Vec<u8>, delta: u64) -> Setting {
+    Setting { name, weights: [1; 4], leaders, delta }
+}
+
 /// Waits until the stations have all entries in their registers; they are the same, in the same order.
 fn agree(network: &mut Network, stations: &[usize]) {
     network.carry(|registers| {
@@ -47,7 +52,7 @@ fn agree(network: &mut Network, stations: &[usize]) {
 #[test]
 fn four_stations_agree() {
     for (at, cast) in casts().iter().enumerate() {
-        let setting = Setting { name: format!("agree{at}"), leaders: turns(0, 12), delta: 5000 };
+        let setting = setting(format!("agree{at}"), turns(0, 12), 5000);
         let mut network = Network::new(setting, cast);
         (0..4).for_each(|station| network.begin(station, &ENTRIES));
         agree(&mut network, &[0, 1, 2, 3]);
@@ -60,10 +65,22 @@ fn four_stations_agree() {
 #[test]
 fn three_stations_go_on_by_their_timers() {
     for (at, cast) in casts().iter().enumerate() {
-        let setting = Setting { name: format!("away{at}"), leaders: turns(3, 24), delta: 400 };
+        let setting = setting(format!("away{at}"), turns(3, 24), 400);
         let mut network = Network::new(setting, cast);
         (0..3).for_each(|station| network.begin(station, &ENTRIES));
         agree(&mut network, &[0, 1, 2]);
+        network.end();
+    }
+}
+
+/// A large partner and one small one are a quorum, 4 of 6, though two others, the first leader among them, are away.
+#[test]
+fn two_stations_of_enough_weight_go_on() {
+    for (at, cast) in casts().iter().enumerate() {
+        let equal = setting(format!("weight{at}"), turns(2, 24), 400);
+        let mut network = Network::new(Setting { weights: [3, 1, 1, 1], ..equal }, cast);
+        (0..2).for_each(|station| network.begin(station, &ENTRIES));
+        agree(&mut network, &[0, 1]);
         network.end();
     }
 }
@@ -73,7 +90,7 @@ fn three_stations_go_on_by_their_timers() {
 #[test]
 fn a_station_that_was_killed_catches_up() {
     for (at, cast) in casts().iter().enumerate() {
-        let setting = Setting { name: format!("killed{at}"), leaders: turns(0, 12), delta: 200 };
+        let setting = setting(format!("killed{at}"), turns(0, 12), 200);
         let mut network = Network::new(setting, cast);
         (0..4).for_each(|station| network.begin(station, &ENTRIES));
         network.carry(|registers| registers.iter().any(|register| !register.is_empty()));
@@ -96,7 +113,7 @@ fn a_station_that_was_killed_catches_up() {
 #[test]
 fn frames_that_wait_go_out_first() {
     for (at, cast) in casts().iter().enumerate() {
-        let setting = Setting { name: format!("waiting{at}"), leaders: turns(0, 12), delta: 5000 };
+        let setting = setting(format!("waiting{at}"), turns(0, 12), 5000);
         let mut network = Network::new(setting, cast);
         let book = Book::open(reference::Rules::SHA256, 4, 0, &[1; 4], &turns(0, 12)).unwrap();
         let mut book = FileBook::create(book, network.file("book", 0)).unwrap();
@@ -121,7 +138,7 @@ fn evidence_is_kept() {
     let vote = |byte| Frame::BlockVote { signer, height: 9, digest: [byte; 32] }.bytes();
     let votes = [1, 2].map(vote);
     for (at, cast) in casts().iter().enumerate() {
-        let setting = Setting { name: format!("evidence{at}"), leaders: turns(3, 24), delta: 400 };
+        let setting = setting(format!("evidence{at}"), turns(3, 24), 400);
         let mut network = Network::new(setting, cast);
         (0..3).for_each(|station| network.begin(station, &ENTRIES));
         for frame in proposals.iter().chain(&votes) {

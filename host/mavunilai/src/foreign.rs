@@ -113,12 +113,19 @@ impl Calls for Proved {
         weights: &[u8],
         leaders: &[u8],
     ) -> Result<(), u8> {
-        let (weighs, count) = (weights.as_ptr(), weights.len());
-        let (at, length) = (leaders.as_ptr(), leaders.len());
         // SAFETY: see Proved.
         unpack_done(fitting(|| unsafe {
-            let (book, book_length) = (book.as_mut_ptr(), book.len());
-            mavunilai_open(book, book_length, n, own, heights, weighs, count, at, length)
+            mavunilai_open(
+                book.as_mut_ptr(),
+                book.len(),
+                n,
+                own,
+                heights,
+                weights.as_ptr(),
+                weights.len(),
+                leaders.as_ptr(),
+                leaders.len(),
+            )
         }))
     }
 

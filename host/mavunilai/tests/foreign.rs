@@ -58,7 +58,7 @@ fn a_packet_is_counted() {
 
 /// The book of a replica alone, after all its moves on one entry.
 fn logged() -> Book<Proved> {
-    let mut book = Book::open(Proved, 1, 0, &[1; 1], &[0, 0]).unwrap();
+    let mut book = Book::open(Proved, 1, 0, &[1], &[0, 0]).unwrap();
     assert_eq!(book.submit(&[3; 16]), Ok(()));
     assert_eq!(book.submit(&[3; 16]), Err(Refusal::EntryKnown));
     assert_eq!(book.pending(), [[3; 16]]);
@@ -145,7 +145,7 @@ fn refusals_of_an_observer_come_through() {
     assert_eq!(observer.deliver(&high), Err(Refusal::NoSuchHeight));
     for (n, heights) in [(0, 1), (17, 1), (4, 0), (4, 64), (4, Height::MAX)] {
         assert_eq!(
-            ObserverBook::open(Proved, n, heights, &vec![1; n as usize]).err(),
+            ObserverBook::open(Proved, n, heights, &[1; 4]).err(),
             Some(Refusal::OutOfRange)
         );
     }
@@ -154,9 +154,33 @@ fn refusals_of_an_observer_come_through() {
     assert_eq!(Book::from_bytes(Proved, observer.bytes().to_vec()).err(), Some(Refusal::Unsound));
     assert_eq!(Proved.observer_deliver(&mut station, &certificate), Err(1));
     assert_eq!(Proved.observer_move(&mut station), Err(1));
-    assert_eq!(Proved.observer_open(&mut station, 4, 2, &[1, 0].repeat(4)), Err(1));
+    assert_eq!(Proved.observer_open(&mut station, 4, 2, &[1, 0, 1, 0, 1, 0, 1, 0]), Err(1));
     assert_eq!(Proved.observer_read(&station, &mut [0; 16]), 0);
     assert_eq!(station, book().bytes());
+}
+
+/// Weights come through both opening calls, in their order and width; those out of range, or not n of them, are refused.
+#[test]
+fn weights_come_through() {
+    let weights = [1000, 1, 256, 513];
+    let bytes = [0xe8, 3, 1, 0, 0, 1, 1, 2, 0, 0];
+    let station = Book::open(Proved, 4, 0, &weights, &[0]).unwrap();
+    let observer = ObserverBook::open(Proved, 4, 1, &weights).unwrap();
+    assert_eq!((station.bytes()[7], &station.bytes()[8..18]), (2, &bytes[..]));
+    assert_eq!((observer.bytes()[7], &observer.bytes()[8..18]), (2, &bytes[..]));
+    let refused: [&[u16]; 6] =
+        [&[], &[1; 3], &[1; 5], &[1, 0, 1, 1], &[1, 1, 1, 1001], &[65535, 1, 1, 1]];
+    for weights in refused {
+        assert_eq!(Book::open(Proved, 4, 0, weights, &[0]).err(), Some(Refusal::OutOfRange));
+        assert_eq!(ObserverBook::open(Proved, 4, 1, weights).err(), Some(Refusal::OutOfRange));
+    }
+    let (mut station, mut observer) = (station.bytes().to_vec(), observer.bytes().to_vec());
+    for length in [0, 7, 9, 10] {
+        assert_eq!(Proved.open(&mut station, 4, 0, 1, &bytes[..length], &[0]), Err(2));
+        assert_eq!(Proved.observer_open(&mut observer, 4, 1, &bytes[..length]), Err(2));
+    }
+    assert_eq!(Proved.open(&mut station, 4, 0, 1, &bytes[..8], &[0]), Ok(()));
+    assert_eq!(Proved.observer_open(&mut observer, 4, 1, &bytes[..8]), Ok(()));
 }
 
 /// One of many entries, which begin with 0 to 3 in turn.

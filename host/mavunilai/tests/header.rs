@@ -30,8 +30,18 @@ fn numbers() -> BTreeMap<String, u64> {
 }
 
 /// The programs in C that tests here and beside this file run.
-const TESTS: [&str; 8] =
-    ["promises", "observers", "repeats", "texts", "readers", "makers", "digests", "packet_each"];
+const TESTS: [&str; 10] = [
+    "promises",
+    "observers",
+    "repeats",
+    "weights",
+    "texts",
+    "readers",
+    "weighing",
+    "makers",
+    "digests",
+    "packet_each",
+];
 
 #[test]
 fn header_example_and_tests_compile_without_warnings() {
@@ -137,6 +147,7 @@ fn lengths_and_maxima_are_those_of_the_types() {
     is("MOVE_REPLY", 2 * types::FRAME);
     is("FETCH_REPLY", types::FRAME);
     is("MOST_STATIONS", types::MOST_REPLICAS.into());
+    is("MOST_WEIGHT", types::MOST_WEIGHT.into());
     is("MOST_HEIGHTS", types::MOST_HEIGHTS.into());
     is("MOST_PENDING", Layout::new(1).pending().len() / types::ENTRY);
     is("MOST_BOOK", book_length(types::MOST_HEIGHTS));
@@ -159,6 +170,9 @@ fn fields_of_the_book_are_where_the_types_have_them() {
     is("HEAD_SETTLED", field::FINALIZED);
     is("HEAD_PENDING", field::PENDING);
     is("HEAD_EDITION", field::EDITION);
+    is("HEAD_WEIGHTS", field::WEIGHTS);
+    is("EDITION_UNWEIGHED", types::FIRST_EDITION.into());
+    is("EDITION_WEIGHED", types::EDITION.into());
     is("PENDING_AT", Layout::new(1).pending().start);
     is("CONTENTS_AT", Layout::new(1).area(1, Area::Row).start);
     is("ROW", Layout::new(1).area(1, Area::Row).len());
@@ -269,7 +283,7 @@ fn interface_is_that_of_the_wrapper() {
 #[test]
 #[cfg(feature = "proved")]
 fn promises_are_kept() {
-    for name in ["promises", "observers", "repeats", "packet_each"] {
+    for name in ["promises", "observers", "repeats", "weights", "packet_each"] {
         let program = word(&format!("mavunilai/tests/c/{name}.c"));
         for language in LANGUAGES {
             let files = [&program, "-x", "none", env!("MAVUNILAI_ARCHIVE")];

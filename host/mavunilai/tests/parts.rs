@@ -5,7 +5,7 @@ mod common;
 
 use common::{compiler, host, prints, prints_of, scratch, LANGUAGES};
 use types::{book_length, field, observer_book_length, Block, Book, Entries, Frame, Height};
-use types::{ObserverBook, MOST_HEIGHTS, MOST_REPLICAS};
+use types::{ObserverBook, MOST_HEIGHTS};
 
 /// What stands for no station, as MAVUNILAI_NO_STATION of the header.
 const NO_STATION: u8 = 255;
@@ -103,7 +103,8 @@ fn pages_and_frames_are_made_as_by_the_types() {
         expected.push(digits(&frame.bytes()));
     }
     expected.push(digits(&high));
-    expected.extend((0..=MOST_REPLICAS + 1).map(quorums));
+    let weights: [u16; 6] = [1, 255, 256, 1000, 0, 65535];
+    expected.push(digits(weights.map(u16::to_le_bytes).as_flattened()));
     let program = word("mavunilai/tests/c/makers.c");
     let words = [&watched()[..], &[&program]].concat();
     if let Some((text, ended)) = prints(LANGUAGES[0], "makers", &words) {
@@ -111,13 +112,57 @@ fn pages_and_frames_are_made_as_by_the_types() {
     }
 }
 
-/// A 1 or 0 for each mask, as its members are stations of n and at least two thirds of them, with n in range.
-fn quorums(n: u8) -> String {
-    let is = |mask: u16| {
-        let in_range = (1..=MOST_REPLICAS).contains(&n) && u32::from(mask) >> n == 0;
-        in_range && reference::is_quorum(mask, &vec![1; n.into()])
-    };
-    (0..=u16::MAX).map(|mask| if is(mask) { '1' } else { '0' }).collect()
+/// The weight of the stations of a mask.
+fn weight(weights: &[u16], mask: u32) -> u32 {
+    let of = |(station, weight): (usize, &u16)| u32::from(*weight) * (mask >> station & 1);
+    weights.iter().enumerate().map(of).sum()
+}
+
+/// The lines that `weighing.c` is to print of a book with these weights, worked out from the numbers.
+fn weighed(weights: &[u16]) -> [String; 3] {
+    let all = weight(weights, u32::MAX);
+    let is_quorum = |mask: u32| mask >> weights.len() == 0 && 3 * weight(weights, mask) >= 2 * all;
+    let mut first: Vec<u32> = weights.iter().map(|weight| (*weight).into()).collect();
+    first.resize(26, 0);
+    first.extend([all, (2 * all).div_ceil(3)]);
+    let quorums = (0..=65536).map(|mask| if is_quorum(mask) { '1' } else { '0' });
+    let some = (0..=65535).step_by(257).map(|mask| weight(weights, mask)).chain([all]);
+    let join = |numbers: Vec<u32>| numbers.iter().map(u32::to_string).collect::<Vec<_>>().join(" ");
+    [join(first), quorums.collect(), join(some.collect())]
+}
+
+/// Weights of stations: equal ones, a large partner and small ones, and others of every number of stations.
+fn many_weights() -> Vec<Vec<u16>> {
+    let mut all: Vec<Vec<u16>> = (1..=16).map(|n| vec![1; n]).collect();
+    all.extend([vec![10, 1, 1, 1], vec![3, 1, 1, 1], vec![1000; 16], vec![1000, 1]]);
+    all.extend((1..=16_u16).map(|n| (0..n).map(|at| (at * 397 + n * 61) % 1000 + 1).collect()));
+    all
+}
+
+/// Weights and quorums are those of the numbers that a book was opened with; in a book of edition 1 all weigh 1.
+#[test]
+fn weights_are_read_from_the_head() {
+    let (mut input, mut expected) = (Vec::new(), Vec::new());
+    for weights in many_weights() {
+        let n = weights.len() as u64;
+        let station = Book::open(reference::Rules::SHA256, n, 0, &weights, &[0]).unwrap();
+        let observer = ObserverBook::open(reference::Rules::SHA256, n, 1, &weights).unwrap();
+        let mut older = station.bytes().to_vec();
+        types::put_first_edition(&mut older);
+        assert!(Book::from_bytes(reference::Rules::SHA256, older.clone()).is_ok());
+        for book in [station.bytes(), observer.bytes(), &older] {
+            input.extend(&book[..64]);
+        }
+        let ones = vec![1; weights.len()];
+        for weights in [&weights, &weights, &ones] {
+            expected.extend(weighed(weights));
+        }
+    }
+    let program = word("mavunilai/tests/c/weighing.c");
+    let words = [&watched()[..], &[&program]].concat();
+    if let Some((text, ended)) = prints_of(LANGUAGES[0], "weighing", &words, &input) {
+        assert!(ended && text.lines().eq(expected.iter().map(String::as_str)));
+    }
 }
 
 #[test]

@@ -81,7 +81,8 @@ impl Said {
     }
 }
 
-/// The line of a book's station and season; two seasons with the same roll are not told apart.
+/// The line of a book's station and season; two seasons with the same roll are not told apart. It has neither weights
+/// nor edition: what was said beside a book of edition 1 is of its season still, and binds one of other weights too.
 fn season<C: Calls>(book: &Book<C>) -> String {
     let leaders: Vec<u8> = (1..=book.heights()).filter_map(|height| book.leader(height)).collect();
     let roll = digits::print(&sha256::digest(&leaders));

@@ -43,12 +43,14 @@ pub fn holds<C: Calls + Copy>(bench: &Bench<C>) {
     zeros(bench);
 }
 
-/// Opening writes n, H and the edition; all else is zero.
+/// Opening writes n, H, the edition and a weight of 1 for each station; all else is zero.
 fn opening<C: Calls + Copy>(bench: &Bench<C>) {
     let mut expected = vec![0; PAGES + 176 * HEIGHTS];
-    for (field, value) in [("n", N as u8), ("H", HEIGHTS as u8), ("edition", 1)] {
+    for (field, value) in [("n", N as u8), ("H", HEIGHTS as u8), ("edition", 2)] {
         expected[bench.observer_head(field).start] = value;
     }
+    let weights = bench.observer_head("weights").start;
+    expected[weights..weights + 8].copy_from_slice(&[1, 0, 1, 0, 1, 0, 1, 0]);
     assert_eq!(bench.observer(), expected);
 }
 
@@ -102,7 +104,7 @@ fn zeros<C: Calls + Copy>(bench: &Bench<C>) {
         zeros.map(move |at| ROWS + 8 * before + at)
     });
     let zeros = bench.formats.zeros("Head of an observer's book");
-    assert_eq!(zeros.len(), 60);
+    assert_eq!(zeros.len(), 28);
     for at in zeros.into_iter().chain(rows) {
         let mut book = bench.observer();
         assert_eq!(bench.calls.observer_size(&book), Ok(0));

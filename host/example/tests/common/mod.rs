@@ -61,6 +61,7 @@ impl Program {
 pub struct Setting {
     /// Names the folder of the network's files.
     pub name: String,
+    pub weights: [u16; 4],
     pub leaders: Vec<u8>,
     /// Δ in milliseconds.
     pub delta: u64,
@@ -107,10 +108,11 @@ impl Network {
 
     /// Begins a station and hands it these entries.
     pub fn begin(&mut self, own: usize, entries: &[[u8; 16]]) {
+        let weights = self.setting.weights.map(|weight| weight.to_string()).join(",");
         let leaders = self.setting.leaders.iter().map(u8::to_string).collect::<Vec<_>>().join(",");
         let [book, evidence] = ["book", "evidence"].map(|name| self.file(name, own));
         let command = &mut Command::new(&self.cast[own].0);
-        command.arg(book).args(["4", &own.to_string(), &leaders]);
+        command.arg(book).args(["4", &own.to_string(), &weights, &leaders]);
         command.arg(self.setting.delta.to_string()).arg(evidence);
         let child = command.stdin(Stdio::piped()).stdout(Stdio::piped()).stderr(Stdio::piped());
         let mut child = child.spawn().unwrap();

@@ -1,5 +1,5 @@
-/* Prints what the header makes out of parts: a page, a frame of each kind from 1 to 4 and one of a great height, as
- * digits; then for each n from 0 to 17 a line with a 1 or a 0 for each mask, as it is a quorum or not. */
+/* Prints what the header makes out of parts, as digits: a page, a frame of each kind from 1 to 4 and one of a great
+ * height, and weights. */
 #include <stdio.h>
 
 #include "mavunilai.h"
@@ -20,16 +20,9 @@ static int bounds_hold(const uint8_t *entries) {
            mavunilai_make_page(page, 1, 0, NULL, entries, 8) == 1 && page[0] == 1;
 }
 
-/* Prints the quorums of n. */
-static void print_quorums(unsigned n) {
-    unsigned mask;
-    for (mask = 0; mask <= 65535u; mask++) {
-        putchar(mavunilai_quorum(n, mask) ? '1' : '0');
-    }
-    printf("\n");
-}
-
 int main(void) {
+    static const uint16_t numbers[] = {1, 255, 256, 1000, 0, 65535};
+    uint8_t weights[MAVUNILAI_WEIGHTS(6)];
     uint8_t entries[9 * MAVUNILAI_ENTRY], digest[MAVUNILAI_DIGEST], page[MAVUNILAI_PAGE], frame[MAVUNILAI_FRAME];
     unsigned at;
     for (at = 0; at < sizeof entries; at++) {
@@ -52,8 +45,7 @@ int main(void) {
     print(frame, sizeof frame);
     mavunilai_make_finalise(frame, 255, 1000);
     print(frame, sizeof frame);
-    for (at = 0; at <= MAVUNILAI_MOST_STATIONS + 1u; at++) {
-        print_quorums(at);
-    }
+    mavunilai_make_weights(weights, numbers, 6);
+    print(weights, sizeof weights);
     return 0;
 }

@@ -12,11 +12,15 @@
 
 #define REFUSED(call) mavunilai_refusal(call)
 
+/* The weights of four stations. */
+static const uint8_t weights[MAVUNILAI_WEIGHTS(4)] = {1, 0, 1, 0, 1, 0, 1, 0};
+
 /* A book of no bytes behind a null pointer is refused as any book that is not sound. */
 static void no_book(void) {
     uint8_t frame[MAVUNILAI_FRAME] = {MAVUNILAI_KIND_BLANK_CERTIFICATE, 0, 1, 0, 7}, buffer[16];
-    EXPECT(REFUSED(mavunilai_observer_open(NULL, 0, 1, 1)) == MAVUNILAI_REFUSED_UNSOUND);
-    EXPECT(REFUSED(mavunilai_observer_open(NULL, 0, 1, 0)) == MAVUNILAI_REFUSED_OUT_OF_RANGE);
+    EXPECT(REFUSED(mavunilai_observer_open(NULL, 0, 4, 1, weights, 8)) == MAVUNILAI_REFUSED_UNSOUND);
+    EXPECT(REFUSED(mavunilai_observer_open(NULL, 0, 4, 0, weights, 8)) == MAVUNILAI_REFUSED_OUT_OF_RANGE);
+    EXPECT(REFUSED(mavunilai_observer_open(NULL, 0, 4, 1, NULL, 0)) == MAVUNILAI_REFUSED_OUT_OF_RANGE);
     EXPECT(REFUSED(mavunilai_observer_deliver(NULL, 0, frame, sizeof frame)) == MAVUNILAI_REFUSED_UNSOUND);
     EXPECT(REFUSED(mavunilai_observer_deliver(NULL, 0, NULL, 0)) == MAVUNILAI_REFUSED_UNSOUND);
     EXPECT(REFUSED(mavunilai_observer_move(NULL, 0)) == MAVUNILAI_REFUSED_UNSOUND);
@@ -25,19 +29,20 @@ static void no_book(void) {
     EXPECT(mavunilai_observer_read(NULL, 0, NULL, 0) == 0);
 }
 
-/* A new book has n, heights and edition, and all else is zero. */
+/* A new book has n, heights, edition and weights, and all else is zero. */
 static void opened(uint8_t *book) {
     size_t at, set = 0;
     memset(book, 0x5a, LENGTH);
-    EXPECT(REFUSED(mavunilai_observer_open(book, LENGTH, 17, HEIGHTS)) == MAVUNILAI_REFUSED_OUT_OF_RANGE);
-    EXPECT(REFUSED(mavunilai_observer_open(book, LENGTH, 4, HEIGHTS + 1)) == MAVUNILAI_REFUSED_UNSOUND);
+    EXPECT(REFUSED(mavunilai_observer_open(book, LENGTH, 17, HEIGHTS, weights, 8)) == MAVUNILAI_REFUSED_OUT_OF_RANGE);
+    EXPECT(REFUSED(mavunilai_observer_open(book, LENGTH, 4, HEIGHTS + 1, weights, 8)) == MAVUNILAI_REFUSED_UNSOUND);
     EXPECT(book[0] == 0x5a && book[LENGTH - 1] == 0x5a);
-    EXPECT(mavunilai_observer_open(book, LENGTH, 4, HEIGHTS).packed == 0);
+    EXPECT(mavunilai_observer_open(book, LENGTH, 4, HEIGHTS, weights, 8).packed == 0);
     for (at = 0; at < LENGTH; at++) {
         set += book[at] != 0;
     }
-    EXPECT(set == 3 && book[MAVUNILAI_HEAD_STATIONS] == 4 && book[MAVUNILAI_HEAD_HEIGHTS] == HEIGHTS);
-    EXPECT(book[MAVUNILAI_HEAD_EDITION] == 1 && mavunilai_settled(book) == 0);
+    EXPECT(set == 7 && book[MAVUNILAI_HEAD_STATIONS] == 4 && book[MAVUNILAI_HEAD_HEIGHTS] == HEIGHTS);
+    EXPECT(book[MAVUNILAI_HEAD_EDITION] == MAVUNILAI_EDITION_WEIGHED && mavunilai_settled(book) == 0);
+    EXPECT(memcmp(book + MAVUNILAI_HEAD_WEIGHTS, weights, sizeof weights) == 0);
     EXPECT(REFUSED(mavunilai_observer_deliver(book, LENGTH, NULL, 0)) == MAVUNILAI_REFUSED_MALFORMED);
     EXPECT(mavunilai_observer_read(book, LENGTH, NULL, 0) == 0);
     EXPECT(mavunilai_observer_move(book, LENGTH).packed == 0);
@@ -92,7 +97,7 @@ static void other_kind(uint8_t *observer) {
     static const uint8_t leaders[HEIGHTS] = {0, 0, 0};
     uint8_t station[STATION], reply[MAVUNILAI_MOVE_REPLY], before[LENGTH];
     memcpy(before, observer, LENGTH);
-    EXPECT(REFUSED(mavunilai_open(station, STATION, 4, 0, HEIGHTS, leaders, HEIGHTS)) == 0);
+    EXPECT(REFUSED(mavunilai_open(station, STATION, 4, 0, HEIGHTS, weights, 8, leaders, HEIGHTS)) == 0);
     EXPECT(REFUSED(mavunilai_observer_size(station, STATION)) == MAVUNILAI_REFUSED_UNSOUND);
     EXPECT(REFUSED(mavunilai_observer_move(station, STATION)) == MAVUNILAI_REFUSED_UNSOUND);
     EXPECT(REFUSED(mavunilai_size(observer, LENGTH)) == MAVUNILAI_REFUSED_UNSOUND);

@@ -19,7 +19,7 @@ static void vote(uint8_t *frame, unsigned signer, int byte) {
 }
 
 int main(void) {
-    static const uint8_t leaders[2] = {0, 0};
+    static const uint8_t weights[MAVUNILAI_WEIGHTS(4)] = {1, 0, 1, 0, 1, 0, 1, 0}, leaders[2] = {0, 0};
     static const unsigned signers[FRAMES] = {1, 1, 1, 9, 2, 2};
     static const int bytes[FRAMES] = {1, 2, 1, 1, 3, 4};
     static const unsigned refusals[FRAMES] = {0, MAVUNILAI_REFUSED_OTHER_KEPT, 0, MAVUNILAI_REFUSED_NO_SUCH_SIGNER,
@@ -33,7 +33,7 @@ int main(void) {
         vote(packet + at * MAVUNILAI_FRAME, signers[at], bytes[at]);
         answers[at].packed = 77;
     }
-    EXPECT(mavunilai_open(book, LENGTH, 4, 2, 2, leaders, 2).packed == 0);
+    EXPECT(mavunilai_open(book, LENGTH, 4, 2, 2, weights, 8, leaders, 2).packed == 0);
     memcpy(before, book, LENGTH);
     EXPECT(mavunilai_packet_each(book, LENGTH, copy, packet, 225, answers).packed == MAVUNILAI_REFUSED_UNEVEN_PACKET);
     EXPECT(mavunilai_packet_each(book, 9, copy, packet, 225, answers).packed == MAVUNILAI_REFUSED_UNSOUND);

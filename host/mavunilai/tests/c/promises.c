@@ -11,10 +11,11 @@
 
 #define REFUSED(call) mavunilai_refusal(call)
 
+static const uint8_t weights[MAVUNILAI_WEIGHTS(1)] = {1, 0}, leaders[HEIGHTS] = {0, 0};
+
 /* A new book of a station alone. */
 static void open_alone(uint8_t *book) {
-    static const uint8_t leaders[HEIGHTS] = {0, 0};
-    EXPECT(REFUSED(mavunilai_open(book, LENGTH, 1, 0, HEIGHTS, leaders, sizeof leaders)) == 0);
+    EXPECT(REFUSED(mavunilai_open(book, LENGTH, 1, 0, HEIGHTS, weights, 2, leaders, HEIGHTS)) == 0);
 }
 
 /* Moves until idle and delivers what is written; the number of frames. */
@@ -43,11 +44,11 @@ static int are(const mavunilai_counts *counts, unsigned fresh, unsigned known, u
 
 /* A book of no bytes behind a null pointer is refused as any book that is not sound. */
 static void no_book(void) {
-    static const uint8_t leaders[1] = {0};
     uint8_t frame[MAVUNILAI_FRAME] = {MAVUNILAI_KIND_BLANK_VOTE, 0, 1}, reply[MAVUNILAI_MOVE_REPLY], buffer[16];
     mavunilai_counts counts = {7, 8, 9};
-    EXPECT(REFUSED(mavunilai_open(NULL, 0, 1, 0, 1, leaders, 1)) == MAVUNILAI_REFUSED_UNSOUND);
-    EXPECT(REFUSED(mavunilai_open(NULL, 0, 1, 0, 0, NULL, 0)) == MAVUNILAI_REFUSED_OUT_OF_RANGE);
+    EXPECT(REFUSED(mavunilai_open(NULL, 0, 1, 0, 1, weights, 2, leaders, 1)) == MAVUNILAI_REFUSED_UNSOUND);
+    EXPECT(REFUSED(mavunilai_open(NULL, 0, 1, 0, 0, weights, 2, NULL, 0)) == MAVUNILAI_REFUSED_OUT_OF_RANGE);
+    EXPECT(REFUSED(mavunilai_open(NULL, 0, 1, 0, 1, NULL, 0, leaders, 1)) == MAVUNILAI_REFUSED_OUT_OF_RANGE);
     EXPECT(REFUSED(mavunilai_deliver(NULL, 0, frame, sizeof frame)) == MAVUNILAI_REFUSED_UNSOUND);
     EXPECT(REFUSED(mavunilai_deliver(NULL, 0, NULL, 0)) == MAVUNILAI_REFUSED_UNSOUND);
     EXPECT(REFUSED(mavunilai_packet(NULL, 0, frame, sizeof frame, &counts)) == MAVUNILAI_REFUSED_UNSOUND);
@@ -70,7 +71,8 @@ static void null_beside(uint8_t *book, unsigned expected_read) {
     mavunilai_counts counts = {7, 8, 9};
     uint8_t before[LENGTH];
     memcpy(before, book, LENGTH);
-    EXPECT(REFUSED(mavunilai_open(book, LENGTH, 1, 0, HEIGHTS, NULL, 0)) == MAVUNILAI_REFUSED_OUT_OF_RANGE);
+    EXPECT(REFUSED(mavunilai_open(book, LENGTH, 1, 0, HEIGHTS, weights, 2, NULL, 0)) == MAVUNILAI_REFUSED_OUT_OF_RANGE);
+    EXPECT(REFUSED(mavunilai_open(book, LENGTH, 1, 0, HEIGHTS, NULL, 0, leaders, 2)) == MAVUNILAI_REFUSED_OUT_OF_RANGE);
     EXPECT(REFUSED(mavunilai_deliver(book, LENGTH, NULL, 0)) == MAVUNILAI_REFUSED_MALFORMED);
     EXPECT(REFUSED(mavunilai_packet(book, LENGTH, NULL, 0, &counts)) == 0 && are(&counts, 0, 0, 0));
     EXPECT(REFUSED(mavunilai_move(book, LENGTH, NULL, 0)) == MAVUNILAI_REFUSED_SHORT_REPLY);

@@ -35,7 +35,7 @@ static int holds(const uint8_t *buffer, uint64_t length, uint64_t part) {
 }
 
 int main(void) {
-    static const uint8_t leaders[1] = {0};
+    static const uint8_t weights[MAVUNILAI_WEIGHTS(1)] = {1, 0}, leaders[1] = {0};
     uint8_t page[MAVUNILAI_FRAME] = {MAVUNILAI_KIND_PAGE_CERTIFICATE, 0, 1, 0, 1}, *body = page + MAVUNILAI_FRAME_PAGE;
     uint8_t finalise[MAVUNILAI_FRAME] = {MAVUNILAI_KIND_FINALISE_CERTIFICATE, 0, 1, 0, 1};
     uint8_t book[LENGTH], observer[OBSERVER], reply[MAVUNILAI_MOVE_REPLY], buffer[ROOM];
@@ -44,8 +44,8 @@ int main(void) {
     body[MAVUNILAI_PAGE_COUNT] = sizeof carried;
     entries(body + MAVUNILAI_PAGE_ENTRIES, carried, sizeof carried);
     EXPECT(mavunilai_fits());
-    EXPECT(mavunilai_open(book, LENGTH, 1, 0, 1, leaders, 1).packed == 0);
-    EXPECT(mavunilai_observer_open(observer, OBSERVER, 1, 1).packed == 0);
+    EXPECT(mavunilai_open(book, LENGTH, 1, 0, 1, weights, 2, leaders, 1).packed == 0);
+    EXPECT(mavunilai_observer_open(observer, OBSERVER, 1, 1, weights, 2).packed == 0);
     EXPECT(mavunilai_fresh(mavunilai_deliver(book, LENGTH, page, sizeof page)) == 1);
     EXPECT(mavunilai_fresh(mavunilai_deliver(book, LENGTH, finalise, sizeof finalise)) == 1);
     EXPECT(mavunilai_fresh(mavunilai_observer_deliver(observer, OBSERVER, page, sizeof page)) == 1);
