@@ -114,10 +114,14 @@ static int written(const char *folder, const char *kind, unsigned heights, const
     return file && fwrite(bytes, 1, size, file) == size && fclose(file) == 0;
 }
 
+/* New books of edition 1, which libraries of before and after there were weights take; no call makes such. */
 static void opened(unsigned heights) {
-    static const uint8_t leaders[MAVUNILAI_MOST_HEIGHTS];
-    mavunilai_open(book, MAVUNILAI_BOOK(heights), 1, 0, heights, leaders, heights);
-    mavunilai_observer_open(observed, MAVUNILAI_OBSERVER_BOOK(heights), 1, heights);
+    memset(book, 0, MAVUNILAI_BOOK(heights));
+    memset(observed, 0, MAVUNILAI_OBSERVER_BOOK(heights));
+    book[MAVUNILAI_HEAD_STATIONS] = observed[MAVUNILAI_HEAD_STATIONS] = 1;
+    book[MAVUNILAI_HEAD_HEIGHTS] = observed[MAVUNILAI_HEAD_HEIGHTS] = (uint8_t)heights;
+    book[MAVUNILAI_HEAD_EDITION] = observed[MAVUNILAI_HEAD_EDITION] = 1;
+    book[MAVUNILAI_HEAD_CURRENT] = 1;
 }
 
 /* Moves until there is no move, and delivers what was written but for own proposals; a page vote tells the digest. */

@@ -17,7 +17,7 @@ typedef struct {
     uint8_t bytes[SIZE];
 } Book;
 
-static uint8_t roll[HEIGHTS], reply[MAVUNILAI_MOST_REGISTER];
+static uint8_t reply[MAVUNILAI_MOST_REGISTER];
 
 /* The one function in which instructions are counted; 0 if the call was not refused. */
 __attribute__((noinline)) static unsigned counted(enum call call, uint8_t *book, const uint8_t *frame) {
@@ -33,12 +33,17 @@ __attribute__((noinline)) static unsigned counted(enum call call, uint8_t *book,
     }
 }
 
+/* A new book of edition 1, which libraries of before and after there were weights take; no call makes such. */
 static void opened(Book *book, unsigned own) {
     unsigned i;
+    memset(book->bytes, 0, SIZE);
+    book->bytes[MAVUNILAI_HEAD_STATIONS] = STATIONS;
+    book->bytes[MAVUNILAI_HEAD_OWN] = (uint8_t)own;
+    book->bytes[MAVUNILAI_HEAD_HEIGHTS] = HEIGHTS;
+    book->bytes[MAVUNILAI_HEAD_CURRENT] = book->bytes[MAVUNILAI_HEAD_EDITION] = 1;
     for (i = 0; i < HEIGHTS; i++) {
-        roll[i] = (uint8_t)(i + 1);
+        book->bytes[MAVUNILAI_CONTENTS_AT + MAVUNILAI_ROW * i] = (uint8_t)(i + 1);
     }
-    mavunilai_open(book->bytes, SIZE, STATIONS, own, HEIGHTS, roll, HEIGHTS);
 }
 
 /* ---- a proposal that finds votes ---- */
