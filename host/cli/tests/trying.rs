@@ -52,12 +52,12 @@ fn a_network_that_is_cut_is_not_counted() {
 
 #[test]
 fn a_wrong_answer_is_told_with_the_call_and_can_be_replayed() {
-    let ended = tried("--seed 1 --count 300", "M answer | sed -u 's/^known /fresh /'");
+    let ended = tried("--seed 3 --count 300", "M answer | sed -u 's/^known /fresh /'");
     assert_eq!(ended.status, 1);
     let expected = format!("\
-mavunilai: sh, call 1 (case \"seed 1, part 1, a sound book that no run makes\"): it differs from {NAME}
-the call: deliver book 030002+00*221
-its frame: blank vote (kind 3), signer 0, height 2
+mavunilai: sh, call 8 (case \"seed 3, part 1, a sound book that no run makes\"): it differs from {NAME}
+the call: deliver book 040205+00*221
+its frame: finalise (kind 4), signer 2, height 5
 answers: ours 'known', theirs 'fresh'
 books: the same
 ");
@@ -65,8 +65,8 @@ books: the same
     let shown = ended.text();
     let mut lines = shown.lines();
     assert_eq!(lines.next(), Some("mavunilai exchange 2"));
-    assert_eq!(lines.next(), Some("# seed 1, part 1, a sound book that no run makes"));
-    assert!(shown.contains("\ndeliver book 030002+00*221 == known 01"), "{shown}");
+    assert_eq!(lines.next(), Some("# seed 3, part 1, a sound book that no run makes"));
+    assert!(shown.contains("\ndeliver book 040205+00*221 == known 0"), "{shown}");
     let replayed = run("replay -", shown.as_bytes());
     assert_eq!(replayed.text(), format!("-: 1 call on {NAME}, all as expected\n"));
 }
@@ -78,13 +78,12 @@ fn a_packet_is_told_with_its_frames() {
     assert_eq!(ended.status, 1);
     let told = ended.complaint;
     assert!(
-        told.contains("\nthe call: packet book 03") && told.contains("\nits packet: 6 frames\n")
+        told.contains("\nthe call: packet book 01") && told.contains("\nits packet: 6 frames\n")
     );
     assert!(
-        told.contains("\n  1: blank vote (kind 3), ")
-            && told.contains("\n  6: proposal (kind 1), ")
+        told.contains("\n  1: proposal (kind 1), ") && told.contains("\n  6: page vote (kind 2), ")
     );
-    let answers = "\nanswers: ours 'counts 0 2 4', theirs 'counts 2 0 4'\nbooks: the same\n";
+    let answers = "\nanswers: ours 'counts 0 1 5', theirs 'counts 1 0 5'\nbooks: the same\n";
     assert!(told.ends_with(answers), "{told}");
 }
 
@@ -141,7 +140,7 @@ fn what_a_program_may_do_but_answer() {
         assert_eq!(ended.status, 1, "{line}: {sentence}");
         assert!(sentence.starts_with(first) && sentence.contains(told), "{line}: {sentence}");
         assert!(
-            ended.complaint.contains("\nthe call: deliver book 030002+00*221\n"),
+            ended.complaint.contains("\nthe call: deliver book 030004+00*13+42+00*207\n"),
             "{line}: {}",
             ended.complaint
         );
