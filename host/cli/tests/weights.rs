@@ -269,7 +269,9 @@ fn a_head_that_is_not_sound_is_told() {
 #[test]
 fn a_kept_book_of_edition_1_works_on() {
     let path = kept("before", &older(station(&[1; 4], &[]).bytes()));
-    ["said", "frames"].map(|end| _ = std::fs::remove_file(format!("{path}.{end}")));
+    for end in ["said", "frames"] {
+        _ = std::fs::remove_file(format!("{path}.{end}"));
+    }
     let frames: Vec<u8> = [0, 1, 3]
         .iter()
         .flat_map(|&signer| Frame::DummyVote { signer, height: 1 }.bytes())

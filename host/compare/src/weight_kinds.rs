@@ -151,7 +151,7 @@ fn beside(mask: u16, weights: &Weights) -> Ordering {
 
 /// The kinds of a certificate.
 fn certificate(book: &[u8], frame: &[u8], answer: Answer) -> Vec<&'static str> {
-    if !frame.first().is_some_and(|kind| *kind >= 5) {
+    if frame.first().is_none_or(|kind| *kind < 5) {
         return Vec::new();
     }
     let (mask, weights) = (mask_at(frame, 4), Weights::of(book));
