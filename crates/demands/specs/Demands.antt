@@ -21,9 +21,10 @@
 -- below 256, as in a byte slice.
 use Prim.Native.Nat.{ℕ, _*_, _≤_}
 use mathlib.Core.Path.{_≡_}
-use mathlib.Core.Bool.{true, false, _&&_}
+use mathlib.Core.Bool.{true, false}
 use mathlib.Core.List.{List, [], _∷_, _++_, map}
 use lib.ListN.{length, replicate}
+use lib.Dec.{leb}
 use borrow.Author.Tests.{le-leb}
 use Rattle.sha256.specs.Digest.{sha256}
 use Rattle.sha256.specs.Laws.DigestLaws.{sha256-length}
@@ -32,9 +33,9 @@ use Rattle.protocol.specs.Distinct.{distinctAfter, distinct, noneTwice}
 use Rattle.protocol.specs.Tests.{firstRefusal}
 use Rattle.protocol.specs.Frame.{frameSize}
 use Rattle.protocol.specs.State.{State, decode, flag}
-use Rattle.protocol.specs.Mask.{inMask, weigh}
-use Rattle.protocol.specs.View.{View, quorum, totalWeight, logAt}
-use Rattle.protocol.specs.Laws.QuorumLaws.{quorums-third, equal-third}
+use Rattle.protocol.specs.Mask.{ones, intersection}
+use Rattle.protocol.specs.View.{View, maskWeight, quorum, totalWeight, logAt}
+use Rattle.protocol.specs.Laws.SharedLaws.{quorums-third, third-tight, quorum-equal, equal-third}
 use Rattle.protocol.specs.Sound.{view, sound, log}
 use Rattle.protocol.specs.Laws.DistinctLaws.{distinct-append}
 use Rattle.protocol.specs.Laws.LogLaws.{log-once, log-holds, log-whole}
@@ -277,7 +278,7 @@ pub first-places-stay : (entries more : List Bytes) →
     distinct (entries ++ more) ≡ distinct entries ++ distinctAfter entries more
 first-places-stay = distinct-append
 
--- each frame written is read over every book of the same n, H and leaders as the same statement
+-- each frame written is read over every book of the same n, weights, H and leaders as the same statement
 pub moves-are-read : (book reply other : Bytes) → SameSetting (decode book) (decode other) →
     MoveWritten sha256 book reply other
 moves-are-read = move-written-read sha256 sha256-length
@@ -286,15 +287,25 @@ pub fetches-are-read : (book : Bytes) (k h : ℕ) (reply other : Bytes) → Same
     FetchWritten sha256 book k h reply other
 fetches-are-read = fetch-written-read sha256
 
--- ---- 2.6: over any weights the replicas that two quorums share weigh at least a third of all ..
+-- ---- request 2.6: weights
+-- the replicas that two quorums share weigh at least a third of all, whatever the weights ..
 pub quorums-share-a-third : (v v′ : View) (a b : ℕ) → v′ .weights ≡ v .weights → quorum v a ≡ true →
-    quorum v′ b ≡ true → totalWeight v ≤ 3 * weigh (λ t. inMask a t && inMask b t) (v .weights)
+    quorum v′ b ≡ true → totalWeight v ≤ 3 * maskWeight v (intersection (length (v .weights)) a b)
 quorums-share-a-third = quorums-third
 
--- .. so that of n replicas of weight 1 at least a third are in both
-pub equal-quorums-share-a-third : (v v′ : View) (n a b : ℕ) → v .weights ≡ replicate n 1 →
-    v′ .weights ≡ replicate n 1 → quorum v a ≡ true → quorum v′ b ≡ true →
-    n ≤ 3 * weigh (λ t. inMask a t && inMask b t) (replicate n 1)
+-- .. and there are weights for which they weigh no more
+pub a-third-is-tight : (v : View) → v .weights ≡ 10 ∷ 4 ∷ 6 ∷ 7 ∷ 3 ∷ [] →
+    (quorum v 30 ≡ true) × (quorum v 25 ≡ true) × (3 * maskWeight v (intersection 5 30 25) ≡ totalWeight v)
+a-third-is-tight = third-tight
+
+-- where all replicas weigh the same, a quorum is document 01's, by their number ..
+pub equal-weights-count : (v : View) (n weight mask : ℕ) → 1 ≤ weight → v .weights ≡ replicate n weight →
+    quorum v mask ≡ leb (2 * n) (3 * ones mask n)
+equal-weights-count = quorum-equal
+
+-- .. so that at least a third of them is in two quorums
+pub equal-quorums-share-a-third : (v v′ : View) (n weight a b : ℕ) → 1 ≤ weight → v .weights ≡ replicate n weight →
+    v′ .weights ≡ replicate n weight → quorum v a ≡ true → quorum v′ b ≡ true → n ≤ 3 * ones (intersection n a b) n
 equal-quorums-share-a-third = equal-third
 
 -- ---- demand 3: of two logs read in any list of calls from observers and honest replicas one begins the other

@@ -94,7 +94,8 @@ no-replica-book = observer-no-replica sha256
 
 -- ---- what is left
 -- every byte of an opened book; and each call leaves a sound book sound
-pub observer-open-writes : (way : Opening) (book : Bytes) (n heights : ℕ) → observerOpenCall way book n heights .answer ≡ accepted done →
+pub observer-open-writes : (way : Opening) (book : Bytes) (n heights : ℕ) →
+    observerOpenCall way book n heights .answer ≡ accepted done →
     observerOpenCall way book n heights .book ≡ openedObserver way n heights
 observer-open-writes = observer-open-bytes
 
@@ -140,14 +141,15 @@ pub observers-read-nothing-else : (book buffer : Bytes) (size : ℕ) → observe
 observers-read-nothing-else book buffer size is fits part after size′ =
     reads-exact sha256 _ _ _ part buffer _ after size size′ (observer-reads-chain sha256 book buffer size is fits)
 
--- each certificate that a replica writes is read over every observer's book of the same n that has its height, as the
--- same statement
-pub moves-are-read-by-observers : (book reply other : Bytes) → observerState other .n ≡ decode book .n → observerState other .weights ≡ decode book .weights →
-    MoveReadByObserver sha256 book reply other
+-- each certificate that a replica writes is read over every observer's book of the same n and weights that has its
+-- height, as the same statement
+pub moves-are-read-by-observers : (book reply other : Bytes) → observerState other .n ≡ decode book .n →
+    observerState other .weights ≡ decode book .weights → MoveReadByObserver sha256 book reply other
 moves-are-read-by-observers = move-read-by-observer sha256 sha256-length
 
 pub fetches-are-read-by-observers : (book : Bytes) (k h : ℕ) (reply other : Bytes) →
-    observerState other .n ≡ decode book .n → observerState other .weights ≡ decode book .weights → FetchReadByObserver sha256 book k h reply other
+    observerState other .n ≡ decode book .n → observerState other .weights ≡ decode book .weights →
+    FetchReadByObserver sha256 book k h reply other
 fetches-are-read-by-observers = fetch-read-by-observer sha256
 
 -- ---- a replica and an observer that are given the same certificates
