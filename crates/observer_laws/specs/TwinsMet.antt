@@ -50,7 +50,8 @@ move = moving (zeros 448)
 
 unfoldable pub calls : List Call
 calls =
-    move ∷ delivery (5 ∷ []) ∷ signalling 1 ∷ delivery (dummyCertificate 1 3) ∷ opening unweighed 0 2 2 (0 ∷ 1 ∷ []) ∷ move ∷
+    move ∷ delivery (5 ∷ []) ∷ signalling 1 ∷ delivery (dummyCertificate 1 3) ∷
+    opening unweighed 0 2 2 (0 ∷ 1 ∷ []) ∷ move ∷
     delivery (dummyCertificate 1 7) ∷ delivery strangersVote ∷ move ∷ move ∷
     packetDelivery (blockCertificate 2 7 block ++ strangersVote ++ blockCertificate 2 11 otherBlock) ∷
     delivery (finalizeCertificate 2 14) ∷ move ∷ move ∷ []
@@ -58,8 +59,8 @@ calls =
 unfoldable pub observerCalls : List ObserverCall
 observerCalls =
     observerDelivery (5 ∷ []) ∷ observerDelivery vote ∷ observerDelivery (dummyCertificate 1 3) ∷
-    observerDelivery (dummyCertificate 1 7) ∷ observerOpening unweighed 0 2 ∷ observerDelivery (blockCertificate 2 7 block) ∷
-    observerMoving ∷
+    observerDelivery (dummyCertificate 1 7) ∷ observerOpening unweighed 0 2 ∷
+    observerDelivery (blockCertificate 2 7 block) ∷ observerMoving ∷
     observerDelivery (blockCertificate 2 11 otherBlock) ∷ observerDelivery (finalizeCertificate 2 14) ∷
     observerMoving ∷ []
 

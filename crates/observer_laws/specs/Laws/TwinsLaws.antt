@@ -68,7 +68,8 @@ module _ (way observerWay : Opening) (n heights own : ℕ) (leaders : Bytes) whe
       (length leaders ≡ heights) × (openCall way old n own heights leaders .book ≡ encode (newState way n own leaders))
   unfolding openCall
   opened-new old opened =
-      let (passes, is) = opened-by (openRows way old n own heights leaders) old (encode (newState way n own leaders)) opened in
+      let (passes, is) = opened-by (openRows way old n own heights leaders) old
+      (encode (newState way n own leaders)) opened in
       (open-ranges way n own heights leaders (open-tested way n own heights leaders old passes .in-ranges) .listed, is)
 
   opened-alike : openedWeights n observerWay ≡ openedWeights n way → (old observerOld : Bytes) →
@@ -83,7 +84,8 @@ module _ (way observerWay : Opening) (n heights own : ℕ) (leaders : Bytes) whe
       (sym (ap decode made ∙ decode-encode (newState way n own leaders) (new-shaped way n own leaders)))
       (subst (λ (t : State). Alike (newState way n own leaders) t)
       (sym (ap observerState observer-made ∙ ap asReplica
-      (decode-encode-observer (newObserver observerWay n heights) (new-observer-shaped observerWay n heights)))) (new-alike equal listed))
+      (decode-encode-observer (newObserver observerWay n heights) (new-observer-shaped observerWay n heights))))
+      (new-alike equal listed))
 
 -- ---- idle
 module _ (digest : Bytes → Bytes) where
@@ -173,7 +175,8 @@ module _ (digest : Bytes → Bytes) where
     was = sound-opened digest (both .way) (both .old) (both .n) (both .own) (both .heights) (both .leaders) (is .opened)
 
     observer-was : observerSound digest (observerOpens both .book) ≡ true
-    observer-was = observer-sound-opened digest (both .observerWay) (both .observerOld) (both .n) (both .heights) (is .observer-opened)
+    observer-was = observer-sound-opened digest (both .observerWay) (both .observerOld) (both .n) (both .heights)
+        (is .observer-opened)
 
     pub book-sound : sound digest (bookOf digest both) ≡ true
     book-sound = sound-stays-all digest (opens both .book) (both .calls) was
@@ -198,7 +201,8 @@ module _ (digest : Bytes → Bytes) where
         (alike-over
         (hear-all-alike digest
         (opened-alike (both .way) (both .observerWay) (both .n) (both .heights) (both .own) (both .leaders)
-        (is .same-weights) (both .old) (both .observerOld) (is .opened) (is .observer-opened)) (certificatesOf (allGiven (both .calls))) (are-certificates (allGiven (both .calls))))
+        (is .same-weights) (both .old) (both .observerOld) (is .opened) (is .observer-opened))
+        (certificatesOf (allGiven (both .calls))) (are-certificates (allGiven (both .calls))))
         observer-shows)
 
   pub twins : Twins digest

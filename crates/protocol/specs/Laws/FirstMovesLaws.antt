@@ -29,7 +29,8 @@ unfolding ones
 none-signed zero = refl
 none-signed (suc n) = rw (none-signed n, zero-div)
 
-module _ (digest : Bytes → Bytes) (edition n own leader : ℕ) (leaders : Bytes) (ranges : Ranges edition n own leader leaders) where
+module _ (digest : Bytes → Bytes) (edition n own leader : ℕ) (leaders : Bytes)
+    (ranges : Ranges edition n own leader leaders) where
   not-dummy : (flags : ℕ) → isDummy (view (early edition n own flags 0 0 leader leaders)) 1 ≡ false
   unfolding isDummy view at firstHeight withMasks newHeight
   not-dummy flags =
@@ -41,14 +42,17 @@ module _ (digest : Bytes → Bytes) (edition n own leader : ℕ) (leaders : Byte
   zero-below = pow-pos n
 
   -- a book with no masks yet idles unless the replica leads
-  idles : (flags : ℕ) → flags < 16 → dummyVoteApplies (early edition n own flags 0 0 leader leaders) ≡ false → leader ≢ own →
-      (reply : Bytes) → 448 ≤ length reply → moveCall digest (encode (early edition n own flags 0 0 leader leaders)) reply
+  idles : (flags : ℕ) → flags < 16 → dummyVoteApplies (early edition n own flags 0 0 leader leaders) ≡ false →
+      leader ≢ own →
+      (reply : Bytes) → 448 ≤ length reply →
+      moveCall digest (encode (early edition n own flags 0 0 leader leaders)) reply
       .answer ≡ accepted idle
   unfolding moved idleStep
   idles flags small quiet other reply room =
       rw (
         early-move edition n own flags 0 0 leader leaders ranges small zero-below zero-below digest reply room,
-        step-idle edition n own flags 0 0 leader leaders ranges small zero-below zero-below digest quiet (not-dummy flags)
+        step-idle edition n own flags 0 0 leader leaders ranges small zero-below zero-below digest quiet
+            (not-dummy flags)
             other,
       )
 

@@ -34,7 +34,8 @@ unfolding deliverAll
 deliver-one digest book after frame frames q = ap (λ (o : Outcome Delivery). deliverAll digest (o .book) frames) q
 
 -- four replicas
-module _ (digest : Bytes → Bytes) (edition own leader : ℕ) (leaders : Bytes) (ranges : Ranges edition 4 own leader leaders) where
+module _ (digest : Bytes → Bytes) (edition own leader : ℕ) (leaders : Bytes)
+    (ranges : Ranges edition 4 own leader leaders) where
   abbrev pub B : ℕ → ℕ → ℕ → Bytes
   B flags dummy final = encode (early edition 4 own flags dummy final leader leaders)
 
@@ -78,9 +79,11 @@ module _ (digest : Bytes → Bytes) (edition own leader : ℕ) (leaders : Bytes)
   unfolding afterFinalizes word16 le16 belowBit quorum union maskOf inMask weigh total padded view
   finalizes reply room =
       rw (
-        early-certificate edition 4 own 0 0 0 leader leaders ranges (omega arith) (omega arith) (omega arith) digest 7 refl refl
+        early-certificate edition 4 own 0 0 0 leader leaders ranges (omega arith) (omega arith)
+            (omega arith) digest 7 refl refl
             refl,
-        early-move edition 4 own 0 0 7 leader leaders ranges (omega arith) (omega arith) (omega arith) digest reply room,
+        early-move edition 4 own 0 0 7 leader leaders ranges (omega arith) (omega arith)
+            (omega arith) digest reply room,
       )
 
   abbrev K : ℕ → ℕ → ℕ → Bytes

@@ -162,7 +162,10 @@ module _ (edition n own flags dummy final leader : ℕ) (leaders : Bytes) (range
     vote-height s = refl
 
     pub early-vote : (s : ℕ) → s < n → inMask dummy s ≡ false → deliverCall digest (encode E) (dummyVote s 1) ≡
-        record { answer = accepted fresh; book = encode (early edition n own flags (dummy + 2 ^ s) final leader leaders) }
+        record {
+          answer = accepted fresh;
+          book = encode (early edition n own flags (dummy + 2 ^ s) final leader leaders);
+        }
     unfolding deliverCall heard deliverRows firstRefusal unlessRefused
     early-vote s h e =
         rw (

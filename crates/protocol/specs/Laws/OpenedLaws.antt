@@ -20,12 +20,16 @@ use Rattle.protocol.specs.Deliver.{withMasks}
 use Rattle.protocol.specs.Examples.{Start, opened}
 use Rattle.protocol.specs.Laws.NewBookLaws.{Ranges, early, firstHeight}
 
+-- the edition of the new book
+abbrev pub editionOf : Start → ℕ
+editionOf x = openedEdition (x .way)
+
 pub record Opened (x : Start) : Type 0 where
   pub leader : ℕ
   pub leaders : Bytes
   pub roll : x .leaders ≡ leader ∷ leaders
-  pub ranges : Ranges (openedEdition (x .way)) (x .n) (x .own) leader leaders
-  pub book : opened x ≡ encode (early (openedEdition (x .way)) (x .n) (x .own) 0 0 0 leader leaders)
+  pub ranges : Ranges (editionOf x) (x .n) (x .own) leader leaders
+  pub book : opened x ≡ encode (early (editionOf x) (x .n) (x .own) 0 0 0 leader leaders)
 
 new-early : (way : Opening) (n own leader : ℕ) (leaders : Bytes) → openedWeights n way ≡ replicate n 1 →
     newState way n own (leader ∷ leaders) ≡ early (openedEdition way) n own 0 0 0 leader leaders

@@ -65,7 +65,8 @@ weigh-equal p (suc n) weight =
     first false x y e = omega arith
 
 ones-equal : (mask n weight : ℕ) → weigh (λ t. inMask mask t) (replicate n weight) ≡ weight * ones mask n
-ones-equal mask n weight = weigh-equal (λ t. inMask mask t) n weight ∙ ap (λ (x : ℕ). weight * x) (sym (ones-weigh mask n))
+ones-equal mask n weight = weigh-equal (λ t. inMask mask t) n weight ∙ ap (λ (x : ℕ). weight * x)
+    (sym (ones-weigh mask n))
 
 -- what all numbers are multiplied by does not matter
 leb-times : (weight x y : ℕ) → 1 ≤ weight → leb (weight * x) (weight * y) ≡ leb x y
