@@ -23,6 +23,7 @@ use Prim.Native.Nat.{ℕ, _*_, _≤_}
 use mathlib.Core.Path.{_≡_}
 use mathlib.Core.Bool.{true, false}
 use mathlib.Core.List.{List, [], _∷_, _++_, map}
+use mathlib.Core.Option.{none}
 use lib.ListN.{length, replicate}
 use lib.Dec.{leb}
 use borrow.Author.Tests.{le-leb}
@@ -50,7 +51,7 @@ use Rattle.protocol.specs.Signal.{signalRows, signalCall}
 use Rattle.protocol.specs.Submit.{submitRows, submitCall}
 use Rattle.protocol.specs.Read.{sizeCall, readPart, readBuffer}
 use Rattle.protocol.specs.Fetch.{fetchRows, fetchCall}
-use Rattle.protocol.specs.Call.{Call, delivery, bookAfter, bookAfterAll}
+use Rattle.protocol.specs.Call.{Call, delivery, effect, bookAfter, bookAfterAll}
 use Rattle.agreement.specs.Lists.{Agreement, Member}
 use Rattle.agreement.specs.ObserverLists.{AnyMember, ObservedAgreement}
 use Rattle.agreement.specs.Laws.AgreementLaws.{agreement, observed-agreement}
@@ -76,6 +77,8 @@ use Rattle.call_laws.specs.Laws.KeepsExactLaws.{keeps-exact}
 use Rattle.call_laws.specs.PacketKeeping.{KeepsAll}
 use Rattle.call_laws.specs.Laws.PacketKeepingLaws.{packet-keeps}
 use Rattle.call_laws.specs.Laws.SoundStays.{sound-stays as stays-sound, sound-opened}
+use Rattle.call_laws.specs.SettingStays.{SettingStays}
+use Rattle.call_laws.specs.Laws.SettingStaysLaws.{setting-stays}
 use Rattle.call_laws.specs.Laws.Tallying.{tallied-stays-all, tallied-opened}
 use Rattle.call_laws.specs.Readable.{SameSetting}
 use Rattle.call_laws.specs.WrittenRead.{MoveWritten, FetchWritten}
@@ -164,6 +167,11 @@ pub open-makes-sound : (way : Opening) (book : Bytes) (n own heights : ℕ) (lea
     openCall way book n own heights leaders .answer ≡ accepted done →
     sound sha256 (openCall way book n own heights leaders .book) ≡ true
 open-makes-sound = sound-opened sha256
+
+-- no call but an opening that is not refused changes what an opening settles: edition, n, weights, own number and H
+pub settings-stay : (book : Bytes) (call : Call) → sound sha256 book ≡ true → effect sha256 book call .opens ≡ none →
+    SettingStays (decode book) (decode (bookAfter sha256 book call))
+settings-stay = setting-stays sha256
 
 -- ---- demand 2: the five steps
 -- on a sound book and a reply that is long enough Move does the step of the state that the book says ..

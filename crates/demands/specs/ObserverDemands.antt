@@ -13,6 +13,7 @@ use Prim.Native.Nat.{ℕ, _≤_}
 use mathlib.Core.Path.{_≡_}
 use mathlib.Core.Bool.{true, false}
 use mathlib.Core.List.{[], _∷_}
+use mathlib.Core.Option.{none}
 use lib.ListN.{length}
 use Rattle.sha256.specs.Digest.{sha256}
 use Rattle.sha256.specs.Laws.DigestLaws.{sha256-length}
@@ -50,6 +51,8 @@ use Rattle.observer_laws.specs.Laws.CertificatesReadLaws.{move-read-by-observer
 use Rattle.observer_laws.specs.Laws.TwinsLaws.{twins, observer-idles}
 use Rattle.observer_laws.specs.Laws.TwinsMovedLaws.{twins-moved}
 use Rattle.observer_laws.specs.Laws.TwinsMetLaws.{twins-met}
+use Rattle.call_laws.specs.SettingStays.{SettingStays}
+use Rattle.observer_laws.specs.Laws.ObserverSettingLaws.{observer-setting-stays}
 
 -- ---- refusals
 -- each call is refused by the number of its first row that fails, if one does, and then no byte lent to it changes
@@ -107,6 +110,12 @@ pub observer-open-makes-sound : (way : Opening) (book : Bytes) (n heights : ℕ)
     observerOpenCall way book n heights .answer ≡ accepted done →
     observerSound sha256 (observerOpenCall way book n heights .book) ≡ true
 observer-open-makes-sound = observer-sound-opened sha256
+
+-- no call but an opening that is not refused changes what an opening settles: edition, n, weights and H
+pub observers-settings-stay : (book : Bytes) → observerSound sha256 book ≡ true → (call : ObserverCall) →
+    observation sha256 book call .opens ≡ none →
+    SettingStays (observerState book) (observerState (observation sha256 book call .book))
+observers-settings-stay = observer-setting-stays sha256
 
 -- a delivery that is not refused keeps what its certificate says, all that was kept before, and nothing else ..
 pub observers-keep : (book frame : Bytes) (news : Delivery) →
