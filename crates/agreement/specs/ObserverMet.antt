@@ -35,8 +35,8 @@ module _ (digest : Bytes → Bytes) where
       Meant (HonestIn weights dishonest) observers m → Meant (HonestIn weights dishonest) observers m′ →
       AnyReads digest m part → AnyReads digest m′ part′ → Conclusion part part′
 
-  pub record ObservedMet (weights : List ℕ) (dishonest : ℕ) (observers : ℕ → Type 0) (list : List AnyMember) (part : Bytes) :
-      Type 0 where
+  pub record ObservedMet (weights : List ℕ) (dishonest : ℕ) (observers : ℕ → Type 0) (list : List AnyMember)
+      (part : Bytes) : Type 0 where
     -- the premises
     pub few : FewDishonest weights dishonest
     pub keeps : (s : ℕ) → HonestIn weights dishonest s → KeepsOneBook digest weights (replicaCalls list) s
