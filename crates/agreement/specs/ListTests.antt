@@ -109,16 +109,19 @@ module _ (digest : Bytes → Bytes) where
       everyIn (λ block. everyIn (λ other. implies (same (digest block) (digest other)) (same block other)) blocks)
       blocks
 
-  -- ---- members of replica `s`: one that reads this part, one to which this frame is delivered, the same with a test,
-  -- one that writes it
+  -- ---- members of replica `s`: one that passes a test and reads this part, or to which this frame is delivered; the
+  -- same without a test; one that writes this frame
+  unfoldable pub readsWhereAt : (Member → Bool) → Bytes → ℕ → Member → Bool
+  readsWhereAt test part s m = eqb (m .replica) s && (test m && readsPart part (does digest m .reads))
+
   unfoldable pub readsAt : Bytes → ℕ → Member → Bool
   readsAt part s m = eqb (m .replica) s && readsPart part (does digest m .reads)
 
-  unfoldable pub hearsAt : Bytes → ℕ → Member → Bool
-  hearsAt frame s m = eqb (m .replica) s && holds frame (delivers digest m)
-
   unfoldable pub hearsWhereAt : (Member → Bool) → Bytes → ℕ → Member → Bool
   hearsWhereAt test frame s m = eqb (m .replica) s && (test m && holds frame (delivers digest m))
+
+  unfoldable pub hearsAt : Bytes → ℕ → Member → Bool
+  hearsAt frame s m = eqb (m .replica) s && holds frame (delivers digest m)
 
   unfoldable pub writesAt : Bytes → ℕ → Member → Bool
   writesAt frame s m = eqb (m .replica) s && holds frame (writes digest m)
