@@ -70,8 +70,8 @@ split =
     hear 0 (blockVote 3 1 oneDigest) ∷ hear 1 (blockVote 3 1 otherDigest) ∷
     hear 0 (dummyVote 3 1) ∷ hear 1 (finalize 3 1) ∷ hear 0 (dummyVote 1 9) ∷ []
 
--- the timers fire; replica 0 gets its own vote in a packet, with one amid that replica 1 never cast, and height 1 passes
--- on its dummy block, by two votes
+-- the timers fire; replica 0 gets its own vote in a packet, after one that replica 1 never cast, and height 1 passes on
+-- its dummy block, by two votes
 unfoldable pub timeouts : List Turn
 timeouts =
     (0, signalling 1) ∷ (1, signalling 1) ∷ (2, signalling 1) ∷ move 0 ∷ move 1 ∷ move 2 ∷

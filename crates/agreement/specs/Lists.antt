@@ -96,9 +96,9 @@ module _ (digest : Bytes → Bytes) where
   lastLeft s [] = none
   lastLeft s (m ∷ ms) = orElse (lastLeft s ms) (leftBy s m)
 
-  -- an opening for replicas of these weights under the own number `s`, not refused; its book may hold any bytes. Weights
-  -- are those that the opened book is read with: document 01's opening, which makes edition 1, is one for weights that
-  -- are all 1 (`openedWeights`), so that books of editions 1 and 2 may stand in one list where all weights are 1
+  -- an opening for replicas of these weights under the own number `s`, not refused; its book may hold any bytes. Books
+  -- share the weights as they are read: document 01's opening, which makes edition 1, is one for weights that are all 1
+  -- (`openedWeights`), so that books of editions 1 and 2 stand in one list where all weights are 1, and only there
   unfoldable pub Opens : List ℕ → ℕ → Member → Type 0
   Opens weights s m = does m .opens ≡ some (record { weights = weights; own = s })
 

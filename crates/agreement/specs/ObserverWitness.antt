@@ -102,8 +102,8 @@ module _ (digest : Bytes → Bytes) where
     -- observers 0 and 1 have books of different sizes
     pub opens-0 : ObserverOf list 0 (λ m. m .call ≡ observerOpening way 5 2)
     pub opens-1 : ObserverOf list 1 (λ m. m .call ≡ observerOpening way 5 3)
-    -- observer 2, which is not meant, is opened for as many replicas of other weights, and reads another log: neither is
-    -- a beginning of the other
+    -- observer 2, which is not meant, is opened for as many replicas, of other weights, and reads another log, so that
+    -- neither is a beginning of the other
     pub opens-2 : ObserverOf list 2 (λ m. m .call ≡ observerOpening unweighed 5 1)
     pub lonely-reads : ObserverOf list 2 (ObserverReads digest lonelyEntry)
     pub two-logs : Begins lonelyEntry nextLog ⊎ Begins nextLog lonelyEntry → ⊥

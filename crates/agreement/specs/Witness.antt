@@ -1,9 +1,10 @@
 -- A list of calls that meets every premise of demand 3 over a stand-in digest, so that the claim is not vacuous: four
 -- replicas that weigh 1 each, with books of editions 1 and 2 side by side. Replica 3 is dishonest and proposes two
 -- blocks at one height; replica 0 hears both, and its timer fires by the second with no signal; height 1 passes on its
--- dummy block, height 2 is notarized by votes that come in one packet and are tallied, height 3 has the block of an
--- honest leader on that of height 2, and two honest replicas read the log at height 3, one of them also at height 2. The
--- digest must compute here, and SHA-256 does not in the prover; a list for SHA-256 is in AnyDigest.antt.
+-- dummy block; height 2 is notarized by votes that come in one packet and are tallied, and its block carries an entry
+-- twice; height 3 has the block of an honest leader on that of height 2, and two honest replicas read the log at height
+-- 3, one of them also at height 2. The digest must compute here, and SHA-256 does not in the prover; a list for SHA-256
+-- is in AnyDigest.antt.
 use Prim.Native.Nat.{ℕ}
 use mathlib.Core.Logic.{_≢_}
 use mathlib.Core.List.{List, [], _∷_, _++_, map, List·Memᴰ}

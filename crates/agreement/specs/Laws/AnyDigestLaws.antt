@@ -16,9 +16,9 @@ use Rattle.protocol.specs.Call.{delivery}
 use Rattle.protocol.specs.Frame.{blockVote, dummyCertificate, dummyVote, finalize}
 use Rattle.protocol.specs.Laws.RowLaws.{by-rows, eq-same}
 use Rattle.protocol.specs.Mask.{inMask, ones, total, weigh}
-use Rattle.protocol.specs.Tests.{allOf, implies}
-use Rattle.agreement.specs.AnyDigest.{AnyDigest, agreed, dishonest, heavyTwo, lightFour, list, oneDigest, openings}
-use Rattle.agreement.specs.AnyDigest.{otherDigest, readings, split, timeouts, way, weights}
+use Rattle.protocol.specs.Tests.{allOf}
+use Rattle.agreement.specs.AnyDigest.{AnyDigest, agreed, dishonest, heavyTwo, lightFour, list, oneDigest}
+use Rattle.agreement.specs.AnyDigest.{openings, otherDigest, readings, split, timeouts, way, weights}
 use Rattle.agreement.specs.ListTests.{everyHonest, hearsAt, hearsWhereAt, isHonest, opensOnce, notForged, readsAt}
 use Rattle.agreement.specs.ListTests.{showsOnly, someIn, writesAt}
 use Rattle.agreement.specs.Laws.ListTestsLaws.{hears-found, honest-in, one-block-sound, reads-found, where-found}
@@ -28,7 +28,7 @@ use Rattle.agreement.specs.Lists.{Begins, FewDishonest, HonestIn, Member
 use Rattle.agreement.specs.Lists.{votesBlock, votesDummy}
 use Rattle.agreement.specs.Met.{MemberOf, Met, isPacket}
 use Rattle.agreement.specs.Laws.MetLaws.{OneBegins, applied}
-use Rattle.agreement.specs.Turns.{anything, build, entry, everyTurn, nextBlock, nextLog, otherEntry}
+use Rattle.agreement.specs.Turns.{anything, entry, everyTurn, nextBlock, nextLog, otherEntry}
 use Rattle.agreement.specs.Laws.TurnsLaws.{keeps}
 
 -- ---- weights, and who is honest

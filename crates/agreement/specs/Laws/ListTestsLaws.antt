@@ -61,11 +61,13 @@ every-honest dishonest test (suc k) e s (low, h) =
     go (inl l) below = let z : s ≡ k = omega arith in rw z (implies-true _ _ (q .1) (rw (rw z at h)))
     go (inr l) below = below l
 
-pub is-honest : (weights : List ℕ) (dishonest s : ℕ) → HonestIn weights dishonest s → isHonest weights dishonest s ≡ true
+pub is-honest : (weights : List ℕ) (dishonest s : ℕ) → HonestIn weights dishonest s →
+    isHonest weights dishonest s ≡ true
 unfolding isHonest HonestIn
 is-honest weights dishonest s (low, h) = rw (h, le-leb (suc s) (length weights) low)
 
-pub honest-in : (weights : List ℕ) (dishonest s : ℕ) → isHonest weights dishonest s ≡ true → HonestIn weights dishonest s
+pub honest-in : (weights : List ℕ) (dishonest s : ℕ) → isHonest weights dishonest s ≡ true →
+    HonestIn weights dishonest s
 unfolding isHonest HonestIn
 honest-in weights dishonest s e =
     let q = and-both (ltb s (length weights)) (not (inMask dishonest s)) e in

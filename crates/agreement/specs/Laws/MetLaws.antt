@@ -37,4 +37,3 @@ module _ (digest : Bytes → Bytes) where
     -- what agreement says of it
     pub applied : OneBegins part part × OneBegins shorter part
     applied = applies OneBegins (rw claim-is-agreement (agreement digest))
-

@@ -34,8 +34,8 @@ module _ (digest : Bytes → Bytes) where
               reads reads′,
           granted (ofReplica x) (ofObserver m′) part part (member-replica list x among) here′
               (rw own″ (met .honest-0)) (rw own′ (met .meant-1)) reads″ reads′,
-          granted (ofObserver y) (ofObserver m) shorter part before here (rw own‴ (met .meant-1)) (rw own (met .meant-0))
-              reads‴ reads,
+          granted (ofObserver y) (ofObserver m) shorter part before here (rw own‴ (met .meant-1))
+              (rw own (met .meant-0)) reads‴ reads,
         )
 
     -- what agreement says of it

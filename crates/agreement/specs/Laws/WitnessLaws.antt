@@ -26,7 +26,8 @@ use Rattle.agreement.specs.Laws.MetLaws.{OneBegins, applied}
 use Rattle.agreement.specs.Turns.{anything, entry, everyTurn, nextBlock, nextLog, otherEntry}
 use Rattle.agreement.specs.Laws.TurnsLaws.{keeps}
 use Rattle.agreement.specs.Witness.{Witness, agreed, dishonest, extended, lastBlock, lastEntry, lastLog, list}
-use Rattle.agreement.specs.Witness.{oneBlock, openings, otherBlock, readings, sample, split, timeouts, votes, weights}
+use Rattle.agreement.specs.Witness.{oneBlock, openings, otherBlock, readings, sample, split, timeouts, votes}
+use Rattle.agreement.specs.Witness.{weights}
 
 -- ---- weights, and who is honest
 few : FewDishonest weights dishonest
