@@ -65,31 +65,32 @@ split =
     hear 0 (blockVote 0 1 (sample oneBlock)) ∷ hear 1 (blockVote 0 1 (sample oneBlock)) ∷ []
 
 -- replica 0 hears a vote that replica 1 never cast, at a height that there is not, refused, and the other block too, by
--- which its timer fires; those of replicas 1 and 2 are signalled, and height 1 passes on its dummy block
+-- which its timer fires; those of replicas 1 and 2 are signalled, and height 1 passes on its dummy block, but for
+-- replica 2, which is given nothing more
 unfoldable pub timeouts : List Turn
 timeouts =
     hear 0 (dummyVote 1 9) ∷
     hear 0 (proposal 3 1 otherBlock) ∷ (1, signalling 1) ∷ (2, signalling 1) ∷
     move 0 ∷ move 1 ∷ move 2 ∷
     hear 0 (dummyVote 0 1) ∷ hear 0 (dummyVote 1 1) ∷ hear 0 (dummyVote 2 1) ∷ move 0 ∷
-    hear 1 (dummyCertificate 1 7) ∷ hear 2 (dummyCertificate 1 7) ∷ move 1 ∷ move 2 ∷ []
+    hear 1 (dummyCertificate 1 7) ∷ move 1 ∷ []
 
 -- the votes for the block of height 2, with one amid them that replica 1 never cast, at a height that there is not
 unfoldable pub votes : List Bytes
 votes =
     blockVote 0 2 (sample nextBlock) ∷ dummyVote 1 9 ∷
-    blockVote 1 2 (sample nextBlock) ∷ blockVote 2 2 (sample nextBlock) ∷ []
+    blockVote 1 2 (sample nextBlock) ∷ blockVote 3 2 (sample nextBlock) ∷ []
 
--- height 2: replica 3 proposes a block that carries an entry twice, all honest replicas vote, pass and finalize;
--- replica 0 gets the votes in one packet, and a packet with a byte too many is refused; replica 1 reads the log
+-- height 2: replica 3 proposes a block that carries an entry twice; replicas 0 and 1 vote, pass and finalize, and so
+-- does replica 3; replica 0 gets the votes in one packet, and a packet with a byte too many is refused; replica 1 reads
+-- the log
 unfoldable pub agreed : List Turn
 agreed =
-    hear 0 (proposal 3 2 nextBlock) ∷ hear 1 (proposal 3 2 nextBlock) ∷ hear 2 (proposal 3 2 nextBlock) ∷
-    move 0 ∷ move 1 ∷ move 2 ∷
+    hear 0 (proposal 3 2 nextBlock) ∷ hear 1 (proposal 3 2 nextBlock) ∷ move 0 ∷ move 1 ∷
     hearPacket 0 votes ∷ (1, packetDelivery (dummyVote 0 1 ++ (0 ∷ []))) ∷ move 0 ∷
-    hear 1 (blockCertificate 2 7 nextBlock) ∷ hear 2 (blockCertificate 2 7 nextBlock) ∷ move 1 ∷ move 2 ∷
-    hear 0 (finalize 0 2) ∷ hear 0 (finalize 1 2) ∷ hear 0 (finalize 2 2) ∷ move 0 ∷
-    hear 1 (finalizeCertificate 2 7) ∷ move 1 ∷ (1, reading (zeros 32)) ∷ []
+    hear 1 (blockCertificate 2 11 nextBlock) ∷ move 1 ∷
+    hear 0 (finalize 0 2) ∷ hear 0 (finalize 1 2) ∷ hear 0 (finalize 3 2) ∷ move 0 ∷
+    hear 1 (finalizeCertificate 2 11) ∷ move 1 ∷ (1, reading (zeros 32)) ∷ []
 
 -- the block that replica 0 proposes at height 3: of its two pending entries the one that the chain does not carry
 unfoldable pub lastBlock : Bytes
@@ -131,6 +132,6 @@ pub record Witness : Type 0 where
   pub dummy-0 : MemberOf list 0 (λ m. List·Memᴰ (dummyCertificate 1 7) (writes sample m))
   pub dummy-1 : MemberOf list 1 (λ m. List·Memᴰ (dummyCertificate 1 7) (writes sample m))
   -- replica 0 gets the votes for height 2 in a packet
-  pub packet-0 : MemberOf list 0 (HearsWhere sample isPacket 2 (votesBlock 2 (sample nextBlock)))
+  pub packet-0 : MemberOf list 0 (HearsWhere sample isPacket 1 (votesBlock 2 (sample nextBlock)))
   -- and proposes at height 3 the entry that the chain does not carry
   pub offers-0 : MemberOf list 0 (λ m. List·Memᴰ (proposal 0 3 lastBlock) (writes sample m))

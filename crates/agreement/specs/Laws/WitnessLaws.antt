@@ -75,7 +75,7 @@ tests l = allOf
     someIn (writesAt sample (dummyCertificate 1 7) 0) l ∷
     someIn (writesAt sample (dummyCertificate 1 7) 1) l ∷
     someIn (hearsWhereAt sample (firesTimer sample) (proposal 3 1 otherBlock) 0) l ∷
-    someIn (hearsWhereAt sample isPacket (blockVote 2 2 (sample nextBlock)) 0) l ∷
+    someIn (hearsWhereAt sample isPacket (blockVote 1 2 (sample nextBlock)) 0) l ∷
     someIn (writesAt sample (proposal 0 3 lastBlock) 0) l ∷ [])
 
 -- what they say of a list, by name
@@ -92,7 +92,7 @@ record Passes (l : List Member) : Type 0 where
   writes-0 : someIn (writesAt sample (dummyCertificate 1 7) 0) l ≡ true
   writes-1 : someIn (writesAt sample (dummyCertificate 1 7) 1) l ≡ true
   fires-0 : someIn (hearsWhereAt sample (firesTimer sample) (proposal 3 1 otherBlock) 0) l ≡ true
-  packet-0 : someIn (hearsWhereAt sample isPacket (blockVote 2 2 (sample nextBlock)) 0) l ≡ true
+  packet-0 : someIn (hearsWhereAt sample isPacket (blockVote 1 2 (sample nextBlock)) 0) l ≡ true
   offers-0 : someIn (writesAt sample (proposal 0 3 lastBlock) 0) l ≡ true
 
 passes-rows : (l : List Member) → tests l ≡ true → Passes l
@@ -129,7 +129,7 @@ proposal-says : (block : Bytes) → statementOf sample (proposal 3 1 block) 3 �
 unfolding statementOf when proposal frameOf kind signer frameHeight frameBlock word16 le16 zeros
 proposal-says block = refl
 
-vote-says : statementOf sample (blockVote 2 2 (sample nextBlock)) 2 ≡ some (votesBlock 2 (sample nextBlock))
+vote-says : statementOf sample (blockVote 1 2 (sample nextBlock)) 1 ≡ some (votesBlock 2 (sample nextBlock))
 unfolding everyTurn sample
 vote-says = refl
 
@@ -178,7 +178,7 @@ witness = record {
   dummy-1 = writes-found sample list _ 1 (passes .writes-1);
   fires-0 =
       where-found sample (firesTimer sample) list _ 0 3 _ (proposal-says otherBlock) (passes .fires-0);
-  packet-0 = where-found sample isPacket list _ 0 2 _ vote-says (passes .packet-0);
+  packet-0 = where-found sample isPacket list _ 0 1 _ vote-says (passes .packet-0);
   offers-0 = writes-found sample list _ 0 (passes .offers-0);
 }
 
