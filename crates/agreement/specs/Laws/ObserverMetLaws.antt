@@ -27,15 +27,15 @@ module _ (digest : Bytes → Bytes) where
         let (m, here, own, reads) = met .reads-0 in
         let (m′, here′, own′, reads′) = met .reads-1 in
         let (x, among, own″, reads″) = met .reads-replica in
-        let (y, before, own‴, reads‴) = met .reads-shorter in
+        let (y, before, own-y, reads-y) = met .reads-shorter in
         let granted = claim weights dishonest observers list (met .few) (met .keeps) (met .observers-keep)
         (met .unforged) (met .collisionless) in (
           granted (ofObserver m) (ofObserver m′) part part here here′ (rw own (met .meant-0)) (rw own′ (met .meant-1))
               reads reads′,
           granted (ofReplica x) (ofObserver m′) part part (member-replica list x among) here′
               (rw own″ (met .honest-0)) (rw own′ (met .meant-1)) reads″ reads′,
-          granted (ofObserver y) (ofObserver m) shorter part before here (rw own‴ (met .meant-1))
-              (rw own (met .meant-0)) reads‴ reads,
+          granted (ofObserver y) (ofObserver m) shorter part before here (rw own-y (met .meant-1))
+              (rw own (met .meant-0)) reads-y reads,
         )
 
     -- what agreement says of it
