@@ -14,7 +14,7 @@ use Rattle.protocol.specs.Block.{newBlock}
 use Rattle.protocol.specs.Frame.{proposal, blockVote, dummyVote, finalize, blockCertificate, dummyCertificate}
 use Rattle.protocol.specs.Frame.{finalizeCertificate}
 use Rattle.protocol.specs.Open.{unweighed, weighed}
-use Rattle.protocol.specs.Call.{fetching, moving, opening, packetDelivery, reading, signalling, sizing, submitting}
+use Rattle.protocol.specs.Call.{moving, opening, reading, signalling, submitting}
 use Rattle.agreement.specs.Lists.{Member, proposes, votesBlock, writes}
 use Rattle.agreement.specs.Met.{Hears, HearsWhere, MemberOf, Met, ReadsWhere, firesTimer, hasEdition, isPacket}
 use Rattle.agreement.specs.Turns.{Turn, anything, build, entry, hear, hearPacket, move, nextBlock, nextLog}
@@ -64,12 +64,10 @@ split =
     hear 0 (blockVote 3 1 (sample oneBlock)) ∷ hear 1 (blockVote 3 1 (sample otherBlock)) ∷
     hear 0 (blockVote 0 1 (sample oneBlock)) ∷ hear 1 (blockVote 0 1 (sample oneBlock)) ∷ []
 
--- replica 0 hears a vote that replica 1 never cast, at a height that there is not, refused, and the other block too, by
--- which its timer fires; those of replicas 1 and 2 are signalled, and height 1 passes on its dummy block, but for
--- replica 2, which is given nothing more
+-- replica 0 hears the other block too, by which its timer fires; those of replicas 1 and 2 are signalled, and height 1
+-- passes on its dummy block, but for replica 2, which is given nothing more
 unfoldable pub timeouts : List Turn
 timeouts =
-    hear 0 (dummyVote 1 9) ∷
     hear 0 (proposal 3 1 otherBlock) ∷ (1, signalling 1) ∷ (2, signalling 1) ∷
     move 0 ∷ move 1 ∷ move 2 ∷
     hear 0 (dummyVote 0 1) ∷ hear 0 (dummyVote 1 1) ∷ hear 0 (dummyVote 2 1) ∷ move 0 ∷
@@ -82,13 +80,11 @@ votes =
     blockVote 1 2 (sample nextBlock) ∷ blockVote 3 2 (sample nextBlock) ∷ []
 
 -- height 2: replica 3 proposes a block that carries an entry twice; replicas 0 and 1 vote, pass and finalize, and so
--- does replica 3; replica 0 gets the votes in one packet, and a packet with a byte too many is refused; replica 1 reads
--- the log
+-- does replica 3; replica 0 gets the votes in one packet, and replica 1 reads the log
 unfoldable pub agreed : List Turn
 agreed =
     hear 0 (proposal 3 2 nextBlock) ∷ hear 1 (proposal 3 2 nextBlock) ∷ move 0 ∷ move 1 ∷
-    hearPacket 0 votes ∷ (1, packetDelivery (dummyVote 0 1 ++ (0 ∷ []))) ∷ move 0 ∷
-    hear 1 (blockCertificate 2 11 nextBlock) ∷ move 1 ∷
+    hearPacket 0 votes ∷ move 0 ∷ hear 1 (blockCertificate 2 11 nextBlock) ∷ move 1 ∷
     hear 0 (finalize 0 2) ∷ hear 0 (finalize 1 2) ∷ hear 0 (finalize 3 2) ∷ move 0 ∷
     hear 1 (finalizeCertificate 2 11) ∷ move 1 ∷ (1, reading (zeros 32)) ∷ []
 
@@ -103,11 +99,8 @@ extended =
     hear 0 (blockCertificate 3 11 lastBlock) ∷ hear 1 (blockCertificate 3 11 lastBlock) ∷ move 0 ∷ move 1 ∷
     hear 0 (finalizeCertificate 3 11) ∷ hear 1 (finalizeCertificate 3 11) ∷ move 0 ∷ move 1 ∷ []
 
--- a size is asked for, a certificate is fetched, and the logs are read
 unfoldable pub readings : List Turn
-readings =
-    (0, sizing) ∷ (1, fetching 5 2 (zeros 224)) ∷
-    (0, reading (zeros 48)) ∷ (1, reading (zeros 50)) ∷ (2, reading (zeros 48)) ∷ []
+readings = (0, reading (zeros 48)) ∷ (1, reading (zeros 50)) ∷ []
 
 unfoldable pub list : List Member
 list = build sample (anything 3) (openings ++ (split ++ (timeouts ++ (agreed ++ (extended ++ readings)))))
