@@ -10,7 +10,7 @@ use mathlib.Core.List.{[], _∷_, _++_}
 use lib.ListN.{replicate}
 use Rattle.protocol.specs.Bytes.{Bytes, zeros}
 use Rattle.protocol.specs.Call.{opening, delivery, moving, signalling, submitting, sizing, reading, fetching}
-use Rattle.check_books.specs.CheckCalls.{countUp, expect, disagreement, tools}
+use Rattle.check_books.specs.CheckCalls.{countUp, expect, disagreement, oneEach, tools}
 
 -- the entries of the scenarios: bytes that grow by 16
 tagged : ℕ → ℕ → Bytes
@@ -19,7 +19,7 @@ tagged from (suc count) = from ∷ tagged (from + 16) count
 
 -- one replica and one height: two entries, moves with its own frames fed back, readings, fetches
 alone : disagreement 1 (replicate 1456 90)
-    (expect (opening 1 0 1 (0 ∷ [])) (0 ∷ []) ((0, 1 ∷ 0 ∷ 1 ∷ 0 ∷ 1 ∷ 0 ∷ 0 ∷ 1 ∷ zeros 1448) ∷ []) [] ∷
+    (expect (opening (oneEach 1) 1 0 1 (0 ∷ [])) (0 ∷ []) ((0, 1 ∷ 0 ∷ 1 ∷ 0 ∷ 1 ∷ 0 ∷ 0 ∷ 2 ∷ 1 ∷ zeros 1447) ∷ []) [] ∷
     expect (submitting (tagged 1 16)) (0 ∷ []) ((6, 1 ∷ []) ∷ (64, tagged 1 16) ∷ []) [] ∷
     expect (submitting (tagged 2 16)) (0 ∷ []) ((6, 2 ∷ []) ∷ (80, tagged 2 16) ∷ []) [] ∷
     expect (moving (replicate 448 170)) (0 ∷ 4 ∷ 1 ∷ []) ((3, 8 ∷ []) ∷ [])
@@ -61,8 +61,8 @@ alone = refl
 -- four replicas and two heights: votes before the proposal, clashes, a leader who equivocates and the height passed
 -- without a finalize, a block on a parent that was not notarized, a log of one entry
 votes : disagreement 1 (replicate 2336 90)
-    (expect (opening 4 2 2 (0 ∷ 1 ∷ [])) (0 ∷ [])
-    ((0, 4 ∷ 2 ∷ 2 ∷ 0 ∷ 1 ∷ 0 ∷ 0 ∷ 1 ∷ (zeros 584 ++ (1 ∷ zeros 1743))) ∷ []) [] ∷
+    (expect (opening (oneEach 4) 4 2 2 (0 ∷ 1 ∷ [])) (0 ∷ [])
+    ((0, 4 ∷ 2 ∷ 2 ∷ 0 ∷ 1 ∷ 0 ∷ 0 ∷ 2 ∷ 1 ∷ 0 ∷ 1 ∷ 0 ∷ 1 ∷ 0 ∷ 1 ∷ (zeros 577 ++ (1 ∷ zeros 1743))) ∷ []) [] ∷
     expect (delivery (2 ∷ 3 ∷ 1 ∷ (zeros 13 ++ (countUp 123 32 ++ (zeros 176))))) (0 ∷ 1 ∷ [])
     ((584, 8 ∷ []) ∷ (1056, countUp 123 32) ∷ []) [] ∷
     expect (delivery (2 ∷ 3 ∷ 1 ∷ (zeros 13 ++ (countUp 23 32 ++ (zeros 176))))) (8 ∷ []) [] [] ∷
