@@ -19,7 +19,8 @@ first = newBlock 1 0 (zeros 32) (replicate 16 1 ∷ [])
 book : Bytes
 book =
     after (replicate 2336 9)
-    (opening (oneEach 4) 4 2 2 (0 ∷ 1 ∷ []) ∷ delivery (blockCertificate 1 7 first) ∷ delivery (finalizeCertificate 1 7) ∷
+    (opening (oneEach 4) 4 2 2 (0 ∷ 1 ∷ []) ∷ delivery (blockCertificate 1 7 first) ∷
+    delivery (finalizeCertificate 1 7) ∷
     delivery (dummyCertificate 2 7) ∷ moving (zeros 448) ∷ moving (zeros 448) ∷ [])
 
 -- a packet: a fresh frame between two that are refused, then a known one
@@ -57,7 +58,7 @@ numbers none = []
 numbers (some opened) = opened .own ∷ opened .weights
 
 opens : map (λ call. numbers (effect standIn book call .opens)) calls ≡
-    (1 ∷ 1 ∷ 1 ∷ 1 ∷ []) ∷ [] ∷ [] ∷ [] ∷ [] ∷ [] ∷ [] ∷ [] ∷ [] ∷ [] ∷ [] ∷ [] ∷ [] ∷ [] ∷ [] ∷ [] ∷ [] ∷ [] ∷ [] ∷ [] ∷ []
+    (1 ∷ 1 ∷ 1 ∷ 1 ∷ []) ∷ replicate 19 []
 unfolding tools first book mixed calls numbers
 opens = refl
 

@@ -17,7 +17,8 @@ eight = entry 4 ∷ entry 5 ∷ entry 6 ∷ entry 7 ∷ entry 8 ∷ entry 9 ∷ 
 
 -- move 4: of nine pending entries the first eight
 offers-eight : perform
-    (splice 64 (join eight ++ entry 12) (splice 6 (9 ∷ []) (after (zeros 1456) (opening (oneEach 4) 4 0 1 (0 ∷ []) ∷ []))))
+    (splice 64 (join eight ++ entry 12)
+    (splice 6 (9 ∷ []) (after (zeros 1456) (opening (oneEach 4) 4 0 1 (0 ∷ []) ∷ []))))
     (moving (zeros 448)) .buffer ≡ proposal 0 1 (newBlock 1 0 (zeros 32) eight) ++ zeros 224
 unfolding tools entry eight
 offers-eight = refl
@@ -25,8 +26,8 @@ offers-eight = refl
 -- move 4: the parent is the largest linked height, and entries of its chain are not offered again
 offers-new : perform
     (after (zeros 2336)
-    (opening (oneEach 4) 4 0 2 (1 ∷ 0 ∷ []) ∷ submitting (entry 1) ∷ submitting (entry 2) ∷ delivery (blockCertificate 1 7 first) ∷
-    moving (zeros 448) ∷ []))
+    (opening (oneEach 4) 4 0 2 (1 ∷ 0 ∷ []) ∷ submitting (entry 1) ∷ submitting (entry 2) ∷
+    delivery (blockCertificate 1 7 first) ∷ moving (zeros 448) ∷ []))
     (moving (zeros 448)) .buffer ≡ proposal 0 2 (newBlock 2 1 (standIn first) (entry 2 ∷ [])) ++ zeros 224
 unfolding tools entry first
 offers-new = refl
@@ -59,7 +60,8 @@ block-preferred = refl
 -- votes: the certificate mask of a block that votes notarize is of those who voted for it, here 0, 1 and 3 and not 2
 voters-only : part
     (after (zeros 1456)
-    (opening (oneEach 4) 4 0 1 (1 ∷ []) ∷ delivery (blockVote 0 1 (standIn first)) ∷ delivery (blockVote 2 1 (zeros 32)) ∷
+    (opening (oneEach 4) 4 0 1 (1 ∷ []) ∷ delivery (blockVote 0 1 (standIn first)) ∷
+    delivery (blockVote 2 1 (zeros 32)) ∷
     delivery (blockVote 3 1 (standIn first)) ∷ delivery (proposal 1 1 first) ∷ delivery
     (blockVote 1 1 (standIn first)) ∷ []))
     576 10 ≡ 1 ∷ 3 ∷ 11 ∷ 0 ∷ 0 ∷ 0 ∷ 0 ∷ 0 ∷ 15 ∷ 0 ∷ []
