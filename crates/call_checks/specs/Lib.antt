@@ -13,3 +13,4 @@ pub mod MoveFrameChecks
 pub mod CallChecks
 pub mod RepeatChecks
 pub mod EffectChecks
+pub mod WeightCallChecks
