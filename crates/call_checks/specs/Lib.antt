@@ -14,3 +14,4 @@ pub mod CallChecks
 pub mod RepeatChecks
 pub mod EffectChecks
 pub mod WeightCallChecks
+pub mod WeightForkChecks

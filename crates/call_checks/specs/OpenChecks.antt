@@ -1,6 +1,6 @@
 -- Open: each of its ranges on both sides, its order of refusals, and every byte of a new book, as document 01 opens and
 -- with weights of 1; WeightCallChecks has other weights.
-use Prim.Native.Nat.{ℕ, suc, _+_, _*_}
+use Prim.Native.Nat.{ℕ, _+_, _*_}
 use mathlib.Core.Path.{_≡_, refl}
 use mathlib.Core.List.{List, [], _∷_, _++_, map}
 use lib.ListN.{replicate}
@@ -8,7 +8,7 @@ use Rattle.protocol.specs.Bytes.{Bytes, zeros}
 use Rattle.protocol.specs.Answer.{refusalNumber}
 use Rattle.protocol.specs.Open.{Opening, unweighed, openCall}
 use Rattle.check_books.specs.CheckCalls.{oneBytes, oneEach}
-use Rattle.check_books.specs.CheckStates.{counting, stateTools}
+use Rattle.check_books.specs.CheckStates.{stateTools}
 
 -- the refusal's number over a book of so many bytes, and 0 where the book is opened, by a way for each n
 opening : (ℕ → Opening) → (bytes n own heights : ℕ) → Bytes → ℕ

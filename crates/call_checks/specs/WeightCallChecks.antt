@@ -2,7 +2,7 @@
 -- numbers of replicas say different things, and the edition, which no call changes.
 use Prim.Native.Nat.{ℕ, _+_, _*_}
 use mathlib.Core.Path.{_≡_, refl}
-use mathlib.Core.Bool.{true, false}
+use mathlib.Core.Bool.{true}
 use mathlib.Core.List.{List, [], _∷_, _++_, map}
 use mathlib.Core.Option.{Option, some, none}
 use lib.ListN.{replicate, take}
@@ -11,10 +11,10 @@ use Rattle.protocol.specs.Block.{newBlock}
 use Rattle.protocol.specs.Frame.{proposal, blockVote, dummyVote, finalize, blockCertificate, dummyCertificate}
 use Rattle.protocol.specs.Frame.{finalizeCertificate}
 use Rattle.protocol.specs.Answer.{refusalNumber}
-use Rattle.protocol.specs.Open.{Opening, unweighed, weighed, openCall}
+use Rattle.protocol.specs.Open.{unweighed, weighed, openCall}
 use Rattle.protocol.specs.Call.{Call, Opened, opening, delivery, packetDelivery, moving, signalling, submitting}
 use Rattle.protocol.specs.Call.{sizing, reading, fetching, effect}
-use Rattle.check_books.specs.CheckCalls.{standIn, twoBytes, weighing, oneBytes, Result, perform, after, answers}
+use Rattle.check_books.specs.CheckCalls.{standIn, twoBytes, weighing, oneBytes, perform, after, answers}
 use Rattle.check_books.specs.CheckCalls.{splice, firstEdition, expect, disagreement}
 use Rattle.check_books.specs.CheckStates.{entry, counting, stateTools}
 

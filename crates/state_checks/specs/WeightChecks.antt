@@ -137,3 +137,18 @@ editions : map (λ book. passing (λ edition. isSound (splice 7 (edition ∷ [])
     (2 ∷ []) ∷ (2 ∷ []) ∷ (1 ∷ []) ∷ (1 ∷ []) ∷ replicate 5 []
 unfolding weights bookOf isSound
 editions = refl
+
+-- ---- masks by weight
+-- 0 weighs 4 of 7; a block at height 1 with a certificate and finalizes by these masks, and a finalized height
+largeAndSmall : (certificate finalizes finalized : ℕ) → Bytes
+largeAndSmall certificate finalizes finalized =
+    4 ∷ 0 ∷ 1 ∷ 0 ∷ 1 ∷ finalized ∷ 0 ∷ 2 ∷ 4 ∷ 0 ∷ 1 ∷ 0 ∷ 1 ∷ 0 ∷ 1 ∷
+    (zeros 561 ++ (0 ∷ 2 ∷ certificate ∷ 0 ∷ 0 ∷ 0 ∷ finalizes ∷ (zeros 185 ++ (1 ∷ zeros 687))))
+
+-- a block's certificate is a quorum, and so are the finalizes of the finalized height: 0 with any other
+sound-by-weight : passing (λ mask. isSound (largeAndSmall mask 0 0)) (counting 0 16) ∷
+    passing (λ mask. isSound (largeAndSmall 3 mask 1)) (counting 0 16) ∷
+    passing (λ mask. isSound (largeAndSmall 3 mask 0)) (0 ∷ 1 ∷ 14 ∷ 15 ∷ []) ∷ [] ≡
+    (3 ∷ 5 ∷ 7 ∷ 9 ∷ 11 ∷ 13 ∷ 15 ∷ []) ∷ (3 ∷ 5 ∷ 7 ∷ 9 ∷ 11 ∷ 13 ∷ 15 ∷ []) ∷ (0 ∷ 1 ∷ 14 ∷ 15 ∷ []) ∷ []
+unfolding weights isSound largeAndSmall
+sound-by-weight = refl
