@@ -18,8 +18,8 @@ tagged : ℕ → ℕ → Bytes
 tagged from zero = []
 tagged from (suc count) = from ∷ tagged (from + 16) count
 
--- a scenario by each way of opening, of which the second is the reference's, with the bytes 7 to 63 that it writes for n
--- replicas; no other byte and no answer differs
+-- a scenario by each way of opening, of which the second is the reference's, with the bytes 7 to 63 that it writes for
+-- n replicas; no other byte and no answer differs
 bothWays : ((ℕ → Opening) → (ℕ → Bytes) → ℕ) → List ℕ
 bothWays scenario =
     scenario (λ n. unweighed) (λ n. 1 ∷ zeros 56) ∷

@@ -19,7 +19,8 @@ use Rattle.check_books.specs.CheckCalls.{splice, firstEdition, expect, disagree
 use Rattle.check_books.specs.CheckStates.{entry, counting, stateTools}
 
 -- ---- Open
--- the refusal's number over a book of so many bytes for n replicas with these bytes of weights, and 0 where it is opened
+-- the refusal's number over a book of so many bytes for n replicas with these bytes of weights, and 0 where it is
+-- opened
 opens : (length n : ℕ) → Bytes → ℕ
 opens length n bytes = refusalNumber (openCall (weighed bytes) (replicate length 9) n 0 1 (0 ∷ []) .answer)
 

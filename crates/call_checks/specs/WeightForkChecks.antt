@@ -1,5 +1,5 @@
--- Why books must share weights, and not n alone (document 02, 2.6 and 2.7): four honest replicas of which one has weights
--- 9, 1, 1, 1 in its book and the others a book of edition 1, where all weigh 1, read logs that fork.
+-- Why books must share weights, and not n alone (document 02, 2.6): four honest replicas, of which one has weights 9, 1,
+-- 1, 1 in its book and the others books of edition 1, where all weigh 1, read logs that fork.
 use Prim.Native.Nat.{ℕ}
 use mathlib.Core.Path.{_≡_, refl}
 use mathlib.Core.List.{List, [], _∷_, _++_, map}

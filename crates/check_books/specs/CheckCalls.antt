@@ -177,5 +177,6 @@ disagreement i book (x ∷ xs) =
 -- opens every definition and these tools
 unfoldable pub tools : Unit {0}
 unfolding everything standIn placeSum countUp twoBytes weighing oneBytes oneEach numbersOf doneNumbers deliveryNumbers
-    countNumbers passNumbers moveNumbers answerOf lent lentAfter perform answers refuses splice firstEdition expect changed agrees disagreement
+    countNumbers passNumbers moveNumbers answerOf lent lentAfter perform answers refuses splice firstEdition expect
+    changed agrees disagreement
 tools = tt

@@ -1,5 +1,5 @@
--- Weights in observers' books (document 02, 2.6): the head's bytes, soundness, Open, certificates and outputs by weight,
--- and the edition, which no call changes.
+-- Weights in observers' books (document 02, 2.6): the head's bytes, soundness, Open, certificates and outputs by
+-- weight, and the edition, which no call changes.
 use Prim.Native.Nat.{ℕ, _+_, _*_}
 use mathlib.Core.Path.{_≡_, refl}
 use mathlib.Core.List.{List, [], _∷_, _++_, map}
@@ -92,7 +92,8 @@ unfolding books
 sound-by-weight = refl
 
 -- ---- Open
--- the refusal's number over a book of so many bytes for n replicas with these bytes of weights, and 0 where it is opened
+-- the refusal's number over a book of so many bytes for n replicas with these bytes of weights, and 0 where it is
+-- opened
 opens : (length n : ℕ) → Bytes → ℕ
 opens length n bytes = refusalNumber (observerOpenCall (weighed bytes) (replicate length 9) n 1 .answer)
 
@@ -158,8 +159,8 @@ certificate-of-one : map (λ mask. heard (bookOf 16 (oneBytes 15 ++ (232 ∷ 3 �
 unfolding books certificates heard
 certificate-of-one = refl
 
--- the same frames over books of one n and H whose weights differ: of 1, 2 and 3, and of 0 alone; all weigh 1, in edition
--- 2 and in edition 1, or 0 weighs 9
+-- the same frames over books of one n and H whose weights differ: of 1, 2 and 3, and of 0 alone; all weigh 1, in
+-- edition 2 and in edition 1, or 0 weighs 9
 same-heights-other-weights : map (λ book. heard book (certificates 14 ++ certificates 1))
     (bookOf 4 (oneBytes 4) ∷ firstEdition (bookOf 4 []) ∷ bookOf 4 (9 ∷ 0 ∷ 1 ∷ 0 ∷ 1 ∷ 0 ∷ 1 ∷ 0 ∷ []) ∷ []) ≡
     replicate 2 (replicate 3 (0 ∷ 1 ∷ []) ++ replicate 3 (9 ∷ [])) ++
@@ -223,7 +224,8 @@ same-answers : answers (after (zeros 1456) (opening (weighing (4 ∷ 1 ∷ 1 ∷
     map (take 2) (observerOutcomes (bookOf 4 (4 ∷ 0 ∷ 1 ∷ 0 ∷ 1 ∷ 0 ∷ 1 ∷ 0 ∷ []))
     (map observerDelivery frames)) ∷ [] ≡
     (replicate 6 (9 ∷ []) ++
-    (replicate 3 (0 ∷ 1 ∷ []) ++ ((0 ∷ 0 ∷ []) ∷ (0 ∷ 1 ∷ []) ∷ (0 ∷ 1 ∷ []) ∷ (0 ∷ 2 ∷ 1 ∷ []) ∷ (0 ∷ 16 ∷ []) ∷ []))) ∷
+    (replicate 3 (0 ∷ 1 ∷ []) ++
+    ((0 ∷ 0 ∷ []) ∷ (0 ∷ 1 ∷ []) ∷ (0 ∷ 1 ∷ []) ∷ (0 ∷ 2 ∷ 1 ∷ []) ∷ (0 ∷ 16 ∷ []) ∷ []))) ∷
     (replicate 6 (9 ∷ []) ++
     (replicate 3 (0 ∷ 1 ∷ []) ++ ((0 ∷ 0 ∷ []) ∷ (0 ∷ 1 ∷ []) ∷ (0 ∷ 1 ∷ []) ∷ []))) ∷ []
 unfolding books certificates frames

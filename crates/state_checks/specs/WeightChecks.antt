@@ -1,5 +1,5 @@
--- The weights in a book's head (document 02, 2.6): their bytes, what they are read as in each edition, and which of them
--- are sound, of four, of fifteen and of sixteen replicas, and of one.
+-- The weights in a book's head (document 02, 2.6): their bytes, what they are read as in each edition, and which of
+-- them are sound, of four, of fifteen and of sixteen replicas, and of one; and which masks are, by weight.
 use Prim.Native.Nat.{ℕ, _+_, _*_}
 use mathlib.Core.Path.{_≡_, refl}
 use mathlib.Core.Bool.{Bool}
