@@ -11,7 +11,7 @@ use Rattle.protocol.specs.Answer.{refusalNumber}
 use Rattle.protocol.specs.Open.{unweighed, weighed}
 use Rattle.protocol.specs.Call.{opening, delivery, moving, sizing}
 use Rattle.protocol.specs.Observer.{encodeObserver, decodeObserver}
-use Rattle.protocol.specs.ObserverCalls.{observerOpenCall}
+use Rattle.protocol.specs.ObserverCalls.{newObserver, observerOpenCall}
 use Rattle.protocol.specs.ObserverCall.{ObserverCall, observerOpening, observerDelivery, observerMoving}
 use Rattle.protocol.specs.ObserverCall.{observerSizing, observerReading, observation}
 use Rattle.check_books.specs.CheckCalls.{standIn, weighing, oneBytes, answers, after, splice, firstEdition}
@@ -48,6 +48,12 @@ read : map (λ book. decodeObserver book .weights)
     replicate 16 1 ∷ []
 unfolding books
 read = refl
+
+-- a new observer has sixteen weights too, whichever way its book is opened
+new-weights : map (λ way. newObserver way 4 1 .weights) (weighed fourBytes ∷ unweighed ∷ []) ≡
+    (10 ∷ 256 ∷ 1000 ∷ 1 ∷ zeros 12) ∷ (1 ∷ 1 ∷ 1 ∷ 1 ∷ zeros 12) ∷ []
+unfolding books
+new-weights = refl
 
 -- and back to the bytes
 there-and-back : map (λ book. encodeObserver (decodeObserver book))

@@ -8,7 +8,7 @@ use lib.ListN.{replicate}
 use Rattle.protocol.specs.Bytes.{Bytes, zeros, le16}
 use Rattle.protocol.specs.State.{headBytes, encode, decode, headUnused, withEdition}
 use Rattle.protocol.specs.Sound.{view, sound}
-use Rattle.protocol.specs.Open.{startState}
+use Rattle.protocol.specs.Open.{unweighed, weighed, startState, newState}
 use Rattle.check_books.specs.CheckCalls.{standIn, oneBytes, splice, firstEdition}
 use Rattle.check_books.specs.CheckStates.{counting, freePlaces, passing, stateTools}
 
@@ -79,6 +79,12 @@ viewed : map (λ bytes. view (decode bytes) .weights)
     four ∷ (1 ∷ 2 ∷ 3 ∷ 255 ∷ []) ∷ sixteen ∷ (1 ∷ 1 ∷ 1 ∷ []) ∷ []
 unfolding weights headWith
 viewed = refl
+
+-- a new state has sixteen weights too, whichever way it is opened
+new-weights : map (λ way. newState way 4 0 [] .weights) (weighed fourBytes ∷ unweighed ∷ []) ≡
+    (10 ∷ 256 ∷ 1000 ∷ 1 ∷ zeros 12) ∷ (1 ∷ 1 ∷ 1 ∷ 1 ∷ zeros 12) ∷ []
+unfolding weights
+new-weights = refl
 
 -- ---- books
 -- so many replicas with these bytes from 8 on, own number 0, one height with nothing in it; edition 2
