@@ -2,10 +2,10 @@
 -- that are none, the largest sums, equal weights of any size, and two quorums that share no more than a third.
 use Prim.Native.Nat.{ℕ, zero, suc, _+_, _*_}
 use mathlib.Core.Path.{_≡_, refl}
-use mathlib.Core.Bool.{Bool, true, false, _&&_, not}
+use mathlib.Core.Bool.{Bool, true, false, not}
 use mathlib.Core.List.{List, [], _∷_, _++_, map}
 use lib.ListN.{length, replicate}
-use Rattle.protocol.specs.Mask.{inMask, maskOf}
+use Rattle.protocol.specs.Mask.{intersection}
 use Rattle.protocol.specs.View.{View, quorum, maskWeight, totalWeight}
 use Rattle.protocol.specs.Sound.{view}
 use Rattle.check_books.specs.CheckStates.{counting, passing, stateOf, stateTools}
@@ -122,7 +122,7 @@ equal-quorums = refl
 shared : List ℕ → ℕ → ℕ → List ℕ × List Bool
 shared given a b =
     let v : View = viewWith given in
-    let both : ℕ = maskOf (λ s. inMask a s && inMask b s) (length given) in
+    let both : ℕ = intersection (length given) a b in
     (totalWeight v ∷ maskWeight v a ∷ maskWeight v b ∷ maskWeight v both ∷ [], quorum v a ∷ quorum v b ∷ [])
 
 -- W 6: 0 and 1 weigh 4, and so do 1, 2 and 3; they share 1, of weight 2; the same of three that weigh 1, of three that
