@@ -27,6 +27,7 @@ unfoldable pub everyHonest : ℕ → (ℕ → Bool) → ℕ → Bool
 everyHonest dishonest test zero = true
 everyHonest dishonest test (suc s) = everyHonest dishonest test s && implies (not (inMask dishonest s)) (test s)
 
+-- there is a weight for replica `s`, and it is not in the mask of the dishonest ones
 unfoldable pub isHonest : List ℕ → ℕ → ℕ → Bool
 isHonest weights dishonest s = ltb s (length weights) && not (inMask dishonest s)
 
@@ -62,7 +63,8 @@ module _ (digest : Bytes → Bytes) where
   unfoldable pub opensOnce : List ℕ → ℕ → Bool → List Member → Bool
   opensOnce weights s opened [] = true
   opensOnce weights s opened (m ∷ ms) =
-      implies (eqb (m .replica) s) (opensInTurn weights s opened m) && opensOnce weights s (eqb (m .replica) s || opened) ms
+      implies (eqb (m .replica) s) (opensInTurn weights s opened m) &&
+      opensOnce weights s (eqb (m .replica) s || opened) ms
 
   -- ---- statements
   -- the statement that a frame makes in the name of `s`, with `s` in front, as bytes
@@ -89,7 +91,8 @@ module _ (digest : Bytes → Bytes) where
   unfoldable pub notForged : List ℕ → ℕ → List Bytes → List Member → Bool
   notForged weights dishonest log [] = true
   notForged weights dishonest log (m ∷ ms) =
-      deliversBacked weights dishonest log m && notForged weights dishonest (signedIn (m .replica) (writes digest m) ++ log) ms
+      deliversBacked weights dishonest log m &&
+      notForged weights dishonest (signedIn (m .replica) (writes digest m) ++ log) ms
 
   -- ---- blocks
   -- a member shows these blocks and no others
@@ -98,23 +101,27 @@ module _ (digest : Bytes → Bytes) where
 
   -- so does every honest member
   unfoldable pub showsOnly : List ℕ → ℕ → List Bytes → List Member → Bool
-  showsOnly weights dishonest blocks ms = everyIn (λ m. implies (isHonest weights dishonest (m .replica)) (shows blocks m)) ms
+  showsOnly weights dishonest blocks ms =
+      everyIn (λ m. implies (isHonest weights dishonest (m .replica)) (shows blocks m)) ms
 
   unfoldable pub noCollision : List Bytes → Bool
   noCollision blocks =
       everyIn (λ block. everyIn (λ other. implies (same (digest block) (digest other)) (same block other)) blocks)
       blocks
 
-  -- ---- members of replica `s`: one that reads this part, one to which this frame is delivered, the same with a test,
-  -- one that writes it
+  -- ---- members of replica `s`: one that passes a test and reads this part, or to which this frame is delivered; the
+  -- same without a test; one that writes this frame
+  unfoldable pub readsWhereAt : (Member → Bool) → Bytes → ℕ → Member → Bool
+  readsWhereAt test part s m = eqb (m .replica) s && (test m && readsPart part (does digest m .reads))
+
   unfoldable pub readsAt : Bytes → ℕ → Member → Bool
   readsAt part s m = eqb (m .replica) s && readsPart part (does digest m .reads)
 
-  unfoldable pub hearsAt : Bytes → ℕ → Member → Bool
-  hearsAt frame s m = eqb (m .replica) s && holds frame (delivers digest m)
-
   unfoldable pub hearsWhereAt : (Member → Bool) → Bytes → ℕ → Member → Bool
   hearsWhereAt test frame s m = eqb (m .replica) s && (test m && holds frame (delivers digest m))
+
+  unfoldable pub hearsAt : Bytes → ℕ → Member → Bool
+  hearsAt frame s m = eqb (m .replica) s && holds frame (delivers digest m)
 
   unfoldable pub writesAt : Bytes → ℕ → Member → Bool
   writesAt frame s m = eqb (m .replica) s && holds frame (writes digest m)

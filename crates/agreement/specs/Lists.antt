@@ -1,4 +1,4 @@
--- Lists of calls on the books of replicas of some weights, and demand 3 as one claim about a whole list.
+-- Lists of calls on the books of replicas of any weights, and demand 3 as one claim about a whole list.
 use Prim.Native.Nat.{ℕ, _*_, _<_}
 use mathlib.Core.Path.{_≡_}
 use mathlib.Core.Logic.{_⊎_}
@@ -44,11 +44,12 @@ blockIn frame = when (carriesBlock (kind frame)) (frameBlock frame)
 unfoldable pub Begins : Bytes → Bytes → Type 0
 Begins part other = part ≡ take (length part) other
 
--- there is a replica for each weight; those are honest that the mask of the dishonest ones does not hold
+-- there is a replica for each weight, the first one has number 0; those are honest that the mask of the dishonest ones
+-- does not hold
 unfoldable pub HonestIn : List ℕ → ℕ → ℕ → Type 0
 HonestIn weights dishonest s = (s < length weights) × (inMask dishonest s ≡ false)
 
--- the dishonest replicas weigh less than a third
+-- the dishonest replicas weigh less than a third of the total weight, however many they are
 abbrev pub FewDishonest : List ℕ → ℕ → Type 0
 FewDishonest weights dishonest = 3 * weigh (λ s. inMask dishonest s) weights < total weights
 
@@ -95,8 +96,9 @@ module _ (digest : Bytes → Bytes) where
   lastLeft s [] = none
   lastLeft s (m ∷ ms) = orElse (lastLeft s ms) (leftBy s m)
 
-  -- an opening for replicas of these weights under the own number `s`, not refused; its book may hold any bytes and be of
-  -- any edition, of which the first has all weights 1
+  -- an opening for replicas of these weights under the own number `s`, not refused; its book may hold any bytes. Books
+  -- share the weights as they are read: document 01's opening, which makes edition 1, is one for weights that are all 1
+  -- (`openedWeights`), so that books of editions 1 and 2 stand in one list where all weights are 1, and only there
   unfoldable pub Opens : List ℕ → ℕ → Member → Type 0
   Opens weights s m = does m .opens ≡ some (record { weights = weights; own = s })
 

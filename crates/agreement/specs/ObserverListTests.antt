@@ -12,6 +12,7 @@ use Rattle.agreement.specs.Lists.{delivers, orElse}
 use Rattle.agreement.specs.ObserverLists.{AnyMember, ObserverMember, observerLeftBy, observes, ofObserver}
 use Rattle.agreement.specs.ObserverLists.{ofReplica}
 
+-- an observer's book was opened for replicas of these weights
 unfoldable pub areWeights : List ℕ → Option (List ℕ) → Bool
 areWeights weights none = false
 areWeights weights (some opened) = same opened weights
@@ -36,7 +37,8 @@ module _ (digest : Bytes → Bytes) where
   unfoldable pub echoes : List ℕ → ℕ → (ℕ → Bool) → List Bytes → List AnyMember → Bool
   echoes weights dishonest observers heard [] = true
   echoes weights dishonest observers heard (ofReplica m ∷ ms) =
-      echoes weights dishonest observers (cond (isHonest weights dishonest (m .replica)) (delivers digest m) [] ++ heard) ms
+      echoes weights dishonest observers
+      (cond (isHonest weights dishonest (m .replica)) (delivers digest m) [] ++ heard) ms
   echoes weights dishonest observers heard (ofObserver m ∷ ms) =
       implies (observers (m .observer)) (everyIn (λ frame. holds frame heard) (observes digest m .delivers)) &&
       echoes weights dishonest observers heard ms

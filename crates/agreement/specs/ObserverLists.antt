@@ -71,8 +71,8 @@ module _ (digest : Bytes → Bytes) where
   observerLastLeft s (m ∷ ms) = orElse (observerLastLeft s ms) (observerLeftBy s m)
 
   -- what a member of an observer must be, after a last one that left this book, or as the first one: an opening for
-  -- replicas of these weights, not refused, whose book may hold any bytes and be of any heights and edition; or a call that gets this book, and is no
-  -- opening or a refused one
+  -- replicas of these weights, not refused, whose book may hold any bytes, have any heights and be of either edition
+  -- as with `Opens`; or a call that gets this book, and is no opening or a refused one
   unfoldable pub ObserverFollows : List ℕ → ObserverMember → Option Bytes → Type 0
   ObserverFollows weights m none = observes m .opens ≡ some weights
   ObserverFollows weights m (some book) = (m .book ≡ book) × (observes m .opens ≡ none)

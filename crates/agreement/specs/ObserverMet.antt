@@ -1,12 +1,12 @@
--- What a list must show so that demand 3 with observers is not vacuous: it meets every premise, and two observers and
--- an honest replica read an entry or more.
+-- What a list must show so that demand 3 with observers is not vacuous: it meets every premise, two observers and an
+-- honest replica read an entry or more, and one of the observers a part that strictly begins it.
 use Prim.Native.Nat.{ℕ}
 use mathlib.Core.Path.{_≡_}
 use mathlib.Core.Logic.{_≢_}
 use mathlib.Core.List.{List, [], List·Memᴰ}
 use mathlib.Core.Option.{some}
 use Rattle.protocol.specs.Bytes.{Bytes}
-use Rattle.agreement.specs.Lists.{FewDishonest, HonestIn, KeepsOneBook, Reads}
+use Rattle.agreement.specs.Lists.{Begins, FewDishonest, HonestIn, KeepsOneBook, Reads}
 use Rattle.agreement.specs.Met.{MemberOf}
 use Rattle.agreement.specs.ObserverLists.{AnyMember, AnyReads, Meant, NoneCollide, NoneForged}
 use Rattle.agreement.specs.ObserverLists.{ObserverKeepsOneBook, ObserverMember, observerCalls, observes}
@@ -35,8 +35,8 @@ module _ (digest : Bytes → Bytes) where
       Meant (HonestIn weights dishonest) observers m → Meant (HonestIn weights dishonest) observers m′ →
       AnyReads digest m part → AnyReads digest m′ part′ → Conclusion part part′
 
-  pub record ObservedMet (weights : List ℕ) (dishonest : ℕ) (observers : ℕ → Type 0) (list : List AnyMember) (part : Bytes) :
-      Type 0 where
+  pub record ObservedMet (weights : List ℕ) (dishonest : ℕ) (observers : ℕ → Type 0) (list : List AnyMember)
+      (shorter part : Bytes) : Type 0 where
     -- the premises
     pub few : FewDishonest weights dishonest
     pub keeps : (s : ℕ) → HonestIn weights dishonest s → KeepsOneBook digest weights (replicaCalls list) s
@@ -51,3 +51,7 @@ module _ (digest : Bytes → Bytes) where
     pub reads-0 : ObserverOf list 0 (ObserverReads part)
     pub reads-1 : ObserverOf list 1 (ObserverReads part)
     pub not-empty : part ≢ []
+    -- observer 1 reads the shorter part as well, which begins this one, and not the other way round
+    pub reads-shorter : ObserverOf list 1 (ObserverReads shorter)
+    pub begins : Begins shorter part
+    pub begins-not : Begins part shorter → ⊥

@@ -72,7 +72,8 @@ module _ (digest : Bytes → Bytes) where
     pub same-read : (s : ℕ) → gathered readBy s (unpacked list) ≡ gathered readBy s list
     -- a replica that opens its book first and once, and whose calls alone write to it, does so in both, and both leave
     -- the same book; not the other way round, since a refused packet before the opening is in the list alone
-    pub same-keeping : (weights : List ℕ) (s : ℕ) → KeepsOneBook digest weights list s → KeepsOneBook digest weights (unpacked list) s
+    pub same-keeping : (weights : List ℕ) (s : ℕ) → KeepsOneBook digest weights list s →
+        KeepsOneBook digest weights (unpacked list) s
     pub same-left : (weights : List ℕ) (s : ℕ) → KeepsOneBook digest weights list s →
         lastLeft digest s (unpacked list) ≡ lastLeft digest s list
     -- what is granted of statements and digests is granted of both or of neither

@@ -12,7 +12,7 @@ use Rattle.protocol.specs.Frame.{dummyVote, finalize, blockCertificate, dummyCe
 use Rattle.protocol.specs.State.{decode}
 use Rattle.protocol.specs.Fetch.{everyCertificate, fetchCall}
 use Rattle.protocol.specs.Call.{Call, delivery, moving, signalling, submitting, sizing, reading, fetching}
-use Rattle.check_books.specs.CheckCalls.{standIn, Result, perform, refuses, splice, expect, disagreement}
+use Rattle.check_books.specs.CheckCalls.{standIn, Result, perform, refuses, splice, expect, disagreement, oneBytes}
 use Rattle.check_books.specs.CheckStates.{entry, counting, entriesFrom, height, vacant, state, stateTools}
 
 -- ---- books, byte by byte
@@ -21,7 +21,7 @@ first = newBlock 1 0 (zeros 32) (entry 1 ∷ entry 2 ∷ [])
 
 -- replica 2 of four, two heights, current height and flags as given, nothing kept
 quiet : ℕ → ℕ → Bytes
-quiet flags current = 4 ∷ 2 ∷ 2 ∷ flags ∷ current ∷ 0 ∷ 0 ∷ 1 ∷ zeros 2328
+quiet flags current = 4 ∷ 2 ∷ 2 ∷ flags ∷ current ∷ 0 ∷ 0 ∷ 2 ∷ (oneBytes 4 ++ zeros 2320)
 
 -- one height whose block, with entries 1 and 2, is notarized by 0, 1 and 3 and finalized by 1, 2 and 3; so many
 -- pending entries, of these bytes
@@ -29,11 +29,12 @@ settled : ℕ → Bytes → Bytes
 settled count pool =
     splice 768 first
     (splice 577 (2 ∷ 11 ∷ 0 ∷ 0 ∷ 0 ∷ 14 ∷ [])
-    (splice 64 pool (4 ∷ 2 ∷ 1 ∷ 0 ∷ 2 ∷ 1 ∷ count ∷ 1 ∷ zeros 1448)))
+    (splice 64 pool (4 ∷ 2 ∷ 1 ∷ 0 ∷ 2 ∷ 1 ∷ count ∷ 2 ∷ (oneBytes 4 ++ zeros 1440))))
 
 -- one height with nothing in it, and so many pending entries from entry 1 on
 waiting : ℕ → Bytes
-waiting count = splice 64 (entriesFrom 1 count) (4 ∷ 2 ∷ 1 ∷ 0 ∷ 1 ∷ 0 ∷ count ∷ 1 ∷ zeros 1448)
+waiting count =
+    splice 64 (entriesFrom 1 count) (4 ∷ 2 ∷ 1 ∷ 0 ∷ 1 ∷ 0 ∷ count ∷ 2 ∷ (oneBytes 4 ++ zeros 1440))
 
 unfoldable calls : Unit {0}
 unfolding stateTools first quiet settled waiting

@@ -11,21 +11,21 @@ use Rattle.protocol.specs.Frame.{frameOf, proposal, blockVote, dummyVote, final
 use Rattle.protocol.specs.Frame.{finalizeCertificate}
 use Rattle.protocol.specs.Sound.{sound}
 use Rattle.protocol.specs.Call.{opening, delivery, moving, signalling, submitting, sizing, fetching}
-use Rattle.check_books.specs.CheckCalls.{standIn, after, answers, refuses, splice}
+use Rattle.check_books.specs.CheckCalls.{standIn, after, answers, refuses, splice, oneEach, firstEdition}
 use Rattle.check_books.specs.CheckStates.{entry, entriesFrom, stateTools}
 
 -- ---- books, blocks and calls of the checks
 -- replica 2 of 4, one height, leader 0
 single : Bytes
-single = after (zeros 1456) (opening 4 2 1 (0 ∷ []) ∷ [])
+single = after (zeros 1456) (opening (oneEach 4) 4 2 1 (0 ∷ []) ∷ [])
 
 -- replica 2 of 16, one height, leader 0
 sixteen : Bytes
-sixteen = after (zeros 1456) (opening 16 2 1 (0 ∷ []) ∷ [])
+sixteen = after (zeros 1456) (opening (oneEach 16) 16 2 1 (0 ∷ []) ∷ [])
 
 -- replica 2 of 4, three heights, leaders 0, 1 and 2: the rehearsal's book
 triple : Bytes
-triple = after (zeros 3216) (opening 4 2 3 (0 ∷ 1 ∷ 2 ∷ []) ∷ [])
+triple = after (zeros 3216) (opening (oneEach 4) 4 2 3 (0 ∷ 1 ∷ 2 ∷ []) ∷ [])
 
 -- two blocks of height 1
 one : Bytes
@@ -63,10 +63,10 @@ books = tt
 -- ---- document 01's table of refusals, row by row, by the example that stands there
 refusals : allOf
     -- 1: 1,455 bytes for one height
-    (refuses 1 (zeros 1455) (opening 4 2 1 (0 ∷ [])) ∷
+    (refuses 1 (zeros 1455) (opening (oneEach 4) 4 2 1 (0 ∷ [])) ∷
     refuses 1 short (moving (zeros 448)) ∷
     -- 2: 4 replicas, own number 4
-    refuses 2 (zeros 1456) (opening 4 4 1 (0 ∷ [])) ∷
+    refuses 2 (zeros 1456) (opening (oneEach 4) 4 4 1 (0 ∷ [])) ∷
     -- 3: a move with a reply of 447 bytes; a fetch with one of 223 (that bound is in the row's first column)
     refuses 3 single (moving (replicate 447 9)) ∷
     refuses 3 settled (fetching 5 1 (replicate 223 9)) ∷
@@ -173,8 +173,8 @@ eleven = refl
 -- ---- document 01's line of orders: inputs that are wrong in two ways
 orders : allOf
     -- open 2, 1
-    (refuses 2 (zeros 1455) (opening 4 4 1 (0 ∷ [])) ∷
-    refuses 2 (zeros 1456) (opening 4 2 2 (0 ∷ [])) ∷
+    (refuses 2 (zeros 1455) (opening (oneEach 4) 4 4 1 (0 ∷ [])) ∷
+    refuses 2 (zeros 1456) (opening (oneEach 4) 4 2 2 (0 ∷ [])) ∷
     -- deliver 1, 4
     refuses 1 short (delivery (frameOf 8 0 1 0 (zeros 32) (zeros 176))) ∷
     -- deliver 4, 6: kind 8 at height 0; a block of height 0 has no parent below it
@@ -253,9 +253,15 @@ damages : allOf
 unfolding books
 damages = refl
 
--- edition 2, and the head's first zero byte
+-- edition 3, and edition 1 beside weights; a weight of 0 and of 1,001; a weight of a fifth replica of four; in edition
+-- 1 the head's first zero byte
 later-editions : allOf
-    (not (sound standIn (splice 7 (2 ∷ []) settled)) ∷ not (sound standIn (splice 8 (1 ∷ []) settled)) ∷ []) ≡ true
+    (not (sound standIn (splice 7 (3 ∷ []) settled)) ∷
+    not (sound standIn (splice 7 (1 ∷ []) settled)) ∷
+    not (sound standIn (splice 8 (0 ∷ []) settled)) ∷
+    not (sound standIn (splice 14 (233 ∷ 3 ∷ []) settled)) ∷
+    not (sound standIn (splice 16 (1 ∷ []) settled)) ∷
+    not (sound standIn (splice 8 (1 ∷ []) (firstEdition settled))) ∷ []) ≡ true
 unfolding books
 later-editions = refl
 
@@ -265,6 +271,9 @@ free : allOf
     sound standIn triple ∷
     sound standIn settled ∷
     sound standIn full ∷
+    -- edition 1; a weight of 1,000
+    sound standIn (firstEdition settled) ∷
+    sound standIn (splice 8 (232 ∷ 3 ∷ []) settled) ∷
     -- the height after the last; all flags; 32 pending; pending places past the count
     sound standIn (splice 4 (2 ∷ []) settled) ∷
     sound standIn (splice 3 (15 ∷ []) settled) ∷

@@ -10,7 +10,7 @@ use Rattle.protocol.specs.Block.{newBlock}
 use Rattle.protocol.specs.Frame.{dummyVote, finalize, blockCertificate, dummyCertificate, finalizeCertificate}
 use Rattle.protocol.specs.Call.{Call, Opened, opening, delivery, packetDelivery, moving, signalling, submitting}
 use Rattle.protocol.specs.Call.{sizing, reading, fetching, effect}
-use Rattle.check_books.specs.CheckCalls.{standIn, after, tools}
+use Rattle.check_books.specs.CheckCalls.{standIn, after, oneEach, tools}
 
 first : Bytes
 first = newBlock 1 0 (zeros 32) (replicate 16 1 ∷ [])
@@ -19,7 +19,8 @@ first = newBlock 1 0 (zeros 32) (replicate 16 1 ∷ [])
 book : Bytes
 book =
     after (replicate 2336 9)
-    (opening 4 2 2 (0 ∷ 1 ∷ []) ∷ delivery (blockCertificate 1 7 first) ∷ delivery (finalizeCertificate 1 7) ∷
+    (opening (oneEach 4) 4 2 2 (0 ∷ 1 ∷ []) ∷ delivery (blockCertificate 1 7 first) ∷
+    delivery (finalizeCertificate 1 7) ∷
     delivery (dummyCertificate 2 7) ∷ moving (zeros 448) ∷ moving (zeros 448) ∷ [])
 
 -- a packet: a fresh frame between two that are refused, then a known one
@@ -30,7 +31,7 @@ mixed = dummyVote 4 2 ++ (dummyVote 3 2 ++ (dummyVote 5 2 ++ dummyVote 0 2))
 -- too short
 calls : List Call
 calls =
-    opening 3 1 2 (0 ∷ 1 ∷ []) ∷ opening 3 3 2 (0 ∷ 1 ∷ []) ∷
+    opening (oneEach 3) 3 1 2 (0 ∷ 1 ∷ []) ∷ opening (oneEach 3) 3 3 2 (0 ∷ 1 ∷ []) ∷
     delivery (dummyVote 3 2) ∷ delivery (dummyVote 4 2) ∷ delivery (dummyVote 0 2) ∷
     packetDelivery mixed ∷ packetDelivery (mixed ++ (0 ∷ [])) ∷ packetDelivery [] ∷
     moving (zeros 448) ∷ moving (zeros 447) ∷
@@ -51,13 +52,13 @@ damaged : map (λ call. effect standIn (zeros 5) call .accepted) (sizing ∷ rea
 unfolding tools
 damaged = refl
 
--- n and the own number of what is opened
+-- the own number and the weights of what is opened
 numbers : Option Opened → List ℕ
 numbers none = []
-numbers (some opened) = opened .n ∷ opened .own ∷ []
+numbers (some opened) = opened .own ∷ opened .weights
 
 opens : map (λ call. numbers (effect standIn book call .opens)) calls ≡
-    (3 ∷ 1 ∷ []) ∷ [] ∷ [] ∷ [] ∷ [] ∷ [] ∷ [] ∷ [] ∷ [] ∷ [] ∷ [] ∷ [] ∷ [] ∷ [] ∷ [] ∷ [] ∷ [] ∷ [] ∷ [] ∷ [] ∷ []
+    (1 ∷ 1 ∷ 1 ∷ 1 ∷ []) ∷ replicate 19 []
 unfolding tools first book mixed calls numbers
 opens = refl
 

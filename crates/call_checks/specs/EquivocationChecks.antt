@@ -1,6 +1,6 @@
 -- A leader who equivocates (document 02, 2.2; footnote 10 of 004): its second proposal at the current height fires the
 -- timer and changes nothing else. Each condition where it alone decides, the book's bytes afterwards, and the moves.
-use Prim.Native.Nat.{ℕ}
+use Prim.Native.Nat.{ℕ, _-_, _*_}
 use mathlib.Core.Path.{_≡_, refl}
 use mathlib.Core.Bool.{true, false}
 use mathlib.Core.List.{List, [], _∷_, _++_, map}
@@ -12,6 +12,7 @@ use Rattle.protocol.specs.State.{decode}
 use Rattle.protocol.specs.Deliver.{leaderEquivocates}
 use Rattle.protocol.specs.Call.{opening, delivery, packetDelivery, moving, signalling, effect}
 use Rattle.check_books.specs.CheckCalls.{standIn, Result, perform, answers, splice, expect, disagreement}
+use Rattle.check_books.specs.CheckCalls.{oneBytes, oneEach}
 use Rattle.check_books.specs.CheckStates.{entry, counting, differences, stateTools}
 
 -- ---- blocks and books, byte by byte
@@ -29,9 +30,9 @@ content leader status certificate dummies finalizes voters =
 -- Contents begin at 576, 592 and 608, bodies at 624, 1488 and 2352: proposal, notarized block 176 on, digests 352 on.
 bookWith : (flags current : ℕ) → Bytes → Bytes → Bytes
 bookWith flags current contents body =
-    4 ∷ 2 ∷ 3 ∷ flags ∷ current ∷ 0 ∷ 0 ∷ 1 ∷
-    (zeros 568 ++ (content 1 1 0 7 0 0 ++ (contents ++ (content 3 1 0 0 0 0 ++
-    (block 1 1 ++ (zeros 688 ++ (body ++ (block 3 1 ++ zeros 688))))))))
+    4 ∷ 2 ∷ 3 ∷ flags ∷ current ∷ 0 ∷ 0 ∷ 2 ∷
+    (oneBytes 4 ++ (zeros 560 ++ (content 1 1 0 7 0 0 ++ (contents ++ (content 3 1 0 0 0 0 ++
+    (block 1 1 ++ (zeros 688 ++ (body ++ (block 3 1 ++ zeros 688)))))))))
 
 -- the leader's first block is held at height 2 too, and nothing else is there
 book : (flags current : ℕ) → Bytes
@@ -239,7 +240,8 @@ damaged = refl
 -- ---- one replica, and sixteen whose last leads: one height
 small : (n leader : ℕ) → Bytes
 small n leader =
-    n ∷ 0 ∷ 1 ∷ 0 ∷ 1 ∷ 0 ∷ 0 ∷ 1 ∷ (zeros 568 ++ (content leader 1 0 0 0 0 ++ (block 1 1 ++ zeros 688)))
+    n ∷ 0 ∷ 1 ∷ 0 ∷ 1 ∷ 0 ∷ 0 ∷ 2 ∷
+    (oneBytes n ++ (zeros (568 - 2 * n) ++ (content leader 1 0 0 0 0 ++ (block 1 1 ++ zeros 688))))
 
 replicas : outcome (small 1 0) (proposal 0 1 (block 1 2)) ∷ outcome (small 16 15) (proposal 15 1 (block 1 2)) ∷ [] ≡
     replicate 2 (0 ∷ 1 ∷ 3 ∷ 1 ∷ [])
@@ -249,8 +251,8 @@ replicas = refl
 -- ---- two heights from the opening on: a row has the call, its answer, the bytes that it changed, and its reply
 -- replica 2 of four; replica 1 leads height 1, 0 leads height 2, whose contents begin at 592; bodies at 608 and 1472
 season : disagreement 1 (replicate 2336 90)
-    (expect (opening 4 2 2 (1 ∷ 0 ∷ [])) (0 ∷ [])
-    ((0, 4 ∷ 2 ∷ 2 ∷ 0 ∷ 1 ∷ 0 ∷ 0 ∷ 1 ∷ (zeros 568 ++ (1 ∷ zeros 1759))) ∷ []) [] ∷
+    (expect (opening (oneEach 4) 4 2 2 (1 ∷ 0 ∷ [])) (0 ∷ [])
+    ((0, 4 ∷ 2 ∷ 2 ∷ 0 ∷ 1 ∷ 0 ∷ 0 ∷ 2 ∷ (oneBytes 4 ++ (zeros 560 ++ (1 ∷ zeros 1759)))) ∷ []) [] ∷
     -- above the current height a second proposal is refused, and leaves no trace
     expect (delivery (proposal 0 2 (block 2 1))) (0 ∷ 1 ∷ []) ((593, 1 ∷ []) ∷ (1472, block 2 1) ∷ []) [] ∷
     expect (delivery (proposal 0 2 (block 2 2))) (8 ∷ []) [] [] ∷
@@ -305,7 +307,7 @@ packet leader h numbers = join (map (λ number. proposal leader h (block h numbe
 
 -- Nothing is held before. Two at the current height, the same again, and all three; two at the next height, where the
 -- first stays alone, and again. Contents begin at 576 and 592, bodies at 608 and 1472.
-packets : disagreement 1 (4 ∷ 2 ∷ 2 ∷ 0 ∷ 1 ∷ 0 ∷ 0 ∷ 1 ∷ (zeros 568 ++ (1 ∷ zeros 1759)))
+packets : disagreement 1 (4 ∷ 2 ∷ 2 ∷ 0 ∷ 1 ∷ 0 ∷ 0 ∷ 2 ∷ (oneBytes 4 ++ (zeros 560 ++ (1 ∷ zeros 1759))))
     (expect (packetDelivery (packet 1 1 (1 ∷ 2 ∷ []))) (0 ∷ 2 ∷ 0 ∷ 0 ∷ [])
     ((3, 1 ∷ []) ∷ (577, 1 ∷ []) ∷ (608, block 1 1) ∷ []) [] ∷
     expect (packetDelivery (packet 1 1 (1 ∷ 2 ∷ []))) (0 ∷ 0 ∷ 2 ∷ 0 ∷ []) [] [] ∷
@@ -319,7 +321,7 @@ unfolding equivocations packet
 packets = refl
 
 -- three at once: the first is held, the second fires the timer, the third is known
-three : disagreement 1 (4 ∷ 2 ∷ 1 ∷ 0 ∷ 1 ∷ 0 ∷ 0 ∷ 1 ∷ zeros 1448)
+three : disagreement 1 (4 ∷ 2 ∷ 1 ∷ 0 ∷ 1 ∷ 0 ∷ 0 ∷ 2 ∷ (oneBytes 4 ++ zeros 1440))
     (expect (packetDelivery (packet 0 1 (2 ∷ 3 ∷ 1 ∷ []))) (0 ∷ 2 ∷ 1 ∷ 0 ∷ [])
     ((3, 1 ∷ []) ∷ (577, 1 ∷ []) ∷ (592, block 1 2) ∷ []) [] ∷ []) ≡ 0
 unfolding equivocations packet

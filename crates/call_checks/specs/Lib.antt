@@ -13,3 +13,5 @@ pub mod MoveFrameChecks
 pub mod CallChecks
 pub mod RepeatChecks
 pub mod EffectChecks
+pub mod WeightCallChecks
+pub mod WeightForkChecks

@@ -7,7 +7,7 @@ use Rattle.protocol.specs.Bytes.{Bytes, zeros}
 use Rattle.protocol.specs.Block.{newBlock}
 use Rattle.protocol.specs.State.{State, Height, encode, decode}
 use Rattle.protocol.specs.Move.{Step, step, afterMoves}
-use Rattle.check_books.specs.CheckCalls.{standIn, moveNumbers}
+use Rattle.check_books.specs.CheckCalls.{standIn, moveNumbers, oneBytes}
 use Rattle.check_books.specs.CheckStates.{entry, counting, entriesFrom, height, vacant, dummied, notarizedBy7}
 use Rattle.check_books.specs.CheckStates.{finalizedBy, holding, state, stateTools}
 
@@ -260,8 +260,9 @@ moving = refl
 -- a book of two heights that are dummy, with a pending entry, its flags and c as given
 between : (flags current : ℕ) → Bytes
 between flags current =
-    4 ∷ 2 ∷ 2 ∷ flags ∷ current ∷ 0 ∷ 1 ∷ 1 ∷
-    (zeros 56 ++ (entry 5 ++ (zeros 496 ++ (3 ∷ 0 ∷ 0 ∷ 0 ∷ 7 ∷ (zeros 11 ++ (1 ∷ 0 ∷ 0 ∷ 0 ∷ 11 ∷ zeros 1739))))))
+    4 ∷ 2 ∷ 2 ∷ flags ∷ current ∷ 0 ∷ 1 ∷ 2 ∷
+    (oneBytes 4 ++ (zeros 48 ++ (entry 5 ++ (zeros 496 ++
+    (3 ∷ 0 ∷ 0 ∷ 0 ∷ 7 ∷ (zeros 11 ++ (1 ∷ 0 ∷ 0 ∷ 0 ∷ 11 ∷ zeros 1739)))))))
 
 -- two moves pass both, and no other byte changes
 moving-twice : encode (afterMoves standIn 2 (decode (between 2 1))) ≡ between 0 3

@@ -10,7 +10,7 @@ use Rattle.protocol.specs.Block.{newBlock}
 use Rattle.protocol.specs.Frame.{proposal, blockVote, dummyVote, finalize, dummyCertificate}
 use Rattle.protocol.specs.Packet.{counted, packetFrames}
 use Rattle.protocol.specs.Call.{opening, delivery, packetDelivery}
-use Rattle.check_books.specs.CheckCalls.{standIn, after, perform, refuses, splice, expect, disagreement}
+use Rattle.check_books.specs.CheckCalls.{standIn, after, perform, refuses, splice, expect, disagreement, oneEach}
 use Rattle.check_books.specs.CheckCalls.{tools}
 
 -- ---- a book and frames
@@ -19,7 +19,7 @@ first = newBlock 1 0 (zeros 32) (replicate 16 1 ∷ [])
 
 -- a new book of replica 2 of four, with one height that replica 0 leads, and one that is not sound
 new : Bytes
-new = after (replicate 1456 9) (opening 4 2 1 (0 ∷ []) ∷ [])
+new = after (replicate 1456 9) (opening (oneEach 4) 4 2 1 (0 ∷ []) ∷ [])
 
 damaged : Bytes
 damaged = splice 7 (9 ∷ []) new

@@ -14,7 +14,7 @@ use Rattle.protocol.specs.Sound.{view}
 use Rattle.protocol.specs.Move.{offered}
 use Rattle.protocol.specs.Call.{submitting, sizing, reading}
 use Rattle.protocol.specs.ObserverCall.{observerSizing, observerReading}
-use Rattle.check_books.specs.CheckCalls.{standIn, perform, splice, expect, disagreement}
+use Rattle.check_books.specs.CheckCalls.{standIn, perform, splice, expect, disagreement, oneBytes}
 use Rattle.check_books.specs.CheckObservers.{observerNumbers, observerBuffer, observerHead, observedContent}
 use Rattle.check_books.specs.CheckObservers.{observerTools}
 use Rattle.check_books.specs.CheckStates.{entry, stateTools}
@@ -74,7 +74,7 @@ book finalized dummies top count pool =
     (splice 609 (2 ∷ 7 ∷ 0 ∷ 0 ∷ 0 ∷ 14 ∷ [])
     (splice 593 (2 ∷ 7 ∷ 0 ∷ dummies ∷ 0 ∷ 14 ∷ [])
     (splice 577 (2 ∷ 7 ∷ 0 ∷ 0 ∷ 0 ∷ 14 ∷ [])
-    (splice 64 pool (4 ∷ 2 ∷ 3 ∷ 0 ∷ 4 ∷ finalized ∷ count ∷ 1 ∷ zeros 3208)))))))
+    (splice 64 pool (4 ∷ 2 ∷ 3 ∷ 0 ∷ 4 ∷ finalized ∷ count ∷ 2 ∷ (oneBytes 4 ++ zeros 3200))))))))
 
 observerBook : ℕ → ℕ → Bytes → Bytes
 observerBook finalized dummies top =

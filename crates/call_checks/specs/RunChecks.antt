@@ -14,7 +14,7 @@ use Rattle.protocol.specs.Answer.{pass, propose, voteBlock, Outcome, certificat
 use Rattle.protocol.specs.Deliver.{deliverCall}
 use Rattle.protocol.specs.Move.{MoveOutcome, moveCall}
 use Rattle.protocol.specs.Call.{Call, opening, delivery, moving, signalling, submitting, sizing, reading}
-use Rattle.check_books.specs.CheckCalls.{standIn, after, answers, tools}
+use Rattle.check_books.specs.CheckCalls.{standIn, after, answers, oneEach, tools}
 use Rattle.check_books.specs.CheckStates.{entry}
 
 -- ---- the rehearsal
@@ -70,7 +70,7 @@ rehearse book (frame ∷ frames) =
 
 -- document 01's book and input
 rehearsalBook : Bytes
-rehearsalBook = after (zeros 3216) (opening 4 2 3 (0 ∷ 1 ∷ 2 ∷ []) ∷ [])
+rehearsalBook = after (zeros 3216) (opening (oneEach 4) 4 2 3 (0 ∷ 1 ∷ 2 ∷ []) ∷ [])
 
 rehearsalInput : List Bytes
 rehearsalInput =
@@ -106,7 +106,7 @@ second = newBlock 2 1 (standIn first) (entry 2 ∷ entry 3 ∷ [])
 -- one first
 twoHeights : List Call
 twoHeights =
-    opening 4 0 2 (0 ∷ 1 ∷ []) ∷
+    opening (oneEach 4) 4 0 2 (0 ∷ 1 ∷ []) ∷
     submitting (entry 1) ∷
     moving (zeros 448) ∷
     delivery (proposal 0 1 first) ∷
@@ -172,7 +172,7 @@ two-heights = refl
 -- ---- the order of the moves, and the errors that document 01 lists
 -- where the timer fired and height 1 is notarized and finalized: moves 1, 2 and 3, the last without a finalize
 all-apply : answers (zeros 1456)
-    (opening 4 0 1 (0 ∷ []) ∷
+    (opening (oneEach 4) 4 0 1 (0 ∷ []) ∷
     delivery (proposal 0 1 first) ∷
     delivery (blockCertificate 1 7 first) ∷
     delivery (finalizeCertificate 1 7) ∷
@@ -196,7 +196,7 @@ all-apply = refl
 -- the leader holds a proposal: move 4, then 5; the timer then fires after the vote, and its flag stays after the dummy
 -- vote
 vote-and-dummy : answers (zeros 1456)
-    (opening 4 0 1 (0 ∷ []) ∷
+    (opening (oneEach 4) 4 0 1 (0 ∷ []) ∷
     delivery (proposal 0 1 first) ∷
     moving (zeros 448) ∷
     moving (zeros 448) ∷
@@ -217,7 +217,7 @@ vote-and-dummy = refl
 
 -- a block vote after a dummy vote; one signer's dummy votes count once
 dummy-and-vote : answers (zeros 1456)
-    (opening 4 1 1 (0 ∷ []) ∷
+    (opening (oneEach 4) 4 1 1 (0 ∷ []) ∷
     signalling 1 ∷
     moving (zeros 448) ∷
     delivery (proposal 0 1 first) ∷

@@ -26,6 +26,7 @@ pub mod GrowingLaws
 pub mod MoveSoundLaws
 pub mod SubmitSoundLaws
 pub mod SoundStaysLaws
+pub mod SettingStaysLaws
 pub mod FrameLaws
 pub mod ReadLaws
 pub mod ReplyLaws

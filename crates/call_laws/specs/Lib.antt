@@ -10,5 +10,6 @@ pub mod Fields
 pub mod Readable
 pub mod Named
 pub mod Reply
+pub mod SettingStays
 pub mod Grows
 pub mod Laws

@@ -1,13 +1,13 @@
 -- Calls with their answers as numbers, and a digest that computes: what the checks of the definitions run.
 use Prim.Native.Nat.{ℕ, zero, suc, _+_, _*_, _%_}
 use mathlib.Core.Bool.{Bool, _&&_, cond}
-use mathlib.Core.List.{List, [], _∷_, _++_}
-use lib.ListN.{length, take, drop}
-use Rattle.protocol.specs.Bytes.{Bytes, same}
+use mathlib.Core.List.{List, [], _∷_, _++_, map}
+use lib.ListN.{length, replicate, take, drop}
+use Rattle.protocol.specs.Bytes.{Bytes, le16, zeros, join, same}
 use Rattle.protocol.specs.Answer.{Answer, refused, accepted, Done, Delivery, known, fresh, Counts, Move, idle}
 use Rattle.protocol.specs.Answer.{voteDummy, output, pass, propose, voteBlock, certificateKind, finalizeKind}
 use Rattle.protocol.specs.Answer.{moveNumber, moveHeight}
-use Rattle.protocol.specs.Open.{openCall}
+use Rattle.protocol.specs.Open.{Opening, weighed, openCall}
 use Rattle.protocol.specs.Deliver.{deliverCall}
 use Rattle.protocol.specs.Packet.{packetCall}
 use Rattle.protocol.specs.Move.{moveCall}
@@ -30,6 +30,22 @@ countUp from (suc count) = from % 251 ∷ countUp (suc from) count
 
 unfoldable pub standIn : Bytes → Bytes
 standIn bytes = countUp (placeSum 1 bytes) 32
+
+-- ---- weights
+-- the bytes of weights, two a replica, the low one first
+unfoldable pub twoBytes : List ℕ → Bytes
+twoBytes weights = join (map le16 weights)
+
+-- the way to open with these weights
+unfoldable pub weighing : List ℕ → Opening
+weighing weights = weighed (twoBytes weights)
+
+-- the bytes of n weights of 1, and the way to open with them
+unfoldable pub oneBytes : ℕ → Bytes
+oneBytes n = join (replicate n (1 ∷ 0 ∷ []))
+
+unfoldable pub oneEach : ℕ → Opening
+oneEach n = weighed (oneBytes n)
 
 -- ---- answers as numbers
 -- a refusal's number alone, or 0 and what the answer says; of a reading the part that it returns
@@ -61,7 +77,8 @@ moveNumbers move = moveNumber move ∷ moveHeight move ∷ passNumbers move
 
 -- a call's answer on a book, with the stand-in digest
 unfoldable pub answerOf : Bytes → Call → List ℕ
-answerOf book (opening n own heights leaders) = numbersOf doneNumbers (openCall book n own heights leaders .answer)
+answerOf book (opening way n own heights leaders) =
+    numbersOf doneNumbers (openCall way book n own heights leaders .answer)
 answerOf book (delivery frame) = numbersOf deliveryNumbers (deliverCall standIn book frame .answer)
 answerOf book (packetDelivery packet) = numbersOf countNumbers (packetCall standIn book packet .answer)
 answerOf book (moving reply) = numbersOf moveNumbers (moveCall standIn book reply .answer)
@@ -73,7 +90,7 @@ answerOf book (fetching k h reply) = numbersOf doneNumbers (fetchCall standIn bo
 
 -- ---- the bytes that a call is lent, and these bytes after it
 unfoldable pub lent : Call → Bytes
-lent (opening n own heights leaders) = []
+lent (opening way n own heights leaders) = []
 lent (delivery frame) = []
 lent (packetDelivery packet) = []
 lent (moving reply) = reply
@@ -84,7 +101,7 @@ lent (reading buffer) = buffer
 lent (fetching k h reply) = reply
 
 unfoldable pub lentAfter : Bytes → Call → Bytes
-lentAfter book (opening n own heights leaders) = []
+lentAfter book (opening way n own heights leaders) = []
 lentAfter book (delivery frame) = []
 lentAfter book (packetDelivery packet) = []
 lentAfter book (moving reply) = moveCall standIn book reply .reply
@@ -126,6 +143,10 @@ refuses number book call =
 unfoldable pub splice : ℕ → Bytes → Bytes → Bytes
 splice place new bytes = take place bytes ++ (new ++ drop (place + length new) bytes)
 
+-- the book of edition 1 with the same in it, where each replica weighs 1
+unfoldable pub firstEdition : Bytes → Bytes
+firstEdition book = splice 7 (1 ∷ zeros 56) book
+
 -- ---- calls with what is expected of them
 pub record Expected : Type 0 where
   pub call : Call
@@ -155,6 +176,7 @@ disagreement i book (x ∷ xs) =
 
 -- opens every definition and these tools
 unfoldable pub tools : Unit {0}
-unfolding everything standIn placeSum countUp numbersOf doneNumbers deliveryNumbers countNumbers passNumbers moveNumbers
-    answerOf lent lentAfter perform answers refuses splice expect changed agrees disagreement
+unfolding everything standIn placeSum countUp twoBytes weighing oneBytes oneEach numbersOf doneNumbers deliveryNumbers
+    countNumbers passNumbers moveNumbers answerOf lent lentAfter perform answers refuses splice firstEdition expect
+    changed agrees disagreement
 tools = tt

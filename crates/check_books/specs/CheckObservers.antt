@@ -1,6 +1,6 @@
 -- An observer's calls with their answers as numbers, and books of observers byte by byte: what the checks of observers
 -- run and compute on.
-use Prim.Native.Nat.{ℕ, _*_}
+use Prim.Native.Nat.{ℕ, _-_, _*_}
 use mathlib.Core.Bool.{Bool}
 use mathlib.Core.List.{List, [], _∷_, _++_, map}
 use lib.ListN.{replicate}
@@ -13,13 +13,14 @@ use Rattle.protocol.specs.ObserverCalls.{observerReadPart, observerReadBuffer}
 use Rattle.protocol.specs.ObserverCall.{ObserverCall, observerOpening, observerDelivery, observerMoving}
 use Rattle.protocol.specs.ObserverCall.{observerSizing, observerReading, observation}
 use Rattle.check_books.specs.CheckCalls.{standIn, numbersOf, doneNumbers, deliveryNumbers, moveNumbers}
-use Rattle.check_books.specs.CheckCalls.{after, splice, changed}
+use Rattle.check_books.specs.CheckCalls.{after, splice, changed, oneBytes, oneEach}
 use Rattle.check_books.specs.CheckStates.{entry, passing, differences, stateTools}
 
 -- ---- calls
 -- a refusal's number alone, or 0 and what the answer says; of a reading the part that it returns
 unfoldable pub observerNumbers : Bytes → ObserverCall → List ℕ
-observerNumbers book (observerOpening n heights) = numbersOf doneNumbers (observerOpenCall book n heights .answer)
+observerNumbers book (observerOpening way n heights) =
+    numbersOf doneNumbers (observerOpenCall way book n heights .answer)
 observerNumbers book (observerDelivery frame) =
     numbersOf deliveryNumbers (observerDeliverCall standIn book frame .answer)
 observerNumbers book observerMoving = numbersOf moveNumbers (observerMoveCall standIn book .answer)
@@ -48,7 +49,7 @@ deliveries book frames = map (λ frame. observerOutcome book (observerDelivery f
 -- ---- calls with what is expected of them
 -- the bytes that a call is lent, after it
 unfoldable pub observerBuffer : Bytes → ObserverCall → Bytes
-observerBuffer book (observerOpening n heights) = []
+observerBuffer book (observerOpening way n heights) = []
 observerBuffer book (observerDelivery frame) = []
 observerBuffer book observerMoving = []
 observerBuffer book observerSizing = []
@@ -88,9 +89,10 @@ nextBlock h parent block number another =
     h ∷ 0 ∷ parent ∷ 0 ∷ 2 ∷ (zeros 11 ++ (standIn block ++ (entry number ++ (entry another ++ zeros 96))))
 
 -- ---- books
--- the head: n, H and the finalized height
+-- the head: n, H and the finalized height; edition 2, and each replica weighs 1
 unfoldable pub observerHead : (n heights finalized : ℕ) → Bytes
-observerHead n heights finalized = n ∷ 0 ∷ heights ∷ 0 ∷ 0 ∷ finalized ∷ 0 ∷ 1 ∷ zeros 56
+observerHead n heights finalized =
+    n ∷ 0 ∷ heights ∷ 0 ∷ 0 ∷ finalized ∷ 0 ∷ 2 ∷ (oneBytes n ++ zeros (56 - 2 * n))
 
 -- a height's contents: state, and the masks of the certificate, dummies and finalizes, of replicas below 8
 unfoldable pub observedContent : (status certificate dummies finalizes : ℕ) → Bytes
@@ -136,7 +138,7 @@ damaged = splice 4 (1 ∷ []) season
 
 -- the new book of a replica, 2 of four, with three heights that replica 3 leads
 unfoldable pub replicaBook : Bytes
-replicaBook = after (replicate 3216 9) (opening 4 2 3 (3 ∷ 3 ∷ 3 ∷ []) ∷ [])
+replicaBook = after (replicate 3216 9) (opening (oneEach 4) 4 2 3 (3 ∷ 3 ∷ 3 ∷ []) ∷ [])
 
 -- a frame with another byte at a place
 unfoldable pub withByte : ℕ → ℕ → Bytes → Bytes

@@ -2,7 +2,7 @@
 use Prim.Native.Nat.{ℕ, zero, suc, _%_}
 use mathlib.Core.Bool.{Bool, cond}
 use mathlib.Core.List.{List, [], _∷_, _++_}
-use lib.ListN.{replicate}
+use lib.ListN.{length, replicate, take}
 use lib.Dec.{eqb}
 use Rattle.protocol.specs.Bytes.{Bytes}
 use Rattle.protocol.specs.State.{State, Height}
@@ -89,11 +89,12 @@ finalizedBy mask block = height 0 2 7 0 mask 0 [] block []
 unfoldable pub holding : Bytes → Height
 holding block = height 0 1 0 0 0 0 block [] []
 
--- a state with its number of replicas, own number, flags, current and finalized height, pending entries and heights
-unfoldable pub state : (n own flags current finalized pendingCount : ℕ) → Bytes → List Height → State
-state n own flags current finalized pendingCount pool heights = record {
-  edition = 1;
-  n = n;
+-- a state with the replicas' weights, own number, flags, current and finalized height, pending entries and heights
+unfoldable pub stateOf : List ℕ → (own flags current finalized pendingCount : ℕ) → Bytes → List Height → State
+stateOf weights own flags current finalized pendingCount pool heights = record {
+  edition = 2;
+  n = length weights;
+  weights = take 16 (weights ++ replicate 16 0);
   own = own;
   flags = flags;
   current = current;
@@ -102,6 +103,11 @@ state n own flags current finalized pendingCount pool heights = record {
   pool = pool;
   heights = heights;
 }
+
+-- n replicas that weigh 1
+unfoldable pub state : (n own flags current finalized pendingCount : ℕ) → Bytes → List Height → State
+state n own flags current finalized pendingCount pool heights =
+    stateOf (replicate n 1) own flags current finalized pendingCount pool heights
 
 -- four replicas and these heights: what links and what is finalized
 unfoldable pub viewOf : List Height → View
@@ -116,5 +122,5 @@ ofSixteen x = state 16 0 0 2 0 0 [] (x ∷ [])
 
 unfoldable pub stateTools : Unit {0}
 unfolding tools entry counting entriesFrom raised freePlaces passing differences height vacant dummied notarizedBy7
-    finalizedBy holding state viewOf ofFour ofSixteen
+    finalizedBy holding stateOf state viewOf ofFour ofSixteen
 stateTools = tt

@@ -21,9 +21,11 @@
 -- below 256, as in a byte slice.
 use Prim.Native.Nat.{ℕ, _*_, _≤_}
 use mathlib.Core.Path.{_≡_}
-use mathlib.Core.Bool.{true, false, _&&_}
+use mathlib.Core.Bool.{true, false}
 use mathlib.Core.List.{List, [], _∷_, _++_, map}
+use mathlib.Core.Option.{none}
 use lib.ListN.{length, replicate}
+use lib.Dec.{leb}
 use borrow.Author.Tests.{le-leb}
 use Rattle.sha256.specs.Digest.{sha256}
 use Rattle.sha256.specs.Laws.DigestLaws.{sha256-length}
@@ -32,9 +34,9 @@ use Rattle.protocol.specs.Distinct.{distinctAfter, distinct, noneTwice}
 use Rattle.protocol.specs.Tests.{firstRefusal}
 use Rattle.protocol.specs.Frame.{frameSize}
 use Rattle.protocol.specs.State.{State, decode, flag}
-use Rattle.protocol.specs.Mask.{inMask, weigh}
-use Rattle.protocol.specs.View.{View, quorum, totalWeight, logAt}
-use Rattle.protocol.specs.Laws.QuorumLaws.{quorums-third, equal-third}
+use Rattle.protocol.specs.Mask.{ones, intersection}
+use Rattle.protocol.specs.View.{View, maskWeight, quorum, totalWeight, logAt}
+use Rattle.protocol.specs.Laws.SharedLaws.{quorums-third, third-tight, quorum-equal, equal-third}
 use Rattle.protocol.specs.Sound.{view, sound, log}
 use Rattle.protocol.specs.Laws.DistinctLaws.{distinct-append}
 use Rattle.protocol.specs.Laws.LogLaws.{log-once, log-holds, log-whole}
@@ -49,7 +51,7 @@ use Rattle.protocol.specs.Signal.{signalRows, signalCall}
 use Rattle.protocol.specs.Submit.{submitRows, submitCall}
 use Rattle.protocol.specs.Read.{sizeCall, readPart, readBuffer}
 use Rattle.protocol.specs.Fetch.{fetchRows, fetchCall}
-use Rattle.protocol.specs.Call.{Call, delivery, bookAfter, bookAfterAll}
+use Rattle.protocol.specs.Call.{Call, delivery, effect, bookAfter, bookAfterAll}
 use Rattle.agreement.specs.Lists.{Agreement, Member}
 use Rattle.agreement.specs.ObserverLists.{AnyMember, ObservedAgreement}
 use Rattle.agreement.specs.Laws.AgreementLaws.{agreement, observed-agreement}
@@ -75,6 +77,8 @@ use Rattle.call_laws.specs.Laws.KeepsExactLaws.{keeps-exact}
 use Rattle.call_laws.specs.PacketKeeping.{KeepsAll}
 use Rattle.call_laws.specs.Laws.PacketKeepingLaws.{packet-keeps}
 use Rattle.call_laws.specs.Laws.SoundStays.{sound-stays as stays-sound, sound-opened}
+use Rattle.call_laws.specs.SettingStays.{SettingStays}
+use Rattle.call_laws.specs.Laws.SettingStaysLaws.{setting-stays}
 use Rattle.call_laws.specs.Laws.Tallying.{tallied-stays-all, tallied-opened}
 use Rattle.call_laws.specs.Readable.{SameSetting}
 use Rattle.call_laws.specs.WrittenRead.{MoveWritten, FetchWritten}
@@ -163,6 +167,11 @@ pub open-makes-sound : (way : Opening) (book : Bytes) (n own heights : ℕ) (lea
     openCall way book n own heights leaders .answer ≡ accepted done →
     sound sha256 (openCall way book n own heights leaders .book) ≡ true
 open-makes-sound = sound-opened sha256
+
+-- no call but an opening that is not refused changes what an opening settles: edition, n, weights, own number and H
+pub settings-stay : (book : Bytes) (call : Call) → sound sha256 book ≡ true → effect sha256 book call .opens ≡ none →
+    SettingStays (decode book) (decode (bookAfter sha256 book call))
+settings-stay = setting-stays sha256
 
 -- ---- demand 2: the five steps
 -- on a sound book and a reply that is long enough Move does the step of the state that the book says ..
@@ -277,7 +286,7 @@ pub first-places-stay : (entries more : List Bytes) →
     distinct (entries ++ more) ≡ distinct entries ++ distinctAfter entries more
 first-places-stay = distinct-append
 
--- each frame written is read over every book of the same n, H and leaders as the same statement
+-- each frame written is read over every book of the same n, weights, H and leaders as the same statement
 pub moves-are-read : (book reply other : Bytes) → SameSetting (decode book) (decode other) →
     MoveWritten sha256 book reply other
 moves-are-read = move-written-read sha256 sha256-length
@@ -286,15 +295,25 @@ pub fetches-are-read : (book : Bytes) (k h : ℕ) (reply other : Bytes) → Same
     FetchWritten sha256 book k h reply other
 fetches-are-read = fetch-written-read sha256
 
--- ---- 2.6: over any weights the replicas that two quorums share weigh at least a third of all ..
+-- ---- request 2.6: weights
+-- the replicas that two quorums share weigh at least a third of all, whatever the weights ..
 pub quorums-share-a-third : (v v′ : View) (a b : ℕ) → v′ .weights ≡ v .weights → quorum v a ≡ true →
-    quorum v′ b ≡ true → totalWeight v ≤ 3 * weigh (λ t. inMask a t && inMask b t) (v .weights)
+    quorum v′ b ≡ true → totalWeight v ≤ 3 * maskWeight v (intersection (length (v .weights)) a b)
 quorums-share-a-third = quorums-third
 
--- .. so that of n replicas of weight 1 at least a third are in both
-pub equal-quorums-share-a-third : (v v′ : View) (n a b : ℕ) → v .weights ≡ replicate n 1 →
-    v′ .weights ≡ replicate n 1 → quorum v a ≡ true → quorum v′ b ≡ true →
-    n ≤ 3 * weigh (λ t. inMask a t && inMask b t) (replicate n 1)
+-- .. and there are weights for which they weigh no more
+pub a-third-is-tight : (v : View) → v .weights ≡ 10 ∷ 4 ∷ 6 ∷ 7 ∷ 3 ∷ [] →
+    (quorum v 30 ≡ true) × (quorum v 25 ≡ true) × (3 * maskWeight v (intersection 5 30 25) ≡ totalWeight v)
+a-third-is-tight = third-tight
+
+-- where all replicas weigh the same, a quorum is document 01's, by their number ..
+pub equal-weights-count : (v : View) (n weight mask : ℕ) → 1 ≤ weight → v .weights ≡ replicate n weight →
+    quorum v mask ≡ leb (2 * n) (3 * ones mask n)
+equal-weights-count = quorum-equal
+
+-- .. so that at least a third of them is in two quorums
+pub equal-quorums-share-a-third : (v v′ : View) (n weight a b : ℕ) → 1 ≤ weight → v .weights ≡ replicate n weight →
+    v′ .weights ≡ replicate n weight → quorum v a ≡ true → quorum v′ b ≡ true → n ≤ 3 * ones (intersection n a b) n
 equal-quorums-share-a-third = equal-third
 
 -- ---- demand 3: of two logs read in any list of calls from observers and honest replicas one begins the other

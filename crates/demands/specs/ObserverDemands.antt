@@ -13,6 +13,7 @@ use Prim.Native.Nat.{ℕ, _≤_}
 use mathlib.Core.Path.{_≡_}
 use mathlib.Core.Bool.{true, false}
 use mathlib.Core.List.{[], _∷_}
+use mathlib.Core.Option.{none}
 use lib.ListN.{length}
 use Rattle.sha256.specs.Digest.{sha256}
 use Rattle.sha256.specs.Laws.DigestLaws.{sha256-length}
@@ -50,6 +51,8 @@ use Rattle.observer_laws.specs.Laws.CertificatesReadLaws.{move-read-by-observer
 use Rattle.observer_laws.specs.Laws.TwinsLaws.{twins, observer-idles}
 use Rattle.observer_laws.specs.Laws.TwinsMovedLaws.{twins-moved}
 use Rattle.observer_laws.specs.Laws.TwinsMetLaws.{twins-met}
+use Rattle.call_laws.specs.SettingStays.{SettingStays}
+use Rattle.observer_laws.specs.Laws.ObserverSettingLaws.{observer-setting-stays}
 
 -- ---- refusals
 -- each call is refused by the number of its first row that fails, if one does, and then no byte lent to it changes
@@ -94,7 +97,8 @@ no-replica-book = observer-no-replica sha256
 
 -- ---- what is left
 -- every byte of an opened book; and each call leaves a sound book sound
-pub observer-open-writes : (way : Opening) (book : Bytes) (n heights : ℕ) → observerOpenCall way book n heights .answer ≡ accepted done →
+pub observer-open-writes : (way : Opening) (book : Bytes) (n heights : ℕ) →
+    observerOpenCall way book n heights .answer ≡ accepted done →
     observerOpenCall way book n heights .book ≡ openedObserver way n heights
 observer-open-writes = observer-open-bytes
 
@@ -106,6 +110,12 @@ pub observer-open-makes-sound : (way : Opening) (book : Bytes) (n heights : ℕ)
     observerOpenCall way book n heights .answer ≡ accepted done →
     observerSound sha256 (observerOpenCall way book n heights .book) ≡ true
 observer-open-makes-sound = observer-sound-opened sha256
+
+-- no call but an opening that is not refused changes what an opening settles: edition, n, weights and H
+pub observers-settings-stay : (book : Bytes) → observerSound sha256 book ≡ true → (call : ObserverCall) →
+    observation sha256 book call .opens ≡ none →
+    SettingStays (observerState book) (observerState (observation sha256 book call .book))
+observers-settings-stay = observer-setting-stays sha256
 
 -- a delivery that is not refused keeps what its certificate says, all that was kept before, and nothing else ..
 pub observers-keep : (book frame : Bytes) (news : Delivery) →
@@ -140,14 +150,15 @@ pub observers-read-nothing-else : (book buffer : Bytes) (size : ℕ) → observe
 observers-read-nothing-else book buffer size is fits part after size′ =
     reads-exact sha256 _ _ _ part buffer _ after size size′ (observer-reads-chain sha256 book buffer size is fits)
 
--- each certificate that a replica writes is read over every observer's book of the same n that has its height, as the
--- same statement
-pub moves-are-read-by-observers : (book reply other : Bytes) → observerState other .n ≡ decode book .n → observerState other .weights ≡ decode book .weights →
-    MoveReadByObserver sha256 book reply other
+-- each certificate that a replica writes is read over every observer's book of the same n and weights that has its
+-- height, as the same statement
+pub moves-are-read-by-observers : (book reply other : Bytes) → observerState other .n ≡ decode book .n →
+    observerState other .weights ≡ decode book .weights → MoveReadByObserver sha256 book reply other
 moves-are-read-by-observers = move-read-by-observer sha256 sha256-length
 
 pub fetches-are-read-by-observers : (book : Bytes) (k h : ℕ) (reply other : Bytes) →
-    observerState other .n ≡ decode book .n → observerState other .weights ≡ decode book .weights → FetchReadByObserver sha256 book k h reply other
+    observerState other .n ≡ decode book .n → observerState other .weights ≡ decode book .weights →
+    FetchReadByObserver sha256 book k h reply other
 fetches-are-read-by-observers = fetch-read-by-observer sha256
 
 -- ---- a replica and an observer that are given the same certificates

@@ -3,3 +3,4 @@ pub mod ObserverSoundChecks
 pub mod ObserverDeliverChecks
 pub mod ObserverChecks
 pub mod ObserverExamples
+pub mod ObserverWeightChecks

@@ -9,47 +9,66 @@ use lib.ListN.{replicate, take, drop}
 use Rattle.protocol.specs.Bytes.{Bytes, zeros}
 use Rattle.protocol.specs.Frame.{dummyVote, blockCertificate, dummyCertificate, finalizeCertificate}
 use Rattle.protocol.specs.Answer.{refusalNumber}
+use Rattle.protocol.specs.Open.{Opening, unweighed}
 use Rattle.protocol.specs.Read.{readPart}
 use Rattle.protocol.specs.Call.{delivery, packetDelivery, moving, signalling, submitting, sizing, reading, fetching}
 use Rattle.protocol.specs.ObserverCalls.{observerOpenCall, observerReadPart, observerReadBuffer}
 use Rattle.protocol.specs.ObserverCall.{ObserverCall, observerOpening, observerDelivery, observerMoving}
 use Rattle.protocol.specs.ObserverCall.{observerSizing, observerReading, observation, observerBookAfterAll}
-use Rattle.check_books.specs.CheckCalls.{standIn, answerOf, answers, after, splice}
+use Rattle.check_books.specs.CheckCalls.{standIn, answerOf, answers, after, splice, oneBytes, oneEach}
 use Rattle.check_books.specs.CheckStates.{entry}
 use Rattle.check_books.specs.CheckObservers.{observerAfter, observerOutcome, observerOutcomes, newBook}
 use Rattle.check_books.specs.CheckObservers.{lowest, highest, season, seasonTo, other, seasonEntries, damaged}
 use Rattle.check_books.specs.CheckObservers.{replicaBook, withByte, observerTools}
 
 -- ---- Open
--- the refusal's number over a book of so many bytes, and 0 where the book is opened
-opens : (bytes n heights : ℕ) → ℕ
-opens bytes n heights = refusalNumber (observerOpenCall (replicate bytes 9) n heights .answer)
+-- the refusal's number over a book of so many bytes, and 0 where the book is opened, by a way for each n
+opens : (ℕ → Opening) → (bytes n heights : ℕ) → ℕ
+opens way bytes n heights = refusalNumber (observerOpenCall (way n) (replicate bytes 9) n heights .answer)
+
+-- the same without weights and by weights of 1; ObserverWeightChecks has other weights
+bothWays : ((ℕ → Opening) → List ℕ) → List (List ℕ)
+bothWays told = told (λ n. unweighed) ∷ told oneEach ∷ []
 
 -- 1 to 16 replicas; 1 to 63 heights, each with a book of its length
-ranges : map (λ n. opens 248 n 1) (0 ∷ 1 ∷ 2 ∷ 15 ∷ 16 ∷ 17 ∷ 256 ∷ []) ++
-    map (λ h. opens (64 + 184 * h) 4 h) (0 ∷ 1 ∷ 2 ∷ 62 ∷ 63 ∷ 64 ∷ 256 ∷ []) ≡
-    2 ∷ 0 ∷ 0 ∷ 0 ∷ 0 ∷ 2 ∷ 2 ∷
-    2 ∷ 0 ∷ 0 ∷ 0 ∷ 0 ∷ 2 ∷ 2 ∷ []
-unfolding observerTools opens
+ranges : bothWays (λ way. map (λ n. opens way 248 n 1) (0 ∷ 1 ∷ 2 ∷ 15 ∷ 16 ∷ 17 ∷ 256 ∷ []) ++
+    map (λ h. opens way (64 + 184 * h) 4 h) (0 ∷ 1 ∷ 2 ∷ 62 ∷ 63 ∷ 64 ∷ 256 ∷ [])) ≡
+    replicate 2
+    (2 ∷ 0 ∷ 0 ∷ 0 ∷ 0 ∷ 2 ∷ 2 ∷
+    2 ∷ 0 ∷ 0 ∷ 0 ∷ 0 ∷ 2 ∷ 2 ∷ [])
+unfolding observerTools opens bothWays
 ranges = refl
 
 -- the lengths beside the right one, those of other heights, and that of a replica's book of as many; 2 before 1
-open-lengths : map (λ bytes. opens bytes 4 3) (0 ∷ 64 ∷ 432 ∷ 615 ∷ 616 ∷ 617 ∷ 800 ∷ 3216 ∷ []) ++
-    (opens 615 0 3 ∷ opens 617 17 3 ∷ opens 63 4 0 ∷ opens 65 4 0 ∷ opens 11839 4 64 ∷ opens 0 0 0 ∷ []) ≡
-    1 ∷ 1 ∷ 1 ∷ 1 ∷ 0 ∷ 1 ∷ 1 ∷ 1 ∷
-    2 ∷ 2 ∷ 2 ∷ 2 ∷ 2 ∷ 2 ∷ []
-unfolding observerTools opens
+open-lengths : bothWays (λ way.
+    map (λ bytes. opens way bytes 4 3) (0 ∷ 64 ∷ 432 ∷ 615 ∷ 616 ∷ 617 ∷ 800 ∷ 3216 ∷ []) ++
+    (opens way 615 0 3 ∷ opens way 617 17 3 ∷ opens way 63 4 0 ∷ opens way 65 4 0 ∷ opens way 11839 4 64 ∷
+    opens way 0 0 0 ∷ [])) ≡
+    replicate 2
+    (1 ∷ 1 ∷ 1 ∷ 1 ∷ 0 ∷ 1 ∷ 1 ∷ 1 ∷
+    2 ∷ 2 ∷ 2 ∷ 2 ∷ 2 ∷ 2 ∷ [])
+unfolding observerTools opens bothWays
 open-lengths = refl
 
--- a new book: n, H and edition 1, and all else is zero, whatever bytes stood there
-opened : observerAfter (replicate 432 9) (observerOpening 4 2) ∷ observerAfter (seasonTo 3) (observerOpening 16 3) ∷
-    [] ≡ (4 ∷ 0 ∷ 2 ∷ 0 ∷ 0 ∷ 0 ∷ 0 ∷ 1 ∷ zeros 424) ∷ (16 ∷ 0 ∷ 3 ∷ 0 ∷ 0 ∷ 0 ∷ 0 ∷ 1 ∷ zeros 608) ∷ []
+-- a new book: n, H, edition 2 and the weights, and all else is zero, whatever bytes stood there
+opened : observerAfter (replicate 432 9) (observerOpening (oneEach 4) 4 2) ∷
+    observerAfter (seasonTo 3) (observerOpening (oneEach 16) 16 3) ∷ [] ≡
+    (4 ∷ 0 ∷ 2 ∷ 0 ∷ 0 ∷ 0 ∷ 0 ∷ 2 ∷ 1 ∷ 0 ∷ 1 ∷ 0 ∷ 1 ∷ 0 ∷ 1 ∷ zeros 417) ∷
+    (16 ∷ 0 ∷ 3 ∷ 0 ∷ 0 ∷ 0 ∷ 0 ∷ 2 ∷ (oneBytes 16 ++ zeros 576)) ∷ []
 unfolding observerTools
 opened = refl
 
+-- without weights: n, H and edition 1
+opened-first : observerAfter (replicate 432 9) (observerOpening unweighed 4 2) ∷
+    observerAfter (seasonTo 3) (observerOpening unweighed 16 3) ∷ [] ≡
+    (4 ∷ 0 ∷ 2 ∷ 0 ∷ 0 ∷ 0 ∷ 0 ∷ 1 ∷ zeros 424) ∷ (16 ∷ 0 ∷ 3 ∷ 0 ∷ 0 ∷ 0 ∷ 0 ∷ 1 ∷ zeros 608) ∷ []
+unfolding observerTools
+opened-first = refl
+
 -- a refused opening leaves the bytes
 not-opened : map (observerOutcome (seasonTo 3))
-    (observerOpening 17 3 ∷ observerOpening 4 2 ∷ observerOpening 4 64 ∷ []) ≡ (2 ∷ []) ∷ (1 ∷ []) ∷ (2 ∷ []) ∷ []
+    (observerOpening (oneEach 17) 17 3 ∷ observerOpening (oneEach 4) 4 2 ∷ observerOpening (oneEach 4) 4 64 ∷ []) ≡
+    (2 ∷ []) ∷ (1 ∷ []) ∷ (2 ∷ []) ∷ []
 unfolding observerTools
 not-opened = refl
 
@@ -132,7 +151,7 @@ reading-keeps = refl
 -- the blocks from the last to the first, with moves between: what was heard first is finalized last
 run : List ObserverCall
 run =
-    observerOpening 4 3 ∷ observerMoving ∷ observerDelivery (finalizeCertificate 3 11) ∷ observerMoving ∷
+    observerOpening (oneEach 4) 4 3 ∷ observerMoving ∷ observerDelivery (finalizeCertificate 3 11) ∷ observerMoving ∷
     observerDelivery (blockCertificate 3 13 highest) ∷ observerMoving ∷ observerDelivery (dummyVote 0 2) ∷
     observerDelivery (finalizeCertificate 1 7) ∷ observerMoving ∷ observerSizing ∷
     observerDelivery (blockCertificate 1 7 lowest) ∷ observerMoving ∷ observerSizing ∷
@@ -211,7 +230,7 @@ replica-calls = refl
 
 observer-calls : map (observerOutcome replicaBook)
     (observerDelivery (dummyCertificate 1 7) ∷ observerDelivery (dummyVote 1 1) ∷ observerMoving ∷ observerSizing ∷
-    observerReading (zeros 99) ∷ observerOpening 4 3 ∷ []) ≡
+    observerReading (zeros 99) ∷ observerOpening (oneEach 4) 4 3 ∷ []) ≡
     replicate 4 (1 ∷ []) ++ ([] ∷ (1 ∷ []) ∷ [])
 unfolding observerTools
 observer-calls = refl
@@ -219,7 +238,7 @@ observer-calls = refl
 -- ---- what each call does besides its answer, refused and not
 calls : List ObserverCall
 calls =
-    observerOpening 5 3 ∷ observerOpening 17 3 ∷ observerOpening 5 2 ∷
+    observerOpening (oneEach 5) 5 3 ∷ observerOpening (oneEach 17) 17 3 ∷ observerOpening (oneEach 5) 5 2 ∷
     observerDelivery (finalizeCertificate 2 7) ∷ observerDelivery (dummyCertificate 2 7) ∷
     observerDelivery (dummyVote 0 1) ∷ observerDelivery (blockCertificate 1 7 other) ∷
     observerMoving ∷ observerSizing ∷ observerReading (zeros 16) ∷ observerReading (zeros 15) ∷ []
@@ -233,7 +252,8 @@ accepted : map (λ call. observation standIn (seasonTo 1) call .accepted) calls 
 unfolding observerTools calls
 accepted = refl
 
-opens-for : map (λ call. observation standIn (seasonTo 1) call .opens) calls ≡ some 5 ∷ replicate 10 none
+opens-for : map (λ call. observation standIn (seasonTo 1) call .opens) calls ≡
+    some (1 ∷ 1 ∷ 1 ∷ 1 ∷ 1 ∷ []) ∷ replicate 10 none
 unfolding observerTools calls
 opens-for = refl
 

@@ -10,7 +10,7 @@ use Rattle.protocol.specs.Frame.{proposal, dummyVote, finalize, blockCertificat
 use Rattle.protocol.specs.Frame.{finalizeCertificate}
 use Rattle.protocol.specs.ObserverCall.{ObserverCall, observerOpening, observerDelivery, observerMoving}
 use Rattle.protocol.specs.ObserverCall.{observerSizing, observerReading}
-use Rattle.check_books.specs.CheckCalls.{splice}
+use Rattle.check_books.specs.CheckCalls.{splice, oneEach}
 use Rattle.check_books.specs.CheckObservers.{Observed, isObserved, newBook, lowest, season, seasonTo}
 use Rattle.check_books.specs.CheckObservers.{other, middle, seasonEntries, damaged, replicaBook, withByte}
 use Rattle.check_books.specs.CheckObservers.{observerTools}
@@ -19,6 +19,7 @@ pub data Name : Type 0 where
   opening-a-book : Name
   too-many-replicas : Name
   no-height : Name
+  too-few-weights : Name
   length-beside : Name
   no-frame : Name
   bad-block : Name
@@ -52,11 +53,12 @@ row name book call numbers changes buffer =
 
 table : List (Name × Observed)
 table =
-    row opening-a-book (replicate 248 9) (observerOpening 4 1) (0 ∷ [])
-    ((0, 4 ∷ 0 ∷ 1 ∷ 0 ∷ 0 ∷ 0 ∷ 0 ∷ 1 ∷ zeros 240) ∷ []) [] ∷
-    row too-many-replicas (newBook 4 1) (observerOpening 17 1) (2 ∷ []) [] [] ∷
-    row no-height (newBook 4 1) (observerOpening 4 0) (2 ∷ []) [] [] ∷
-    row length-beside (replicate 247 9) (observerOpening 4 1) (1 ∷ []) [] [] ∷
+    row opening-a-book (replicate 248 9) (observerOpening (oneEach 4) 4 1) (0 ∷ [])
+    ((0, 4 ∷ 0 ∷ 1 ∷ 0 ∷ 0 ∷ 0 ∷ 0 ∷ 2 ∷ 1 ∷ 0 ∷ 1 ∷ 0 ∷ 1 ∷ 0 ∷ 1 ∷ zeros 233) ∷ []) [] ∷
+    row too-many-replicas (newBook 4 1) (observerOpening (oneEach 17) 17 1) (2 ∷ []) [] [] ∷
+    row no-height (newBook 4 1) (observerOpening (oneEach 4) 4 0) (2 ∷ []) [] [] ∷
+    row too-few-weights (newBook 4 1) (observerOpening (oneEach 3) 4 1) (2 ∷ []) [] [] ∷
+    row length-beside (replicate 247 9) (observerOpening (oneEach 4) 4 1) (1 ∷ []) [] [] ∷
     row no-frame season (observerDelivery (withByte 0 8 (dummyVote 0 1))) (4 ∷ []) [] [] ∷
     row bad-block season (observerDelivery (proposal 0 2 lowest)) (4 ∷ []) [] [] ∷
     row vote-of-height-0 season (observerDelivery (dummyVote 0 0)) (16 ∷ []) [] [] ∷

@@ -10,7 +10,7 @@ use Rattle.protocol.specs.Tests.{allOf}
 use Rattle.protocol.specs.State.{encode, decode}
 use Rattle.protocol.specs.Observer.{ObservedHeight, Observer, asReplica, observed, observerBookSize, encodeObserver}
 use Rattle.protocol.specs.Observer.{decodeObserver}
-use Rattle.check_books.specs.CheckCalls.{splice}
+use Rattle.check_books.specs.CheckCalls.{splice, firstEdition}
 use Rattle.check_books.specs.CheckStates.{counting, freePlaces, passing}
 use Rattle.check_books.specs.CheckObservers.{observes, observesWith, firstBlock, observerHead}
 use Rattle.check_books.specs.CheckObservers.{observedContent, newBook, lowest, season, seasonTo}
@@ -32,6 +32,7 @@ sample : Observer
 sample = record {
   edition = 9;
   n = 5;
+  weights = counting 258 16;
   finalized = 7;
   heights =
       record {
@@ -50,22 +51,28 @@ sample = record {
       } ∷ [];
 }
 
+-- the bytes of its weights, 258 to 273
+sampleWeights : Bytes
+sampleWeights =
+    2 ∷ 1 ∷ 3 ∷ 1 ∷ 4 ∷ 1 ∷ 5 ∷ 1 ∷ 6 ∷ 1 ∷ 7 ∷ 1 ∷ 8 ∷ 1 ∷ 9 ∷ 1 ∷
+    10 ∷ 1 ∷ 11 ∷ 1 ∷ 12 ∷ 1 ∷ 13 ∷ 1 ∷ 14 ∷ 1 ∷ 15 ∷ 1 ∷ 16 ∷ 1 ∷ 17 ∷ 1 ∷ []
+
 sampleBytes : Bytes
 sampleBytes =
     5 ∷ 0 ∷ 2 ∷ 0 ∷ 0 ∷ 7 ∷ 0 ∷ 9 ∷
-    (zeros 56 ++
+    (sampleWeights ++ (zeros 24 ++
     ((3 ∷ 0 ∷ 1 ∷ 2 ∷ 3 ∷ 4 ∷ 5 ∷ 6 ∷ 8 ∷ 0 ∷ 12 ∷ 13 ∷ 14 ∷ 15 ∷ 16 ∷ 17 ∷ []) ++
-    (counting 11 176 ++ counting 40 176)))
+    (counting 11 176 ++ counting 40 176))))
 
 -- a replica's head; its pending entries, leaders, voters, held proposals and vote digests
 replicaWith : (own flags current pendingCount : ℕ) → Bytes → (leader voters : ℕ) → Bytes → Bytes → Bytes
 replicaWith own flags current pendingCount pool leader voters held digests =
     5 ∷ own ∷ 2 ∷ flags ∷ current ∷ 7 ∷ pendingCount ∷ 9 ∷
-    (zeros 56 ++ (pool ++
+    (sampleWeights ++ (zeros 24 ++ (pool ++
     ((leader ∷ 3 ∷ 1 ∷ 2 ∷ 3 ∷ 4 ∷ 5 ∷ 6 ∷ voters ∷ zeros 7) ++
     ((leader ∷ 8 ∷ 12 ∷ 13 ∷ 14 ∷ 15 ∷ 16 ∷ 17 ∷ voters ∷ zeros 7) ++
     (held ++ (counting 11 176 ++ (digests ++
-    (held ++ (counting 40 176 ++ digests)))))))))
+    (held ++ (counting 40 176 ++ digests))))))))))
 
 -- the fields of an observer as numbers
 heightFields : ObservedHeight → List ℕ
@@ -73,46 +80,48 @@ heightFields x =
     x .status ∷ x .certificateMask ∷ x .dummyMask ∷ x .finalizeMask ∷ x .notarized
 
 fields : Observer → List (List ℕ)
-fields o = (o .edition ∷ o .n ∷ o .finalized ∷ []) ∷ map heightFields (o .heights)
+fields o = (o .edition ∷ o .n ∷ o .finalized ∷ o .weights) ∷ map heightFields (o .heights)
 
 encoded : encodeObserver sample ≡ sampleBytes
-unfolding observerTools sample sampleBytes
+unfolding observerTools sample sampleWeights sampleBytes
 encoded = refl
 
 -- each field is read at its place alone, whatever the bytes are that are called zero
 cluttered : Bytes
 cluttered =
-    splice 1 (31 ∷ []) (splice 3 (32 ∷ 33 ∷ []) (splice 6 (34 ∷ []) (splice 8 (replicate 56 35)
+    splice 1 (31 ∷ []) (splice 3 (32 ∷ 33 ∷ []) (splice 6 (34 ∷ []) (splice 40 (replicate 24 35)
     (splice 65 (36 ∷ []) (splice 73 (37 ∷ []) sampleBytes)))))
 
 decoded : map (λ bytes. fields (decodeObserver bytes)) (sampleBytes ∷ cluttered ∷ []) ≡
     replicate 2
-    ((9 ∷ 5 ∷ 7 ∷ []) ∷
+    ((9 ∷ 5 ∷ 7 ∷ counting 258 16) ∷
     (3 ∷ 513 ∷ 1027 ∷ 1541 ∷ counting 11 176) ∷
     (8 ∷ 3340 ∷ 3854 ∷ 4368 ∷ counting 40 176) ∷ [])
-unfolding observerTools sampleBytes cluttered heightFields fields
+unfolding observerTools sampleWeights sampleBytes cluttered heightFields fields
 decoded = refl
 
 -- and back to the bytes; of a sound book too
 there-and-back : encodeObserver (decodeObserver sampleBytes) ∷ encodeObserver (decodeObserver (seasonTo 3)) ∷ [] ≡
     sampleBytes ∷ seasonTo 3 ∷ []
-unfolding observerTools sampleBytes
+unfolding observerTools sampleWeights sampleBytes
 there-and-back = refl
 
 -- as a replica's state all that only a replica has is zero
 as-replica : encode (asReplica sample) ≡ replicaWith 0 0 0 0 (zeros 512) 0 0 (zeros 176) (zeros 512)
-unfolding observerTools sample replicaWith
+unfolding observerTools sample sampleWeights replicaWith
 as-replica = refl
 
 -- and of a replica's state an observer keeps the rest
 kept : encodeObserver (observed (decode
     (replicaWith 21 22 23 24 (replicate 512 25) 26 27 (replicate 176 28) (replicate 512 29)))) ≡ sampleBytes
-unfolding observerTools sampleBytes replicaWith
+unfolding observerTools sampleWeights sampleBytes replicaWith
 kept = refl
 
 -- ---- byte by byte
--- of a new book's head a fifth replica alone is sound: every other raised byte is not
-head-places : freePlaces observes (newBook 4 1) (counting 0 64) ≡ 0 ∷ []
+-- of a new book's head larger weights of the four alone are sound: every other raised byte is not; in edition 1 a fifth
+-- replica alone is
+head-places : map (λ book. freePlaces observes book (counting 0 64)) (newBook 4 1 ∷ firstEdition (newBook 4 1) ∷ []) ≡
+    counting 8 8 ∷ (0 ∷ []) ∷ []
 unfolding observerTools
 head-places = refl
 
@@ -149,12 +158,14 @@ unfolding observerTools
 free-places = refl
 
 -- ---- bounds
--- 1 to 16 replicas; with every bit of sixteen in each mask, sixteen
+-- 1 to 16 replicas, where the head has no weights; with four weights four, and with every bit of sixteen in each mask
+-- sixteen
 wide : Bytes
 wide = observerHead 16 1 0 ++ (0 ∷ 0 ∷ (replicate 6 255 ++ zeros 176))
 
-replicas : observesWith (newBook 4 1) 0 (0 ∷ 1 ∷ 2 ∷ 15 ∷ 16 ∷ 17 ∷ 255 ∷ []) ∷
-    observesWith wide 0 (0 ∷ 15 ∷ 16 ∷ 17 ∷ []) ∷ [] ≡ (1 ∷ 2 ∷ 15 ∷ 16 ∷ []) ∷ (16 ∷ []) ∷ []
+replicas : observesWith (firstEdition (newBook 4 1)) 0 (0 ∷ 1 ∷ 2 ∷ 15 ∷ 16 ∷ 17 ∷ 255 ∷ []) ∷
+    observesWith (newBook 4 1) 0 (0 ∷ 1 ∷ 3 ∷ 4 ∷ 5 ∷ 16 ∷ []) ∷ observesWith wide 0 (0 ∷ 15 ∷ 16 ∷ 17 ∷ []) ∷ [] ≡
+    (1 ∷ 2 ∷ 15 ∷ 16 ∷ []) ∷ (4 ∷ []) ∷ (16 ∷ []) ∷ []
 unfolding observerTools wide
 replicas = refl
 
@@ -163,9 +174,9 @@ heights : passing (λ h. observes (newBook 4 h)) (0 ∷ 1 ∷ 2 ∷ 63 ∷ 64 �
 unfolding observerTools
 heights = refl
 
--- edition 1; own number, flags, current height and pending count 0
+-- edition 2; own number, flags, current height and pending count 0
 head-bounds : map (λ place. observesWith (seasonTo 1) place (counting 0 5 ++ (255 ∷ []))) (7 ∷ 1 ∷ 3 ∷ 4 ∷ 6 ∷ []) ≡
-    (1 ∷ []) ∷ replicate 4 (0 ∷ [])
+    (2 ∷ []) ∷ replicate 4 (0 ∷ [])
 unfolding observerTools
 head-bounds = refl
 

@@ -9,6 +9,7 @@ pub mod ObserverOpenLaws
 pub mod ObserverSoundStays
 pub mod TwinDeliverLaws
 pub mod TwinCallLaws
+pub mod ObserverSettingLaws
 pub mod TwinsLaws
 pub mod CertificatesReadLaws
 pub mod ObserverKeptLaws

@@ -1,8 +1,8 @@
--- The second claim of request 2.3: a replica and an observer, both new with one n and H, that are given the same
--- certificates in the same order read the same log after each has moved until idle; and on the way the next certificate
--- gets the same answer from both. The old bytes of both books, the own number and the leaders are any. In between each
--- may be called as it likes, if another opening is refused, and a frame that is no certificate: moves of either may
--- come anywhere, and signals. No one need be honest, and the digest is any function.
+-- The second claim of request 2.3: a replica and an observer, both new with one n and H and the same weights, that are
+-- given the same certificates in the same order read the same log after each has moved until idle; and on the way the
+-- next certificate gets the same answer from both. The old bytes of both books, their editions, the own number and the
+-- leaders are any. In between each may be called as it likes, if another opening is refused, and a frame that is no
+-- certificate: moves of either may come anywhere, and signals. No one need be honest, and the digest is any function.
 use Prim.Native.Nat.{ℕ, _%_, _≤_}
 use mathlib.Core.Path.{_≡_}
 use mathlib.Core.Bool.{true, cond}
@@ -14,7 +14,7 @@ use Rattle.protocol.specs.Bytes.{Bytes}
 use Rattle.protocol.specs.Every.{Every}
 use Rattle.protocol.specs.Frame.{kind, frameSize, isCertificate}
 use Rattle.protocol.specs.Answer.{Outcome, Done, Move, accepted, done, idle}
-use Rattle.protocol.specs.Open.{Opening, openCall}
+use Rattle.protocol.specs.Open.{Opening, openedWeights, openCall}
 use Rattle.protocol.specs.Deliver.{deliverCall}
 use Rattle.protocol.specs.Packet.{packetFrames}
 use Rattle.protocol.specs.State.{decode}
@@ -66,9 +66,10 @@ certificatesOf [] = []
 certificatesOf (frame ∷ frames) = cond (isCertificate (kind frame)) (frame ∷ []) [] ++ certificatesOf frames
 
 -- ---- a replica's and an observer's calls
--- the openings, with one n, H and weights and over any old bytes, and the calls after them
+-- the openings, with one n and H and over any old bytes, and the calls after them
 pub record Histories : Type 0 where
   pub way : Opening
+  pub observerWay : Opening
   pub n : ℕ
   pub heights : ℕ
   pub own : ℕ
@@ -82,7 +83,7 @@ abbrev pub opens : Histories → Outcome Done
 opens both = openCall (both .way) (both .old) (both .n) (both .own) (both .heights) (both .leaders)
 
 abbrev pub observerOpens : Histories → Outcome Done
-observerOpens both = observerOpenCall (both .way) (both .observerOld) (both .n) (both .heights)
+observerOpens both = observerOpenCall (both .observerWay) (both .observerOld) (both .n) (both .heights)
 
 module _ (digest : Bytes → Bytes) where
   -- what calls do, each on the book that those before it left
@@ -95,8 +96,10 @@ module _ (digest : Bytes → Bytes) where
   observations book (call ∷ calls) =
       observation digest book call ∷ observations (observation digest book call .book) calls
 
-  -- both openings are not refused, and both books are given the same certificates, refused or not
+  -- both openings give the replicas the same weights, in whichever editions, and are not refused, and both books are
+  -- given the same certificates, refused or not
   pub record SameCertificates (both : Histories) : Type 0 where
+    pub same-weights : openedWeights (both .n) (both .observerWay) ≡ openedWeights (both .n) (both .way)
     pub opened : opens both .answer ≡ accepted done
     pub observer-opened : observerOpens both .answer ≡ accepted done
     -- an opening that follows is refused

@@ -1,11 +1,12 @@
 -- Calls that meet every premise of `Twins`, whatever the digest, and after which both read an entry: among four
 -- replicas, replica 2 and an observer are given six certificates, of which three are refused, in deliveries and a
--- packet and with moves at other times. An opening and votes come between, at other times too, and are refused.
+-- packet and with moves at other times. An opening and votes come between, at other times too, and are refused. The
+-- replica's book is of edition 1, the observer's of edition 2, and all weigh 1.
 use Prim.Native.Nat.{ℕ}
 use mathlib.Core.Path.{_≡_}
 use mathlib.Core.List.{List, [], _∷_, _++_}
 use lib.ListN.{replicate}
-use Rattle.protocol.specs.Open.{unweighed}
+use Rattle.protocol.specs.Open.{unweighed, weighed}
 use Rattle.protocol.specs.Bytes.{Bytes, zeros}
 use Rattle.protocol.specs.Block.{newBlock}
 use Rattle.protocol.specs.Frame.{dummyVote, blockCertificate, dummyCertificate, finalizeCertificate}
@@ -49,7 +50,8 @@ move = moving (zeros 448)
 
 unfoldable pub calls : List Call
 calls =
-    move ∷ delivery (5 ∷ []) ∷ signalling 1 ∷ delivery (dummyCertificate 1 3) ∷ opening unweighed 0 2 2 (0 ∷ 1 ∷ []) ∷ move ∷
+    move ∷ delivery (5 ∷ []) ∷ signalling 1 ∷ delivery (dummyCertificate 1 3) ∷
+    opening unweighed 0 2 2 (0 ∷ 1 ∷ []) ∷ move ∷
     delivery (dummyCertificate 1 7) ∷ delivery strangersVote ∷ move ∷ move ∷
     packetDelivery (blockCertificate 2 7 block ++ strangersVote ++ blockCertificate 2 11 otherBlock) ∷
     delivery (finalizeCertificate 2 14) ∷ move ∷ move ∷ []
@@ -57,8 +59,8 @@ calls =
 unfoldable pub observerCalls : List ObserverCall
 observerCalls =
     observerDelivery (5 ∷ []) ∷ observerDelivery vote ∷ observerDelivery (dummyCertificate 1 3) ∷
-    observerDelivery (dummyCertificate 1 7) ∷ observerOpening unweighed 0 2 ∷ observerDelivery (blockCertificate 2 7 block) ∷
-    observerMoving ∷
+    observerDelivery (dummyCertificate 1 7) ∷ observerOpening unweighed 0 2 ∷
+    observerDelivery (blockCertificate 2 7 block) ∷ observerMoving ∷
     observerDelivery (blockCertificate 2 11 otherBlock) ∷ observerDelivery (finalizeCertificate 2 14) ∷
     observerMoving ∷ []
 
@@ -66,6 +68,7 @@ observerCalls =
 unfoldable pub histories : Histories
 histories = record {
   way = unweighed;
+  observerWay = weighed (1 ∷ 0 ∷ 1 ∷ 0 ∷ 1 ∷ 0 ∷ 1 ∷ 0 ∷ []);
   n = 4;
   heights = 2;
   own = 2;

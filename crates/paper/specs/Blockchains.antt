@@ -55,8 +55,8 @@ module _ (digest : Bytes → Bytes) (v : View) where
   ExtendsIsFollowing h b = blockHeight b ≡ suc h → (extends digest v (suc h) b ≡ true) ↔ ParentOf h b
 
   -- a height is finalized if and only if a finalized blockchain ends in its block; the paper lets a dummy block end one
-  -- too, which does not happen below n/3: two quorums share an honest replica, and it never both finalizes a height and
-  -- votes for its dummy
+  -- too, which does not happen while the dishonest weigh less than a third: two quorums share an honest replica, and it
+  -- never both finalizes a height and votes for its dummy
   unfoldable pub FinalizedIsSeen : ℕ → Type 0
   FinalizedIsSeen h = 1 ≤ h → (isFinalized digest v h ≡ true) ↔ (SeenWithBlock digest v h × Finalization v h)
 

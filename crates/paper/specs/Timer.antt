@@ -50,7 +50,8 @@ module _ (digest : Bytes → Bytes) where
     byPass : (reply : Bytes) (certificate : Certificate) (finalized : Bool) → 448 ≤ length reply →
         step digest (decode book) .move ≡ pass (decode book .current) certificate finalized →
         Restarts book (moving reply)
-    byOpening : (way : Opening) (n own heights : ℕ) (leaders : Bytes) → openCall way book n own heights leaders .answer ≡ accepted done →
+    byOpening : (way : Opening) (n own heights : ℕ) (leaders : Bytes) →
+        openCall way book n own heights leaders .answer ≡ accepted done →
         Restarts book (opening way n own heights leaders)
 
   -- ---- flag 1 goes up and comes down just by these

@@ -9,7 +9,7 @@ use Rattle.protocol.specs.Frame.{kind, signer, frameHeight, signerMask, 
 use Rattle.protocol.specs.Frame.{isCertificate, carriesBlock, carriesDigest, frameWellFormed, frameOf, proposal}
 use Rattle.protocol.specs.Frame.{blockVote, dummyVote, finalize, blockCertificate, dummyCertificate}
 use Rattle.protocol.specs.Frame.{finalizeCertificate}
-use Rattle.protocol.specs.Mask.{inMask, maskOf, ones, union, belowBit, weigh, total}
+use Rattle.protocol.specs.Mask.{inMask, maskOf, ones, union, intersection, belowBit, weigh, total}
 use Rattle.protocol.specs.State.{bookSize, padded, evenly, words, weightBytes, weightsIn, headUnused, headBytes}
 use Rattle.protocol.specs.State.{contentBytes, bodyBytes, encode, decodeHeight, decodeHeights, decode, last}
 use Rattle.protocol.specs.State.{noHeight, at, holdsProposal, isNotarized, voteOf, withEdition, withHeight}
@@ -53,24 +53,24 @@ unfolding word16 le16 part zeros overFront all isZero same pieces join holds wit
     noneTwice allOf implies inRange everyHeight firstRefusal blockHeight parentHeight entryCount parentDigest entries
     blockWellFormed newBlock allEntries kind signer frameHeight signerMask frameDigest frameBlock isStatement
     isCertificate carriesBlock carriesDigest frameWellFormed frameOf proposal blockVote dummyVote finalize
-    blockCertificate dummyCertificate finalizeCertificate inMask maskOf ones union belowBit weigh total bookSize padded
-    evenly words weightBytes weightsIn headUnused headBytes contentBytes bodyBytes encode decodeHeight decodeHeights
-    decode last noHeight at holdsProposal isNotarized voteOf withEdition withHeight withHead withPool withTimerFired
-    flag pending quorum isDummy dummyRun digestAt extendsOver linkedWithin linked extends isFinalized largestFinalized
-    parentOf chainWithin chain logAt view log weightsFit masksBelow blocksWellFormed contentZeros sound isAccepted
-    unlessRefused refusalNumber certificateKind finalizeKind moveNumber moveHeight newHeight openedEdition openedWeights
-    weightsInRange newState openInRange openRows openCall withProposal withNotarized withMasks withVote votersFor
-    keepDummyVote keepFinalize keepBlockCertificate keepDummyCertificate keepFinalizeCertificate readRows secondProposal
-    leaderEquivocates timerFires clashRows notarize keepProposal keepBlockVote keep kept deliverRows heard deliverCall
-    deliverAll packetFrames noFrames countedIn countAll acceptedOf packetRows packetCall certificateFrame firstStep
-    isSome someOr isRunning idleStep dummyVoteApplies dummyVoteStep offered unused written moved unlessMoveRefused
-    newFinalized outputApplies outputStep passApplies passStep proposeApplies proposedBlock proposeStep blockVoteApplies
-    blockVoteStep step afterMoves moveRows moveCall signalRows signalCall withPending stillPending submitRows submitCall
-    logSize sizeCall readPart readBuffer hasCertificate certificateIf certificatesAt certificatesTo everyCertificate
-    unlessFetchRefused fetchRows fetchCall effect bookAfterAll asReplicaHeight asReplica observedHeight observed
-    observerBookSize observedContentBytes observedBodyBytes encodeObserver decodeObservedHeight decodeObservedHeights
-    decodeObserver replicaHead observedZero observerSound newObservedHeight newObserver observerOpenRows
-    observerOpenCall observerKept observerLogSize observerDeliverRows observerDeliverCall observerStep observerMoved
-    observerMoveRows observerMoveCall observerSizeCall observerReadPart observerReadBuffer observation
+    blockCertificate dummyCertificate finalizeCertificate inMask maskOf ones union intersection belowBit weigh total
+    bookSize padded evenly words weightBytes weightsIn headUnused headBytes contentBytes bodyBytes encode decodeHeight
+    decodeHeights decode last noHeight at holdsProposal isNotarized voteOf withEdition withHeight withHead withPool
+    withTimerFired flag pending quorum isDummy dummyRun digestAt extendsOver linkedWithin linked extends isFinalized
+    largestFinalized parentOf chainWithin chain logAt view log weightsFit masksBelow blocksWellFormed contentZeros sound
+    isAccepted unlessRefused refusalNumber certificateKind finalizeKind moveNumber moveHeight newHeight openedEdition
+    openedWeights weightsInRange newState openInRange openRows openCall withProposal withNotarized withMasks withVote
+    votersFor keepDummyVote keepFinalize keepBlockCertificate keepDummyCertificate keepFinalizeCertificate readRows
+    secondProposal leaderEquivocates timerFires clashRows notarize keepProposal keepBlockVote keep kept deliverRows
+    heard deliverCall deliverAll packetFrames noFrames countedIn countAll acceptedOf packetRows packetCall
+    certificateFrame firstStep isSome someOr isRunning idleStep dummyVoteApplies dummyVoteStep offered unused written
+    moved unlessMoveRefused newFinalized outputApplies outputStep passApplies passStep proposeApplies proposedBlock
+    proposeStep blockVoteApplies blockVoteStep step afterMoves moveRows moveCall signalRows signalCall withPending
+    stillPending submitRows submitCall logSize sizeCall readPart readBuffer hasCertificate certificateIf certificatesAt
+    certificatesTo everyCertificate unlessFetchRefused fetchRows fetchCall effect bookAfterAll asReplicaHeight asReplica
+    observedHeight observed observerBookSize observedContentBytes observedBodyBytes encodeObserver decodeObservedHeight
+    decodeObservedHeights decodeObserver replicaHead observedZero observerSound newObservedHeight newObserver
+    observerOpenRows observerOpenCall observerKept observerLogSize observerDeliverRows observerDeliverCall observerStep
+    observerMoved observerMoveRows observerMoveCall observerSizeCall observerReadPart observerReadBuffer observation
     observerBookAfterAll
 everything = tt

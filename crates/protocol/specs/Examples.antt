@@ -12,25 +12,28 @@ use Rattle.protocol.specs.Mask.{ones}
 use Rattle.protocol.specs.State.{State, at, decode, bookSize, isNotarized}
 use Rattle.protocol.specs.View.{View, quorum, isDummy, extends}
 use Rattle.protocol.specs.Answer.{accepted, done, idle, voteDummy, pass, propose, onDummy}
-use Rattle.protocol.specs.Open.{unweighed, openCall}
+use Rattle.protocol.specs.Open.{Opening, openedWeights, openCall}
 use Rattle.protocol.specs.Deliver.{deliverCall, deliverAll}
 use Rattle.protocol.specs.Signal.{signalCall}
 use Rattle.protocol.specs.Move.{step, MoveOutcome, moveCall}
 
--- where examples f to k start: any opening that is not refused, over any old bytes, and any reply that Move takes
+-- where examples f to k start: any opening that is not refused and gives all replicas the weight 1, over any old bytes,
+-- and any reply that Move takes
 pub record Start : Type 0 where
+  pub way : Opening
   pub old : Bytes
   pub n : ℕ
   pub own : ℕ
   pub heights : ℕ
   pub leaders : Bytes
   pub reply : Bytes
-  pub opens : openCall unweighed old n own heights leaders .answer ≡ accepted done
+  pub even : openedWeights n way ≡ replicate n 1
+  pub opens : openCall way old n own heights leaders .answer ≡ accepted done
   pub room : 448 ≤ length reply
 
 -- the new book
 unfoldable pub opened : Start → Bytes
-opened x = openCall unweighed (x .old) (x .n) (x .own) (x .heights) (x .leaders) .book
+opened x = openCall (x .way) (x .old) (x .n) (x .own) (x .heights) (x .leaders) .book
 
 -- the leader of height 1
 unfoldable pub firstLeader : Start → ℕ

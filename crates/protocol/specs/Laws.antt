@@ -9,6 +9,7 @@ pub mod ObserverStateLaws
 pub mod ObserverCodecLaws
 pub mod ObserverOpensLaws
 pub mod QuorumLaws
+pub mod SharedLaws
 pub mod FlagLaws
 pub mod MoveLaws
 pub mod DeliverLaws

@@ -1,7 +1,7 @@
 -- Masks: sets of replicas as the bits of a number, and how many are in one.
 use mathlib.Core.Path.{_≡_}
 use Prim.Native.Nat.{ℕ, zero, suc, _+_, _/_, _%_, _^_, _<_}
-use mathlib.Core.Bool.{Bool, _||_, cond, true}
+use mathlib.Core.Bool.{Bool, _&&_, _||_, cond, true}
 use mathlib.Core.List.{List, [], _∷_}
 use lib.Dec.{eqb, ltb}
 
@@ -26,6 +26,10 @@ ones mask (suc s) = ones mask s + mask / 2 ^ s % 2
 -- the replicas below `n` that are in either mask
 unfoldable pub union : ℕ → ℕ → ℕ → ℕ
 union n mask other = maskOf (λ s. inMask mask s || inMask other s) n
+
+-- the replicas below `n` that are in both masks
+unfoldable pub intersection : ℕ → ℕ → ℕ → ℕ
+intersection n mask other = maskOf (λ s. inMask mask s && inMask other s) n
 
 -- no bit from `n` up
 unfoldable pub belowBit : ℕ → ℕ → Bool

@@ -1,5 +1,5 @@
--- Open: a new book for `n` replicas, their weights, the replica's own number, and the leader of each height. Three
--- requests open books: document 01 (edition 1, each replica weighs 1) and 2.6 (edition 2, weights of two bytes each).
+-- Open: a new book for `n` replicas, their weights, the replica's own number, and the leader of each height. Document
+-- 01 opens books of edition 1, in which every replica weighs 1, and request 2.6 those of edition 2, with weights.
 use Prim.Native.Nat.{ℕ, _*_}
 use mathlib.Core.Bool.{Bool, true, _&&_}
 use mathlib.Core.List.{List, [], _∷_, map}
@@ -25,11 +25,11 @@ newHeight leader = record {
   voteDigests = zeros 512;
 }
 
--- ---- the ways to open a book
+-- ---- the ways to open a book, a replica's or an observer's
 pub data Opening : Type 0 where
-  -- document 01: every replica weighs 1
+  -- document 01 and, of observers, request 2.3: every replica weighs 1
   unweighed : Opening
-  -- 2.6: two bytes for the weight of each replica
+  -- request 2.6: the weights are given, two bytes for each replica
   weighed : (weights : Bytes) → Opening
 
 -- the edition that it makes

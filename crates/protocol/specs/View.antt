@@ -10,8 +10,8 @@ use Rattle.protocol.specs.Tests.{allOf}
 use Rattle.protocol.specs.Block.{digestSize, parentHeight, parentDigest, allEntries}
 use Rattle.protocol.specs.Mask.{inMask, weigh, total}
 
--- what the rules of this file read: the number of replicas, and for each height whether a block is notarized there,
--- that block, and the masks of its certificate, of the dummy votes and of the finalize votes
+-- what the rules of this file read: the number of replicas and the weight of each, and for each height whether a block
+-- is notarized there, that block, and the masks of its certificate, of the dummy votes and of the finalize votes
 pub record View : Type 0 where
   pub n : ℕ
   pub weights : List ℕ

@@ -8,7 +8,7 @@ use lib.ListN.{replicate}
 use lib.Dec.{eqb}
 use Rattle.protocol.specs.Bytes.{Bytes, byteAt, word16, le16, part, zeros, overFront, isZero, same, pieces, join, holds}
 use Rattle.protocol.specs.Tests.{allOf, implies, inRange, everyHeight, firstRefusal}
-use Rattle.protocol.specs.Mask.{inMask, maskOf, ones, union, belowBit}
+use Rattle.protocol.specs.Mask.{inMask, maskOf, ones, union, intersection, belowBit}
 use Rattle.check_books.specs.CheckStates.{entry, counting, passing, stateTools}
 
 -- ---- bytes
@@ -110,6 +110,12 @@ unions : union 4 0 0 ∷ union 4 7 14 ∷ union 4 1 8 ∷ union 16 32768 1 ∷ u
     0 ∷ 15 ∷ 9 ∷ 32769 ∷ 65535 ∷ 1 ∷ []
 unfolding stateTools
 unions = refl
+
+intersections : intersection 4 0 15 ∷ intersection 4 7 14 ∷ intersection 4 1 8 ∷ intersection 16 65535 32769 ∷
+    intersection 16 21845 43690 ∷ intersection 1 1 1 ∷ intersection 4 23 22 ∷ [] ≡
+    0 ∷ 6 ∷ 0 ∷ 32769 ∷ 0 ∷ 1 ∷ 6 ∷ []
+unfolding stateTools
+intersections = refl
 
 -- no bit from 1, 4 and 16 up
 below : belowBit 1 1 ∷ belowBit 1 2 ∷ belowBit 4 15 ∷ belowBit 4 16 ∷ belowBit 16 65535 ∷ belowBit 16 65536 ∷ [] ≡

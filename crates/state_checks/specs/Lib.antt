@@ -3,3 +3,5 @@ pub mod BasicChecks
 pub mod FormChecks
 pub mod SoundChecks
 pub mod ViewChecks
+pub mod WeightChecks
+pub mod WeightQuorumChecks

@@ -1,14 +1,14 @@
 -- Soundness row by row: which bytes of a book's head and contents are free, both sides of each bound, at the first, a
--- middle and the last height.
+-- middle and the last height. Each replica weighs 1; WeightChecks has other weights.
 use Prim.Native.Nat.{ℕ, _+_, _*_}
 use mathlib.Core.Path.{_≡_, refl}
 use mathlib.Core.Bool.{Bool, true, not}
-use mathlib.Core.List.{List, [], _∷_, _++_}
+use mathlib.Core.List.{List, [], _∷_, _++_, map}
 use lib.ListN.{replicate, take}
 use Rattle.protocol.specs.Bytes.{Bytes, zeros}
 use Rattle.protocol.specs.Tests.{allOf}
 use Rattle.protocol.specs.Sound.{sound}
-use Rattle.check_books.specs.CheckCalls.{standIn, splice}
+use Rattle.check_books.specs.CheckCalls.{standIn, oneBytes, splice, firstEdition}
 use Rattle.check_books.specs.CheckStates.{entry, counting, freePlaces, passing, stateTools}
 
 -- ---- books, byte by byte
@@ -29,12 +29,12 @@ content leader = leader ∷ 3 ∷ 7 ∷ 0 ∷ 0 ∷ 0 ∷ 7 ∷ zeros 9
 -- four replicas, own number 2, three heights, current height 2, the log still empty, one pending entry
 book : Bytes
 book =
-    4 ∷ 2 ∷ 3 ∷ 0 ∷ 2 ∷ 0 ∷ 1 ∷ 1 ∷
-    (zeros 56 ++ (entry 5 ++ (zeros 496 ++
+    4 ∷ 2 ∷ 3 ∷ 0 ∷ 2 ∷ 0 ∷ 1 ∷ 2 ∷
+    (oneBytes 4 ++ (zeros 48 ++ (entry 5 ++ (zeros 496 ++
     (content 0 ++ (content 3 ++ (content 1 ++
     (first ++ (first ++ (zeros 512 ++
     (second ++ (second ++ (zeros 512 ++
-    (third ++ (third ++ zeros 512))))))))))))))
+    (third ++ (third ++ zeros 512)))))))))))))))
 
 -- the same with the log of all three heights
 ended : Bytes
@@ -42,15 +42,17 @@ ended = splice 5 (3 ∷ []) book
 
 -- sixteen replicas, own number 15, one height that 15 leads, every bit of the four masks set
 wide : Bytes
-wide = 16 ∷ 15 ∷ 1 ∷ 0 ∷ 1 ∷ 0 ∷ 0 ∷ 1 ∷ (zeros 568 ++ (15 ∷ 0 ∷ (replicate 8 255 ++ zeros 870)))
+wide =
+    16 ∷ 15 ∷ 1 ∷ 0 ∷ 1 ∷ 0 ∷ 0 ∷ 2 ∷
+    (oneBytes 16 ++ (zeros 536 ++ (15 ∷ 0 ∷ (replicate 8 255 ++ zeros 870))))
 
 -- one replica, one height
 alone : Bytes
-alone = 1 ∷ 0 ∷ 1 ∷ 0 ∷ 1 ∷ 0 ∷ 0 ∷ 1 ∷ zeros 1448
+alone = 1 ∷ 0 ∷ 1 ∷ 0 ∷ 1 ∷ 0 ∷ 0 ∷ 2 ∷ 1 ∷ zeros 1447
 
 -- four replicas, own number 2, so many heights with nothing in them
 empty : ℕ → Bytes
-empty heights = 4 ∷ 2 ∷ heights ∷ 0 ∷ 1 ∷ 0 ∷ 0 ∷ 1 ∷ zeros (568 + 880 * heights)
+empty heights = 4 ∷ 2 ∷ heights ∷ 0 ∷ 1 ∷ 0 ∷ 0 ∷ 2 ∷ (oneBytes 4 ++ zeros (560 + 880 * heights))
 
 unfoldable books : Unit {0}
 unfolding stateTools first second third content book ended wide alone empty
@@ -60,9 +62,10 @@ isSound : Bytes → Bool
 isSound bytes = sound standIn bytes
 
 -- ---- byte by byte
--- a fifth replica, own number 1, the timer's flag, current height 2 and a pending entry are sound; every other raised
--- byte of the head is not
-head-places : freePlaces isSound (empty 1) (counting 0 64) ≡ 0 ∷ 1 ∷ 3 ∷ 4 ∷ 6 ∷ []
+-- own number 1, the timer's flag, current height 2, a pending entry and larger weights of the four are sound; every
+-- other raised byte of the head is not. In edition 1 a fifth replica is, which weighs 1 too, and no weight
+head-places : map (λ bytes. freePlaces isSound bytes (counting 0 64)) (empty 1 ∷ firstEdition (empty 1) ∷ []) ≡
+    (1 ∷ 3 ∷ 4 ∷ 6 ∷ counting 8 8) ∷ (0 ∷ 1 ∷ 3 ∷ 4 ∷ 6 ∷ []) ∷ []
 unfolding books isSound
 head-places = refl
 
@@ -100,10 +103,11 @@ free-places = refl
 soundWith : Bytes → ℕ → List ℕ → List ℕ
 soundWith bytes place values = passing (λ x. isSound (splice place (x ∷ []) bytes)) values
 
--- 16 replicas and no more; own numbers below 16; below 1
+-- 16 replicas and no more; own numbers below 16; below 1; without weights in the head any number of 1 to 16
 replicas : soundWith wide 0 (15 ∷ 16 ∷ 17 ∷ 255 ∷ []) ∷ soundWith wide 1 (0 ∷ 15 ∷ 16 ∷ []) ∷
-    soundWith alone 0 (0 ∷ 1 ∷ 16 ∷ 17 ∷ []) ∷
-    soundWith alone 1 (0 ∷ 1 ∷ []) ∷ [] ≡ (16 ∷ []) ∷ (0 ∷ 15 ∷ []) ∷ (1 ∷ 16 ∷ []) ∷ (0 ∷ []) ∷ []
+    soundWith alone 0 (0 ∷ 1 ∷ 2 ∷ 16 ∷ 17 ∷ []) ∷ soundWith (firstEdition alone) 0 (0 ∷ 1 ∷ 2 ∷ 16 ∷ 17 ∷ 255 ∷ []) ∷
+    soundWith alone 1 (0 ∷ 1 ∷ []) ∷ [] ≡
+    (16 ∷ []) ∷ (0 ∷ 15 ∷ []) ∷ (1 ∷ []) ∷ (1 ∷ 2 ∷ 16 ∷ []) ∷ (0 ∷ []) ∷ []
 unfolding books isSound soundWith
 replicas = refl
 
@@ -112,23 +116,21 @@ heights : passing (λ h. isSound (empty h)) (0 ∷ 1 ∷ 2 ∷ 63 ∷ 64 ∷ [])
 unfolding books isSound
 heights = refl
 
--- current heights 1 to H + 1; all flags below 16, flag 2 without flag 1 among them; 0 to 32 pending entries; edition
--- 1;
--- finalized heights above the current one, and none above the last
+-- current heights 1 to H + 1; all flags below 16, flag 2 without flag 1 among them; 0 to 32 pending entries; finalized
+-- heights above the current one, and none above the last
 head-bounds : soundWith (empty 3) 4 (counting 0 6) ∷ soundWith alone 4 (counting 0 4) ∷
     soundWith alone 3 (counting 0 18) ∷
-    soundWith alone 6 (0 ∷ 1 ∷ 31 ∷ 32 ∷ 33 ∷ []) ∷ soundWith alone 7 (0 ∷ 1 ∷ 255 ∷ []) ∷
-    soundWith ended 5 (counting 0 5) ∷ [] ≡
+    soundWith alone 6 (0 ∷ 1 ∷ 31 ∷ 32 ∷ 33 ∷ []) ∷ soundWith ended 5 (counting 0 5) ∷ [] ≡
     (1 ∷ 2 ∷ 3 ∷ 4 ∷ []) ∷ (1 ∷ 2 ∷ []) ∷ counting 0 16 ∷
-    (0 ∷ 1 ∷ 31 ∷ 32 ∷ []) ∷ (1 ∷ []) ∷ (0 ∷ 1 ∷ 2 ∷ 3 ∷ []) ∷ []
+    (0 ∷ 1 ∷ 31 ∷ 32 ∷ []) ∷ (0 ∷ 1 ∷ 2 ∷ 3 ∷ []) ∷ []
 unfolding books isSound soundWith
 head-bounds = refl
 
--- editions 2 and 3, and edition 2 with a byte behind it
-later-editions : soundWith alone 7 (2 ∷ 3 ∷ []) ∷ soundWith (splice 8 (1 ∷ []) alone) 7 (counting 0 4) ∷ [] ≡
-    [] ∷ [] ∷ []
+-- edition 2 with the weight of one replica, edition 1 without, and no other; with a second weight none is
+editions : map (λ bytes. soundWith bytes 7 (0 ∷ 1 ∷ 2 ∷ 3 ∷ 4 ∷ 255 ∷ []))
+    (alone ∷ firstEdition alone ∷ splice 10 (1 ∷ []) alone ∷ []) ≡ (2 ∷ []) ∷ (1 ∷ []) ∷ [] ∷ []
 unfolding books isSound soundWith
-later-editions = refl
+editions = refl
 
 -- leaders below 4, and states up to 3 where the bodies are zero (so 0 alone), at each of three heights
 leaders : soundWith (empty 3) 576 (0 ∷ 3 ∷ 4 ∷ []) ∷ soundWith (empty 3) 592 (0 ∷ 3 ∷ 4 ∷ []) ∷

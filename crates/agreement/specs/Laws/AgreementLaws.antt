@@ -6,7 +6,7 @@ use mathlib.Core.Logic.{_⊎_, inl, inr}
 use mathlib.Core.Bool.{true, _&&_}
 use mathlib.Core.List.{List, [], _∷_, _++_, List·Memᴰ}
 use mathlib.Core.Option.{Option, some, none}
-use lib.ListN.{length, replicate}
+use lib.ListN.{length}
 use lib.Dec.{leb}
 use Rattle.protocol.specs.Bytes.{Bytes, join}
 use Rattle.protocol.specs.Laws.CallLaws.{only-opening, only-reading}
@@ -55,8 +55,8 @@ module _ (digest : Bytes → Bytes) (weights : List ℕ) (dishonest : ℕ) (obse
       (left : lastLeft digest s before ≡ some book) where
     good : Good digest weights Honest Honest before s (decode book)
     good = subst (GoodBytes digest weights Honest Honest before s) left
-        (good-after digest weights Honest Honest calls (forged-to-replicas digest Honest Honest observers l unforged) before
-        after whole s (keeps s hs) hs hs)
+        (good-after digest weights Honest Honest calls (forged-to-replicas digest Honest Honest observers l unforged)
+        before after whole s (keeps s hs) hs hs)
 
     pub replica-had : sound digest book ≡ true → Had (view (decode book)) (decode book .finalized)
     unfolding view
@@ -82,8 +82,8 @@ module _ (digest : Bytes → Bytes) (weights : List ℕ) (dishonest : ℕ) (obse
       followed : Followed digest weights Honest Honest observers l (observerState book)
       followed = rw whole (followed-more digest weights Honest Honest observers before after (observerState book)
           (subst (FollowedBytes digest weights Honest Honest observers before) left
-          (followed-after digest weights Honest Honest observers l unforged s (observers-keep s meant) meant before after
-          whole)))
+          (followed-after digest weights Honest Honest observers l unforged s (observers-keep s meant) meant before
+          after whole)))
 
   -- ---- what is read
   ReadOf : Bytes → Type 0
@@ -133,7 +133,8 @@ module _ (digest : Bytes → Bytes) (weights : List ℕ) (dishonest : ℕ) (obse
           Had (view (observerState (m .book))) (observerState (m .book) .finalized)
       go ok none left opens =
           let (buffer, e, q) = only-observer-reading digest (m .book) (m .call) part x in
-          let (way, n, heights, e′, same, passed, made) = only-observer-opening digest (m .book) (m .call) weights opens in
+          let (way, n, heights, e′, same, passed, made) = only-observer-opening digest (m .book) (m .call) weights
+          opens in
           let z : _≡_ {A = ℕ} 0 1 = cc in absurd (omega arith)
       go ok (some book) left (got, fixed) =
           observer-had (split .0) (ofObserver m ∷ split .1) (split .2) (m .observer) meant (m .book)

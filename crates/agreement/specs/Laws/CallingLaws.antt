@@ -66,7 +66,8 @@ module _ (digest : Bytes → Bytes) (weights : List ℕ) (books names : ℕ → 
       go (inr v) = absurd (List·Memᴰ·not-nil (rw (e (v .0)) at (v .2)))
 
   -- and changes flags only upwards
-  pub quiet : (s : ℕ) (b b′ : State) → GoodIn P s b → (m .replica ≡ s → writes digest m ≡ []) → view b′ .weights ≡ view b .weights →
+  pub quiet : (s : ℕ) (b b′ : State) → GoodIn P s b → (m .replica ≡ s → writes digest m ≡ []) →
+      view b′ .weights ≡ view b .weights →
       b′ .current ≡ b .current →
       (flag 1 b ≡ true → flag 1 b′ ≡ true) → (flag 4 b ≡ true → flag 4 b′ ≡ true) → Shaped b′ →
       ((i : ℕ) → BackedIn P′ (suc i) (getD (b′ .heights) i noHeight)) → GoodIn P′ s b′
@@ -142,7 +143,8 @@ module _ (digest : Bytes → Bytes) (weights : List ℕ) (books names : ℕ → 
   unless-refused-good s none book outcome g g′ = g′ refl
   unless-refused-good s (some number) book outcome g g′ = g
 
-  pub reopening-good : (s : ℕ) (way : Opening) (book : Bytes) (n′ own heights : ℕ) (leaders : Bytes) → GoodIn P s (decode book) →
+  pub reopening-good : (s : ℕ) (way : Opening) (book : Bytes) (n′ own heights : ℕ) (leaders : Bytes) →
+      GoodIn P s (decode book) →
       writes digest m ≡ [] →
       isAccepted (openCall way book n′ own heights leaders .answer) ≡ false → GoodIn P′ s
       (decode (openCall way book n′ own heights leaders .book))

@@ -16,10 +16,10 @@ use Rattle.protocol.specs.Laws.RowLaws.{eq-same, implies-true, same-eq}
 use Rattle.protocol.specs.Tests.{implies}
 use Rattle.protocol.specs.Laws.TestsLaws.{and-both, le-or-lt, or-either}
 use Rattle.agreement.specs.ListTests.{everyHonest, everyIn, hearsAt, isAmong, isHonest, noCollision, readsAt}
-use Rattle.agreement.specs.ListTests.{hearsWhereAt, readsPart, shows, showsOnly, someIn, writesAt}
+use Rattle.agreement.specs.ListTests.{hearsWhereAt, readsPart, readsWhereAt, shows, showsOnly, someIn, writesAt}
 use Rattle.agreement.specs.Lists.{HonestIn, Member, NoCollision, Reads, Shows, Statement, blockIn, delivers, does}
 use Rattle.agreement.specs.Lists.{statementOf, writes}
-use Rattle.agreement.specs.Met.{Hears, HearsWhere, MemberOf}
+use Rattle.agreement.specs.Met.{Hears, HearsWhere, MemberOf, ReadsWhere}
 
 -- ---- over lists and replicas
 pub every-in : {A : Type 0} (test : A → Bool) (l : List A) → everyIn test l ≡ true → (x : A) → List·Memᴰ x l →
@@ -61,11 +61,13 @@ every-honest dishonest test (suc k) e s (low, h) =
     go (inl l) below = let z : s ≡ k = omega arith in rw z (implies-true _ _ (q .1) (rw (rw z at h)))
     go (inr l) below = below l
 
-pub is-honest : (weights : List ℕ) (dishonest s : ℕ) → HonestIn weights dishonest s → isHonest weights dishonest s ≡ true
+pub is-honest : (weights : List ℕ) (dishonest s : ℕ) → HonestIn weights dishonest s →
+    isHonest weights dishonest s ≡ true
 unfolding isHonest HonestIn
 is-honest weights dishonest s (low, h) = rw (h, le-leb (suc s) (length weights) low)
 
-pub honest-in : (weights : List ℕ) (dishonest s : ℕ) → isHonest weights dishonest s ≡ true → HonestIn weights dishonest s
+pub honest-in : (weights : List ℕ) (dishonest s : ℕ) → isHonest weights dishonest s ≡ true →
+    HonestIn weights dishonest s
 unfolding isHonest HonestIn
 honest-in weights dishonest s e =
     let q = and-both (ltb s (length weights)) (not (inMask dishonest s)) e in
@@ -135,6 +137,12 @@ module _ (digest : Bytes → Bytes) where
       MemberOf list s (λ m. Reads digest m part)
   unfolding readsAt
   reads-found list part s e = found list s _ _ (λ m t. reads-sound m part t) e
+
+  pub reads-where-found : (test : Member → Bool) (list : List Member) (part : Bytes) (s : ℕ) →
+      someIn (readsWhereAt digest test part s) list ≡ true → MemberOf list s (ReadsWhere digest test part)
+  unfolding readsWhereAt
+  reads-where-found test list part s e = found list s _ _ (λ m t.
+      let q = and-both (test m) (readsPart part (does digest m .reads)) t in (q .0, reads-sound m part (q .1))) e
 
   pub hears-found : (list : List Member) (frame : Bytes) (s t : ℕ) (st : Statement) →
       statementOf digest frame t ≡ some st → someIn (hearsAt digest frame s) list ≡ true →

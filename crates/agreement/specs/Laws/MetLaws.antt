@@ -18,16 +18,22 @@ module _ (digest : Bytes → Bytes) where
   unfolding Claim Agreement
   claim-is-agreement = refl
 
-  module _ (weights : List ℕ) (dishonest : ℕ) (list : List Member) (part : Bytes) (met : Met digest weights dishonest list part) where
-    -- whatever the claim concluded, it would say it of the part that both replicas read
-    pub applies : (Conclusion : Bytes → Bytes → Type 0) → Claim digest Conclusion → Conclusion part part
+  module _ (weights : List ℕ) (dishonest : ℕ) (list : List Member) (shorter part : Bytes)
+      (met : Met digest weights dishonest list shorter part) where
+    -- whatever the claim concluded, it would say it of the part that both replicas read, and of the shorter one beside
+    -- it
+    pub applies : (Conclusion : Bytes → Bytes → Type 0) → Claim digest Conclusion →
+        Conclusion part part × Conclusion shorter part
     unfolding Claim
     applies Conclusion claim =
         let (m, here, own, reads) = met .reads-0 in
         let (m′, here′, own′, reads′) = met .reads-1 in
-        claim weights dishonest list (met .few) (met .keeps) (met .unforged) (met .collisionless) m m′ part part here here′
-        (rw own (met .honest-0)) (rw own′ (met .honest-1)) reads reads′
+        let (x, among, own″, reads″) = met .reads-shorter in
+        let granted = claim weights dishonest list (met .few) (met .keeps) (met .unforged) (met .collisionless) in (
+          granted m m′ part part here here′ (rw own (met .honest-0)) (rw own′ (met .honest-1)) reads reads′,
+          granted x m shorter part among here (rw own″ (met .honest-1)) (rw own (met .honest-0)) reads″ reads,
+        )
 
     -- what agreement says of it
-    pub applied : OneBegins part part
+    pub applied : OneBegins part part × OneBegins shorter part
     applied = applies OneBegins (rw claim-is-agreement (agreement digest))

@@ -90,11 +90,13 @@ module _ (digest : Bytes → Bytes) (weights : List ℕ) (dishonest : ℕ) where
 
   backed-sound : (P : List Member) (log : List Bytes) (frame : Bytes) → Logged P log →
       isBacked digest weights dishonest log frame ≡ true →
-      (s : ℕ) (st : Statement) → HonestIn weights dishonest s → statementOf digest frame s ≡ some st → Wrote digest s st P
+      (s : ℕ) (st : Statement) → HonestIn weights dishonest s → statementOf digest frame s ≡ some st →
+      Wrote digest s st P
   unfolding isBacked signed HonestIn
   backed-sound P log frame h t s st hs e =
       let q = every-honest dishonest
-      (λ s. everyIn (λ statement. holds statement log) (signed digest s (statementOf digest frame s))) (length weights) t s hs in
+      (λ s. everyIn (λ statement. holds statement log) (signed digest s (statementOf digest frame s)))
+      (length weights) t s hs in
       let r = every-in (λ (x : Bytes). holds x log) (signed digest s (some st)) (rw e at q) (s ∷ statementBytes st)
       (List·Memᴰ·head refl) in
       h s st (holds-member (s ∷ statementBytes st) log r)
@@ -121,7 +123,8 @@ module _ (digest : Bytes → Bytes) (weights : List ℕ) (dishonest : ℕ) where
       rw append-nil (backed-sound P log frame h (delivers-backed log m q hm frame d) s st hs r)
   forged-from P log (x ∷ xs) h t (y ∷ before) m after frame s st e hm hs d r =
       let rest = signedIn digest (x .replica) (writes digest x) ++ log in
-      let q = and-both (deliversBacked digest weights dishonest log x) (notForged digest weights dishonest rest xs) t .1 in
+      let q = and-both (deliversBacked digest weights dishonest log x) (notForged digest weights dishonest rest xs) t
+      .1 in
       let w = forged-from (P ++ (x ∷ [])) rest xs (logged-more P log x h) q before m after frame s st
       (split-head e .1) hm hs d r in
       subst (λ (z : List Member). Wrote digest s st z)

@@ -128,9 +128,11 @@ module _ (digest : Bytes → Bytes) (weights : List ℕ) (books names observers 
     one-more : (P after : List AnyMember) (m : AnyMember) → l ≡ P ++ (m ∷ after) → LeftIn P → LeftIn (P ++ (m ∷ []))
     unfolding observerCalls
     one-more P after (ofReplica m) here f =
-        subst (λ (calls : List ObserverMember). FollowedBytes digest weights books names observers (P ++ (ofReplica m ∷ []))
-        (observerLastLeft digest s calls)) (sym (observers-append P (ofReplica m ∷ []) ∙ append-nil (observerCalls P)))
-        (bytes-more digest weights books names observers P (ofReplica m ∷ []) (observerLastLeft digest s (observerCalls P)) f)
+        subst (λ (calls : List ObserverMember). FollowedBytes digest weights books names observers
+        (P ++ (ofReplica m ∷ [])) (observerLastLeft digest s calls))
+        (sym (observers-append P (ofReplica m ∷ []) ∙ append-nil (observerCalls P)))
+        (bytes-more digest weights books names observers P (ofReplica m ∷ [])
+        (observerLastLeft digest s (observerCalls P)) f)
     one-more P after (ofObserver m) here f =
         subst (FollowedBytes digest weights books names observers (P ++ (ofObserver m ∷ [])))
         (sym (ap (observerLastLeft digest s) (observers-append P (ofObserver m ∷ []))

@@ -31,8 +31,8 @@ module _ (digest : Bytes → Bytes) (book : Bytes) where
 
   pub observer-grants : observerSound digest book ≡ true → ObserverGrants digest b
   unfolding observerSound holdsProposal
-  observer-grants e = by-rows _ e λ size replicas many edition weights masks status formed certified head zeros content final.
-      record {
+  observer-grants e =
+      by-rows _ e λ size replicas many edition weights masks status formed certified head zeros content final. record {
         few = in-range 1 16 (b .n) replicas .1;
         none-held = λ h low high holds.
             let inside : h ≤ bookHeights book = rw (last-observed book) at high in

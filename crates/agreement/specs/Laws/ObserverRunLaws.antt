@@ -151,7 +151,11 @@ module _ (digest : Bytes → Bytes) (weights : List ℕ) (books names observers 
     move-followed b f = cond-elim (λ (st : Step). Followed P (st .after)) (outputApplies digest b)
         (λ _. record {
           same-weights = f .same-weights;
-          shaped = record { weighed = f .shaped .weighed; pool-size = f .shaped .pool-size; heights = f .shaped .heights };
+          shaped = record {
+            weighed = f .shaped .weighed;
+            pool-size = f .shaped .pool-size;
+            heights = f .shaped .heights;
+          };
           shown = f .shown;
         }) (λ _. f)
 

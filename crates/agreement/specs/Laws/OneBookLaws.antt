@@ -20,7 +20,8 @@ use Rattle.agreement.specs.Lists.{Continues, Follows, KeepsOneBook, Memb
 use Rattle.agreement.specs.Laws.ListsLaws.{or-else-assoc, or-else-none, split-head, split-never}
 use Rattle.agreement.specs.Turns.{Turn, build}
 
-opens-for : (weights : List ℕ) (s : ℕ) (o : Option Opened) → opensFor weights s o ≡ true → o ≡ some (record { weights = weights; own = s })
+opens-for : (weights : List ℕ) (s : ℕ) (o : Option Opened) → opensFor weights s o ≡ true →
+    o ≡ some (record { weights = weights; own = s })
 unfolding opensFor
 opens-for weights s none e = absurd (false≢true e)
 opens-for weights s (some opened) e =
@@ -91,7 +92,8 @@ module _ (digest : Bytes → Bytes) (weights : List ℕ) (s : ℕ) where
       ∙ sym (or-else-assoc (lastLeft digest s before) (leftBy digest s y) (left opened books))) r
 
   pub keeps-one-book : (books : List Bytes) → s < length books → (turns : List Turn) →
-      opensOnce digest weights s false (build digest books turns) ≡ true → KeepsOneBook digest weights (build digest books turns) s
+      opensOnce digest weights s false (build digest books turns) ≡ true →
+      KeepsOneBook digest weights (build digest books turns) s
   unfolding KeepsOneBook
   keeps-one-book books inside turns test before m after e own =
       subst (λ (o : Option Bytes). Follows digest weights s m o) (sym (or-else-none (lastLeft digest s before)))

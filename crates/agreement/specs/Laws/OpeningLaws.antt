@@ -31,7 +31,8 @@ use Rattle.agreement.specs.Laws.RunLaws.{Good, States, encoded}
 
 -- ---- one more pending entry
 module _ (digest : Bytes → Bytes) (weights : List ℕ) (books names : ℕ → Type 0) (P : List Member) (m : Member) where
-  pub submit-good : (s : ℕ) (book entry : Bytes) → Good digest weights books names P s (decode book) → writes digest m ≡ [] →
+  pub submit-good : (s : ℕ) (book entry : Bytes) → Good digest weights books names P s (decode book) →
+      writes digest m ≡ [] →
       Good digest weights books names (P ++ (m ∷ [])) s (decode (submitCall digest book entry .book))
   unfolding submitCall stillPending withPending flag pending
   submit-good s book entry g silent =
@@ -58,12 +59,12 @@ module _ (digest : Bytes → Bytes) (weights : List ℕ) (books names : ℕ → 
           (every-without (log b) (pieces-sized 16 (b .pendingCount) (b .pool) (omega arith)))
           (one (tested .size) no-more) in
           let room = tested .room in
-          quiet digest weights books names P m s b (withPending b es) g (λ q. silent) (unfold view in refl) refl (λ q. q) (λ q. q)
+          quiet digest weights books names P m s b (withPending b es) g (λ q. silent) (unfold view in refl) refl
+          (λ q. q) (λ q. q)
           (record {
             weighed = g .kept .shaped .weighed;
             pool-size = pending-pool-size es full (rw length-append (omega arith));
-            heights =
-                g .kept .shaped .heights;
+            heights = g .kept .shaped .heights;
           })
           (λ i. backed-more digest weights books names P m (g .kept .backed i))
 
@@ -109,7 +110,8 @@ open-unrefused way book n own heights leaders = go (firstRefusal (openRows way b
         isAccepted (unlessRefused o book opened .answer) ≡ true →
         (n ≤ maximumReplicas) × (unlessRefused o book opened .book ≡ encode (newState way n own leaders))
     go none passed e =
-        (open-ranges way n own heights leaders (open-tested way n own heights leaders book passed .in-ranges) .n-high, refl)
+        let tested = open-tested way n own heights leaders book passed in
+        (open-ranges way n own heights leaders (tested .in-ranges) .n-high, refl)
     go (some number) passed e = absurd (false≢true e)
 
 module _ (digest : Bytes → Bytes) (weights : List ℕ) (books names : ℕ → Type 0) (P : List Member) (m : Member) where
@@ -135,8 +137,8 @@ module _ (digest : Bytes → Bytes) (weights : List ℕ) (books names : ℕ → 
   pub opening-good : (s : ℕ) (way : Opening) (n : ℕ) (book : Bytes) (heights : ℕ) (leaders : Bytes) →
       openedWeights n way ≡ weights → names s →
       ((st : Statement) → Wrote digest s st P → ⊥) → writes digest m ≡ [] →
-      isAccepted (openCall way book n s heights leaders .answer) ≡ true → Good digest weights books names (P ++ (m ∷ [])) s
-      (decode (openCall way book n s heights leaders .book))
+      isAccepted (openCall way book n s heights leaders .answer) ≡ true →
+      Good digest weights books names (P ++ (m ∷ [])) s (decode (openCall way book n s heights leaders .book))
   opening-good s way n book heights leaders same hs none-before silent e =
       let (few, made) = open-unrefused way book n s heights leaders e in
       rw made

@@ -45,11 +45,13 @@ module _ (digest : Bytes → Bytes) (weights : List ℕ) (books names : ℕ → 
     call-good book (got, fixed) (packetDelivery packet) e g =
         packet-good digest weights books names P m s book packet g (rw e) hm (rw (e, got))
         (λ f q t st r ht. unforged P m after f t st here hm ht q r)
-    call-good book (got, fixed) (moving reply) e g = move-good digest weights books names P m s book reply hs g (rw (e, got))
+    call-good book (got, fixed) (moving reply) e g =
+        move-good digest weights books names P m s book reply hs g (rw (e, got))
     call-good book (got, fixed) (signalling h) e g = signal-good digest weights books names P m s book h g (rw e)
     call-good book (got, fixed) (submitting x) e g = submit-good digest weights books names P m s book x g (rw e)
     call-good book (got, fixed) sizing e g = unchanged digest weights books names P m s (decode book) g (λ z. rw e)
-    call-good book (got, fixed) (reading buffer) e g = unchanged digest weights books names P m s (decode book) g (λ z. rw e)
+    call-good book (got, fixed) (reading buffer) e g =
+        unchanged digest weights books names P m s (decode book) g (λ z. rw e)
     call-good book (got, fixed) (fetching k h reply) e g =
         fetch-good digest weights books names P m s book k h reply g (rw (e, got))
 
@@ -62,8 +64,8 @@ module _ (digest : Bytes → Bytes) (weights : List ℕ) (books names : ℕ → 
         subst (λ (c : Call). Good digest weights books names P′ s (decode (effect digest (m .book) c .book))) (sym e)
         (opening-good digest weights books names P m s way n (m .book) heights leaders same hs g (rw e) q)
     next-good (some book) x g =
-        subst (λ (z : Bytes). Good digest weights books names P′ s (decode (effect digest z (m .call) .book))) (sym (x .0))
-        (call-good book x (m .call) refl g)
+        subst (λ (z : Bytes). Good digest weights books names P′ s (decode (effect digest z (m .call) .book)))
+        (sym (x .0)) (call-good book x (m .call) refl g)
 
   module _ (P after : List Member) (m : Member) (here : l ≡ P ++ (m ∷ after)) (s : ℕ)
       (keeps : KeepsOneBook digest weights l s) (mine : books s) (hs : names s) where
@@ -88,7 +90,8 @@ module _ (digest : Bytes → Bytes) (weights : List ℕ) (books names : ℕ → 
             next-good P after m here s mine hs own (lastLeft digest s P) (keeps P m after here own) g
         go false e = other-good (eqb-false (m .replica) s e) (lastLeft digest s P) g
 
-  walk : (P Q after : List Member) → l ≡ P ++ (Q ++ after) → (s : ℕ) → KeepsOneBook digest weights l s → books s → names s →
+  walk : (P Q after : List Member) → l ≡ P ++ (Q ++ after) → (s : ℕ) → KeepsOneBook digest weights l s →
+      books s → names s →
       GoodBytes digest weights books names P s (lastLeft digest s P) →
       GoodBytes digest weights books names (P ++ Q) s (lastLeft digest s (P ++ Q))
   walk P [] after here s keeps mine hs g = rw append-nil g
@@ -98,7 +101,8 @@ module _ (digest : Bytes → Bytes) (weights : List ℕ) (books names : ℕ → 
       (one-more P (Q ++ after) m here s keeps mine hs g))
 
   -- the book that a replica of its own book and name has after the calls of `P`
-  pub good-after : (P after : List Member) → l ≡ P ++ after → (s : ℕ) → KeepsOneBook digest weights l s → books s → names s →
+  pub good-after : (P after : List Member) → l ≡ P ++ after → (s : ℕ) → KeepsOneBook digest weights l s →
+      books s → names s →
       GoodBytes digest weights books names P s (lastLeft digest s P)
   unfolding lastLeft Wrote
   good-after P after here s keeps mine hs = walk [] P after here s keeps mine hs (λ st w. List·Memᴰ·not-nil (w .2))

@@ -74,7 +74,11 @@ module _ (digest : Bytes → Bytes) where
       fired-kept : Kept P b → Kept P (withTimerFired b)
       unfolding withTimerFired withHead
       fired-kept k = record {
-        shaped = record { weighed = k .shaped .weighed; pool-size = k .shaped .pool-size; heights = k .shaped .heights };
+        shaped = record {
+          weighed = k .shaped .weighed;
+          pool-size = k .shaped .pool-size;
+          heights = k .shaped .heights;
+        };
         backed = k .backed;
       }
 

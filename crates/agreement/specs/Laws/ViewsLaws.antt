@@ -6,10 +6,10 @@ use mathlib.Core.Logic.{_⊎_}
 use mathlib.Core.Bool.{true}
 use mathlib.Core.List.{List, [], _++_, append-nil, Memᴰ·append-left}
 use mathlib.Core.Option.{Option, some, none}
-use lib.ListN.{length, replicate, length-replicate}
+use lib.ListN.{length}
 use Rattle.protocol.specs.Bytes.{Bytes, join}
 use Rattle.protocol.specs.Laws.CodecLaws.{at-suc}
-use Rattle.protocol.specs.Laws.QuorumLaws.{ones-weigh, quorums-meet, total-equal}
+use Rattle.protocol.specs.Laws.QuorumLaws.{quorums-meet}
 use Rattle.protocol.specs.Mask.{inMask}
 use Rattle.protocol.specs.Sound.{view}
 use Rattle.protocol.specs.State.{State}
@@ -32,8 +32,8 @@ module _ (digest : Bytes → Bytes) (weights : List ℕ) (books names observers 
   -- all that a view shows was stated and seen in the list
   abbrev pub ShownIn : View → Type 0
   ShownIn v = (i : ℕ) →
-      Shown digest (AnyStates digest weights books names observers l) (AnySeen digest weights books names observers l) (suc i)
-      (v .dummyMask (suc i)) (v .finalizeMask (suc i)) (v .certificateMask (suc i)) (v .hasBlock (suc i))
+      Shown digest (AnyStates digest weights books names observers l) (AnySeen digest weights books names observers l)
+      (suc i) (v .dummyMask (suc i)) (v .finalizeMask (suc i)) (v .certificateMask (suc i)) (v .hasBlock (suc i))
       (v .block (suc i))
 
   -- so does the view of a state that is backed by some first of the replicas' calls
@@ -88,7 +88,7 @@ module _ (digest : Bytes → Bytes) (weights : List ℕ) (books names observers 
     not-finalize-and-dummy e e′ =
         never-both (suc i) (x′ i .dummies t e′ named) (x i .finalizations t e named)
 
--- ---- where fewer than a third are dishonest, and no two blocks collide
+-- ---- where the dishonest replicas weigh less than a third, and no two blocks collide
 module _ (digest : Bytes → Bytes) (weights : List ℕ) (dishonest : ℕ) (observers : ℕ → Type 0) (l : List AnyMember)
     (third : FewDishonest weights dishonest)
     (keeps : (s : ℕ) → HonestIn weights dishonest s → KeepsOneBook digest weights (replicaCalls l) s)
@@ -97,7 +97,7 @@ module _ (digest : Bytes → Bytes) (weights : List ℕ) (dishonest : ℕ) (obse
   abbrev Honest : ℕ → Type 0
   Honest s = HonestIn weights dishonest s
 
-  -- the view of a sound book of n replicas, a replica's or an observer's, and its finalized height
+  -- the view of a sound book of replicas of these weights, a replica's or an observer's, and its finalized height
   pub record HadView (v : View) (g : ℕ) : Type 0 where
     pub shown : ShownIn digest weights Honest Honest observers l v
     pub same-weights : v .weights ≡ weights
@@ -129,8 +129,8 @@ module _ (digest : Bytes → Bytes) (weights : List ℕ) (dishonest : ℕ) (obse
         let (m, here, meant, shows) = x .shown i .notarized-seen e in
         let (m′, here′, meant′, shows′) = x′ .shown i .notarized-seen e′ in
         collisionless m m′ (v .block (suc i)) (v′ .block (suc i)) here here′ meant meant′ shows shows′
-        (one-digest digest weights Honest Honest observers l unforged t (keeps t ht) ht ht v v′ (x .shown) (x′ .shown) i inA
-        inB)
+        (one-digest digest weights Honest Honest observers l unforged t (keeps t ht) ht ht v v′ (x .shown) (x′ .shown) i
+        inA inB)
 
     pub final-not-dummy : (i : ℕ) → quorum v (v .finalizeMask (suc i)) ≡ true →
         quorum v′ (v′ .dummyMask (suc i)) ≡ true → ⊥

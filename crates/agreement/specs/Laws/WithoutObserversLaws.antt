@@ -50,10 +50,11 @@ module _ (digest : Bytes → Bytes) (books : ℕ → Type 0) (list : List Member
 -- demand 3 of a list without observers follows
 pub without-observers : (digest : Bytes → Bytes) → ObservedAgreement digest → Agreement digest
 unfolding ObservedAgreement Agreement Meant AnyReads
-without-observers digest observed weights dishonest list third keeps unforged collisionless m m′ part part′ i i′ h h′ x x′ =
+without-observers digest observed weights dishonest list third keeps unforged apart m m′ part part′ i i′ h h′ x x′ =
     observed weights dishonest Nobody (map ofReplica list) third (λ s hs. rw (only-replicas list) (keeps s hs))
-    (λ s never. absurd never) (none-forged digest (HonestIn weights dishonest) list (HonestIn weights dishonest) unforged)
-    (none-collide digest (HonestIn weights dishonest) list collisionless)
+    (λ s never. absurd never)
+    (none-forged digest (HonestIn weights dishonest) list (HonestIn weights dishonest) unforged)
+    (none-collide digest (HonestIn weights dishonest) list apart)
     (ofReplica m) (ofReplica m′) part part′ (among m i) (among m′ i′) h h′ x x′
   where
     among : (x : Member) → List·Memᴰ x list → List·Memᴰ (ofReplica x) (map ofReplica list)

@@ -87,7 +87,8 @@ open-bytes way book n own heights leaders =
     made : firstRefusal (openRows way book n own heights leaders) ≡ none →
         encode (newState way n own leaders) ≡ openedBook way n own heights leaders
     made passes =
-        let ranges = open-ranges way n own heights leaders (open-tested way n own heights leaders book passes .in-ranges) in
+        let ranges = open-ranges way n own heights leaders
+        (open-tested way n own heights leaders book passes .in-ranges) in
         new-book way n own leaders ∙ ap (λ (k : ℕ). openedBook way n own k leaders) (ranges .listed)
 
 -- ---- calls on a sound book, whose numbers are bytes

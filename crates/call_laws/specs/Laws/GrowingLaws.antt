@@ -30,7 +30,8 @@ module _ (digest : Bytes → Bytes) where
       (keep-grows digest s state frame (accepts .read) y e))
       (λ _ _ clear.
       rw (decode-encode (withTimerFired s) (timer-sound digest s state clear .shaped))
-      (unfold withTimerFired withHead in same-grows s (withTimerFired s) (state .shaped) (state .n-high) refl refl refl))
+      (unfold withTimerFired withHead in same-grows s (withTimerFired s) (state .shaped)
+      (state .n-high) refl refl refl))
     where
       s : State
       s = decode book

@@ -48,7 +48,8 @@ module _ (digest : Bytes → Bytes) where
       all (held, subst (λ (k : ℕ). quorum v (votersFor x (digest (x .proposal)) k) ≡ true) (same .same-n) counted)
 
   -- a state with the same heights, the same n and the same weights
-  same-heights : (s s′ : State) → s′ .n ≡ s .n → s′ .weights ≡ s .weights → s′ .heights ≡ s .heights → AllTallied digest s → AllTallied digest s′
+  same-heights : (s s′ : State) → s′ .n ≡ s .n → s′ .weights ≡ s .weights → s′ .heights ≡ s .heights →
+      AllTallied digest s → AllTallied digest s′
   same-heights s s′ e w e′ all h low =
       let here : at s′ h ≡ at s h = unfold at in rw e′ in
       rw here (same-tally (view s) (view s′) (at s h) (views-alike s s′ e w) (all h low))
@@ -72,12 +73,14 @@ module _ (digest : Bytes → Bytes) where
   module _ (way : Opening) (book : Bytes) (n own heights : ℕ) (leaders : Bytes) where
     opened : firstRefusal (openRows way book n own heights leaders) ≡ none →
         AllTallied digest (decode (encode (newState way n own leaders)))
-    opened passes = rw (decode-encode (newState way n own leaders) (new-shaped way n own leaders)) (new-tallied way n own leaders)
+    opened passes = rw (decode-encode (newState way n own leaders) (new-shaped way n own leaders))
+        (new-tallied way n own leaders)
 
     pub open-keeps : AllTallied digest (decode book) →
         AllTallied digest (decode (openCall way book n own heights leaders .book))
     unfolding openCall
-    open-keeps all = unless-refused (λ (b : Bytes). AllTallied digest (decode b)) (openRows way book n own heights leaders)
+    open-keeps all = unless-refused (λ (b : Bytes). AllTallied digest (decode b))
+        (openRows way book n own heights leaders)
         book
         (record { answer = accepted done; book = encode (newState way n own leaders) }) all opened
 
@@ -89,7 +92,8 @@ module _ (digest : Bytes → Bytes) where
         made : Option ℕ → Outcome Done
         made r = unlessRefused r book (record { answer = accepted done; book = encode (newState way n own leaders) })
 
-        go : (r : Option ℕ) → firstRefusal (openRows way book n own heights leaders) ≡ r → made r .answer ≡ accepted done →
+        go : (r : Option ℕ) → firstRefusal (openRows way book n own heights leaders) ≡ r →
+            made r .answer ≡ accepted done →
             AllTallied digest (decode (made r .book))
         go none e accepts = unfold unlessRefused in opened e
         go (some number) e accepts = absurd (refused≢accepted number done (unfold unlessRefused in accepts))
@@ -126,7 +130,11 @@ module _ (digest : Bytes → Bytes) where
     fired : AllTallied digest (decode (encode (withTimerFired s)))
     unfolding withTimerFired withHead
     fired = rewritten (withTimerFired s)
-        (record { weighed = state .shaped .weighed; pool-size = state .shaped .pool-size; heights = state .shaped .heights }) refl
+        (record {
+          weighed = state .shaped .weighed;
+          pool-size = state .shaped .pool-size;
+          heights = state .shaped .heights;
+        }) refl
         refl refl
 
     pub signal-keeps : (h : ℕ) → AllTallied digest (decode (signalCall digest book h .book))

@@ -25,7 +25,11 @@ module _ (digest : Bytes → Bytes) where
   awake-sound o is =
       let count = last-as o in
       record {
-        shaped = record { weighed = is .shaped .weighed; pool-size = is .shaped .pool-size; heights = is .shaped .heights };
+        shaped = record {
+          weighed = is .shaped .weighed;
+          pool-size = is .shaped .pool-size;
+          heights = is .shaped .heights;
+        };
         setting = is .setting;
         n-low = is .n-low;
         n-high = is .n-high;
@@ -46,7 +50,11 @@ module _ (digest : Bytes → Bytes) where
   awake-observer o is holds-none =
       let count = last-as o in
       record {
-        shaped = record { weighed = is .shaped .weighed; pool-size = is .shaped .pool-size; heights = is .shaped .heights };
+        shaped = record {
+          weighed = is .shaped .weighed;
+          pool-size = is .shaped .pool-size;
+          heights = is .shaped .heights;
+        };
         setting = is .setting;
         n-low = is .n-low;
         n-high = is .n-high;

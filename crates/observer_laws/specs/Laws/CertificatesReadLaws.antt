@@ -27,7 +27,8 @@ use Rattle.observer_laws.specs.Laws.CertificateLaws.{readRowsOf, read-ro
 use Rattle.observer_laws.specs.Laws.RefusingLaws.{observer-deliver-refuses}
 
 -- ---- the rows
-read-there : (s t : State) → t .n ≡ s .n → t .weights ≡ s .weights → (frame : Bytes) → isCertificate (kind frame) ≡ true →
+read-there : (s t : State) → t .n ≡ s .n → t .weights ≡ s .weights → (frame : Bytes) →
+    isCertificate (kind frame) ≡ true →
     frameHeight frame ≤ last t → IsRead s frame → firstRefusal (certificateRows t frame) ≡ none
 unfolding certificateRows readRowsOf firstRefusal
 read-there s t e w frame is high read =
@@ -75,7 +76,8 @@ module _ (s : State) (frame : Bytes) where
       go false q f = (cc, unlike-block q)
 
 module _ (digest : Bytes → Bytes) where
-  read-by-observer : (s : State) (other : Bytes) → observerState other .n ≡ s .n → observerState other .weights ≡ s .weights → (frame : Bytes) →
+  read-by-observer : (s : State) (other : Bytes) → observerState other .n ≡ s .n →
+      observerState other .weights ≡ s .weights → (frame : Bytes) →
       isCertificate (kind frame) ≡ true → frameHeight frame ≤ last (observerState other) → IsRead s frame →
       ReadByObserver digest other frame
   read-by-observer s other e w frame is high read = record {
@@ -92,7 +94,8 @@ module _ (digest : Bytes → Bytes) where
       rest is-sound = unfold refusalRows in
           (pass-row _ _ is-sound ∙ pass-rows (certificateRows (observerState other) frame) _ passes)
 
-  all-read : (s : State) (other : Bytes) → observerState other .n ≡ s .n → observerState other .weights ≡ s .weights → {frames : List Bytes} →
+  all-read : (s : State) (other : Bytes) → observerState other .n ≡ s .n → observerState other .weights ≡ s .weights →
+      {frames : List Bytes} →
       Every (IsRead s) frames → CertificatesRead digest frames other
   unfolding CertificatesRead
   all-read s other e w none = none
@@ -100,13 +103,15 @@ module _ (digest : Bytes → Bytes) where
       one (λ is high. read-by-observer s other e w frame is high read) (all-read s other e w reads)
 
   pub move-read-by-observer : DigestSized digest → (book reply other : Bytes) →
-      observerState other .n ≡ decode book .n → observerState other .weights ≡ decode book .weights → MoveReadByObserver digest book reply other
+      observerState other .n ≡ decode book .n → observerState other .weights ≡ decode book .weights →
+      MoveReadByObserver digest book reply other
   move-read-by-observer sized book reply other e w =
       let written = move-written-read digest sized book reply book (same-setting (decode book)) in
       record { says = written .said .says; read = all-read (decode book) other e w (written .said .read) }
 
   pub fetch-read-by-observer : (book : Bytes) (k h : ℕ) (reply other : Bytes) →
-      observerState other .n ≡ decode book .n → observerState other .weights ≡ decode book .weights → FetchReadByObserver digest book k h reply other
+      observerState other .n ≡ decode book .n → observerState other .weights ≡ decode book .weights →
+      FetchReadByObserver digest book k h reply other
   fetch-read-by-observer book k h reply other e w =
       let written = fetch-written-read digest book k h reply book (same-setting (decode book)) in
       record { says = written .said .says; read = all-read (decode book) other e w (written .said .read) }

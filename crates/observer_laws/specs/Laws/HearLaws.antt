@@ -31,7 +31,11 @@ pub alike-self : (s : State) → Alike s s
 alike-self s = record { same-n = refl; same-weights = refl; same-heights = refl }
 
 pub alike-back : {s t : State} → Alike s t → Alike t s
-alike-back alike = record { same-n = sym (alike .same-n); same-weights = sym (alike .same-weights); same-heights = sym (alike .same-heights) }
+alike-back alike = record {
+  same-n = sym (alike .same-n);
+  same-weights = sym (alike .same-weights);
+  same-heights = sym (alike .same-heights);
+}
 
 pub alike-over : {s t u : State} → Alike s t → Alike t u → Alike s u
 alike-over first second = record {

@@ -17,7 +17,8 @@ use Rattle.protocol.specs.Tests.{Row, firstRefusal, inRange}
 use Rattle.protocol.specs.Block.{maximumHeights}
 use Rattle.protocol.specs.State.{Height, noHeight, last, withHead, maximumReplicas}
 use Rattle.protocol.specs.Answer.{done, accepted, unlessRefused}
-use Rattle.protocol.specs.Open.{Opening, openedEdition, openedWeights, weightsInRange, newHeight, newState, startState, openInRange}
+use Rattle.protocol.specs.Open.{Opening, openedEdition, openedWeights, weightsInRange, newHeight, newState, startState}
+use Rattle.protocol.specs.Open.{openInRange}
 use Rattle.protocol.specs.Observer.{ObservedHeight, asReplica, asReplicaHeight, observedHeight, encodeObserver}
 use Rattle.protocol.specs.Observer.{observedBodyBytes}
 use Rattle.protocol.specs.ObserverSound.{observerSound}

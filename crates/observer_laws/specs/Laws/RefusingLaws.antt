@@ -127,7 +127,8 @@ module _ (digest : Bytes → Bytes) where
       observation digest book call .accepted ≡ false → observation digest book call ≡ observesBook book false
   unfolding observation isAccepted observerOpenCall observerDeliverCall observerMoveCall observerMoved
   observer-refused-does-nothing book (observerOpening way n heights) =
-      nothing-done (observesOpening (openedWeights n way)) book (λ number. refl) _ refl (firstRefusal (observerOpenRows way book n heights))
+      nothing-done (observesOpening (openedWeights n way)) book (λ number. refl) _ refl
+      (firstRefusal (observerOpenRows way book n heights))
   observer-refused-does-nothing book (observerDelivery frame) =
       nothing-done (observesDelivery frame) book (λ number. refl)
       (observerKept book frame (keep digest (observerState book) frame))

@@ -74,7 +74,11 @@ certificates-append (x ∷ xs) ys =
 
 pub body-alike : {s t : State} → SameBody s t → Alike s t
 body-alike same =
-    record { same-n = same .same-n; same-weights = same .same-weights; same-heights = ap (map observedHeight) (same .same-heights) }
+    record {
+      same-n = same .same-n;
+      same-weights = same .same-weights;
+      same-heights = ap (map observedHeight) (same .same-heights);
+    }
 
 module _ (digest : Bytes → Bytes) where
   -- certificates, and then those of more frames

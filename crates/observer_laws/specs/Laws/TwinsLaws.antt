@@ -12,11 +12,11 @@ use lib.Dec.{ltb}
 use borrow.Author.Tests.{ltb-true, ltb-false}
 use Rattle.protocol.specs.Bytes.{Bytes}
 use Rattle.protocol.specs.Tests.{firstRefusal}
-use Rattle.protocol.specs.State.{State, at, last, encode, decode, withHead}
+use Rattle.protocol.specs.State.{State, at, last, encode, decode, withHead, padded}
 use Rattle.protocol.specs.View.{isFinalized, largestFinalized}
 use Rattle.protocol.specs.Sound.{view, sound, log}
 use Rattle.protocol.specs.Answer.{Outcome, Move, accepted, done, idle, moveNumber}
-use Rattle.protocol.specs.Open.{Opening, newState, openRows, openCall}
+use Rattle.protocol.specs.Open.{Opening, openedWeights, newState, openRows, openCall}
 use Rattle.protocol.specs.Move.{Step, step, moved, unlessMoveRefused, moveRows, moveCall, newFinalized, outputApplies}
 use Rattle.protocol.specs.Move.{dummyVoteStep, outputStep, passStep, proposeStep, blockVoteStep}
 use Rattle.protocol.specs.Read.{logSize, sizeCall, readPart, readBuffer}
@@ -51,14 +51,15 @@ use Rattle.observer_laws.specs.Laws.ObserverSoundStaysLaws.{observer-mov
 use Rattle.observer_laws.specs.Laws.ObserverOpenLaws.{new-shown, opened-by, observer-opened, new-observer-shaped}
 
 -- ---- new books
-module _ (way : Opening) (n heights own : ℕ) (leaders : Bytes) where
-  new-alike : length leaders ≡ heights → Alike (newState way n own leaders) (asReplica (newObserver way n heights))
+module _ (way observerWay : Opening) (n heights own : ℕ) (leaders : Bytes) where
+  new-alike : openedWeights n observerWay ≡ openedWeights n way → length leaders ≡ heights →
+      Alike (newState way n own leaders) (asReplica (newObserver observerWay n heights))
   unfolding newState newObserver observed asReplica
-  new-alike listed = record {
+  new-alike equal listed = record {
     same-n = refl;
-    same-weights = refl;
+    same-weights = ap padded equal;
     same-heights =
-        ap (λ (o : Observer). o .heights) (observed-as (newObserver way n heights)) ∙
+        ap (λ (o : Observer). o .heights) (observed-as (newObserver observerWay n heights)) ∙
         ap (λ (k : ℕ). replicate k newObservedHeight) (sym listed) ∙ sym (new-shown leaders);
   }
 
@@ -67,21 +68,24 @@ module _ (way : Opening) (n heights own : ℕ) (leaders : Bytes) where
       (length leaders ≡ heights) × (openCall way old n own heights leaders .book ≡ encode (newState way n own leaders))
   unfolding openCall
   opened-new old opened =
-      let (passes, is) = opened-by (openRows way old n own heights leaders) old (encode (newState way n own leaders)) opened in
+      let (passes, is) = opened-by (openRows way old n own heights leaders) old
+      (encode (newState way n own leaders)) opened in
       (open-ranges way n own heights leaders (open-tested way n own heights leaders old passes .in-ranges) .listed, is)
 
-  opened-alike : (old observerOld : Bytes) → openCall way old n own heights leaders .answer ≡ accepted done →
-      observerOpenCall way observerOld n heights .answer ≡ accepted done →
+  opened-alike : openedWeights n observerWay ≡ openedWeights n way → (old observerOld : Bytes) →
+      openCall way old n own heights leaders .answer ≡ accepted done →
+      observerOpenCall observerWay observerOld n heights .answer ≡ accepted done →
       Alike (decode (openCall way old n own heights leaders .book))
-      (observerState (observerOpenCall way observerOld n heights .book))
-  opened-alike old observerOld opened observer-is =
+      (observerState (observerOpenCall observerWay observerOld n heights .book))
+  opened-alike equal old observerOld opened observer-is =
       let (listed, made) = opened-new old opened in
-      let (passes, observer-made) = observer-opened way observerOld n heights observer-is in
-      subst (λ (s : State). Alike s (observerState (observerOpenCall way observerOld n heights .book)))
+      let (passes, observer-made) = observer-opened observerWay observerOld n heights observer-is in
+      subst (λ (s : State). Alike s (observerState (observerOpenCall observerWay observerOld n heights .book)))
       (sym (ap decode made ∙ decode-encode (newState way n own leaders) (new-shaped way n own leaders)))
       (subst (λ (t : State). Alike (newState way n own leaders) t)
       (sym (ap observerState observer-made ∙ ap asReplica
-      (decode-encode-observer (newObserver way n heights) (new-observer-shaped way n heights)))) (new-alike listed))
+      (decode-encode-observer (newObserver observerWay n heights) (new-observer-shaped observerWay n heights))))
+      (new-alike equal listed))
 
 -- ---- idle
 module _ (digest : Bytes → Bytes) where
@@ -171,7 +175,8 @@ module _ (digest : Bytes → Bytes) where
     was = sound-opened digest (both .way) (both .old) (both .n) (both .own) (both .heights) (both .leaders) (is .opened)
 
     observer-was : observerSound digest (observerOpens both .book) ≡ true
-    observer-was = observer-sound-opened digest (both .way) (both .observerOld) (both .n) (both .heights) (is .observer-opened)
+    observer-was = observer-sound-opened digest (both .observerWay) (both .observerOld) (both .n) (both .heights)
+        (is .observer-opened)
 
     pub book-sound : sound digest (bookOf digest both) ≡ true
     book-sound = sound-stays-all digest (opens both .book) (both .calls) was
@@ -195,8 +200,9 @@ module _ (digest : Bytes → Bytes) where
         (alike-back (calls-show digest (opens both .book) was (both .calls) (is .opened-once) (is .certificates)))
         (alike-over
         (hear-all-alike digest
-        (opened-alike (both .way) (both .n) (both .heights) (both .own) (both .leaders) (both .old) (both .observerOld)
-        (is .opened) (is .observer-opened)) (certificatesOf (allGiven (both .calls))) (are-certificates (allGiven (both .calls))))
+        (opened-alike (both .way) (both .observerWay) (both .n) (both .heights) (both .own) (both .leaders)
+        (is .same-weights) (both .old) (both .observerOld) (is .opened) (is .observer-opened))
+        (certificatesOf (allGiven (both .calls))) (are-certificates (allGiven (both .calls))))
         observer-shows)
 
   pub twins : Twins digest

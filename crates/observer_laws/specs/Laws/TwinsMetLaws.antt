@@ -21,6 +21,7 @@ module _ (digest : Bytes → Bytes) where
   unfolding everything histories old observerOld calls observerCalls given allGiven givenToObserver allGivenToObserver
       certificatesOf effects observations block otherBlock entry strangersVote vote
   premises = record {
+    same-weights = refl;
     opened = refl;
     observer-opened = refl;
     opened-once = one refl (one refl (one refl (one refl (one refl (one refl (one refl (one refl (one refl (one refl

@@ -168,7 +168,8 @@ module _ (digest : Bytes → Bytes) (book : Bytes) where
       (448 ≤ length reply) × Passes digest (decode book) (step digest (decode book))
   by-pass reply (byPass r certificate finalized room is) = (room, (certificate, finalized, is))
 
-  by-opening : (way : Opening) (n own heights : ℕ) (leaders : Bytes) → Restarts digest book (opening way n own heights leaders) →
+  by-opening : (way : Opening) (n own heights : ℕ) (leaders : Bytes) →
+      Restarts digest book (opening way n own heights leaders) →
       openCall way book n own heights leaders .answer ≡ accepted done
   by-opening way n own heights leaders (byOpening w m o k l e) = e
 
@@ -291,7 +292,8 @@ module _ (digest : Bytes → Bytes) (book : Bytes) (was : sound digest book ≡ 
       (λ _ set. step-raises digest s clear (sym (flag-back 1 _) ∙ set)))
       (λ f. elim f [ ])
 
-  opening-timer : (way : Opening) (n own heights : ℕ) (leaders : Bytes) → Timer digest book (opening way n own heights leaders)
+  opening-timer : (way : Opening) (n own heights : ℕ) (leaders : Bytes) →
+      Timer digest book (opening way n own heights leaders)
   unfolding effect openCall
   opening-timer way n own heights leaders = clears-flag (opening way n own heights leaders)
       (λ set. unless-refused (λ (b : Bytes). flag 1 (decode b) ≡ false →

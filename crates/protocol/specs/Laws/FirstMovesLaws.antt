@@ -29,11 +29,12 @@ unfolding ones
 none-signed zero = refl
 none-signed (suc n) = rw (none-signed n, zero-div)
 
-module _ (digest : Bytes → Bytes) (n own leader : ℕ) (leaders : Bytes) (ranges : Ranges n own leader leaders) where
-  not-dummy : (flags : ℕ) → isDummy (view (early n own flags 0 0 leader leaders)) 1 ≡ false
+module _ (digest : Bytes → Bytes) (edition n own leader : ℕ) (leaders : Bytes)
+    (ranges : Ranges edition n own leader leaders) where
+  not-dummy : (flags : ℕ) → isDummy (view (early edition n own flags 0 0 leader leaders)) 1 ≡ false
   unfolding isDummy view at firstHeight withMasks newHeight
   not-dummy flags =
-      quorum-even (view (early n own flags 0 0 leader leaders)) n 0
+      quorum-even (view (early edition n own flags 0 0 leader leaders)) n 0
       (padded-front n (replicate n 1) (length-replicate n 1) (ranges .few-replicas)) ∙
       rw (none-signed n) (lt-leb (2 * n) (3 * 0) (omega (arith, ranges .some-replica)))
 
@@ -41,58 +42,61 @@ module _ (digest : Bytes → Bytes) (n own leader : ℕ) (leaders : Bytes) (rang
   zero-below = pow-pos n
 
   -- a book with no masks yet idles unless the replica leads
-  idles : (flags : ℕ) → flags < 16 → dummyVoteApplies (early n own flags 0 0 leader leaders) ≡ false → leader ≢ own →
-      (reply : Bytes) → 448 ≤ length reply → moveCall digest (encode (early n own flags 0 0 leader leaders)) reply
+  idles : (flags : ℕ) → flags < 16 → dummyVoteApplies (early edition n own flags 0 0 leader leaders) ≡ false →
+      leader ≢ own →
+      (reply : Bytes) → 448 ≤ length reply →
+      moveCall digest (encode (early edition n own flags 0 0 leader leaders)) reply
       .answer ≡ accepted idle
   unfolding moved idleStep
   idles flags small quiet other reply room =
       rw (
-        early-move n own flags 0 0 leader leaders ranges small zero-below zero-below digest reply room,
-        step-idle n own flags 0 0 leader leaders ranges small zero-below zero-below digest quiet (not-dummy flags)
+        early-move edition n own flags 0 0 leader leaders ranges small zero-below zero-below digest reply room,
+        step-idle edition n own flags 0 0 leader leaders ranges small zero-below zero-below digest quiet
+            (not-dummy flags)
             other,
       )
 
-  quiet : (flags : ℕ) → flags < 16 → (flag 1 (early n own flags 0 0 leader leaders) &&
-      (not (flag 2 (early n own flags 0 0 leader leaders)) && true)) ≡ false →
-      dummyVoteApplies (early n own flags 0 0 leader leaders) ≡ false
-  quiet flags small e = voting n own flags 0 0 leader leaders ranges small zero-below zero-below digest false e
+  quiet : (flags : ℕ) → flags < 16 → (flag 1 (early edition n own flags 0 0 leader leaders) &&
+      (not (flag 2 (early edition n own flags 0 0 leader leaders)) && true)) ≡ false →
+      dummyVoteApplies (early edition n own flags 0 0 leader leaders) ≡ false
+  quiet flags small e = voting edition n own flags 0 0 leader leaders ranges small zero-below zero-below digest false e
 
   pub new-idle : leader ≢ own → (reply : Bytes) → 448 ≤ length reply →
-      moveCall digest (encode (early n own 0 0 0 leader leaders)) reply .answer ≡ accepted idle
+      moveCall digest (encode (early edition n own 0 0 0 leader leaders)) reply .answer ≡ accepted idle
   unfolding flag
   new-idle = idles 0 (omega arith) (quiet 0 (omega arith) refl)
 
-  pub new-signal : signalCall digest (encode (early n own 0 0 0 leader leaders)) 1 .book ≡ encode
-      (early n own 1 0 0 leader leaders)
+  pub new-signal : signalCall digest (encode (early edition n own 0 0 0 leader leaders)) 1 .book ≡ encode
+      (early edition n own 1 0 0 leader leaders)
   unfolding flag
   new-signal = ap (λ (o : Outcome Done). o .book)
-      (early-signal n own 0 0 0 leader leaders ranges (omega arith) zero-below zero-below digest refl)
+      (early-signal edition n own 0 0 0 leader leaders ranges (omega arith) zero-below zero-below digest refl)
 
   -- the move after the signal
   pub new-vote : (reply : Bytes) → 448 ≤ length reply →
-      moveCall digest (encode (early n own 1 0 0 leader leaders)) reply ≡ moved reply
-      (dummyVoteStep (early n own 1 0 0 leader leaders))
+      moveCall digest (encode (early edition n own 1 0 0 leader leaders)) reply ≡ moved reply
+      (dummyVoteStep (early edition n own 1 0 0 leader leaders))
   unfolding flag
   new-vote reply room =
       rw (
-        early-move n own 1 0 0 leader leaders ranges (omega arith) zero-below zero-below digest reply room,
-        step-vote n own 1 0 0 leader leaders ranges (omega arith) zero-below zero-below digest
-            (voting n own 1 0 0 leader leaders ranges (omega arith) zero-below zero-below digest true refl),
+        early-move edition n own 1 0 0 leader leaders ranges (omega arith) zero-below zero-below digest reply room,
+        step-vote edition n own 1 0 0 leader leaders ranges (omega arith) zero-below zero-below digest
+            (voting edition n own 1 0 0 leader leaders ranges (omega arith) zero-below zero-below digest true refl),
       )
 
   pub voted-idle : leader ≢ own → (reply : Bytes) → 448 ≤ length reply →
-      moveCall digest (encode (early n own 3 0 0 leader leaders)) reply .answer ≡ accepted idle
+      moveCall digest (encode (early edition n own 3 0 0 leader leaders)) reply .answer ≡ accepted idle
   unfolding flag
   voted-idle = idles 3 (omega arith) (quiet 3 (omega arith) refl)
 
   -- a replica that leads height 1 proposes
   pub new-propose : leader ≡ own → (reply : Bytes) → 448 ≤ length reply →
-      moveCall digest (encode (early n own 0 0 0 leader leaders)) reply ≡ moved reply
-      (proposeStep digest (early n own 0 0 0 leader leaders))
+      moveCall digest (encode (early edition n own 0 0 0 leader leaders)) reply ≡ moved reply
+      (proposeStep digest (early edition n own 0 0 0 leader leaders))
   unfolding flag
   new-propose lead reply room =
       rw (
-        early-move n own 0 0 0 leader leaders ranges (omega arith) zero-below zero-below digest reply room,
-        step-propose n own 0 0 0 leader leaders ranges (omega arith) zero-below zero-below digest
+        early-move edition n own 0 0 0 leader leaders ranges (omega arith) zero-below zero-below digest reply room,
+        step-propose edition n own 0 0 0 leader leaders ranges (omega arith) zero-below zero-below digest
             (quiet 0 (omega arith) refl) (not-dummy 0) lead refl,
       )

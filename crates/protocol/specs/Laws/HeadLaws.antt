@@ -7,7 +7,8 @@ use mathlib.Core.Bool.{Bool, true, false, cond}
 use mathlib.Core.List.{List, [], _∷_, _++_, map, append-assoc, append-nil}
 use lib.Dec.{eqb}
 use native.Mathlib.Nat.{add-zero, le-of-suc-le-suc, not-suc-le-zero}
-use lib.ListN.{getD, length, take, drop, drop-of-length-le, replicate, length-append, length-map, length-drop, length-replicate}
+use lib.ListN.{getD, length, take, drop, drop-of-length-le, replicate, length-append, length-map, length-drop}
+use lib.ListN.{length-replicate}
 use lib.ListN.{replicate-append-replicate, getD-replicate, List·getD-append}
 use lib.Seq.{getD-take, take-append-add, take-at, drop-at, take-all, take-add, drop-drop, take-take, length-take-le}
 use Rattle.protocol.specs.SoundState.{Weighed}
@@ -17,7 +18,8 @@ use Rattle.protocol.specs.State.{State, headBytes, padded, evenly, words
 use Rattle.protocol.specs.State.{headUnused}
 use Rattle.protocol.specs.Laws.RowLaws.{zeros-is-zero, is-zero-byte}
 use Rattle.protocol.specs.Laws.BytesLaws.{length-zeros, zeros-add, zero-part, word16-le16, word-low, word-high}
-use Rattle.protocol.specs.Laws.BytesLaws.{are-bytes-take, are-bytes-drop, length-part, firsts, spell, word-part, part-part}
+use Rattle.protocol.specs.Laws.BytesLaws.{are-bytes-take, are-bytes-drop, length-part, firsts, spell, word-part}
+use Rattle.protocol.specs.Laws.BytesLaws.{part-part}
 use Rattle.protocol.specs.Laws.PiecesLaws.{length-join, pieces-join, length-pieces, get-pieces, join-append}
 
 -- ---- numbers of two bytes
@@ -162,7 +164,8 @@ module _ (s : State) (more : Bytes) where
       isZero (cond b (part (headBytes s ++ more) 8 56) (part (headBytes s ++ more) 40 24)) ≡ true
   none-from true e = rw (take-add-part, weights-from, e refl, zeros-from, zeros-add 32 24) (zeros-is-zero 56)
     where
-      take-add-part : part (headBytes s ++ more) 8 56 ≡ part (headBytes s ++ more) 8 32 ++ part (headBytes s ++ more) 40 24
+      take-add-part : part (headBytes s ++ more) 8 56 ≡
+          part (headBytes s ++ more) 8 32 ++ part (headBytes s ++ more) 40 24
       take-add-part = unfold part in
           take-add 32 24 (drop 8 (headBytes s ++ more)) ∙ rw (drop-drop 32 8 (headBytes s ++ more))
   none-from false e = rw zeros-from (zeros-is-zero 24)
@@ -190,7 +193,8 @@ rest-back book long small = go (eqb (byteAt book 7) 1)
     split = unfold part in take-add 32 24 (drop 8 book) ∙ rw (drop-drop 32 8 book)
 
     go : (b : Bool) → isZero (cond b (part book 8 56) (part book 40 24)) ≡ true →
-        cond b (zeros 32) (take 32 (join (map le16 (cond b (evenly (byteAt book 0)) (words 16 (part book 8 32)))) ++ zeros
+        cond b (zeros 32) (take 32
+        (join (map le16 (cond b (evenly (byteAt book 0)) (words 16 (part book 8 32)))) ++ zeros
         32)) ++ zeros 24 ≡ part book 8 56
     go true z = zeros-add 32 24 ∙ sym (zero-part book 8 56 (omega arith) z)
     go false z =

@@ -78,7 +78,14 @@ module _ (digest : Bytes → Bytes) where
   pub moves-body : (k : ℕ) (s : State) → SameBody s (afterMoves digest k s)
   unfolding afterMoves
   moves-body zero s =
-      record { same-n = refl; same-pool = refl; same-heights = refl; same-weights = refl; same-view = refl; same-weighed = λ w. w }
+      record {
+        same-n = refl;
+        same-pool = refl;
+        same-heights = refl;
+        same-weights = refl;
+        same-view = refl;
+        same-weighed = λ w. w;
+      }
   moves-body (suc k) s =
       let first = step-body s in
       let rest = moves-body k (step digest s .after) in

@@ -56,15 +56,15 @@ module _ (digest : Bytes → Bytes) (s : State) (bare : (h : ℕ) → isNotarize
       (λ _ _ _ _ _. refl) (λ _ _ _ _ _. refl)
 
 -- ---- a book at its first height: its moves
-module _ (n own flags dummy final leader : ℕ) (leaders : Bytes) (ranges : Ranges n own leader leaders)
+module _ (edition n own flags dummy final leader : ℕ) (leaders : Bytes) (ranges : Ranges edition n own leader leaders)
     (flags-below : flags < 16) (dummy-below : dummy < 2 ^ n) (final-below : final < 2 ^ n) (digest : Bytes → Bytes)
   where
     abbrev E : State
-    E = early n own flags dummy final leader leaders
+    E = early edition n own flags dummy final leader leaders
 
     pub early-not-notarized : (h : ℕ) → isNotarized (at E h) ≡ false
     unfolding isNotarized
-    early-not-notarized h = rw (early-bare n own flags dummy final leader leaders ranges flags-below dummy-below
+    early-not-notarized h = rw (early-bare edition n own flags dummy final leader leaders ranges flags-below dummy-below
         final-below h .nothing)
 
     pub early-move : (reply : Bytes) → 448 ≤ length reply →
@@ -72,8 +72,8 @@ module _ (n own flags dummy final leader : ℕ) (leaders : Bytes) (ranges : Rang
     unfolding moveCall moveRows firstRefusal unlessMoveRefused
     early-move reply room =
         rw (
-          early-sound n own flags dummy final leader leaders ranges flags-below dummy-below final-below digest,
-          early-back n own flags dummy final leader leaders ranges flags-below dummy-below final-below,
+          early-sound edition n own flags dummy final leader leaders ranges flags-below dummy-below final-below digest,
+          early-back edition n own flags dummy final leader leaders ranges flags-below dummy-below final-below,
           le-leb 448 (length reply) room,
         )
 
@@ -124,12 +124,12 @@ module _ (n own flags dummy final leader : ℕ) (leaders : Bytes) (ranges : Rang
     has-first = range-in 1 (suc (length (map newHeight leaders))) 1 (omega arith) (omega arith)
 
     pub early-signal : flag 1 E ≡ false → signalCall digest (encode E) 1 ≡
-        record { answer = accepted done; book = encode (early n own (flags + 1) dummy final leader leaders) }
+        record { answer = accepted done; book = encode (early edition n own (flags + 1) dummy final leader leaders) }
     unfolding signalCall signalRows firstRefusal unlessRefused withTimerFired withHead
     early-signal e =
         rw (
-          early-sound n own flags dummy final leader leaders ranges flags-below dummy-below final-below digest,
-          early-back n own flags dummy final leader leaders ranges flags-below dummy-below final-below,
+          early-sound edition n own flags dummy final leader leaders ranges flags-below dummy-below final-below digest,
+          early-back edition n own flags dummy final leader leaders ranges flags-below dummy-below final-below,
           has-first,
           e,
         )
@@ -148,10 +148,10 @@ module _ (n own flags dummy final leader : ℕ) (leaders : Bytes) (ranges : Rang
 
     kept-first : (frame : Bytes) (m q : ℕ) → frameHeight frame ≡ 1 →
         kept digest (encode E) frame (some (firstHeight leader m q)) ≡
-        record { answer = accepted fresh; book = encode (early n own flags m q leader leaders) }
+        record { answer = accepted fresh; book = encode (early edition n own flags m q leader leaders) }
     unfolding kept withHeight
     kept-first frame m q e =
-        rw (early-back n own flags dummy final leader leaders ranges flags-below dummy-below final-below, e)
+        rw (early-back edition n own flags dummy final leader leaders ranges flags-below dummy-below final-below, e)
 
     vote-kind : (s : ℕ) → isProposal (kind (dummyVote s 1)) ≡ false
     unfolding dummyVote frameOf kind
@@ -162,12 +162,15 @@ module _ (n own flags dummy final leader : ℕ) (leaders : Bytes) (ranges : Rang
     vote-height s = refl
 
     pub early-vote : (s : ℕ) → s < n → inMask dummy s ≡ false → deliverCall digest (encode E) (dummyVote s 1) ≡
-        record { answer = accepted fresh; book = encode (early n own flags (dummy + 2 ^ s) final leader leaders) }
+        record {
+          answer = accepted fresh;
+          book = encode (early edition n own flags (dummy + 2 ^ s) final leader leaders);
+        }
     unfolding deliverCall heard deliverRows firstRefusal unlessRefused
     early-vote s h e =
         rw (
-          early-sound n own flags dummy final leader leaders ranges flags-below dummy-below final-below digest,
-          early-back n own flags dummy final leader leaders ranges flags-below dummy-below final-below,
+          early-sound edition n own flags dummy final leader leaders ranges flags-below dummy-below final-below digest,
+          early-back edition n own flags dummy final leader leaders ranges flags-below dummy-below final-below,
           vote-rows s h,
           no-proposal E (dummyVote s 1) (vote-kind s),
           keep-vote s e,
@@ -208,13 +211,13 @@ module _ (n own flags dummy final leader : ℕ) (leaders : Bytes) (ranges : Rang
         record {
           answer = accepted fresh;
           book = encode
-              (early n own flags dummy (union n final (word16 (le16 mask) 0)) leader leaders);
+              (early edition n own flags dummy (union n final (word16 (le16 mask) 0)) leader leaders);
         }
     unfolding deliverCall heard deliverRows firstRefusal unlessRefused
     early-certificate mask below enough new =
         rw (
-          early-sound n own flags dummy final leader leaders ranges flags-below dummy-below final-below digest,
-          early-back n own flags dummy final leader leaders ranges flags-below dummy-below final-below,
+          early-sound edition n own flags dummy final leader leaders ranges flags-below dummy-below final-below digest,
+          early-back edition n own flags dummy final leader leaders ranges flags-below dummy-below final-below,
           certificate-rows mask below enough,
           no-proposal E (finalizeCertificate 1 mask) (certificate-kind mask),
           keep-certificate mask new,

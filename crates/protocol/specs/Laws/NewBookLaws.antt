@@ -12,6 +12,7 @@ use borrow.Author.Tests.{ltb-true}
 use Rattle.protocol.specs.SoundState.{ShapedHeight, Shaped, SoundHeight}
 use Rattle.protocol.specs.Every.{Every, none, one}
 use Rattle.protocol.specs.Bytes.{Bytes, zeros, all}
+use Rattle.protocol.specs.Tests.{inRange}
 use Rattle.protocol.specs.Laws.TestsLaws.{and-both}
 use Rattle.protocol.specs.Block.{maximumHeights}
 use Rattle.protocol.specs.State.{State, Height, at, last, encode, decode, noHeight, holdsProposal, isNotarized}
@@ -99,13 +100,15 @@ bare-sound v h x b = record {
 }
 
 -- ---- the state
--- the new state of these leaders, but with flags, and with a dummy and a finalize mask at height 1
-module _ (n own flags dummy final leader : ℕ) (leaders : Bytes) where
+-- the new state of these leaders where all replicas weigh 1, but with flags, and with a dummy and a finalize mask at
+-- height 1
+module _ (edition n own flags dummy final leader : ℕ) (leaders : Bytes) where
   abbrev pub early : State
-  early = startState 1 n (replicate n 1) own flags (firstHeight leader dummy final ∷ map newHeight leaders)
+  early = startState edition n (replicate n 1) own flags (firstHeight leader dummy final ∷ map newHeight leaders)
 
--- what Open asks of its arguments, for a list of leaders that is not empty
-pub record Ranges (n own leader : ℕ) (leaders : Bytes) : Type 0 where
+-- an edition that is known, and what Open asks of its arguments, for a list of leaders that is not empty
+pub record Ranges (edition n own leader : ℕ) (leaders : Bytes) : Type 0 where
+  pub known-edition : inRange 1 2 edition ≡ true
   pub some-replica : 1 ≤ n
   pub few-replicas : n ≤ maximumReplicas
   pub own-below : own < n
@@ -113,10 +116,10 @@ pub record Ranges (n own leader : ℕ) (leaders : Bytes) : Type 0 where
   pub leaders-below : all (λ x. ltb x n) leaders ≡ true
   pub few-heights : length leaders < maximumHeights
 
-module _ (n own flags dummy final leader : ℕ) (leaders : Bytes) (ranges : Ranges n own leader leaders)
+module _ (edition n own flags dummy final leader : ℕ) (leaders : Bytes) (ranges : Ranges edition n own leader leaders)
     (flags-below : flags < 16) (dummy-below : dummy < 2 ^ n) (final-below : final < 2 ^ n) where
   abbrev E : State
-  E = early n own flags dummy final leader leaders
+  E = early edition n own flags dummy final leader leaders
 
   pub early-bare : (h : ℕ) → Bare n (at E h)
   unfolding at
@@ -125,10 +128,10 @@ module _ (n own flags dummy final leader : ℕ) (leaders : Bytes) (ranges : Rang
       (one (first-bare n leader dummy final (ranges .leader-below) dummy-below final-below)
       (all-bare n leaders (ranges .leaders-below)))
 
-  early-shaped : Shaped E
+  pub early-shaped : Shaped E
   unfolding zeros newState
   early-shaped = record {
-    weighed = even-weighed n;
+    weighed = even-weighed edition n;
     pool-size = refl;
     heights =
         one (first-shaped leader dummy final) (new-shaped unweighed n own leaders .heights);
@@ -143,7 +146,7 @@ module _ (n own flags dummy final leader : ℕ) (leaders : Bytes) (ranges : Rang
       let count = length-map leaders newHeight in
       sound-encode digest E (record {
         shaped = early-shaped;
-        setting = even-setting n (ranges .some-replica) (ranges .few-replicas);
+        setting = even-setting edition n (ranges .known-edition) (ranges .few-replicas);
         n-low = ranges .some-replica;
         n-high = ranges .few-replicas;
         own-below = ranges .own-below;

@@ -18,7 +18,8 @@ use Rattle.protocol.specs.Every.{Every, none, one}
 use Rattle.protocol.specs.Bytes.{Bytes, le16, zeros, all, join, put, AreBytes}
 use Rattle.protocol.specs.State.{State, Height, at, last, noHeight, withHeight, encode, headBytes, contentBytes}
 use Rattle.protocol.specs.State.{bodyBytes, padded, evenly, words, maximumWeight}
-use Rattle.protocol.specs.Open.{Opening, unweighed, weighed, openedEdition, openedWeights, weightsInRange, newHeight}
+use Rattle.protocol.specs.Open.{Opening, unweighed, weighed, openedEdition, openedWeights, weightsInRange}
+use Rattle.protocol.specs.Open.{newHeight}
 use Rattle.protocol.specs.Open.{newState}
 use Rattle.protocol.specs.Laws.CodecLaws.{at-suc}
 use Rattle.protocol.specs.Laws.PlaceLaws.{with-at}
@@ -41,12 +42,12 @@ new-heights-shaped (leader ∷ leaders) = one (new-height-shaped leader) (new-he
 
 -- ---- the weights of a new state
 -- every replica weighs 1
-pub even-weighed : (n : ℕ) → Weighed 1 n (padded (replicate n 1))
-even-weighed n = record { sixteen = padded-sixteen (replicate n 1); even = λ e. unfold evenly in refl }
+pub even-weighed : (edition n : ℕ) → Weighed edition n (padded (replicate n 1))
+even-weighed edition n = record { sixteen = padded-sixteen (replicate n 1); even = λ e. unfold evenly in refl }
 
 pub opened-weighed : (way : Opening) (n : ℕ) → Weighed (openedEdition way) n (padded (openedWeights n way))
 unfolding openedEdition openedWeights
-opened-weighed unweighed n = even-weighed n
+opened-weighed unweighed n = even-weighed 1 n
 opened-weighed (weighed weights) n = record {
   sixteen = padded-sixteen (words n weights);
   even = λ e. absurd (false≢true e);
@@ -85,9 +86,20 @@ opened-setting (weighed weights) n high e = record {
       (and-both (eqb (length weights) (2 * n)) (all (λ w. inRange 1 maximumWeight w) (words n weights)) e .1);
 }
 
-pub even-setting : (n : ℕ) → 1 ≤ n → n ≤ 16 → SoundSetting 1 n (padded (replicate n 1))
-unfolding openedEdition openedWeights weightsInRange
-even-setting n low high = opened-setting unweighed n high refl
+-- where all weigh 1, in each edition that is known
+pub even-setting : (edition n : ℕ) → inRange 1 2 edition ≡ true → n ≤ 16 →
+    SoundSetting edition n (padded (replicate n 1))
+unfolding openedWeights weightsInRange
+even-setting edition n known high = record {
+  edition-row = known;
+  weights-row = opened-setting unweighed n high refl .weights-row;
+}
+
+-- an opening makes an edition that is known
+pub opened-known : (way : Opening) → inRange 1 2 (openedEdition way) ≡ true
+unfolding openedEdition inRange
+opened-known unweighed = refl
+opened-known (weighed weights) = refl
 
 pub new-shaped : (way : Opening) (n own : ℕ) (leaders : Bytes) → Shaped (newState way n own leaders)
 unfolding newState

@@ -36,4 +36,8 @@ module _ (digest : Bytes → Bytes) (book : Bytes) where
       let shaped : Shaped s = observer-state-shaped book (exact-observer digest book was-sound) in
       state-encode-observer (withHead s (s .flags) (s .current) g)
       (observing-finalized s (observing-as (decodeObserver book)) g)
-      (unfold withHead in record { weighed = shaped .weighed; pool-size = shaped .pool-size; heights = shaped .heights })
+      (unfold withHead in record {
+        weighed = shaped .weighed;
+        pool-size = shaped .pool-size;
+        heights = shaped .heights;
+      })

@@ -88,7 +88,8 @@ module _ (o : Observer) where
   observing-finalized-as : (g : ℕ) → Observing (withHead (asReplica o) 0 0 g)
   unfolding asReplica observed withHead
   observing-finalized-as g =
-      ap (withReplicaHeights (record { edition = o .edition; n = o .n; weights = o .weights; finalized = g; heights = o .heights }))
+      ap (withReplicaHeights
+      (record { edition = o .edition; n = o .n; weights = o .weights; finalized = g; heights = o .heights }))
       (ap (map asReplicaHeight) (observed-heights (o .heights)))
 
 pub observing-with : (s : State) → Observing s → (h : ℕ) (x : Height) → ObservingHeight x → Observing (withHeight s h x)

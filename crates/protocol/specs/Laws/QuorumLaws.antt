@@ -130,18 +130,3 @@ unfolding inMask
 weighed-bit mask s w =
     ap (λ (x : ℕ). w * x) (bit-weight (mask / 2 ^ s % 2) (mod-lt _ (omega arith)))
     ∙ times-test (eqb (mask / 2 ^ s % 2) 1) w
-
--- ---- what two quorums share
-pub quorums-third : (v v′ : View) (a b : ℕ) → v′ .weights ≡ v .weights → quorum v a ≡ true → quorum v′ b ≡ true →
-    totalWeight v ≤ 3 * weigh (λ t. inMask a t && inMask b t) (v .weights)
-unfolding quorum
-quorums-third v v′ a b e p q =
-    quorums-share (λ t. inMask a t) (λ t. inMask b t) (v .weights)
-    (leb-true (2 * total (v .weights)) (3 * weigh (λ t. inMask a t) (v .weights)) p)
-    (leb-true (2 * total (v .weights)) (3 * weigh (λ t. inMask b t) (v .weights))
-    (subst (λ (ws : List ℕ). leb (2 * total ws) (3 * weigh (λ t. inMask b t) ws) ≡ true) e q))
-
--- where all weigh 1: a third of the replicas
-pub equal-third : (v v′ : View) (n a b : ℕ) → v .weights ≡ replicate n 1 → v′ .weights ≡ replicate n 1 →
-    quorum v a ≡ true → quorum v′ b ≡ true → n ≤ 3 * weigh (λ t. inMask a t && inMask b t) (replicate n 1)
-equal-third v v′ n a b e e′ p q = rw (e, total-equal n) at (quorums-third v v′ a b (e′ ∙ sym e) p q)

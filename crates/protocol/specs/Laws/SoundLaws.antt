@@ -25,7 +25,8 @@ use Rattle.protocol.specs.Laws.StateLaws.{decode-encode}
 use Rattle.protocol.specs.Laws.BytesLaws.{zero-part}
 use Rattle.protocol.specs.Laws.CodecLaws.{Exact, Clean, last-decode, decode-shaped, clean-back, notarized-in}
 use Rattle.protocol.specs.Laws.PlaceLaws.{clean-encode}
-use Rattle.protocol.specs.Laws.SoundRowNames.{lengthRow, replicasRow, ownRow, heightsRow, editionRow, weightsRow, currentRow}
+use Rattle.protocol.specs.Laws.SoundRowNames.{lengthRow, replicasRow, ownRow, heightsRow, editionRow, weightsRow}
+use Rattle.protocol.specs.Laws.SoundRowNames.{currentRow}
 use Rattle.protocol.specs.Laws.SoundRowNames.{flagsRow, pendingRow, leadersRow, masksRow, statusRow, blocksRow}
 use Rattle.protocol.specs.Laws.SoundRowNames.{certifiedRow, headZerosRow, contentZerosRow, finalizedRow}
 
