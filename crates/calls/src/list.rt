@@ -5,7 +5,9 @@ use exchange_list::buffers::keep;
 use exchange_list::buffers::load;
 use exchange_list::line::call_text;
 use exchange_list::line::is_remark;
+use exchange_list::line::is_unweighed;
 use exchange_list::line::misfit;
+use exchange_list::line::unweighed;
 use exchange_list::operands::Operands;
 use exchange_list::operands::kept;
 use exchange_list::operands::read;
@@ -58,6 +60,11 @@ fn make(line: &[u8], memory: &mut [u8], table: &mut [usize; 32]) -> usize {
 fn play_line(line: &[u8], number: usize, memory: &mut [u8], table: &mut [usize; 32]) {
     if is_remark(line) {
         text(line);
+        return;
+    }
+    if is_unweighed(line) {
+        text(line);
+        unweighed();
         return;
     }
     let call = call_text(line);

@@ -1,4 +1,5 @@
 // Each call on what it is lent, and what it prints: the answer, and the digests of the buffers afterwards.
+use exchange_list::literal::literal;
 use exchange_list::operands::Call;
 use exchange_list::operands::kept;
 use exchange_list::operands::named;
@@ -17,11 +18,17 @@ fn number(line: &[u8], k: usize) -> usize {
     amount(word(line, k))
 }
 
+// Open: the roll is lent, and the weights are the word before it.
 fn open(line: &[u8], book: &mut [u8], roll: &[u8]) {
     let n = number(line, 2);
     let own = number(line, 3);
     let heights = number(line, 4);
-    answered::done(replica::open::open(book, n, own, heights, roll));
+    let mut room = io::large_buffer();
+    let size = literal(word(line, 5), &mut room);
+    if size <= room.len() {
+        let weights = &room[..size];
+        answered::done(replica::open::open(book, n, own, heights, weights, roll));
+    }
 }
 
 // Read, by the part that it returns.
@@ -30,10 +37,10 @@ fn read(book: &[u8], buffer: &mut [u8]) {
     answered::part(part.len());
 }
 
-fn observer_open(line: &[u8], book: &mut [u8]) {
+fn observer_open(line: &[u8], book: &mut [u8], weights: &[u8]) {
     let n = number(line, 2);
     let heights = number(line, 3);
-    answered::done(observer::open::open(book, n, heights));
+    answered::done(observer::open::open(book, n, heights, weights));
 }
 
 fn observer_read(book: &[u8], buffer: &mut [u8]) {
@@ -44,7 +51,7 @@ fn observer_read(book: &[u8], buffer: &mut [u8]) {
 // The call of an observer's line.
 fn observer_answer(line: &[u8], book: &mut [u8], lent: &mut [u8]) {
     match named(line) {
-        Call::ObserverOpen => observer_open(line, book),
+        Call::ObserverOpen => observer_open(line, book, lent),
         Call::ObserverDeliver => answered::delivered(observer::deliver::deliver(book, lent)),
         Call::ObserverMove => answered::moved(observer::make_move::make_move(book)),
         Call::ObserverSize => answered::size(observer::read::size(book)),

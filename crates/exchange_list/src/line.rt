@@ -7,6 +7,11 @@ pub fn is_remark(line: &[u8]) -> bool {
     if line.len() == 0 || line[0] == b'#' {
         return true;
     }
+    check::same(line, b"mavunilai exchange 2")
+}
+
+// Whether a line is the heading of lists before books had weights.
+pub fn is_unweighed(line: &[u8]) -> bool {
     check::same(line, b"mavunilai exchange 1")
 }
 
@@ -21,6 +26,12 @@ pub fn call_text(line: &[u8]) -> &[u8] {
     }
     let end = sign - 1;
     &line[0..end]
+}
+
+// What is printed behind that heading: what has changed since.
+pub fn unweighed() {
+    text(b"\nlists say `mavunilai exchange 2` now: `open` has the weights before the roll, ");
+    text(b"and `observer-open` at its end, two bytes a station");
 }
 
 // Names a line and the word in it that does not fit.

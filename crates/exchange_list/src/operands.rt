@@ -80,16 +80,16 @@ pub fn named(line: &[u8]) -> Call {
 }
 
 // The words behind the name, a digit each, from the last digit on: 1 a buffer, 2 a number, 3 bytes. What a call is lent
-// besides its book is the last word.
+// besides its book is the last word; Open is lent the bytes of the word before it too.
 fn shape(call: Call) -> usize {
     match call {
-        Call::Open => 32221,
+        Call::Open => 332221,
         Call::Give | Call::Deliver | Call::Packet | Call::Submit | Call::ObserverDeliver => 31,
         Call::Move | Call::Read | Call::ObserverRead => 11,
         Call::Signal => 21,
         Call::Size | Call::ObserverMove | Call::ObserverSize => 1,
         Call::Fetch => 1221,
-        Call::ObserverOpen => 221,
+        Call::ObserverOpen => 3221,
         Call::Unknown => 0,
     }
 }
@@ -121,7 +121,7 @@ pub enum Operands {
     Wrong(usize),
 }
 
-// Reads the words of a line, and puts the bytes of its literal at the front of `out`.
+// Reads the words of a line, and puts the bytes of its last literal at the front of `out`.
 fn read_words(line: &[u8], table: &[usize; 32], out: &mut [u8]) -> Operands {
     let mut left = shape(named(line));
     let mut size = 0;
@@ -129,7 +129,7 @@ fn read_words(line: &[u8], table: &[usize; 32], out: &mut [u8]) -> Operands {
     if left == 0 {
         return Operands::Wrong(1);
     }
-    while k < 6 && left > 0 {
+    while k < 7 && left > 0 {
         size = operand(left % 10, word(line, k), table, out);
         if out.len() < size {
             return Operands::Wrong(k + 1);

@@ -2,13 +2,13 @@
 use Prim.Native.Nat.{ℕ, _+_, _*_, _≤_, _<_}
 use native.Mathlib.Omega.{arith}
 use mathlib.Core.Path.{_≡_, refl, sym, _∙_}
-use mathlib.Core.Bool.{Bool, true, false, _&&_, true≢false, and-true, and-false}
+use mathlib.Core.Bool.{Bool, true, false, _&&_, true≢false, and-true}
 use lib.ListN.{length, getD}
 use lib.Dec.{eqb, leb, ltb}
-use borrow.Author.Tests.{lt-ltb, le-ltb, le-leb, lt-leb, eq-eqb, ne-eqb}
+use borrow.Author.Tests.{lt-ltb, le-ltb, eq-eqb, ne-eqb}
 use Rattle.protocol.specs.Bytes.{Bytes, all}
 use Rattle.protocol.specs.Tests.{allOf, inRange}
-use Rattle.protocol.specs.State.{bookSize, maximumReplicas, maximumWeight, words}
+use Rattle.protocol.specs.State.{bookSize, maximumReplicas}
 use Rattle.protocol.specs.Open.{weighed, weightsInRange, openInRange}
 use Rattle.protocol.specs.Frame.{isCertificate}
 use Rattle.protocol.specs.Laws.RowLaws.{not-passed, in-range, all-at, at-all}
@@ -33,27 +33,12 @@ module _ (n : ℕ) (leaders : Bytes) where
   not-below i inside high = sym (not-passed (all (λ leader. ltb leader n) leaders)
       (λ e. true≢false (sym (all-at (λ leader. ltb leader n) leaders i e inside) ∙ le-ltb (getD leaders i 0) n high)))
 
-pub weights-fit : (n : ℕ) (weights : Bytes) → length weights ≡ 2 * n →
-    all (λ w. inRange 1 maximumWeight w) (words n weights) ≡ weightsInRange n (weighed weights)
-unfolding weightsInRange
-weights-fit n weights e = rw (eq-eqb (length weights) (2 * n) e)
-
-pub weights-many : (n : ℕ) (weights : Bytes) → (length weights ≡ 2 * n → ⊥) → false ≡ weightsInRange n (weighed weights)
-unfolding weightsInRange
-weights-many n weights f = rw (ne-eqb (length weights) (2 * n) f)
-
-pub open-fits : (n own heights : ℕ) (weights leaders : Bytes) → n ≤ maximumReplicas →
-    (leb 1 n && (ltb own n && ((leb 1 heights && leb heights maximumHeights) && (eqb (length leaders) heights &&
-    (all (λ leader. ltb leader n) leaders && weightsInRange n (weighed weights)))))) ≡
+pub open-fits : (n own heights : ℕ) (weights leaders : Bytes) →
+    ((leb 1 n && leb n maximumReplicas) && (ltb own n && ((leb 1 heights && leb heights maximumHeights) &&
+    (eqb (length leaders) heights && (all (λ leader. ltb leader n) leaders && weightsInRange n (weighed weights)))))) ≡
     openInRange (weighed weights) n own heights leaders
 unfolding openInRange allOf inRange
-open-fits n own heights weights leaders high =
-    rw (le-leb n maximumReplicas high) (simp and-true)
-
-pub open-many : (n own heights : ℕ) (weights leaders : Bytes) → maximumReplicas < n →
-    false ≡ openInRange (weighed weights) n own heights leaders
-unfolding openInRange allOf inRange
-open-many n own heights weights leaders high = rw (lt-leb n maximumReplicas high) (simp and-false)
+open-fits n own heights weights leaders = rw (and-true (weightsInRange n (weighed weights)))
 
 pub long-enough : (book : Bytes) (heights : ℕ) → length book ≡ 576 + 880 * heights →
     eqb (length book) (bookSize heights) ≡ true

@@ -1,13 +1,10 @@
-// Open: a new book for `n` replicas, the replica's own number, and the leader of each height.
+// Open: whether its numbers, weights and leaders are in their ranges.
 use book_fields::bounds::MAXIMUM_HEIGHTS;
 use book_fields::bounds::MAXIMUM_REPLICAS;
-use wire::weights::in_range;
 ghost use mathlib.Core.Path.{_≡_};
-ghost use Prim.Native.Nat.{_≤_};
 ghost use lib.Dec.{ltb};
 ghost use Rattle.protocol.specs.Bytes.{all};
-ghost use Rattle.protocol.specs.State.{maximumReplicas};
-ghost use Rattle.protocol.specs.Open.{weighed, weightsInRange, openInRange};
+ghost use Rattle.protocol.specs.Open.{weighed, openInRange};
 
 // Whether every leader is one of the `n` replicas. One pass, up to the first that is not.
 fn leaders_below(leaders: &[u8], n: usize) -> bool
@@ -25,29 +22,15 @@ fn leaders_below(leaders: &[u8], n: usize) -> bool
     true
 }
 
-// Whether there are `n` weights of two bytes, each of 1 to 1,000.
-fn weights_fit(weights: &[u8], n: usize) -> bool
-    requires { ⌜ n ≤ maximumReplicas ⌝ }
-    ensures { λ r. ⌜ r ≡ weightsInRange n (weighed (now (weights .entry))) ⌝ }
-{
-    if weights.len() == 2 * n {
-        in_range(weights, n)
-    } else {
-        false
-    }
-}
-
-// Whether the numbers are in their ranges, the leaders are as many as the heights, and the weights as the replicas.
+// Whether the numbers are in their ranges, and weights and leaders too, as many as there are replicas and heights.
 pub fn numbers_fit(n: usize, own: usize, heights: usize, weights: &[u8], leaders: &[u8]) -> bool
     ensures { λ r. ⌜ r ≡ openInRange (weighed (now (weights .entry))) n own heights (now (leaders .entry)) ⌝ }
 {
-    if n <= MAXIMUM_REPLICAS {
-        let count = (1 <= heights) & (heights <= MAXIMUM_HEIGHTS);
-        let listed = leaders.len() == heights;
-        let led = leaders_below(leaders, n);
-        let fit = weights_fit(weights, n);
-        (1 <= n) & ((own < n) & (count & (listed & (led & fit))))
-    } else {
-        false
-    }
+    let replicas = (1 <= n) & (n <= MAXIMUM_REPLICAS);
+    let place = own < n;
+    let count = (1 <= heights) & (heights <= MAXIMUM_HEIGHTS);
+    let listed = leaders.len() == heights;
+    let led = leaders_below(leaders, n);
+    let weighed = wire::weights::fit(weights, n);
+    replicas & (place & (count & (listed & (led & weighed))))
 }

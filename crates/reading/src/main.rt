@@ -18,7 +18,7 @@ fn moved(before: [u8; 1456]) -> [u8; 1456] {
 // the byte 1 and "swap plots 1,14".
 fn settled() -> [u8; 1456] {
     let mut book = [0u8; 1456];
-    replica::open::open(&mut book, 1, 0, 1, &[0]);
+    replica::open::open(&mut book, 1, 0, 1, &[1, 0], &[0]);
     replica::submit::submit(&mut book, b"\x01swap plots 1,14");
     moved(moved(moved(moved(book))))
 }

@@ -1,6 +1,6 @@
-// The rehearsal of document 01: one replica of four stations, number 2, with three heights led by 0, 1 and 2. It reads
-// frames from standard input, delivers each (a short last one too), and then moves until idle; its own frames are not
-// fed back.
+// The rehearsal of document 01: one replica of four stations that weigh 1 each, number 2, with three heights led by 0, 1
+// and 2. It reads frames from standard input, delivers each (a short last one too), and then moves until idle; its own
+// frames are not fed back.
 mod printed;
 
 use answers::answer::Moved;
@@ -28,7 +28,7 @@ fn next_frame(book: &mut [u8], reply: &mut [u8]) -> bool {
 fn main() {
     let mut book = [0u8; 3216];
     let mut reply = [0u8; 448];
-    replica::open::open(&mut book, 4, 2, 3, &[0, 1, 2]);
+    replica::open::open(&mut book, 4, 2, 3, &[1, 0, 1, 0, 1, 0, 1, 0], &[0, 1, 2]);
     let mut turns = u64::MAX;
     while turns > 0 && next_frame(&mut book, &mut reply) {
         turns -= 1;

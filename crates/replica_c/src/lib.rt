@@ -7,7 +7,7 @@
 ghost use mathlib.Core.Path.{_≡_};
 ghost use lib.ListN.{length};
 ghost use Rattle.sha256.specs.Digest.{sha256};
-ghost use Rattle.protocol.specs.Open.{openCall};
+ghost use Rattle.protocol.specs.Open.{weighed, openCall};
 ghost use Rattle.protocol.specs.Deliver.{deliverCall};
 ghost use Rattle.protocol.specs.Packet.{packetCall};
 ghost use Rattle.protocol.specs.Move.{moveCall};
@@ -22,8 +22,8 @@ ghost use Rattle.sha256_c.specs.DigestCall.{digestNumber};
 ghost use Rattle.sha256_c.specs.Written.{written};
 ghost use Rattle.packing.specs.Packing.{packedDone, packedDelivery, packedPacket, countsAfter, packedMove, packedSize};
 
-// Open: makes a new book for replica `own` of `n`; byte h - 1 of `leaders` is the leader of height h. The book's old
-// bytes do not matter.
+// Open: makes a new book for replica `own` of `n`; bytes 2 s and 2 s + 1 of `weights` are the weight of replica s, the
+// low byte first, and byte h - 1 of `leaders` is the leader of height h. The book's old bytes do not matter.
 // Returns 0 where it is made. Refusals, the first that applies: 2, 1 (`openCall`).
 #[no_mangle]
 pub extern "C" fn mavunilai_open(
@@ -31,13 +31,15 @@ pub extern "C" fn mavunilai_open(
     n: usize,
     own: usize,
     heights: usize,
+    weights: &[u8],
     leaders: &[u8],
 ) -> usize
-    ensures answer { λ r. ⌜ r ≡
-        packedDone (openCall (now (book .entry)) n own heights (now (leaders .entry)) .answer) ⌝ }
-    ensures book { λ _. ⌜ now (book .exit) ≡ openCall (now (book .entry)) n own heights (now (leaders .entry)) .book ⌝ }
+    ensures answer { λ r. ⌜ r ≡ packedDone (openCall
+        (weighed (now (weights .entry))) (now (book .entry)) n own heights (now (leaders .entry)) .answer) ⌝ }
+    ensures book { λ _. ⌜ now (book .exit) ≡
+        openCall (weighed (now (weights .entry))) (now (book .entry)) n own heights (now (leaders .entry)) .book ⌝ }
 {
-    packing::done_number(replica::open::open(book, n, own, heights, leaders))
+    packing::done_number(replica::open::open(book, n, own, heights, weights, leaders))
 }
 
 // Deliver: keeps what a frame says, whose signatures the caller has checked; a leader's second proposal for the current
@@ -138,15 +140,22 @@ pub extern "C" fn mavunilai_size(book: &[u8]) -> usize
     packing::size_number(replica::read::size(book))
 }
 
-// Open of an observer: makes a new book for one who follows the log of `n` replicas and has no vote. The book's old
-// bytes do not matter.
+// Open of an observer: makes a new book for one who follows the log of `n` replicas and has no vote; `weights` as in
+// `mavunilai_open`. The book's old bytes do not matter.
 // Returns 0 where it is made. Refusals, the first that applies: 2, 1 (`observerOpenCall`).
 #[no_mangle]
-pub extern "C" fn mavunilai_observer_open(book: &mut [u8], n: usize, heights: usize) -> usize
-    ensures answer { λ r. ⌜ r ≡ packedDone (observerOpenCall (now (book .entry)) n heights .answer) ⌝ }
-    ensures book { λ _. ⌜ now (book .exit) ≡ observerOpenCall (now (book .entry)) n heights .book ⌝ }
+pub extern "C" fn mavunilai_observer_open(
+    book: &mut [u8],
+    n: usize,
+    heights: usize,
+    weights: &[u8],
+) -> usize
+    ensures answer { λ r. ⌜ r ≡
+        packedDone (observerOpenCall (weighed (now (weights .entry))) (now (book .entry)) n heights .answer) ⌝ }
+    ensures book { λ _. ⌜ now (book .exit) ≡
+        observerOpenCall (weighed (now (weights .entry))) (now (book .entry)) n heights .book ⌝ }
 {
-    packing::done_number(observer::open::open(book, n, heights))
+    packing::done_number(observer::open::open(book, n, heights, weights))
 }
 
 // Deliver to an observer: keeps what a certificate says, whose signatures the caller has checked.
@@ -208,5 +217,5 @@ pub extern "C" fn mavunilai_digest(bytes: &[u8], digest: &mut [u8]) -> usize
 pub extern "C" fn mavunilai_interface() -> usize
     ensures { λ r. ⌜ r ≡ interfaceNumber ⌝ }
 {
-    5
+    6
 }

@@ -1,15 +1,16 @@
 -- What Open and Move of an observer answer, row by row: the first test that fails decides.
 use Prim.Native.Nat.{ℕ, _+_, _*_, _≤_, _<_}
 use mathlib.Core.Path.{_≡_, sym, ap, _∙_}
-use mathlib.Core.Bool.{true, false, _&&_, and-true}
+use mathlib.Core.Bool.{Bool, true, false, _&&_, and-true}
 use lib.ListN.{length}
-use lib.Dec.{leb}
-use borrow.Author.Tests.{leb-true, eq-eqb, ne-eqb, lt-ltb, le-ltb}
+use lib.Dec.{leb, eqb}
+use borrow.Author.Tests.{leb-true, eqb-true, eq-eqb, ne-eqb, lt-ltb, le-ltb}
 use Rattle.sha256.specs.Digest.{sha256}
 use Rattle.protocol.specs.Bytes.{Bytes}
 use Rattle.protocol.specs.Tests.{allOf, inRange, firstRefusal}
 use Rattle.protocol.specs.Block.{maximumHeights}
 use Rattle.protocol.specs.State.{maximumReplicas, withHead}
+use Rattle.protocol.specs.Open.{weighed, weightsInRange}
 use Rattle.protocol.specs.Answer.{Outcome, Done, Move, done, refused, accepted, unlessRefused}
 use Rattle.protocol.specs.Move.{newFinalized, outputApplies, outputStep, firstStep, idleStep}
 use Rattle.protocol.specs.Observer.{observerBookSize, observed, encodeObserver, decodeObserver, observerState}
@@ -22,44 +23,52 @@ use Rattle.answers.specs.Answers.{movedAnswer}
 use Rattle.answers.specs.declared.answer.Moved.the-variants as Moved
 
 -- ---- Open
--- the numbers are in their ranges
-abbrev pub numbersFit : ℕ → ℕ → Type 0
-numbersFit n heights = ((leb 1 n && leb n maximumReplicas) && (leb 1 heights && leb heights maximumHeights)) ≡ true
-
-pub open-ranges : (n heights : ℕ) → numbersFit n heights → (n ≤ maximumReplicas) × (heights ≤ maximumHeights)
-open-ranges n heights e =
-    let (replicas, count) = and-both (leb 1 n && leb n maximumReplicas) _ e in
-    (leb-true _ _ (and-both (leb 1 n) _ replicas .1), leb-true _ _ (and-both (leb 1 heights) _ count .1))
-
 abbrev opened : Bytes → Outcome Done
 opened book = record { answer = accepted done; book = book }
 
 abbrev unopened : Bytes → ℕ → Outcome Done
 unopened book number = record { answer = refused number; book = book }
 
-module _ (book : Bytes) (n heights : ℕ) where
-  pub open-unfit : ((leb 1 n && leb n maximumReplicas) && (leb 1 heights && leb heights maximumHeights)) ≡ false →
-      observerOpenCall book n heights ≡ unopened book 2
-  unfolding observerOpenCall observerOpenRows firstRefusal unlessRefused allOf inRange
-  open-unfit e = rw (and-true (leb 1 heights && leb heights maximumHeights), e)
+module _ (n heights : ℕ) (weights : Bytes) where
+  -- numbers and weights are in their ranges, as the code tests it
+  abbrev pub inRanges : Bool
+  inRanges =
+      (leb 1 n && leb n maximumReplicas) &&
+      ((leb 1 heights && leb heights maximumHeights) && weightsInRange n (weighed weights))
 
-  pub open-short : numbersFit n heights → (length book ≡ 64 + 184 * heights → ⊥) →
-      observerOpenCall book n heights ≡ unopened book 1
-  unfolding observerOpenCall observerOpenRows firstRefusal unlessRefused allOf inRange observerBookSize
-  open-short e f = rw (
-    and-true (leb 1 heights && leb heights maximumHeights),
-    e,
-    ne-eqb (length book) (64 + 184 * heights) f,
-  )
+  pub record OpenRanges : Type 0 where
+    pub n-high : n ≤ maximumReplicas
+    pub heights-high : heights ≤ maximumHeights
+    pub as-many : length weights ≡ 2 * n
 
-  pub open-done : numbersFit n heights → length book ≡ 64 + 184 * heights →
-      observerOpenCall book n heights ≡ opened (encodeObserver (newObserver n heights))
-  unfolding observerOpenCall observerOpenRows firstRefusal unlessRefused allOf inRange observerBookSize
-  open-done e f = rw (
-    and-true (leb 1 heights && leb heights maximumHeights),
-    e,
-    eq-eqb (length book) (64 + 184 * heights) f,
-  )
+  pub open-ranges : inRanges ≡ true → OpenRanges
+  unfolding weightsInRange
+  open-ranges e =
+      let (replicas, rest) = and-both (leb 1 n && leb n maximumReplicas) _ e in
+      let (count, given) = and-both (leb 1 heights && leb heights maximumHeights) _ rest in
+      record {
+        n-high = leb-true _ _ (and-both (leb 1 n) _ replicas .1);
+        heights-high = leb-true _ _ (and-both (leb 1 heights) _ count .1);
+        as-many = eqb-true _ _ (and-both (eqb (length weights) (2 * n)) _ given .0);
+      }
+
+  module _ (book : Bytes) where
+    pub open-unfit : inRanges ≡ false → observerOpenCall (weighed weights) book n heights ≡ unopened book 2
+    unfolding observerOpenCall observerOpenRows firstRefusal unlessRefused allOf inRange
+    open-unfit e = rw (and-true (weightsInRange n (weighed weights)), e)
+
+    pub open-short : inRanges ≡ true → (length book ≡ 64 + 184 * heights → ⊥) →
+        observerOpenCall (weighed weights) book n heights ≡ unopened book 1
+    unfolding observerOpenCall observerOpenRows firstRefusal unlessRefused allOf inRange observerBookSize
+    open-short e f =
+        rw (and-true (weightsInRange n (weighed weights)), e, ne-eqb (length book) (64 + 184 * heights) f)
+
+    pub open-done : inRanges ≡ true → length book ≡ 64 + 184 * heights →
+        observerOpenCall (weighed weights) book n heights ≡
+        opened (encodeObserver (newObserver (weighed weights) n heights))
+    unfolding observerOpenCall observerOpenRows firstRefusal unlessRefused allOf inRange observerBookSize
+    open-done e f =
+        rw (and-true (weightsInRange n (weighed weights)), e, eq-eqb (length book) (64 + 184 * heights) f)
 
 -- ---- Move
 module _ (book : Bytes) where

@@ -11,7 +11,7 @@ use Rattle.protocol.specs.Laws.TestsLaws.{and-both, cond-elim}
 use Rattle.protocol.specs.Laws.RowLaws.{in-range}
 use Rattle.protocol.specs.Sound.{sound}
 use Rattle.protocol.specs.Answer.{refused, accepted, Outcome, unlessRefused}
-use Rattle.protocol.specs.Open.{openRows, openCall}
+use Rattle.protocol.specs.Open.{Opening, openRows, openCall}
 use Rattle.protocol.specs.Deliver.{readRows, clashRows, deliverRows, deliverCall}
 use Rattle.protocol.specs.Packet.{packetRows, packetCall}
 use Rattle.protocol.specs.Signal.{signalRows, signalCall}
@@ -56,10 +56,10 @@ outcome-numbered rows all book o ok = go (firstRefusal rows) (first-numbered row
     go (some number) e = unfold unlessRefused in refused-numbered number (e number refl)
 
 -- ---- each call
-pub open-numbered : (book : Bytes) (n own heights : ℕ) (leaders : Bytes) →
-    Numbered (openCall book n own heights leaders .answer)
+pub open-numbered : (way : Opening) (book : Bytes) (n own heights : ℕ) (leaders : Bytes) →
+    Numbered (openCall way book n own heights leaders .answer)
 unfolding openCall openRows allNumbered inRange
-open-numbered book n own heights leaders = outcome-numbered _ refl book _ (accepted-numbered _)
+open-numbered way book n own heights leaders = outcome-numbered _ refl book _ (accepted-numbered _)
 
 module _ (digest : Bytes → Bytes) (book : Bytes) where
   pub deliver-numbered : (frame : Bytes) → Numbered (deliverCall digest book frame .answer)

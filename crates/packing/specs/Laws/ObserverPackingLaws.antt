@@ -9,6 +9,7 @@ use Rattle.protocol.specs.Bytes.{Bytes}
 use Rattle.protocol.specs.Block.{maximumHeights}
 use Rattle.protocol.specs.State.{Height, last}
 use Rattle.protocol.specs.Sound.{view}
+use Rattle.protocol.specs.Open.{Opening}
 use Rattle.protocol.specs.Move.{newFinalized}
 use Rattle.protocol.specs.Answer.{Answer, Outcome, Move, moveNumber, moveHeight}
 use Rattle.protocol.specs.Deliver.{readRows, clashRows, keep}
@@ -32,10 +33,10 @@ use Rattle.packing.specs.Unpacking.{unpackedFrames, unpackedFinalize}
 use Rattle.packing.specs.Laws.NumberedLaws.{allNumbered, accepted-numbered, refused-numbered, outcome-numbered}
 use Rattle.packing.specs.Laws.ReadBackLaws.{done-read-back, delivery-read-back, move-read-back, size-read-back}
 
-pub observer-open-read : (book : Bytes) (n heights : ℕ) →
-    DoneRead (packedDone (observerOpenCall book n heights .answer)) (observerOpenCall book n heights .answer)
+pub observer-open-read : (way : Opening) (book : Bytes) (n heights : ℕ) →
+    DoneRead (packedDone (observerOpenCall way book n heights .answer)) (observerOpenCall way book n heights .answer)
 unfolding observerOpenCall observerOpenRows allNumbered inRange
-observer-open-read book n heights = done-read-back _ (outcome-numbered _ refl book _ (accepted-numbered _))
+observer-open-read way book n heights = done-read-back _ (outcome-numbered _ refl book _ (accepted-numbered _))
 
 -- how many frames the header's function tells, by the move's number
 abbrev framesOf : Answer Move → ℕ

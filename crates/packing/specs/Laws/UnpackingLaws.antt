@@ -3,7 +3,7 @@ use Prim.Native.Nat.{ℕ}
 use mathlib.Core.Path.{_≡_}
 use lib.ListN.{length}
 use Rattle.protocol.specs.Bytes.{Bytes}
-use Rattle.protocol.specs.Open.{openCall}
+use Rattle.protocol.specs.Open.{Opening, openCall}
 use Rattle.protocol.specs.Deliver.{deliverCall}
 use Rattle.protocol.specs.Packet.{packetCall}
 use Rattle.protocol.specs.Signal.{signalCall}
@@ -22,9 +22,10 @@ use Rattle.packing.specs.Laws.ReadBackLaws.{move-read-back, size-read-ba
 use Rattle.packing.specs.Laws.FrameCountLaws.{move-counted}
 
 -- ---- each call
-pub open-read : (book : Bytes) (n own heights : ℕ) (leaders : Bytes) →
-    DoneRead (packedDone (openCall book n own heights leaders .answer)) (openCall book n own heights leaders .answer)
-open-read book n own heights leaders = done-read-back _ (open-numbered book n own heights leaders)
+pub open-read : (way : Opening) (book : Bytes) (n own heights : ℕ) (leaders : Bytes) →
+    DoneRead (packedDone (openCall way book n own heights leaders .answer))
+    (openCall way book n own heights leaders .answer)
+open-read way book n own heights leaders = done-read-back _ (open-numbered way book n own heights leaders)
 
 module _ (digest : Bytes → Bytes) (book : Bytes) where
   pub deliver-read : (frame : Bytes) →
