@@ -42,7 +42,7 @@ const DAMAGED: [&str; 6] = [
 ];
 
 /// What befell votes for a page, and networks.
-pub const NAMES: [&str; 8] = [
+pub const NAMES: [&str; 9] = [
     NOTARISED,
     BY_NUMBER,
     WEIGHTS_BEFORE_LENGTH,
@@ -51,6 +51,7 @@ pub const NAMES: [&str; 8] = [
     "network: a book of edition 1 among others of edition 2",
     "network: an observer's book of edition 1",
     "network: a third or more are dishonest by number, not by weight",
+    "network: a certificate of a quorum by number alone is sent",
 ];
 
 const NOTARISED: &str = "weights: a page notarised by just two thirds of the weight";
@@ -151,7 +152,7 @@ fn beside(mask: u16, weights: &Weights) -> Ordering {
 
 /// The kinds of a certificate.
 fn certificate(book: &[u8], frame: &[u8], answer: Answer) -> Vec<&'static str> {
-    if !frame.first().is_some_and(|kind| *kind >= 5) {
+    if frame.first().is_none_or(|kind| *kind < 5) {
         return Vec::new();
     }
     let (mask, weights) = (mask_at(frame, 4), Weights::of(book));
