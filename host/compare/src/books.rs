@@ -44,7 +44,8 @@ fn opened(weights: &[u16], own: u8, leaders: &[u8]) -> Vec<u8> {
     book.map_or_else(|_| Vec::new(), |book| book.bytes().to_vec())
 }
 
-/// A sound book of either edition with any weights, any flags, any current height, junk in every free byte, and blocks that may not fit together.
+/// A sound book of either edition with any weights, any flags, any current height, junk in every free byte, and blocks
+/// that may not fit together.
 pub fn strange_book(random: &mut Random, heights: Height) -> Vec<u8> {
     let (n, own, leaders) = arguments_for(random, heights);
     let mut book = opened(&any_weights(random, n), own, &leaders);

@@ -125,10 +125,13 @@ impl<A: Calls, B: Second> Network<'_, A, B> {
         honest.chain(self.honest..self.n).fold(0, |mask, signer| mask | 1 << signer)
     }
 
-    /// Sends a certificate to some, if its mask is a quorum.
+    /// Sends a certificate to some, if its mask is a quorum, or is one by the number of its stations alone.
     fn whisper_if_quorum(&mut self, mask: u16, frame: Frame) {
         if is_quorum(mask, &self.weights) {
             self.saw("a certificate sent to some only");
+            self.whisper(&frame);
+        } else if is_quorum(mask, &vec![1; self.n.into()]) {
+            self.saw("a certificate of a quorum by number alone is sent");
             self.whisper(&frame);
         }
     }

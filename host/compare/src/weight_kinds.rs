@@ -42,7 +42,7 @@ const DAMAGED: [&str; 6] = [
 ];
 
 /// What befell votes for a page, and networks.
-pub const NAMES: [&str; 8] = [
+pub const NAMES: [&str; 9] = [
     NOTARISED,
     BY_NUMBER,
     WEIGHTS_BEFORE_LENGTH,
@@ -51,6 +51,7 @@ pub const NAMES: [&str; 8] = [
     "network: a book of edition 1 among others of edition 2",
     "network: an observer's book of edition 1",
     "network: a third or more are dishonest by number, not by weight",
+    "network: a certificate of a quorum by number alone is sent",
 ];
 
 const NOTARISED: &str = "weights: a page notarised by just two thirds of the weight";

@@ -54,8 +54,8 @@ impl Faulty {
         let mut book = book.to_vec();
         let heights = *book.get(field::HEIGHTS)?;
         match self.0 {
-            Fault::TakesACurrentHeight => book[field::CURRENT] = 0,
-            Fault::TakesAnOwnNumber => book[field::OWN] = 0,
+            Fault::TakesACurrentHeight => *book.get_mut(field::CURRENT)? = 0,
+            Fault::TakesAnOwnNumber => *book.get_mut(field::OWN)? = 0,
             Fault::TakesAHeldState => {
                 let layout = ObserverLayout::new(heights);
                 for height in 1..=heights {

@@ -3,7 +3,7 @@
 #[macro_use]
 mod as_reference;
 
-use compare::run;
+use compare::{run, walk, Pair};
 use reference::Rules;
 use types::{field, is_observers, mask_at, put_first_edition, put_weights, weight_bytes};
 use types::{Calls, Counts, Delivered, Move, Weights, EDITION, FIRST_EDITION};
@@ -11,7 +11,7 @@ use types::{Calls, Counts, Delivered, Move, Weights, EDITION, FIRST_EDITION};
 /// What a faulty replica does wrong.
 #[derive(Clone, Copy, Debug, PartialEq, Eq)]
 enum Fault {
-    NoFault,
+    Nothing,
     CountsStations,
     ObserverCountsStations,
     ExactlyTwoThirdsIsNone,
@@ -48,9 +48,10 @@ struct Faulty(Fault);
 
 const RULES: Rules = Rules::SHA256;
 
-/// The head of a book from its edition on.
+/// The head of a book from its edition on, or as much of it as there is.
 fn head(book: &mut [u8]) -> Option<&mut [u8]> {
-    book.get_mut(field::EDITION..64)
+    let end = book.len().min(64);
+    book.get_mut(field::EDITION..end)
 }
 
 /// Sets a book's weights as this edition has them.
@@ -67,10 +68,12 @@ impl Faulty {
         self.0 == fault
     }
 
-    /// The weights that this one takes a book to have.
+    /// The weights that this one takes a book to have, if those that it has are in range.
     fn taken(&self, book: &[u8]) -> Option<Vec<u16>> {
         let weights = Weights::of(book).each().to_vec();
-        let sound = Calls::size(&RULES, book).is_ok() || Calls::observer_size(&RULES, book).is_ok();
+        let in_range = weights.iter().all(|weight| (1..=1000).contains(weight));
+        let mut same = book.to_vec();
+        put(&mut same, *book.get(field::EDITION)?, &weights);
         match (self.0, is_observers(book)) {
             (CountsStations, false) | (ObserverCountsStations, true) => {
                 Some(vec![1; weights.len()])
@@ -78,11 +81,11 @@ impl Faulty {
             (HighByteLeftOut, _) => Some(weights.iter().map(|weight| weight % 256).collect()),
             _ => None,
         }
-        .filter(|_| sound)
+        .filter(|_| in_range && same == book)
     }
 
     /// Makes a call as if the book had the weights that this one takes it to have, or were sound as it takes it to be.
-    fn as_taken<T>(&self, book: &mut [u8], call: impl Fn(&mut [u8]) -> T) -> T {
+    fn as_taken<T>(&self, book: &mut [u8], call: impl FnOnce(&mut [u8]) -> T) -> T {
         let kept = head(book).map(|head| head.to_vec());
         match (self.taken(book), self.repaired(book)) {
             (Some(weights), _) => put(book, EDITION, &weights),
@@ -217,7 +220,7 @@ impl Faulty {
 }
 
 impl Calls for Faulty {
-    as_reference! { signal submit read fetch observer_read }
+    as_reference! { signal submit }
 
     fn open(
         &self,
@@ -250,7 +253,7 @@ impl Calls for Faulty {
     }
 
     fn make_move(&self, book: &mut [u8], reply: &mut [u8]) -> Result<Move, u8> {
-        let made = Calls::make_move(&RULES, book, reply)?;
+        let made = self.as_taken(book, |book| Calls::make_move(&RULES, book, reply))?;
         if made != Move::Idle {
             self.raise(MoveRaisesEdition, book);
         }
@@ -259,6 +262,18 @@ impl Calls for Faulty {
 
     fn size(&self, book: &[u8]) -> Result<u64, u8> {
         self.as_taken(&mut book.to_vec(), |book| Calls::size(&RULES, book))
+    }
+
+    fn read(&self, book: &[u8], buffer: &mut [u8]) -> u64 {
+        self.as_taken(&mut book.to_vec(), |book| Calls::read(&RULES, book, buffer))
+    }
+
+    fn fetch(&self, book: &[u8], kind: u64, height: u64, reply: &mut [u8]) -> Result<(), u8> {
+        self.as_taken(&mut book.to_vec(), |book| Calls::fetch(&RULES, book, kind, height, reply))
+    }
+
+    fn observer_read(&self, book: &[u8], buffer: &mut [u8]) -> u64 {
+        self.as_taken(&mut book.to_vec(), |book| Calls::observer_read(&RULES, book, buffer))
     }
 
     fn observer_open(
@@ -282,7 +297,7 @@ impl Calls for Faulty {
     }
 
     fn observer_move(&self, book: &mut [u8]) -> Result<Move, u8> {
-        let made = Calls::observer_move(&RULES, book)?;
+        let made = self.as_taken(book, |book| Calls::observer_move(&RULES, book))?;
         if made != Move::Idle {
             self.raise(ObserverMoveRaisesEdition, book);
         }
@@ -299,7 +314,7 @@ const CALLS: u64 = 40_000;
 
 #[test]
 fn no_fault_is_found_where_none_is() {
-    run(RULES, Faulty(NoFault), 3, CALLS).unwrap();
+    run(RULES, Faulty(Nothing), 3, CALLS).unwrap();
 }
 
 #[test]
@@ -338,13 +353,16 @@ fn each_fault_is_found() {
     }
 }
 
-/// Faults that both have show by what the logs must be: in networks of unequal weights a count forks them.
+/// Faults that both have show by what the logs must be. Where stations count, and the dishonest are many and light,
+/// two honest logs fork.
 #[test]
 fn faults_that_both_have_are_found() {
-    let both = |fault, seed| {
-        let found = run(Faulty(fault), Faulty(fault), seed, CALLS);
-        found.err().unwrap_or_default()
+    let both = || Pair::new(Faulty(CountsStations), Faulty(CountsStations));
+    let found = |mut pair: Pair<Faulty, Faulty>, seed| {
+        walk(&mut pair, seed, CALLS).err().map(|stop| stop.to_string()).unwrap_or_default()
     };
-    let found: Vec<String> = (1..=8).map(|seed| both(CountsStations, seed)).collect();
-    assert!(found.iter().any(|found| found.contains("read different logs")), "{found:?}");
+    let beside = found(both(), 1);
+    assert!(beside.contains("a station and an observer beside it read different"), "{beside}");
+    let alone = (1..=8).map(|seed| found(both().without_observers(), seed));
+    assert!(alone.into_iter().any(|found| found.contains("two honest logs fork")));
 }
