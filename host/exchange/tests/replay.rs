@@ -121,6 +121,35 @@ fn every_digit_of_the_digests_counts() {
     }
 }
 
+/// Lines that no list has.
+const BAD: [&str; 25] = [
+    "opne book 4 2 1 0100 00",
+    "open book 4 2 1",
+    "open book 4 2 1 00",
+    "open book 4 2 x 0100 00",
+    "open book 4 2 1 010 00",
+    "observer-open book 4 1",
+    "observer-open book 4 1 x",
+    "signal book -1",
+    "signal book 18446744073709551616",
+    "deliver book 0",
+    "packet book",
+    "packet book 0",
+    "packet book 00 00",
+    "move book book",
+    "move book",
+    "give book",
+    "size book =",
+    "size book = size 0",
+    "size book = size 0 00",
+    "size book = done = done",
+    "size book == size 0",
+    "size book == size 0 0",
+    "size book == size 0 00 = size 0 00",
+    "size missing",
+    "move book missing",
+];
+
 #[test]
 fn bad_lists_get_a_sentence() {
     assert!(problem("").is_some());
@@ -128,35 +157,7 @@ fn bad_lists_get_a_sentence() {
     let zeros = "0".repeat(64);
     let with_two = format!("size book = size 0 {zeros} {zeros}");
     let without_third = format!("packet book - = counts 0 0 {zeros}");
-    for line in [
-        "opne book 4 2 1 0100 00",
-        "open book 4 2 1",
-        "open book 4 2 1 00",
-        "open book 4 2 x 0100 00",
-        "open book 4 2 1 010 00",
-        "observer-open book 4 1",
-        "observer-open book 4 1 x",
-        "signal book -1",
-        "signal book 18446744073709551616",
-        "deliver book 0",
-        "packet book",
-        "packet book 0",
-        "packet book 00 00",
-        "move book book",
-        "move book",
-        "give book",
-        "size book =",
-        "size book = size 0",
-        "size book = size 0 00",
-        "size book = done = done",
-        "size book == size 0",
-        "size book == size 0 0",
-        "size book == size 0 00 = size 0 00",
-        "size missing",
-        "move book missing",
-        &with_two,
-        &without_third,
-    ] {
+    for line in BAD.into_iter().chain([with_two.as_str(), &without_third]) {
         let text = format!("{HEADING}\ngive book 00*576\n{line}\n");
         let found = problem(&text);
         assert!(
