@@ -27,7 +27,8 @@ doing s = record { answer = accepted done; book = encode s }
 
 -- ---- Open
 module _ (way : Opening) (book : Bytes) (n own heights : ℕ) (leaders : Bytes) where
-  pub open-unfit : openInRange way n own heights leaders ≡ false → openCall way book n own heights leaders ≡ refusal book 2
+  pub open-unfit : openInRange way n own heights leaders ≡ false →
+      openCall way book n own heights leaders ≡ refusal book 2
   unfolding openCall openRows firstRefusal unlessRefused
   open-unfit e = rw e
 
