@@ -8,7 +8,7 @@ use Rattle.protocol.specs.SoundState.{SoundState}
 use Rattle.protocol.specs.Bytes.{Bytes, byteAt, word16}
 use Rattle.protocol.specs.Block.{maximumHeights}
 use Rattle.protocol.specs.State.{State, Height, at, last, decode, encode, withHeight, bookHeights, maximumReplicas}
-use Rattle.protocol.specs.View.{View}
+use Rattle.protocol.specs.View.{View, totalWeight}
 use Rattle.protocol.specs.Sound.{view, sound}
 use Rattle.protocol.specs.Observer.{observerState, decodeObserver, encodeObserver, observed}
 use Rattle.protocol.specs.ObserverSound.{observerSound}
@@ -86,6 +86,7 @@ pub record Shown (kind : Kind) (book : Bytes) : Type 0 where
   pub weighs : (s : ℕ) → s < byteAt book 0 →
       word16 book (8 + 2 * s) + cond (eqb (byteAt book 7) 1) 1 0 ≡ getD (viewOf kind book .weights) s 0
   pub weight-each : length (viewOf kind book .weights) ≡ byteAt book 0
+  pub some-weight : 1 ≤ totalWeight (viewOf kind book)
 
 -- of a replica's book
 abbrev pub Readable : Bytes → Type 0

@@ -3,3 +3,4 @@ pub mod BookLaws
 pub mod HeadLaws
 pub mod ObserverBookLaws
 pub mod SettingRowsLaws
+pub mod WeightLaws

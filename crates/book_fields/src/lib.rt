@@ -7,3 +7,4 @@ pub mod observed;
 pub mod pool;
 pub mod quorum;
 pub mod setting;
+pub mod weighing;

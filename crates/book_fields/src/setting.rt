@@ -8,8 +8,8 @@ ghost use lib.ListN.{length};
 ghost use Rattle.protocol.specs.Tests.{allOf};
 ghost use Rattle.book_fields.specs.Setting.{weightRows, settingRows};
 
-// Whether n replicas, at most 16, have weights that fit: edition 1 has none, edition 2 two bytes each, and zeros for the
-// replicas that are absent.
+// Whether the weights of n replicas are in range, and what is unused is zero: edition 1 has no weights, edition 2 two
+// bytes for each replica, and then zeros, those of absent replicas first.
 fn weights_sound(book: &[u8], n: usize, edition: usize) -> bool
     requires { ⌜ (64 ≤ length (now book)) × (n ≤ 16) ⌝ }
     ensures { λ r. ⌜ r ≡ allOf (weightRows n edition (now (book .entry))) ⌝ }
@@ -17,10 +17,9 @@ fn weights_sound(book: &[u8], n: usize, edition: usize) -> bool
     if edition == 1 {
         is_zero(&book[8..64])
     } else {
-        let there = wire::weights::in_range(&book[8..40], n);
-        let absent = is_zero(&book[8 + 2 * n..40]);
-        let unused = is_zero(&book[40..64]);
-        (there & absent) & unused
+        let weights = wire::weights::in_range(&book[8..40], n);
+        let rest = is_zero(&book[8 + 2 * n..64]);
+        weights & rest
     }
 }
 

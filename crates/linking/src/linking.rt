@@ -118,7 +118,8 @@ pub fn extends(kind: Kind, book: &[u8], h: usize, block: &[u8], known: &mut [u8]
     false
 }
 
-// Whether height `h` is finalized (document 01: settled). The quorum is tested first, so that no walk is made in vain.
+// Whether height `h` is finalized (document 01: settled). The quorum is tested first, so that no walk is made in vain;
+// where nobody has finalized it, nothing is weighed.
 pub fn is_finalized(kind: Kind, book: &[u8], h: usize, known: &mut [u8]) -> bool
     requires { ⌜ Shown kind (now book) ⌝ }
     requires { ⌜ MemoAs kind (now book) (now known) ⌝ }
@@ -126,7 +127,11 @@ pub fn is_finalized(kind: Kind, book: &[u8], h: usize, known: &mut [u8]) -> bool
     ensures answer { λ r. ⌜ r ≡ isFinalized sha (viewOf kind (now (book .entry))) h ⌝ }
     ensures memo { λ _. ⌜ MemoAs kind (now (book .entry)) (now (known .exit)) ⌝ }
 {
-    if book_fields::kind::quorum(kind, book, book_fields::kind::finalize_mask(kind, book, h)) {
+    let mask = book_fields::kind::finalize_mask(kind, book, h);
+    if mask == 0 {
+        return false;
+    }
+    if book_fields::kind::quorum(kind, book, mask) {
         linked(kind, book, h, known)
     } else {
         false

@@ -1,6 +1,6 @@
-// The rehearsal of document 01: one replica of four stations that weigh 1 each, number 2, with three heights led by 0, 1
-// and 2. It reads frames from standard input, delivers each (a short last one too), and then moves until idle; its own
-// frames are not fed back.
+// The rehearsal of document 01: one replica of four stations that weigh 1 each, number 2, with three heights led by 0,
+// 1 and 2. It reads frames from standard input, delivers each (a short last one too), and then moves until idle; its
+// own frames are not fed back.
 mod printed;
 
 use answers::answer::Moved;

@@ -11,6 +11,7 @@ use Rattle.protocol.specs.Bytes.{Bytes, isZero, AreBytes, Sized as SizedBytes}
 use Rattle.protocol.specs.Block.{maximumHeights}
 use Rattle.protocol.specs.State.{State, Height, last, decode, encode, withHeight, withPool, bookHeights}
 use Rattle.protocol.specs.State.{maximumReplicas, maximumPending, headUnused}
+use Rattle.protocol.specs.View.{totalWeight}
 use Rattle.protocol.specs.Sound.{sound, view}
 use Rattle.protocol.specs.Laws.HeadLaws.{head-weighs, head-weight-each}
 use Rattle.protocol.specs.Laws.StateLaws.{decode-encode}
@@ -21,11 +22,13 @@ use Rattle.protocol.specs.Laws.PoolLaws.{moved, moved-last, moved-shaped}
 use Rattle.protocol.specs.Laws.SoundLaws.{finalized-in, exact, sound-decode, sound-clean, encode-decode}
 use Rattle.protocol.specs.Laws.FieldLaws.{read-n, read-own, read-flags, read-current, read-finalized}
 use Rattle.protocol.specs.Laws.FieldLaws.{read-pending-count}
-use Rattle.book_fields.specs.Book.{Readable, Ready, SoundBook}
+use Rattle.book_fields.specs.Book.{Readable, Ready, SoundBook, bookView}
+use Rattle.book_fields.specs.Laws.WeightLaws.{some-weight}
 
 pub readable : (book : Bytes) → length book ≡ 576 + 880 * bookHeights book → decode book .n ≤ maximumReplicas →
-    bookHeights book ≤ maximumHeights → isZero (headUnused book) ≡ true → Readable book
-readable book size replicas heights unused = record {
+    bookHeights book ≤ maximumHeights → isZero (headUnused book) ≡ true → 1 ≤ totalWeight (bookView book) →
+    Readable book
+readable book size replicas heights unused some = record {
   sized = record {
     size = size;
     count = last-decode book;
@@ -40,11 +43,17 @@ readable book size replicas heights unused = record {
   heights = heights;
   weighs = unfold view decode in head-weighs book (omega arith) unused (rw (read-n book) replicas);
   weight-each = unfold view decode in head-weight-each book (rw (read-n book) replicas);
+  some-weight = some;
 }
 
 -- the number of replicas, as the state has it
 pub few-replicas : (book : Bytes) → Readable book → decode book .n ≤ maximumReplicas
 few-replicas book r = omega (arith, r .replicas, r .sized .n-byte)
+
+weighs-some : (digest : Bytes → Bytes) (s : State) → SoundState digest s → 1 ≤ totalWeight (view s)
+unfolding view
+weighs-some digest s is =
+    some-weight (s .n) (s .weights) (is .n-low) (omega (arith, is .shaped .weighed .sixteen)) (is .setting .weights-row)
 
 -- a sound book, as every call is granted
 pub sound-book : (digest : Bytes → Bytes) (book : Bytes) → AreBytes book → sound digest book ≡ true →
@@ -56,7 +65,7 @@ sound-book digest book small e =
       is-sound = e;
       ready = record {
         readable = readable book (exact digest book e) (state .n-high) (rw count at (state .last-high))
-            (sound-clean digest book e .head-zeros);
+            (sound-clean digest book e .head-zeros) (weighs-some digest (decode book) state);
         whole = encode-decode digest book e small;
       };
       state = state;
@@ -64,12 +73,13 @@ sound-book digest book small e =
     }
 
 -- the bytes of a state of the right shape, as after a write
-pub ready-shaped : (s : State) → Shaped s → s .n ≤ maximumReplicas → last s ≤ maximumHeights → Ready (encode s)
-ready-shaped s shaped replicas few =
+pub ready-shaped : (s : State) → Shaped s → s .n ≤ maximumReplicas → last s ≤ maximumHeights →
+    1 ≤ totalWeight (view s) → Ready (encode s)
+ready-shaped s shaped replicas few some =
     let back : decode (encode s) ≡ s = decode-encode s shaped in
     record {
       readable = readable (encode s) (rw (count-encode s) (length-encode s shaped)) (rw back replicas)
-          (rw (count-encode s) few) (clean-encode s shaped .head-zeros);
+          (rw (count-encode s) few) (clean-encode s shaped .head-zeros) (rw back some);
       whole = ap encode back;
     }
 
@@ -82,9 +92,10 @@ pub same-heights : (book : Bytes) (s : State) → last s ≡ last (decode book) 
 same-heights book s e = count-encode s ∙ e ∙ last-decode book
 
 ready-after : (book : Bytes) → Ready book → (s : State) → Shaped s → s .n ≡ decode book .n →
-    last s ≡ last (decode book) → Ready (encode s)
-ready-after book r s shaped same-n e =
+    view s .weights ≡ bookView book .weights → last s ≡ last (decode book) → Ready (encode s)
+ready-after book r s shaped same-n same-weights e =
     ready-shaped s shaped (rw same-n (few-replicas book (r .readable))) (rw e (rw last-decode (r .readable .heights)))
+    (rw same-weights (r .readable .some-weight))
 
 pub last-with-height : (s : State) (h : ℕ) (x : Height) → last (withHeight s h x) ≡ last s
 unfolding last withHeight
@@ -96,8 +107,13 @@ unfolding withHeight
 ready-height book r h x fits =
     let shaped = ready-state book r in
     ready-after book r (withHeight (decode book) h x)
-    (record { weighed = shaped .weighed; pool-size = shaped .pool-size; heights = every-set (h - 1) x fits (shaped .heights) })
+    (record {
+      weighed = shaped .weighed;
+      pool-size = shaped .pool-size;
+      heights = every-set (h - 1) x fits (shaped .heights);
+    })
     refl
+    (unfold view in refl)
     (last-with-height (decode book) h x)
 
 pub ready-moved : (book : Bytes) → Ready book → (es : List Bytes) → Every (SizedBytes 16) es →
@@ -106,4 +122,4 @@ unfolding moved withPool
 ready-moved book r es sized few =
     let shaped = ready-state book r in
     ready-after book r (moved (decode book) es) (moved-shaped (decode book) (shaped .pool-size) es sized few shaped)
-    refl (moved-last (decode book) es)
+    refl (unfold view in refl) (moved-last (decode book) es)

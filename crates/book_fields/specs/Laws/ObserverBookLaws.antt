@@ -7,21 +7,23 @@ use lib.ListN.{length}
 use Rattle.protocol.specs.Bytes.{Bytes, isZero, AreBytes}
 use Rattle.protocol.specs.Block.{maximumHeights}
 use Rattle.protocol.specs.State.{bookHeights, headUnused, maximumReplicas}
+use Rattle.protocol.specs.View.{totalWeight}
 use Rattle.protocol.specs.Sound.{view}
 use Rattle.protocol.specs.Laws.HeadLaws.{head-weighs, head-weight-each}
-use Rattle.protocol.specs.Observer.{asReplica, decodeObserver, observerState}
+use Rattle.protocol.specs.Observer.{Observer, asReplica, decodeObserver, observerState}
 use Rattle.protocol.specs.ObserverSound.{observerSound}
 use Rattle.protocol.specs.SoundObserver.{SoundObserver}
 use Rattle.protocol.specs.Laws.ObserverCodecLaws.{count-observed, last-observed}
 use Rattle.protocol.specs.Laws.ObserverFieldLaws.{read-observer-n, read-observer-finalized}
-use Rattle.protocol.specs.Laws.ObserverSoundLaws.{exact-observer, sound-observer, sound-clean-observer, encode-decode-observer}
-use Rattle.protocol.specs.Laws.ObserverSoundLaws.{observer-finalized-in}
+use Rattle.protocol.specs.Laws.ObserverSoundLaws.{exact-observer, sound-observer, sound-clean-observer}
+use Rattle.protocol.specs.Laws.ObserverSoundLaws.{encode-decode-observer, observer-finalized-in}
 use Rattle.book_fields.specs.Book.{ObserverReadable, SoundObserverBook}
+use Rattle.book_fields.specs.Laws.WeightLaws.{some-weight}
 
 pub observer-readable : (book : Bytes) → length book ≡ 64 + 184 * bookHeights book →
     observerState book .n ≤ maximumReplicas → bookHeights book ≤ maximumHeights →
-    isZero (headUnused book) ≡ true → ObserverReadable book
-observer-readable book size replicas heights unused = record {
+    isZero (headUnused book) ≡ true → 1 ≤ totalWeight (view (observerState book)) → ObserverReadable book
+observer-readable book size replicas heights unused some = record {
   sized = record {
     size = size;
     count = last-observed book;
@@ -33,7 +35,13 @@ observer-readable book size replicas heights unused = record {
   weighs = unfold view asReplica decodeObserver in
       head-weighs book (omega arith) unused (rw (read-observer-n book) replicas);
   weight-each = unfold view asReplica decodeObserver in head-weight-each book (rw (read-observer-n book) replicas);
+  some-weight = some;
 }
+
+weighs-some : (digest : Bytes → Bytes) (o : Observer) → SoundObserver digest o → 1 ≤ totalWeight (view (asReplica o))
+unfolding view asReplica
+weighs-some digest o is =
+    some-weight (o .n) (o .weights) (is .n-low) (omega (arith, is .shaped .weighed .sixteen)) (is .setting .weights-row)
 
 -- a sound book, as every call is granted
 pub sound-observer-book : (digest : Bytes → Bytes) (book : Bytes) → AreBytes book → observerSound digest book ≡ true →
@@ -46,7 +54,8 @@ sound-observer-book digest book small e =
       is-sound = e;
       ready = record {
         readable = observer-readable book (exact-observer digest book e) (state .n-high)
-            (rw count at (state .last-high)) (sound-clean-observer digest book e .head-zeros);
+            (rw count at (state .last-high)) (sound-clean-observer digest book e .head-zeros)
+            (weighs-some digest (decodeObserver book) state);
         whole = encode-decode-observer digest book e small;
       };
       state = state;

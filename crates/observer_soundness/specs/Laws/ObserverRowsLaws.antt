@@ -10,13 +10,13 @@ use Rattle.protocol.specs.Bytes.{Bytes, isZero}
 use Rattle.protocol.specs.Tests.{allOf, inRange, everyHeight}
 use Rattle.protocol.specs.Block.{maximumHeights}
 use Rattle.protocol.specs.State.{bookHeights, weightsIn}
-use Rattle.protocol.specs.Sound.{masksBelow}
+use Rattle.protocol.specs.Sound.{view, masksBelow}
 use Rattle.protocol.specs.Observer.{asReplica, decodeObserver, observerState, observerBookSize}
 use Rattle.protocol.specs.ObserverSound.{observerSound, replicaHead, observedZero}
 use Rattle.protocol.specs.Laws.TestsLaws.{and-both, both-ways}
 use Rattle.protocol.specs.Laws.RowLaws.{by-rows, all-of, true-and, every-height-at, every-height, in-range}
 use Rattle.book_fields.specs.Laws.ObserverBookLaws.{observer-readable}
-use Rattle.book_fields.specs.Laws.SettingRowsLaws.{SettingPasses, setting-passes, setting-pass}
+use Rattle.book_fields.specs.Laws.SettingRowsLaws.{SettingPasses, setting-passes, setting-pass, setting-weighs}
 use Rattle.book_fields.specs.Book.{ObserverReadable, observedIn}
 use Rattle.observer_soundness.specs.ObserverRows.{headRows, heightRows, blockRow, certificateRow}
 use Rattle.observer_soundness.specs.ObserverRows.{finalRow}
@@ -70,7 +70,12 @@ module _ (digest : Bytes → Bytes) (book : Bytes) where
       by-rows _ e λ size replicas heights edition weights masks status block certificate replica zeros zero final. (
         all-of
             (one size
-            (one (setting-pass book (record { replicas = replicas; edition = edition; weights = weights; unused = zeros }))
+            (one (setting-pass book (record {
+              replicas = replicas;
+              edition = edition;
+              weights = weights;
+              unused = zeros;
+            }))
             (one heights (one replica none)))),
         every-height _ _ (λ h low high. all-of
             (one (every-height-at _ _ h masks low high)
@@ -117,4 +122,4 @@ head-readable book e =
     let is = head-rows book e in
     let size : length book ≡ 64 + 184 * bookHeights book = eqb-true _ _ (is .size) in
     observer-readable book size (in-range _ _ _ (is .setting .replicas) .1) (in-range _ _ _ (is .heights) .1)
-    (is .setting .unused)
+    (is .setting .unused) (unfold view in setting-weighs book (is .setting))

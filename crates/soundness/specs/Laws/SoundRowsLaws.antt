@@ -10,17 +10,18 @@ use Rattle.protocol.specs.Bytes.{Bytes, zeros, isZero}
 use Rattle.protocol.specs.Tests.{allOf, inRange, everyHeight}
 use Rattle.protocol.specs.Block.{maximumHeights}
 use Rattle.protocol.specs.State.{decode, weightsIn, bookSize, bookHeights, maximumPending}
-use Rattle.protocol.specs.Sound.{sound, masksBelow, blocksWellFormed, contentZeros}
+use Rattle.protocol.specs.Sound.{view, sound, masksBelow, blocksWellFormed, contentZeros}
 use Rattle.protocol.specs.Laws.TestsLaws.{and-both, both-ways}
 use Rattle.protocol.specs.Laws.RowLaws.{row, by-rows, all-of, true-and, every-height-at, every-height, in-range}
 use Rattle.book_fields.specs.Laws.BookLaws.{readable as make-readable}
 use Rattle.book_fields.specs.Book.{Readable, heightIn, bookView}
-use Rattle.book_fields.specs.Laws.SettingRowsLaws.{SettingPasses, setting-passes, setting-pass}
+use Rattle.book_fields.specs.Laws.SettingRowsLaws.{SettingPasses, setting-passes, setting-pass, setting-weighs}
 use Rattle.memory.specs.Memo.{Memo, memorySize}
 use Rattle.memory.specs.Laws.FreshLaws.{zero-known}
 use Rattle.soundness.specs.SoundRows.{numberRows, headRows, heightRows, certificateRow, finalRow}
-use Rattle.protocol.specs.Laws.SoundRowNames.{lengthRow, replicasRow, ownRow, heightsRow, editionRow, weightsRow, currentRow}
-use Rattle.protocol.specs.Laws.SoundRowNames.{flagsRow, pendingRow, leadersRow, masksRow, statusRow, blocksRow}
+use Rattle.protocol.specs.Laws.SoundRowNames.{lengthRow, replicasRow, ownRow, heightsRow, editionRow, weightsRow}
+use Rattle.protocol.specs.Laws.SoundRowNames.{currentRow, flagsRow, pendingRow, leadersRow, masksRow, statusRow}
+use Rattle.protocol.specs.Laws.SoundRowNames.{blocksRow}
 use Rattle.protocol.specs.Laws.SoundRowNames.{certifiedRow, headZerosRow, contentZerosRow, finalizedRow}
 
 -- ---- the rows of each group by name
@@ -151,7 +152,7 @@ readable book e =
     let is = head-rows book e in
     let size : length book ≡ 576 + 880 * bookHeights book = eqb-true _ _ (is .size) in
     make-readable book size (in-range _ _ _ (is .setting .replicas) .1) (in-range _ _ _ (is .numbers .heights) .1)
-    (is .setting .unused)
+    (is .setting .unused) (unfold view in setting-weighs book (is .setting))
 
 -- zeros say nothing of any height
 pub zero-memo : (book known : Bytes) → Readable book → known ≡ zeros memorySize → Memo book known

@@ -38,7 +38,8 @@ returns c =
     let weights = start .args .weights .now in
     let small : AreBytes weights = λ i. omega (arith, given .shared-slice-known .given i) in
     after-copy-to .copy-to .ensures ∙ head-made (start .args .n) (start .args .own) (start .args .heights) weights
-    (start .args .book .now) _ (start .pre .0) small (start .pre .1 .1) (start .pre .1 .0 .0) (after-clear .clear .ensures)
+    (start .args .book .now) _ (start .pre .0) small (start .pre .1 .1) (start .pre .1 .0 .0)
+    (after-clear .clear .ensures)
 
 pub led-by-zero-spec : {M : Type 1} → statement M
 led-by-zero-spec =

@@ -25,7 +25,9 @@ loop-holds c =
     let leaders = start .args .leaders .now in
     let made = after-led-by-zero .led-by-zero in (
       omega arith,
-      made .ensures ∙ ap (λ l. encode (newState (weighed (start .args .weights .now)) (start .args .n) (start .args .own) l)) (led-none leaders),
+      made .ensures
+          ∙ ap (λ l. encode (newState (weighed (start .args .weights .now)) (start .args .n) (start .args .own) l))
+          (led-none leaders),
       omega (arith, made .kept .0),
     )
 
@@ -36,7 +38,8 @@ loop-again c =
     let args = start .args in
     let at = after-loop .loop in (
       omega arith,
-      led-more (weighed (args .weights .now)) (args .n) (args .own) (args .leaders .now) (at .i) (at .book) (at .inv .1) (omega arith),
+      led-more (weighed (args .weights .now)) (args .n) (args .own) (args .leaders .now) (at .i) (at .book)
+          (at .inv .1) (omega arith),
       rw length-set (at .inv .2),
     )
 

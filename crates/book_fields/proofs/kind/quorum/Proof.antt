@@ -1,90 +1,14 @@
--- `quorum` meets its contract: after `s` turns the sums are the weight of the first `s` replicas, and of those among them
--- that the mask holds.
-use Prim.Native.Nat.{_*_, _≤_, _<_, _-_}
-use native.Mathlib.Omega.{arith}
-use mathlib.Core.Path.{_≡_, refl, sym}
-use borrow.Author.Needs.{needs}
-use lib.ListN.{length, take}
-use lib.Seq.{take-all}
-use Rattle.protocol.specs.Mask.{inMask, weigh, total}
+-- `quorum` meets its contract: two thirds of the weight, as it is weighed.
 use Rattle.protocol.specs.View.{quorum}
-use Rattle.protocol.specs.Laws.QuorumLaws.{total-more, weigh-more}
-use Rattle.book_fields.specs.Book.{viewOf}
-use Rattle.book_fields.proofs.Showing.{replicas-at}
+use borrow.Author.Needs.{needs}
 use Rattle.book_fields.proofs.kind.quorum.Statement.{statement}
 use Rattle.book_fields.proofs.kind.quorum.Tie as tie
 
-abbrev Inv-loop : tie.InvT-loop
-Inv-loop kind book mask n all₀ held₀ s₀ all held s =
-    (s ≤ n) × (all ≡ total (take s (viewOf kind book .weights))) ×
-    (held ≡ weigh (λ t. inMask mask t) (take s (viewOf kind book .weights))) × (all ≤ 65536 * s) × (held ≤ all)
-
-abbrev μ-loop : tie.MeasureT-loop
-μ-loop kind book mask n all₀ held₀ s₀ all held s = n - s
-
-loop-holds : tie.Need-loop-holds Inv-loop μ-loop
-unfolding weigh total
-loop-holds c = (omega arith, refl, refl, omega arith, omega arith)
-
-weight-requires : tie.Need-weight-requires Inv-loop μ-loop
-weight-requires c κs =
-    let start = c .before .before .before .before in
-    (start .pre .0, omega (arith, c .before .before .replicas .ensures .0))
-
-add-all : tie.Need-add-all Inv-loop μ-loop
-add-all c =
-    let at = c .before .before .loop in
-    omega (arith, at .inv .3, c .weight .ensures .1, c .before .before .before .replicas .ensures .1)
-
-weight-in-requires : tie.Need-weight-in-requires Inv-loop μ-loop
-weight-in-requires c κs =
-    (c .weight .ensures .1, omega (arith, c .before .before .before .replicas .ensures .1))
-
-add-held : tie.Need-add-held Inv-loop μ-loop
-add-held c =
-    let at = c .before .before .before .loop in
-    omega (
-      arith,
-      at .inv .3,
-      at .inv .4,
-      c .before .weight .ensures .1,
-      c .weight-in .ensures .1,
-      c .before .before .before .before .replicas .ensures .1,
-    )
-
-loop-again : tie.Need-loop-again Inv-loop μ-loop
-loop-again c =
-    let replicas = c .before .before .before .before in
-    let start = replicas .before .before in
-    let ws = viewOf (start .args .kind) (start .args .book .now) .weights in
-    let at = c .before .before .before .loop in
-    let each = start .pre .0 .weight-each in
-    let n = replicas-at (start .args .kind) (start .args .book .now) (start .pre .0) in
-    let inside : at .s < length ws = omega (arith, each, n, replicas .replicas .ensures .0) in
-    let weight = c .before .weight .ensures in
-    let held = c .weight-in .ensures in (
-      omega arith,
-      rw (at .inv .1, weight .0) (sym (total-more ws (at .s) inside)),
-      rw (at .inv .2, held .0, weight .0) (sym (weigh-more (λ t. inMask (start .args .mask) t) ws (at .s) inside)),
-      omega (arith, at .inv .3, weight .1),
-      omega (arith, at .inv .4, held .1),
-    )
-
-returns : tie.Need-returns Inv-loop μ-loop
+returns : tie.Need-returns
 unfolding quorum
 returns c =
-    let replicas = c .before .before in
-    let start = replicas .before .before in
-    let ws = viewOf (start .args .kind) (start .args .book .now) .weights in
-    let at = c .before .loop in
-    let each = start .pre .0 .weight-each in
-    let n = replicas-at (start .args .kind) (start .args .book .now) (start .pre .0) in
-    let whole : take (at .s) ws ≡ ws =
-    take-all (at .s) ws (omega (arith, each, n, replicas .replicas .ensures .0)) in
-    rw (at .inv .1, at .inv .2, whole)
+    let weighed = c .before .before .weigh .ensures in
+    rw (weighed .0, weighed .1 .0)
 
 pub quorum-spec : {M : Type 1} → statement M
-quorum-spec =
-    tie.close
-    (tie.spec Inv-loop μ-loop (λ c κs. search needs) loop-holds weight-requires add-all weight-in-requires add-held
-    (λ c. omega arith) (λ c. omega arith) loop-again (λ c. omega arith) (λ c. omega arith) returns)
+quorum-spec = tie.close (tie.spec (λ c κs. search needs) (λ c. search needs) (λ c. search needs) returns)

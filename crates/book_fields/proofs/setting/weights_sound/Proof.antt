@@ -15,11 +15,10 @@ returns c =
 
 returns-2 : tie.Need-returns-2
 returns-2 c =
-    let absent = c .before .before in
-    let there = absent .before .before in
+    let there = c .before .before in
     let branch = there .before .before in
     let start = branch .before .before in
-    rw (c .is-zero3 .ensures, absent .is-zero2 .ensures, there .in-range .ensures)
+    rw (c .is-zero2 .ensures, there .in-range .ensures)
     (unfold part in
     others-are (start .args .n) (start .args .edition) (start .args .book .now) (branch .if1 .left) (start .pre .1)
     (start .pre .0))
@@ -38,10 +37,6 @@ weights-sound-spec =
     (λ c κs. search needs)
     (λ c. search needs)
     (λ c. search needs)
-    (λ c. search needs)
-    (λ c. search needs)
-    (λ c. search needs)
-    (λ c κs. search needs)
     (λ c. search needs)
     (λ c. search needs)
     (λ c. search needs)

@@ -52,7 +52,8 @@ new-book-requires c κs =
     let fits = open-ranges way (z .args .n) (z .args .own) (z .args .heights) (z .args .leaders .now)
     (sym (after-numbers-fit .numbers-fit .ensures) ∙ after-if1 .if1 .taken) in
     let size : length (z .args .book .now) ≡ 576 + 880 * length (z .args .leaders .now) = omega arith in
-    let given : length (z .args .weights .now) ≡ 2 * z .args .n = counted (z .args .n) (z .args .weights .now) (fits .weights-fit) in
+    let given : length (z .args .weights .now) ≡ 2 * z .args .n =
+    counted (z .args .n) (z .args .weights .now) (fits .weights-fit) in
     let few : length (z .args .leaders .now) ≤ maximumHeights = omega arith in
     (size, (few, ((fits .n-high, omega arith), given)))
 
@@ -64,8 +65,8 @@ returns c =
     let after-numbers-fit = after-if1 .before in
     let z = after-numbers-fit .before .before .before .before in
     let way = weighed (z .args .weights .now) in
-    outcome-done (open-done way (z .args .book .now) (z .args .n) (z .args .own) (z .args .heights) (z .args .leaders .now)
-    (sym (after-numbers-fit .numbers-fit .ensures) ∙ after-if1 .if1 .taken)
+    outcome-done (open-done way (z .args .book .now) (z .args .n) (z .args .own) (z .args .heights)
+    (z .args .leaders .now) (sym (after-numbers-fit .numbers-fit .ensures) ∙ after-if1 .if1 .taken)
     (long-enough (z .args .book .now) (z .args .heights) (after-if2 .if2 .taken)))
     (after-new-book .new-book .ensures)
 

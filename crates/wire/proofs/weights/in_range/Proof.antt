@@ -31,7 +31,8 @@ more : (p : ℕ → Bool) (ws : List ℕ) (s w : ℕ) (good : Bool) → s < leng
     (good && all p (drop s ws)) ≡ all p ws → ((good && p w) && all p (drop (s + 1) ws)) ≡ all p ws
 unfolding all
 more p ws s w good low e before =
-    rw (add-one, and-assoc good (p w) (all p (drop (suc s) ws))) (subst (λ (l : List ℕ). (good && all p l) ≡ all p ws) split before)
+    rw (add-one, and-assoc good (p w) (all p (drop (suc s) ws)))
+    (subst (λ (l : List ℕ). (good && all p l) ≡ all p ws) split before)
   where
     split : drop s ws ≡ w ∷ drop (suc s) ws
     split = drop-cons ws s 0 low ∙ rw e
@@ -59,7 +60,8 @@ returns c =
     let at = c .before .loop in
     let none : drop (at .s) (words n weights) ≡ [] =
     drop-of-length-le (words n weights) {i = at .s} (omega (arith, words-count n weights)) in
-    let whole : (at .good && all (λ w. inRange 1 maximumWeight w) []) ≡ all (λ w. inRange 1 maximumWeight w) (words n weights) =
+    let whole : (at .good && all (λ w. inRange 1 maximumWeight w) []) ≡
+    all (λ w. inRange 1 maximumWeight w) (words n weights) =
     rw none at (at .inv .1) in
     sym (and-true (at .good)) ∙ whole
 

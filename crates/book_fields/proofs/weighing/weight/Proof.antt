@@ -5,8 +5,8 @@ use mathlib.Core.Path.{_∙_, ap₂, sym}
 use borrow.Author.Needs.{needs}
 use lib.Dec.{eqb}
 use Rattle.book_fields.proofs.Showing.{head-room, replicas-at, byte-number, byte-at-most}
-use Rattle.book_fields.proofs.kind.weight.Statement.{statement}
-use Rattle.book_fields.proofs.kind.weight.Tie as tie
+use Rattle.book_fields.proofs.weighing.weight.Statement.{statement}
+use Rattle.book_fields.proofs.weighing.weight.Tie as tie
 
 byte-requires : tie.Need-byte-requires
 byte-requires c κs =
@@ -45,9 +45,10 @@ returns c =
     let start = c .before .before .before in
     let shown = start .pre .0 in
     let low = start .pre .1 in
+    let n = replicas-at (start .args .kind) (start .args .book .now) shown in
     let one = byte-number (eqb (c .before .byte .result) 1) in (
       rw (one, c .word .ensures .0, c .before .byte .ensures .0)
-          (shown .weighs (start .args .s) (omega (arith, low, replicas-at (start .args .kind) (start .args .book .now) shown))),
+          (shown .weighs (start .args .s) (omega (arith, low, n))),
       omega (arith, c .word .ensures .1, byte-at-most (eqb (c .before .byte .result) 1)),
     )
 

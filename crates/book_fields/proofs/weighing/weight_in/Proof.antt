@@ -5,8 +5,8 @@ use borrow.Author.Needs.{needs}
 use Prim.Native.Nat.{ℕ, _*_}
 use Rattle.protocol.specs.Mask.{inMask}
 use Rattle.protocol.specs.Laws.OneOrZeroLaws.{times-small, times-test}
-use Rattle.book_fields.proofs.kind.weight_in.Statement.{statement}
-use Rattle.book_fields.proofs.kind.weight_in.Tie as tie
+use Rattle.book_fields.proofs.weighing.weight_in.Statement.{statement}
+use Rattle.book_fields.proofs.weighing.weight_in.Tie as tie
 
 mul-result : tie.Need-mul-result
 mul-result c =

@@ -1,0 +1,57 @@
+// The weighing of a mask of replicas. No branch goes by its bits.
+use crate::kind::Kind;
+ghost use mathlib.Core.Path.{_≡_};
+ghost use mathlib.Core.Bool.{cond};
+ghost use Prim.Native.Nat.{_<_, _≤_};
+ghost use lib.ListN.{getD};
+ghost use Rattle.protocol.specs.Mask.{inMask};
+ghost use Rattle.protocol.specs.View.{totalWeight, maskWeight};
+ghost use Rattle.protocol.specs.State.{maximumReplicas};
+ghost use Rattle.book_fields.specs.Book.{Shown, viewOf};
+
+// The weight of all replicas, and of those that a mask holds.
+pub struct Weighing {
+    pub all: usize,
+    pub held: usize,
+}
+
+// The weight of replica `s`: two bytes of the head; edition 1 has them zero, and each replica weighs 1.
+fn weight(kind: Kind, book: &[u8], s: usize) -> usize
+    requires { ⌜ Shown kind (now book) ⌝ }
+    requires { ⌜ s < viewOf kind (now book) .n ⌝ }
+    ensures { λ r. ⌜ (r ≡ getD (viewOf kind (now (book .entry)) .weights) s 0) × (r ≤ 65536) ⌝ }
+{
+    let even = (wire::bytes::byte(book, 7) == 1) as usize;
+    wire::bytes::word(book, 8 + 2 * s) + even
+}
+
+// A weight, if replica `s` is in a mask, and 0 if not.
+fn weight_in(weight: usize, mask: usize, s: usize) -> usize
+    requires { ⌜ (weight ≤ 65536) × (s < maximumReplicas) ⌝ }
+    ensures { λ r. ⌜ (r ≡ cond (inMask mask s) weight 0) × (r ≤ weight) ⌝ }
+{
+    weight * wire::mask::one_if_in(mask, s)
+}
+
+// Weighs a mask: one pass over the replicas.
+pub fn weigh(kind: Kind, book: &[u8], mask: usize) -> Weighing
+    requires { ⌜ Shown kind (now book) ⌝ }
+    ensures all { λ r. ⌜ r .all ≡ totalWeight (viewOf kind (now (book .entry))) ⌝ }
+    ensures held { λ r. ⌜ r .held ≡ maskWeight (viewOf kind (now (book .entry))) mask ⌝ }
+    ensures small { λ r. ⌜ (r .held ≤ r .all) × (r .all ≤ 1048576) ⌝ }
+{
+    let n = crate::kind::replicas(kind, book);
+    let mut all = 0;
+    let mut held = 0;
+    let mut s = 0;
+    while s < n {
+        let weight = weight(kind, book, s);
+        all += weight;
+        held += weight_in(weight, mask, s);
+        s += 1;
+    }
+    Weighing {
+        all: all,
+        held: held,
+    }
+}
