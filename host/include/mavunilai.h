@@ -249,10 +249,10 @@ static inline unsigned mavunilai_needed_weight(const uint8_t *book) {
 }
 
 /* 1 if the stations of a mask, bit i for station i, are a quorum: if they weigh two thirds of the total weight or more.
- * 0 if they do not, and if the mask has a bit for a station that is not below n. */
+ * 0 if they do not, if n is not 1 to 16, and if the mask has a bit for a station that is not below n. */
 static inline int mavunilai_quorum(const uint8_t *book, unsigned mask) {
     unsigned n = book[MAVUNILAI_HEAD_STATIONS];
-    if (n > MAVUNILAI_MOST_STATIONS || mask >> n != 0) {
+    if (n == 0 || n > MAVUNILAI_MOST_STATIONS || mask >> n != 0) {
         return 0;
     }
     return 3u * mavunilai_mask_weight(book, mask) >= 2u * mavunilai_total_weight(book);
