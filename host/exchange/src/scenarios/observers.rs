@@ -52,7 +52,7 @@ fn opening<C: Calls>(to: &mut Recorder<C>) {
     to.part("Open: n or H out of range is 2, also where the length does not fit; a length that does not fit is 1");
     to.give(WATCH, vec![0x5a; 247]);
     let past = u64::from(MOST_HEIGHTS).saturating_add(1);
-    let open = |n, heights| ObserverCall::Open { n, heights, weights: equal_weights(n) };
+    let open = |n, heights| ObserverCall::Open { n, heights, weights: equal_weights(n % 256) };
     for (n, heights) in [(0, 1), (17, 1), (4, 0), (4, past)] {
         to.observer(WATCH, open(n, heights));
     }

@@ -29,7 +29,8 @@ fn opening<C: Calls>(to: &mut Recorder<C>) {
     to.give(BOOK, vec![0x5a; 1455]);
     let open = |n, own, heights, leaders: &[u8]| {
         let leaders = leaders.to_vec();
-        Call::Open { n, own, heights, weights: equal_weights(n), leaders }
+        let weights = equal_weights(n % 256);
+        Call::Open { n, own, heights, weights, leaders }
     };
     let past = u64::from(MOST_HEIGHTS).saturating_add(1);
     for (n, own, heights) in [(4, 4, 1), (0, 0, 1), (17, 0, 1), (4, 0, 0), (4, 0, past), (4, 0, 2)]

@@ -67,7 +67,7 @@ fn opening<C: Calls>(to: &mut Recorder<C>) {
     for n in [0, 17, 260] {
         to.make(open(n, equal_weights(n)), BOOK, "");
     }
-    for n in [3, 5, 1, 16, u64::MAX] {
+    for n in [3, 5, 1, 16, 260, u64::MAX] {
         to.make(open(n, equal_weights(4)), BOOK, "");
     }
     to.remark(
@@ -94,7 +94,7 @@ fn observer_opening<C: Calls>(to: &mut Recorder<C>) {
     for n in [0, 17, 260] {
         to.observer(WATCH, open(n, equal_weights(n)));
     }
-    for n in [3, 5, u64::MAX] {
+    for n in [3, 5, 260, u64::MAX] {
         to.observer(WATCH, open(n, equal_weights(4)));
     }
     to.give(WATCH, vec![0x5a; 249]);
