@@ -4,9 +4,9 @@
 -- (host/reference, written from document 01 alone; its stand-in digest is `standIn`). A row has the call, the numbers
 -- of its answer, the parts of the book that it changed, and the lent buffer afterwards; a check gives the number of the
 -- first row that differs, and 0 if none does.
-use Prim.Native.Nat.{ℕ, zero, suc, _+_, _-_, _*_}
+use Prim.Native.Nat.{ℕ, zero, suc, _+_}
 use mathlib.Core.Path.{_≡_, refl}
-use mathlib.Core.List.{List, [], _∷_, _++_}
+use mathlib.Core.List.{List, [], _∷_, _++_, map}
 use lib.ListN.{replicate}
 use Rattle.protocol.specs.Bytes.{Bytes, zeros}
 use Rattle.protocol.specs.Open.{Opening, unweighed}
@@ -18,17 +18,15 @@ tagged : ℕ → ℕ → Bytes
 tagged from zero = []
 tagged from (suc count) = from ∷ tagged (from + 16) count
 
--- a scenario by each way of opening, of which the second is the reference's, with the bytes 7 to 63 that it writes for
--- n replicas; no other byte and no answer differs
-bothWays : ((ℕ → Opening) → (ℕ → Bytes) → ℕ) → List ℕ
-bothWays scenario =
-    scenario (λ n. unweighed) (λ n. 1 ∷ zeros 56) ∷
-    scenario oneEach (λ n. 2 ∷ (oneBytes n ++ zeros (56 - 2 * n))) ∷ []
+-- the ways of opening for one replica, and bytes 7 and 8 of the book that they make
+byWay : List (Opening × Bytes)
+byWay = (oneEach 1, 2 ∷ 1 ∷ []) ∷ (unweighed, 1 ∷ 0 ∷ []) ∷ []
 
--- one replica and one height: two entries, moves with its own frames fed back, readings, fetches
-alone : bothWays (λ way weights. disagreement 1 (replicate 1456 90)
-    (expect (opening (way 1) 1 0 1 (0 ∷ [])) (0 ∷ [])
-    ((0, 1 ∷ 0 ∷ 1 ∷ 0 ∷ 1 ∷ 0 ∷ 0 ∷ (weights 1 ++ zeros 1392)) ∷ []) [] ∷
+-- One replica and one height: two entries, moves with its own frames fed back, readings, fetches. By the reference's
+-- way of opening, and by document 01's: bytes 7 and 8 differ, and no other byte and no answer.
+alone : map (λ by. disagreement 1 (replicate 1456 90)
+    (expect (opening (by .0) 1 0 1 (0 ∷ [])) (0 ∷ [])
+    ((0, 1 ∷ 0 ∷ 1 ∷ 0 ∷ 1 ∷ 0 ∷ 0 ∷ (by .1 ++ zeros 1447)) ∷ []) [] ∷
     expect (submitting (tagged 1 16)) (0 ∷ []) ((6, 1 ∷ []) ∷ (64, tagged 1 16) ∷ []) [] ∷
     expect (submitting (tagged 2 16)) (0 ∷ []) ((6, 2 ∷ []) ∷ (80, tagged 2 16) ∷ []) [] ∷
     expect (moving (replicate 448 170)) (0 ∷ 4 ∷ 1 ∷ []) ((3, 8 ∷ []) ∷ [])
@@ -63,15 +61,15 @@ alone : bothWays (λ way weights. disagreement 1 (replicate 1456 90)
     (zeros 43 ++ (tagged 1 16 ++ (tagged 2 16 ++ (zeros 96))))))) ∷
     expect (fetching 6 1 (replicate 224 170)) (11 ∷ []) [] (replicate 224 170) ∷
     expect (fetching 7 1 (replicate 224 170)) (0 ∷ []) [] (7 ∷ 0 ∷ 1 ∷ 0 ∷ 1 ∷ zeros 219) ∷
-    expect (signalling 1) (14 ∷ []) [] [] ∷ [])) ≡ 0 ∷ 0 ∷ []
-unfolding tools tagged bothWays
+    expect (signalling 1) (14 ∷ []) [] [] ∷ [])) byWay ≡ 0 ∷ 0 ∷ []
+unfolding tools tagged byWay
 alone = refl
 
 -- four replicas and two heights: votes before the proposal, clashes, a leader who equivocates and the height passed
 -- without a finalize, a block on a parent that was not notarized, a log of one entry
-votes : bothWays (λ way weights. disagreement 1 (replicate 2336 90)
-    (expect (opening (way 4) 4 2 2 (0 ∷ 1 ∷ [])) (0 ∷ [])
-    ((0, 4 ∷ 2 ∷ 2 ∷ 0 ∷ 1 ∷ 0 ∷ 0 ∷ (weights 4 ++ (zeros 528 ++ (1 ∷ zeros 1743)))) ∷ []) [] ∷
+votes : disagreement 1 (replicate 2336 90)
+    (expect (opening (oneEach 4) 4 2 2 (0 ∷ 1 ∷ [])) (0 ∷ [])
+    ((0, 4 ∷ 2 ∷ 2 ∷ 0 ∷ 1 ∷ 0 ∷ 0 ∷ 2 ∷ (oneBytes 4 ++ (zeros 576 ++ (1 ∷ zeros 1743)))) ∷ []) [] ∷
     expect (delivery (2 ∷ 3 ∷ 1 ∷ (zeros 13 ++ (countUp 123 32 ++ (zeros 176))))) (0 ∷ 1 ∷ [])
     ((584, 8 ∷ []) ∷ (1056, countUp 123 32) ∷ []) [] ∷
     expect (delivery (2 ∷ 3 ∷ 1 ∷ (zeros 13 ++ (countUp 23 32 ++ (zeros 176))))) (8 ∷ []) [] [] ∷
@@ -118,6 +116,6 @@ votes : bothWays (λ way weights. disagreement 1 (replicate 2336 90)
     expect (delivery (7 ∷ 0 ∷ 1 ∷ 0 ∷ 13 ∷ zeros 219)) (0 ∷ 1 ∷ []) ((582, 13 ∷ []) ∷ []) [] ∷
     expect (moving (replicate 448 170)) (0 ∷ 2 ∷ 1 ∷ []) ((5, 1 ∷ []) ∷ []) (replicate 448 170) ∷
     expect (moving (replicate 448 170)) (0 ∷ 0 ∷ 0 ∷ []) [] (replicate 448 170) ∷
-    expect (reading (replicate 64 170)) (tagged 1 16) [] (tagged 1 16 ++ (replicate 48 170)) ∷ [])) ≡ 0 ∷ 0 ∷ []
-unfolding tools tagged bothWays
+    expect (reading (replicate 64 170)) (tagged 1 16) [] (tagged 1 16 ++ (replicate 48 170)) ∷ []) ≡ 0
+unfolding tools tagged
 votes = refl

@@ -2,21 +2,23 @@
 -- numbers of replicas say different things, and the edition, which no call changes.
 use Prim.Native.Nat.{ℕ, _+_, _*_}
 use mathlib.Core.Path.{_≡_, refl}
-use mathlib.Core.Bool.{true}
 use mathlib.Core.List.{List, [], _∷_, _++_, map}
 use mathlib.Core.Option.{Option, some, none}
 use lib.ListN.{replicate, take}
-use Rattle.protocol.specs.Bytes.{Bytes, zeros, le16, part, same}
+use Rattle.protocol.specs.Bytes.{Bytes, zeros, le16}
+use Rattle.protocol.specs.Tests.{firstRefusal}
 use Rattle.protocol.specs.Block.{newBlock}
 use Rattle.protocol.specs.Frame.{proposal, blockVote, dummyVote, finalize, blockCertificate, dummyCertificate}
 use Rattle.protocol.specs.Frame.{finalizeCertificate}
+use Rattle.protocol.specs.State.{State}
 use Rattle.protocol.specs.Answer.{refusalNumber}
 use Rattle.protocol.specs.Open.{unweighed, weighed, openCall}
-use Rattle.protocol.specs.Call.{Call, Opened, opening, delivery, packetDelivery, moving, signalling, submitting}
+use Rattle.protocol.specs.Deliver.{readRows, clashRows}
+use Rattle.protocol.specs.Call.{Opened, opening, delivery, packetDelivery, moving, signalling, submitting}
 use Rattle.protocol.specs.Call.{sizing, reading, fetching, effect}
-use Rattle.check_books.specs.CheckCalls.{standIn, twoBytes, weighing, oneBytes, perform, after, answers}
-use Rattle.check_books.specs.CheckCalls.{splice, firstEdition, expect, disagreement}
-use Rattle.check_books.specs.CheckStates.{entry, counting, stateTools}
+use Rattle.check_books.specs.CheckCalls.{standIn, twoBytes, weighing, oneBytes, perform, splice}
+use Rattle.check_books.specs.CheckCalls.{firstEdition, expect, disagreement}
+use Rattle.check_books.specs.CheckStates.{entry, counting, vacant, stateOf, stateTools}
 
 -- ---- Open
 -- the refusal's number over a book of so many bytes for n replicas with these bytes of weights, and 0 where it is
@@ -78,45 +80,58 @@ opened-for : map (λ way. opens-for (effect standIn (zeros 1456) (opening way 4 
 unfolding stateTools opens-for
 opened-for = refl
 
--- ---- books and blocks
+-- ---- certificates: 9 by weight, over small states
 first : Bytes
 first = newBlock 1 0 (zeros 32) (entry 1 ∷ [])
-
--- replica 2 of n with these weights, two heights that 0 and 1 lead, nothing kept. Contents begin at 576 and 592, bodies
--- at 608 and 1472: proposal, notarized block 176 on, digests 352 on
-bookOf : ℕ → List ℕ → Bytes
-bookOf n weights = splice 592 (1 ∷ []) (splice 8 (twoBytes weights) (n ∷ 2 ∷ 2 ∷ 0 ∷ 1 ∷ 0 ∷ 0 ∷ 2 ∷ zeros 2328))
 
 -- the three certificates of height 1 with a mask
 certificates : ℕ → List Bytes
 certificates mask = blockCertificate 1 mask first ∷ dummyCertificate 1 mask ∷ finalizeCertificate 1 mask ∷ []
 
+-- the number of a refusal, and 0 where there is none
+number : Option ℕ → ℕ
+number none = 0
+number (some x) = x
+
+-- the numbers by which replicas of these weights refuse the three, and 0 for one that they take
+refusals : List ℕ → ℕ → List ℕ
+refusals weights mask =
+    let s : State = stateOf weights 0 0 1 0 0 [] (vacant 0 ∷ []) in
+    map (λ frame. number (firstRefusal (readRows s frame ++ clashRows s frame))) (certificates mask)
+
+-- 0 weighs 4 of 7: the three others, or 0 alone, are too few, and 0 with any other is enough
+certificates-by-weight : map (refusals (4 ∷ 1 ∷ 1 ∷ 1 ∷ [])) (14 ∷ 1 ∷ 6 ∷ 0 ∷ 3 ∷ 9 ∷ 15 ∷ []) ≡
+    replicate 4 (9 ∷ 9 ∷ 9 ∷ []) ++ replicate 3 (0 ∷ 0 ∷ 0 ∷ [])
+unfolding stateTools first certificates number refusals
+certificates-by-weight = refl
+
+-- sixteen replicas of whom the last weighs 1,000: it is enough alone, and the fifteen others are too few
+certificate-of-one : map (refusals (replicate 15 1 ++ (1000 ∷ []))) (32767 ∷ 32768 ∷ []) ≡
+    (9 ∷ 9 ∷ 9 ∷ []) ∷ (0 ∷ 0 ∷ 0 ∷ []) ∷ []
+unfolding stateTools first certificates number refusals
+certificate-of-one = refl
+
+-- ---- whole books
+-- replica 2 of four with these weights, one height that 0 leads, nothing kept; contents begin at 576, the body at 592:
+-- proposal, notarized block 176 on, digests 352 on
+bookOf : List ℕ → Bytes
+bookOf weights = 4 ∷ 2 ∷ 1 ∷ 0 ∷ 1 ∷ 0 ∷ 0 ∷ 2 ∷ (twoBytes weights ++ zeros 1440)
+
 -- the answers of frames, each delivered to the same book
 heard : Bytes → List Bytes → List (List ℕ)
 heard book frames = map (λ frame. perform book (delivery frame) .numbers) frames
 
+reply : Bytes
+reply = replicate 448 9
+
 unfoldable books : Unit {0}
-unfolding stateTools first bookOf certificates heard
+unfolding stateTools first certificates bookOf heard reply
 books = tt
 
--- ---- certificates: 9 by weight
--- 0 weighs 4 of 7: with any other it is enough; the three others, or 0 alone, are too few
-certificates-by-weight : map (λ mask. heard (bookOf 4 (4 ∷ 1 ∷ 1 ∷ 1 ∷ [])) (certificates mask))
-    (14 ∷ 1 ∷ 6 ∷ 0 ∷ 3 ∷ 9 ∷ 15 ∷ []) ≡
-    replicate 4 (replicate 3 (9 ∷ [])) ++ replicate 3 (replicate 3 (0 ∷ 1 ∷ []))
-unfolding books
-certificates-by-weight = refl
-
--- sixteen replicas of whom the last weighs 1,000: it is enough alone, and the fifteen others are too few
-certificate-of-one : map (λ mask. heard (bookOf 16 (replicate 15 1 ++ (1000 ∷ []))) (certificates mask))
-    (32767 ∷ 32768 ∷ []) ≡ replicate 3 (9 ∷ []) ∷ replicate 3 (0 ∷ 1 ∷ []) ∷ []
-unfolding books
-certificate-of-one = refl
-
 -- The same frames over books of one n, H and roll whose weights differ: a certificate of 1, 2 and 3 is read where all
--- weigh 1, and refused with 9 where 0 weighs 9; of one by 0 alone it is the other way round. So each frame that is
--- written is read by those of the same weights alone.
-same-roll-other-weights : map (λ weights. heard (bookOf 4 weights) (certificates 14 ++ certificates 1))
+-- weigh 1, and refused with 9 where 0 weighs 9; one of 0 alone the other way round. So what a replica writes is read
+-- over books of the same weights alone.
+same-roll-other-weights : map (λ weights. heard (bookOf weights) (certificates 14 ++ certificates 1))
     ((1 ∷ 1 ∷ 1 ∷ 1 ∷ []) ∷ (9 ∷ 1 ∷ 1 ∷ 1 ∷ []) ∷ []) ≡
     (replicate 3 (0 ∷ 1 ∷ []) ++ replicate 3 (9 ∷ [])) ∷
     (replicate 3 (9 ∷ []) ++ replicate 3 (0 ∷ 1 ∷ [])) ∷ []
@@ -124,123 +139,107 @@ unfolding books
 same-roll-other-weights = refl
 
 -- these books are as Open makes them
-same-roll : map (λ weights. openCall (weighing weights) (zeros 2336) 4 2 2 (0 ∷ 1 ∷ []) .book)
+same-roll : map (λ weights. openCall (weighing weights) (zeros 1456) 4 2 1 (0 ∷ []) .book)
     ((1 ∷ 1 ∷ 1 ∷ 1 ∷ []) ∷ (9 ∷ 1 ∷ 1 ∷ 1 ∷ []) ∷ []) ≡
-    map (bookOf 4) ((1 ∷ 1 ∷ 1 ∷ 1 ∷ []) ∷ (9 ∷ 1 ∷ 1 ∷ 1 ∷ []) ∷ [])
+    map bookOf ((1 ∷ 1 ∷ 1 ∷ 1 ∷ []) ∷ (9 ∷ 1 ∷ 1 ∷ 1 ∷ []) ∷ [])
 unfolding books
 same-roll = refl
 
 -- in a packet too: refused, fresh, known
-packet-by-weight : perform (bookOf 4 (9 ∷ 1 ∷ 1 ∷ 1 ∷ []))
+packet-by-weight : perform (bookOf (9 ∷ 1 ∷ 1 ∷ 1 ∷ []))
     (packetDelivery (dummyCertificate 1 14 ++ (dummyCertificate 1 1 ++ dummyCertificate 1 1))) .numbers ≡
     0 ∷ 1 ∷ 1 ∷ 1 ∷ []
 unfolding books
 packet-by-weight = refl
 
 -- ---- votes, moves and fetches, call by call with every byte that changes
-reply : Bytes
-reply = replicate 448 9
-
 -- 0 weighs 4 of 7: at each step the votes of 1, 2 and 3 are not enough, and with that of 0 they are
-large-and-small : disagreement 1 (bookOf 4 (4 ∷ 1 ∷ 1 ∷ 1 ∷ []))
-    (expect (delivery (proposal 0 1 first)) (0 ∷ 1 ∷ []) ((577, 1 ∷ []) ∷ (608, first) ∷ []) [] ∷
-    expect (delivery (blockVote 1 1 (standIn first))) (0 ∷ 1 ∷ []) ((584, 2 ∷ []) ∷ (992, standIn first) ∷ []) [] ∷
-    expect (delivery (blockVote 2 1 (standIn first))) (0 ∷ 1 ∷ []) ((584, 6 ∷ []) ∷ (1024, standIn first) ∷ []) [] ∷
-    expect (delivery (blockVote 3 1 (standIn first))) (0 ∷ 1 ∷ []) ((584, 14 ∷ []) ∷ (1056, standIn first) ∷ []) [] ∷
+large-and-small : disagreement 1 (bookOf (4 ∷ 1 ∷ 1 ∷ 1 ∷ []))
+    (expect (delivery (proposal 0 1 first)) (0 ∷ 1 ∷ []) ((577, 1 ∷ []) ∷ (592, first) ∷ []) [] ∷
+    expect (delivery (blockVote 1 1 (standIn first))) (0 ∷ 1 ∷ []) ((584, 2 ∷ []) ∷ (976, standIn first) ∷ []) [] ∷
+    expect (delivery (blockVote 2 1 (standIn first))) (0 ∷ 1 ∷ []) ((584, 6 ∷ []) ∷ (1008, standIn first) ∷ []) [] ∷
+    expect (delivery (blockVote 3 1 (standIn first))) (0 ∷ 1 ∷ []) ((584, 14 ∷ []) ∷ (1040, standIn first) ∷ []) [] ∷
     expect (moving reply) (0 ∷ 5 ∷ 1 ∷ []) ((3, 4 ∷ []) ∷ []) (blockVote 2 1 (standIn first) ++ replicate 224 9) ∷
     expect (moving reply) (0 ∷ 0 ∷ 0 ∷ []) [] reply ∷
     expect (fetching 5 1 (zeros 224)) (11 ∷ []) [] (zeros 224) ∷
     expect (delivery (blockVote 0 1 (standIn first))) (0 ∷ 1 ∷ [])
-    ((577, 3 ∷ 15 ∷ []) ∷ (584, 15 ∷ []) ∷ (784, first) ∷ (960, standIn first) ∷ []) [] ∷
+    ((577, 3 ∷ 15 ∷ []) ∷ (584, 15 ∷ []) ∷ (768, first) ∷ (944, standIn first) ∷ []) [] ∷
     expect (moving reply) (0 ∷ 3 ∷ 1 ∷ 5 ∷ 4 ∷ []) ((3, 0 ∷ 2 ∷ []) ∷ [])
-    (blockCertificate 1 15 first ++ finalize 2 1) ∷
-    -- finalizes
-    expect (delivery (finalize 1 1)) (0 ∷ 1 ∷ []) ((582, 2 ∷ []) ∷ []) [] ∷
-    expect (delivery (finalize 2 1)) (0 ∷ 1 ∷ []) ((582, 6 ∷ []) ∷ []) [] ∷
-    expect (delivery (finalize 3 1)) (0 ∷ 1 ∷ []) ((582, 14 ∷ []) ∷ []) [] ∷
+    (blockCertificate 1 15 first ++ finalize 2 1) ∷ []) ≡ 0
+unfolding books
+large-and-small = refl
+
+-- the same of finalizes and of dummy votes, of which those of 1 and 2 were kept before: the mask of 3 comes, then of 0
+keptOfTwo : Bytes
+keptOfTwo =
+    splice 768 first (splice 576 (0 ∷ 2 ∷ 3 ∷ 0 ∷ 6 ∷ 0 ∷ 6 ∷ []) (splice 4 (2 ∷ []) (bookOf (4 ∷ 1 ∷ 1 ∷ 1 ∷ []))))
+
+finalizes-by-weight : disagreement 1 keptOfTwo
+    (expect (delivery (finalize 3 1)) (0 ∷ 1 ∷ []) ((582, 14 ∷ []) ∷ []) [] ∷
     expect (moving reply) (0 ∷ 0 ∷ 0 ∷ []) [] reply ∷
     expect (fetching 7 1 (zeros 224)) (11 ∷ []) [] (zeros 224) ∷
     expect (delivery (finalize 0 1)) (0 ∷ 1 ∷ []) ((582, 15 ∷ []) ∷ []) [] ∷
-    expect (moving reply) (0 ∷ 2 ∷ 1 ∷ []) ((5, 1 ∷ []) ∷ []) reply ∷
-    -- dummy votes
-    expect (delivery (dummyVote 1 2)) (0 ∷ 1 ∷ []) ((596, 2 ∷ []) ∷ []) [] ∷
-    expect (delivery (dummyVote 2 2)) (0 ∷ 1 ∷ []) ((596, 6 ∷ []) ∷ []) [] ∷
-    expect (delivery (dummyVote 3 2)) (0 ∷ 1 ∷ []) ((596, 14 ∷ []) ∷ []) [] ∷
-    expect (moving reply) (0 ∷ 0 ∷ 0 ∷ []) [] reply ∷
-    expect (fetching 6 2 (zeros 224)) (11 ∷ []) [] (zeros 224) ∷
-    expect (delivery (dummyVote 0 2)) (0 ∷ 1 ∷ []) ((596, 15 ∷ []) ∷ []) [] ∷
-    expect (moving reply) (0 ∷ 3 ∷ 2 ∷ 6 ∷ 4 ∷ []) ((4, 3 ∷ []) ∷ []) (dummyCertificate 2 15 ++ finalize 2 2) ∷ []) ≡ 0
-unfolding books reply
-large-and-small = refl
+    expect (fetching 7 1 (zeros 224)) (0 ∷ []) [] (finalizeCertificate 1 15) ∷
+    expect (moving reply) (0 ∷ 2 ∷ 1 ∷ []) ((5, 1 ∷ []) ∷ []) reply ∷ []) ≡ 0
+unfolding books keptOfTwo
+finalizes-by-weight = refl
 
--- 0 weighs 9 of 12: its vote, which came before its proposal, its finalize and its dummy vote are enough each
-one-decides : disagreement 1 (bookOf 4 (9 ∷ 1 ∷ 1 ∷ 1 ∷ []))
-    (expect (delivery (blockVote 0 1 (standIn first))) (0 ∷ 1 ∷ []) ((584, 1 ∷ []) ∷ (960, standIn first) ∷ []) [] ∷
+dummies-by-weight : disagreement 1 (splice 577 (0 ∷ 0 ∷ []) (splice 4 (1 ∷ []) keptOfTwo))
+    (expect (delivery (dummyVote 3 1)) (0 ∷ 1 ∷ []) ((580, 14 ∷ []) ∷ []) [] ∷
+    expect (moving reply) (0 ∷ 0 ∷ 0 ∷ []) [] reply ∷
+    expect (fetching 6 1 (zeros 224)) (11 ∷ []) [] (zeros 224) ∷
+    expect (delivery (dummyVote 0 1)) (0 ∷ 1 ∷ []) ((580, 15 ∷ []) ∷ []) [] ∷
+    expect (fetching 6 1 (zeros 224)) (0 ∷ []) [] (dummyCertificate 1 15) ∷
+    expect (moving reply) (0 ∷ 3 ∷ 1 ∷ 6 ∷ 4 ∷ []) ((4, 2 ∷ []) ∷ []) (dummyCertificate 1 15 ++ finalize 2 1) ∷ []) ≡ 0
+unfolding books keptOfTwo
+dummies-by-weight = refl
+
+-- 0 weighs 9 of 12: its vote, which came before its proposal, and its finalize are enough each
+one-decides : disagreement 1 (bookOf (9 ∷ 1 ∷ 1 ∷ 1 ∷ []))
+    (expect (delivery (blockVote 0 1 (standIn first))) (0 ∷ 1 ∷ []) ((584, 1 ∷ []) ∷ (944, standIn first) ∷ []) [] ∷
     expect (delivery (proposal 0 1 first)) (0 ∷ 1 ∷ [])
-    ((577, 3 ∷ 1 ∷ []) ∷ (608, first) ∷ (784, first) ∷ []) [] ∷
+    ((577, 3 ∷ 1 ∷ []) ∷ (592, first) ∷ (768, first) ∷ []) [] ∷
     expect (moving reply) (0 ∷ 3 ∷ 1 ∷ 5 ∷ 4 ∷ []) ((4, 2 ∷ []) ∷ []) (blockCertificate 1 1 first ++ finalize 2 1) ∷
     expect (delivery (finalize 0 1)) (0 ∷ 1 ∷ []) ((582, 1 ∷ []) ∷ []) [] ∷
     expect (moving reply) (0 ∷ 2 ∷ 1 ∷ []) ((5, 1 ∷ []) ∷ []) reply ∷
-    expect (delivery (dummyVote 0 2)) (0 ∷ 1 ∷ []) ((596, 1 ∷ []) ∷ []) [] ∷
-    expect (moving reply) (0 ∷ 3 ∷ 2 ∷ 6 ∷ 4 ∷ []) ((4, 3 ∷ []) ∷ []) (dummyCertificate 2 1 ++ finalize 2 2) ∷
-    expect (moving reply) (0 ∷ 0 ∷ 0 ∷ []) [] reply ∷
     expect (fetching 5 1 (zeros 224)) (0 ∷ []) [] (blockCertificate 1 1 first) ∷
-    expect (fetching 7 1 (zeros 224)) (0 ∷ []) [] (finalizeCertificate 1 1) ∷
-    expect (fetching 6 2 (zeros 224)) (0 ∷ []) [] (dummyCertificate 2 1) ∷
     expect (reading (zeros 16)) (entry 1) [] (entry 1) ∷ []) ≡ 0
-unfolding books reply
+unfolding books
 one-decides = refl
 
 -- ---- no call changes the edition or the weights
--- all nine calls, all five moves, frames of each kind, a second proposal, refused and known ones; own number 0
-others : List Call
-others =
-    submitting (entry 3) ∷ moving reply ∷ delivery (proposal 0 1 first) ∷ moving reply ∷
-    delivery (proposal 0 1 (newBlock 1 0 (zeros 32) [])) ∷ signalling 1 ∷ moving reply ∷
-    delivery (blockVote 0 1 (standIn first)) ∷ delivery (dummyVote 1 1) ∷ delivery (finalize 3 1) ∷
-    delivery (dummyVote 4 1) ∷ delivery (blockCertificate 1 15 first) ∷ delivery (finalizeCertificate 1 15) ∷
-    moving reply ∷ moving reply ∷ signalling 2 ∷ packetDelivery (dummyCertificate 2 15 ++ dummyVote 0 2) ∷
-    submitting (entry 1) ∷ sizing ∷ reading (zeros 16) ∷ fetching 6 2 (zeros 224) ∷ moving reply ∷ moving reply ∷
-    moving reply ∷ []
+-- All calls but Open, all five moves, frames of each kind, a second proposal, refused and known ones, with every byte
+-- that changes: in edition 1 and in edition 2 with other weights than 1 they are the same. Own number 0; its proposal
+-- has entry 3, and the notarized block entry 1.
+offered : Bytes
+offered = newBlock 1 0 (zeros 32) (entry 3 ∷ [])
 
--- bytes 7 to 63 after each of a list of calls
-heads : Bytes → List Call → List Bytes
-heads book [] = []
-heads book (call ∷ calls) =
-    let next : Bytes = perform book call .book in
-    part next 7 57 ∷ heads next calls
-
--- 0 of four replicas, in edition 1; in edition 2 with weights of 1, and with others
-firstBook : Bytes
-firstBook = firstEdition (splice 1 (0 ∷ []) (bookOf 4 []))
-
-onesBook : Bytes
-onesBook = splice 1 (0 ∷ []) (bookOf 4 (1 ∷ 1 ∷ 1 ∷ 1 ∷ []))
-
-otherBook : Bytes
-otherBook = splice 1 (0 ∷ []) (bookOf 4 (10 ∷ 256 ∷ 1000 ∷ 1 ∷ []))
-
-edition-stays : map (λ book. heads book others) (firstBook ∷ otherBook ∷ []) ≡
-    replicate 24 (1 ∷ zeros 56) ∷
-    replicate 24 (2 ∷ 10 ∷ 0 ∷ 0 ∷ 1 ∷ 232 ∷ 3 ∷ 1 ∷ zeros 49) ∷ []
-unfolding books reply others heads firstBook otherBook
+edition-stays : map (λ book. disagreement 1 (splice 1 (0 ∷ []) book)
+    (expect (submitting (entry 3)) (0 ∷ []) ((6, 1 ∷ []) ∷ (64, entry 3) ∷ []) [] ∷
+    expect (moving reply) (0 ∷ 4 ∷ 1 ∷ []) ((3, 8 ∷ []) ∷ []) (proposal 0 1 offered ++ replicate 224 9) ∷
+    expect (delivery (proposal 0 1 offered)) (0 ∷ 1 ∷ []) ((577, 1 ∷ []) ∷ (592, offered) ∷ []) [] ∷
+    expect (moving reply) (0 ∷ 5 ∷ 1 ∷ []) ((3, 12 ∷ []) ∷ []) (blockVote 0 1 (standIn offered) ++ replicate 224 9) ∷
+    expect (delivery (proposal 0 1 first)) (0 ∷ 1 ∷ []) ((3, 13 ∷ []) ∷ []) [] ∷
+    expect (signalling 1) (14 ∷ []) [] [] ∷
+    expect (moving reply) (0 ∷ 1 ∷ 1 ∷ []) ((3, 15 ∷ []) ∷ []) (dummyVote 0 1 ++ replicate 224 9) ∷
+    expect (delivery (blockVote 3 1 (standIn first))) (0 ∷ 1 ∷ []) ((584, 8 ∷ []) ∷ (1040, standIn first) ∷ []) [] ∷
+    expect (packetDelivery (dummyVote 1 1 ++ (dummyVote 4 1 ++ finalize 1 1))) (0 ∷ 2 ∷ 0 ∷ 1 ∷ [])
+    ((580, 2 ∷ []) ∷ (582, 2 ∷ []) ∷ []) [] ∷
+    expect (delivery (dummyVote 1 1)) (0 ∷ 0 ∷ []) [] [] ∷
+    expect (delivery (blockCertificate 1 15 first)) (0 ∷ 1 ∷ []) ((577, 3 ∷ 15 ∷ []) ∷ (768, first) ∷ []) [] ∷
+    expect (delivery (dummyCertificate 1 15)) (0 ∷ 1 ∷ []) ((580, 15 ∷ []) ∷ []) [] ∷
+    expect (delivery (finalizeCertificate 1 15)) (0 ∷ 1 ∷ []) ((582, 15 ∷ []) ∷ []) [] ∷
+    expect (moving reply) (0 ∷ 2 ∷ 1 ∷ []) ((5, 1 ∷ []) ∷ []) reply ∷
+    expect (moving reply) (0 ∷ 3 ∷ 1 ∷ 5 ∷ 0 ∷ []) ((3, 0 ∷ 2 ∷ []) ∷ []) (blockCertificate 1 15 first ++ zeros 224) ∷
+    expect (submitting (entry 1)) (13 ∷ []) [] [] ∷
+    expect sizing (0 ∷ 16 ∷ []) [] [] ∷
+    expect (fetching 6 1 (zeros 224)) (0 ∷ []) [] (dummyCertificate 1 15) ∷ []))
+    (firstEdition (bookOf (1 ∷ 1 ∷ 1 ∷ 1 ∷ [])) ∷ bookOf (10 ∷ 256 ∷ 1000 ∷ 1 ∷ []) ∷ []) ≡ 0 ∷ 0 ∷ []
+unfolding books offered
 edition-stays = refl
 
--- what these calls answer, in all three books
-others-answer : map (λ book. answers book others) (firstBook ∷ onesBook ∷ otherBook ∷ []) ≡
-    replicate 3
-    ((0 ∷ []) ∷ (0 ∷ 4 ∷ 1 ∷ []) ∷ (0 ∷ 1 ∷ []) ∷ (0 ∷ 5 ∷ 1 ∷ []) ∷
-    (0 ∷ 1 ∷ []) ∷ (14 ∷ []) ∷ (0 ∷ 1 ∷ 1 ∷ []) ∷
-    (0 ∷ 1 ∷ []) ∷ (0 ∷ 1 ∷ []) ∷ (0 ∷ 1 ∷ []) ∷
-    (5 ∷ []) ∷ (0 ∷ 1 ∷ []) ∷ (0 ∷ 1 ∷ []) ∷
-    (0 ∷ 2 ∷ 1 ∷ []) ∷ (0 ∷ 3 ∷ 1 ∷ 5 ∷ 0 ∷ []) ∷ (0 ∷ []) ∷ (0 ∷ 1 ∷ 1 ∷ 0 ∷ []) ∷
-    (13 ∷ []) ∷ (0 ∷ 16 ∷ []) ∷ entry 1 ∷ (0 ∷ []) ∷ (0 ∷ 1 ∷ 2 ∷ []) ∷ (0 ∷ 3 ∷ 2 ∷ 6 ∷ 0 ∷ []) ∷
-    (0 ∷ 0 ∷ 0 ∷ []) ∷ [])
-unfolding books reply others firstBook onesBook otherBook
-others-answer = refl
-
--- and every byte but those of edition and weights is the same afterwards
-others-leave : map (λ book. same (firstEdition (after book others)) (after firstBook others))
-    (onesBook ∷ otherBook ∷ []) ≡ true ∷ true ∷ []
-unfolding books reply others firstBook onesBook otherBook
-others-leave = refl
+-- the timer's signal, in a book of each edition
+signal-stays : map (λ book. disagreement 1 book (expect (signalling 1) (0 ∷ []) ((3, 1 ∷ []) ∷ []) [] ∷ []))
+    (firstEdition (bookOf (1 ∷ 1 ∷ 1 ∷ 1 ∷ [])) ∷ bookOf (10 ∷ 256 ∷ 1000 ∷ 1 ∷ []) ∷ []) ≡ 0 ∷ 0 ∷ []
+unfolding books
+signal-stays = refl

@@ -1,16 +1,15 @@
--- Why books must share weights, and not n alone (document 02, 2.6): four honest replicas, of which one has weights 9, 1,
--- 1, 1 in its book and the others books of edition 1, where all weigh 1, read logs that fork.
+-- Why books must share weights, and not n alone (document 02, 2.6): four honest replicas, of which one has weights 9,
+-- 1, 1, 1 in its book and the others books of edition 1, where all weigh 1, read logs that fork.
 use Prim.Native.Nat.{ℕ}
 use mathlib.Core.Path.{_≡_, refl}
 use mathlib.Core.List.{List, [], _∷_, _++_, map}
-use lib.ListN.{replicate}
 use Rattle.protocol.specs.Bytes.{Bytes, zeros}
 use Rattle.protocol.specs.Block.{newBlock}
 use Rattle.protocol.specs.Frame.{proposal, blockVote, dummyVote, finalize, blockCertificate, dummyCertificate}
 use Rattle.protocol.specs.Open.{Opening, unweighed}
 use Rattle.protocol.specs.Read.{readPart}
 use Rattle.protocol.specs.Call.{Call, Effect, opening, delivery, moving, signalling, submitting, effect}
-use Rattle.check_books.specs.CheckCalls.{standIn, weighing, after}
+use Rattle.check_books.specs.CheckCalls.{standIn, weighing}
 use Rattle.check_books.specs.CheckStates.{entry, stateTools}
 
 -- ---- the calls, on two heights that 0 and 1 lead
@@ -43,42 +42,32 @@ together way own =
     (ofThree (λ s. finalize s 2) ++
     (moving (zeros 448) ∷ []))))))
 
--- the log that is read after calls
-logAfter : List Call → Bytes
-logAfter calls = readPart standIn (after (zeros 2336) calls) (zeros 99)
-
--- the frames that calls write, in order
-wrote : Bytes → List Call → List Bytes
-wrote book [] = []
-wrote book (call ∷ calls) =
+-- the frames that calls write, in order, and then the log that is read
+told : Bytes → List Call → List Bytes
+told book [] = readPart standIn book (zeros 99) ∷ []
+told book (call ∷ calls) =
     let e : Effect = effect standIn book call in
-    e .writes ++ wrote (e .book) calls
+    e .writes ++ told (e .book) calls
 
 unfoldable lists : Unit {0}
-unfolding stateTools mine theirs alone ofThree together logAfter wrote
+unfolding stateTools mine theirs alone ofThree together told
 lists = tt
 
--- ---- 0 settles its block by its own vote, a quorum of 9 of 12; the others pass height 1 as a dummy and settle another
-fork-without-shared-weights : logAfter (alone (weighing (9 ∷ 1 ∷ 1 ∷ 1 ∷ []))) ∷
-    map (λ own. logAfter (together unweighed own)) (1 ∷ 2 ∷ 3 ∷ []) ≡ entry 1 ∷ replicate 3 (entry 2)
+-- ---- the fork
+-- 0 settles its block by its own vote, 9 of 12; the others pass height 1 as a dummy and settle another block. All four
+-- are honest: what was delivered in a replica's name is what its own calls wrote.
+fork-without-shared-weights : told (zeros 2336) (alone (weighing (9 ∷ 1 ∷ 1 ∷ 1 ∷ []))) ∷
+    map (λ own. told (zeros 2336) (together unweighed own)) (1 ∷ 2 ∷ 3 ∷ []) ≡
+    (proposal 0 1 mine ∷ blockVote 0 1 (standIn mine) ∷ blockCertificate 1 1 mine ∷ finalize 0 1 ∷ entry 1 ∷ []) ∷
+    (dummyVote 1 1 ∷ dummyCertificate 1 14 ∷ proposal 1 2 theirs ∷ blockVote 1 2 (standIn theirs) ∷
+    blockCertificate 2 14 theirs ∷ finalize 1 2 ∷ entry 2 ∷ []) ∷
+    map (λ s. dummyVote s 1 ∷ dummyCertificate 1 14 ∷ blockVote s 2 (standIn theirs) ∷
+    blockCertificate 2 14 theirs ∷ finalize s 2 ∷ entry 2 ∷ []) (2 ∷ 3 ∷ [])
 unfolding lists
 fork-without-shared-weights = refl
 
--- all four are honest: what was delivered in a replica's name is what its own calls wrote
-written-by-0 : wrote (zeros 2336) (alone (weighing (9 ∷ 1 ∷ 1 ∷ 1 ∷ []))) ≡
-    proposal 0 1 mine ∷ blockVote 0 1 (standIn mine) ∷ blockCertificate 1 1 mine ∷ finalize 0 1 ∷ []
-unfolding lists
-written-by-0 = refl
-
-written-by-the-others : map (λ own. wrote (zeros 2336) (together unweighed own)) (1 ∷ 2 ∷ 3 ∷ []) ≡
-    (dummyVote 1 1 ∷ dummyCertificate 1 14 ∷ proposal 1 2 theirs ∷ blockVote 1 2 (standIn theirs) ∷
-    blockCertificate 2 14 theirs ∷ finalize 1 2 ∷ []) ∷
-    map (λ s. dummyVote s 1 ∷ dummyCertificate 1 14 ∷ blockVote s 2 (standIn theirs) ∷
-    blockCertificate 2 14 theirs ∷ finalize s 2 ∷ []) (2 ∷ 3 ∷ [])
-unfolding lists
-written-by-the-others = refl
-
--- where weights are shared one side reads nothing: all weigh 1, or 0 weighs 9 in each book
-shared-weights : logAfter (alone unweighed) ∷ logAfter (together (weighing (9 ∷ 1 ∷ 1 ∷ 1 ∷ [])) 1) ∷ [] ≡ [] ∷ [] ∷ []
+-- where its book has the others' weights, 0 reads nothing
+shared-weights : told (zeros 2336) (alone unweighed) ≡
+    proposal 0 1 mine ∷ blockVote 0 1 (standIn mine) ∷ [] ∷ []
 unfolding lists
 shared-weights = refl

@@ -6,7 +6,7 @@ use mathlib.Core.Bool.{Bool}
 use mathlib.Core.List.{List, [], _∷_, _++_, map}
 use lib.ListN.{replicate}
 use Rattle.protocol.specs.Bytes.{Bytes, zeros, le16}
-use Rattle.protocol.specs.State.{headBytes, encode, decode, headUnused, withEdition}
+use Rattle.protocol.specs.State.{padded, headBytes, encode, decode, headUnused, withEdition}
 use Rattle.protocol.specs.Sound.{view, sound}
 use Rattle.protocol.specs.Open.{unweighed, weighed, startState, newState}
 use Rattle.check_books.specs.CheckCalls.{standIn, oneBytes, splice, firstEdition}
@@ -49,6 +49,12 @@ first-heads : headOf 1 4 (1 ∷ 1 ∷ 1 ∷ 1 ∷ []) ∷ headOf 1 16 (replicate
     (4 ∷ 3 ∷ 0 ∷ 1 ∷ 1 ∷ 0 ∷ 0 ∷ 1 ∷ zeros 56) ∷ (16 ∷ 3 ∷ 0 ∷ 1 ∷ 1 ∷ 0 ∷ 0 ∷ 1 ∷ zeros 56) ∷ []
 unfolding weights headOf
 first-heads = refl
+
+-- sixteen of them, filled up with zeros
+padding : map padded ([] ∷ four ∷ sixteen ∷ (sixteen ++ four) ∷ []) ≡
+    zeros 16 ∷ (10 ∷ 256 ∷ 1000 ∷ 1 ∷ zeros 12) ∷ sixteen ∷ sixteen ∷ []
+unfolding weights
+padding = refl
 
 -- ---- and back
 -- a head of edition 2 with n and these bytes from 8 on; of edition 1
