@@ -12,7 +12,7 @@ use package.Rattle.protocol.specs.Bytes.{Bytes}
 use package.Rattle.protocol.specs.Frame.{kind, signer, frameHeight, signerMask, frameDigest, frameBlock, carriesBlock}
 use package.Rattle.protocol.specs.Frame.{isProposal, isBlockVote, isDummyVote, isFinalize, isBlockCertificate}
 use package.Rattle.protocol.specs.Frame.{isDummyCertificate, isFinalizeCertificate}
-use package.Rattle.protocol.specs.Mask.{inMask, ones}
+use package.Rattle.protocol.specs.Mask.{inMask, weigh, total}
 use package.Rattle.protocol.specs.Call.{Call, Effect, effect}
 use package.Rattle.agreement.specs.Lists.{Member, Statement, proposes, votesBlock, votesDummy, finalizes, when, blockIn, Begins, HonestIn, FewDishonest, orElse}
 use package.mathlib.Core.Path.{_≡_ as _is-kept_, refl as by-text}
@@ -62,15 +62,15 @@ same·Begins : Begins·kept is-kept page.Begins
 unfolding Begins·kept page.Begins
 same·Begins = by-text
 
-HonestIn·kept : ℕ → ℕ → ℕ → Type 0
-HonestIn·kept n dishonest s = (s < n) × (inMask dishonest s ≡ false)
+HonestIn·kept : List ℕ → ℕ → ℕ → Type 0
+HonestIn·kept weights dishonest s = (s < length weights) × (inMask dishonest s ≡ false)
 
 same·HonestIn : HonestIn·kept is-kept page.HonestIn
 unfolding HonestIn·kept page.HonestIn
 same·HonestIn = by-text
 
-abbrev FewDishonest·kept : ℕ → ℕ → Type 0
-FewDishonest·kept n dishonest = 3 * ones dishonest n < n
+abbrev FewDishonest·kept : List ℕ → ℕ → Type 0
+FewDishonest·kept weights dishonest = 3 * weigh (λ s. inMask dishonest s) weights < total weights
 
 same·FewDishonest : FewDishonest·kept is-kept page.FewDishonest
 same·FewDishonest = by-text
@@ -102,16 +102,16 @@ module _ (digest : Bytes → Bytes) where
   abbrev lastLeft : ℕ → List Member → Option Bytes
   lastLeft = page.lastLeft digest
 
-  abbrev Opens : ℕ → ℕ → Member → Type 0
+  abbrev Opens : List ℕ → ℕ → Member → Type 0
   Opens = page.Opens digest
 
   abbrev Continues : Bytes → Member → Type 0
   Continues = page.Continues digest
 
-  abbrev Follows : ℕ → ℕ → Member → Option Bytes → Type 0
+  abbrev Follows : List ℕ → ℕ → Member → Option Bytes → Type 0
   Follows = page.Follows digest
 
-  abbrev KeepsOneBook : ℕ → List Member → ℕ → Type 0
+  abbrev KeepsOneBook : List ℕ → List Member → ℕ → Type 0
   KeepsOneBook = page.KeepsOneBook digest
 
   abbrev Wrote : ℕ → Statement → List Member → Type 0
@@ -180,8 +180,8 @@ module _ (digest : Bytes → Bytes) where
   unfolding lastLeft·kept page.lastLeft
   same·lastLeft = by-text
 
-  Opens·kept : ℕ → ℕ → Member → Type 0
-  Opens·kept n s m = does m .opens ≡ some (record { n = n; own = s })
+  Opens·kept : List ℕ → ℕ → Member → Type 0
+  Opens·kept weights s m = does m .opens ≡ some (record { weights = weights; own = s })
 
   same·Opens : Opens·kept is-kept page.Opens digest
   unfolding Opens·kept page.Opens
@@ -194,18 +194,18 @@ module _ (digest : Bytes → Bytes) where
   unfolding Continues·kept page.Continues
   same·Continues = by-text
 
-  Follows·kept : ℕ → ℕ → Member → Option Bytes → Type 0
-  Follows·kept n s m none = Opens n s m
-  Follows·kept n s m (some book) = Continues book m
+  Follows·kept : List ℕ → ℕ → Member → Option Bytes → Type 0
+  Follows·kept weights s m none = Opens weights s m
+  Follows·kept weights s m (some book) = Continues book m
 
   same·Follows : Follows·kept is-kept page.Follows digest
   unfolding Follows·kept page.Follows
   same·Follows = by-text
 
-  KeepsOneBook·kept : ℕ → List Member → ℕ → Type 0
-  KeepsOneBook·kept n list s =
+  KeepsOneBook·kept : List ℕ → List Member → ℕ → Type 0
+  KeepsOneBook·kept weights list s =
       (before : List Member) (m : Member) (after : List Member) →
-      list ≡ before ++ (m ∷ after) → m .replica ≡ s → Follows n s m (lastLeft s before)
+      list ≡ before ++ (m ∷ after) → m .replica ≡ s → Follows weights s m (lastLeft s before)
 
   same·KeepsOneBook : KeepsOneBook·kept is-kept page.KeepsOneBook digest
   unfolding KeepsOneBook·kept page.KeepsOneBook
@@ -255,13 +255,13 @@ module _ (digest : Bytes → Bytes) where
 
   Agreement·kept : Type 0
   Agreement·kept =
-      (n dishonest : ℕ) (list : List Member) →
-      FewDishonest n dishonest →
-      ((s : ℕ) → HonestIn n dishonest s → KeepsOneBook n list s) →
-      NotForged (HonestIn n dishonest) (HonestIn n dishonest) list →
-      NoCollision (HonestIn n dishonest) list →
+      (weights : List ℕ) (dishonest : ℕ) (list : List Member) →
+      FewDishonest weights dishonest →
+      ((s : ℕ) → HonestIn weights dishonest s → KeepsOneBook weights list s) →
+      NotForged (HonestIn weights dishonest) (HonestIn weights dishonest) list →
+      NoCollision (HonestIn weights dishonest) list →
       (m m′ : Member) (part part′ : Bytes) → List·Memᴰ m list → List·Memᴰ m′ list →
-      HonestIn n dishonest (m .replica) → HonestIn n dishonest (m′ .replica) →
+      HonestIn weights dishonest (m .replica) → HonestIn weights dishonest (m′ .replica) →
       Reads m part → Reads m′ part′ → Begins part part′ ⊎ Begins part′ part
 
   same·Agreement : Agreement·kept is-kept page.Agreement digest

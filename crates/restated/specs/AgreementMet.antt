@@ -6,11 +6,12 @@ use package.mathlib.Core.Logic.{_≢_}
 use package.mathlib.Core.Bool.{Bool, true, _&&_, not}
 use package.mathlib.Core.List.{List, [], List·Memᴰ}
 use package.mathlib.Core.Option.{some}
+use package.lib.Dec.{eqb}
 use package.Rattle.protocol.specs.Bytes.{Bytes}
 use package.Rattle.protocol.specs.State.{decode, flag}
 use package.Rattle.protocol.specs.Move.{isSome}
-use package.Rattle.agreement.specs.Lists.{Member, Statement, statementOf, delivers, HonestIn, FewDishonest, KeepsOneBook}
-use package.Rattle.agreement.specs.Lists.{NotForged, NoCollision, Reads, does}
+use package.Rattle.agreement.specs.Lists.{Member, Statement, statementOf, delivers, Begins, HonestIn, FewDishonest}
+use package.Rattle.agreement.specs.Lists.{KeepsOneBook, NotForged, NoCollision, Reads, does}
 use package.Rattle.agreement.specs.Unpacked.{packetIn}
 use package.Rattle.agreement.specs.Met.{MemberOf}
 use package.mathlib.Core.Path.{_≡_ as _is-kept_, refl as by-text}
@@ -21,6 +22,13 @@ MemberOf·kept list s P = (m : Member) × List·Memᴰ m list × (m .replica ≡
 
 same·MemberOf : MemberOf·kept is-kept page.MemberOf
 same·MemberOf = by-text
+
+hasEdition·kept : ℕ → Member → Bool
+hasEdition·kept edition m = eqb (decode (m .book) .edition) edition
+
+same·hasEdition : hasEdition·kept is-kept page.hasEdition
+unfolding hasEdition·kept page.hasEdition
+same·hasEdition = by-text
 
 isPacket·kept : Member → Bool
 isPacket·kept m = isSome (packetIn (m .call))
@@ -33,7 +41,7 @@ module _ (digest : Bytes → Bytes) where
   abbrev Hears : ℕ → Statement → Member → Type 0
   Hears = page.Hears digest
 
-  abbrev Met : (n dishonest : ℕ) (list : List Member) (part : Bytes) → Type 0
+  abbrev Met : (weights : List ℕ) (dishonest : ℕ) (list : List Member) (shorter part : Bytes) → Type 0
   Met = page.Met digest
 
   abbrev Hears·kept : ℕ → Statement → Member → Type 0
@@ -49,6 +57,12 @@ module _ (digest : Bytes → Bytes) where
   same·HearsWhere : HearsWhere·kept is-kept page.HearsWhere digest
   same·HearsWhere = by-text
 
+  abbrev ReadsWhere·kept : (Member → Bool) → Bytes → Member → Type 0
+  ReadsWhere·kept test part m = (test m ≡ true) × Reads digest m part
+
+  same·ReadsWhere : ReadsWhere·kept is-kept page.ReadsWhere digest
+  same·ReadsWhere = by-text
+
   firesTimer·kept : Member → Bool
   firesTimer·kept m = not (flag 1 (decode (m .book))) && flag 1 (decode (does digest m .book))
 
@@ -58,19 +72,19 @@ module _ (digest : Bytes → Bytes) where
 
   Claim·kept : (Bytes → Bytes → Type 0) → Type 0
   Claim·kept Conclusion =
-      (n dishonest : ℕ) (list : List Member) →
-      FewDishonest n dishonest →
-      ((s : ℕ) → HonestIn n dishonest s → KeepsOneBook digest n list s) →
-      NotForged digest (HonestIn n dishonest) (HonestIn n dishonest) list →
-      NoCollision digest (HonestIn n dishonest) list →
+      (weights : List ℕ) (dishonest : ℕ) (list : List Member) →
+      FewDishonest weights dishonest →
+      ((s : ℕ) → HonestIn weights dishonest s → KeepsOneBook digest weights list s) →
+      NotForged digest (HonestIn weights dishonest) (HonestIn weights dishonest) list →
+      NoCollision digest (HonestIn weights dishonest) list →
       (m m′ : Member) (part part′ : Bytes) → List·Memᴰ m list → List·Memᴰ m′ list →
-      HonestIn n dishonest (m .replica) → HonestIn n dishonest (m′ .replica) →
+      HonestIn weights dishonest (m .replica) → HonestIn weights dishonest (m′ .replica) →
       Reads digest m part → Reads digest m′ part′ → Conclusion part part′
 
   same·Claim : Claim·kept is-kept page.Claim digest
   unfolding Claim·kept page.Claim
   same·Claim = by-text
 
-  Met·kept : (n dishonest : ℕ) (list : List Member) (part : Bytes) (few : FewDishonest n dishonest) (keeps : (s : ℕ) → HonestIn n dishonest s → KeepsOneBook digest n list s) (unforged : NotForged digest (HonestIn n dishonest) (HonestIn n dishonest) list) (collisionless : NoCollision digest (HonestIn n dishonest) list) (honest-0 : HonestIn n dishonest 0) (honest-1 : HonestIn n dishonest 1) (reads-0 : MemberOf list 0 (λ m. Reads digest m part)) (reads-1 : MemberOf list 1 (λ m. Reads digest m part)) (not-empty : part ≢ []) →
-      Met n dishonest list part
-  Met·kept n dishonest list part x0 x1 x2 x3 x4 x5 x6 x7 x8 = record { few = x0; keeps = x1; unforged = x2; collisionless = x3; honest-0 = x4; honest-1 = x5; reads-0 = x6; reads-1 = x7; not-empty = x8 }
+  Met·kept : (weights : List ℕ) (dishonest : ℕ) (list : List Member) (shorter part : Bytes) (few : FewDishonest weights dishonest) (keeps : (s : ℕ) → HonestIn weights dishonest s → KeepsOneBook digest weights list s) (unforged : NotForged digest (HonestIn weights dishonest) (HonestIn weights dishonest) list) (collisionless : NoCollision digest (HonestIn weights dishonest) list) (honest-0 : HonestIn weights dishonest 0) (honest-1 : HonestIn weights dishonest 1) (reads-0 : MemberOf list 0 (λ m. Reads digest m part)) (reads-1 : MemberOf list 1 (λ m. Reads digest m part)) (not-empty : part ≢ []) (reads-shorter : MemberOf list 1 (λ m. Reads digest m shorter)) (begins : Begins shorter part) (begins-not : Begins part shorter → ⊥) →
+      Met weights dishonest list shorter part
+  Met·kept weights dishonest list shorter part x0 x1 x2 x3 x4 x5 x6 x7 x8 x9 x10 x11 = record { few = x0; keeps = x1; unforged = x2; collisionless = x3; honest-0 = x4; honest-1 = x5; reads-0 = x6; reads-1 = x7; not-empty = x8; reads-shorter = x9; begins = x10; begins-not = x11 }

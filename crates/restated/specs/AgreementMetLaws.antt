@@ -23,6 +23,8 @@ module _ (digest : Bytes → Bytes) where
   claim-is-agreement·kept = page.claim-is-agreement digest
 
 module _ (digest : Bytes → Bytes) where
-  module _ (n dishonest : ℕ) (list : List Member) (part : Bytes) (met : Met digest n dishonest list part) where
-    pub applies·kept : (Conclusion : Bytes → Bytes → Type 0) → Claim digest Conclusion → Conclusion part part
-    applies·kept = page.applies digest n dishonest list part met
+  module _ (weights : List ℕ) (dishonest : ℕ) (list : List Member) (shorter part : Bytes)
+      (met : Met digest weights dishonest list shorter part) where
+    pub applies·kept : (Conclusion : Bytes → Bytes → Type 0) → Claim digest Conclusion →
+        Conclusion part part × Conclusion shorter part
+    applies·kept = page.applies digest weights dishonest list shorter part met

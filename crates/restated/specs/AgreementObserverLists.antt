@@ -74,10 +74,10 @@ module _ (digest : Bytes → Bytes) where
   abbrev observerLastLeft : ℕ → List ObserverMember → Option Bytes
   observerLastLeft = page.observerLastLeft digest
 
-  abbrev ObserverFollows : ℕ → ObserverMember → Option Bytes → Type 0
+  abbrev ObserverFollows : List ℕ → ObserverMember → Option Bytes → Type 0
   ObserverFollows = page.ObserverFollows digest
 
-  abbrev ObserverKeepsOneBook : ℕ → List ObserverMember → ℕ → Type 0
+  abbrev ObserverKeepsOneBook : List ℕ → List ObserverMember → ℕ → Type 0
   ObserverKeepsOneBook = page.ObserverKeepsOneBook digest
 
   abbrev NoneForged : (members : AnyMember → Type 0) (names : ℕ → Type 0) → List AnyMember → Type 0
@@ -134,18 +134,18 @@ module _ (digest : Bytes → Bytes) where
   unfolding observerLastLeft·kept page.observerLastLeft
   same·observerLastLeft = by-text
 
-  ObserverFollows·kept : ℕ → ObserverMember → Option Bytes → Type 0
-  ObserverFollows·kept n m none = observes m .opens ≡ some n
-  ObserverFollows·kept n m (some book) = (m .book ≡ book) × (observes m .opens ≡ none)
+  ObserverFollows·kept : List ℕ → ObserverMember → Option Bytes → Type 0
+  ObserverFollows·kept weights m none = observes m .opens ≡ some weights
+  ObserverFollows·kept weights m (some book) = (m .book ≡ book) × (observes m .opens ≡ none)
 
   same·ObserverFollows : ObserverFollows·kept is-kept page.ObserverFollows digest
   unfolding ObserverFollows·kept page.ObserverFollows
   same·ObserverFollows = by-text
 
-  ObserverKeepsOneBook·kept : ℕ → List ObserverMember → ℕ → Type 0
-  ObserverKeepsOneBook·kept n list s =
+  ObserverKeepsOneBook·kept : List ℕ → List ObserverMember → ℕ → Type 0
+  ObserverKeepsOneBook·kept weights list s =
       (before : List ObserverMember) (m : ObserverMember) (after : List ObserverMember) →
-      list ≡ before ++ (m ∷ after) → m .observer ≡ s → ObserverFollows n m (observerLastLeft s before)
+      list ≡ before ++ (m ∷ after) → m .observer ≡ s → ObserverFollows weights m (observerLastLeft s before)
 
   same·ObserverKeepsOneBook : ObserverKeepsOneBook·kept is-kept page.ObserverKeepsOneBook digest
   unfolding ObserverKeepsOneBook·kept page.ObserverKeepsOneBook
@@ -180,14 +180,14 @@ module _ (digest : Bytes → Bytes) where
 
   ObservedAgreement·kept : Type 1
   ObservedAgreement·kept =
-      (n dishonest : ℕ) (observers : ℕ → Type 0) (list : List AnyMember) →
-      FewDishonest n dishonest →
-      ((s : ℕ) → HonestIn n dishonest s → KeepsOneBook digest n (replicaCalls list) s) →
-      ((s : ℕ) → observers s → ObserverKeepsOneBook n (observerCalls list) s) →
-      NoneForged (Meant (HonestIn n dishonest) observers) (HonestIn n dishonest) list →
-      NoneCollide (Meant (HonestIn n dishonest) observers) list →
+      (weights : List ℕ) (dishonest : ℕ) (observers : ℕ → Type 0) (list : List AnyMember) →
+      FewDishonest weights dishonest →
+      ((s : ℕ) → HonestIn weights dishonest s → KeepsOneBook digest weights (replicaCalls list) s) →
+      ((s : ℕ) → observers s → ObserverKeepsOneBook weights (observerCalls list) s) →
+      NoneForged (Meant (HonestIn weights dishonest) observers) (HonestIn weights dishonest) list →
+      NoneCollide (Meant (HonestIn weights dishonest) observers) list →
       (m m′ : AnyMember) (part part′ : Bytes) → List·Memᴰ m list → List·Memᴰ m′ list →
-      Meant (HonestIn n dishonest) observers m → Meant (HonestIn n dishonest) observers m′ →
+      Meant (HonestIn weights dishonest) observers m → Meant (HonestIn weights dishonest) observers m′ →
       AnyReads m part → AnyReads m′ part′ → Begins part part′ ⊎ Begins part′ part
 
   same·ObservedAgreement : ObservedAgreement·kept is-kept page.ObservedAgreement digest

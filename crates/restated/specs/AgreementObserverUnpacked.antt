@@ -35,13 +35,13 @@ module _ (digest : Bytes → Bytes) where
 
   ObservedAgreementOn·kept : (granted list : List AnyMember) → Type 1
   ObservedAgreementOn·kept granted list =
-      (n dishonest : ℕ) (observers : ℕ → Type 0) → FewDishonest n dishonest →
-      ((s : ℕ) → HonestIn n dishonest s → KeepsOneBook digest n (replicaCalls granted) s) →
-      ((s : ℕ) → observers s → ObserverKeepsOneBook digest n (observerCalls granted) s) →
-      NoneForged digest (Meant (HonestIn n dishonest) observers) (HonestIn n dishonest) granted →
-      NoneCollide digest (Meant (HonestIn n dishonest) observers) granted →
+      (weights : List ℕ) (dishonest : ℕ) (observers : ℕ → Type 0) → FewDishonest weights dishonest →
+      ((s : ℕ) → HonestIn weights dishonest s → KeepsOneBook digest weights (replicaCalls granted) s) →
+      ((s : ℕ) → observers s → ObserverKeepsOneBook digest weights (observerCalls granted) s) →
+      NoneForged digest (Meant (HonestIn weights dishonest) observers) (HonestIn weights dishonest) granted →
+      NoneCollide digest (Meant (HonestIn weights dishonest) observers) granted →
       (m m′ : AnyMember) (part part′ : Bytes) → List·Memᴰ m list → List·Memᴰ m′ list →
-      Meant (HonestIn n dishonest) observers m → Meant (HonestIn n dishonest) observers m′ →
+      Meant (HonestIn weights dishonest) observers m → Meant (HonestIn weights dishonest) observers m′ →
       AnyReads digest m part → AnyReads digest m′ part′ → Begins part part′ ⊎ Begins part′ part
 
   same·ObservedAgreementOn : ObservedAgreementOn·kept is-kept page.ObservedAgreementOn digest

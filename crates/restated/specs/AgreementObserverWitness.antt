@@ -2,19 +2,22 @@
 -- crates/agreement/specs/ObserverWitness.antt.
 use package.Prim.Native.Nat.{ℕ, _<_}
 use package.mathlib.Core.Path.{_≡_}
-use package.mathlib.Core.Logic.{_≢_}
+use package.mathlib.Core.Logic.{_⊎_}
 use package.mathlib.Core.List.{List, [], _∷_, _++_, map}
 use package.lib.ListN.{getD, set, replicate}
 use package.Rattle.protocol.specs.Bytes.{Bytes, zeros}
 use package.Rattle.protocol.specs.Block.{newBlock}
 use package.Rattle.protocol.specs.Frame.{blockCertificate, dummyCertificate, dummyVote, finalizeCertificate}
+use package.Rattle.protocol.specs.Open.{unweighed}
 use package.Rattle.protocol.specs.Call.{bookAfter}
 use package.Rattle.protocol.specs.ObserverCall.{ObserverCall, observation, observerDelivery, observerMoving, observerOpening}
 use package.Rattle.protocol.specs.ObserverCall.{observerReading, observerSizing}
-use package.Rattle.agreement.specs.AnyDigest.{agreed, split, timeouts}
+use package.Rattle.agreement.specs.AnyDigest.{agreed, dishonest, heavyTwo, lightFour, openings, readings, split}
+use package.Rattle.agreement.specs.AnyDigest.{timeouts, way, weights}
+use package.Rattle.agreement.specs.Lists.{Begins}
 use package.Rattle.agreement.specs.ObserverLists.{AnyMember, ofObserver, ofReplica}
 use package.Rattle.agreement.specs.ObserverMet.{ObservedMet, ObserverOf, ObserverReads}
-use package.Rattle.agreement.specs.Turns.{Turn, anything, dishonest, entry, nextBlock, openings, readings}
+use package.Rattle.agreement.specs.Turns.{Turn, anything, nextBlock, nextLog}
 use package.Rattle.agreement.specs.ObserverWitness.{AnyTurn, byReplica, byObserver, observerHears, observerOpenings, observerHearings, lonelyEntry, lonelyBlock, lonely, byReplicas, buildAny, anythingObserved, meantObservers, anyTurns}
 use package.mathlib.Core.Path.{_≡_ as _is-kept_, refl as by-text}
 use package.Rattle.agreement.specs.ObserverWitness as page
@@ -60,8 +63,9 @@ same·anythingObserved = by-text
 
 observerOpenings·kept : List AnyTurn
 observerOpenings·kept =
-    byObserver 0 (observerOpening 4 2) ∷ byObserver 1 (observerOpening 4 3) ∷ byObserver 2 (observerOpening 1 1) ∷
-    byObserver 0 (observerOpening 4 3) ∷ []
+    byObserver 0 (observerOpening way 5 2) ∷ byObserver 1 (observerOpening way 5 3) ∷
+    byObserver 2 (observerOpening unweighed 5 1) ∷ byObserver 0 (observerOpening way 5 3) ∷
+    byObserver 1 (observerReading (zeros 16)) ∷ []
 
 same·observerOpenings : observerOpenings·kept is-kept page.observerOpenings
 unfolding observerOpenings·kept page.observerOpenings
@@ -69,12 +73,13 @@ same·observerOpenings = by-text
 
 observerHearings·kept : List AnyTurn
 observerHearings·kept =
-    observerHears 0 (dummyVote 1 2) ∷ observerHears 0 (blockCertificate 2 11 nextBlock) ∷
+    observerHears 0 (dummyVote 1 2) ∷ observerHears 0 (dummyCertificate 2 lightFour) ∷
+    observerHears 0 (blockCertificate 2 heavyTwo nextBlock) ∷
     observerHears 1 (finalizeCertificate 2 7) ∷ byObserver 1 observerMoving ∷
-    observerHears 1 (blockCertificate 2 11 nextBlock) ∷ observerHears 1 (dummyCertificate 1 11) ∷
+    observerHears 1 (blockCertificate 2 heavyTwo nextBlock) ∷ observerHears 1 (dummyCertificate 1 heavyTwo) ∷
     observerHears 0 (finalizeCertificate 2 7) ∷
     byObserver 0 observerMoving ∷ byObserver 1 observerMoving ∷ byObserver 0 observerMoving ∷
-    byObserver 0 observerSizing ∷ byObserver 0 (observerReading (zeros 16)) ∷ []
+    byObserver 0 observerSizing ∷ byObserver 0 (observerReading (zeros 32)) ∷ []
 
 same·observerHearings : observerHearings·kept is-kept page.observerHearings
 unfolding observerHearings·kept page.observerHearings
@@ -96,7 +101,7 @@ same·lonelyBlock = by-text
 
 lonely·kept : List AnyTurn
 lonely·kept =
-    observerHears 2 (blockCertificate 1 1 lonelyBlock) ∷ observerHears 2 (finalizeCertificate 1 1) ∷
+    observerHears 2 (blockCertificate 1 lightFour lonelyBlock) ∷ observerHears 2 (finalizeCertificate 1 lightFour) ∷
     byObserver 2 observerMoving ∷ byObserver 2 (observerReading (zeros 16)) ∷ []
 
 same·lonely : lonely·kept is-kept page.lonely
@@ -118,8 +123,8 @@ same·meantObservers = by-text
 anyTurns·kept : List AnyTurn
 anyTurns·kept =
     observerOpenings ++ (byReplicas openings ++ (lonely ++ (byReplicas split ++ (byReplicas timeouts ++
-    (observerHears 0 (dummyCertificate 1 11) ∷ (byReplicas agreed ++ (observerHearings ++
-    (byReplicas readings ++ (byObserver 1 (observerReading (zeros 20)) ∷ [])))))))))
+    (observerHears 0 (dummyCertificate 1 heavyTwo) ∷ (byReplicas agreed ++ (observerHearings ++
+    (byReplicas readings ++ (byObserver 1 (observerReading (zeros 40)) ∷ [])))))))))
 
 same·anyTurns : anyTurns·kept is-kept page.anyTurns
 unfolding anyTurns·kept page.anyTurns
@@ -133,12 +138,12 @@ module _ (digest : Bytes → Bytes) where
   ObserverWitness = page.ObserverWitness digest
 
   list·kept : List AnyMember
-  list·kept = buildAny digest anything anythingObserved anyTurns
+  list·kept = buildAny digest (anything 2) anythingObserved anyTurns
 
   same·list : list·kept is-kept page.list digest
   unfolding list·kept page.list
   same·list = by-text
 
-  ObserverWitness·kept : (met : ObservedMet digest 4 dishonest meantObservers list entry) (opens-0 : ObserverOf list 0 (λ m. m .call ≡ observerOpening 4 2)) (opens-1 : ObserverOf list 1 (λ m. m .call ≡ observerOpening 4 3)) (lonely-reads : ObserverOf list 2 (ObserverReads digest lonelyEntry)) (two-entries : lonelyEntry ≢ entry) →
+  ObserverWitness·kept : (met : ObservedMet digest weights dishonest meantObservers list [] nextLog) (opens-0 : ObserverOf list 0 (λ m. m .call ≡ observerOpening way 5 2)) (opens-1 : ObserverOf list 1 (λ m. m .call ≡ observerOpening way 5 3)) (opens-2 : ObserverOf list 2 (λ m. m .call ≡ observerOpening unweighed 5 1)) (lonely-reads : ObserverOf list 2 (ObserverReads digest lonelyEntry)) (two-logs : Begins lonelyEntry nextLog ⊎ Begins nextLog lonelyEntry → ⊥) →
       ObserverWitness
-  ObserverWitness·kept x0 x1 x2 x3 x4 = record { met = x0; opens-0 = x1; opens-1 = x2; lonely-reads = x3; two-entries = x4 }
+  ObserverWitness·kept x0 x1 x2 x3 x4 x5 = record { met = x0; opens-0 = x1; opens-1 = x2; opens-2 = x3; lonely-reads = x4; two-logs = x5 }

@@ -28,7 +28,7 @@ unfolding listed·kept page.listed
 same·listed = by-text
 
 packetIn·kept : Call → Option Bytes
-packetIn·kept (opening n own heights leaders) = none
+packetIn·kept (opening way n own heights leaders) = none
 packetIn·kept (delivery frame) = none
 packetIn·kept (packetDelivery packet) = some packet
 packetIn·kept (moving reply) = none
@@ -104,18 +104,18 @@ module _ (digest : Bytes → Bytes) where
   unfolding readBy·kept page.readBy
   same·readBy = by-text
 
-  Unpacks·kept : (list : List Member) (no-packet : (m : Member) → List·Memᴰ m (unpacked list) → packetIn (m .call) ≡ none) (same-delivered : (s : ℕ) → gathered (delivers digest) s (unpacked list) ≡ gathered (delivers digest) s list) (same-written : (s : ℕ) → gathered (writes digest) s (unpacked list) ≡ gathered (writes digest) s list) (same-read : (s : ℕ) → gathered readBy s (unpacked list) ≡ gathered readBy s list) (same-keeping : (n s : ℕ) → KeepsOneBook digest n list s → KeepsOneBook digest n (unpacked list) s) (same-left : (n s : ℕ) → KeepsOneBook digest n list s → lastLeft digest s (unpacked list) ≡ lastLeft digest s list) (same-unforged : (books names : ℕ → Type 0) → NotForged digest books names list ↔ NotForged digest books names (unpacked list)) (same-collisions : (books : ℕ → Type 0) → NoCollision digest books list ↔ NoCollision digest books (unpacked list)) (same-readings : (m : Member) (part : Bytes) → Reads digest m part → List·Memᴰ m list ↔ List·Memᴰ m (unpacked list)) →
+  Unpacks·kept : (list : List Member) (no-packet : (m : Member) → List·Memᴰ m (unpacked list) → packetIn (m .call) ≡ none) (same-delivered : (s : ℕ) → gathered (delivers digest) s (unpacked list) ≡ gathered (delivers digest) s list) (same-written : (s : ℕ) → gathered (writes digest) s (unpacked list) ≡ gathered (writes digest) s list) (same-read : (s : ℕ) → gathered readBy s (unpacked list) ≡ gathered readBy s list) (same-keeping : (weights : List ℕ) (s : ℕ) → KeepsOneBook digest weights list s → KeepsOneBook digest weights (unpacked list) s) (same-left : (weights : List ℕ) (s : ℕ) → KeepsOneBook digest weights list s → lastLeft digest s (unpacked list) ≡ lastLeft digest s list) (same-unforged : (books names : ℕ → Type 0) → NotForged digest books names list ↔ NotForged digest books names (unpacked list)) (same-collisions : (books : ℕ → Type 0) → NoCollision digest books list ↔ NoCollision digest books (unpacked list)) (same-readings : (m : Member) (part : Bytes) → Reads digest m part → List·Memᴰ m list ↔ List·Memᴰ m (unpacked list)) →
       Unpacks list
   Unpacks·kept list x0 x1 x2 x3 x4 x5 x6 x7 x8 = record { no-packet = x0; same-delivered = x1; same-written = x2; same-read = x3; same-keeping = x4; same-left = x5; same-unforged = x6; same-collisions = x7; same-readings = x8 }
 
   AgreementOn·kept : (granted list : List Member) → Type 0
   AgreementOn·kept granted list =
-      (n dishonest : ℕ) → FewDishonest n dishonest →
-      ((s : ℕ) → HonestIn n dishonest s → KeepsOneBook digest n granted s) →
-      NotForged digest (HonestIn n dishonest) (HonestIn n dishonest) granted →
-      NoCollision digest (HonestIn n dishonest) granted →
+      (weights : List ℕ) (dishonest : ℕ) → FewDishonest weights dishonest →
+      ((s : ℕ) → HonestIn weights dishonest s → KeepsOneBook digest weights granted s) →
+      NotForged digest (HonestIn weights dishonest) (HonestIn weights dishonest) granted →
+      NoCollision digest (HonestIn weights dishonest) granted →
       (m m′ : Member) (part part′ : Bytes) → List·Memᴰ m list → List·Memᴰ m′ list →
-      HonestIn n dishonest (m .replica) → HonestIn n dishonest (m′ .replica) →
+      HonestIn weights dishonest (m .replica) → HonestIn weights dishonest (m′ .replica) →
       Reads digest m part → Reads digest m′ part′ → Begins part part′ ⊎ Begins part′ part
 
   same·AgreementOn : AgreementOn·kept is-kept page.AgreementOn digest

@@ -5,16 +5,18 @@ use package.mathlib.Core.Path.{_≡_}
 use package.mathlib.Core.Bool.{false}
 use package.mathlib.Core.List.{List, [], _∷_, _++_, map}
 use package.lib.ListN.{length, set}
+use package.Rattle.protocol.specs.Open.{Opening, openedEdition, openedWeights}
 use package.Rattle.protocol.specs.Bytes.{Bytes, byteAt, zeros, join, put}
-use package.Rattle.protocol.specs.State.{State, decode, flag, pending}
+use package.Rattle.protocol.specs.State.{State, decode, flag, pending, weightBytes, padded}
 use package.Rattle.protocol.specs.Submit.{stillPending}
 use package.Rattle.call_laws.specs.BookBytes.{Signals, entriesAfter, Submits}
 use package.mathlib.Core.Path.{_≡_ as _is-kept_, refl as by-text}
 use package.Rattle.call_laws.specs.BookBytes as page
 
-openedBook·kept : ℕ → ℕ → ℕ → Bytes → Bytes
-openedBook·kept n own heights leaders =
-    (n ∷ own ∷ heights ∷ 0 ∷ 1 ∷ 0 ∷ 0 ∷ 1 ∷ zeros 568) ++
+openedBook·kept : Opening → ℕ → ℕ → ℕ → Bytes → Bytes
+openedBook·kept way n own heights leaders =
+    (n ∷ own ∷ heights ∷ 0 ∷ 1 ∷ 0 ∷ 0 ∷ openedEdition way ∷
+    (weightBytes (openedEdition way) (padded (openedWeights n way)) ++ zeros 536)) ++
     (join (map (λ leader. leader ∷ zeros 15) leaders) ++ zeros (864 * heights))
 
 same·openedBook : openedBook·kept is-kept page.openedBook

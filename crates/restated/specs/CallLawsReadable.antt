@@ -23,9 +23,9 @@ IsRead·kept s frame = firstRefusal (readRows s frame) ≡ none
 same·IsRead : IsRead·kept is-kept page.IsRead
 same·IsRead = by-text
 
-SameSetting·kept : (s s′ : State) (same-n : s′ .n ≡ s .n) (same-last : last s′ ≡ last s) (same-leaders : (h : ℕ) → 1 ≤ h → h ≤ last s → at s′ h .leader ≡ at s h .leader) →
+SameSetting·kept : (s s′ : State) (same-n : s′ .n ≡ s .n) (same-weights : s′ .weights ≡ s .weights) (same-last : last s′ ≡ last s) (same-leaders : (h : ℕ) → 1 ≤ h → h ≤ last s → at s′ h .leader ≡ at s h .leader) →
     SameSetting s s′
-SameSetting·kept s s′ x0 x1 x2 = record { same-n = x0; same-last = x1; same-leaders = x2 }
+SameSetting·kept s s′ x0 x1 x2 x3 = record { same-n = x0; same-weights = x1; same-last = x2; same-leaders = x3 }
 
 abbrev DigestSized·kept : (Bytes → Bytes) → Type 0
 DigestSized·kept digest = (bytes : Bytes) → length (digest bytes) ≡ digestSize

@@ -6,7 +6,7 @@ use package.mathlib.Core.Bool.{true}
 use package.Rattle.protocol.specs.Bytes.{Bytes}
 use package.Rattle.protocol.specs.Sound.{sound}
 use package.Rattle.protocol.specs.Answer.{accepted, done}
-use package.Rattle.protocol.specs.Open.{openCall}
+use package.Rattle.protocol.specs.Open.{Opening, openCall}
 use package.Rattle.protocol.specs.Call.{Call}
 use package.Rattle.protocol.specs.Call.{bookAfter}
 use package.mathlib.Core.Path.{_≡_ as _is-kept_, refl as by-text}
@@ -17,7 +17,7 @@ module _ (digest : Bytes → Bytes) where
       sound digest (bookAfter digest book call) ≡ true
   sound-stays·kept = page.sound-stays digest
 
-  pub sound-opened·kept : (book : Bytes) (n own heights : ℕ) (leaders : Bytes) →
-      openCall book n own heights leaders .answer ≡ accepted done →
-      sound digest (openCall book n own heights leaders .book) ≡ true
+  pub sound-opened·kept : (way : Opening) (book : Bytes) (n own heights : ℕ) (leaders : Bytes) →
+      openCall way book n own heights leaders .answer ≡ accepted done →
+      sound digest (openCall way book n own heights leaders .book) ≡ true
   sound-opened·kept = page.sound-opened digest

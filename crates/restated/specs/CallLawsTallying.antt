@@ -8,7 +8,7 @@ use package.Rattle.protocol.specs.Bytes.{Bytes}
 use package.Rattle.protocol.specs.Sound.{sound}
 use package.Rattle.protocol.specs.State.{decode}
 use package.Rattle.protocol.specs.Answer.{accepted, done}
-use package.Rattle.protocol.specs.Open.{openCall}
+use package.Rattle.protocol.specs.Open.{Opening, openCall}
 use package.Rattle.protocol.specs.Call.{Call}
 use package.Rattle.protocol.specs.Call.{bookAfter, bookAfterAll}
 use package.Rattle.call_laws.specs.Keeping.{AllTallied}
@@ -24,7 +24,7 @@ module _ (digest : Bytes → Bytes) where
       AllTallied digest (decode book) → AllTallied digest (decode (bookAfterAll digest book calls))
   tallied-stays-all·kept = page.tallied-stays-all digest
 
-  pub tallied-opened·kept : (book : Bytes) (n own heights : ℕ) (leaders : Bytes) →
-      openCall book n own heights leaders .answer ≡ accepted done →
-      AllTallied digest (decode (openCall book n own heights leaders .book))
+  pub tallied-opened·kept : (way : Opening) (book : Bytes) (n own heights : ℕ) (leaders : Bytes) →
+      openCall way book n own heights leaders .answer ≡ accepted done →
+      AllTallied digest (decode (openCall way book n own heights leaders .book))
   tallied-opened·kept = page.tallied-opened digest

@@ -4,16 +4,19 @@ use package.Prim.Native.Nat.{ℕ, _*_, _≤_}
 use package.mathlib.Core.Path.{_≡_}
 use package.mathlib.Core.Bool.{true, false}
 use package.mathlib.Core.List.{List, [], _∷_, _++_, map}
-use package.lib.ListN.{length}
+use package.mathlib.Core.Option.{none}
+use package.lib.ListN.{length, replicate}
+use package.lib.Dec.{leb}
 use package.Rattle.sha256.specs.Digest.{sha256}
 use package.Rattle.protocol.specs.Bytes.{Bytes, AreBytes, byteAt, holds}
 use package.Rattle.protocol.specs.Distinct.{distinctAfter, distinct, noneTwice}
 use package.Rattle.protocol.specs.Frame.{frameSize}
 use package.Rattle.protocol.specs.State.{State, decode, flag}
-use package.Rattle.protocol.specs.View.{logAt}
+use package.Rattle.protocol.specs.Mask.{ones, intersection}
+use package.Rattle.protocol.specs.View.{View, maskWeight, quorum, totalWeight, logAt}
 use package.Rattle.protocol.specs.Sound.{view, sound, log}
 use package.Rattle.protocol.specs.Answer.{Done, Delivery, Counts, Move, accepted, done}
-use package.Rattle.protocol.specs.Open.{openRows, openCall}
+use package.Rattle.protocol.specs.Open.{Opening, openRows, openCall}
 use package.Rattle.protocol.specs.Deliver.{deliverRows, deliverCall, deliverAll}
 use package.Rattle.protocol.specs.Packet.{packetFrames, counted, packetRows, packetCall}
 use package.Rattle.protocol.specs.Move.{step, moved, moveRows, moveCall}
@@ -21,7 +24,7 @@ use package.Rattle.protocol.specs.Signal.{signalRows, signalCall}
 use package.Rattle.protocol.specs.Submit.{submitRows, submitCall}
 use package.Rattle.protocol.specs.Read.{sizeCall, readPart, readBuffer}
 use package.Rattle.protocol.specs.Fetch.{fetchRows, fetchCall}
-use package.Rattle.protocol.specs.Call.{Call, delivery, bookAfter, bookAfterAll}
+use package.Rattle.protocol.specs.Call.{Call, delivery, effect, bookAfter, bookAfterAll}
 use package.Rattle.agreement.specs.Lists.{Agreement, Member}
 use package.Rattle.agreement.specs.ObserverLists.{AnyMember, ObservedAgreement}
 use package.Rattle.agreement.specs.AnyDigest.{AnyDigest}
@@ -33,6 +36,7 @@ use package.Rattle.call_laws.specs.BookBytes.{openedBook, Signals, Submits, hea
 use package.Rattle.call_laws.specs.Equivocating.{Equivocation}
 use package.Rattle.call_laws.specs.Keeping.{Keeps, AllTallied}
 use package.Rattle.call_laws.specs.PacketKeeping.{KeepsAll}
+use package.Rattle.call_laws.specs.SettingStays.{SettingStays}
 use package.Rattle.call_laws.specs.Readable.{SameSetting}
 use package.Rattle.call_laws.specs.WrittenRead.{MoveWritten, FetchWritten}
 use package.Rattle.paper.specs.Steps.{FiveSteps}
@@ -42,9 +46,9 @@ use package.Rattle.paper.specs.Register.{ReadsChainOf, ReadsChain, CannotRead}
 use package.mathlib.Core.Path.{_≡_ as _is-kept_, refl as by-text}
 use package.Rattle.demands.specs.Demands as page
 
-pub open-refused·kept : (book : Bytes) (n own heights : ℕ) (leaders : Bytes) →
-    Refuses Done (openRows book n own heights leaders) (openCall book n own heights leaders .answer)
-    (book ∷ []) (openCall book n own heights leaders .book ∷ [])
+pub open-refused·kept : (way : Opening) (book : Bytes) (n own heights : ℕ) (leaders : Bytes) →
+    Refuses Done (openRows way book n own heights leaders) (openCall way book n own heights leaders .answer)
+    (book ∷ []) (openCall way book n own heights leaders .book ∷ [])
 open-refused·kept = page.open-refused
 
 pub deliver-refused·kept : (book frame : Bytes) →
@@ -84,9 +88,9 @@ pub read-refused·kept : (book buffer : Bytes) → CannotRead sha256 book buffer
     (readPart sha256 book buffer ≡ []) × (readBuffer sha256 book buffer ≡ buffer)
 read-refused·kept = page.read-refused
 
-pub open-writes·kept : (book : Bytes) (n own heights : ℕ) (leaders : Bytes) →
-    openCall book n own heights leaders .answer ≡ accepted done →
-    openCall book n own heights leaders .book ≡ openedBook n own heights leaders
+pub open-writes·kept : (way : Opening) (book : Bytes) (n own heights : ℕ) (leaders : Bytes) →
+    openCall way book n own heights leaders .answer ≡ accepted done →
+    openCall way book n own heights leaders .book ≡ openedBook way n own heights leaders
 open-writes·kept = page.open-writes
 
 pub signal-writes·kept : (book : Bytes) → AreBytes book → (h : ℕ) → signalCall sha256 book h .answer ≡ accepted done →
@@ -106,10 +110,14 @@ pub sound-stays·kept : (book : Bytes) (call : Call) → sound sha256 book ≡ t
     sound sha256 (bookAfter sha256 book call) ≡ true
 sound-stays·kept = page.sound-stays
 
-pub open-makes-sound·kept : (book : Bytes) (n own heights : ℕ) (leaders : Bytes) →
-    openCall book n own heights leaders .answer ≡ accepted done →
-    sound sha256 (openCall book n own heights leaders .book) ≡ true
+pub open-makes-sound·kept : (way : Opening) (book : Bytes) (n own heights : ℕ) (leaders : Bytes) →
+    openCall way book n own heights leaders .answer ≡ accepted done →
+    sound sha256 (openCall way book n own heights leaders .book) ≡ true
 open-makes-sound·kept = page.open-makes-sound
+
+pub settings-stay·kept : (book : Bytes) (call : Call) → sound sha256 book ≡ true → effect sha256 book call .opens ≡ none →
+    SettingStays (decode book) (decode (bookAfter sha256 book call))
+settings-stay·kept = page.settings-stay
 
 pub move-is-the-step·kept : (book reply : Bytes) → sound sha256 book ≡ true → 448 ≤ length reply →
     moveCall sha256 book reply ≡ moved reply (step sha256 (decode book))
@@ -166,9 +174,9 @@ pub packets-count·kept : (book packet : Bytes) (counts : Counts) → packetCall
     frameSize * counted counts ≡ length packet
 packets-count·kept = page.packets-count
 
-pub votes-are-tallied·kept : (book : Bytes) (n own heights : ℕ) (leaders : Bytes) (calls : List Call) →
-    openCall book n own heights leaders .answer ≡ accepted done →
-    AllTallied sha256 (decode (bookAfterAll sha256 (openCall book n own heights leaders .book) calls))
+pub votes-are-tallied·kept : (way : Opening) (book : Bytes) (n own heights : ℕ) (leaders : Bytes) (calls : List Call) →
+    openCall way book n own heights leaders .answer ≡ accepted done →
+    AllTallied sha256 (decode (bookAfterAll sha256 (openCall way book n own heights leaders .book) calls))
 votes-are-tallied·kept = page.votes-are-tallied
 
 pub the-register·kept : (book buffer : Bytes) (size : ℕ) → sizeCall sha256 book ≡ accepted size → size ≤ length buffer →
@@ -203,6 +211,22 @@ moves-are-read·kept = page.moves-are-read
 pub fetches-are-read·kept : (book : Bytes) (k h : ℕ) (reply other : Bytes) → SameSetting (decode book) (decode other) →
     FetchWritten sha256 book k h reply other
 fetches-are-read·kept = page.fetches-are-read
+
+pub quorums-share-a-third·kept : (v v′ : View) (a b : ℕ) → v′ .weights ≡ v .weights → quorum v a ≡ true →
+    quorum v′ b ≡ true → totalWeight v ≤ 3 * maskWeight v (intersection (length (v .weights)) a b)
+quorums-share-a-third·kept = page.quorums-share-a-third
+
+pub a-third-is-tight·kept : (v : View) → v .weights ≡ 10 ∷ 4 ∷ 6 ∷ 7 ∷ 3 ∷ [] →
+    (quorum v 30 ≡ true) × (quorum v 25 ≡ true) × (3 * maskWeight v (intersection 5 30 25) ≡ totalWeight v)
+a-third-is-tight·kept = page.a-third-is-tight
+
+pub equal-weights-count·kept : (v : View) (n weight mask : ℕ) → 1 ≤ weight → v .weights ≡ replicate n weight →
+    quorum v mask ≡ leb (2 * n) (3 * ones mask n)
+equal-weights-count·kept = page.equal-weights-count
+
+pub equal-quorums-share-a-third·kept : (v v′ : View) (n weight a b : ℕ) → 1 ≤ weight → v .weights ≡ replicate n weight →
+    v′ .weights ≡ replicate n weight → quorum v a ≡ true → quorum v′ b ≡ true → n ≤ 3 * ones (intersection n a b) n
+equal-quorums-share-a-third·kept = page.equal-quorums-share-a-third
 
 pub no-fork-with-observers·kept : ObservedAgreement sha256
 no-fork-with-observers·kept = page.no-fork-with-observers

@@ -4,8 +4,10 @@ use package.Prim.Native.Nat.{ℕ, _≤_}
 use package.mathlib.Core.Path.{_≡_}
 use package.mathlib.Core.Bool.{true, false}
 use package.mathlib.Core.List.{[], _∷_}
+use package.mathlib.Core.Option.{none}
 use package.lib.ListN.{length}
 use package.Rattle.sha256.specs.Digest.{sha256}
+use package.Rattle.protocol.specs.Open.{Opening}
 use package.Rattle.protocol.specs.Bytes.{Bytes, AreBytes, byteAt}
 use package.Rattle.protocol.specs.State.{decode}
 use package.Rattle.protocol.specs.Sound.{view, sound}
@@ -24,12 +26,13 @@ use package.Rattle.observer_laws.specs.ObserverKeeping.{ObserverKeeps}
 use package.Rattle.observer_laws.specs.CertificatesRead.{MoveReadByObserver, FetchReadByObserver}
 use package.Rattle.observer_laws.specs.Twins.{Twins, TwinsMoved, ObserverIdles}
 use package.Rattle.observer_laws.specs.TwinsMet.{TwinsMet}
+use package.Rattle.call_laws.specs.SettingStays.{SettingStays}
 use package.mathlib.Core.Path.{_≡_ as _is-kept_, refl as by-text}
 use package.Rattle.demands.specs.ObserverDemands as page
 
-pub observer-open-refused·kept : (book : Bytes) (n heights : ℕ) →
-    Refuses Done (observerOpenRows book n heights) (observerOpenCall book n heights .answer) (book ∷ [])
-    (observerOpenCall book n heights .book ∷ [])
+pub observer-open-refused·kept : (way : Opening) (book : Bytes) (n heights : ℕ) →
+    Refuses Done (observerOpenRows way book n heights) (observerOpenCall way book n heights .answer) (book ∷ [])
+    (observerOpenCall way book n heights .book ∷ [])
 observer-open-refused·kept = page.observer-open-refused
 
 pub observer-deliver-refused·kept : (book frame : Bytes) →
@@ -63,18 +66,24 @@ no-observer-book·kept = page.no-observer-book
 pub no-replica-book·kept : (book : Bytes) → observerSound sha256 book ≡ true → sound sha256 book ≡ false
 no-replica-book·kept = page.no-replica-book
 
-pub observer-open-writes·kept : (book : Bytes) (n heights : ℕ) → observerOpenCall book n heights .answer ≡ accepted done →
-    observerOpenCall book n heights .book ≡ openedObserver n heights
+pub observer-open-writes·kept : (way : Opening) (book : Bytes) (n heights : ℕ) →
+    observerOpenCall way book n heights .answer ≡ accepted done →
+    observerOpenCall way book n heights .book ≡ openedObserver way n heights
 observer-open-writes·kept = page.observer-open-writes
 
 pub observers-stay-sound·kept : (book : Bytes) (call : ObserverCall) → observerSound sha256 book ≡ true →
     observerSound sha256 (observation sha256 book call .book) ≡ true
 observers-stay-sound·kept = page.observers-stay-sound
 
-pub observer-open-makes-sound·kept : (book : Bytes) (n heights : ℕ) →
-    observerOpenCall book n heights .answer ≡ accepted done →
-    observerSound sha256 (observerOpenCall book n heights .book) ≡ true
+pub observer-open-makes-sound·kept : (way : Opening) (book : Bytes) (n heights : ℕ) →
+    observerOpenCall way book n heights .answer ≡ accepted done →
+    observerSound sha256 (observerOpenCall way book n heights .book) ≡ true
 observer-open-makes-sound·kept = page.observer-open-makes-sound
+
+pub observers-settings-stay·kept : (book : Bytes) → observerSound sha256 book ≡ true → (call : ObserverCall) →
+    observation sha256 book call .opens ≡ none →
+    SettingStays (observerState book) (observerState (observation sha256 book call .book))
+observers-settings-stay·kept = page.observers-settings-stay
 
 pub observers-keep·kept : (book frame : Bytes) (news : Delivery) →
     observerDeliverCall sha256 book frame .answer ≡ accepted news →
@@ -102,11 +111,12 @@ pub observers-read-nothing-else·kept : (book buffer : Bytes) (size : ℕ) → o
 observers-read-nothing-else·kept = page.observers-read-nothing-else
 
 pub moves-are-read-by-observers·kept : (book reply other : Bytes) → observerState other .n ≡ decode book .n →
-    MoveReadByObserver sha256 book reply other
+    observerState other .weights ≡ decode book .weights → MoveReadByObserver sha256 book reply other
 moves-are-read-by-observers·kept = page.moves-are-read-by-observers
 
 pub fetches-are-read-by-observers·kept : (book : Bytes) (k h : ℕ) (reply other : Bytes) →
-    observerState other .n ≡ decode book .n → FetchReadByObserver sha256 book k h reply other
+    observerState other .n ≡ decode book .n → observerState other .weights ≡ decode book .weights →
+    FetchReadByObserver sha256 book k h reply other
 fetches-are-read-by-observers·kept = page.fetches-are-read-by-observers
 
 pub same-certificates-same-log·kept : Twins sha256

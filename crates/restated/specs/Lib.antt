@@ -31,6 +31,7 @@ pub mod CallLawsPacketKeeping
 pub mod CallLawsReadable
 pub mod CallLawsRefusals
 pub mod CallLawsReply
+pub mod CallLawsSettingStays
 pub mod CallLawsWrittenRead
 pub mod ObserverLawsCertificatesRead
 pub mod ObserverLawsObserverKeeping
@@ -54,6 +55,7 @@ pub mod ProtocolBlock
 pub mod ProtocolBytes
 pub mod ProtocolCall
 pub mod ProtocolCertificates
+pub mod ProtocolComputing
 pub mod ProtocolDeliver
 pub mod ProtocolDistinct
 pub mod ProtocolEvery
@@ -123,6 +125,7 @@ pub mod CallLawsKeepingLaws
 pub mod CallLawsKeepsExactLaws
 pub mod CallLawsPacketKeepingLaws
 pub mod CallLawsReadLaws
+pub mod CallLawsSettingStaysLaws
 pub mod CallLawsSoundStays
 pub mod CallLawsTallying
 pub mod ObserverLawsCertificatesReadLaws
@@ -150,11 +153,14 @@ pub mod ProtocolCallLaws
 pub mod ProtocolChainLaws
 pub mod ProtocolDistinctLaws
 pub mod ProtocolFetchLaws
+pub mod ProtocolHeadLaws
 pub mod ProtocolLinkedLaws
 pub mod ProtocolLogLaws
 pub mod ProtocolPacketLaws
 pub mod ProtocolParentLaws
 pub mod ProtocolQuorumLaws
+pub mod ProtocolSettingLaws
+pub mod ProtocolSharedLaws
 pub mod ProtocolSoundLaws
 pub mod ProtocolStateLaws
 pub mod ProtocolViewLaws

@@ -12,9 +12,11 @@ use package.Rattle.observer_laws.specs.Laws.CertificatesReadLaws as page
 
 module _ (digest : Bytes → Bytes) where
   pub move-read-by-observer·kept : DigestSized digest → (book reply other : Bytes) →
-      observerState other .n ≡ decode book .n → MoveReadByObserver digest book reply other
+      observerState other .n ≡ decode book .n → observerState other .weights ≡ decode book .weights →
+      MoveReadByObserver digest book reply other
   move-read-by-observer·kept = page.move-read-by-observer digest
 
   pub fetch-read-by-observer·kept : (book : Bytes) (k h : ℕ) (reply other : Bytes) →
-      observerState other .n ≡ decode book .n → FetchReadByObserver digest book k h reply other
+      observerState other .n ≡ decode book .n → observerState other .weights ≡ decode book .weights →
+      FetchReadByObserver digest book k h reply other
   fetch-read-by-observer·kept = page.fetch-read-by-observer digest

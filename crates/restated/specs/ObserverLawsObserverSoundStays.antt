@@ -3,6 +3,7 @@
 use package.Prim.Native.Nat.{ℕ}
 use package.mathlib.Core.Path.{_≡_}
 use package.mathlib.Core.Bool.{true}
+use package.Rattle.protocol.specs.Open.{Opening}
 use package.Rattle.protocol.specs.Bytes.{Bytes}
 use package.Rattle.protocol.specs.Answer.{accepted, done}
 use package.Rattle.protocol.specs.ObserverSound.{observerSound}
@@ -17,7 +18,7 @@ module _ (digest : Bytes → Bytes) where
       observerSound digest (observation digest book call .book) ≡ true
   observer-sound-stays·kept = page.observer-sound-stays digest
 
-  pub observer-sound-opened·kept : (book : Bytes) (n heights : ℕ) →
-      observerOpenCall book n heights .answer ≡ accepted done →
-      observerSound digest (observerOpenCall book n heights .book) ≡ true
+  pub observer-sound-opened·kept : (way : Opening) (book : Bytes) (n heights : ℕ) →
+      observerOpenCall way book n heights .answer ≡ accepted done →
+      observerSound digest (observerOpenCall way book n heights .book) ≡ true
   observer-sound-opened·kept = page.observer-sound-opened digest

@@ -11,7 +11,7 @@ use package.Rattle.protocol.specs.Bytes.{Bytes}
 use package.Rattle.protocol.specs.Every.{Every}
 use package.Rattle.protocol.specs.Frame.{kind, frameSize, isCertificate}
 use package.Rattle.protocol.specs.Answer.{Outcome, Done, Move, accepted, done, idle}
-use package.Rattle.protocol.specs.Open.{openCall}
+use package.Rattle.protocol.specs.Open.{Opening, openedWeights, openCall}
 use package.Rattle.protocol.specs.Deliver.{deliverCall}
 use package.Rattle.protocol.specs.Packet.{packetFrames}
 use package.Rattle.protocol.specs.State.{decode}
@@ -28,7 +28,7 @@ use package.mathlib.Core.Path.{_≡_ as _is-kept_, refl as by-text}
 use package.Rattle.observer_laws.specs.Twins as page
 
 given·kept : Call → List Bytes
-given·kept (opening n own heights leaders) = []
+given·kept (opening way n own heights leaders) = []
 given·kept (delivery frame) = frame ∷ []
 given·kept (packetDelivery packet) = cond (eqb (length packet % frameSize) 0) (packetFrames packet) []
 given·kept (moving reply) = []
@@ -51,7 +51,7 @@ unfolding allGiven·kept page.allGiven
 same·allGiven = by-text
 
 givenToObserver·kept : ObserverCall → List Bytes
-givenToObserver·kept (observerOpening n heights) = []
+givenToObserver·kept (observerOpening way n heights) = []
 givenToObserver·kept (observerDelivery frame) = frame ∷ []
 givenToObserver·kept observerMoving = []
 givenToObserver·kept observerSizing = []
@@ -83,18 +83,18 @@ same·certificatesOf : certificatesOf·kept is-kept page.certificatesOf
 unfolding certificatesOf·kept page.certificatesOf
 same·certificatesOf = by-text
 
-Histories·kept : (n : ℕ) (heights : ℕ) (own : ℕ) (leaders : Bytes) (old : Bytes) (calls : List Call) (observerOld : Bytes) (observerCalls : List ObserverCall) →
+Histories·kept : (way : Opening) (observerWay : Opening) (n : ℕ) (heights : ℕ) (own : ℕ) (leaders : Bytes) (old : Bytes) (calls : List Call) (observerOld : Bytes) (observerCalls : List ObserverCall) →
     Histories
-Histories·kept x0 x1 x2 x3 x4 x5 x6 x7 = record { n = x0; heights = x1; own = x2; leaders = x3; old = x4; calls = x5; observerOld = x6; observerCalls = x7 }
+Histories·kept x0 x1 x2 x3 x4 x5 x6 x7 x8 x9 = record { way = x0; observerWay = x1; n = x2; heights = x3; own = x4; leaders = x5; old = x6; calls = x7; observerOld = x8; observerCalls = x9 }
 
 abbrev opens·kept : Histories → Outcome Done
-opens·kept both = openCall (both .old) (both .n) (both .own) (both .heights) (both .leaders)
+opens·kept both = openCall (both .way) (both .old) (both .n) (both .own) (both .heights) (both .leaders)
 
 same·opens : opens·kept is-kept page.opens
 same·opens = by-text
 
 abbrev observerOpens·kept : Histories → Outcome Done
-observerOpens·kept both = observerOpenCall (both .observerOld) (both .n) (both .heights)
+observerOpens·kept both = observerOpenCall (both .observerWay) (both .observerOld) (both .n) (both .heights)
 
 same·observerOpens : observerOpens·kept is-kept page.observerOpens
 same·observerOpens = by-text
@@ -141,9 +141,9 @@ module _ (digest : Bytes → Bytes) where
   unfolding observations·kept page.observations
   same·observations = by-text
 
-  SameCertificates·kept : (both : Histories) (opened : opens both .answer ≡ accepted done) (observer-opened : observerOpens both .answer ≡ accepted done) (opened-once : Every (λ (e : Effect). e .opens ≡ none) (effects (opens both .book) (both .calls))) (observer-opened-once : Every (λ (o : Observation). o .opens ≡ none) (observations (observerOpens both .book) (both .observerCalls))) (certificates : Every (λ (e : Effect). Every IsCertificate (e .delivers)) (effects (opens both .book) (both .calls))) (same : certificatesOf (allGivenToObserver (both .observerCalls)) ≡ certificatesOf (allGiven (both .calls))) →
+  SameCertificates·kept : (both : Histories) (same-weights : openedWeights (both .n) (both .observerWay) ≡ openedWeights (both .n) (both .way)) (opened : opens both .answer ≡ accepted done) (observer-opened : observerOpens both .answer ≡ accepted done) (opened-once : Every (λ (e : Effect). e .opens ≡ none) (effects (opens both .book) (both .calls))) (observer-opened-once : Every (λ (o : Observation). o .opens ≡ none) (observations (observerOpens both .book) (both .observerCalls))) (certificates : Every (λ (e : Effect). Every IsCertificate (e .delivers)) (effects (opens both .book) (both .calls))) (same : certificatesOf (allGivenToObserver (both .observerCalls)) ≡ certificatesOf (allGiven (both .calls))) →
       SameCertificates both
-  SameCertificates·kept both x0 x1 x2 x3 x4 x5 = record { opened = x0; observer-opened = x1; opened-once = x2; observer-opened-once = x3; certificates = x4; same = x5 }
+  SameCertificates·kept both x0 x1 x2 x3 x4 x5 x6 = record { same-weights = x0; opened = x1; observer-opened = x2; opened-once = x3; observer-opened-once = x4; certificates = x5; same = x6 }
 
   abbrev bookOf·kept : Histories → Bytes
   bookOf·kept both = bookAfterAll digest (opens both .book) (both .calls)

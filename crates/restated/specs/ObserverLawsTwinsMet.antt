@@ -4,6 +4,7 @@ use package.Prim.Native.Nat.{ℕ}
 use package.mathlib.Core.Path.{_≡_}
 use package.mathlib.Core.List.{List, [], _∷_, _++_}
 use package.lib.ListN.{replicate}
+use package.Rattle.protocol.specs.Open.{unweighed, weighed}
 use package.Rattle.protocol.specs.Bytes.{Bytes, zeros}
 use package.Rattle.protocol.specs.Block.{newBlock}
 use package.Rattle.protocol.specs.Frame.{dummyVote, blockCertificate, dummyCertificate, finalizeCertificate}
@@ -74,7 +75,8 @@ same·vote = by-text
 
 calls·kept : List Call
 calls·kept =
-    move ∷ delivery (5 ∷ []) ∷ signalling 1 ∷ delivery (dummyCertificate 1 3) ∷ opening 0 2 2 (0 ∷ 1 ∷ []) ∷ move ∷
+    move ∷ delivery (5 ∷ []) ∷ signalling 1 ∷ delivery (dummyCertificate 1 3) ∷
+    opening unweighed 0 2 2 (0 ∷ 1 ∷ []) ∷ move ∷
     delivery (dummyCertificate 1 7) ∷ delivery strangersVote ∷ move ∷ move ∷
     packetDelivery (blockCertificate 2 7 block ++ strangersVote ++ blockCertificate 2 11 otherBlock) ∷
     delivery (finalizeCertificate 2 14) ∷ move ∷ move ∷ []
@@ -86,8 +88,8 @@ same·calls = by-text
 observerCalls·kept : List ObserverCall
 observerCalls·kept =
     observerDelivery (5 ∷ []) ∷ observerDelivery vote ∷ observerDelivery (dummyCertificate 1 3) ∷
-    observerDelivery (dummyCertificate 1 7) ∷ observerOpening 0 2 ∷ observerDelivery (blockCertificate 2 7 block) ∷
-    observerMoving ∷
+    observerDelivery (dummyCertificate 1 7) ∷ observerOpening unweighed 0 2 ∷
+    observerDelivery (blockCertificate 2 7 block) ∷ observerMoving ∷
     observerDelivery (blockCertificate 2 11 otherBlock) ∷ observerDelivery (finalizeCertificate 2 14) ∷
     observerMoving ∷ []
 
@@ -97,6 +99,8 @@ same·observerCalls = by-text
 
 histories·kept : Histories
 histories·kept = record {
+  way = unweighed;
+  observerWay = weighed (1 ∷ 0 ∷ 1 ∷ 0 ∷ 1 ∷ 0 ∷ 1 ∷ 0 ∷ []);
   n = 4;
   heights = 2;
   own = 2;

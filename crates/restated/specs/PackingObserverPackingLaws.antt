@@ -3,6 +3,7 @@
 use package.Prim.Native.Nat.{ℕ}
 use package.mathlib.Core.Path.{_≡_}
 use package.Rattle.protocol.specs.Bytes.{Bytes}
+use package.Rattle.protocol.specs.Open.{Opening}
 use package.Rattle.protocol.specs.ObserverCalls.{observerOpenCall, observerDeliverCall}
 use package.Rattle.protocol.specs.ObserverCalls.{observerMoveCall}
 use package.Rattle.protocol.specs.ObserverCalls.{observerSizeCall}
@@ -12,8 +13,8 @@ use package.Rattle.packing.specs.Unpacking.{unpackedFrames}
 use package.mathlib.Core.Path.{_≡_ as _is-kept_, refl as by-text}
 use package.Rattle.packing.specs.Laws.ObserverPackingLaws as page
 
-pub observer-open-read·kept : (book : Bytes) (n heights : ℕ) →
-    DoneRead (packedDone (observerOpenCall book n heights .answer)) (observerOpenCall book n heights .answer)
+pub observer-open-read·kept : (way : Opening) (book : Bytes) (n heights : ℕ) →
+    DoneRead (packedDone (observerOpenCall way book n heights .answer)) (observerOpenCall way book n heights .answer)
 observer-open-read·kept = page.observer-open-read
 
 module _ (digest : Bytes → Bytes) (book : Bytes) where

@@ -4,7 +4,7 @@ use package.Prim.Native.Nat.{ℕ}
 use package.mathlib.Core.Path.{_≡_}
 use package.lib.ListN.{length}
 use package.Rattle.protocol.specs.Bytes.{Bytes}
-use package.Rattle.protocol.specs.Open.{openCall}
+use package.Rattle.protocol.specs.Open.{Opening, openCall}
 use package.Rattle.protocol.specs.Deliver.{deliverCall}
 use package.Rattle.protocol.specs.Packet.{packetCall}
 use package.Rattle.protocol.specs.Signal.{signalCall}
@@ -18,8 +18,9 @@ use package.Rattle.packing.specs.Unpacking.{DoneRead, DeliveryRead, PacketRead,
 use package.mathlib.Core.Path.{_≡_ as _is-kept_, refl as by-text}
 use package.Rattle.packing.specs.Laws.UnpackingLaws as page
 
-pub open-read·kept : (book : Bytes) (n own heights : ℕ) (leaders : Bytes) →
-    DoneRead (packedDone (openCall book n own heights leaders .answer)) (openCall book n own heights leaders .answer)
+pub open-read·kept : (way : Opening) (book : Bytes) (n own heights : ℕ) (leaders : Bytes) →
+    DoneRead (packedDone (openCall way book n own heights leaders .answer))
+    (openCall way book n own heights leaders .answer)
 open-read·kept = page.open-read
 
 module _ (digest : Bytes → Bytes) (book : Bytes) where

@@ -12,7 +12,7 @@ use package.Rattle.protocol.specs.Tests.{firstRefusal}
 use package.Rattle.protocol.specs.Frame.{frameBlock, dummyVote}
 use package.Rattle.protocol.specs.State.{State, last, flag, decode, withHead}
 use package.Rattle.protocol.specs.Answer.{Certificate, accepted, done, voteDummy, pass}
-use package.Rattle.protocol.specs.Open.{openCall}
+use package.Rattle.protocol.specs.Open.{Opening, openCall}
 use package.Rattle.protocol.specs.Deliver.{deliverCall}
 use package.Rattle.protocol.specs.Packet.{packetFrames, packetRows}
 use package.Rattle.protocol.specs.Move.{step}
@@ -66,12 +66,12 @@ module _ (digest : Bytes → Bytes) where
   Restarts·byPass·kept : (book : Bytes) → (reply : Bytes) (certificate : Certificate) (finalized : Bool) → 448 ≤ length reply → step digest (decode book) .move ≡ pass (decode book .current) certificate finalized → Restarts book (moving reply)
   Restarts·byPass·kept _ = page.Restarts.byPass
 
-  Restarts·byOpening·kept : (book : Bytes) → (n own heights : ℕ) (leaders : Bytes) → openCall book n own heights leaders .answer ≡ accepted done → Restarts book (opening n own heights leaders)
+  Restarts·byOpening·kept : (book : Bytes) → (way : Opening) (n own heights : ℕ) (leaders : Bytes) → openCall way book n own heights leaders .answer ≡ accepted done → Restarts book (opening way n own heights leaders)
   Restarts·byOpening·kept _ = page.Restarts.byOpening
 
   Restarts·apart : (book : Bytes) → (i0 : Call) → Restarts book i0 → Unit {0}
   Restarts·apart _ _ (page.Restarts.byPass _ _ _ _ _) = tt
-  Restarts·apart _ _ (page.Restarts.byOpening _ _ _ _ _) = tt
+  Restarts·apart _ _ (page.Restarts.byOpening _ _ _ _ _ _) = tt
 
   Timer·kept : (book : Bytes) (call : Call) (goes-up : flag 1 (decode book) ≡ false → (flag 1 (decode (bookAfter digest book call)) ≡ true) ↔ Fires book call) (comes-down : flag 1 (decode book) ≡ true → (flag 1 (decode (bookAfter digest book call)) ≡ false) ↔ Restarts book call) →
       Timer book call

@@ -6,7 +6,7 @@ use package.mathlib.Core.List.{List, [], _∷_}
 use package.mathlib.Core.Option.{Option, some, none}
 use package.Rattle.protocol.specs.Bytes.{Bytes}
 use package.Rattle.protocol.specs.Answer.{Done, Delivery, Counts, Outcome, isAccepted}
-use package.Rattle.protocol.specs.Open.{openCall}
+use package.Rattle.protocol.specs.Open.{Opening, openedWeights, openCall}
 use package.Rattle.protocol.specs.Deliver.{deliverCall}
 use package.Rattle.protocol.specs.Packet.{packetFrames, acceptedOf, packetCall}
 use package.Rattle.protocol.specs.Move.{MoveOutcome, moveCall}
@@ -18,7 +18,7 @@ use package.Rattle.protocol.specs.Call.{Call, opening, delivery, packetDelivery
 use package.mathlib.Core.Path.{_≡_ as _is-kept_, refl as by-text}
 use package.Rattle.protocol.specs.Call as page
 
-Call·opening·kept : (n own heights : ℕ) (leaders : Bytes) → Call
+Call·opening·kept : (way : Opening) (n own heights : ℕ) (leaders : Bytes) → Call
 Call·opening·kept = page.Call.opening
 
 Call·delivery·kept : (frame : Bytes) → Call
@@ -46,7 +46,7 @@ Call·fetching·kept : (k h : ℕ) (reply : Bytes) → Call
 Call·fetching·kept = page.Call.fetching
 
 Call·apart : Call → Unit {0}
-Call·apart (page.Call.opening _ _ _ _) = tt
+Call·apart (page.Call.opening _ _ _ _ _) = tt
 Call·apart (page.Call.delivery _) = tt
 Call·apart (page.Call.packetDelivery _) = tt
 Call·apart (page.Call.moving _) = tt
@@ -56,9 +56,9 @@ Call·apart (page.Call.sizing) = tt
 Call·apart (page.Call.reading _) = tt
 Call·apart (page.Call.fetching _ _ _) = tt
 
-Opened·kept : (n : ℕ) (own : ℕ) →
+Opened·kept : (weights : List ℕ) (own : ℕ) →
     Opened
-Opened·kept x0 x1 = record { n = x0; own = x1 }
+Opened·kept x0 x1 = record { weights = x0; own = x1 }
 
 Effect·kept : (book : Bytes) (accepted : Bool) (opens : Option Opened) (delivers : List Bytes) (writes : List Bytes) (reads : Option Bytes) →
     Effect
@@ -135,8 +135,8 @@ module _ (digest : Bytes → Bytes) where
   bookAfter = page.bookAfter digest
 
   effect·kept : Bytes → Call → Effect
-  effect·kept book (opening n own heights leaders) =
-      ofOpening (record { n = n; own = own }) (openCall book n own heights leaders)
+  effect·kept book (opening way n own heights leaders) =
+      ofOpening (record { weights = openedWeights n way; own = own }) (openCall way book n own heights leaders)
   effect·kept book (delivery frame) = ofDelivery frame (deliverCall digest book frame)
   effect·kept book (packetDelivery packet) =
       ofPacket (acceptedOf digest book (packetFrames packet)) (packetCall digest book packet)

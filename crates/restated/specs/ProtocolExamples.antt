@@ -11,18 +11,18 @@ use package.Rattle.protocol.specs.Mask.{ones}
 use package.Rattle.protocol.specs.State.{at, decode}
 use package.Rattle.protocol.specs.View.{View, quorum}
 use package.Rattle.protocol.specs.Answer.{accepted, done, pass, propose, onDummy}
-use package.Rattle.protocol.specs.Open.{openCall}
+use package.Rattle.protocol.specs.Open.{Opening, openedWeights, openCall}
 use package.Rattle.protocol.specs.Move.{MoveOutcome}
 use package.Rattle.protocol.specs.Examples.{Start, frameIn}
 use package.mathlib.Core.Path.{_≡_ as _is-kept_, refl as by-text}
 use package.Rattle.protocol.specs.Examples as page
 
-Start·kept : (old : Bytes) (n : ℕ) (own : ℕ) (heights : ℕ) (leaders : Bytes) (reply : Bytes) (opens : openCall old n own heights leaders .answer ≡ accepted done) (room : 448 ≤ length reply) →
+Start·kept : (way : Opening) (old : Bytes) (n : ℕ) (own : ℕ) (heights : ℕ) (leaders : Bytes) (reply : Bytes) (even : openedWeights n way ≡ replicate n 1) (opens : openCall way old n own heights leaders .answer ≡ accepted done) (room : 448 ≤ length reply) →
     Start
-Start·kept x0 x1 x2 x3 x4 x5 x6 x7 = record { old = x0; n = x1; own = x2; heights = x3; leaders = x4; reply = x5; opens = x6; room = x7 }
+Start·kept x0 x1 x2 x3 x4 x5 x6 x7 x8 x9 = record { way = x0; old = x1; n = x2; own = x3; heights = x4; leaders = x5; reply = x6; even = x7; opens = x8; room = x9 }
 
 opened·kept : Start → Bytes
-opened·kept x = openCall (x .old) (x .n) (x .own) (x .heights) (x .leaders) .book
+opened·kept x = openCall (x .way) (x .old) (x .n) (x .own) (x .heights) (x .leaders) .book
 
 same·opened : opened·kept is-kept page.opened
 unfolding opened·kept page.opened

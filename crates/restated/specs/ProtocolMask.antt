@@ -1,7 +1,7 @@
 -- Written by tests/restated --write: what docs/statements has of
 -- crates/protocol/specs/Mask.antt.
 use package.Prim.Native.Nat.{ℕ, zero, suc, _+_, _/_, _%_, _^_}
-use package.mathlib.Core.Bool.{Bool, _||_, cond}
+use package.mathlib.Core.Bool.{Bool, _&&_, _||_, cond}
 use package.mathlib.Core.List.{List, [], _∷_}
 use package.lib.Dec.{eqb, ltb}
 use package.Rattle.protocol.specs.Mask.{inMask, maskOf}
@@ -37,6 +37,13 @@ union·kept n mask other = maskOf (λ s. inMask mask s || inMask other s) n
 same·union : union·kept is-kept page.union
 unfolding union·kept page.union
 same·union = by-text
+
+intersection·kept : ℕ → ℕ → ℕ → ℕ
+intersection·kept n mask other = maskOf (λ s. inMask mask s && inMask other s) n
+
+same·intersection : intersection·kept is-kept page.intersection
+unfolding intersection·kept page.intersection
+same·intersection = by-text
 
 belowBit·kept : ℕ → ℕ → Bool
 belowBit·kept n mask = ltb mask (2 ^ n)

@@ -5,7 +5,7 @@ use package.mathlib.Core.List.{List, [], _∷_, _++_, map}
 use package.lib.ListN.{drop}
 use package.Rattle.protocol.specs.Bytes.{Bytes, byteAt, word16, le16, zeros, join, pieces}
 use package.Rattle.protocol.specs.Block.{blockSize}
-use package.Rattle.protocol.specs.State.{State, Height, headBytes, bookHeights, poolSize}
+use package.Rattle.protocol.specs.State.{State, Height, headBytes, bookHeights, bookWeights, poolSize}
 use package.Rattle.protocol.specs.View.{View}
 use package.Rattle.protocol.specs.Sound.{view}
 use package.Rattle.protocol.specs.Observer.{ObservedHeight, Observer, asReplicaHeight, asReplica, observedHeight, observedContentSize, observedContentBytes, observedBodyBytes, decodeObservedHeight, decodeObservedHeights, decodeObserver}
@@ -16,9 +16,9 @@ ObservedHeight·kept : (status : ℕ) (certificateMask : ℕ) (dummyMask : ℕ) 
     ObservedHeight
 ObservedHeight·kept x0 x1 x2 x3 x4 = record { status = x0; certificateMask = x1; dummyMask = x2; finalizeMask = x3; notarized = x4 }
 
-Observer·kept : (edition : ℕ) (n : ℕ) (finalized : ℕ) (heights : List ObservedHeight) →
+Observer·kept : (edition : ℕ) (n : ℕ) (weights : List ℕ) (finalized : ℕ) (heights : List ObservedHeight) →
     Observer
-Observer·kept x0 x1 x2 x3 = record { edition = x0; n = x1; finalized = x2; heights = x3 }
+Observer·kept x0 x1 x2 x3 x4 = record { edition = x0; n = x1; weights = x2; finalized = x3; heights = x4 }
 
 asReplicaHeight·kept : ObservedHeight → Height
 asReplicaHeight·kept x = record {
@@ -41,6 +41,7 @@ asReplica·kept : Observer → State
 asReplica·kept o = record {
   edition = o .edition;
   n = o .n;
+  weights = o .weights;
   own = 0;
   flags = 0;
   current = 0;
@@ -71,6 +72,7 @@ observed·kept : State → Observer
 observed·kept s = record {
   edition = s .edition;
   n = s .n;
+  weights = s .weights;
   finalized = s .finalized;
   heights = map observedHeight (s .heights);
 }
@@ -152,6 +154,7 @@ decodeObserver·kept book =
     record {
       edition = byteAt book 7;
       n = byteAt book 0;
+      weights = bookWeights book;
       finalized = byteAt book 5;
       heights = decodeObservedHeights
           (pieces observedContentSize heights (drop 64 book))

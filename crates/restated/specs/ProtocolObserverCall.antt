@@ -5,6 +5,7 @@ use package.mathlib.Core.Bool.{Bool, true, cond}
 use package.mathlib.Core.List.{List, [], _∷_}
 use package.mathlib.Core.Option.{Option, some, none}
 use package.Rattle.protocol.specs.Bytes.{Bytes}
+use package.Rattle.protocol.specs.Open.{Opening, openedWeights}
 use package.Rattle.protocol.specs.Answer.{Outcome, Done, Delivery, Move, isAccepted}
 use package.Rattle.protocol.specs.ObserverCalls.{observerOpenCall, observerDeliverCall, observerMoveCall}
 use package.Rattle.protocol.specs.ObserverCalls.{observerSizeCall, observerReadPart}
@@ -12,7 +13,7 @@ use package.Rattle.protocol.specs.ObserverCall.{ObserverCall, observerOpening, 
 use package.mathlib.Core.Path.{_≡_ as _is-kept_, refl as by-text}
 use package.Rattle.protocol.specs.ObserverCall as page
 
-ObserverCall·observerOpening·kept : (n heights : ℕ) → ObserverCall
+ObserverCall·observerOpening·kept : (way : Opening) (n heights : ℕ) → ObserverCall
 ObserverCall·observerOpening·kept = page.ObserverCall.observerOpening
 
 ObserverCall·observerDelivery·kept : (frame : Bytes) → ObserverCall
@@ -28,13 +29,13 @@ ObserverCall·observerReading·kept : (buffer : Bytes) → ObserverCall
 ObserverCall·observerReading·kept = page.ObserverCall.observerReading
 
 ObserverCall·apart : ObserverCall → Unit {0}
-ObserverCall·apart (page.ObserverCall.observerOpening _ _) = tt
+ObserverCall·apart (page.ObserverCall.observerOpening _ _ _) = tt
 ObserverCall·apart (page.ObserverCall.observerDelivery _) = tt
 ObserverCall·apart (page.ObserverCall.observerMoving) = tt
 ObserverCall·apart (page.ObserverCall.observerSizing) = tt
 ObserverCall·apart (page.ObserverCall.observerReading _) = tt
 
-Observation·kept : (book : Bytes) (accepted : Bool) (opens : Option ℕ) (delivers : List Bytes) (reads : Option Bytes) →
+Observation·kept : (book : Bytes) (accepted : Bool) (opens : Option (List ℕ)) (delivers : List Bytes) (reads : Option Bytes) →
     Observation
 Observation·kept x0 x1 x2 x3 x4 = record { book = x0; accepted = x1; opens = x2; delivers = x3; reads = x4 }
 
@@ -44,10 +45,10 @@ observesBook·kept book unrefused = record { book = book; accepted = unrefused; 
 same·observesBook : observesBook·kept is-kept page.observesBook
 same·observesBook = by-text
 
-abbrev observesOpening·kept : ℕ → Outcome Done → Observation
-observesOpening·kept n o =
+abbrev observesOpening·kept : List ℕ → Outcome Done → Observation
+observesOpening·kept weights o =
     let unrefused : Bool = isAccepted (o .answer) in
-    let opens : Option ℕ = cond unrefused (some n) none in
+    let opens : Option (List ℕ) = cond unrefused (some weights) none in
     record { book = o .book; accepted = unrefused; opens = opens; delivers = []; reads = none }
 
 same·observesOpening : observesOpening·kept is-kept page.observesOpening
@@ -79,7 +80,8 @@ module _ (digest : Bytes → Bytes) where
   observation = page.observation digest
 
   observation·kept : Bytes → ObserverCall → Observation
-  observation·kept book (observerOpening n heights) = observesOpening n (observerOpenCall book n heights)
+  observation·kept book (observerOpening way n heights) =
+      observesOpening (openedWeights n way) (observerOpenCall way book n heights)
   observation·kept book (observerDelivery frame) = observesDelivery frame (observerDeliverCall digest book frame)
   observation·kept book observerMoving = observesMove (observerMoveCall digest book)
   observation·kept book observerSizing = observesBook book (isAccepted (observerSizeCall digest book))

@@ -10,7 +10,8 @@ use package.Rattle.protocol.specs.Bytes.{Bytes, zeros, join, overFront}
 use package.Rattle.protocol.specs.Tests.{allOf, inRange, Row, firstRefusal}
 use package.Rattle.protocol.specs.Block.{maximumHeights, entrySize}
 use package.Rattle.protocol.specs.Frame.{kind, frameHeight, frameWellFormed, isCertificate}
-use package.Rattle.protocol.specs.State.{State, Height, withHeight, maximumReplicas}
+use package.Rattle.protocol.specs.State.{State, Height, withHeight, maximumReplicas, padded}
+use package.Rattle.protocol.specs.Open.{Opening, openedEdition, openedWeights, weightsInRange}
 use package.Rattle.protocol.specs.Sound.{log}
 use package.Rattle.protocol.specs.Answer.{Answer, Outcome, Done, Delivery, Move, done, known, fresh, refused, accepted}
 use package.Rattle.protocol.specs.Answer.{unlessRefused}
@@ -36,10 +37,11 @@ same·newObservedHeight : newObservedHeight·kept is-kept page.newObservedHeight
 unfolding newObservedHeight·kept page.newObservedHeight
 same·newObservedHeight = by-text
 
-newObserver·kept : ℕ → ℕ → Observer
-newObserver·kept n heights = record {
-  edition = 1;
+newObserver·kept : Opening → ℕ → ℕ → Observer
+newObserver·kept way n heights = record {
+  edition = openedEdition way;
   n = n;
+  weights = padded (openedWeights n way);
   finalized = 0;
   heights = replicate heights newObservedHeight;
 }
@@ -48,19 +50,19 @@ same·newObserver : newObserver·kept is-kept page.newObserver
 unfolding newObserver·kept page.newObserver
 same·newObserver = by-text
 
-observerOpenRows·kept : Bytes → ℕ → ℕ → List Row
-observerOpenRows·kept book n heights =
-    (2, allOf (inRange 1 maximumReplicas n ∷ inRange 1 maximumHeights heights ∷ [])) ∷
+observerOpenRows·kept : Opening → Bytes → ℕ → ℕ → List Row
+observerOpenRows·kept way book n heights =
+    (2, allOf (inRange 1 maximumReplicas n ∷ inRange 1 maximumHeights heights ∷ weightsInRange n way ∷ [])) ∷
     (1, eqb (length book) (observerBookSize heights)) ∷ []
 
 same·observerOpenRows : observerOpenRows·kept is-kept page.observerOpenRows
 unfolding observerOpenRows·kept page.observerOpenRows
 same·observerOpenRows = by-text
 
-observerOpenCall·kept : Bytes → ℕ → ℕ → Outcome Done
-observerOpenCall·kept book n heights =
-    unlessRefused (firstRefusal (observerOpenRows book n heights)) book
-    (record { answer = accepted done; book = encodeObserver (newObserver n heights) })
+observerOpenCall·kept : Opening → Bytes → ℕ → ℕ → Outcome Done
+observerOpenCall·kept way book n heights =
+    unlessRefused (firstRefusal (observerOpenRows way book n heights)) book
+    (record { answer = accepted done; book = encodeObserver (newObserver way n heights) })
 
 same·observerOpenCall : observerOpenCall·kept is-kept page.observerOpenCall
 unfolding observerOpenCall·kept page.observerOpenCall

@@ -5,12 +5,12 @@ use package.mathlib.Core.Bool.{Bool, _||_}
 use package.mathlib.Core.List.{[], _∷_}
 use package.lib.ListN.{length}
 use package.lib.Dec.{eqb}
-use package.Rattle.protocol.specs.Bytes.{Bytes, byteAt, part, isZero}
+use package.Rattle.protocol.specs.Bytes.{Bytes, byteAt, isZero}
 use package.Rattle.protocol.specs.Tests.{allOf, implies, inRange, everyHeight}
 use package.Rattle.protocol.specs.Block.{maximumHeights, blockWellFormed}
-use package.Rattle.protocol.specs.State.{State, at, bookHeights, isNotarized, maximumReplicas}
+use package.Rattle.protocol.specs.State.{State, at, bookHeights, headUnused, isNotarized, maximumReplicas}
 use package.Rattle.protocol.specs.View.{quorum, isFinalized}
-use package.Rattle.protocol.specs.Sound.{view, masksBelow}
+use package.Rattle.protocol.specs.Sound.{view, masksBelow, weightsFit}
 use package.Rattle.protocol.specs.Observer.{observerState, observerBookSize, observedContentSize}
 use package.Rattle.protocol.specs.ObserverSound.{replicaHead, observedZero}
 use package.mathlib.Core.Path.{_≡_ as _is-kept_, refl as by-text}
@@ -39,13 +39,14 @@ module _ (digest : Bytes → Bytes) where
       (eqb (length book) (observerBookSize heights) ∷
       inRange 1 maximumReplicas (s .n) ∷
       inRange 1 maximumHeights heights ∷
-      eqb (s .edition) 1 ∷
+      inRange 1 2 (s .edition) ∷
+      weightsFit (s .n) (s .weights) ∷
       everyHeight (λ h. masksBelow (s .n) (at s h)) heights ∷
       everyHeight (λ h. eqb (at s h .status) 0 || eqb (at s h .status) 2) heights ∷
       everyHeight (λ h. implies (isNotarized (at s h)) (blockWellFormed h (at s h .notarized))) heights ∷
       everyHeight (λ h. implies (isNotarized (at s h)) (quorum (view s) (at s h .certificateMask))) heights ∷
       isZero (replicaHead book) ∷
-      isZero (part book 8 56) ∷
+      isZero (headUnused book) ∷
       everyHeight (λ h. eqb (observedZero book h) 0) heights ∷
       (eqb (s .finalized) 0 || isFinalized digest (view s) (s .finalized)) ∷ [])
 

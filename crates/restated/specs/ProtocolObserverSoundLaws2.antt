@@ -4,10 +4,11 @@ use package.Prim.Native.Nat.{ℕ, _≤_}
 use package.mathlib.Core.Path.{_≡_}
 use package.mathlib.Core.Logic.{_⊎_}
 use package.mathlib.Core.Bool.{true}
-use package.Rattle.protocol.specs.Bytes.{Bytes, part, isZero}
+use package.Rattle.protocol.specs.SoundState.{SoundSetting}
+use package.Rattle.protocol.specs.Bytes.{Bytes, isZero}
 use package.Rattle.protocol.specs.Tests.{implies, inRange}
 use package.Rattle.protocol.specs.Block.{maximumHeights, blockWellFormed}
-use package.Rattle.protocol.specs.State.{at, bookHeights, isNotarized}
+use package.Rattle.protocol.specs.State.{at, bookHeights, headUnused, isNotarized}
 use package.Rattle.protocol.specs.State.{maximumReplicas}
 use package.Rattle.protocol.specs.View.{quorum, isFinalized}
 use package.Rattle.protocol.specs.Sound.{view, masksBelow}

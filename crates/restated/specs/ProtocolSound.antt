@@ -3,23 +3,23 @@
 use package.Prim.Native.Nat.{ℕ, _+_, _-_, _*_}
 use package.mathlib.Core.Bool.{Bool, _&&_, _||_}
 use package.mathlib.Core.List.{List, [], _∷_}
-use package.lib.ListN.{length, replicate}
+use package.lib.ListN.{length, take, drop}
 use package.lib.Dec.{eqb, leb, ltb}
-use package.Rattle.protocol.specs.Bytes.{Bytes, part, isZero}
+use package.Rattle.protocol.specs.Bytes.{Bytes, part, all, isZero}
 use package.Rattle.protocol.specs.Tests.{allOf, implies, inRange, everyHeight}
 use package.Rattle.protocol.specs.Block.{maximumHeights, blockWellFormed}
 use package.Rattle.protocol.specs.Mask.{belowBit}
 use package.Rattle.protocol.specs.State.{State, Height, at, decode, bookSize, holdsProposal, isNotarized, bookHeights}
-use package.Rattle.protocol.specs.State.{maximumReplicas, maximumPending}
+use package.Rattle.protocol.specs.State.{maximumReplicas, maximumPending, maximumWeight, headUnused}
 use package.Rattle.protocol.specs.View.{View, quorum, isFinalized, logOf}
-use package.Rattle.protocol.specs.Sound.{view, masksBelow, blocksWellFormed, contentZeros}
+use package.Rattle.protocol.specs.Sound.{view, weightsFit, masksBelow, blocksWellFormed, contentZeros}
 use package.mathlib.Core.Path.{_≡_ as _is-kept_, refl as by-text}
 use package.Rattle.protocol.specs.Sound as page
 
 view·kept : State → View
 view·kept s = record {
   n = s .n;
-  weights = replicate (s .n) 1;
+  weights = take (s .n) (s .weights);
   hasBlock = λ h. isNotarized (at s h);
   block = λ h. at s h .notarized;
   certificateMask = λ h. at s h .certificateMask;
@@ -37,6 +37,13 @@ log·kept s = logOf (view s) (s .finalized)
 same·log : log·kept is-kept page.log
 unfolding log·kept page.log
 same·log = by-text
+
+weightsFit·kept : ℕ → List ℕ → Bool
+weightsFit·kept n weights = all (λ w. inRange 1 maximumWeight w) (take n weights) && isZero (drop n weights)
+
+same·weightsFit : weightsFit·kept is-kept page.weightsFit
+unfolding weightsFit·kept page.weightsFit
+same·weightsFit = by-text
 
 masksBelow·kept : ℕ → Height → Bool
 masksBelow·kept n x = allOf
@@ -75,7 +82,8 @@ module _ (digest : Bytes → Bytes) where
       inRange 1 maximumReplicas (s .n) ∷
       ltb (s .own) (s .n) ∷
       inRange 1 maximumHeights heights ∷
-      eqb (s .edition) 1 ∷
+      inRange 1 2 (s .edition) ∷
+      weightsFit (s .n) (s .weights) ∷
       inRange 1 (heights + 1) (s .current) ∷
       ltb (s .flags) 16 ∷
       leb (s .pendingCount) maximumPending ∷
@@ -84,7 +92,7 @@ module _ (digest : Bytes → Bytes) where
       everyHeight (λ h. leb (at s h .status) 3) heights ∷
       everyHeight (λ h. blocksWellFormed h (at s h)) heights ∷
       everyHeight (λ h. implies (isNotarized (at s h)) (quorum (view s) (at s h .certificateMask))) heights ∷
-      isZero (part book 8 56) ∷
+      isZero (headUnused book) ∷
       everyHeight (λ h. isZero (contentZeros book h)) heights ∷
       (eqb (s .finalized) 0 || isFinalized digest (view s) (s .finalized)) ∷ [])
 

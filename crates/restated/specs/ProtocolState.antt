@@ -1,13 +1,13 @@
 -- Written by tests/restated --write: what docs/statements has of
 -- crates/protocol/specs/State.antt.
 use package.Prim.Native.Nat.{ℕ, _+_, _-_, _*_, _/_, _%_}
-use package.mathlib.Core.Bool.{Bool}
+use package.mathlib.Core.Bool.{Bool, cond}
 use package.mathlib.Core.List.{List, [], _∷_, _++_, map}
-use package.lib.ListN.{length, getD, set, drop}
+use package.lib.ListN.{length, getD, set, drop, take, replicate}
 use package.lib.Dec.{eqb, leb}
 use package.Rattle.protocol.specs.Bytes.{Bytes, byteAt, word16, le16, part, zeros, join, pieces}
 use package.Rattle.protocol.specs.Block.{entrySize}
-use package.Rattle.protocol.specs.State.{Height, State, poolSize, contentSize, bodySize, bookHeights, headBytes, contentBytes, bodyBytes, decodeHeight, decodeHeights, noHeight, renewedIn, renewed, withHead, withFlag}
+use package.Rattle.protocol.specs.State.{Height, State, maximumReplicas, poolSize, contentSize, bodySize, bookHeights, padded, evenly, words, weightBytes, weightsIn, bookWeights, headBytes, contentBytes, bodyBytes, decodeHeight, decodeHeights, noHeight, renewedIn, renewed, withHead, withFlag}
 use package.mathlib.Core.Path.{_≡_ as _is-kept_, refl as by-text}
 use package.Rattle.protocol.specs.State as page
 
@@ -15,9 +15,9 @@ Height·kept : (leader : ℕ) (status : ℕ) (certificateMask : ℕ) (dummyMask 
     Height
 Height·kept x0 x1 x2 x3 x4 x5 x6 x7 x8 = record { leader = x0; status = x1; certificateMask = x2; dummyMask = x3; finalizeMask = x4; voterMask = x5; proposal = x6; notarized = x7; voteDigests = x8 }
 
-State·kept : (edition : ℕ) (n : ℕ) (own : ℕ) (flags : ℕ) (current : ℕ) (finalized : ℕ) (pendingCount : ℕ) (pool : Bytes) (heights : List Height) →
+State·kept : (edition : ℕ) (n : ℕ) (weights : List ℕ) (own : ℕ) (flags : ℕ) (current : ℕ) (finalized : ℕ) (pendingCount : ℕ) (pool : Bytes) (heights : List Height) →
     State
-State·kept x0 x1 x2 x3 x4 x5 x6 x7 x8 = record { edition = x0; n = x1; own = x2; flags = x3; current = x4; finalized = x5; pendingCount = x6; pool = x7; heights = x8 }
+State·kept x0 x1 x2 x3 x4 x5 x6 x7 x8 x9 = record { edition = x0; n = x1; weights = x2; own = x3; flags = x4; current = x5; finalized = x6; pendingCount = x7; pool = x8; heights = x9 }
 
 abbrev maximumReplicas·kept : ℕ
 maximumReplicas·kept = 16
@@ -30,6 +30,12 @@ maximumPending·kept = 32
 
 same·maximumPending : maximumPending·kept is-kept page.maximumPending
 same·maximumPending = by-text
+
+abbrev maximumWeight·kept : ℕ
+maximumWeight·kept = 1000
+
+same·maximumWeight : maximumWeight·kept is-kept page.maximumWeight
+same·maximumWeight = by-text
 
 abbrev poolSize·kept : ℕ
 poolSize·kept = 512
@@ -62,9 +68,58 @@ bookHeights·kept book = byteAt book 2
 same·bookHeights : bookHeights·kept is-kept page.bookHeights
 same·bookHeights = by-text
 
+padded·kept : List ℕ → List ℕ
+padded·kept weights = take maximumReplicas (weights ++ replicate maximumReplicas 0)
+
+same·padded : padded·kept is-kept page.padded
+unfolding padded·kept page.padded
+same·padded = by-text
+
+evenly·kept : ℕ → List ℕ
+evenly·kept n = padded (replicate n 1)
+
+same·evenly : evenly·kept is-kept page.evenly
+unfolding evenly·kept page.evenly
+same·evenly = by-text
+
+words·kept : ℕ → Bytes → List ℕ
+words·kept count bytes = map (λ (w : Bytes). word16 w 0) (pieces 2 count bytes)
+
+same·words : words·kept is-kept page.words
+unfolding words·kept page.words
+same·words = by-text
+
+weightBytes·kept : ℕ → List ℕ → Bytes
+weightBytes·kept edition weights = cond (eqb edition 1) (zeros 32) (take 32 (join (map le16 weights) ++ zeros 32))
+
+same·weightBytes : weightBytes·kept is-kept page.weightBytes
+unfolding weightBytes·kept page.weightBytes
+same·weightBytes = by-text
+
+weightsIn·kept : ℕ → ℕ → Bytes → List ℕ
+weightsIn·kept edition n area = cond (eqb edition 1) (evenly n) (words maximumReplicas area)
+
+same·weightsIn : weightsIn·kept is-kept page.weightsIn
+unfolding weightsIn·kept page.weightsIn
+same·weightsIn = by-text
+
+abbrev bookWeights·kept : Bytes → List ℕ
+bookWeights·kept book = weightsIn (byteAt book 7) (byteAt book 0) (part book 8 32)
+
+same·bookWeights : bookWeights·kept is-kept page.bookWeights
+same·bookWeights = by-text
+
+headUnused·kept : Bytes → Bytes
+headUnused·kept book = cond (eqb (byteAt book 7) 1) (part book 8 56) (part book 40 24)
+
+same·headUnused : headUnused·kept is-kept page.headUnused
+unfolding headUnused·kept page.headUnused
+same·headUnused = by-text
+
 headBytes·kept : State → Bytes
 headBytes·kept s =
-    s .n ∷ s .own ∷ length (s .heights) ∷ s .flags ∷ s .current ∷ s .finalized ∷ s .pendingCount ∷ s .edition ∷ zeros 56
+    s .n ∷ s .own ∷ length (s .heights) ∷ s .flags ∷ s .current ∷ s .finalized ∷ s .pendingCount ∷ s .edition ∷
+    (weightBytes (s .edition) (s .weights) ++ zeros 24)
 
 same·headBytes : headBytes·kept is-kept page.headBytes
 unfolding headBytes·kept page.headBytes
@@ -127,6 +182,7 @@ decode·kept book =
     record {
       edition = byteAt book 7;
       n = byteAt book 0;
+      weights = bookWeights book;
       own = byteAt book 1;
       flags = byteAt book 3;
       current = byteAt book 4;
@@ -198,6 +254,7 @@ abbrev renewedIn·kept : (edition : ℕ) → State → (flags current finalized 
 renewedIn·kept edition s flags current finalized pendingCount pool heights = record {
   edition = edition;
   n = s .n;
+  weights = s .weights;
   own = s .own;
   flags = flags;
   current = current;
@@ -217,6 +274,14 @@ renewed·kept s flags current finalized pendingCount pool heights =
 same·renewed : renewed·kept is-kept page.renewed
 same·renewed = by-text
 
+withEdition·kept : ℕ → State → State
+withEdition·kept edition s =
+    renewedIn edition s (s .flags) (s .current) (s .finalized) (s .pendingCount) (s .pool) (s .heights)
+
+same·withEdition : withEdition·kept is-kept page.withEdition
+unfolding withEdition·kept page.withEdition
+same·withEdition = by-text
+
 withHeight·kept : State → ℕ → Height → State
 withHeight·kept s h x =
     renewed s (s .flags) (s .current) (s .finalized) (s .pendingCount) (s .pool) (set (s .heights) (h - 1) x)
@@ -231,6 +296,13 @@ withHead·kept s flags current finalized = renewed s flags current finalized (s 
 same·withHead : withHead·kept is-kept page.withHead
 unfolding withHead·kept page.withHead
 same·withHead = by-text
+
+withPool·kept : State → ℕ → Bytes → State
+withPool·kept s count pool = renewed s (s .flags) (s .current) (s .finalized) count pool (s .heights)
+
+same·withPool : withPool·kept is-kept page.withPool
+unfolding withPool·kept page.withPool
+same·withPool = by-text
 
 abbrev withFlag·kept : ℕ → State → State
 withFlag·kept k s = withHead s (s .flags + k) (s .current) (s .finalized)

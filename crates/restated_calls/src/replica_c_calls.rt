@@ -3,7 +3,7 @@
 ghost use package.mathlib.Core.Path.{_≡_};
 ghost use package.lib.ListN.{length};
 ghost use package.Rattle.sha256.specs.Digest.{sha256};
-ghost use package.Rattle.protocol.specs.Open.{openCall};
+ghost use package.Rattle.protocol.specs.Open.{weighed, openCall};
 ghost use package.Rattle.protocol.specs.Deliver.{deliverCall};
 ghost use package.Rattle.protocol.specs.Packet.{packetCall};
 ghost use package.Rattle.protocol.specs.Move.{moveCall};
@@ -18,21 +18,23 @@ ghost use package.Rattle.sha256_c.specs.DigestCall.{digestNumber};
 ghost use package.Rattle.sha256_c.specs.Written.{written};
 ghost use package.Rattle.packing.specs.Packing.{packedDone, packedDelivery, packedPacket, countsAfter, packedMove, packedSize};
 
-// Open: makes a new book for replica `own` of `n`; byte h - 1 of `leaders` is the leader of height h. The book's old
-// bytes do not matter.
+// Open: makes a new book for replica `own` of `n`; bytes 2 s and 2 s + 1 of `weights` are the weight of replica s, the
+// low byte first, and byte h - 1 of `leaders` is the leader of height h. The book's old bytes do not matter.
 // Returns 0 where it is made. Refusals, the first that applies: 2, 1 (`openCall`).
 pub fn mavunilai_open(
     book: &mut [u8],
     n: usize,
     own: usize,
     heights: usize,
+    weights: &[u8],
     leaders: &[u8],
 ) -> usize
-    ensures answer { λ r. ⌜ r ≡
-        packedDone (openCall (now (book .entry)) n own heights (now (leaders .entry)) .answer) ⌝ }
-    ensures book { λ _. ⌜ now (book .exit) ≡ openCall (now (book .entry)) n own heights (now (leaders .entry)) .book ⌝ }
+    ensures answer { λ r. ⌜ r ≡ packedDone (openCall
+        (weighed (now (weights .entry))) (now (book .entry)) n own heights (now (leaders .entry)) .answer) ⌝ }
+    ensures book { λ _. ⌜ now (book .exit) ≡
+        openCall (weighed (now (weights .entry))) (now (book .entry)) n own heights (now (leaders .entry)) .book ⌝ }
 {
-    replica_c::mavunilai_open(book, n, own, heights, leaders)
+    replica_c::mavunilai_open(book, n, own, heights, weights, leaders)
 }
 
 // Deliver: keeps what a frame says, whose signatures the caller has checked; a leader's second proposal for the current
@@ -118,14 +120,16 @@ pub fn mavunilai_size(book: &[u8]) -> usize
     replica_c::mavunilai_size(book)
 }
 
-// Open of an observer: makes a new book for one who follows the log of `n` replicas and has no vote. The book's old
-// bytes do not matter.
+// Open of an observer: makes a new book for one who follows the log of `n` replicas and has no vote; `weights` as in
+// `mavunilai_open`. The book's old bytes do not matter.
 // Returns 0 where it is made. Refusals, the first that applies: 2, 1 (`observerOpenCall`).
-pub fn mavunilai_observer_open(book: &mut [u8], n: usize, heights: usize) -> usize
-    ensures answer { λ r. ⌜ r ≡ packedDone (observerOpenCall (now (book .entry)) n heights .answer) ⌝ }
-    ensures book { λ _. ⌜ now (book .exit) ≡ observerOpenCall (now (book .entry)) n heights .book ⌝ }
+pub fn mavunilai_observer_open(book: &mut [u8], n: usize, heights: usize, weights: &[u8]) -> usize
+    ensures answer { λ r. ⌜ r ≡
+        packedDone (observerOpenCall (weighed (now (weights .entry))) (now (book .entry)) n heights .answer) ⌝ }
+    ensures book { λ _. ⌜ now (book .exit) ≡
+        observerOpenCall (weighed (now (weights .entry))) (now (book .entry)) n heights .book ⌝ }
 {
-    replica_c::mavunilai_observer_open(book, n, heights)
+    replica_c::mavunilai_observer_open(book, n, heights, weights)
 }
 
 // Deliver to an observer: keeps what a certificate says, whose signatures the caller has checked.
