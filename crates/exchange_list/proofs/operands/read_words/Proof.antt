@@ -1,4 +1,4 @@
--- `read_words` is safe and ends: `k` counts up to 6 at most, and the buffer keeps its length.
+-- `read_words` is safe and ends: `k` counts up to 7 at most, and the buffer keeps its length.
 use Prim.Native.Nat.{_≤_, _-_}
 use lib.ListN.{length}
 use mathlib.Core.Path.{_≡_}
@@ -7,10 +7,10 @@ use Rattle.exchange_list.proofs.operands.read_words.Statement.{statemen
 use Rattle.exchange_list.proofs.operands.read_words.Tie as tie
 
 abbrev Inv-loop : tie.InvT-loop
-Inv-loop line table out₀ left₀ size₀ k₀ out left size k = (k ≤ 6) × (length out ≡ length out₀)
+Inv-loop line table out₀ left₀ size₀ k₀ out left size k = (k ≤ 7) × (length out ≡ length out₀)
 
 abbrev μ-loop : tie.MeasureT-loop
-μ-loop line table out₀ left₀ size₀ k₀ out left size k = 6 - k
+μ-loop line table out₀ left₀ size₀ k₀ out left size k = 7 - k
 
 pub read-words-spec : {M : Type 1} → statement M
 read-words-spec =
