@@ -18,17 +18,21 @@ fn number(line: &[u8], k: usize) -> usize {
     amount(word(line, k))
 }
 
-// Open: the roll is lent, and the weights are the word before it.
-fn open(line: &[u8], book: &mut [u8], roll: &[u8]) {
+// Open, with the first `size` bytes of a room as weights.
+fn open_with(line: &[u8], book: &mut [u8], room: &[u8], size: usize, roll: &[u8]) {
     let n = number(line, 2);
     let own = number(line, 3);
     let heights = number(line, 4);
+    if size <= room.len() {
+        answered::done(replica::open::open(book, n, own, heights, &room[0..size], roll));
+    }
+}
+
+// Open: the roll is lent, and the weights are the word before it.
+fn open(line: &[u8], book: &mut [u8], roll: &[u8]) {
     let mut room = io::large_buffer();
     let size = literal(word(line, 5), &mut room);
-    if size <= room.len() {
-        let weights = &room[..size];
-        answered::done(replica::open::open(book, n, own, heights, weights, roll));
-    }
+    open_with(line, book, &room, size, roll);
 }
 
 // Read, by the part that it returns.
