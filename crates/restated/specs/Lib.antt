@@ -156,8 +156,10 @@ pub mod ProtocolFetchLaws
 pub mod ProtocolHeadLaws
 pub mod ProtocolLinkedLaws
 pub mod ProtocolLogLaws
+pub mod ProtocolNewStateLaws
 pub mod ProtocolPacketLaws
 pub mod ProtocolParentLaws
+pub mod ProtocolPlaceLaws
 pub mod ProtocolQuorumLaws
 pub mod ProtocolSettingLaws
 pub mod ProtocolSharedLaws

@@ -1,14 +1,18 @@
 -- Written by tests/restated --write: what docs/statements has of
 -- crates/protocol/specs/Laws/QuorumLaws.antt.
-use package.Prim.Native.Nat.{ℕ, _*_, _<_}
+use package.Prim.Native.Nat.{ℕ, _+_, _*_, _≤_, _<_}
 use package.mathlib.Core.Path.{_≡_}
-use package.mathlib.Core.Bool.{true, false}
+use package.mathlib.Core.Bool.{Bool, true, false, _&&_}
+use package.mathlib.Core.List.{List}
 use package.lib.ListN.{length, replicate}
 use package.lib.Dec.{leb}
-use package.Rattle.protocol.specs.Mask.{inMask, ones, weigh}
+use package.Rattle.protocol.specs.Mask.{inMask, ones, weigh, total}
 use package.Rattle.protocol.specs.View.{View, quorum, maskWeight, totalWeight}
 use package.mathlib.Core.Path.{_≡_ as _is-kept_, refl as by-text}
 use package.Rattle.protocol.specs.Laws.QuorumLaws as page
+
+pub shared·kept : (p q : ℕ → Bool) (ws : List ℕ) → weigh p ws + weigh q ws ≤ total ws + weigh (λ t. p t && q t) ws
+shared·kept = page.shared
 
 pub ones-weigh·kept : (m n : ℕ) → ones m n ≡ weigh (λ t. inMask m t) (replicate n 1)
 ones-weigh·kept = page.ones-weigh
