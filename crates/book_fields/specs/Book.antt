@@ -2,7 +2,7 @@
 use Prim.Native.Nat.{ℕ, _+_, _*_, _≤_, _<_}
 use mathlib.Core.Path.{_≡_}
 use mathlib.Core.Bool.{true, cond}
-use lib.ListN.{length, getD}
+use lib.ListN.{length, getD, replicate}
 use lib.Dec.{eqb}
 use Rattle.protocol.specs.SoundState.{SoundState}
 use Rattle.protocol.specs.Bytes.{Bytes, byteAt, word16}
@@ -86,6 +86,7 @@ pub record Shown (kind : Kind) (book : Bytes) : Type 0 where
   pub weighs : (s : ℕ) → s < byteAt book 0 →
       word16 book (8 + 2 * s) + cond (eqb (byteAt book 7) 1) 1 0 ≡ getD (viewOf kind book .weights) s 0
   pub weight-each : length (viewOf kind book .weights) ≡ byteAt book 0
+  pub even-weights : eqb (byteAt book 7) 1 ≡ true → viewOf kind book .weights ≡ replicate (byteAt book 0) 1
   pub some-weight : 1 ≤ totalWeight (viewOf kind book)
 
 -- of a replica's book

@@ -23,7 +23,7 @@ use Rattle.protocol.specs.Laws.SoundLaws.{finalized-in, exact, sound-decode, so
 use Rattle.protocol.specs.Laws.FieldLaws.{read-n, read-own, read-flags, read-current, read-finalized}
 use Rattle.protocol.specs.Laws.FieldLaws.{read-pending-count}
 use Rattle.book_fields.specs.Book.{Readable, Ready, SoundBook, bookView}
-use Rattle.book_fields.specs.Laws.WeightLaws.{some-weight}
+use Rattle.book_fields.specs.Laws.WeightLaws.{some-weight, head-even}
 
 pub readable : (book : Bytes) → length book ≡ 576 + 880 * bookHeights book → decode book .n ≤ maximumReplicas →
     bookHeights book ≤ maximumHeights → isZero (headUnused book) ≡ true → 1 ≤ totalWeight (bookView book) →
@@ -43,6 +43,7 @@ readable book size replicas heights unused some = record {
   heights = heights;
   weighs = unfold view decode in head-weighs book (omega arith) unused (rw (read-n book) replicas);
   weight-each = unfold view decode in head-weight-each book (rw (read-n book) replicas);
+  even-weights = unfold view decode in head-even book (rw (read-n book) replicas);
   some-weight = some;
 }
 

@@ -18,7 +18,7 @@ use Rattle.protocol.specs.Laws.ObserverFieldLaws.{read-observer-n, read-observe
 use Rattle.protocol.specs.Laws.ObserverSoundLaws.{exact-observer, sound-observer, sound-clean-observer}
 use Rattle.protocol.specs.Laws.ObserverSoundLaws.{encode-decode-observer, observer-finalized-in}
 use Rattle.book_fields.specs.Book.{ObserverReadable, SoundObserverBook}
-use Rattle.book_fields.specs.Laws.WeightLaws.{some-weight}
+use Rattle.book_fields.specs.Laws.WeightLaws.{some-weight, head-even}
 
 pub observer-readable : (book : Bytes) → length book ≡ 64 + 184 * bookHeights book →
     observerState book .n ≤ maximumReplicas → bookHeights book ≤ maximumHeights →
@@ -35,6 +35,7 @@ observer-readable book size replicas heights unused some = record {
   weighs = unfold view asReplica decodeObserver in
       head-weighs book (omega arith) unused (rw (read-observer-n book) replicas);
   weight-each = unfold view asReplica decodeObserver in head-weight-each book (rw (read-observer-n book) replicas);
+  even-weights = unfold view asReplica decodeObserver in head-even book (rw (read-observer-n book) replicas);
   some-weight = some;
 }
 

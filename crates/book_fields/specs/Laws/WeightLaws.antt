@@ -4,14 +4,16 @@ use native.Mathlib.Omega.{arith}
 use mathlib.Core.Path.{_≡_, refl, sym, _∙_}
 use mathlib.Core.Bool.{Bool, true, false}
 use mathlib.Core.List.{List, [], _∷_}
-use lib.ListN.{length, take, drop}
+use lib.ListN.{length, take, drop, replicate, length-replicate}
+use lib.Dec.{eqb}
 use borrow.Author.Tests.{lt-leb}
-use Rattle.protocol.specs.Bytes.{all, isZero}
+use Rattle.protocol.specs.Bytes.{Bytes, byteAt, all, isZero}
 use Rattle.protocol.specs.Tests.{inRange}
 use Rattle.protocol.specs.Mask.{inMask, weigh, total}
 use Rattle.protocol.specs.View.{View, quorum, totalWeight}
 use Rattle.protocol.specs.Sound.{weightsFit}
-use Rattle.protocol.specs.State.{maximumWeight}
+use Rattle.protocol.specs.State.{maximumWeight, weightsIn, evenly, bookWeights}
+use Rattle.protocol.specs.Laws.HeadLaws.{padded-front}
 use Rattle.protocol.specs.Laws.TestsLaws.{and-both}
 use Rattle.protocol.specs.Laws.RowLaws.{in-range}
 use Rattle.protocol.specs.Laws.MaskLaws.{inMask-zero}
@@ -27,6 +29,13 @@ some-weight (suc n) (w ∷ ws) low long fits =
     (and-both (all (λ x. inRange 1 maximumWeight x) (take (suc n) (w ∷ ws))) (isZero (drop n ws)) fits .0) .0 in
     let positive = in-range 1 maximumWeight w first .0 in
     omega arith
+
+-- in edition 1 each replica of the head weighs 1
+pub head-even : (book : Bytes) → byteAt book 0 ≤ 16 → eqb (byteAt book 7) 1 ≡ true →
+    take (byteAt book 0) (bookWeights book) ≡ replicate (byteAt book 0) 1
+unfolding weightsIn evenly
+head-even book high first =
+    rw first (padded-front (byteAt book 0) (replicate (byteAt book 0) 1) (length-replicate (byteAt book 0) 1) high)
 
 nobody-weighs : (p : ℕ → Bool) → ((t : ℕ) → p t ≡ false) → (ws : List ℕ) → weigh p ws ≡ 0
 unfolding weigh
