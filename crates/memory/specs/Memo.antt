@@ -4,7 +4,6 @@ use mathlib.Core.Path.{_≡_}
 use mathlib.Core.Bool.{true, false, cond}
 use lib.ListN.{length}
 use Rattle.protocol.specs.Bytes.{Bytes, byteAt, word16, part}
-use Rattle.protocol.specs.Block.{maximumHeights}
 use Rattle.protocol.specs.State.{decode, bookHeights}
 use Rattle.protocol.specs.View.{View, linked, isDummy}
 use Rattle.protocol.specs.Sound.{view}
@@ -18,10 +17,6 @@ unfoldable pub runStart : View → ℕ → ℕ
 runStart v zero = 0
 runStart v (suc h) = cond (isDummy v (suc h)) (runStart v h) (suc h)
 
--- a memory has 36 bytes for height 0 and for each height of the book: this many are enough for the largest one
-abbrev pub memorySize : ℕ
-memorySize = 36 * (maximumHeights + 1)
-
 -- What the 36 bytes of a height say. The first is 1 where the height is known to be linked, and 2 where it is known not
 -- to be. The second is 1 where the digest of the height's notarized block stands in the last 32 bytes. The two
 -- between are 0, or one more than the start of the run of dummies that ends at the height.
@@ -31,6 +26,7 @@ pub record KnownAt (v : View) (known : Bytes) (h : ℕ) : Type 0 where
   pub digest : byteAt known (36 * h + 1) ≡ 1 → part known (36 * h + 4) 32 ≡ sha256 (v .block h)
   pub run : 0 < word16 known (36 * h + 2) → word16 known (36 * h + 2) ≡ runStart v h + 1
 
+-- a memory has 36 bytes for height 0 and for each height of the book
 pub record Known (heights : ℕ) (v : View) (known : Bytes) : Type 0 where
   pub room : 36 * (heights + 1) ≤ length known
   pub each : (h : ℕ) → h ≤ heights → KnownAt v known h

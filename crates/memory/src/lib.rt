@@ -4,6 +4,7 @@
 use book_fields::kind::Kind;
 ghost use mathlib.Core.Path.{_≡_};
 ghost use Prim.Native.Nat.{_+_, _*_, _-_, _≤_};
+ghost use lib.Dec.{leb};
 ghost use Rattle.sha256.specs.Digest.{sha256 as sha};
 ghost use Rattle.protocol.specs.Bytes.{part};
 ghost use Rattle.protocol.specs.State.{bookHeights};
@@ -11,8 +12,19 @@ ghost use Rattle.protocol.specs.View.{dummyRun};
 ghost use Rattle.book_fields.specs.Book.{Within, Shown, viewOf};
 ghost use Rattle.memory.specs.Memo.{MemoAs, runStart};
 
-// The size of a memory of the largest book.
-pub const SIZE: usize = 2304;
+// The size of a memory of a book of up to 63 heights.
+pub const SMALL: usize = 2304;
+
+// The size of a memory of a book of up to 1,000 heights. Clearing it costs more than a whole call on a short book.
+pub const LARGE: usize = 36036;
+
+// Whether a memory of `size` bytes has room for the heights of a book.
+pub fn has_room(kind: Kind, book: &[u8], size: usize) -> bool
+    requires { ⌜ Shown kind (now book) ⌝ }
+    ensures { λ r. ⌜ r ≡ leb (36 * (bookHeights (now (book .entry)) + 1)) size ⌝ }
+{
+    36 * (book_fields::kind::heights(kind, book) + 1) <= size
+}
 
 // Remembers the digest of the notarized block of height `j`. Costs one digest the first time, and one read after that.
 pub fn remember_digest(kind: Kind, book: &[u8], j: usize, known: &mut [u8])

@@ -6,7 +6,7 @@ use mathlib.Core.Bool.{Bool, true, false, _&&_, _||_, and-true, and-assoc}
 use lib.ListN.{length}
 use lib.Pow.{pow-pos}
 use lib.Dec.{eqb, leb}
-use borrow.Author.Tests.{eq-eqb, ne-eqb, lt-ltb}
+use borrow.Author.Tests.{ne-eqb, lt-ltb}
 use Rattle.protocol.specs.Bytes.{Bytes, byteAt, part, all, isZero}
 use Rattle.protocol.specs.Tests.{allOf, inRange, everyHeight}
 use Rattle.protocol.specs.Block.{blockWellFormed}
@@ -88,13 +88,8 @@ module _ (book : Bytes) (h : ℕ) where
   unfolding heightRows allOf observedZero
   height-are from place = rw place (simp (and-true, and-assoc))
 
--- ---- the finalized height
+-- ---- the three groups
 module _ (digest : Bytes → Bytes) (book : Bytes) where
-  pub final-none : observerState book .finalized ≡ 0 → finalRow digest book ≡ true
-  unfolding finalRow
-  final-none e = rw (eq-eqb (observerState book .finalized) 0 e)
-
-  -- ---- the three groups
   abbrev every : Bool
   every = everyHeight (λ h. allOf (heightRows book h)) (bookHeights book)
 

@@ -4,7 +4,6 @@ use book_fields::kind::Kind;
 use book_fields::observed::content_at;
 use book_fields::observed::is_notarized;
 use book_fields::observed::mask_at;
-use memory::SIZE;
 use wire::bytes::byte;
 use wire::mask::below;
 ghost use mathlib.Core.Path.{_≡_};
@@ -12,7 +11,7 @@ ghost use mathlib.Core.Bool.{true, _&&_};
 ghost use Prim.Native.Nat.{_≤_};
 ghost use lib.ListN.{length};
 ghost use Rattle.sha256.specs.Digest.{sha256 as sha};
-ghost use Rattle.protocol.specs.Bytes.{zeros, isZero, AreBytes};
+ghost use Rattle.protocol.specs.Bytes.{isZero, AreBytes};
 ghost use Rattle.protocol.specs.Tests.{allOf, everyHeight};
 ghost use Rattle.protocol.specs.State.{bookHeights};
 ghost use Rattle.protocol.specs.Sound.{masksBelow};
@@ -20,7 +19,7 @@ ghost use Rattle.protocol.specs.Observer.{observerState};
 ghost use Rattle.protocol.specs.ObserverSound.{observerSound, replicaHead};
 ghost use Rattle.book_fields.specs.Book.{Within, ObserverReadable, observedIn};
 ghost use Rattle.book_fields.specs.declared.kind.Kind.the-variants.{Observer};
-ghost use Rattle.memory.specs.Memo.{MemoAs, memorySize};
+ghost use Rattle.memory.specs.Memo.{MemoAs};
 ghost use Rattle.observer_soundness.specs.ObserverRows.{headRows, blockRow, certificateRow};
 ghost use Rattle.observer_soundness.specs.ObserverRows.{heightRows, bookRows, finalRow};
 
@@ -113,7 +112,7 @@ fn heights_sound(book: &[u8]) -> bool
 }
 
 // Whether the finalized height is 0, or finalized. One digest for each block of its chain.
-fn finalized_sound(book: &[u8], known: &mut [u8]) -> bool
+pub fn finalized_sound(book: &[u8], known: &mut [u8]) -> bool
     requires { ⌜ ObserverReadable (now book) ⌝ }
     requires { ⌜ MemoAs Observer (now book) (now known) ⌝ }
     ensures answer { λ r. ⌜ r ≡ finalRow sha (now (book .entry)) ⌝ }
@@ -123,20 +122,18 @@ fn finalized_sound(book: &[u8], known: &mut [u8]) -> bool
     linking::linking::zero_or_finalized(Kind::Observer, book, g, known)
 }
 
-// The same with a memory of its own, which is made only where there is a height to ask for.
+// The same with a memory of its own.
 fn finalized_alone(book: &[u8]) -> bool
     requires { ⌜ ObserverReadable (now book) ⌝ }
     ensures { λ r. ⌜ r ≡ finalRow sha (now (book .entry)) ⌝ }
 {
-    if book_fields::observed::finalized(book) == 0 {
-        return true;
-    }
-    let mut known = [0u8; SIZE];
-    finalized_sound(book, &mut known)
+    let g = book_fields::observed::finalized(book);
+    linking::alone::finalized_alone(Kind::Observer, book, g)
 }
 
-// Whether a book is sound but for its finalized height. Reads it once.
-fn rows_sound(book: &[u8]) -> bool
+// Whether a book is sound but for its finalized height. Reads it once. A call that walks the book further asks this
+// first, and then `finalized_sound` with a memory that has room for the heights.
+pub fn rows_sound(book: &[u8]) -> bool
     ensures answer { λ r. ⌜ r ≡ allOf (bookRows (now (book .entry))) ⌝ }
     ensures readable { λ r. ⌜ (r ≡ true → ObserverReadable (now (book .entry))) ⌝ }
 {
@@ -155,20 +152,6 @@ pub fn is_sound(book: &[u8]) -> bool
 {
     if rows_sound(book) {
         finalized_alone(book)
-    } else {
-        false
-    }
-}
-
-// The same for a call that walks the book further: what is found stays in the memory of zeros that is lent.
-pub fn sound(book: &[u8], known: &mut [u8]) -> bool
-    requires { ⌜ now known ≡ zeros memorySize ⌝ }
-    ensures answer { λ r. ⌜ r ≡ observerSound sha (now (book .entry)) ⌝ }
-    ensures memo { λ r. ⌜ (r ≡ true → MemoAs Observer (now (book .entry)) (now (known .exit))) ⌝ }
-    ensures size { λ _. ⌜ length (now (known .exit)) ≡ memorySize ⌝ }
-{
-    if rows_sound(book) {
-        finalized_sound(book, known)
     } else {
         false
     }

@@ -5,7 +5,7 @@ use mathlib.Core.Path.{_≡_}
 use mathlib.Core.Bool.{Bool, true, false, _&&_, and-true}
 use lib.ListN.{length, take, drop}
 use lib.Dec.{eqb, leb, ltb}
-use borrow.Author.Tests.{eq-eqb, ne-eqb}
+use borrow.Author.Tests.{ne-eqb}
 use Rattle.protocol.specs.Bytes.{Bytes, byteAt, part, isZero}
 use Rattle.protocol.specs.Tests.{allOf, implies, inRange, everyHeight}
 use Rattle.protocol.specs.Block.{blockWellFormed}
@@ -65,13 +65,8 @@ module _ (book : Bytes) (h : ℕ) where
   unfolding heightRows blocksWellFormed allOf
   height-are = simp and-true
 
--- ---- the finalized height
+-- ---- the three groups
 module _ (digest : Bytes → Bytes) (book : Bytes) where
-  pub final-none : decode book .finalized ≡ 0 → finalRow digest book ≡ true
-  unfolding finalRow
-  final-none e = rw (eq-eqb (decode book .finalized) 0 e)
-
-  -- ---- the three groups
   abbrev every : Bool
   every = everyHeight (λ h. allOf (heightRows book h)) (bookHeights book)
 

@@ -6,7 +6,6 @@ use book_fields::height::is_notarized;
 use book_fields::height::notarized;
 use book_fields::height::proposal;
 use book_fields::kind::Kind;
-use memory::SIZE;
 use wire::bytes::byte;
 use wire::bytes::is_zero;
 use wire::mask::below;
@@ -15,14 +14,14 @@ ghost use mathlib.Core.Bool.{true};
 ghost use Prim.Native.Nat.{_≤_};
 ghost use lib.ListN.{length};
 ghost use Rattle.sha256.specs.Digest.{sha256 as sha};
-ghost use Rattle.protocol.specs.Bytes.{zeros, isZero, AreBytes};
+ghost use Rattle.protocol.specs.Bytes.{isZero, AreBytes};
 ghost use Rattle.protocol.specs.Tests.{allOf, implies, everyHeight};
 ghost use Rattle.protocol.specs.Block.{blockWellFormed};
 ghost use Rattle.protocol.specs.State.{decode, at, bookHeights};
 ghost use Rattle.protocol.specs.View.{quorum};
 ghost use Rattle.protocol.specs.Sound.{masksBelow, contentZeros, sound as isSound};
 ghost use Rattle.book_fields.specs.Book.{Within, Readable, heightIn};
-ghost use Rattle.memory.specs.Memo.{Memo, memorySize};
+ghost use Rattle.memory.specs.Memo.{Memo};
 ghost use Rattle.soundness.specs.SoundRows.{numberRows, headRows, certificateRow, heightRows, bookRows, finalRow};
 
 // Whether the numbers that only a replica has are in their ranges, and the heights.
@@ -138,7 +137,7 @@ fn heights_sound(book: &[u8]) -> bool
 }
 
 // Whether the finalized height is 0, or finalized. One digest for each block of its chain.
-fn finalized_sound(book: &[u8], known: &mut [u8]) -> bool
+pub fn finalized_sound(book: &[u8], known: &mut [u8]) -> bool
     requires { ⌜ Readable (now book) ⌝ }
     requires { ⌜ Memo (now book) (now known) ⌝ }
     ensures answer { λ r. ⌜ r ≡ finalRow sha (now (book .entry)) ⌝ }
@@ -148,20 +147,18 @@ fn finalized_sound(book: &[u8], known: &mut [u8]) -> bool
     linking::linking::zero_or_finalized(Kind::Replica, book, g, known)
 }
 
-// The same with a memory of its own, which is made only where there is a height to ask for.
+// The same with a memory of its own.
 fn finalized_alone(book: &[u8]) -> bool
     requires { ⌜ Readable (now book) ⌝ }
     ensures { λ r. ⌜ r ≡ finalRow sha (now (book .entry)) ⌝ }
 {
-    if book_fields::head::finalized(book) == 0 {
-        return true;
-    }
-    let mut known = [0u8; SIZE];
-    finalized_sound(book, &mut known)
+    let g = book_fields::head::finalized(book);
+    linking::alone::finalized_alone(Kind::Replica, book, g)
 }
 
-// Whether a book is sound but for its finalized height. Reads it once.
-fn rows_sound(book: &[u8]) -> bool
+// Whether a book is sound but for its finalized height. Reads it once. A call that walks the book further asks this
+// first, and then `finalized_sound` with a memory that has room for the heights.
+pub fn rows_sound(book: &[u8]) -> bool
     ensures answer { λ r. ⌜ r ≡ allOf (bookRows (now (book .entry))) ⌝ }
     ensures readable { λ r. ⌜ (r ≡ true → Readable (now (book .entry))) ⌝ }
 {
@@ -180,20 +177,6 @@ pub fn is_sound(book: &[u8]) -> bool
 {
     if rows_sound(book) {
         finalized_alone(book)
-    } else {
-        false
-    }
-}
-
-// The same for a call that walks the book further: what is found stays in the memory of zeros that is lent.
-pub fn sound(book: &[u8], known: &mut [u8]) -> bool
-    requires { ⌜ now known ≡ zeros memorySize ⌝ }
-    ensures answer { λ r. ⌜ r ≡ isSound sha (now (book .entry)) ⌝ }
-    ensures memo { λ r. ⌜ (r ≡ true → Memo (now (book .entry)) (now (known .exit))) ⌝ }
-    ensures size { λ _. ⌜ length (now (known .exit)) ≡ memorySize ⌝ }
-{
-    if rows_sound(book) {
-        finalized_sound(book, known)
     } else {
         false
     }

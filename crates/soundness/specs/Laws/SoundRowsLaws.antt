@@ -1,4 +1,4 @@
--- The groups of rows make soundness; a sound head can be read; a memory of zeros is one of a book.
+-- The groups of rows make soundness; a sound head can be read.
 use Prim.Native.Nat.{ℕ, _+_, _*_, _≤_}
 use mathlib.Core.Path.{_≡_}
 use mathlib.Core.Bool.{Bool, true, _&&_}
@@ -6,7 +6,7 @@ use lib.ListN.{length}
 use lib.Dec.{eqb, leb, ltb}
 use borrow.Author.Tests.{eqb-true}
 use Rattle.protocol.specs.Every.{none, one}
-use Rattle.protocol.specs.Bytes.{Bytes, zeros, isZero}
+use Rattle.protocol.specs.Bytes.{Bytes, isZero}
 use Rattle.protocol.specs.Tests.{allOf, inRange, everyHeight}
 use Rattle.protocol.specs.Block.{maximumHeights}
 use Rattle.protocol.specs.State.{decode, weightsIn, bookSize, bookHeights, maximumPending}
@@ -14,10 +14,8 @@ use Rattle.protocol.specs.Sound.{view, sound, masksBelow, blocksWellFormed, con
 use Rattle.protocol.specs.Laws.TestsLaws.{and-both, both-ways}
 use Rattle.protocol.specs.Laws.RowLaws.{row, by-rows, all-of, true-and, every-height-at, every-height, in-range}
 use Rattle.book_fields.specs.Laws.BookLaws.{readable as make-readable}
-use Rattle.book_fields.specs.Book.{Readable, heightIn, bookView}
+use Rattle.book_fields.specs.Book.{Readable, heightIn}
 use Rattle.book_fields.specs.Laws.SettingRowsLaws.{SettingPasses, setting-passes, setting-pass, setting-weighs}
-use Rattle.memory.specs.Memo.{Memo, memorySize}
-use Rattle.memory.specs.Laws.FreshLaws.{zero-known}
 use Rattle.soundness.specs.SoundRows.{numberRows, headRows, heightRows, certificateRow, finalRow}
 use Rattle.protocol.specs.Laws.SoundRowNames.{lengthRow, replicasRow, ownRow, heightsRow, editionRow, weightsRow}
 use Rattle.protocol.specs.Laws.SoundRowNames.{currentRow, flagsRow, pendingRow, leadersRow, masksRow, statusRow}
@@ -153,7 +151,3 @@ readable book e =
     let size : length book ≡ 576 + 880 * bookHeights book = eqb-true _ _ (is .size) in
     make-readable book size (in-range _ _ _ (is .setting .replicas) .1) (in-range _ _ _ (is .numbers .heights) .1)
     (is .setting .unused) (unfold view in setting-weighs book (is .setting))
-
--- zeros say nothing of any height
-pub zero-memo : (book known : Bytes) → Readable book → known ≡ zeros memorySize → Memo book known
-zero-memo book known readable e = zero-known (bookHeights book) (bookView book) known (readable .heights) e

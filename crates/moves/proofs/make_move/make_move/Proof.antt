@@ -1,75 +1,60 @@
--- `make_move` meets its contract: the two refusals in their order, and else the first move that applies.
-use native.Mathlib.Omega.{arith}
+-- `make_move` meets its contract: a book whose rows do not pass is refused, and a memory of zeros knows nothing.
 use mathlib.Core.Path.{refl, sym, _∙_}
-use lib.ListN.{length}
-use borrow.Author.Tests.{le-leb, lt-leb}
-use Rattle.protocol.specs.Bytes.{zeros}
+use borrow.Author.Tests.{leb-true}
 use Rattle.sha256.specs.Digest.{sha256}
-use Rattle.book_fields.specs.Laws.BookLaws.{sound-book}
-use Rattle.moves.specs.Laws.OrderLaws.{called, called-short, called-unsound}
+use Rattle.protocol.specs.Bytes.{zeros}
+use Rattle.soundness.proofs.SoundTests.{not-sound-rows}
+use Rattle.memory.specs.Laws.FreshLaws.{zero-known}
+use Rattle.moves.specs.Laws.OrderLaws.{called-unsound}
 use borrow.Author.Needs.{needs}
 use Rattle.moves.proofs.make_move.make_move.Statement.{statement}
 use Rattle.moves.proofs.make_move.make_move.Tie as tie
 
-sound-requires : tie.Need-sound-requires
-unfolding zeros
-sound-requires c κs = refl
+has-room-requires : tie.Need-has-room-requires
+has-room-requires c κs =
+    let branch = c .before in
+    branch .before .rows-sound .ensures .1 (branch .if1 .taken)
 
-step-requires : tie.Need-step-requires
-step-requires c κs =
-    let after-if2 = c .before .before .before in
-    let after-if1 = after-if2 .before in
-    let after-sound = after-if1 .before .before in
-    let after-slice-known = after-sound .before .before .before .before in
-    let start = after-slice-known .before in
-    let book = start .args .book .now in
-    let whether = after-sound .sound in
-    let yes = after-if1 .if1 .taken in (
-      sound-book sha256 book (λ i. omega (arith, after-slice-known .slice-known .given i))
-          (sym (whether .ensures .0) ∙ yes),
-      (whether .ensures .1 .0 yes, after-if2 .if2 .taken),
+move-with-requires : tie.Need-move-with-requires
+unfolding zeros
+move-with-requires c κs =
+    let roomy = c .before .before .before in
+    let asked = roomy .before in
+    let branch = asked .before .before in
+    let rows = branch .before .rows-sound .ensures in
+    let room = leb-true _ _ (sym (asked .has-room .ensures) ∙ roomy .if2 .taken) in (
+      sym (rows .0) ∙ branch .if1 .taken,
+      (rows .1 (branch .if1 .taken), zero-known _ _ _ room refl),
     )
 
-returns : tie.Need-returns
-returns c =
-    let after-step = c .before .before .before .before .before in
-    let after-if2 = after-step .before .before .before .before in
-    let after-if1 = after-if2 .before in
-    let after-sound = after-if1 .before .before in
-    let start = after-sound .before .before .before .before .before in
-    let reply = start .args .reply .now in
-    called (start .args .book .now) reply (sym (after-sound .sound .ensures .0) ∙ after-if1 .if1 .taken)
-    (le-leb 448 (length reply) (after-if2 .if2 .taken))
-    (after-step .step .result) (after-step .step .last .0) (after-step .step .last .1 .0) (after-step .step .ensures)
-
-returns-2 : tie.Need-returns-2
-returns-2 c =
-    let after-if1 = c .before in
-    let after-sound = after-if1 .before .before in
-    let start = after-sound .before .before .before .before .before in
-    let reply = start .args .reply .now in
-    called-short (start .args .book .now) reply (sym (after-sound .sound .ensures .0) ∙ after-if1 .if1 .taken)
-    (lt-leb 448 (length reply) (c .if2 .left))
+move-long-requires : tie.Need-move-long-requires
+unfolding zeros
+move-long-requires c κs =
+    let branch = c .before .before .before .before .before .before in
+    let rows = branch .before .rows-sound .ensures in
+    (sym (rows .0) ∙ branch .if1 .taken, (rows .1 (branch .if1 .taken), refl))
 
 returns-3 : tie.Need-returns-3
 returns-3 c =
-    let after-sound = c .before .before in
-    let start = after-sound .before .before .before .before .before in
+    let start = c .before .before .before .before .before in
     called-unsound (start .args .book .now) (start .args .reply .now)
-    (sym (after-sound .sound .ensures .0) ∙ c .if1 .left)
+    (sym (not-sound-rows sha256 (start .args .book .now) (sym (c .before .rows-sound .ensures .0) ∙ c .if1 .left)))
 
 pub make-move-spec : {M : Type 1} → statement M
 make-move-spec =
     tie.close
     (tie.spec
+    (λ c κs. search needs)
+    has-room-requires
     (λ c. search needs)
-    sound-requires
+    move-with-requires
     (λ c. search needs)
-    step-requires
+    move-long-requires
     (λ c. search needs)
     (λ c. search needs)
-    returns
     (λ c. search needs)
-    returns-2
+    (λ c. search needs)
+    (λ c. search needs)
+    (λ c. search needs)
     (λ c. search needs)
     returns-3)

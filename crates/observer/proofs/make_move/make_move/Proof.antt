@@ -1,59 +1,62 @@
--- `make_move` meets its contract: a book that is not sound is refused, and else the move is made that applies.
-use native.Mathlib.Omega.{arith}
+-- `make_move` meets its contract: a book whose rows do not pass is refused, and a memory of zeros knows nothing.
 use mathlib.Core.Path.{refl, sym, ap, _∙_}
-use Rattle.protocol.specs.Bytes.{zeros}
+use borrow.Author.Tests.{leb-true}
 use Rattle.sha256.specs.Digest.{sha256}
-use Rattle.book_fields.specs.Laws.ObserverBookLaws.{sound-observer-book}
+use Rattle.protocol.specs.Bytes.{zeros}
 use Rattle.answers.specs.MoveNumbers.{answerNumbers}
 use Rattle.answers.specs.Laws.MoveNumbersLaws.{moved-numbers}
-use Rattle.observer.specs.Laws.CallLaws.{move-unsound, move-sound}
+use Rattle.observer_soundness.proofs.ObserverTests.{not-sound-rows}
+use Rattle.memory.specs.Laws.FreshLaws.{zero-known}
+use Rattle.observer.specs.Laws.CallLaws.{move-unsound}
 use borrow.Author.Needs.{needs}
 use Rattle.observer.proofs.make_move.make_move.Statement.{statement}
 use Rattle.observer.proofs.make_move.make_move.Tie as tie
 
-sound-requires : tie.Need-sound-requires
-unfolding zeros
-sound-requires c κs = refl
+has-room-requires : tie.Need-has-room-requires
+has-room-requires c κs =
+    let branch = c .before in
+    branch .before .rows-sound .ensures .1 (branch .if1 .taken)
 
-step-requires : tie.Need-step-requires
-step-requires c κs =
-    let branch = c .before .before in
-    let tested = branch .before .before in
-    let known = tested .before .before .before in
-    let start = known .before in
-    let whether = tested .sound in
-    let taken = branch .if1 .taken in (
-      sound-observer-book sha256 (start .args .book .now) (λ i. omega (arith, known .slice-known .given i))
-          (sym (whether .ensures .0) ∙ taken),
-      whether .ensures .1 .0 taken,
+move-with-requires : tie.Need-move-with-requires
+unfolding zeros
+move-with-requires c κs =
+    let roomy = c .before .before in
+    let asked = roomy .before in
+    let branch = asked .before .before in
+    let rows = branch .before .rows-sound .ensures in
+    let room = leb-true _ _ (sym (asked .has-room .ensures) ∙ roomy .if2 .taken) in (
+      sym (rows .0) ∙ branch .if1 .taken,
+      (rows .1 (branch .if1 .taken), zero-known _ _ _ room refl),
     )
 
-returns : tie.Need-returns
-returns c =
-    let moved = c .before .before .before in
-    let branch = moved .before .before .before in
-    let tested = branch .before .before in
-    let start = tested .before .before .before .before in
-    let is = move-sound (start .args .book .now) (sym (tested .sound .ensures .0) ∙ branch .if1 .taken) in
-    let told = moved .step .ensures in
-    rw is (told .0, (told .1, moved-numbers _ ∙ ap answerNumbers (told .0)))
+move-long-requires : tie.Need-move-long-requires
+unfolding zeros
+move-long-requires c κs =
+    let branch = c .before .before .before .before .before in
+    let rows = branch .before .rows-sound .ensures in
+    (sym (rows .0) ∙ branch .if1 .taken, (rows .1 (branch .if1 .taken), refl))
 
-returns-2 : tie.Need-returns-2
-returns-2 c =
-    let tested = c .before .before in
-    let start = tested .before .before .before .before in
-    let told = move-unsound (start .args .book .now) (sym (tested .sound .ensures .0) ∙ c .if1 .left) in
+returns-3 : tie.Need-returns-3
+returns-3 c =
+    let start = c .before .before .before .before in
+    let book = start .args .book .now in
+    let told = move-unsound book
+    (sym (not-sound-rows sha256 book (sym (c .before .rows-sound .ensures .0) ∙ c .if1 .left))) in
     (told .0, (told .1, moved-numbers _ ∙ ap answerNumbers (told .0)))
 
 pub make-move-spec : {M : Type 1} → statement M
 make-move-spec =
     tie.close
     (tie.spec
+    (λ c κs. search needs)
+    has-room-requires
     (λ c. search needs)
-    sound-requires
+    move-with-requires
     (λ c. search needs)
-    step-requires
+    move-long-requires
     (λ c. search needs)
-    returns
     (λ c. search needs)
-    returns-2)
+    (λ c. search needs)
+    (λ c. search needs)
+    (λ c. search needs)
+    returns-3)
