@@ -7,7 +7,8 @@ use lib.Dec.{eqb}
 use Rattle.protocol.specs.SoundState.{SoundState}
 use Rattle.protocol.specs.Bytes.{Bytes, byteAt, word16}
 use Rattle.protocol.specs.Block.{maximumHeights}
-use Rattle.protocol.specs.State.{State, Height, at, last, decode, encode, withHeight, bookHeights, maximumReplicas}
+use Rattle.protocol.specs.State.{State, Height, at, last, decode, encode, withHeight, bookHeights, bookCurrent}
+use Rattle.protocol.specs.State.{bookFinalized, maximumReplicas}
 use Rattle.protocol.specs.View.{View, totalWeight}
 use Rattle.protocol.specs.Sound.{view, sound}
 use Rattle.protocol.specs.Observer.{observerState, decodeObserver, encodeObserver, observed}
@@ -60,8 +61,8 @@ pub record Sized (book : Bytes) : Type 0 where
   pub n-byte : byteAt book 0 ≡ decode book .n
   pub own-byte : byteAt book 1 ≡ decode book .own
   pub flags-byte : byteAt book 3 ≡ decode book .flags
-  pub current-byte : byteAt book 4 ≡ decode book .current
-  pub finalized-byte : byteAt book 5 ≡ decode book .finalized
+  pub current-number : bookCurrent book ≡ decode book .current
+  pub finalized-number : bookFinalized book ≡ decode book .finalized
   pub pending-byte : byteAt book 6 ≡ decode book .pendingCount
 
 -- of an observer's book
@@ -70,7 +71,7 @@ pub record SizedObserver (book : Bytes) : Type 0 where
   -- these follow from the definition of `decodeObserver`, and stand here for the search to find
   pub count : last (observerState book) ≡ bookHeights book
   pub n-byte : byteAt book 0 ≡ observerState book .n
-  pub finalized-byte : byteAt book 5 ≡ observerState book .finalized
+  pub finalized-number : bookFinalized book ≡ observerState book .finalized
 
 -- the same of each kind
 abbrev pub SizedAs : Kind → Bytes → Type 0

@@ -21,7 +21,7 @@ pub fn body_at(book: &[u8], h: usize) -> usize
     requires { ⌜ Within (now book) h ⌝ }
     ensures { λ r. ⌜ r ≡ 576 + 16 * bookHeights (now (book .entry)) + 864 * (h - 1) ⌝ }
 {
-    let heights = wire::bytes::byte(book, 2);
+    let heights = crate::head::heights(book);
     576 + 16 * heights + 864 * (h - 1)
 }
 

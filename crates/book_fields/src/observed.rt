@@ -1,4 +1,5 @@
 // An observer's book: its finalized height, and the status, masks and block of one height, read where they lie.
+use crate::kind::Kind;
 ghost use mathlib.Core.Path.{_≡_};
 ghost use Prim.Native.Nat.{_+_, _-_, _*_, _<_, _≤_};
 ghost use Rattle.protocol.specs.State.{isNotarized, bookHeights};
@@ -11,9 +12,9 @@ ghost use Rattle.book_fields.specs.Numbered.{maskAt};
 // The finalized height.
 pub fn finalized(book: &[u8]) -> usize
     requires { ⌜ ObserverReadable (now book) ⌝ }
-    ensures { λ r. ⌜ (r ≡ observerState (now (book .entry)) .finalized) × (r < 256) ⌝ }
+    ensures { λ r. ⌜ (r ≡ observerState (now (book .entry)) .finalized) × (r < 65536) ⌝ }
 {
-    wire::bytes::byte(book, 5)
+    crate::head::number(book, 5, 44)
 }
 
 // Where the contents of height `h` start.
@@ -30,7 +31,7 @@ pub fn block_at(book: &[u8], h: usize) -> usize
     requires { ⌜ Within (now book) h ⌝ }
     ensures { λ r. ⌜ r ≡ 64 + 8 * bookHeights (now (book .entry)) + 176 * (h - 1) ⌝ }
 {
-    let heights = wire::bytes::byte(book, 2);
+    let heights = crate::kind::heights(Kind::Observer, book);
     64 + 8 * heights + 176 * (h - 1)
 }
 

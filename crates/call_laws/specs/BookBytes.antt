@@ -7,20 +7,21 @@ use mathlib.Core.List.{List, [], _∷_, _++_, map}
 use lib.ListN.{length, set}
 use Rattle.protocol.specs.Open.{Opening, openedEdition, openedWeights}
 use Rattle.protocol.specs.Bytes.{Bytes, byteAt, zeros, join, put}
-use Rattle.protocol.specs.State.{State, decode, flag, pending, weightBytes, padded}
+use Rattle.protocol.specs.State.{State, decode, flag, pending, weightBytes, padded, shortNumber, numberBytes, headPut, bookCurrent}
 use Rattle.protocol.specs.Submit.{stillPending}
 
 -- Open: n, own number, H, flags 0, c 1, g 0, no pending entry, the edition, the weights if it has any; for each height
 -- its leader; and zeros
 unfoldable pub openedBook : Opening → ℕ → ℕ → ℕ → Bytes → Bytes
 openedBook way n own heights leaders =
-    (n ∷ own ∷ heights ∷ 0 ∷ 1 ∷ 0 ∷ 0 ∷ openedEdition way ∷
-    (weightBytes (openedEdition way) (padded (openedWeights n way)) ++ zeros 536)) ++
+    let e : ℕ = openedEdition way in
+    (n ∷ own ∷ shortNumber e heights ∷ 0 ∷ shortNumber e 1 ∷ 0 ∷ 0 ∷ e ∷
+    (weightBytes e (padded (openedWeights n way)) ++ (numberBytes e heights 1 0 ++ zeros 512))) ++
     (join (map (λ leader. leader ∷ zeros 15) leaders) ++ zeros (864 * heights))
 
 -- Signal: flag 1 was clear and is added to byte 3; the height is the current one
 pub record Signals (book : Bytes) (h : ℕ) (after : Bytes) : Type 0 where
-  pub current : h ≡ byteAt book 4
+  pub current : h ≡ bookCurrent book
   pub was-clear : flag 1 (decode book) ≡ false
   pub bytes : after ≡ set book 3 (byteAt book 3 + 1)
 
@@ -37,6 +38,6 @@ pub record Submits (book entry after : Bytes) : Type 0 where
       (join (entriesAfter book entry) ++ zeros (512 - 16 * length (entriesAfter book entry)))
   pub now-pending : pending (decode after) ≡ entriesAfter book entry
 
--- Move: bytes 3, 4 and 5 become the flags, c and g of the state that the step leaves
+-- Move: byte 3, and c and g where the edition has them, become those of the state that the step leaves
 abbrev pub headOf : Bytes → State → Bytes
-headOf book s = set (set (set book 3 (s .flags)) 4 (s .current)) 5 (s .finalized)
+headOf book s = headPut 5 44 (s .finalized) (headPut 4 42 (s .current) (set book 3 (s .flags)))

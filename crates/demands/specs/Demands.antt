@@ -29,11 +29,11 @@ use lib.Dec.{leb}
 use borrow.Author.Tests.{le-leb}
 use Rattle.sha256.specs.Digest.{sha256}
 use Rattle.sha256.specs.Laws.DigestLaws.{sha256-length}
-use Rattle.protocol.specs.Bytes.{Bytes, AreBytes, byteAt, holds}
+use Rattle.protocol.specs.Bytes.{Bytes, AreBytes, holds}
 use Rattle.protocol.specs.Distinct.{distinctAfter, distinct, noneTwice}
 use Rattle.protocol.specs.Tests.{firstRefusal}
 use Rattle.protocol.specs.Frame.{frameSize}
-use Rattle.protocol.specs.State.{State, decode, flag}
+use Rattle.protocol.specs.State.{State, decode, bookFinalized, flag}
 use Rattle.protocol.specs.Mask.{ones, intersection}
 use Rattle.protocol.specs.View.{View, maskWeight, quorum, totalWeight, logAt}
 use Rattle.protocol.specs.Laws.SharedLaws.{quorums-third, third-tight, quorum-equal, equal-third}
@@ -264,7 +264,7 @@ the-register = reads-chain sha256
 -- .. and that leaves no choice: a part, a buffer and a size that meet it are those of Read
 pub nothing-else-is-read : (book buffer : Bytes) (size : ℕ) → sizeCall sha256 book ≡ accepted size →
     size ≤ length buffer → (part after : Bytes) (size′ : ℕ) →
-    ReadsChainOf sha256 (view (decode book)) (byteAt book 5) part buffer after size′ →
+    ReadsChainOf sha256 (view (decode book)) (bookFinalized book) part buffer after size′ →
     (part ≡ readPart sha256 book buffer) × (after ≡ readBuffer sha256 book buffer) × (size′ ≡ size)
 nothing-else-is-read book buffer size is fits part after size′ =
     reads-exact sha256 _ _ _ part buffer _ after size size′ (reads-chain sha256 book buffer size is fits)

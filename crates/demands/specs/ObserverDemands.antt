@@ -18,8 +18,8 @@ use lib.ListN.{length}
 use Rattle.sha256.specs.Digest.{sha256}
 use Rattle.sha256.specs.Laws.DigestLaws.{sha256-length}
 use Rattle.protocol.specs.Open.{Opening}
-use Rattle.protocol.specs.Bytes.{Bytes, AreBytes, byteAt}
-use Rattle.protocol.specs.State.{decode}
+use Rattle.protocol.specs.Bytes.{Bytes, AreBytes}
+use Rattle.protocol.specs.State.{decode, bookFinalized}
 use Rattle.protocol.specs.Sound.{view, sound}
 use Rattle.protocol.specs.Answer.{Done, Delivery, Move, accepted, done}
 use Rattle.protocol.specs.Observer.{observerState}
@@ -145,7 +145,7 @@ the-observers-register = observer-reads-chain sha256
 -- .. and that leaves no choice: a part, a buffer and a size that meet it are those of Read
 pub observers-read-nothing-else : (book buffer : Bytes) (size : ℕ) → observerSizeCall sha256 book ≡ accepted size →
     size ≤ length buffer → (part after : Bytes) (size′ : ℕ) →
-    ReadsChainOf sha256 (view (observerState book)) (byteAt book 5) part buffer after size′ →
+    ReadsChainOf sha256 (view (observerState book)) (bookFinalized book) part buffer after size′ →
     (part ≡ observerReadPart sha256 book buffer) × (after ≡ observerReadBuffer sha256 book buffer) × (size′ ≡ size)
 observers-read-nothing-else book buffer size is fits part after size′ =
     reads-exact sha256 _ _ _ part buffer _ after size size′ (observer-reads-chain sha256 book buffer size is fits)

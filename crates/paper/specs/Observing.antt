@@ -4,7 +4,7 @@ use mathlib.Core.Path.{_≡_}
 use mathlib.Core.Logic.{_↔_}
 use lib.ListN.{set}
 use Rattle.protocol.specs.Bytes.{Bytes}
-use Rattle.protocol.specs.State.{State, last}
+use Rattle.protocol.specs.State.{headPut, State, last}
 use Rattle.protocol.specs.Sound.{view}
 use Rattle.protocol.specs.Answer.{accepted, idle, output}
 use Rattle.protocol.specs.Observer.{observerState}
@@ -22,7 +22,7 @@ pub record ObserverMoves (digest : Bytes → Bytes) (book : Bytes) (s : State) :
       SeenWithBlock digest (view s) g × Finalization (view s) g ×
       ((h : ℕ) → 1 ≤ h → h ≤ last s → SeenWithBlock digest (view s) h → Finalization (view s) h → h ≤ g)
   pub output-writes : (g : ℕ) → observerMoveCall digest book .answer ≡ accepted (output g) →
-      observerMoveCall digest book .book ≡ set book 5 g
+      observerMoveCall digest book .book ≡ headPut 5 44 g book
   pub idle-writes : observerMoveCall digest book .answer ≡ accepted idle → observerMoveCall digest book .book ≡ book
 
 abbrev pub ObserverStep : (Bytes → Bytes) → Bytes → Type 0

@@ -8,7 +8,7 @@ use lib.ListN.{length, drop}
 use Rattle.protocol.specs.Bytes.{Bytes, byteAt, join}
 use Rattle.protocol.specs.Distinct.{distinct}
 use Rattle.protocol.specs.Block.{entrySize}
-use Rattle.protocol.specs.State.{decode}
+use Rattle.protocol.specs.State.{bookFinalized, decode}
 use Rattle.protocol.specs.View.{View}
 use Rattle.protocol.specs.Sound.{view}
 use Rattle.protocol.specs.Answer.{refused, accepted}
@@ -36,13 +36,13 @@ pub record ReadsChainOf (digest : Bytes → Bytes) (v : View) (g : ℕ)
 -- of a replica's book, whose byte 5 names g
 abbrev pub ReadsChain : (Bytes → Bytes) → Bytes → Bytes → ℕ → Type 0
 ReadsChain digest book buffer size =
-    ReadsChainOf digest (view (decode book)) (byteAt book 5) (readPart digest book buffer) buffer
+    ReadsChainOf digest (view (decode book)) (bookFinalized book) (readPart digest book buffer) buffer
     (readBuffer digest book buffer) size
 
 -- of an observer's
 abbrev pub ObserverReadsChain : (Bytes → Bytes) → Bytes → Bytes → ℕ → Type 0
 ObserverReadsChain digest book buffer size =
-    ReadsChainOf digest (view (observerState book)) (byteAt book 5) (observerReadPart digest book buffer) buffer
+    ReadsChainOf digest (view (observerState book)) (bookFinalized book) (observerReadPart digest book buffer) buffer
     (observerReadBuffer digest book buffer) size
 
 -- size refuses, or the buffer is shorter than the size

@@ -7,9 +7,9 @@ use lib.Dec.{eqb, leb, ltb}
 use Rattle.protocol.specs.Bytes.{Bytes, byteAt, word16, le16, part, zeros, isZero, join, pieces}
 use Rattle.protocol.specs.Tests.{allOf, implies}
 
--- the largest number of heights of a book
+-- the largest number of heights of a book of any edition
 abbrev pub maximumHeights : ℕ
-maximumHeights = 63
+maximumHeights = 1000
 
 abbrev pub blockSize : ℕ
 blockSize = 176
@@ -41,14 +41,12 @@ parentDigest block = part block 16 digestSize
 unfoldable pub entries : Bytes → List Bytes
 entries block = pieces entrySize (entryCount block) (drop 48 block)
 
--- a block as it must be at height `h`; the high bytes of both heights are called zero, so heights are below 256
+-- a block as it must be at height `h`
 unfoldable pub blockWellFormed : ℕ → Bytes → Bool
 blockWellFormed h block = allOf
     (eqb (length block) blockSize ∷
     eqb (blockHeight block) h ∷
-    eqb (byteAt block 1) 0 ∷
     ltb (parentHeight block) h ∷
-    eqb (byteAt block 3) 0 ∷
     leb (entryCount block) blockEntries ∷
     isZero (part block 5 11) ∷
     implies (eqb (parentHeight block) 0) (isZero (parentDigest block)) ∷

@@ -9,7 +9,7 @@ use Rattle.protocol.specs.Bytes.{Bytes, byteAt, word16, part, zeros}
 use Rattle.protocol.specs.Block.{parentHeight, entryCount}
 use Rattle.protocol.specs.Frame.{kind, frameBlock, dummyVote, finalize, dummyCertificate, finalizeCertificate}
 use Rattle.protocol.specs.Mask.{ones}
-use Rattle.protocol.specs.State.{State, at, decode, bookSize, isNotarized}
+use Rattle.protocol.specs.State.{State, at, decode, bookSize, bookFinalized, isNotarized}
 use Rattle.protocol.specs.View.{View, quorum, isDummy, extends}
 use Rattle.protocol.specs.Answer.{accepted, done, idle, voteDummy, pass, propose, onDummy}
 use Rattle.protocol.specs.Open.{Opening, openedWeights, openCall}
@@ -87,7 +87,7 @@ proposesFirst m =
 abbrev pub notFinalized : Bytes → Type 0
 notFinalized book =
     (word16 book 582 ≡ 7) ×
-    (byteAt book 5 ≡ 0) ×
+    (bookFinalized book ≡ 0) ×
     (at (decode book) 1 .finalizeMask ≡ 7) ×
     (decode book .finalized ≡ 0)
 

@@ -69,14 +69,12 @@ carriesBlock k = isProposal k || isBlockCertificate k
 unfoldable pub carriesDigest : ℕ → Bool
 carriesDigest k = isBlockVote k
 
--- all that refusal 4 asks of a frame: its length, its kind, unused fields zero, its block; the high byte of the height
--- is called zero, so heights are below 256
+-- all that refusal 4 asks of a frame: its length, its kind, unused fields zero, its block
 unfoldable pub frameWellFormed : Bytes → Bool
 frameWellFormed frame = allOf
     (eqb (length frame) frameSize ∷
     (isStatement (kind frame) || isCertificate (kind frame)) ∷
     (isStatement (kind frame) || eqb (signer frame) 0) ∷
-    eqb (byteAt frame 3) 0 ∷
     (isCertificate (kind frame) || eqb (signerMask frame) 0) ∷
     isZero (part frame 6 10) ∷
     (carriesDigest (kind frame) || isZero (frameDigest frame)) ∷

@@ -5,7 +5,7 @@ use mathlib.Core.List.{List, [], _∷_, _++_, map}
 use lib.ListN.{drop}
 use Rattle.protocol.specs.Bytes.{Bytes, byteAt, word16, le16, zeros, join, pieces}
 use Rattle.protocol.specs.Block.{blockSize}
-use Rattle.protocol.specs.State.{State, Height, headBytes, bookHeights, bookWeights, poolSize}
+use Rattle.protocol.specs.State.{State, Height, headBytes, bookHeights, bookFinalized, bookWeights, poolSize}
 use Rattle.protocol.specs.View.{View}
 use Rattle.protocol.specs.Sound.{view}
 
@@ -126,7 +126,7 @@ decodeObserver book =
       edition = byteAt book 7;
       n = byteAt book 0;
       weights = bookWeights book;
-      finalized = byteAt book 5;
+      finalized = bookFinalized book;
       heights = decodeObservedHeights
           (pieces observedContentSize heights (drop 64 book))
           (pieces blockSize heights (drop (64 + observedContentSize * heights) book));

@@ -7,9 +7,9 @@ use lib.ListN.{length, replicate}
 use lib.Dec.{eqb, leb}
 use Rattle.protocol.specs.Bytes.{Bytes, zeros, join, overFront}
 use Rattle.protocol.specs.Tests.{allOf, inRange, Row, firstRefusal}
-use Rattle.protocol.specs.Block.{maximumHeights, entrySize}
+use Rattle.protocol.specs.Block.{entrySize}
 use Rattle.protocol.specs.Frame.{kind, frameHeight, frameWellFormed, isCertificate}
-use Rattle.protocol.specs.State.{State, Height, withHeight, maximumReplicas, padded}
+use Rattle.protocol.specs.State.{State, Height, withHeight, maximumReplicas, mostHeights, padded}
 use Rattle.protocol.specs.Open.{Opening, openedEdition, openedWeights, weightsInRange}
 use Rattle.protocol.specs.Sound.{log}
 use Rattle.protocol.specs.Answer.{Answer, Outcome, Done, Delivery, Move, done, known, fresh, refused, accepted}
@@ -41,7 +41,7 @@ newObserver way n heights = record {
 
 unfoldable pub observerOpenRows : Opening → Bytes → ℕ → ℕ → List Row
 observerOpenRows way book n heights =
-    (2, allOf (inRange 1 maximumReplicas n ∷ inRange 1 maximumHeights heights ∷ weightsInRange n way ∷ [])) ∷
+    (2, allOf (inRange 1 maximumReplicas n ∷ inRange 1 (mostHeights (openedEdition way)) heights ∷ weightsInRange n way ∷ [])) ∷
     (1, eqb (length book) (observerBookSize heights)) ∷ []
 
 unfoldable pub observerOpenCall : Opening → Bytes → ℕ → ℕ → Outcome Done

@@ -6,15 +6,15 @@ use lib.ListN.{length}
 use lib.Dec.{eqb}
 use Rattle.protocol.specs.Bytes.{Bytes, byteAt, isZero}
 use Rattle.protocol.specs.Tests.{allOf, implies, inRange, everyHeight}
-use Rattle.protocol.specs.Block.{maximumHeights, blockWellFormed}
-use Rattle.protocol.specs.State.{State, at, bookHeights, headUnused, isNotarized, maximumReplicas}
+use Rattle.protocol.specs.Block.{blockWellFormed}
+use Rattle.protocol.specs.State.{State, at, bookHeights, bookCurrent, headUnused, isNotarized, maximumReplicas, mostHeights}
 use Rattle.protocol.specs.View.{quorum, isFinalized}
 use Rattle.protocol.specs.Sound.{view, masksBelow, weightsFit}
 use Rattle.protocol.specs.Observer.{observerState, observerBookSize, observedContentSize}
 
 -- what only a replica has in the head: own number, flags, current height, pending count
 unfoldable pub replicaHead : Bytes → Bytes
-replicaHead book = byteAt book 1 ∷ byteAt book 3 ∷ byteAt book 4 ∷ byteAt book 6 ∷ []
+replicaHead book = byteAt book 1 ∷ byteAt book 3 ∷ bookCurrent book ∷ byteAt book 6 ∷ []
 
 -- the zero byte of height `h`
 unfoldable pub observedZero : Bytes → ℕ → ℕ
@@ -29,8 +29,8 @@ module _ (digest : Bytes → Bytes) where
       allOf
       (eqb (length book) (observerBookSize heights) ∷
       inRange 1 maximumReplicas (s .n) ∷
-      inRange 1 maximumHeights heights ∷
-      inRange 1 2 (s .edition) ∷
+      inRange 1 (mostHeights (s .edition)) heights ∷
+      inRange 1 3 (s .edition) ∷
       weightsFit (s .n) (s .weights) ∷
       everyHeight (λ h. masksBelow (s .n) (at s h)) heights ∷
       everyHeight (λ h. eqb (at s h .status) 0 || eqb (at s h .status) 2) heights ∷

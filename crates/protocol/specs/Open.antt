@@ -7,7 +7,7 @@ use lib.ListN.{length, replicate}
 use lib.Dec.{eqb, ltb}
 use Rattle.protocol.specs.Bytes.{Bytes, zeros, all}
 use Rattle.protocol.specs.Tests.{allOf, inRange, Row, firstRefusal}
-use Rattle.protocol.specs.Block.{maximumHeights}
+use Rattle.protocol.specs.State.{mostHeights}
 use Rattle.protocol.specs.State.{State, Height, encode, bookSize, poolSize, maximumReplicas, maximumWeight}
 use Rattle.protocol.specs.State.{padded, words}
 use Rattle.protocol.specs.Answer.{Outcome, Done, done, accepted, unlessRefused}
@@ -31,21 +31,27 @@ pub data Opening : Type 0 where
   unweighed : Opening
   -- request 2.6: the weights are given, two bytes for each replica
   weighed : (weights : Bytes) → Opening
+  -- 2.7: the same, and as many as 1,000 heights
+  long : (weights : Bytes) → Opening
 
 -- the edition that it makes
 unfoldable pub openedEdition : Opening → ℕ
 openedEdition unweighed = 1
 openedEdition (weighed weights) = 2
+openedEdition (long weights) = 3
 
 -- the weights of the `n` replicas
 unfoldable pub openedWeights : ℕ → Opening → List ℕ
 openedWeights n unweighed = replicate n 1
 openedWeights n (weighed weights) = words n weights
+openedWeights n (long weights) = words n weights
 
 -- there are n weights, each of 1 to 1,000
 unfoldable pub weightsInRange : ℕ → Opening → Bool
 weightsInRange n unweighed = true
 weightsInRange n (weighed weights) =
+    eqb (length weights) (2 * n) && all (λ w. inRange 1 maximumWeight w) (words n weights)
+weightsInRange n (long weights) =
     eqb (length weights) (2 * n) && all (λ w. inRange 1 maximumWeight w) (words n weights)
 
 -- a state at height 1 with nothing pending
@@ -71,7 +77,7 @@ unfoldable pub openInRange : Opening → ℕ → ℕ → ℕ → Bytes → Bool
 openInRange way n own heights leaders = allOf
     (inRange 1 maximumReplicas n ∷
     ltb own n ∷
-    inRange 1 maximumHeights heights ∷
+    inRange 1 (mostHeights (openedEdition way)) heights ∷
     eqb (length leaders) heights ∷
     all (λ leader. ltb leader n) leaders ∷
     weightsInRange n way ∷ [])

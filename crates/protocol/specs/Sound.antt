@@ -6,10 +6,10 @@ use lib.ListN.{length, take, drop}
 use lib.Dec.{eqb, leb, ltb}
 use Rattle.protocol.specs.Bytes.{Bytes, part, all, isZero}
 use Rattle.protocol.specs.Tests.{allOf, implies, inRange, everyHeight}
-use Rattle.protocol.specs.Block.{maximumHeights, blockWellFormed}
+use Rattle.protocol.specs.Block.{blockWellFormed}
 use Rattle.protocol.specs.Mask.{belowBit}
 use Rattle.protocol.specs.State.{State, Height, at, decode, bookSize, holdsProposal, isNotarized, bookHeights}
-use Rattle.protocol.specs.State.{maximumReplicas, maximumPending, maximumWeight, headUnused}
+use Rattle.protocol.specs.State.{maximumReplicas, maximumPending, maximumWeight, mostHeights, headUnused}
 use Rattle.protocol.specs.View.{View, quorum, isFinalized, logOf}
 
 unfoldable pub view : State → View
@@ -58,8 +58,8 @@ module _ (digest : Bytes → Bytes) where
       (eqb (length book) (bookSize heights) ∷
       inRange 1 maximumReplicas (s .n) ∷
       ltb (s .own) (s .n) ∷
-      inRange 1 maximumHeights heights ∷
-      inRange 1 2 (s .edition) ∷
+      inRange 1 (mostHeights (s .edition)) heights ∷
+      inRange 1 3 (s .edition) ∷
       weightsFit (s .n) (s .weights) ∷
       inRange 1 (heights + 1) (s .current) ∷
       ltb (s .flags) 16 ∷

@@ -12,7 +12,7 @@ use Rattle.protocol.specs.Every.{Every}
 use Rattle.protocol.specs.Block.{maximumHeights, blockWellFormed}
 use Rattle.protocol.specs.Mask.{maskLimit}
 use Rattle.protocol.specs.State.{State, Height, at, last, holdsProposal, isNotarized, maximumReplicas}
-use Rattle.protocol.specs.State.{maximumPending, evenly}
+use Rattle.protocol.specs.State.{maximumPending, evenly, mostHeights}
 use Rattle.protocol.specs.View.{View, quorum, isFinalized}
 use Rattle.protocol.specs.Sound.{view, weightsFit}
 
@@ -45,7 +45,7 @@ pub record SoundHeight (v : View) (h : ℕ) (x : Height) : Type 0 where
 
 -- an edition that is known, and weights in range
 pub record SoundSetting (edition n : ℕ) (weights : List ℕ) : Type 0 where
-  pub edition-row : inRange 1 2 edition ≡ true
+  pub edition-row : inRange 1 3 edition ≡ true
   pub weights-row : weightsFit n weights ≡ true
 
 pub record SoundState (digest : Bytes → Bytes) (s : State) : Type 0 where
@@ -55,7 +55,7 @@ pub record SoundState (digest : Bytes → Bytes) (s : State) : Type 0 where
   pub n-high : s .n ≤ maximumReplicas
   pub own-below : s .own < s .n
   pub last-low : 1 ≤ last s
-  pub last-high : last s ≤ maximumHeights
+  pub last-most : last s ≤ mostHeights (s .edition)
   pub current-low : 1 ≤ s .current
   pub current-high : s .current ≤ last s + 1
   pub flags-small : s .flags < 16

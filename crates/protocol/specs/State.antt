@@ -4,7 +4,7 @@ use mathlib.Core.Bool.{Bool, cond}
 use mathlib.Core.List.{List, [], _∷_, _++_, map}
 use lib.ListN.{length, getD, set, drop, take, replicate}
 use lib.Dec.{eqb, leb}
-use Rattle.protocol.specs.Bytes.{Bytes, byteAt, word16, le16, part, zeros, join, pieces}
+use Rattle.protocol.specs.Bytes.{Bytes, byteAt, word16, le16, part, zeros, join, pieces, put}
 use Rattle.protocol.specs.Block.{entrySize, maximumHeights, blockEntries}
 
 -- what is kept of one height
@@ -64,9 +64,39 @@ bodySize = 864
 unfoldable pub bookSize : ℕ → ℕ
 bookSize heights = 576 + 880 * heights
 
+-- ---- numbers of the head that edition 3 has in two bytes, further back, where the others have zero
+-- the largest H of an edition
+unfoldable pub mostHeights : ℕ → ℕ
+mostHeights edition = cond (eqb edition 3) 1000 63
+
+-- a number of the head: in a byte, and in edition 3 in two bytes elsewhere
+unfoldable pub headNumber : (byte word : ℕ) → Bytes → ℕ
+headNumber byte word book = cond (eqb (byteAt book 7) 3) (word16 book word) (byteAt book byte)
+
+-- the book with such a number changed
+unfoldable pub headPut : (byte word : ℕ) → ℕ → Bytes → Bytes
+headPut byte word x book = cond (eqb (byteAt book 7) 3) (put book word (le16 x)) (set book byte x)
+
 -- H, as a book's bytes say it
 abbrev pub bookHeights : Bytes → ℕ
-bookHeights book = byteAt book 2
+bookHeights book = headNumber 2 40 book
+
+-- the current height
+abbrev pub bookCurrent : Bytes → ℕ
+bookCurrent book = headNumber 4 42 book
+
+-- the finalized height
+abbrev pub bookFinalized : Bytes → ℕ
+bookFinalized book = headNumber 5 44 book
+
+-- and their bytes
+unfoldable pub shortNumber : ℕ → ℕ → ℕ
+shortNumber edition x = cond (eqb edition 3) 0 x
+
+-- the 24 bytes for H, the current and the finalized height, which editions 1 and 2 have zero
+unfoldable pub numberBytes : (edition heights current finalized : ℕ) → Bytes
+numberBytes edition heights current finalized =
+    cond (eqb edition 3) (le16 heights ++ (le16 current ++ (le16 finalized ++ zeros 18))) (zeros 24)
 
 -- ---- weights
 -- these weights, of 16 replicas
@@ -95,13 +125,17 @@ bookWeights book = weightsIn (byteAt book 7) (byteAt book 0) (part book 8 32)
 
 -- the bytes of the head that its edition calls zero
 unfoldable pub headUnused : Bytes → Bytes
-headUnused book = cond (eqb (byteAt book 7) 1) (part book 8 56) (part book 40 24)
+headUnused book =
+    cond (eqb (byteAt book 7) 1) (part book 8 56)
+    (cond (eqb (byteAt book 7) 3) (byteAt book 2 ∷ byteAt book 4 ∷ byteAt book 5 ∷ part book 46 18) (part book 40 24))
 
 -- ---- a state's bytes
 unfoldable pub headBytes : State → Bytes
 headBytes s =
-    s .n ∷ s .own ∷ length (s .heights) ∷ s .flags ∷ s .current ∷ s .finalized ∷ s .pendingCount ∷ s .edition ∷
-    (weightBytes (s .edition) (s .weights) ++ zeros 24)
+    let e : ℕ = s .edition in
+    s .n ∷ s .own ∷ shortNumber e (length (s .heights)) ∷ s .flags ∷ shortNumber e (s .current) ∷
+    shortNumber e (s .finalized) ∷ s .pendingCount ∷ e ∷
+    (weightBytes e (s .weights) ++ numberBytes e (length (s .heights)) (s .current) (s .finalized))
 
 unfoldable pub contentBytes : Height → Bytes
 contentBytes x =
@@ -144,8 +178,8 @@ decode book =
       weights = bookWeights book;
       own = byteAt book 1;
       flags = byteAt book 3;
-      current = byteAt book 4;
-      finalized = byteAt book 5;
+      current = bookCurrent book;
+      finalized = bookFinalized book;
       pendingCount = byteAt book 6;
       pool = part book 64 poolSize;
       heights = decodeHeights

@@ -17,8 +17,8 @@ module _ (h : ℕ) (block : Bytes) where
   unfolding blockWellFormed blockFields blockRest blockParent allOf
   block-is = simp and-assoc
 
-  pub fields-are : (eqb (blockHeight block) h && (eqb (byteAt block 1)
-      0 && (ltb (parentHeight block) h && (eqb (byteAt block 3) 0 && leb (entryCount block) 8)))) ≡ blockFields h block
+  pub fields-are : (eqb (blockHeight block) h && (ltb (parentHeight block) h && leb (entryCount block) 8)) ≡
+      blockFields h block
   unfolding blockFields allOf
   fields-are = simp and-true
 
@@ -26,8 +26,7 @@ module _ (h : ℕ) (block : Bytes) where
   unfolding blockFields
   few-entries e =
       leb-true (entryCount block) 8
-      (row (eqb (blockHeight block) h ∷ eqb (byteAt block 1) 0 ∷ ltb (parentHeight block) h ∷ eqb (byteAt block 3)
-      0 ∷ leb (entryCount block) 8 ∷ []) 4 e)
+      (row (eqb (blockHeight block) h ∷ ltb (parentHeight block) h ∷ leb (entryCount block) 8 ∷ []) 2 e)
 
 module _ (block : Bytes) where
   pub parent-none : parentHeight block ≡ 0 → blockParent block ≡ isZero (part block 16 32)

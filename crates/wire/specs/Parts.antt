@@ -12,9 +12,7 @@ use Rattle.protocol.specs.Block.{blockEntries, entrySize, blockHeight, parentHe
 unfoldable pub blockFields : ℕ → Bytes → Bool
 blockFields h block = allOf
     (eqb (blockHeight block) h ∷
-    eqb (byteAt block 1) 0 ∷
     ltb (parentHeight block) h ∷
-    eqb (byteAt block 3) 0 ∷
     leb (entryCount block) blockEntries ∷ [])
 
 -- no digest without a parent

@@ -54,17 +54,15 @@ pub fn block_well_formed(block: &[u8], h: usize) -> bool
     }
 }
 
-// Whether the first five bytes fit height `h`, with zero for the high byte of each height. Costs seven reads.
+// Whether the first five bytes fit height `h`. Costs five reads.
 fn fields_fit(block: &[u8], h: usize) -> bool
     requires { ⌜ length (now block) ≡ 176 ⌝ }
     ensures { λ r. ⌜ r ≡ blockFields h (now (block .entry)) ⌝ }
 {
     let height = block_height(block) == h;
-    let height_short = byte(block, 1) == 0;
     let parent = parent_height(block) < h;
-    let parent_short = byte(block, 3) == 0;
     let count = entry_count(block) <= 8;
-    height & (height_short & (parent & (parent_short & count)))
+    height & (parent & count)
 }
 
 // Whether a block with no parent has no digest either. Costs two reads, or a pass over 32 bytes.

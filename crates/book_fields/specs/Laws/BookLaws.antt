@@ -19,7 +19,7 @@ use Rattle.protocol.specs.Laws.EveryLaws.{every-set}
 use Rattle.protocol.specs.Laws.CodecLaws.{last-decode, decode-shaped}
 use Rattle.protocol.specs.Laws.PlaceLaws.{length-encode, count-encode, clean-encode}
 use Rattle.protocol.specs.Laws.PoolLaws.{moved, moved-last, moved-shaped}
-use Rattle.protocol.specs.Laws.SoundLaws.{finalized-in, exact, sound-decode, sound-clean, encode-decode}
+use Rattle.protocol.specs.Laws.SoundLaws.{last-high, finalized-in, exact, sound-decode, sound-clean, encode-decode}
 use Rattle.protocol.specs.Laws.FieldLaws.{read-n, read-own, read-flags, read-current, read-finalized}
 use Rattle.protocol.specs.Laws.FieldLaws.{read-pending-count}
 use Rattle.book_fields.specs.Book.{Readable, Ready, SoundBook, bookView}
@@ -35,8 +35,8 @@ readable book size replicas heights unused some = record {
     n-byte = read-n book;
     own-byte = read-own book;
     flags-byte = read-flags book;
-    current-byte = read-current book;
-    finalized-byte = read-finalized book;
+    current-number = read-current book;
+    finalized-number = read-finalized book;
     pending-byte = read-pending-count book;
   };
   replicas = rw (read-n book) replicas;
@@ -65,7 +65,7 @@ sound-book digest book small e =
     record {
       is-sound = e;
       ready = record {
-        readable = readable book (exact digest book e) (state .n-high) (rw count at (state .last-high))
+        readable = readable book (exact digest book e) (state .n-high) (rw count at (last-high state))
             (sound-clean digest book e .head-zeros) (weighs-some digest (decode book) state);
         whole = encode-decode digest book e small;
       };

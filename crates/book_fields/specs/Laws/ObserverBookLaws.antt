@@ -6,7 +6,7 @@ use mathlib.Core.Bool.{true}
 use lib.ListN.{length}
 use Rattle.protocol.specs.Bytes.{Bytes, isZero, AreBytes}
 use Rattle.protocol.specs.Block.{maximumHeights}
-use Rattle.protocol.specs.State.{bookHeights, headUnused, maximumReplicas}
+use Rattle.protocol.specs.State.{bookHeights, headUnused, maximumReplicas, mostHeights}
 use Rattle.protocol.specs.View.{totalWeight}
 use Rattle.protocol.specs.Sound.{view}
 use Rattle.protocol.specs.Laws.HeadLaws.{head-weighs, head-weight-each}
@@ -17,6 +17,7 @@ use Rattle.protocol.specs.Laws.ObserverCodecLaws.{count-observed, last-observed
 use Rattle.protocol.specs.Laws.ObserverFieldLaws.{read-observer-n, read-observer-finalized}
 use Rattle.protocol.specs.Laws.ObserverSoundLaws.{exact-observer, sound-observer, sound-clean-observer}
 use Rattle.protocol.specs.Laws.ObserverSoundLaws.{encode-decode-observer, observer-finalized-in}
+use Rattle.protocol.specs.Laws.SoundLaws.{most-heights}
 use Rattle.book_fields.specs.Book.{ObserverReadable, SoundObserverBook}
 use Rattle.book_fields.specs.Laws.WeightLaws.{some-weight, head-even}
 
@@ -28,7 +29,7 @@ observer-readable book size replicas heights unused some = record {
     size = size;
     count = last-observed book;
     n-byte = read-observer-n book;
-    finalized-byte = read-observer-finalized book;
+    finalized-number = read-observer-finalized book;
   };
   replicas = rw (read-observer-n book) replicas;
   heights = heights;
@@ -44,6 +45,9 @@ unfolding view asReplica
 weighs-some digest o is =
     some-weight (o .n) (o .weights) (is .n-low) (omega (arith, is .shaped .weighed .sixteen)) (is .setting .weights-row)
 
+few-heights : (edition count heights : ℕ) → count ≡ heights → count ≤ mostHeights edition → heights ≤ maximumHeights
+few-heights edition count heights e most = omega (arith, e, most, most-heights edition)
+
 -- a sound book, as every call is granted
 pub sound-observer-book : (digest : Bytes → Bytes) (book : Bytes) → AreBytes book → observerSound digest book ≡ true →
     SoundObserverBook digest book
@@ -55,7 +59,8 @@ sound-observer-book digest book small e =
       is-sound = e;
       ready = record {
         readable = observer-readable book (exact-observer digest book e) (state .n-high)
-            (rw count at (state .last-high)) (sound-clean-observer digest book e .head-zeros)
+            (few-heights (decodeObserver book .edition) (length (decodeObserver book .heights)) (bookHeights book) count
+            (state .last-most)) (sound-clean-observer digest book e .head-zeros)
             (weighs-some digest (decodeObserver book) state);
         whole = encode-decode-observer digest book e small;
       };

@@ -2,7 +2,8 @@
 use Prim.Native.Nat.{ℕ, _+_, _-_, _*_, _≤_, _<_}
 use native.Mathlib.Omega.{arith}
 use mathlib.Core.Path.{_≡_, refl, sym, ap, _∙_}
-use mathlib.Core.Bool.{true}
+use mathlib.Core.Bool.{Bool, true, false, cond}
+use lib.Dec.{eqb}
 use mathlib.Core.List.{List, [], _∷_, _++_, map, append-assoc}
 use mathlib.Core.Option.{Option, some, none}
 use lib.ListN.{length, set, length-append, length-map}
@@ -13,7 +14,8 @@ use Rattle.protocol.specs.Tests.{firstRefusal}
 use Rattle.protocol.specs.Laws.BytesLaws.{put-all, zeros-add}
 use Rattle.protocol.specs.Answer.{done, accepted, unlessRefused}
 use Rattle.protocol.specs.State.{State, decode, encode, headBytes, contentBytes, bodyBytes, withHead, withTimerFired}
-use Rattle.protocol.specs.State.{pending, withPool, weightBytes, padded}
+use Rattle.protocol.specs.State.{pending, withPool, weightBytes, padded, shortNumber, numberBytes, headPut}
+use Rattle.protocol.specs.Laws.HeadLaws.{put-current, put-finalized}
 use Rattle.protocol.specs.Sound.{sound, log}
 use Rattle.protocol.specs.Open.{Opening, openedEdition, openedWeights, newHeight, newState, openRows, openCall}
 use Rattle.protocol.specs.Move.{step, moved, moveRows, moveCall, unlessMoveRefused}
@@ -60,20 +62,29 @@ new-bodies (leader ∷ leaders) =
     rw (zeros-add 176 512, zeros-add 176 688) in
     rw (first, new-bodies leaders, ← more) (zeros-add 864 (864 * length leaders))
 
+pub short-zero : (edition : ℕ) → shortNumber edition 0 ≡ 0
+unfolding shortNumber
+short-zero edition = go (eqb edition 3)
+  where
+    go : (b : Bool) → cond {A = ℕ} b 0 0 ≡ 0
+    go true = refl
+    go false = refl
+
 new-book : (way : Opening) (n own : ℕ) (leaders : Bytes) →
     encode (newState way n own leaders) ≡ openedBook way n own (length leaders) leaders
 unfolding encode headBytes newState openedBook
 new-book way n own leaders =
     let weights = weightBytes (openedEdition way) (padded (openedWeights n way)) in
+    let numbers = numberBytes (openedEdition way) (length leaders) 1 0 in
     let contents = join (map (λ (leader : ℕ). leader ∷ zeros 15) leaders) ++ zeros (864 * length leaders) in
     rw (
       new-content leaders,
       new-bodies leaders,
       length-map leaders newHeight,
-      ← zeros-add 24 512,
-      append-assoc weights (zeros 24) (zeros 512 ++ contents),
-      append-assoc weights (zeros 24 ++ zeros 512) contents,
-      append-assoc (zeros 24) (zeros 512) contents,
+      append-assoc weights numbers (zeros 512 ++ contents),
+      append-assoc weights (numbers ++ zeros 512) contents,
+      append-assoc numbers (zeros 512) contents,
+      short-zero (openedEdition way),
     )
 
 pub open-bytes : (way : Opening) (book : Bytes) (n own heights : ℕ) (leaders : Bytes) →
@@ -160,10 +171,30 @@ module _ (digest : Bytes → Bytes) (book : Bytes) (small : AreBytes book) where
           }
 
   -- ---- Move
-  head-bytes : (flags current finalized : ℕ) →
-      encode (withHead s flags current finalized) ≡ set (set (set (encode s) 3 flags) 4 current) 5 finalized
+  flags-bytes : (flags : ℕ) → set (encode s) 3 flags ≡ encode (withHead s flags (s .current) (s .finalized))
   unfolding withHead encode headBytes
-  head-bytes flags current finalized = refl
+  flags-bytes flags = refl
+
+  current-bytes : (flags current : ℕ) →
+      headPut 4 42 current (encode (withHead s flags (s .current) (s .finalized))) ≡
+      encode (withHead s flags current (s .finalized))
+  unfolding encode withHead
+  current-bytes flags current =
+      put-current (withHead s flags (s .current) (s .finalized)) _ (s .current) (s .finalized) current
+
+  finalized-bytes : (flags current finalized : ℕ) →
+      headPut 5 44 finalized (encode (withHead s flags current (s .finalized))) ≡
+      encode (withHead s flags current finalized)
+  unfolding encode withHead
+  finalized-bytes flags current finalized =
+      put-finalized (withHead s flags current (s .finalized)) _ current (s .finalized) finalized
+
+  head-bytes : (flags current finalized : ℕ) →
+      encode (withHead s flags current finalized) ≡
+      headPut 5 44 finalized (headPut 4 42 current (set (encode s) 3 flags))
+  head-bytes flags current finalized =
+      sym (ap (λ (b : Bytes). headPut 5 44 finalized (headPut 4 42 current b)) (flags-bytes flags) ∙
+      ap (headPut 5 44 finalized) (current-bytes flags current) ∙ finalized-bytes flags current finalized)
 
   pub move-bytes : (reply : Bytes) → sound digest book ≡ true → 448 ≤ length reply →
       moveCall digest book reply .book ≡ headOf book (step digest s .after)

@@ -66,7 +66,7 @@ module _ (k s h mask : ℕ) (digest block : Bytes) (digest-size : length digest 
     pub block-size : length block ≡ 176
     pub a-kind : (isStatement k || isCertificate k) ≡ true
     pub a-signer : (isStatement k || eqb s 0) ≡ true
-    pub a-height : h < 256
+    pub a-height : h < 65536
     pub a-mask : (isCertificate k || eqb mask 0) ≡ true
     pub a-digest : (carriesDigest k || isZero digest) ≡ true
     pub a-block : (carriesBlock k || isZero block) ≡ true
@@ -83,7 +83,6 @@ module _ (k s h mask : ℕ) (digest block : Bytes) (digest-size : length digest 
       (one (eq-eqb (length frame) 224 (frame-size (fits .block-size)))
       (one (fits .a-kind)
       (one (fits .a-signer)
-      (one (eq-eqb (h / 256) 0 (omega (arith, fits .a-height)))
       (one (ap (λ (m : ℕ). isCertificate k || eqb m 0) mask-back ∙ fits .a-mask)
       (one ten-zeros
       (one (ap (λ (d : Bytes). carriesDigest k || isZero d) digest-back ∙ fits .a-digest)
@@ -91,4 +90,4 @@ module _ (k s h mask : ℕ) (digest block : Bytes) (digest-size : length digest 
       (one
       (ap₂ (λ (i : ℕ) (b : Bytes). implies (carriesBlock k) (blockWellFormed i b)) height-back block-back
       ∙ fits .good-block)
-      none)))))))))
+      none))))))))

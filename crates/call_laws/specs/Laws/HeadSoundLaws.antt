@@ -23,7 +23,7 @@ module _ (digest : Bytes → Bytes) (s : State) (is : SoundState digest s) where
     n-high = is .n-high;
     own-below = is .own-below;
     last-low = is .last-low;
-    last-high = is .last-high;
+    last-most = is .last-most;
     current-low = low;
     current-high = high;
     flags-small = small;

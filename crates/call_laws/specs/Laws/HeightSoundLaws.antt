@@ -95,7 +95,7 @@ module _ (s : State) (i : ℕ) (high : i < last s) (y : Height) where
           n-high = unfold withHeight in is .n-high;
           own-below = unfold withHeight in is .own-below;
           last-low = rw count (is .last-low);
-          last-high = rw count (is .last-high);
+          last-most = rw count (unfold withHeight in is .last-most);
           current-low = unfold withHeight in is .current-low;
           current-high = rw count (unfold withHeight in is .current-high);
           flags-small = unfold withHeight in is .flags-small;

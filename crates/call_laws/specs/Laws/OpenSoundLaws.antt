@@ -8,9 +8,9 @@ use lib.ListN.{length-map}
 use Rattle.protocol.specs.SoundState.{SoundHeight, SoundState}
 use Rattle.protocol.specs.Every.{Every}
 use Rattle.protocol.specs.Bytes.{Bytes}
-use Rattle.protocol.specs.State.{State, noHeight, at, last}
+use Rattle.protocol.specs.State.{State, noHeight, at, last, mostHeights}
 use Rattle.protocol.specs.Sound.{view}
-use Rattle.protocol.specs.Open.{Opening, newState, openInRange}
+use Rattle.protocol.specs.Open.{Opening, openedEdition, newState, openInRange}
 use Rattle.protocol.specs.Laws.EveryLaws.{every-at}
 use Rattle.protocol.specs.Laws.TestedLaws.{OpenRanges, open-ranges}
 use Rattle.protocol.specs.Laws.CodecLaws.{at-suc}
@@ -26,9 +26,9 @@ module _ (digest : Bytes → Bytes) (way : Opening) (n own heights : ℕ) (leade
   in-ranges : OpenRanges way n own heights leaders
   in-ranges = open-ranges way n own heights leaders ranges
 
-  last-range : (1 ≤ last s) × (last s ≤ maximumHeights)
+  last-range : (1 ≤ last s) × (last s ≤ mostHeights (openedEdition way))
   unfolding last newState
-  last-range = rw (length-map, in-ranges .listed) (in-ranges .heights-low, in-ranges .heights-high)
+  last-range = rw (length-map, in-ranges .listed) (in-ranges .heights-low, in-ranges .heights-most)
 
   all-new : Every (Bare (s .n)) (s .heights)
   unfolding newState
@@ -48,7 +48,7 @@ module _ (digest : Bytes → Bytes) (way : Opening) (n own heights : ℕ) (leade
     n-high = in-ranges .n-high;
     own-below = in-ranges .own-below;
     last-low = last-range .0;
-    last-high = last-range .1;
+    last-most = last-range .1;
     current-low = omega arith;
     current-high = omega (arith, last-range .0);
     flags-small = omega arith;

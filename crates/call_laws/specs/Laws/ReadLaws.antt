@@ -81,7 +81,7 @@ module _ (t : State) (k s h mask : ℕ) (digest block : Bytes) (digest-size : le
 
 -- ---- what a kind asks of the other fields
 -- where it carries no digest and no block
-bare : (k s h mask : ℕ) → h < 256 → (isStatement k || isCertificate k) ≡ true → (isStatement k || eqb s 0) ≡ true →
+bare : (k s h mask : ℕ) → h < 65536 → (isStatement k || isCertificate k) ≡ true → (isStatement k || eqb s 0) ≡ true →
     (isCertificate k || eqb mask 0) ≡ true →
     carriesDigest k ≡ false → carriesBlock k ≡ false → Fitting k s h mask (zeros 32) (zeros 176) (length-zeros 32)
 unfolding implies
@@ -97,7 +97,7 @@ bare k s h mask short a b c d e = record {
 }
 
 -- where it carries a block
-carrying : (k s h mask : ℕ) (block : Bytes) → h < 256 → (isStatement k || isCertificate k) ≡ true →
+carrying : (k s h mask : ℕ) (block : Bytes) → h < 65536 → (isStatement k || isCertificate k) ≡ true →
     (isStatement k || eqb s 0) ≡ true → (isCertificate k || eqb mask 0) ≡ true →
     carriesDigest k ≡ false → carriesBlock k ≡ true → blockWellFormed h block ≡ true →
     Fitting k s h mask (zeros 32) block (length-zeros 32)
@@ -114,7 +114,7 @@ carrying k s h mask block short a b c d e good = record {
 }
 
 -- ---- each kind over a state that has its height
-module _ (t : State) (h : ℕ) (low : 1 ≤ h) (high : h ≤ last t) (short : h < 256) where
+module _ (t : State) (h : ℕ) (low : 1 ≤ h) (high : h ≤ last t) (short : h < 65536) where
   module _ (s : ℕ) (small : s < t .n) where
     pub proposal-read : (block : Bytes) → blockWellFormed h block ≡ true → s ≡ at t h .leader →
         Written t (proposalFields s h block) (proposal s h block)

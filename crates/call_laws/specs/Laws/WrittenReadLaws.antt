@@ -21,6 +21,7 @@ use Rattle.protocol.specs.Move.{dummyVoteApplies, dummyVoteStep, outputStep, pa
 use Rattle.protocol.specs.Move.{proposeStep, blockVoteApplies, blockVoteStep, idleStep, passesAt}
 use Rattle.protocol.specs.Certificates.{certificateFrame}
 use Rattle.protocol.specs.Linked.{Linked, start, link}
+use Rattle.protocol.specs.Laws.SoundLaws.{last-high}
 use Rattle.protocol.specs.Laws.LinkedLaws.{linked-sound}
 use Rattle.protocol.specs.Laws.ParentLaws.{parent-some}
 use Rattle.protocol.specs.Laws.TestsLaws.{and-both}
@@ -63,8 +64,8 @@ module _ (digest : Bytes → Bytes) (s : State) (is : SoundState digest s) (t : 
     also-high : h ≤ last t
     also-high = rw (same .same-last) high
 
-    short : h < 256
-    short = let few = is .last-high in omega arith
+    short : h < 65536
+    short = let few = last-high is in omega arith
 
     pub block-certificate : isNotarized (at s h) ≡ true →
         Written t (blockCertificateFields h (at s h .certificateMask) (at s h .notarized))
@@ -148,7 +149,6 @@ module _ (digest : Bytes → Bytes) (s : State) (is : SoundState digest s) (t : 
     proposed-good (some j) p e = new-block-good c j (digestAt digest (view s) j) (offered s j) (below-current j p)
         (digest-at-size digest (view s) sized j) (digest-at-start digest (view s) j) (offered-few s j)
         (offered-sized digest s is j)
-        (let few = is .last-high in let near = is .current-high in omega arith)
 
     propose-good : proposeApplies digest s ≡ true → Good (proposeStep digest s)
     unfolding proposeStep moveFields offeredBlock

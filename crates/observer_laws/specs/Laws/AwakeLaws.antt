@@ -35,7 +35,7 @@ module _ (digest : Bytes → Bytes) where
         n-high = is .n-high;
         own-below = is .n-low;
         last-low = rw count (is .last-low);
-        last-high = rw count (is .last-high);
+        last-most = rw count (is .last-most);
         current-low = omega arith;
         current-high = rw count (omega (arith, is .last-low));
         flags-small = omega arith;
@@ -59,7 +59,7 @@ module _ (digest : Bytes → Bytes) where
         n-low = is .n-low;
         n-high = is .n-high;
         last-low = rw count at (is .last-low);
-        last-high = rw count at (is .last-high);
+        last-most = rw count at (is .last-most);
         each = λ h low high. is .each h low (rw count high);
         holds-none = λ h low high. holds-none h low (rw count high);
         final = is .final;

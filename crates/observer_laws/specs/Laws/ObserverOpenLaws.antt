@@ -15,7 +15,7 @@ use Rattle.protocol.specs.Bytes.{Bytes, Sized, all}
 use Rattle.protocol.specs.Every.{Every, none, one}
 use Rattle.protocol.specs.Tests.{Row, firstRefusal, inRange}
 use Rattle.protocol.specs.Block.{maximumHeights}
-use Rattle.protocol.specs.State.{Height, noHeight, last, withHead, maximumReplicas}
+use Rattle.protocol.specs.State.{mostHeights, Height, noHeight, last, withHead, maximumReplicas}
 use Rattle.protocol.specs.Answer.{done, accepted, unlessRefused}
 use Rattle.protocol.specs.Open.{Opening, openedEdition, openedWeights, weightsInRange, newHeight, newState, startState}
 use Rattle.protocol.specs.Open.{openInRange}
@@ -80,7 +80,7 @@ new-observer-shaped way n heights = record { weighed = opened-weighed way n; blo
 
 pub record ObserverRanges (way : Opening) (n heights : ℕ) : Type 0 where
   pub replicas : inRange 1 maximumReplicas n ≡ true
-  pub many : inRange 1 maximumHeights heights ≡ true
+  pub many : inRange 1 (mostHeights (openedEdition way)) heights ≡ true
   pub weights-fit : weightsInRange n way ≡ true
 
 module _ (way : Opening) (n heights : ℕ) where

@@ -68,7 +68,7 @@ module _ (digest : Bytes → Bytes) (s : State) (sound : SoundState digest s) (t
       its-entries = entries-back c j d es below (digest-at-size digest (view s) digest-size j)
           (digest-at-start digest (view s) j) few sized ∙ offered-is;
       formed = new-block-good c j d es below (digest-at-size digest (view s) digest-size j)
-          (digest-at-start digest (view s) j) few sized short;
+          (digest-at-start digest (view s) j) few sized;
     }
       where
         both : ChainEndingAt digest (view s) (s .current - 1)
@@ -96,9 +96,6 @@ module _ (digest : Bytes → Bytes) (s : State) (sound : SoundState digest s) (t
         below : j < c
         below = let low = sound .current-low in
             let within = parent-some digest (view s) (s .current - 1) j e .0 .within in omega arith
-
-        short : c < 256
-        short = let most = sound .last-high in let near = sound .current-high in omega arith
 
         offered-is : offered s j ≡ chosen (without (linearize (chain .sequence)) (pending s))
         offered-is = unfold offered in ap (λ (l : List Bytes). chosen (without l (pending s))) (sym (chain .its-entries))

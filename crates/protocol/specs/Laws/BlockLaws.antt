@@ -61,20 +61,17 @@ module _ (h parent : ℕ) (digest : Bytes) (es : List Bytes)
   unfolding entries entryCount newBlock le16
   entries-back = ap (λ (b : Bytes). pieces 16 (length es) b) entries-from ∙ pieces-join 16 es tail sized
 
-  -- a height below 256 has a zero high byte
-  pub new-block-good : h < 256 → blockWellFormed h block ≡ true
+  pub new-block-good : blockWellFormed h block ≡ true
   unfolding blockWellFormed entryCount newBlock le16
-  new-block-good small =
+  new-block-good =
       let its = new-block-height h parent digest es in
       let back = new-block-parent h parent digest es in
       all-of
       (one (eq-eqb (length block) 176 (new-block-size h parent digest es digest-size sized few))
       (one (eq-eqb (blockHeight block) h its)
-      (one (eq-eqb (h / 256) 0 (omega arith))
       (one (lt-ltb (parentHeight block) h (omega arith))
-      (one (eq-eqb (parent / 256) 0 (omega arith))
       (one (le-leb (length es) 8 few)
       (one eleven-zeros
       (one (true-implies (eqb (parentHeight block) 0) _
       (λ e. ap isZero digest-back ∙ from-start (sym back ∙ eqb-true (parentHeight block) 0 e)))
-      (one (ap isZero rest ∙ zeros-is-zero (128 - 16 * length es)) none)))))))))
+      (one (ap isZero rest ∙ zeros-is-zero (128 - 16 * length es)) none)))))))

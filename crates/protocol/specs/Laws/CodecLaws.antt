@@ -12,7 +12,7 @@ use Rattle.protocol.specs.SoundState.{ShapedHeight, Shaped}
 use Rattle.protocol.specs.Bytes.{Bytes, byteAt, le16, part, zeros, isZero, join, pieces, AreBytes}
 use Rattle.protocol.specs.State.{State, noHeight, at, last, isNotarized, encode, decode, headBytes, contentBytes}
 use Rattle.protocol.specs.State.{bodyBytes, decodeHeight, decodeHeights, bookHeights, headUnused}
-use Rattle.protocol.specs.Laws.HeadLaws.{weights-weighed, rest-back, head-spelled}
+use Rattle.protocol.specs.Laws.HeadLaws.{weights-weighed, rest-back, heights-back, current-back, finalized-back, head-spelled}
 use Rattle.protocol.specs.Laws.TestsLaws.{le-or-lt}
 use Rattle.protocol.specs.Laws.EveryLaws.{every-from}
 use Rattle.protocol.specs.Laws.BytesLaws.{are-bytes-take, are-bytes-drop, word-low, word-high, length-part}
@@ -163,6 +163,9 @@ head-back book small clean =
     let size : length book ≡ 576 + 880 * bookHeights book = clean .size in
     let e = head-spelled book (omega arith) in
     let z = rest-back book (omega arith) small (clean .head-zeros) in
+    let e₂ = heights-back book (omega arith) small (clean .head-zeros) in
+    let e₄ = current-back book (omega arith) small (clean .head-zeros) in
+    let e₅ = finalized-back book (omega arith) small (clean .head-zeros) in
     let h = length-heights (bookHeights book) (drop 576 book) (drop (576 + 16 * bookHeights book) book) in
     cc
 

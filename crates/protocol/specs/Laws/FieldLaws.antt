@@ -4,7 +4,7 @@ use native.Mathlib.Omega.{arith}
 use native.Mathlib.Nat.{add-zero}
 use mathlib.Core.Path.{_≡_, refl, sym, _∙_}
 use Rattle.protocol.specs.Bytes.{Bytes, byteAt, word16, part}
-use Rattle.protocol.specs.State.{at, decode, decodeHeight, voteOf, bookHeights}
+use Rattle.protocol.specs.State.{at, decode, decodeHeight, voteOf, bookHeights, bookCurrent, bookFinalized}
 use Rattle.protocol.specs.Laws.BytesLaws.{byte-part, word-part, part-part}
 use Rattle.protocol.specs.Laws.CodecLaws.{at-decode}
 
@@ -21,11 +21,11 @@ pub read-flags : (book : Bytes) → byteAt book 3 ≡ decode book .flags
 unfolding decode
 read-flags book = refl
 
-pub read-current : (book : Bytes) → byteAt book 4 ≡ decode book .current
+pub read-current : (book : Bytes) → bookCurrent book ≡ decode book .current
 unfolding decode
 read-current book = refl
 
-pub read-finalized : (book : Bytes) → byteAt book 5 ≡ decode book .finalized
+pub read-finalized : (book : Bytes) → bookFinalized book ≡ decode book .finalized
 unfolding decode
 read-finalized book = refl
 

@@ -20,8 +20,6 @@ pub record Formed (h : ℕ) (block : Bytes) : Type 0 where
   pub parent-below : parentHeight block < h
   pub few-entries : entryCount block ≤ 8
   -- the bytes called zero
-  pub zero-one : byteAt block 1 ≡ 0
-  pub zero-three : byteAt block 3 ≡ 0
   pub zero-head : part block 5 11 ≡ zeros 11
   pub zero-digest : parentHeight block ≡ 0 → parentDigest block ≡ zeros 32
   pub zero-rest : drop (48 + 16 * entryCount block) block ≡ zeros (128 - 16 * entryCount block)
@@ -30,7 +28,7 @@ module _ (h : ℕ) (block : Bytes) where
   pub formed : blockWellFormed h block ≡ true → Formed h block
   unfolding blockWellFormed parentDigest
   formed e =
-      by-rows _ e λ sized height one below three few head root rest.
+      by-rows _ e λ sized height below few head root rest.
       let size : length block ≡ 176 = eqb-true _ _ sized in
       let few-entries : entryCount block ≤ 8 = leb-true _ _ few in
       record {
@@ -38,8 +36,6 @@ module _ (h : ℕ) (block : Bytes) where
         height-is = eqb-true _ _ height;
         parent-below = ltb-true _ _ below;
         few-entries = few-entries;
-        zero-one = eqb-true _ _ one;
-        zero-three = eqb-true _ _ three;
         zero-head = zero-part block 5 11 (omega arith) head;
         zero-digest = λ first. zero-part block 16 32 (omega arith) (implies-true _ _ root (eq-eqb _ _ first));
         zero-rest = is-zero-zeros _ rest ∙ ap zeros (rw length-drop (omega arith));
@@ -61,7 +57,7 @@ kind-range k (inr e) = let range = in-range 5 7 k e in (omega arith, range .1)
 pub formed-frame : (frame : Bytes) → frameWellFormed frame ≡ true → FormedFrame frame
 unfolding frameWellFormed
 formed-frame frame e =
-    by-rows _ e λ size one-of-seven signer high mask zeros digest no-block block.
+    by-rows _ e λ size one-of-seven signer mask zeros digest no-block block.
     let kinds = kind-range (kind frame) (or-either _ _ one-of-seven) in
     record {
       size = eqb-true _ _ size;

@@ -5,9 +5,11 @@ use mathlib.Core.Path.{_≡_, refl, sym, ap, _∙_}
 use mathlib.Core.Bool.{true, false, _&&_, not}
 use mathlib.Core.List.{List, [], _∷_}
 use lib.ListN.{length}
-use Rattle.protocol.specs.Bytes.{Bytes, byteAt, word16, le16}
+use Rattle.protocol.specs.Bytes.{Bytes, word16, le16}
 use Rattle.protocol.specs.Mask.{inMask, maskOf, union, belowBit, weigh, total}
-use Rattle.protocol.specs.State.{State, at, last, encode, decode, headBytes, flag, withHead, padded}
+use Rattle.protocol.specs.State.{State, at, last, encode, decode, flag, withHead, padded}
+use Rattle.protocol.specs.State.{bookFinalized}
+use Rattle.protocol.specs.Laws.HeadLaws.{head-finalized}
 use Rattle.protocol.specs.View.{quorum, isDummy}
 use Rattle.protocol.specs.Sound.{view}
 use Rattle.protocol.specs.Answer.{Outcome, Delivery, fresh, accepted}
@@ -108,9 +110,9 @@ module _ (digest : Bytes → Bytes) (edition own leader : ℕ) (leaders : Bytes)
       let count = count-encode (withHead (early edition 4 own 0 0 7 leader leaders) flags current finalized) in
       read-finalize-mask (K flags current finalized) 0 (omega arith) ∙ mask-decoded flags current finalized
 
-  finalized-byte : (s : State) → byteAt (encode s) 5 ≡ s .finalized
-  unfolding encode headBytes
-  finalized-byte s = refl
+  finalized-number : (s : State) → bookFinalized (encode s) ≡ s .finalized
+  unfolding encode
+  finalized-number s = head-finalized s _
 
   pub not-finalized : (reply : Bytes) → 448 ≤ length reply → notFinalized (afterFinalizes digest (B 0 0 0) reply .book)
   unfolding moved
@@ -119,11 +121,11 @@ module _ (digest : Bytes → Bytes) (edition own leader : ℕ) (leaders : Bytes)
       let stays = head-only digest s in
       let bare = early-not-notarized edition 4 own 0 0 7 leader leaders ranges (omega arith) (omega arith) (omega arith)
       digest in
-      let zero-byte = finalized-byte (step digest s .after) ∙ finalized-stays digest s bare in
+      let zero = finalized-number (step digest s .after) ∙ finalized-stays digest s bare in
       rw (finalizes reply room) (
         ap (λ (t : State). word16 (encode t) 582) (stays .3) ∙ mask-kept (stays .0) (stays .1) (stays .2),
-        zero-byte,
+        zero,
         ap (λ (t : State). at (decode (encode t)) 1 .finalizeMask) (stays .3)
             ∙ mask-decoded (stays .0) (stays .1) (stays .2),
-        sym (read-finalized (encode (step digest s .after))) ∙ zero-byte,
+        sym (read-finalized (encode (step digest s .after))) ∙ zero,
       )

@@ -16,7 +16,7 @@ use Rattle.protocol.specs.Tests.{inRange}
 use Rattle.protocol.specs.Laws.TestsLaws.{and-both}
 use Rattle.protocol.specs.Block.{maximumHeights}
 use Rattle.protocol.specs.State.{State, Height, at, last, encode, decode, noHeight, holdsProposal, isNotarized}
-use Rattle.protocol.specs.State.{maximumReplicas}
+use Rattle.protocol.specs.State.{maximumReplicas, mostHeights}
 use Rattle.protocol.specs.Laws.StateLaws.{decode-encode}
 use Rattle.protocol.specs.View.{View}
 use Rattle.protocol.specs.Sound.{view, sound}
@@ -108,13 +108,13 @@ module _ (edition n own flags dummy final leader : ℕ) (leaders : Bytes) where
 
 -- an edition that is known, and what Open asks of its arguments, for a list of leaders that is not empty
 pub record Ranges (edition n own leader : ℕ) (leaders : Bytes) : Type 0 where
-  pub known-edition : inRange 1 2 edition ≡ true
+  pub known-edition : inRange 1 3 edition ≡ true
   pub some-replica : 1 ≤ n
   pub few-replicas : n ≤ maximumReplicas
   pub own-below : own < n
   pub leader-below : leader < n
   pub leaders-below : all (λ x. ltb x n) leaders ≡ true
-  pub few-heights : length leaders < maximumHeights
+  pub few-heights : length leaders < mostHeights edition
 
 module _ (edition n own flags dummy final leader : ℕ) (leaders : Bytes) (ranges : Ranges edition n own leader leaders)
     (flags-below : flags < 16) (dummy-below : dummy < 2 ^ n) (final-below : final < 2 ^ n) where
@@ -140,6 +140,10 @@ module _ (edition n own flags dummy final leader : ℕ) (leaders : Bytes) (range
   pub early-back : decode (encode E) ≡ E
   early-back = decode-encode E early-shaped
 
+  few-enough : last E ≤ mostHeights edition
+  unfolding last
+  few-enough = let count = length-map leaders newHeight in omega (arith, ranges .few-heights)
+
   pub early-sound : (digest : Bytes → Bytes) → sound digest (encode E) ≡ true
   unfolding last
   early-sound digest =
@@ -151,7 +155,7 @@ module _ (edition n own flags dummy final leader : ℕ) (leaders : Bytes) (range
         n-high = ranges .few-replicas;
         own-below = ranges .own-below;
         last-low = omega arith;
-        last-high = omega (arith, ranges .few-heights);
+        last-most = few-enough;
         current-low = omega arith;
         current-high = omega arith;
         flags-small = flags-below;

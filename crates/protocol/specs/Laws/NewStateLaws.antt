@@ -13,13 +13,12 @@ use Rattle.protocol.specs.Tests.{inRange}
 use Rattle.protocol.specs.Sound.{weightsFit}
 use Rattle.protocol.specs.Laws.TestsLaws.{and-both}
 use Rattle.protocol.specs.Laws.RowLaws.{zeros-is-zero}
-use Rattle.protocol.specs.Laws.HeadLaws.{padded-sixteen, padded-front, padded-back, words-count, opened-bytes}
+use Rattle.protocol.specs.Laws.HeadLaws.{padded-sixteen, padded-front, padded-back, words-count, opened-head}
 use Rattle.protocol.specs.Every.{Every, none, one}
 use Rattle.protocol.specs.Bytes.{Bytes, le16, zeros, all, join, put, AreBytes}
 use Rattle.protocol.specs.State.{State, Height, at, last, noHeight, withHeight, encode, headBytes, contentBytes}
-use Rattle.protocol.specs.State.{bodyBytes, padded, evenly, words, maximumWeight}
-use Rattle.protocol.specs.Open.{Opening, unweighed, weighed, openedEdition, openedWeights, weightsInRange}
-use Rattle.protocol.specs.Open.{newHeight}
+use Rattle.protocol.specs.State.{bodyBytes, padded, evenly, words, maximumWeight, shortNumber}
+use Rattle.protocol.specs.Open.{Opening, unweighed, weighed, long, openedEdition, openedWeights, weightsInRange, newHeight}
 use Rattle.protocol.specs.Open.{newState}
 use Rattle.protocol.specs.Laws.CodecLaws.{at-suc}
 use Rattle.protocol.specs.Laws.PlaceLaws.{with-at}
@@ -52,12 +51,17 @@ opened-weighed (weighed weights) n = record {
   sixteen = padded-sixteen (words n weights);
   even = λ e. absurd (false≢true e);
 }
+opened-weighed (long weights) n = record {
+  sixteen = padded-sixteen (words n weights);
+  even = λ e. absurd (false≢true e);
+}
 
 -- those that are there have the weights that were given
 pub opened-counted : (way : Opening) (n : ℕ) → length (openedWeights n way) ≡ n
 unfolding openedWeights
 opened-counted unweighed n = length-replicate n 1
 opened-counted (weighed weights) n = words-count n weights
+opened-counted (long weights) n = words-count n weights
 
 pub opened-front : (way : Opening) (n : ℕ) → n ≤ 16 → take n (padded (openedWeights n way)) ≡ openedWeights n way
 opened-front way n high = padded-front n (openedWeights n way) (opened-counted way n) high
@@ -85,9 +89,14 @@ opened-setting (weighed weights) n high e = record {
   weights-row = fits n (words n weights) (words-count n weights) high
       (and-both (eqb (length weights) (2 * n)) (all (λ w. inRange 1 maximumWeight w) (words n weights)) e .1);
 }
+opened-setting (long weights) n high e = record {
+  edition-row = unfold inRange in refl;
+  weights-row = fits n (words n weights) (words-count n weights) high
+      (and-both (eqb (length weights) (2 * n)) (all (λ w. inRange 1 maximumWeight w) (words n weights)) e .1);
+}
 
 -- where all weigh 1, in each edition that is known
-pub even-setting : (edition n : ℕ) → inRange 1 2 edition ≡ true → n ≤ 16 →
+pub even-setting : (edition n : ℕ) → inRange 1 3 edition ≡ true → n ≤ 16 →
     SoundSetting edition n (padded (replicate n 1))
 unfolding openedWeights weightsInRange
 even-setting edition n known high = record {
@@ -96,10 +105,11 @@ even-setting edition n known high = record {
 }
 
 -- an opening makes an edition that is known
-pub opened-known : (way : Opening) → inRange 1 2 (openedEdition way) ≡ true
+pub opened-known : (way : Opening) → inRange 1 3 (openedEdition way) ≡ true
 unfolding openedEdition inRange
 opened-known unweighed = refl
 opened-known (weighed weights) = refl
+opened-known (long weights) = refl
 
 pub new-shaped : (way : Opening) (n own : ℕ) (leaders : Bytes) → Shaped (newState way n own leaders)
 unfolding newState
@@ -131,45 +141,28 @@ pub eight-zeros : (k : ℕ) → zeros (8 + k) ≡ 0 ∷ 0 ∷ 0 ∷ 0 ∷ 0 ∷ 
 unfolding zeros
 eight-zeros k = sym (zeros-add 8 k)
 
--- the rest of the book past its first eight bytes
-rest-zeros : (n heights : ℕ) → n ≤ 16 →
-    zeros (56 - 2 * n) ++ (zeros 512 ++ (zeros (16 * heights) ++ zeros (864 * heights))) ≡ zeros
-    (568 + 880 * heights - 2 * n)
-rest-zeros n heights high =
-    let size : 56 - 2 * n + (512 + (16 * heights + 864 * heights)) ≡ 568 + 880 * heights - 2 * n = omega arith in
-    rw (
-      zeros-add (16 * heights) (864 * heights),
-      zeros-add 512 (16 * heights + 864 * heights),
-      zeros-add (56 - 2 * n) (512 + (16 * heights + 864 * heights)),
-      size,
-    )
+-- the book past its head
+rest-zeros : (heights : ℕ) → zeros 512 ++ (zeros (16 * heights) ++ zeros (864 * heights)) ≡ zeros (512 + 880 * heights)
+rest-zeros heights =
+    let size : 512 + (16 * heights + 864 * heights) ≡ 512 + 880 * heights = omega arith in
+    rw (zeros-add (16 * heights) (864 * heights), zeros-add 512 (16 * heights + 864 * heights), size)
 
-pub drop-zeros : (n k : ℕ) → 2 * n ≤ k → drop (2 * n) (zeros k) ≡ zeros (k - 2 * n)
-drop-zeros n k few =
-    let e : 2 * n + (k - 2 * n) ≡ k = omega arith in
-    ap (λ (j : ℕ). drop (2 * n) (zeros j)) (sym e)
-    ∙ rw (← zeros-add (2 * n) (k - 2 * n)) (drop-at (zeros (2 * n)) (zeros (k - 2 * n)) (2 * n) (length-zeros (2 * n)))
-
--- the weights are written after the first eight bytes
+-- the weights are written after the first eight bytes, then H and the current height
 pub new-from-zeros : (n own heights : ℕ) (weights : Bytes) → AreBytes weights → length weights ≡ 2 * n → n ≤ 16 →
-    put (set (set (set (set (set (zeros (576 + 880 * heights)) 0 n) 1 own) 2 heights) 4 1) 7 2) 8 weights ≡ encode
-    (newState (weighed weights) n own (zeros heights))
-unfolding encode headBytes newState openedEdition openedWeights
+    put (put (put (set (set (set (zeros (576 + 880 * heights)) 0 n) 1 own) 7 3) 8 weights) 40 (le16 heights)) 42 (le16 1) ≡
+    encode (newState (long weights) n own (zeros heights))
+unfolding encode headBytes newState openedEdition openedWeights shortNumber
 new-from-zeros n own heights weights small given high =
-    let size : 576 + 880 * heights ≡ 8 + (568 + 880 * heights) = omega arith in
+    let size : 576 + 880 * heights ≡ 8 + (56 + (512 + 880 * heights)) = omega arith in
     rw (
       size,
-      eight-zeros (568 + 880 * heights),
-      put-at (n ∷ own ∷ heights ∷ 0 ∷ 1 ∷ 0 ∷ 0 ∷ 2 ∷ []) (zeros (568 + 880 * heights)) weights 8 refl,
+      eight-zeros (56 + (512 + 880 * heights)),
+      opened-head (n ∷ own ∷ 0 ∷ 0 ∷ 0 ∷ 0 ∷ 0 ∷ 3 ∷ []) refl n weights small given high heights 1 (512 + 880 * heights),
       length-map (zeros heights) newHeight,
       length-zeros heights,
       zero-join contentBytes 16 zero-content heights,
       zero-join bodyBytes 864 zero-body heights,
-      opened-bytes n weights small given high,
-      append-assoc weights (zeros (56 - 2 * n)) (zeros 512 ++ (zeros (16 * heights) ++ zeros (864 * heights))),
-      rest-zeros n heights high,
-      given,
-      drop-zeros n (568 + 880 * heights) (omega arith),
+      rest-zeros heights,
     )
 
 -- ---- one leader

@@ -10,8 +10,9 @@ use lib.Seq.{take-all, take-add, drop-drop, getD-drop, length-take-le}
 use Rattle.protocol.specs.SoundState.{Shaped}
 use Rattle.protocol.specs.Every.{Every, none, one}
 use Rattle.protocol.specs.Bytes.{Bytes, byteAt, le16, part, isZero, join, pieces, AreBytes, Sized}
-use Rattle.protocol.specs.State.{at, last, headBytes, bookHeights, headUnused}
-use Rattle.protocol.specs.Laws.HeadLaws.{weights-weighed, rest-back, head-spelled, head-unused}
+use Rattle.protocol.specs.State.{at, last, headBytes, bookHeights, bookCurrent, headUnused}
+use Rattle.protocol.specs.Laws.HeadLaws.{weights-weighed, rest-back, heights-back, current-back, finalized-back, head-spelled}
+use Rattle.protocol.specs.Laws.HeadLaws.{head-unused, head-current}
 use Rattle.protocol.specs.Observer.{Observer, ObservedHeight, asReplica, asReplicaHeight, decodeObserver}
 use Rattle.protocol.specs.Observer.{decodeObservedHeight, decodeObservedHeights, encodeObserver}
 use Rattle.protocol.specs.Observer.{observedContentBytes, observedBodyBytes, observerState}
@@ -19,7 +20,7 @@ use Rattle.protocol.specs.ObserverCalls.{newObservedHeight}
 use Rattle.protocol.specs.Laws.BytesLaws.{are-bytes-take, are-bytes-drop, word-low, word-high, byte-part}
 use Rattle.protocol.specs.Laws.BytesLaws.{firsts, spell}
 use Rattle.protocol.specs.Laws.ObserverStateLaws.{ShapedObserver, at-as, last-as, shaped-as}
-use Rattle.protocol.specs.Laws.ObserverStateLaws.{contents-from, length-encode-observer}
+use Rattle.protocol.specs.Laws.ObserverStateLaws.{contents-from, length-encode-observer, count-encode-observer}
 
 -- the length is that of as many heights as byte 2 says
 abbrev pub ExactObserver : Bytes → Type 0
@@ -90,7 +91,7 @@ pub record CleanObserver (book : Bytes) : Type 0 where
   pub size : ExactObserver book
   pub own-zero : byteAt book 1 ≡ 0
   pub flags-zero : byteAt book 3 ≡ 0
-  pub current-zero : byteAt book 4 ≡ 0
+  pub current-zero : bookCurrent book ≡ 0
   pub pending-zero : byteAt book 6 ≡ 0
   pub head-zeros : isZero (headUnused book) ≡ true
   pub content-zero : (i : ℕ) → i < bookHeights book → byteAt book (64 + 8 * i + 1) ≡ 0
@@ -143,6 +144,9 @@ head-back book small clean =
     let size : length book ≡ 64 + 184 * bookHeights book = clean .size in
     let e = head-spelled book (omega arith) in
     let z = rest-back book (omega arith) small (clean .head-zeros) in
+    let e₂ = heights-back book (omega arith) small (clean .head-zeros) in
+    let e₄ = current-back book (omega arith) small (clean .head-zeros) in
+    let e₅ = finalized-back book (omega arith) small (clean .head-zeros) in
     let h = count-observed book in
     let k = length-map (decodeObserver book .heights) asReplicaHeight in
     let own = clean .own-zero in
@@ -198,11 +202,11 @@ module _ (o : Observer) (shaped : ShapedObserver o) where
   pub clean-encode-observer : CleanObserver (encodeObserver o)
   unfolding encodeObserver headBytes asReplica
   clean-encode-observer = record {
-    size = length-encode-observer o shaped ∙ rw (length-map (o .heights) asReplicaHeight);
+    size = length-encode-observer o shaped ∙ rw (count-encode-observer o shaped);
     own-zero = refl;
     flags-zero = refl;
-    current-zero = refl;
+    current-zero = head-current (asReplica o) _;
     pending-zero = refl;
     head-zeros = head-unused (asReplica o) _;
-    content-zero = λ i h. content-zero-at i (rw (length-map (o .heights) asReplicaHeight) at h);
+    content-zero = λ i h. content-zero-at i (rw (count-encode-observer o shaped) at h);
   }

@@ -4,7 +4,7 @@ use native.Mathlib.Omega.{arith}
 use native.Mathlib.Nat.{add-zero}
 use mathlib.Core.Path.{_≡_, refl, sym}
 use Rattle.protocol.specs.Bytes.{Bytes, byteAt, word16, part}
-use Rattle.protocol.specs.State.{at, bookHeights}
+use Rattle.protocol.specs.State.{at, bookHeights, bookFinalized}
 use Rattle.protocol.specs.Observer.{asReplica, asReplicaHeight, decodeObserver, decodeObservedHeight}
 use Rattle.protocol.specs.Observer.{observerState}
 use Rattle.protocol.specs.Laws.BytesLaws.{byte-part, word-part}
@@ -15,7 +15,7 @@ pub read-observer-n : (book : Bytes) → byteAt book 0 ≡ observerState book .n
 unfolding decodeObserver asReplica
 read-observer-n book = refl
 
-pub read-observer-finalized : (book : Bytes) → byteAt book 5 ≡ observerState book .finalized
+pub read-observer-finalized : (book : Bytes) → bookFinalized book ≡ observerState book .finalized
 unfolding decodeObserver asReplica
 read-observer-finalized book = refl
 

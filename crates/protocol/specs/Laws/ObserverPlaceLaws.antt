@@ -9,7 +9,7 @@ use lib.ListN.{length, take, drop, set, replicate, length-append, length-map, le
 use lib.Seq.{length-take-le}
 use Rattle.protocol.specs.Every.{Every, none, one}
 use Rattle.protocol.specs.Bytes.{Bytes, le16, zeros, join, put, Sized, AreBytes}
-use Rattle.protocol.specs.State.{State, Height, at, headBytes, withHead, withHeight, bookHeights}
+use Rattle.protocol.specs.State.{State, Height, at, headBytes, headPut, shortNumber, withHead, withHeight, bookHeights}
 use Rattle.protocol.specs.Deliver.{withNotarized, withMasks}
 use Rattle.protocol.specs.Observer.{Observer, ObservedHeight, asReplica, asReplicaHeight, observed}
 use Rattle.protocol.specs.Observer.{observedHeight, observedContentBytes, observedBodyBytes, encodeObserver}
@@ -18,9 +18,9 @@ use Rattle.protocol.specs.ObserverCalls.{newObserver, newObservedHeight}
 use Rattle.protocol.specs.Laws.BytesLaws.{middle-set, middle-put, put-all, put-at, zeros-add}
 use Rattle.protocol.specs.Laws.PiecesLaws.{length-join, cut-set}
 use Rattle.protocol.specs.Laws.PlaceLaws.{with-at, shaped-at}
-use Rattle.protocol.specs.Laws.NewStateLaws.{eight-zeros, drop-zeros}
-use Rattle.protocol.specs.Laws.HeadLaws.{opened-bytes}
-use Rattle.protocol.specs.Open.{weighed, openedEdition, openedWeights}
+use Rattle.protocol.specs.Laws.NewStateLaws.{eight-zeros}
+use Rattle.protocol.specs.Laws.HeadLaws.{opened-head}
+use Rattle.protocol.specs.Open.{long, openedEdition, openedWeights}
 use Rattle.protocol.specs.Laws.WriteLaws.{withStatus}
 use Rattle.protocol.specs.Laws.WriteLaws.{withNotarizedBytes}
 use Rattle.protocol.specs.Laws.ObserverStateLaws.{ShapedObserver, withObservedHeights, map-set, observed-heights}
@@ -199,10 +199,10 @@ module _ (book : Bytes) (exact : ExactObserver book) (whole : encodeObserver (de
         (make-notarized o shaped i within (at (observerState book) (suc i)) mask block old size)
 
   -- ---- the finalized height
-  pub book-observed-finalized : (g : ℕ) → set book 5 g ≡
+  pub book-observed-finalized : (g : ℕ) → headPut 5 44 g book ≡
       encodeObserver (observed (withHead (observerState book) (observerState book .flags)
       (observerState book .current) g))
-  book-observed-finalized g = ap (λ (bytes : Bytes). set bytes 5 g) (sym whole) ∙ sym (output-set o g)
+  book-observed-finalized g = ap (λ (bytes : Bytes). headPut 5 44 g bytes) (sym whole) ∙ sym (output-set o g)
 
 -- ---- a new observer
 pub zero-content : observedContentBytes newObservedHeight ≡ zeros 8
@@ -221,30 +221,21 @@ zero-join f k e (suc count) =
     let size : k + k * count ≡ k * suc count = omega arith in
     rw (e, zero-join f k e count) (zeros-add k (k * count) ∙ ap zeros size)
 
--- the rest of the book past its first eight bytes
-rest-zeros : (n heights : ℕ) → n ≤ 16 → zeros (56 - 2 * n) ++ (zeros (8 * heights) ++ zeros (176 * heights)) ≡ zeros
-    (56 + 184 * heights - 2 * n)
-rest-zeros n heights high =
-    let size : 56 - 2 * n + (8 * heights + 176 * heights) ≡ 56 + 184 * heights - 2 * n = omega arith in
-    rw (zeros-add (8 * heights) (176 * heights), zeros-add (56 - 2 * n) (8 * heights + 176 * heights), size)
-
 pub new-observer-from-zeros : (n heights : ℕ) (weights : Bytes) → AreBytes weights → length weights ≡ 2 * n → n ≤ 16 →
-    put (set (set (set (zeros (64 + 184 * heights)) 0 n) 2 heights) 7 2) 8 weights ≡ encodeObserver
-    (newObserver (weighed weights) n heights)
-unfolding encodeObserver headBytes asReplica newObserver openedEdition openedWeights
+    put (put (put (set (set (zeros (64 + 184 * heights)) 0 n) 7 3) 8 weights) 40 (le16 heights)) 42 (le16 0) ≡
+    encodeObserver (newObserver (long weights) n heights)
+unfolding encodeObserver headBytes asReplica newObserver openedEdition openedWeights shortNumber
 new-observer-from-zeros n heights weights small given high =
     let size : 64 + 184 * heights ≡ 8 + (56 + 184 * heights) = omega arith in
+    let rest : 8 * heights + 176 * heights ≡ 184 * heights = omega arith in
     rw (
       size,
       eight-zeros (56 + 184 * heights),
-      put-at (n ∷ 0 ∷ heights ∷ 0 ∷ 0 ∷ 0 ∷ 0 ∷ 2 ∷ []) (zeros (56 + 184 * heights)) weights 8 refl,
+      opened-head (n ∷ 0 ∷ 0 ∷ 0 ∷ 0 ∷ 0 ∷ 0 ∷ 3 ∷ []) refl n weights small given high heights 0 (184 * heights),
       length-map (replicate heights newObservedHeight) asReplicaHeight,
       length-replicate heights newObservedHeight,
       zero-join observedContentBytes 8 zero-content heights,
       zero-join observedBodyBytes 176 zero-body heights,
-      opened-bytes n weights small given high,
-      append-assoc weights (zeros (56 - 2 * n)) (zeros (8 * heights) ++ zeros (176 * heights)),
-      rest-zeros n heights high,
-      given,
-      drop-zeros n (56 + 184 * heights) (omega arith),
+      zeros-add (8 * heights) (176 * heights),
+      rest,
     )

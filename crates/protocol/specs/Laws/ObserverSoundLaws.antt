@@ -14,9 +14,9 @@ use Rattle.protocol.specs.SoundObserver.{SoundObserver}
 use Rattle.protocol.specs.Every.{none, one}
 use Rattle.protocol.specs.Bytes.{Bytes, byteAt, part, all, isZero, AreBytes}
 use Rattle.protocol.specs.Tests.{implies, inRange}
-use Rattle.protocol.specs.Block.{maximumHeights, blockWellFormed}
+use Rattle.protocol.specs.Block.{blockWellFormed}
 use Rattle.protocol.specs.Mask.{belowBit}
-use Rattle.protocol.specs.State.{State, Height, at, last, bookHeights, headUnused, holdsProposal, isNotarized}
+use Rattle.protocol.specs.State.{State, Height, at, last, bookHeights, bookCurrent, mostHeights, headUnused, holdsProposal, isNotarized}
 use Rattle.protocol.specs.State.{maximumReplicas}
 use Rattle.protocol.specs.View.{View, quorum, isFinalized}
 use Rattle.protocol.specs.Sound.{view, masksBelow}
@@ -27,7 +27,7 @@ use Rattle.protocol.specs.Laws.TestsLaws.{and-both, or-either, or-right}
 use Rattle.protocol.specs.Laws.RowLaws.{by-rows, all-of, every-height-at, every-height, implies-true}
 use Rattle.protocol.specs.Laws.RowLaws.{true-implies, in-range, range-in, zeros-is-zero}
 use Rattle.protocol.specs.Laws.BytesLaws.{zero-part}
-use Rattle.protocol.specs.Laws.SoundLaws.{zero-or-settled-in, masks-row, certificate-row}
+use Rattle.protocol.specs.Laws.SoundLaws.{zero-or-settled-in, masks-row, certificate-row, most-heights}
 use Rattle.protocol.specs.Laws.ObserverStateLaws.{decode-encode-observer, as-shaped, last-as}
 use Rattle.protocol.specs.Laws.ObserverCodecLaws.{ExactObserver, CleanObserver, count-observed, at-observed}
 use Rattle.protocol.specs.Laws.ObserverCodecLaws.{observer-state-shaped, clean-observer-back, last-observed}
@@ -86,7 +86,7 @@ unfolding asReplica
 certified-observer {o = o} facts =
     let count = last-as o in
     record {
-      last-high = rw count (facts .last-high);
+      last-high = rw count (omega (arith, facts .last-most, most-heights (o .edition)));
       formed = λ h low high. facts .each h low (rw count at high) .notarized-formed;
       certified = λ h low high. facts .each h low (rw count at high) .certified;
       final = facts .final;
@@ -104,7 +104,7 @@ module _ (digest : Bytes → Bytes) where
   pub record ObserverRows (book : Bytes) : Type 0 where
     pub exact : ExactObserver book
     pub few : inRange 1 maximumReplicas (observerState book .n) ≡ true
-    pub many : inRange 1 maximumHeights (bookHeights book) ≡ true
+    pub many : inRange 1 (mostHeights (observerState book .edition)) (bookHeights book) ≡ true
     pub setting : SoundSetting (observerState book .edition) (observerState book .n) (observerState book .weights)
     pub masks : (h : ℕ) → 1 ≤ h → h ≤ bookHeights book →
         masksBelow (observerState book .n) (at (observerState book) h) ≡ true
@@ -157,14 +157,14 @@ module _ (digest : Bytes → Bytes) where
     sound-observer =
         let count = count-observed book in
         let (n-low, n-high) = in-range 1 maximumReplicas (observerState book .n) (R .few) in
-        let (low, high) = in-range 1 maximumHeights (bookHeights book) (R .many) in
+        let (low, high) = in-range 1 (mostHeights (observerState book .edition)) (bookHeights book) (R .many) in
         record {
           shaped = observer-state-shaped book exact-observer;
           setting = R .setting;
           n-low = n-low;
           n-high = n-high;
           last-low = rw count low;
-          last-high = rw count high;
+          last-most = rw count high;
           each = λ h l u.
               let u′ : h ≤ bookHeights book = rw count at u in
               observed-facts (view (observerState book)) h (at (observerState book) h)
@@ -179,7 +179,7 @@ module _ (digest : Bytes → Bytes) where
     unfolding replicaHead isZero observedZero
     sound-clean-observer =
         let size : length book ≡ 64 + 184 * bookHeights book = exact-observer in
-        let (own, flags, current, pending) = four-zeros (byteAt book 1) (byteAt book 3) (byteAt book 4) (byteAt book 6)
+        let (own, flags, current, pending) = four-zeros (byteAt book 1) (byteAt book 3) (bookCurrent book) (byteAt book 6)
         (R .head) in
         record {
           size = exact-observer;
@@ -233,7 +233,7 @@ module _ (digest : Bytes → Bytes) where
         all-of
         (one size-row
         (one (range-in _ _ _ (facts .n-low) (facts .n-high))
-        (one (range-in _ _ _ (rw count at (facts .last-low)) (rw count at (facts .last-high)))
+        (one (range-in _ _ _ (rw count at (facts .last-low)) (rw count at (facts .last-most)))
         (one (facts .setting .edition-row)
         (one (facts .setting .weights-row)
         (one (every-height _ _ (λ h low high. masks-row (view D) h (at D h) (height-of h low high)))

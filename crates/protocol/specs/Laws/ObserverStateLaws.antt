@@ -9,13 +9,13 @@ use Rattle.protocol.specs.SoundState.{ShapedHeight, Shaped, Weighed}
 use Rattle.protocol.specs.Every.{Every, none, one}
 use Rattle.protocol.specs.Bytes.{Bytes, word16, le16, zeros, join, pieces, Sized, byteAt}
 use Rattle.protocol.specs.Deliver.{withNotarized, withMasks}
-use Rattle.protocol.specs.State.{State, Height, headBytes, bookWeights, noHeight, at, last, withHeight, withHead}
+use Rattle.protocol.specs.State.{headPut, State, Height, headBytes, bookWeights, bookHeights, bookFinalized, noHeight, at, last, withHeight, withHead}
 use Rattle.protocol.specs.Observer.{Observer, ObservedHeight, asReplica, asReplicaHeight, observed}
 use Rattle.protocol.specs.Observer.{observedHeight, observedContentBytes, observedBodyBytes, encodeObserver}
 use Rattle.protocol.specs.Observer.{decodeObserver, decodeObservedHeight, decodeObservedHeights, observerState}
 use Rattle.protocol.specs.Laws.BytesLaws.{length-zeros, word16-le16}
 use Rattle.protocol.specs.Laws.PiecesLaws.{length-join, pieces-join}
-use Rattle.protocol.specs.Laws.HeadLaws.{head-size, head-weights}
+use Rattle.protocol.specs.Laws.HeadLaws.{head-size, head-weights, head-heights, head-finalized, put-finalized}
 
 -- ---- as a replica's, and back
 observed-height : (x : ObservedHeight) → observedHeight (asReplicaHeight x) ≡ x
@@ -225,9 +225,13 @@ module _ (o : Observer) (shaped : ShapedObserver o) where
   heights-back count e =
       rw (e, contents-from, bodies-from, contents-back, bodies-back) (observed-zip (o .heights))
 
-  pub count-encode-observer : byteAt (encodeObserver o) 2 ≡ length (o .heights)
-  unfolding encodeObserver headBytes asReplica
-  count-encode-observer = length-map (o .heights) asReplicaHeight
+  pub count-encode-observer : bookHeights (encodeObserver o) ≡ length (o .heights)
+  unfolding encodeObserver asReplica
+  count-encode-observer = head-heights (asReplica o) (C ++ D) ∙ length-map (o .heights) asReplicaHeight
+
+  finalized-back : bookFinalized (encodeObserver o) ≡ o .finalized
+  unfolding encodeObserver asReplica
+  finalized-back = head-finalized (asReplica o) (C ++ D)
 
   weights-back : bookWeights (encodeObserver o) ≡ o .weights
   unfolding encodeObserver asReplica
@@ -236,12 +240,12 @@ module _ (o : Observer) (shaped : ShapedObserver o) where
   pub decode-encode-observer : decodeObserver (encodeObserver o) ≡ o
   unfolding decodeObserver encodeObserver headBytes asReplica
   decode-encode-observer =
-      let heights = heights-back _ (length-map (o .heights) asReplicaHeight) in
+      let heights = heights-back _ count-encode-observer in
       λ i. record {
         edition = o .edition;
         n = o .n;
         weights = weights-back i;
-        finalized = o .finalized;
+        finalized = finalized-back i;
         heights = heights i;
       }
 
@@ -261,5 +265,6 @@ observed-output o g = ap (withObservedHeights (withFinalized o g)) (observed-hei
 
 pub output-set : (o : Observer) (g : ℕ) →
     encodeObserver (observed (withHead (asReplica o) (asReplica o .flags) (asReplica o .current) g)) ≡
-    set (encodeObserver o) 5 g
-output-set o g = rw (observed-output o g) (unfold encodeObserver in unfold headBytes in unfold asReplica in refl)
+    headPut 5 44 g (encodeObserver o)
+unfolding encodeObserver asReplica withHead
+output-set o g = rw (observed-output o g) (sym (put-finalized (asReplica o) _ 0 (o .finalized) g))

@@ -11,7 +11,7 @@ use Rattle.protocol.specs.Bytes.{Bytes, all}
 use Rattle.protocol.specs.Tests.{firstRefusal}
 use Rattle.protocol.specs.Laws.TestsLaws.{and-both}
 use Rattle.protocol.specs.Laws.TestedLaws.{OpenRanges, open-ranges, open-tested}
-use Rattle.protocol.specs.State.{encode}
+use Rattle.protocol.specs.State.{encode, mostHeights}
 use Rattle.protocol.specs.Answer.{Outcome, accepted, Done, done, unlessRefused}
 use Rattle.protocol.specs.Open.{Opening, openedEdition, openedWeights, newState, newHeight, startState}
 use Rattle.protocol.specs.Open.{openRows, openCall}
@@ -66,7 +66,7 @@ ranges-of way n own heights (leader ∷ rest) is =
         own-below = is .own-below;
         leader-below = ltb-true leader n (below .0);
         leaders-below = below .1;
-        few-heights = omega arith;
+        few-heights = omega (arith, is .heights-most);
       },
     )
 

@@ -13,7 +13,7 @@ use Rattle.protocol.specs.State.{State, Height, noHeight, at, last, with
 use Rattle.protocol.specs.State.{bodyBytes, bookHeights, headUnused, renewed}
 use Rattle.protocol.specs.Laws.EveryLaws.{every-set, every-at, every-take}
 use Rattle.protocol.specs.Laws.BytesLaws.{middle-part, middle-set, middle-put}
-use Rattle.protocol.specs.Laws.HeadLaws.{head-size, head-unused}
+use Rattle.protocol.specs.Laws.HeadLaws.{head-size, head-unused, head-heights}
 use Rattle.protocol.specs.Laws.StateLaws.{content-size, body-size, contents-sized, bodies-sized}
 use Rattle.protocol.specs.Laws.PiecesLaws.{length-join, cut-set}
 use Rattle.protocol.specs.Laws.CodecLaws.{Clean, at-suc}
@@ -167,8 +167,8 @@ unfolding contentBytes le16 part zeros
 content-zeros x = refl
 
 pub count-encode : (s : State) → bookHeights (encode s) ≡ last s
-unfolding encode headBytes last
-count-encode s = refl
+unfolding encode last
+count-encode s = head-heights s _
 
 head-zeros : (s : State) → isZero (headUnused (encode s)) ≡ true
 unfolding encode

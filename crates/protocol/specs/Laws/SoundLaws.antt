@@ -4,7 +4,7 @@ use Prim.Native.Nat.{ℕ, zero, suc, _+_, _-_, _*_, _≤_, _<_}
 use native.Mathlib.Omega.{arith}
 use mathlib.Core.Path.{_≡_, sym, subst}
 use mathlib.Core.Logic.{_⊎_, inl, inr}
-use mathlib.Core.Bool.{true, false, _&&_, _||_}
+use mathlib.Core.Bool.{Bool, true, false, _&&_, _||_, cond}
 use lib.ListN.{length}
 use lib.Dec.{eqb, leb, ltb}
 use borrow.Author.Tests.{eqb-true, eq-eqb, leb-true, le-leb, ltb-true, lt-ltb}
@@ -15,7 +15,7 @@ use Rattle.protocol.specs.Tests.{implies}
 use Rattle.protocol.specs.Block.{maximumHeights, blockWellFormed}
 use Rattle.protocol.specs.Mask.{belowBit}
 use Rattle.protocol.specs.State.{State, Height, at, last, decode, encode, bookSize, holdsProposal, isNotarized}
-use Rattle.protocol.specs.State.{bookHeights, headUnused, maximumReplicas}
+use Rattle.protocol.specs.State.{bookHeights, headUnused, maximumReplicas, mostHeights}
 use Rattle.protocol.specs.View.{View, quorum, extendsOver, linkedWithin, linked, isFinalized}
 use Rattle.protocol.specs.Sound.{view, masksBelow, blocksWellFormed, contentZeros, sound}
 use Rattle.protocol.specs.Laws.TestsLaws.{and-both, or-either, or-right}
@@ -94,10 +94,22 @@ module _ (v : View) (h : ℕ) (x : Height) where
     pub certificate-row : implies (isNotarized x) (quorum v (x .certificateMask)) ≡ true
     certificate-row = true-implies _ _ (facts .certified)
 
+-- H is at most 1,000
+pub most-heights : (edition : ℕ) → mostHeights edition ≤ maximumHeights
+unfolding mostHeights
+most-heights edition = go (eqb edition 3)
+  where
+    go : (b : Bool) → cond b 1000 63 ≤ maximumHeights
+    go true = omega arith
+    go false = omega arith
+
+pub last-high : {digest : Bytes → Bytes} {s : State} → SoundState digest s → last s ≤ maximumHeights
+last-high {s = s} facts = omega (arith, facts .last-most, most-heights (s .edition))
+
 -- what a sound state's heights are linked and read by
 pub certified-state : {digest : Bytes → Bytes} {s : State} → SoundState digest s → CertifiedState digest s
 certified-state facts = record {
-  last-high = facts .last-high;
+  last-high = last-high facts;
   formed = λ h low high. facts .each h low high .notarized-formed;
   certified = λ h low high. facts .each h low high .certified;
   final = facts .final;
@@ -116,7 +128,7 @@ module _ (digest : Bytes → Bytes) where
     unfolding sound bookSize
     exact = eqb-true _ _ (row _ lengthRow e)
 
-    heights-range : (1 ≤ H) × (H ≤ maximumHeights)
+    heights-range : (1 ≤ H) × (H ≤ mostHeights (S .edition))
     unfolding sound
     heights-range = in-range _ _ _ (row _ heightsRow e)
 
@@ -168,7 +180,7 @@ module _ (digest : Bytes → Bytes) where
           n-high = n-range .1;
           own-below = ltb-true _ _ (row _ ownRow e);
           last-low = rw count (heights-range .0);
-          last-high = rw count (heights-range .1);
+          last-most = rw count (heights-range .1);
           current-low = current-range .0;
           current-high = rw count (current-range .1);
           flags-small = ltb-true _ _ (row _ flagsRow e);
@@ -223,7 +235,7 @@ module _ (digest : Bytes → Bytes) where
         (one size-row
         (one (range-in _ _ _ (facts .n-low) (facts .n-high))
         (one (lt-ltb _ _ (facts .own-below))
-        (one (range-in _ _ _ (rw count at (facts .last-low)) (rw count at (facts .last-high)))
+        (one (range-in _ _ _ (rw count at (facts .last-low)) (rw count at (facts .last-most)))
         (one (facts .setting .edition-row)
         (one (facts .setting .weights-row)
         (one (range-in _ _ _ (facts .current-low) (rw count at (facts .current-high)))

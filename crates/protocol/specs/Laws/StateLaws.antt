@@ -9,11 +9,11 @@ use Rattle.protocol.specs.SoundState.{ShapedHeight, Shaped}
 use Rattle.protocol.specs.Every.{Every, none, one}
 use Rattle.protocol.specs.Bytes.{Bytes, word16, le16, part, zeros, join, pieces, Sized}
 use Rattle.protocol.specs.Laws.BytesLaws.{word16-le16}
-use Rattle.protocol.specs.Laws.HeadLaws.{head-size, head-weights}
+use Rattle.protocol.specs.Laws.HeadLaws.{head-size, head-weights, head-heights, head-current, head-finalized}
 use Rattle.protocol.specs.Laws.EveryLaws.{every-map}
 use Rattle.protocol.specs.Laws.PiecesLaws.{length-join, pieces-join}
 use Rattle.protocol.specs.State.{State, Height, encode, decode, headBytes, contentBytes, bodyBytes, decodeHeight}
-use Rattle.protocol.specs.State.{decodeHeights, bookWeights}
+use Rattle.protocol.specs.State.{decodeHeights, bookWeights, bookHeights, bookCurrent, bookFinalized}
 
 decode-height : (x : Height) → ShapedHeight x → decodeHeight (contentBytes x) (bodyBytes x) ≡ x
 unfolding decodeHeight contentBytes bodyBytes part word16 le16
@@ -108,6 +108,22 @@ module _ (s : State) (shaped : Shaped s) where
   unfolding encode
   weights-back = head-weights s (s .pool ++ (C ++ D)) (shaped .weighed)
 
+  current-back : bookCurrent (encode s) ≡ s .current
+  unfolding encode
+  current-back = head-current s (s .pool ++ (C ++ D))
+
+  finalized-back : bookFinalized (encode s) ≡ s .finalized
+  unfolding encode
+  finalized-back = head-finalized s (s .pool ++ (C ++ D))
+
+  count-encode : bookHeights (encode s) ≡ length (s .heights)
+  unfolding encode
+  count-encode = head-heights s (s .pool ++ (C ++ D))
+
+  all-heights : decodeHeights (pieces 16 (bookHeights (encode s)) (drop 576 (encode s)))
+      (pieces 864 (bookHeights (encode s)) (drop (576 + 16 * bookHeights (encode s)) (encode s))) ≡ s .heights
+  all-heights = rw count-encode heights-back
+
   pub decode-encode : decode (encode s) ≡ s
   unfolding decode encode headBytes
   decode-encode = λ i. record {
@@ -116,9 +132,9 @@ module _ (s : State) (shaped : Shaped s) where
     weights = weights-back i;
     own = s .own;
     flags = s .flags;
-    current = s .current;
-    finalized = s .finalized;
+    current = current-back i;
+    finalized = finalized-back i;
     pendingCount = s .pendingCount;
     pool = pool-back i;
-    heights = heights-back i;
+    heights = all-heights i;
   }

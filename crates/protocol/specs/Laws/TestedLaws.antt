@@ -10,12 +10,14 @@ use borrow.Author.Tests.{eqb-true, leb-true, ltb-true, not-true}
 use Rattle.protocol.specs.Bytes.{Bytes, all, holds}
 use Rattle.protocol.specs.Tests.{firstRefusal}
 use Rattle.protocol.specs.Block.{maximumHeights, entrySize}
-use Rattle.protocol.specs.State.{State, last, decode, flag, pending, bookSize, maximumReplicas, maximumPending}
+use Rattle.protocol.specs.State.{mostHeights, State, last, decode, flag, pending, bookSize, maximumReplicas, maximumPending}
 use Rattle.protocol.specs.Sound.{sound, log}
-use Rattle.protocol.specs.Open.{Opening, weightsInRange, openInRange, openRows}
+use Rattle.protocol.specs.Open.{Opening, openedEdition, weightsInRange, openInRange, openRows}
 use Rattle.protocol.specs.Signal.{signalRows}
 use Rattle.protocol.specs.Submit.{stillPending, submitRows}
 use Rattle.protocol.specs.Move.{moveRows}
+use native.Mathlib.Omega.{arith}
+use Rattle.protocol.specs.Laws.SoundLaws.{most-heights}
 use Rattle.protocol.specs.Laws.TestsLaws.{and-both}
 use Rattle.protocol.specs.Laws.RowLaws.{by-rows, by-tested, in-range}
 
@@ -26,6 +28,7 @@ module _ (way : Opening) (n own heights : ℕ) (leaders : Bytes) where
     pub n-high : n ≤ maximumReplicas
     pub own-below : own < n
     pub heights-low : 1 ≤ heights
+    pub heights-most : heights ≤ mostHeights (openedEdition way)
     pub heights-high : heights ≤ maximumHeights
     pub listed : length leaders ≡ heights
     pub leaders-below : all (λ leader. ltb leader n) leaders ≡ true
@@ -36,13 +39,14 @@ module _ (way : Opening) (n own heights : ℕ) (leaders : Bytes) where
   open-ranges e =
       by-rows _ e λ replicas own-below many listed leaders-below weights-fit.
       let few = in-range 1 maximumReplicas n replicas in
-      let range = in-range 1 maximumHeights heights many in
+      let range = in-range 1 (mostHeights (openedEdition way)) heights many in
       record {
         n-low = few .0;
         n-high = few .1;
         own-below = ltb-true _ _ own-below;
         heights-low = range .0;
-        heights-high = range .1;
+        heights-most = range .1;
+        heights-high = omega (arith, range .1, most-heights (openedEdition way));
         listed = eqb-true _ _ listed;
         leaders-below = leaders-below;
         weights-fit = weights-fit;

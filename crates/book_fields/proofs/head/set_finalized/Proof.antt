@@ -1,11 +1,22 @@
--- `set_finalized` meets its contract: one store changes the finalized height and nothing else.
-use Rattle.book_fields.specs.Laws.HeadLaws.{finalized-set}
+-- `set_finalized` meets its contract: one number of the head changes and nothing else.
+use native.Mathlib.Omega.{arith}
+use mathlib.Core.Path.{_∙_}
 use borrow.Author.Needs.{needs}
+use Rattle.protocol.specs.Bytes.{byteAt}
+use Rattle.book_fields.specs.Laws.HeadLaws.{finalized-set, short-heights}
 use Rattle.book_fields.proofs.head.set_finalized.Statement.{statement}
 use Rattle.book_fields.proofs.head.set_finalized.Tie as tie
 
+put-number-requires : tie.Need-put-number-requires
+put-number-requires c κs =
+    let start = c .before .before in
+    let few = short-heights (byteAt (start .args .book .now) 7) (start .args .g) (omega (arith, start .pre .1)) in
+    (omega (arith, start .pre .0 .readable .sized .size), ((omega arith, omega arith), (few .0, few .1)))
+
 returns : tie.Need-returns
-returns c = finalized-set (c .args .book .now) (c .pre .0 .whole) (c .args .g)
+returns c =
+    let start = c .before .before .before .before .before in
+    c .before .before .put-number .ensures ∙ finalized-set (start .args .book .now) (start .pre .0 .whole) (start .args .g)
 
 pub set-finalized-spec : {M : Type 1} → statement M
-set-finalized-spec = tie.close (tie.spec (λ c. search needs) (λ c. search needs) (λ c. search needs) returns)
+set-finalized-spec = tie.close (tie.spec put-number-requires (λ c. search needs) returns)
