@@ -14,7 +14,6 @@ ghost use Prim.Native.Nat.{_≤_};
 ghost use Rattle.sha256.specs.Digest.{sha256 as sha};
 ghost use Rattle.protocol.specs.State.{decode, bookHeights};
 ghost use Rattle.protocol.specs.Move.{parentBelow, newFinalized, dummyVoteApplies, blockVoteApplies};
-ghost use Rattle.protocol.specs.Block.{maximumHeights};
 ghost use Rattle.book_fields.specs.Book.{Readable, SoundBook};
 ghost use Rattle.memory.specs.Memo.{Memo};
 ghost use Rattle.linking.specs.Parent.{parentOption};
@@ -53,7 +52,7 @@ pub fn new_finalized(book: &[u8], known: &mut [u8]) -> usize
     requires { ⌜ SoundBook sha (now book) ⌝ }
     requires { ⌜ Memo (now book) (now known) ⌝ }
     ensures answer { λ r. ⌜ r ≡ newFinalized sha (decode (now (book .entry))) ⌝ }
-    ensures small { λ r. ⌜ r ≤ maximumHeights ⌝ }
+    ensures within { λ r. ⌜ r ≤ bookHeights (now (book .entry)) ⌝ }
     ensures memo { λ _. ⌜ Memo (now (book .entry)) (now (known .exit)) ⌝ }
 {
     let top = heights(book);

@@ -6,17 +6,17 @@ use native.Mathlib.Numerals.{add-one}
 use mathlib.Core.Path.{_≡_, sym, ap, _∙_}
 use lib.ListN.{length, set}
 use lib.Seq.{paste, paste-suc, paste-zero, length-paste}
-use Rattle.protocol.specs.Bytes.{Bytes, byteAt, zeros, put, AreBytes}
+use Rattle.protocol.specs.Bytes.{Bytes, byteAt, le16, zeros, put, AreBytes}
 use Rattle.protocol.specs.State.{encode}
-use Rattle.protocol.specs.Open.{Opening, weighed, newState}
+use Rattle.protocol.specs.Open.{Opening, long, newState}
 use Rattle.protocol.specs.Laws.BytesLaws.{put-all, put-paste, length-zeros}
 use Rattle.protocol.specs.Laws.NewStateLaws.{new-from-zeros, new-leader}
 
 pub head-made : (n own heights : ℕ) (weights book cleared : Bytes) → length book ≡ 576 + 880 * heights →
     AreBytes weights → length weights ≡ 2 * n → n ≤ 16 →
     cleared ≡ put book 0 (zeros (length book)) →
-    put (set (set (set (set (set cleared 0 n) 1 own) 2 heights) 4 1) 7 2) 8 weights ≡
-    encode (newState (weighed weights) n own (zeros heights))
+    put (put (put (set (set (set cleared 0 n) 1 own) 7 3) 8 weights) 40 (le16 heights)) 42 (le16 1) ≡
+    encode (newState (long weights) n own (zeros heights))
 head-made n own heights weights book cleared size small given high clear =
     rw (clear ∙ put-all book (zeros (length book)) (sym (length-zeros (length book))) ∙ ap zeros size)
     (new-from-zeros n own heights weights small given high)

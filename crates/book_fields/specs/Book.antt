@@ -8,7 +8,7 @@ use Rattle.protocol.specs.SoundState.{SoundState}
 use Rattle.protocol.specs.Bytes.{Bytes, byteAt, word16}
 use Rattle.protocol.specs.Block.{maximumHeights}
 use Rattle.protocol.specs.State.{State, Height, at, last, decode, encode, withHeight, bookHeights, bookCurrent}
-use Rattle.protocol.specs.State.{bookFinalized, maximumReplicas}
+use Rattle.protocol.specs.State.{bookFinalized, maximumReplicas, mostHeights}
 use Rattle.protocol.specs.View.{View, totalWeight}
 use Rattle.protocol.specs.Sound.{view, sound}
 use Rattle.protocol.specs.Observer.{observerState, decodeObserver, encodeObserver, observed}
@@ -83,6 +83,10 @@ pub record Shown (kind : Kind) (book : Bytes) : Type 0 where
   pub sized : SizedAs kind book
   pub replicas : byteAt book 0 ≤ maximumReplicas
   pub heights : bookHeights book ≤ maximumHeights
+  -- H, the current and the finalized height stand in a byte or in two, by edition, and the other place is zero
+  pub heights-sum : byteAt book 2 + word16 book 40 ≡ bookHeights book
+  pub current-sum : byteAt book 4 + word16 book 42 ≡ bookCurrent book
+  pub finalized-sum : byteAt book 5 + word16 book 44 ≡ bookFinalized book
   -- a weight is in two bytes of the head; edition 1 has them zero, and each replica weighs 1 more
   pub weighs : (s : ℕ) → s < byteAt book 0 →
       word16 book (8 + 2 * s) + cond (eqb (byteAt book 7) 1) 1 0 ≡ getD (viewOf kind book .weights) s 0
@@ -113,6 +117,7 @@ pub record SoundBook (digest : Bytes → Bytes) (book : Bytes) : Type 0 where
   pub is-sound : sound digest book ≡ true
   pub ready : Ready book
   pub state : SoundState digest (decode book)
+  pub heights-most : bookHeights book ≤ mostHeights (byteAt book 7)
   pub finalized-high : decode book .finalized ≤ bookHeights book
 
 -- of an observer's book
@@ -120,6 +125,7 @@ pub record SoundObserverBook (digest : Bytes → Bytes) (book : Bytes) : Type 0 
   pub is-sound : observerSound digest book ≡ true
   pub ready : ObserverReady book
   pub state : SoundObserver digest (decodeObserver book)
+  pub heights-most : bookHeights book ≤ mostHeights (byteAt book 7)
   pub finalized-high : observerState book .finalized ≤ bookHeights book
 
 -- ---- height `h` is one of the book's

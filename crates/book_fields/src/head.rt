@@ -4,7 +4,7 @@ ghost use Prim.Native.Nat.{_+_, _<_, _≤_};
 ghost use mathlib.Core.Bool.{false};
 ghost use lib.ListN.{length};
 ghost use lib.Dec.{eqb};
-ghost use Rattle.protocol.specs.Bytes.{byteAt};
+ghost use Rattle.protocol.specs.Bytes.{byteAt, word16};
 ghost use Rattle.protocol.specs.Tests.{inRange};
 ghost use Rattle.protocol.specs.State.{decode, last, flag as isFlagged, withHead, withFlag, bookHeights};
 ghost use Rattle.protocol.specs.State.{headNumber, headPut, mostHeights};
@@ -12,8 +12,7 @@ ghost use Rattle.protocol.specs.Move.{isRunning};
 ghost use Rattle.protocol.specs.Block.{maximumHeights};
 ghost use Rattle.book_fields.specs.Book.{Readable, Ready, recoded};
 
-// A number of the head: in a byte, and in edition 3 in two bytes elsewhere. Costs four reads, and no branch, since the
-// tally finds votes by H.
+// A number of any head: in a byte, and in edition 3 in two bytes elsewhere. Costs four reads and no branch.
 pub fn number(book: &[u8], short: usize, long: usize) -> usize
     requires { ⌜ 64 ≤ length (now book) ⌝ }
     requires { ⌜ (short < 64) × (long + 1 < 64) ⌝ }
@@ -21,6 +20,15 @@ pub fn number(book: &[u8], short: usize, long: usize) -> usize
 {
     let third = (wire::bytes::byte(book, 7) == 3) as usize;
     third * wire::bytes::word(book, long) + (1 - third) * wire::bytes::byte(book, short)
+}
+
+// The same where the head is known to be good: of the byte and the two bytes one place is zero. Costs three reads.
+pub fn good_number(book: &[u8], short: usize, long: usize) -> usize
+    requires { ⌜ 64 ≤ length (now book) ⌝ }
+    requires { ⌜ (short < 64) × (long + 1 < 64) ⌝ }
+    ensures { λ r. ⌜ (r ≡ byteAt (now (book .entry)) short + word16 (now (book .entry)) long) × (r < 65792) ⌝ }
+{
+    wire::bytes::byte(book, short) + wire::bytes::word(book, long)
 }
 
 // Writes such a number. Costs one or two stores.
@@ -58,7 +66,7 @@ pub fn heights(book: &[u8]) -> usize
     requires { ⌜ Readable (now book) ⌝ }
     ensures { λ r. ⌜ (r ≡ bookHeights (now (book .entry))) × (r ≤ maximumHeights) ⌝ }
 {
-    number(book, 2, 40)
+    good_number(book, 2, 40)
 }
 
 // The flags of the current height.
@@ -72,17 +80,17 @@ pub fn flags(book: &[u8]) -> usize
 // The current height.
 pub fn current(book: &[u8]) -> usize
     requires { ⌜ Readable (now book) ⌝ }
-    ensures { λ r. ⌜ (r ≡ decode (now (book .entry)) .current) × (r < 65536) ⌝ }
+    ensures { λ r. ⌜ (r ≡ decode (now (book .entry)) .current) × (r < 65792) ⌝ }
 {
-    number(book, 4, 42)
+    good_number(book, 4, 42)
 }
 
 // The finalized height.
 pub fn finalized(book: &[u8]) -> usize
     requires { ⌜ Readable (now book) ⌝ }
-    ensures { λ r. ⌜ (r ≡ decode (now (book .entry)) .finalized) × (r < 65536) ⌝ }
+    ensures { λ r. ⌜ (r ≡ decode (now (book .entry)) .finalized) × (r < 65792) ⌝ }
 {
-    number(book, 5, 44)
+    good_number(book, 5, 44)
 }
 
 // The number of pending entries.

@@ -74,7 +74,7 @@ pub fn heights(kind: Kind, book: &[u8]) -> usize
     requires { ⌜ Shown kind (now book) ⌝ }
     ensures { λ r. ⌜ (r ≡ bookHeights (now (book .entry))) × (r ≤ maximumHeights) ⌝ }
 {
-    crate::head::number(book, 2, 40)
+    crate::head::good_number(book, 2, 40)
 }
 
 // Whether a mask holds two thirds of the weight of the book's replicas. No branch goes by its bits: the tally asks it.

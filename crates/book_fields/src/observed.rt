@@ -12,9 +12,9 @@ ghost use Rattle.book_fields.specs.Numbered.{maskAt};
 // The finalized height.
 pub fn finalized(book: &[u8]) -> usize
     requires { ⌜ ObserverReadable (now book) ⌝ }
-    ensures { λ r. ⌜ (r ≡ observerState (now (book .entry)) .finalized) × (r < 65536) ⌝ }
+    ensures { λ r. ⌜ (r ≡ observerState (now (book .entry)) .finalized) × (r < 65792) ⌝ }
 {
-    crate::head::number(book, 5, 44)
+    crate::head::good_number(book, 5, 44)
 }
 
 // Where the contents of height `h` start.

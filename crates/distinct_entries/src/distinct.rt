@@ -1,7 +1,8 @@
 // The distinct entries of a chain of any kind of book. The chain's blocks are gone through once, oldest first, with a
 // filter that says of most entries at once that none before equals them; for the others one looks back.
 use book_fields::kind::Kind;
-use filter::SIZE;
+use filter::LARGE;
+use filter::SMALL;
 ghost use mathlib.Core.Path.{_≡_};
 ghost use Prim.Native.Nat.{_+_, _*_, _<_, _≤_};
 ghost use lib.ListN.{length};
@@ -12,7 +13,7 @@ ghost use Rattle.protocol.specs.State.{maximumEntries};
 ghost use Rattle.protocol.specs.View.{logAt, logOf};
 ghost use Rattle.book_fields.specs.Book.{viewOf};
 ghost use Rattle.chains.specs.Walkable.{WalkableAs};
-ghost use Rattle.filter.specs.Filter.{filterSize, Marked};
+ghost use Rattle.filter.specs.Filter.{Marked};
 ghost use Rattle.distinct_entries.specs.Taking.{Inside, entryOf, upTo, Taken, partRead};
 
 // Whether the entry at place `k` of the block of height `h` equals one before it in the chain. Looks into the block
@@ -100,7 +101,7 @@ fn take_block(
 // the front of the buffer, where there is room. Says how many they are. Each call goes to a lower height.
 fn take_chain(kind: Kind, book: &[u8], h: usize, filter: &mut [u8], buffer: &mut [u8]) -> usize
     requires { ⌜ WalkableAs kind (now book) h ⌝ }
-    requires { ⌜ length (now filter) ≡ filterSize ⌝ }
+    requires { ⌜ 0 < length (now filter) ⌝ }
     ensures { λ r. ⌜ Taken (logAt (viewOf kind (now (book .entry))) h) (now (buffer .entry)) (now (filter .exit))
         (now (buffer .exit)) r ⌝ }
 {
@@ -113,8 +114,9 @@ fn take_chain(kind: Kind, book: &[u8], h: usize, filter: &mut [u8], buffer: &mut
     take_block(kind, book, h, count, filter, buffer)
 }
 
-// How many distinct entries the chain that ends in height `h` has. Makes a filter where there is a block, goes through
-// the chain once, and looks back where the filter says perhaps, once an entry at most.
+// How many distinct entries the chain that ends in height `h` has. Makes a filter where there is a block, by
+// the number of the chain's entries, goes through the chain once more, and looks back where the filter says perhaps,
+// once an entry at most.
 pub fn count_distinct(kind: Kind, book: &[u8], h: usize) -> usize
     requires { ⌜ WalkableAs kind (now book) h ⌝ }
     ensures { λ r. ⌜ (r ≡ length (logOf (viewOf kind (now (book .entry))) h)) × (r ≤ maximumEntries) ⌝ }
@@ -122,9 +124,14 @@ pub fn count_distinct(kind: Kind, book: &[u8], h: usize) -> usize
     if h == 0 {
         return 0;
     }
-    let mut filter = [0u8; SIZE];
     let mut no_room = [0u8; 1];
-    take_chain(kind, book, h, &mut filter, &mut no_room)
+    if chains::chains::chain_entries(kind, book, h) <= 504 {
+        let mut filter = [0u8; SMALL];
+        take_chain(kind, book, h, &mut filter, &mut no_room)
+    } else {
+        let mut filter = [0u8; LARGE];
+        take_chain(kind, book, h, &mut filter, &mut no_room)
+    }
 }
 
 // Whether the distinct entries of the chain that ends in height `h` fit into `room` bytes. Counts them only where all
@@ -153,8 +160,13 @@ fn copy_distinct(kind: Kind, book: &[u8], h: usize, buffer: &mut [u8]) -> usize
     if h == 0 {
         return 0;
     }
-    let mut filter = [0u8; SIZE];
-    take_chain(kind, book, h, &mut filter, buffer)
+    if chains::chains::chain_entries(kind, book, h) <= 504 {
+        let mut filter = [0u8; SMALL];
+        take_chain(kind, book, h, &mut filter, buffer)
+    } else {
+        let mut filter = [0u8; LARGE];
+        take_chain(kind, book, h, &mut filter, buffer)
+    }
 }
 
 // Copies the distinct entries of the chain that ends in height `h` to the front of the buffer, or nothing where they do

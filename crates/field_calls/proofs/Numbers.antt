@@ -8,8 +8,8 @@ use lib.Dec.{eqb, leb, ltb}
 use borrow.Author.Tests.{lt-ltb, le-ltb, eq-eqb, ne-eqb}
 use Rattle.protocol.specs.Bytes.{Bytes, all}
 use Rattle.protocol.specs.Tests.{allOf, inRange}
-use Rattle.protocol.specs.State.{bookSize, maximumReplicas}
-use Rattle.protocol.specs.Open.{weighed, weightsInRange, openInRange}
+use Rattle.protocol.specs.State.{bookSize, maximumReplicas, mostHeights}
+use Rattle.protocol.specs.Open.{long, openedEdition, weightsInRange, openInRange}
 use Rattle.protocol.specs.Frame.{isCertificate}
 use Rattle.protocol.specs.Laws.RowLaws.{not-passed, in-range, all-at, at-all}
 use Rattle.protocol.specs.Block.{maximumHeights}
@@ -35,10 +35,10 @@ module _ (n : ℕ) (leaders : Bytes) where
 
 pub open-fits : (n own heights : ℕ) (weights leaders : Bytes) →
     ((leb 1 n && leb n maximumReplicas) && (ltb own n && ((leb 1 heights && leb heights maximumHeights) &&
-    (eqb (length leaders) heights && (all (λ leader. ltb leader n) leaders && weightsInRange n (weighed weights)))))) ≡
-    openInRange (weighed weights) n own heights leaders
-unfolding openInRange allOf inRange
-open-fits n own heights weights leaders = rw (and-true (weightsInRange n (weighed weights)))
+    (eqb (length leaders) heights && (all (λ leader. ltb leader n) leaders && weightsInRange n (long weights)))))) ≡
+    openInRange (long weights) n own heights leaders
+unfolding openInRange openedEdition mostHeights allOf inRange
+open-fits n own heights weights leaders = rw (and-true (weightsInRange n (long weights)))
 
 pub long-enough : (book : Bytes) (heights : ℕ) → length book ≡ 576 + 880 * heights →
     eqb (length book) (bookSize heights) ≡ true

@@ -4,7 +4,7 @@ use book_fields::bounds::MAXIMUM_REPLICAS;
 ghost use mathlib.Core.Path.{_≡_};
 ghost use lib.Dec.{ltb};
 ghost use Rattle.protocol.specs.Bytes.{all};
-ghost use Rattle.protocol.specs.Open.{weighed, openInRange};
+ghost use Rattle.protocol.specs.Open.{long, openInRange};
 
 // Whether every leader is one of the `n` replicas. One pass, up to the first that is not.
 fn leaders_below(leaders: &[u8], n: usize) -> bool
@@ -24,7 +24,7 @@ fn leaders_below(leaders: &[u8], n: usize) -> bool
 
 // Whether the numbers are in their ranges, and weights and leaders too, as many as there are replicas and heights.
 pub fn numbers_fit(n: usize, own: usize, heights: usize, weights: &[u8], leaders: &[u8]) -> bool
-    ensures { λ r. ⌜ r ≡ openInRange (weighed (now (weights .entry))) n own heights (now (leaders .entry)) ⌝ }
+    ensures { λ r. ⌜ r ≡ openInRange (long (now (weights .entry))) n own heights (now (leaders .entry)) ⌝ }
 {
     let replicas = (1 <= n) & (n <= MAXIMUM_REPLICAS);
     let place = own < n;

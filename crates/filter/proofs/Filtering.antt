@@ -12,7 +12,7 @@ use Rattle.protocol.specs.Bytes.{Bytes, byteAt, same, holds}
 use Rattle.protocol.specs.Laws.TestsLaws.{or-either}
 use Rattle.protocol.specs.Laws.RowLaws.{same-eq}
 use Rattle.protocol.specs.Laws.EntriesLaws.{holds-append, holds-next, holds-none}
-use Rattle.filter.specs.Filter.{placeOf, filterSize, Marked}
+use Rattle.filter.specs.Filter.{placeOf, Marked}
 
 -- a list of one
 holds-one : (x y : Bytes) → holds x (y ∷ []) ≡ true → x ≡ y
@@ -32,7 +32,7 @@ still-set filter i j fits e = go (eqb j i) refl
 
 module _ (filter : Bytes) (es : List Bytes) (m : Marked filter es) (entry : Bytes) where
   -- where an entry's byte is not set, the list has it not
-  pub not-marked : eqb (byteAt filter (placeOf entry)) 1 ≡ false → holds entry es ≡ false
+  pub not-marked : eqb (byteAt filter (placeOf (length filter) entry)) 1 ≡ false → holds entry es ≡ false
   not-marked e = go (holds entry es) refl
     where
       go : (b : Bool) → holds entry es ≡ b → b ≡ false
@@ -40,19 +40,22 @@ module _ (filter : Bytes) (es : List Bytes) (m : Marked filter es) (entry : Byte
       go false h = refl
 
   -- one more
-  pub marked-more : placeOf entry < filterSize → Marked (set filter (placeOf entry) 1) (es ++ (entry ∷ []))
-  marked-more low = record { size = length-set filter (placeOf entry) 1 ∙ m .size; marks = marks }
+  pub marked-more : (at : ℕ) → at ≡ placeOf (length filter) entry → at < length filter →
+      Marked (set filter at 1) (es ++ (entry ∷ []))
+  marked-more at is fits = record { some = rw (length-set filter at 1) (m .some); marks = marks }
     where
-      fits : placeOf entry < length filter
-      fits = rw (m .size) low
-
-      marks : (x : Bytes) → holds x (es ++ (entry ∷ [])) ≡ true → byteAt (set filter (placeOf entry) 1) (placeOf x) ≡ 1
-      marks x h =
-          ⊎-elim (λ q. still-set filter (placeOf entry) (placeOf x) fits (m .marks x q))
-          (λ q. rw (holds-one x entry q) (getD-set-same filter (placeOf entry) 1 0 fits))
+      found : (x : Bytes) → holds x (es ++ (entry ∷ [])) ≡ true →
+          byteAt (set filter at 1) (placeOf (length filter) x) ≡ 1
+      found x h =
+          ⊎-elim (λ q. still-set filter at (placeOf (length filter) x) fits (m .marks x q))
+          (λ q. rw (holds-one x entry q, ← is) (getD-set-same filter at 1 0 fits))
           (or-either (holds x es) (holds x (entry ∷ [])) (sym (holds-append x es (entry ∷ [])) ∙ h))
 
+      marks : (x : Bytes) → holds x (es ++ (entry ∷ [])) ≡ true →
+          byteAt (set filter at 1) (placeOf (length (set filter at 1)) x) ≡ 1
+      marks x h = rw (length-set filter at 1) (found x h)
+
 -- no entry
-pub marked-none : (filter : Bytes) → length filter ≡ filterSize → Marked filter []
-marked-none filter size =
-    record { size = size; marks = λ x h. absurd (false≢true (sym (holds-none x) ∙ h)) }
+pub marked-none : (filter : Bytes) → 0 < length filter → Marked filter []
+marked-none filter some =
+    record { some = some; marks = λ x h. absurd (false≢true (sym (holds-none x) ∙ h)) }

@@ -3,7 +3,7 @@ use mathlib.Core.Path.{_≡_}
 use mathlib.Core.Bool.{true, false, _&&_, _||_, and-assoc, and-true}
 use lib.ListN.{length}
 use lib.Dec.{eqb, leb}
-use Rattle.protocol.specs.Bytes.{Bytes, byteAt, part, isZero}
+use Rattle.protocol.specs.Bytes.{Bytes, part, isZero}
 use Rattle.protocol.specs.Tests.{allOf, implies, inRange}
 use Rattle.protocol.specs.Block.{blockWellFormed}
 use Rattle.protocol.specs.Frame.{kind, signer, frameHeight, signerMask, frameDigest, frameBlock, isStatement}
@@ -18,7 +18,7 @@ module _ (frame : Bytes) where
   pub fields-are :
       (((leb 1 (kind frame) && leb (kind frame) 4) || (leb 5 (kind frame) && leb (kind frame) 7)) &&
       (((leb 1 (kind frame) && leb (kind frame) 4) || eqb (signer frame) 0) &&
-      (eqb (byteAt frame 3) 0 && ((leb 5 (kind frame) && leb (kind frame) 7) || eqb (signerMask frame) 0)))) ≡
+      ((leb 5 (kind frame) && leb (kind frame) 7) || eqb (signerMask frame) 0))) ≡
       frameFields frame
   unfolding frameFields isStatement isCertificate inRange allOf
   fields-are = simp and-true

@@ -3,7 +3,7 @@ use Prim.Native.Nat.{ℕ, _^_}
 use mathlib.Core.Bool.{Bool, _||_, cond}
 use mathlib.Core.List.{[], _∷_, _++_}
 use lib.Dec.{eqb}
-use Rattle.protocol.specs.Bytes.{Bytes, byteAt, le16, part, zeros, isZero}
+use Rattle.protocol.specs.Bytes.{Bytes, le16, part, zeros, isZero}
 use Rattle.protocol.specs.Tests.{allOf, implies}
 use Rattle.protocol.specs.Block.{blockWellFormed}
 use Rattle.protocol.specs.Frame.{kind, signer, frameHeight, signerMask, frameDigest, frameBlock, isStatement}
@@ -14,7 +14,6 @@ unfoldable pub frameFields : Bytes → Bool
 frameFields frame = allOf
     ((isStatement (kind frame) || isCertificate (kind frame)) ∷
     (isStatement (kind frame) || eqb (signer frame) 0) ∷
-    eqb (byteAt frame 3) 0 ∷
     (isCertificate (kind frame) || eqb (signerMask frame) 0) ∷ [])
 
 -- the block of a frame, where its kind has one

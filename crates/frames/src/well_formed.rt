@@ -4,7 +4,6 @@ use crate::parts::frame_kind;
 use crate::parts::frame_mask;
 use crate::parts::frame_signer;
 use wire::block::block_well_formed;
-use wire::bytes::byte;
 use wire::bytes::is_zero;
 ghost use mathlib.Core.Path.{_≡_};
 ghost use lib.ListN.{length};
@@ -26,8 +25,8 @@ pub fn frame_well_formed(frame: &[u8]) -> bool
     }
 }
 
-// Whether the kind is one of the seven, the signer and the mask are there only for the kinds that have them, and the
-// height has a zero high byte. Costs seven reads.
+// Whether the kind is one of the seven, and the signer and the mask are there only for the kinds that have them. Costs
+// four reads.
 fn fields_fit(frame: &[u8]) -> bool
     requires { ⌜ length (now frame) ≡ 224 ⌝ }
     ensures { λ r. ⌜ r ≡ frameFields (now (frame .entry)) ⌝ }
@@ -36,9 +35,8 @@ fn fields_fit(frame: &[u8]) -> bool
     let statement = (1 <= kind) & (kind <= 4);
     let certificate = (5 <= kind) & (kind <= 7);
     let unsigned = frame_signer(frame) == 0;
-    let height_short = byte(frame, 3) == 0;
     let unmasked = frame_mask(frame) == 0;
-    (statement | certificate) & ((statement | unsigned) & (height_short & (certificate | unmasked)))
+    (statement | certificate) & ((statement | unsigned) & (certificate | unmasked))
 }
 
 // Whether the digest and the block are there only for the kinds that have them, and the block is well formed.

@@ -7,7 +7,7 @@ use Rattle.protocol.specs.Bytes.{Bytes, le16, zeros, put, AreBytes}
 use Rattle.protocol.specs.State.{bookHeights}
 use Rattle.protocol.specs.Deliver.{withNotarized}
 use Rattle.protocol.specs.Observer.{encodeObserver}
-use Rattle.protocol.specs.Open.{weighed}
+use Rattle.protocol.specs.Open.{long}
 use Rattle.protocol.specs.ObserverCalls.{newObserver}
 use Rattle.protocol.specs.Laws.BytesLaws.{put-all, length-zeros}
 use Rattle.protocol.specs.Laws.PlaceLaws.{suc-pred}
@@ -18,7 +18,8 @@ use Rattle.book_fields.specs.Numbered.{withMaskAt}
 
 pub observer-made : (n heights : ℕ) (weights book cleared : Bytes) → length book ≡ 64 + 184 * heights →
     AreBytes weights → length weights ≡ 2 * n → n ≤ 16 → cleared ≡ put book 0 (zeros (length book)) →
-    put (set (set (set cleared 0 n) 2 heights) 7 2) 8 weights ≡ encodeObserver (newObserver (weighed weights) n heights)
+    put (put (put (set (set cleared 0 n) 7 3) 8 weights) 40 (le16 heights)) 42 (le16 0) ≡
+    encodeObserver (newObserver (long weights) n heights)
 observer-made n heights weights book cleared size small given high clear =
     rw (clear ∙ put-all book (zeros (length book)) (sym (length-zeros (length book))) ∙ ap zeros size)
     (new-observer-from-zeros n heights weights small given high)

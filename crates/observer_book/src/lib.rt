@@ -9,9 +9,10 @@ ghost use Prim.Native.Nat.{_+_, _*_, _<_, _≤_};
 ghost use lib.ListN.{length};
 ghost use Rattle.protocol.specs.Mask.{maskLimit};
 ghost use Rattle.protocol.specs.Deliver.{withNotarized};
-ghost use Rattle.protocol.specs.State.{withHead};
+ghost use Rattle.protocol.specs.Bytes.{byteAt};
+ghost use Rattle.protocol.specs.State.{withHead, mostHeights};
 ghost use Rattle.protocol.specs.Observer.{encodeObserver};
-ghost use Rattle.protocol.specs.Open.{weighed};
+ghost use Rattle.protocol.specs.Open.{long};
 ghost use Rattle.protocol.specs.ObserverCalls.{newObserver};
 ghost use Rattle.book_fields.specs.Book.{ObserverReady, Within, observedIn, observerChanged, observerRecoded};
 ghost use Rattle.book_fields.specs.Numbered.{withMaskAt};
@@ -19,16 +20,17 @@ ghost use Rattle.book_fields.specs.Numbered.{withMaskAt};
 // Writes the book of an observer of `n` replicas of these weights, who has heard nothing. Costs a store for each byte.
 pub fn new_book(book: &mut [u8], n: usize, heights: usize, weights: &[u8])
     requires { ⌜ length (now book) ≡ 64 + 184 * heights ⌝ }
-    requires { ⌜ (n ≤ 16) × (heights < 256) ⌝ }
+    requires { ⌜ (n ≤ 16) × (heights < 65536) ⌝ }
     requires { ⌜ length (now weights) ≡ 2 * n ⌝ }
-    ensures { λ _. ⌜ now (book .exit) ≡ encodeObserver (newObserver (weighed (now (weights .entry))) n heights) ⌝ }
+    ensures { λ _. ⌜ now (book .exit) ≡ encodeObserver (newObserver (long (now (weights .entry))) n heights) ⌝ }
 {
     let size = book.len();
     clear(book, 0, size);
     book[0] = n as u8;
-    book[2] = heights as u8;
-    book[7] = 2;
+    book[7] = 3;
     copy_to(book, 8, weights);
+    put_word(book, 40, heights);
+    put_word(book, 42, 0);
 }
 
 // Keeps a block as the notarized block of height `h`, which has none, with the mask of its certificate.
@@ -63,9 +65,9 @@ pub fn set_mask(book: &mut [u8], h: usize, k: usize, mask: usize)
 // Makes `g` the finalized height. Costs one store.
 pub fn set_finalized(book: &mut [u8], g: usize)
     requires { ⌜ ObserverReady (now book) ⌝ }
-    requires { ⌜ g < 256 ⌝ }
+    requires { ⌜ g ≤ mostHeights (byteAt (now book) 7) ⌝ }
     ensures { λ _. ⌜ now (book .exit) ≡
         observerRecoded (now (book .entry)) (λ s. withHead s (s .flags) (s .current) g) ⌝ }
 {
-    book[5] = g as u8;
+    book_fields::head::put_number(book, 5, 44, g);
 }

@@ -11,7 +11,7 @@ use Rattle.protocol.specs.Bytes.{Bytes, byteAt, part, all, isZero}
 use Rattle.protocol.specs.Tests.{allOf, inRange, everyHeight}
 use Rattle.protocol.specs.Block.{blockWellFormed}
 use Rattle.protocol.specs.Mask.{belowBit}
-use Rattle.protocol.specs.State.{Height, at, isNotarized, bookHeights}
+use Rattle.protocol.specs.State.{Height, at, isNotarized, bookHeights, bookCurrent}
 use Rattle.protocol.specs.View.{quorum}
 use Rattle.protocol.specs.Sound.{view, masksBelow}
 use Rattle.protocol.specs.Observer.{asReplica, asReplicaHeight, decodeObserver, observerState, observerBookSize}
@@ -28,15 +28,14 @@ use Rattle.observer_soundness.specs.Laws.ObserverRowsLaws.{observer-soun
 -- ---- the head
 module _ (book : Bytes) where
   pub replica-are :
-      (eqb (byteAt book 1) 0 && (eqb (byteAt book 3) 0 && (eqb (byteAt book 4) 0 && eqb (byteAt book 6) 0))) ≡
+      (eqb (byteAt book 1) 0 && (eqb (byteAt book 3) 0 && (eqb (bookCurrent book) 0 && eqb (byteAt book 6) 0))) ≡
       isZero (replicaHead book)
   unfolding replicaHead isZero all
   replica-are = simp and-true
 
   pub head-are : (eqb (length book) (64 + 184 * bookHeights book) &&
-      (allOf (settingRows book) && ((leb 1 (bookHeights book) && leb (bookHeights book) 63) &&
-      isZero (replicaHead book)))) ≡ allOf (headRows book)
-  unfolding headRows observerBookSize inRange allOf
+      (allOf (settingRows book) && isZero (replicaHead book))) ≡ allOf (headRows book)
+  unfolding headRows observerBookSize allOf
   head-are = simp and-true
 
   pub head-short : length book < 64 → allOf (headRows book) ≡ false

@@ -6,8 +6,8 @@ use mathlib.Core.List.{List, [], _∷_}
 use lib.ListN.{length}
 use lib.Dec.{eqb}
 use Rattle.protocol.specs.Bytes.{Bytes, isZero}
-use Rattle.protocol.specs.Tests.{allOf, implies, inRange, everyHeight}
-use Rattle.protocol.specs.Block.{maximumHeights, blockWellFormed}
+use Rattle.protocol.specs.Tests.{allOf, implies, everyHeight}
+use Rattle.protocol.specs.Block.{blockWellFormed}
 use Rattle.protocol.specs.State.{isNotarized, bookHeights}
 use Rattle.protocol.specs.View.{quorum, isFinalized}
 use Rattle.protocol.specs.Sound.{view, masksBelow}
@@ -21,7 +21,6 @@ unfoldable pub headRows : Bytes → List Bool
 headRows book =
     eqb (length book) (observerBookSize (bookHeights book)) ∷
     allOf (settingRows book) ∷
-    inRange 1 maximumHeights (bookHeights book) ∷
     isZero (replicaHead book) ∷ []
 
 -- the notarized block of height `h`, if there is one, is well formed

@@ -1,5 +1,5 @@
 // Soundness of an observer's book: one pass over its bytes, and one digest for each block of the finalized chain.
-use book_fields::bounds::MAXIMUM_HEIGHTS;
+use book_fields::head::number;
 use book_fields::kind::Kind;
 use book_fields::observed::content_at;
 use book_fields::observed::is_notarized;
@@ -30,7 +30,7 @@ fn replica_zero(book: &[u8]) -> bool
 {
     let own = byte(book, 1);
     let flags = byte(book, 3);
-    let current = byte(book, 4);
+    let current = number(book, 4, 42);
     let pending = byte(book, 6);
     (own == 0) & ((flags == 0) & ((current == 0) & (pending == 0)))
 }
@@ -40,12 +40,10 @@ fn head_sound(book: &[u8]) -> bool
     ensures { λ r. ⌜ r ≡ allOf (headRows (now (book .entry))) ⌝ }
 {
     if 64 <= book.len() {
-        let heights = byte(book, 2);
-        let size = book.len() == 64 + 184 * heights;
-        let count = (1 <= heights) & (heights <= MAXIMUM_HEIGHTS);
+        let size = book.len() == 64 + 184 * number(book, 2, 40);
         let setting = book_fields::setting::setting_sound(book);
         let replica = replica_zero(book);
-        size & (setting & (count & replica))
+        size & (setting & replica)
     } else {
         false
     }

@@ -37,23 +37,23 @@ passKinds (pass h certificate finalized) = certificateKind certificate + 256 * f
 passKinds (propose h) = 0
 passKinds (voteBlock h) = 0
 
--- Move: byte 1 is the move's number, bytes 2 and 3 its height (at most 63), byte 4 the certificate's kind, byte 5 the
+-- Move: byte 1 is the move's number, bytes 2 and 3 its height (at most 1,000), byte 4 the certificate's kind, byte 5 the
 -- finalize's kind
 unfoldable pub packedMove : Answer Move → ℕ
 packedMove (refused number) = number
 packedMove (accepted move) = 256 * moveNumber move + 65536 * moveHeight move + 4294967296 * passKinds move
 
--- the height that an answer of Move names, and 0 for a refusal; at most 63 (PackingLaws)
+-- the height that an answer of Move names, and 0 for a refusal; at most 1,000 (PackingLaws)
 unfoldable pub answeredHeight : Answer Move → ℕ
 answeredHeight (refused number) = 0
 answeredHeight (accepted move) = moveHeight move
 
--- Register size: the bytes above the lowest are the size (at most 8,064)
+-- Register size: the bytes above the lowest are the size (at most 128,000)
 unfoldable pub packedSize : Answer ℕ → ℕ
 packedSize (refused number) = number
 packedSize (accepted size) = 256 * size
 
--- the size that an answer of Register size names, and 0 for a refusal; at most 8,064 (PackingLaws)
+-- the size that an answer of Register size names, and 0 for a refusal; at most 128,000 (PackingLaws)
 unfoldable pub answeredSize : Answer ℕ → ℕ
 answeredSize (refused number) = 0
 answeredSize (accepted size) = size

@@ -80,7 +80,7 @@ fn move_number(number: usize, height: usize, kinds: usize) -> usize
     256 * number + 65536 * height + 4294967296 * kinds
 }
 
-// The number for the answer of Move. No answer of Move names a height above 63 (`PackingLaws.move-height-low`), so the
+// The number for the answer of Move. No answer of Move names a height above 1,000 (`PackingLaws.move-height-low`), so the
 // sum fits.
 pub fn moved_number(answer: Moved) -> usize
     requires { ⌜ answeredHeight (movedAnswer answer) ≤ maximumHeights ⌝ }
@@ -100,9 +100,9 @@ pub fn moved_number(answer: Moved) -> usize
     }
 }
 
-// The number for the answer of Register size, which is at most 8,064 (`PackingLaws.size-low`), so the product fits.
+// The number for the answer of Register size, which is at most 128,000 (`PackingLaws.size-low`), so the product fits.
 pub fn size_number(answer: Size) -> usize
-    requires { ⌜ answeredSize (sizeAnswer answer) ≤ 8064 ⌝ }
+    requires { ⌜ answeredSize (sizeAnswer answer) ≤ 128000 ⌝ }
     ensures { λ r. ⌜ r ≡ packedSize (sizeAnswer answer) ⌝ }
 {
     match answer {

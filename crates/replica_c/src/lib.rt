@@ -7,7 +7,7 @@
 ghost use mathlib.Core.Path.{_≡_};
 ghost use lib.ListN.{length};
 ghost use Rattle.sha256.specs.Digest.{sha256};
-ghost use Rattle.protocol.specs.Open.{weighed, openCall};
+ghost use Rattle.protocol.specs.Open.{long, openCall};
 ghost use Rattle.protocol.specs.Deliver.{deliverCall};
 ghost use Rattle.protocol.specs.Packet.{packetCall};
 ghost use Rattle.protocol.specs.Move.{moveCall};
@@ -35,9 +35,9 @@ pub extern "C" fn mavunilai_open(
     leaders: &[u8],
 ) -> usize
     ensures answer { λ r. ⌜ r ≡ packedDone (openCall
-        (weighed (now (weights .entry))) (now (book .entry)) n own heights (now (leaders .entry)) .answer) ⌝ }
+        (long (now (weights .entry))) (now (book .entry)) n own heights (now (leaders .entry)) .answer) ⌝ }
     ensures book { λ _. ⌜ now (book .exit) ≡
-        openCall (weighed (now (weights .entry))) (now (book .entry)) n own heights (now (leaders .entry)) .book ⌝ }
+        openCall (long (now (weights .entry))) (now (book .entry)) n own heights (now (leaders .entry)) .book ⌝ }
 {
     packing::done_number(replica::open::open(book, n, own, heights, weights, leaders))
 }
@@ -151,9 +151,9 @@ pub extern "C" fn mavunilai_observer_open(
     weights: &[u8],
 ) -> usize
     ensures answer { λ r. ⌜ r ≡
-        packedDone (observerOpenCall (weighed (now (weights .entry))) (now (book .entry)) n heights .answer) ⌝ }
+        packedDone (observerOpenCall (long (now (weights .entry))) (now (book .entry)) n heights .answer) ⌝ }
     ensures book { λ _. ⌜ now (book .exit) ≡
-        observerOpenCall (weighed (now (weights .entry))) (now (book .entry)) n heights .book ⌝ }
+        observerOpenCall (long (now (weights .entry))) (now (book .entry)) n heights .book ⌝ }
 {
     packing::done_number(observer::open::open(book, n, heights, weights))
 }
@@ -217,5 +217,5 @@ pub extern "C" fn mavunilai_digest(bytes: &[u8], digest: &mut [u8]) -> usize
 pub extern "C" fn mavunilai_interface() -> usize
     ensures { λ r. ⌜ r ≡ interfaceNumber ⌝ }
 {
-    6
+    7
 }

@@ -10,7 +10,7 @@ use Rattle.protocol.specs.Bytes.{Bytes, byteAt, part, isZero}
 use Rattle.protocol.specs.Tests.{allOf, implies, inRange, everyHeight}
 use Rattle.protocol.specs.Block.{blockWellFormed}
 use Rattle.protocol.specs.Mask.{belowBit}
-use Rattle.protocol.specs.State.{Height, at, decode, bookSize, holdsProposal, isNotarized, bookHeights}
+use Rattle.protocol.specs.State.{Height, at, decode, bookSize, holdsProposal, isNotarized, bookHeights, bookCurrent}
 use Rattle.protocol.specs.View.{quorum}
 use Rattle.protocol.specs.Sound.{view, masksBelow, blocksWellFormed, contentZeros, sound}
 use Rattle.protocol.specs.Laws.RowLaws.{heads-pass, heads-fail, last-decides, rows-decide}
@@ -22,9 +22,8 @@ use Rattle.soundness.specs.Laws.SoundRowsLaws.{sound-is}
 module _ (book : Bytes) where
   pub numbers-are :
       (ltb (byteAt book 1) (byteAt book 0) &&
-      ((leb 1 (bookHeights book) && leb (bookHeights book) 63) &&
-      ((leb 1 (byteAt book 4) && leb (byteAt book 4) (bookHeights book + 1)) &&
-      (ltb (byteAt book 3) 16 && leb (byteAt book 6) 32)))) ≡ allOf (numberRows book)
+      ((leb 1 (bookCurrent book) && leb (bookCurrent book) (bookHeights book + 1)) &&
+      (ltb (byteAt book 3) 16 && leb (byteAt book 6) 32))) ≡ allOf (numberRows book)
   unfolding numberRows decode inRange allOf
   numbers-are = simp and-true
 

@@ -7,18 +7,16 @@ use lib.ListN.{length}
 use lib.Dec.{eqb, leb, ltb}
 use Rattle.protocol.specs.Bytes.{Bytes, isZero}
 use Rattle.protocol.specs.Tests.{allOf, implies, inRange, everyHeight}
-use Rattle.protocol.specs.Block.{maximumHeights}
 use Rattle.protocol.specs.State.{decode, bookSize, isNotarized, bookHeights, maximumPending}
 use Rattle.protocol.specs.View.{quorum, isFinalized}
 use Rattle.protocol.specs.Sound.{masksBelow, blocksWellFormed, contentZeros}
 use Rattle.book_fields.specs.Book.{heightIn, bookView}
 use Rattle.book_fields.specs.Setting.{settingRows}
 
--- what the numbers must be that only a replica has, and the heights
+-- what the numbers must be that only a replica has
 unfoldable pub numberRows : Bytes → List Bool
 numberRows book =
     ltb (decode book .own) (decode book .n) ∷
-    inRange 1 maximumHeights (bookHeights book) ∷
     inRange 1 (bookHeights book + 1) (decode book .current) ∷
     ltb (decode book .flags) 16 ∷
     leb (decode book .pendingCount) maximumPending ∷ []

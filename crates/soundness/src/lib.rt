@@ -1,6 +1,6 @@
 // Soundness of a book: one pass over its bytes, and one digest for each block of the finalized chain.
-use book_fields::bounds::MAXIMUM_HEIGHTS;
 use book_fields::bounds::MAXIMUM_PENDING;
+use book_fields::head::number;
 use book_fields::height::holds_proposal;
 use book_fields::height::is_notarized;
 use book_fields::height::notarized;
@@ -24,20 +24,19 @@ ghost use Rattle.book_fields.specs.Book.{Within, Readable, heightIn};
 ghost use Rattle.memory.specs.Memo.{Memo};
 ghost use Rattle.soundness.specs.SoundRows.{numberRows, headRows, certificateRow, heightRows, bookRows, finalRow};
 
-// Whether the numbers that only a replica has are in their ranges, and the heights.
+// Whether the numbers that only a replica has are in their ranges.
 fn numbers_sound(book: &[u8]) -> bool
     requires { ⌜ 576 ≤ length (now book) ⌝ }
     ensures { λ r. ⌜ r ≡ allOf (numberRows (now (book .entry))) ⌝ }
 {
     let n = byte(book, 0);
     let own = byte(book, 1);
-    let heights = byte(book, 2);
+    let heights = number(book, 2, 40);
     let flags = byte(book, 3);
-    let current = byte(book, 4);
+    let current = number(book, 4, 42);
     let pending = byte(book, 6);
-    let length = (1 <= heights) & (heights <= MAXIMUM_HEIGHTS);
     let place = (1 <= current) & (current <= heights + 1);
-    (own < n) & (length & (place & ((flags < 16) & (pending <= MAXIMUM_PENDING))))
+    (own < n) & (place & ((flags < 16) & (pending <= MAXIMUM_PENDING)))
 }
 
 // Whether the length is that of the heights, and the head as it must be.
@@ -45,7 +44,7 @@ fn head_sound(book: &[u8]) -> bool
     ensures { λ r. ⌜ r ≡ allOf (headRows (now (book .entry))) ⌝ }
 {
     if 576 <= book.len() {
-        let size = book.len() == 576 + 880 * byte(book, 2);
+        let size = book.len() == 576 + 880 * number(book, 2, 40);
         let setting = book_fields::setting::setting_sound(book);
         let numbers = numbers_sound(book);
         size & (setting & numbers)

@@ -13,7 +13,6 @@ ghost use Rattle.protocol.specs.State.{decode, encode, bookHeights};
 ghost use Rattle.protocol.specs.Answer.{accepted};
 ghost use Rattle.protocol.specs.Move.{dummyVoteStep, outputStep, proposeStep, blockVoteStep, newFinalized};
 ghost use Rattle.protocol.specs.Move.{parentBelow};
-ghost use Rattle.protocol.specs.Block.{maximumHeights};
 ghost use Rattle.memory.specs.Memo.{Memo};
 ghost use Rattle.chains.specs.Walkable.{Walkable};
 ghost use Rattle.answers.specs.Answers.{movedAnswer};
@@ -38,7 +37,7 @@ pub fn cast_dummy_vote(book: &mut [u8], reply: &mut [u8]) -> Moved
 pub fn output(book: &mut [u8], g: usize) -> Moved
     requires { ⌜ SoundBook sha (now book) ⌝ }
     requires { ⌜ g ≡ newFinalized sha (decode (now book)) ⌝ }
-    requires { ⌜ g ≤ maximumHeights ⌝ }
+    requires { ⌜ g ≤ bookHeights (now book) ⌝ }
     ensures answer { λ r. ⌜ movedAnswer r ≡ accepted (outputStep sha (decode (now (book .entry))) .move) ⌝ }
     ensures book { λ _. ⌜ now (book .exit) ≡ encode (outputStep sha (decode (now (book .entry))) .after) ⌝ }
 {

@@ -5,7 +5,7 @@ ghost use lib.ListN.{length};
 ghost use Rattle.protocol.specs.Bytes.{all};
 ghost use Rattle.protocol.specs.Tests.{inRange};
 ghost use Rattle.protocol.specs.State.{words, maximumWeight};
-ghost use Rattle.protocol.specs.Open.{weighed, weightsInRange};
+ghost use Rattle.protocol.specs.Open.{long, weightsInRange};
 
 pub const MAXIMUM_WEIGHT: usize = 1000;
 
@@ -26,7 +26,7 @@ pub fn in_range(weights: &[u8], n: usize) -> bool
 
 // Whether there are `n` weights, each of 1 to 1,000. Nothing is multiplied by `n`, which may be any number.
 pub fn fit(weights: &[u8], n: usize) -> bool
-    ensures { λ r. ⌜ r ≡ weightsInRange n (weighed (now (weights .entry))) ⌝ }
+    ensures { λ r. ⌜ r ≡ weightsInRange n (long (now (weights .entry))) ⌝ }
 {
     let many = weights.len() / 2;
     if (many == n) & (weights.len() == 2 * many) {

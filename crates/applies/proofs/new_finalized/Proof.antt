@@ -15,7 +15,7 @@ returns c =
     let found = after-largest-finalized .largest-finalized in
     let top = after-heights .heights in (
       found .ensures .0 ∙ newest-is sha256 (start .args .book .now) (top .result) (top .ensures .0),
-      (omega (arith, found .ensures .1 .0, top .ensures .1), found .ensures .1 .1),
+      (omega (arith, found .ensures .1 .0, top .ensures .0), found .ensures .1 .1),
     )
 
 pub new-finalized-spec : {M : Type 1} → statement M

@@ -13,7 +13,7 @@ use Rattle.protocol.specs.State.{State, Height, last, decode, encode, withHeigh
 use Rattle.protocol.specs.State.{maximumReplicas, maximumPending, headUnused}
 use Rattle.protocol.specs.View.{totalWeight}
 use Rattle.protocol.specs.Sound.{sound, view}
-use Rattle.protocol.specs.Laws.HeadLaws.{head-weighs, head-weight-each}
+use Rattle.protocol.specs.Laws.HeadLaws.{head-weighs, head-weight-each, heights-sum, current-sum, finalized-sum}
 use Rattle.protocol.specs.Laws.StateLaws.{decode-encode}
 use Rattle.protocol.specs.Laws.EveryLaws.{every-set}
 use Rattle.protocol.specs.Laws.CodecLaws.{last-decode, decode-shaped}
@@ -41,6 +41,9 @@ readable book size replicas heights unused some = record {
   };
   replicas = rw (read-n book) replicas;
   heights = heights;
+  heights-sum = heights-sum book (omega arith) unused;
+  current-sum = current-sum book (omega arith) unused;
+  finalized-sum = finalized-sum book (omega arith) unused;
   weighs = unfold view decode in head-weighs book (omega arith) unused (rw (read-n book) replicas);
   weight-each = unfold view decode in head-weight-each book (rw (read-n book) replicas);
   even-weights = unfold view decode in head-even book (rw (read-n book) replicas);
@@ -70,6 +73,7 @@ sound-book digest book small e =
         whole = encode-decode digest book e small;
       };
       state = state;
+      heights-most = unfold decode in rw count at (state .last-most);
       finalized-high = rw count at (finalized-in digest (decode book) state);
     }
 

@@ -9,7 +9,7 @@ use Rattle.protocol.specs.Block.{maximumHeights}
 use Rattle.protocol.specs.State.{bookHeights, headUnused, maximumReplicas, mostHeights}
 use Rattle.protocol.specs.View.{totalWeight}
 use Rattle.protocol.specs.Sound.{view}
-use Rattle.protocol.specs.Laws.HeadLaws.{head-weighs, head-weight-each}
+use Rattle.protocol.specs.Laws.HeadLaws.{head-weighs, head-weight-each, heights-sum, current-sum, finalized-sum}
 use Rattle.protocol.specs.Observer.{Observer, asReplica, decodeObserver, observerState}
 use Rattle.protocol.specs.ObserverSound.{observerSound}
 use Rattle.protocol.specs.SoundObserver.{SoundObserver}
@@ -33,6 +33,9 @@ observer-readable book size replicas heights unused some = record {
   };
   replicas = rw (read-observer-n book) replicas;
   heights = heights;
+  heights-sum = heights-sum book (omega arith) unused;
+  current-sum = current-sum book (omega arith) unused;
+  finalized-sum = finalized-sum book (omega arith) unused;
   weighs = unfold view asReplica decodeObserver in
       head-weighs book (omega arith) unused (rw (read-observer-n book) replicas);
   weight-each = unfold view asReplica decodeObserver in head-weight-each book (rw (read-observer-n book) replicas);
@@ -65,5 +68,6 @@ sound-observer-book digest book small e =
         whole = encode-decode-observer digest book e small;
       };
       state = state;
+      heights-most = unfold decodeObserver in rw count at (state .last-most);
       finalized-high = observer-finalized-in digest book e;
     }

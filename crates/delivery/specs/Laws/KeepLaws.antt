@@ -95,7 +95,7 @@ module _ (book : Bytes) (h : ℕ) (spot : Spot book h) (y : Height) (fits : Shap
   decoded = decode-encode (withHeight (decode book) h y)
       (shaped-written (decode book) h y (spot .within .low) (ready-state book (spot .ready)) fits)
 
-  heights-same : byteAt (encode (withHeight (decode book) h y)) 2 ≡ bookHeights book
+  heights-same : bookHeights (encode (withHeight (decode book) h y)) ≡ bookHeights book
   heights-same = same-heights book (withHeight (decode book) h y) (last-with-height (decode book) h y)
 
   spot-written : y .status ≤ 3 → Spot (encode (withHeight (decode book) h y)) h

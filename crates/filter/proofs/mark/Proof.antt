@@ -6,7 +6,7 @@ use mathlib.Core.List.{[], _∷_, _++_}
 use lib.Dec.{eqb}
 use Rattle.protocol.specs.Bytes.{byteAt}
 use lib.ListN.{set, length-set}
-use Rattle.filter.specs.Filter.{filterSize, Marked}
+use Rattle.filter.specs.Filter.{Marked}
 use Rattle.filter.proofs.Filtering.{not-marked, marked-more}
 use borrow.Author.Needs.{needs}
 use Rattle.filter.proofs.mark.Statement.{statement}
@@ -19,11 +19,7 @@ returns c =
     let at = c .before .place .ensures in (
       (λ es m e. not-marked (args .filter .now) es m entry
           (subst (λ (k : ℕ). eqb (byteAt (args .filter .now) k) 1 ≡ false) (at .0) e)),
-      (
-        (λ es m. subst (λ (k : ℕ). Marked (set (args .filter .now) k 1) (es ++ (entry ∷ []))) (sym (at .0))
-            (marked-more (args .filter .now) es m entry (subst (λ (k : ℕ). k < filterSize) (at .0) (at .1)))),
-        length-set (args .filter .now) (c .before .place .result) 1 ∙ c .before .before .before .before .pre .0,
-      ),
+      λ es m. marked-more (args .filter .now) es m entry (c .before .place .result) (at .0) (at .1),
     )
 
 pub mark-spec : {M : Type 1} → statement M

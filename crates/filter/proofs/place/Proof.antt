@@ -10,16 +10,34 @@ use Rattle.filter.proofs.place.Tie as tie
 returns : tie.Need-returns
 unfolding placeOf
 returns c =
-    let third = c .before in
+    let fourth = c .before in
+    let third = fourth .before in
     let second = third .before in
     let first = second .before in (
       rw (
         first .long-word .ensures .0,
         second .long-word2 .ensures .0,
         third .long-word3 .ensures .0,
-        c .long-word4 .ensures .0,
+        fourth .long-word4 .ensures .0,
+        c .if1 .taken,
       ) refl,
-      mod-lt _ (omega arith),
+      rw (c .if1 .taken) (mod-lt _ (omega arith)),
+    )
+
+returns-2 : tie.Need-returns-2
+unfolding placeOf
+returns-2 c =
+    let fourth = c .before in
+    let third = fourth .before in
+    let second = third .before in
+    let first = second .before in (
+      rw (
+        first .long-word .ensures .0,
+        second .long-word2 .ensures .0,
+        third .long-word3 .ensures .0,
+        fourth .long-word4 .ensures .0,
+      ) refl,
+      mod-lt _ (first .before .before .pre .1),
     )
 
 pub place-spec : {M : Type 1} → statement M
@@ -37,4 +55,6 @@ place-spec =
     (λ c. search needs)
     (λ c. search needs)
     (λ c. search needs)
-    returns)
+    (λ c. search needs)
+    returns
+    returns-2)

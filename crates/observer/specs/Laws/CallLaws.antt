@@ -9,8 +9,8 @@ use Rattle.sha256.specs.Digest.{sha256}
 use Rattle.protocol.specs.Bytes.{Bytes}
 use Rattle.protocol.specs.Tests.{allOf, inRange, firstRefusal}
 use Rattle.protocol.specs.Block.{maximumHeights}
-use Rattle.protocol.specs.State.{maximumReplicas, withHead}
-use Rattle.protocol.specs.Open.{weighed, weightsInRange}
+use Rattle.protocol.specs.State.{maximumReplicas, mostHeights, withHead}
+use Rattle.protocol.specs.Open.{long, openedEdition, weightsInRange}
 use Rattle.protocol.specs.Answer.{Outcome, Done, Move, done, refused, accepted, unlessRefused}
 use Rattle.protocol.specs.Move.{newFinalized, outputApplies, outputStep, firstStep, idleStep}
 use Rattle.protocol.specs.Observer.{observerBookSize, observed, encodeObserver, decodeObserver, observerState}
@@ -18,6 +18,7 @@ use Rattle.protocol.specs.ObserverSound.{observerSound}
 use Rattle.protocol.specs.ObserverCalls.{newObserver, observerOpenRows, observerOpenCall, observerStep, observerMoved}
 use Rattle.protocol.specs.ObserverCalls.{observerMoveRows, observerMoveCall}
 use Rattle.protocol.specs.Laws.TestsLaws.{and-both}
+use Rattle.protocol.specs.Laws.RowLaws.{by-rows, in-range}
 use Rattle.protocol.specs.Laws.ObserverStateLaws.{observed-as}
 use Rattle.answers.specs.Answers.{movedAnswer}
 use Rattle.answers.specs.declared.answer.Moved.the-variants as Moved
@@ -34,7 +35,7 @@ module _ (n heights : ℕ) (weights : Bytes) where
   abbrev pub inRanges : Bool
   inRanges =
       (leb 1 n && leb n maximumReplicas) &&
-      ((leb 1 heights && leb heights maximumHeights) && weightsInRange n (weighed weights))
+      ((leb 1 heights && leb heights maximumHeights) && weightsInRange n (long weights))
 
   pub record OpenRanges : Type 0 where
     pub n-high : n ≤ maximumReplicas
@@ -53,22 +54,24 @@ module _ (n heights : ℕ) (weights : Bytes) where
       }
 
   module _ (book : Bytes) where
-    pub open-unfit : inRanges ≡ false → observerOpenCall (weighed weights) book n heights ≡ unopened book 2
-    unfolding observerOpenCall observerOpenRows firstRefusal unlessRefused allOf inRange
-    open-unfit e = rw (and-true (weightsInRange n (weighed weights)), e)
+    pub open-unfit : inRanges ≡ false → observerOpenCall (long weights) book n heights ≡ unopened book 2
+    unfolding observerOpenCall observerOpenRows openedEdition mostHeights firstRefusal unlessRefused allOf inRange
+    open-unfit e = rw (and-true (weightsInRange n (long weights)), e)
 
     pub open-short : inRanges ≡ true → (length book ≡ 64 + 184 * heights → ⊥) →
-        observerOpenCall (weighed weights) book n heights ≡ unopened book 1
-    unfolding observerOpenCall observerOpenRows firstRefusal unlessRefused allOf inRange observerBookSize
+        observerOpenCall (long weights) book n heights ≡ unopened book 1
+    unfolding observerOpenCall observerOpenRows openedEdition mostHeights firstRefusal unlessRefused allOf inRange
+        observerBookSize
     open-short e f =
-        rw (and-true (weightsInRange n (weighed weights)), e, ne-eqb (length book) (64 + 184 * heights) f)
+        rw (and-true (weightsInRange n (long weights)), e, ne-eqb (length book) (64 + 184 * heights) f)
 
     pub open-done : inRanges ≡ true → length book ≡ 64 + 184 * heights →
-        observerOpenCall (weighed weights) book n heights ≡
-        opened (encodeObserver (newObserver (weighed weights) n heights))
-    unfolding observerOpenCall observerOpenRows firstRefusal unlessRefused allOf inRange observerBookSize
+        observerOpenCall (long weights) book n heights ≡
+        opened (encodeObserver (newObserver (long weights) n heights))
+    unfolding observerOpenCall observerOpenRows openedEdition mostHeights firstRefusal unlessRefused allOf inRange
+        observerBookSize
     open-done e f =
-        rw (and-true (weightsInRange n (weighed weights)), e, eq-eqb (length book) (64 + 184 * heights) f)
+        rw (and-true (weightsInRange n (long weights)), e, eq-eqb (length book) (64 + 184 * heights) f)
 
 -- ---- Move
 module _ (book : Bytes) where

@@ -10,7 +10,7 @@ returns c =
     let flags = current .before in
     let own = flags .before in
     let start = own .before .before in
-    rw (c .byte4 .ensures .0, current .byte3 .ensures .0, flags .byte2 .ensures .0, own .byte .ensures .0)
+    rw (c .byte3 .ensures .0, current .number .ensures .0, flags .byte2 .ensures .0, own .byte .ensures .0)
     (replica-are (start .args .book .now))
 
 pub replica-zero-spec : {M : Type 1} → statement M

@@ -1,5 +1,6 @@
 -- The groups of rows make an observer's soundness; a sound head can be read.
 use Prim.Native.Nat.{ℕ, _+_, _*_, _≤_}
+use native.Mathlib.Nat.{le-trans}
 use mathlib.Core.Path.{_≡_}
 use mathlib.Core.Bool.{Bool, true, _&&_, _||_}
 use lib.ListN.{length}
@@ -8,11 +9,11 @@ use borrow.Author.Tests.{eqb-true}
 use Rattle.protocol.specs.Every.{none, one}
 use Rattle.protocol.specs.Bytes.{Bytes, isZero}
 use Rattle.protocol.specs.Tests.{allOf, inRange, everyHeight}
-use Rattle.protocol.specs.Block.{maximumHeights}
 use Rattle.protocol.specs.State.{bookHeights, weightsIn}
 use Rattle.protocol.specs.Sound.{view, masksBelow}
 use Rattle.protocol.specs.Observer.{asReplica, decodeObserver, observerState, observerBookSize}
 use Rattle.protocol.specs.ObserverSound.{observerSound, replicaHead, observedZero}
+use Rattle.protocol.specs.Laws.SoundLaws.{most-heights}
 use Rattle.protocol.specs.Laws.TestsLaws.{and-both, both-ways}
 use Rattle.protocol.specs.Laws.RowLaws.{by-rows, all-of, true-and, every-height-at, every-height, in-range}
 use Rattle.book_fields.specs.Laws.ObserverBookLaws.{observer-readable}
@@ -26,16 +27,14 @@ module _ (book : Bytes) where
   record HeadPasses : Type 0 where
     size : eqb (length book) (observerBookSize (bookHeights book)) ≡ true
     setting : SettingPasses book
-    heights : inRange 1 maximumHeights (bookHeights book) ≡ true
     replica : isZero (replicaHead book) ≡ true
 
   head-rows : allOf (headRows book) ≡ true → HeadPasses
   unfolding headRows
   head-rows e =
-      by-rows _ e λ size setting heights replica. record {
+      by-rows _ e λ size setting replica. record {
         size = size;
         setting = setting-passes book setting;
-        heights = heights;
         replica = replica;
       }
 
@@ -72,11 +71,12 @@ module _ (digest : Bytes → Bytes) (book : Bytes) where
             (one size
             (one (setting-pass book (record {
               replicas = replicas;
+              heights = heights;
               edition = edition;
               weights = weights;
               unused = zeros;
             }))
-            (one heights (one replica none)))),
+            (one replica none))),
         every-height _ _ (λ h low high. all-of
             (one (every-height-at _ _ h masks low high)
             (one (every-height-at _ _ h status low high)
@@ -95,7 +95,7 @@ module _ (digest : Bytes → Bytes) (book : Bytes) where
     sound-passes =
         let is = head-rows book head in
         all-of
-        (one (is .size) (one (is .setting .replicas) (one (is .heights) (one (is .setting .edition)
+        (one (is .size) (one (is .setting .replicas) (one (is .setting .heights) (one (is .setting .edition)
         (one (is .setting .weights)
         (one (every-height _ _ (λ h low high. at-height h low high .masks))
         (one (every-height _ _ (λ h low high. at-height h low high .status))
@@ -121,5 +121,6 @@ unfolding observerBookSize asReplica decodeObserver
 head-readable book e =
     let is = head-rows book e in
     let size : length book ≡ 64 + 184 * bookHeights book = eqb-true _ _ (is .size) in
-    observer-readable book size (in-range _ _ _ (is .setting .replicas) .1) (in-range _ _ _ (is .heights) .1)
-    (is .setting .unused) (unfold view in setting-weighs book (is .setting))
+    observer-readable book size (in-range _ _ _ (is .setting .replicas) .1)
+    (le-trans (in-range _ _ _ (is .setting .heights) .1) (most-heights _)) (is .setting .unused)
+    (unfold view in setting-weighs book (is .setting))

@@ -12,8 +12,10 @@ use Rattle.protocol.specs.Sound.{view}
 use Rattle.protocol.specs.Open.{Opening}
 use Rattle.protocol.specs.Move.{newFinalized}
 use Rattle.protocol.specs.Answer.{Answer, Outcome, Move, moveNumber, moveHeight}
+use Rattle.protocol.specs.Open.{Opening}
+use Rattle.protocol.specs.Laws.SoundLaws.{most-heights}
 use Rattle.protocol.specs.Deliver.{readRows, clashRows, keep}
-use Rattle.protocol.specs.Observer.{observerState}
+use Rattle.protocol.specs.Observer.{decodeObserver, observerState}
 use Rattle.protocol.specs.ObserverSound.{observerSound}
 use Rattle.protocol.specs.ObserverCalls.{observerOpenRows, observerOpenCall, observerDeliverRows, observerDeliverCall}
 use Rattle.protocol.specs.ObserverCalls.{observerKept, observerMoveRows, observerMoveCall, observerMoved}
@@ -69,7 +71,8 @@ module _ (digest : Bytes → Bytes) (book : Bytes) where
         largestFinalized-is digest (view (observerState book)) (last (observerState book)) .within,
         last-observed book,
         count-observed book,
-        sound-observer digest book was-sound .last-high,
+        sound-observer digest book was-sound .last-most,
+        most-heights (decodeObserver book .edition),
       ))
 
   pub observer-move-read :
@@ -90,11 +93,11 @@ module _ (digest : Bytes → Bytes) (book : Bytes) where
           observer-move-cases digest book (λ (o : Outcome Move). framesOf (o .answer) ≡ 0) (λ _. refl) (λ _ _. refl)
           (λ _ _. refl)
 
-  -- ---- Register size: 16 bytes for each of at most 504 entries
-  pub observer-size-low : answeredSize (observerSizeCall digest book) ≤ 8064
+  -- ---- Register size: 16 bytes for each of at most 8,000 entries
+  pub observer-size-low : answeredSize (observerSizeCall digest book) ≤ 128000
   unfolding observerSizeCall observerLogSize answeredSize
   observer-size-low =
-      cond-elim (λ (a : Answer ℕ). answeredSize a ≤ 8064) (observerSound digest book)
+      cond-elim (λ (a : Answer ℕ). answeredSize a ≤ 128000) (observerSound digest book)
       (λ e. omega (arith, log-few digest (observerState book) (certified-observer (sound-observer digest book e))))
       (λ _. omega arith)
 

@@ -1,4 +1,4 @@
--- What the calls answer is small: a move's height is at most 63 and a size at most 8,064, so that each has room in its
+-- What the calls answer is small: a move's height is at most 1,000 and a size at most 128,000, so that each has room in its
 -- place of the packing.
 use Prim.Native.Nat.{ℕ, _≤_}
 use native.Mathlib.Omega.{arith}
@@ -18,7 +18,7 @@ use Rattle.protocol.specs.Laws.TestsLaws.{and-both, cond-elim}
 use Rattle.protocol.specs.Laws.TestedLaws.{move-tested}
 use Rattle.protocol.specs.Laws.MoveLaws.{step-cases, dummy-vote-rows, propose-rows, block-vote-rows}
 use Rattle.protocol.specs.Laws.ParentLaws.{largestFinalized-is}
-use Rattle.protocol.specs.Laws.SoundLaws.{sound-decode, certified-state}
+use Rattle.protocol.specs.Laws.SoundLaws.{sound-decode, last-high, certified-state}
 use Rattle.protocol.specs.Laws.LogLaws.{log-few}
 use Rattle.protocol.specs.Block.{maximumHeights}
 use Rattle.packing.specs.Packing.{answeredHeight, answeredSize}
@@ -57,13 +57,13 @@ module _ (digest : Bytes → Bytes) where
       go : (r : Option ℕ) → (r ≡ none → sound digest book ≡ true) →
           answeredHeight (unlessMoveRefused r book reply (step digest (decode book)) .answer) ≤ maximumHeights
       go none e = unfold unlessMoveRefused moved answeredHeight in
-          omega (arith, step-within (decode book), sound-decode digest book (e refl) .last-high)
+          omega (arith, step-within (decode book), last-high (sound-decode digest book (e refl)))
       go (some number) e = unfold unlessMoveRefused answeredHeight in omega arith
 
-  -- ---- Register size: 16 bytes for each of at most 504 entries
-  pub size-low : (book : Bytes) → answeredSize (sizeCall digest book) ≤ 8064
+  -- ---- Register size: 16 bytes for each of at most 8,000 entries
+  pub size-low : (book : Bytes) → answeredSize (sizeCall digest book) ≤ 128000
   unfolding sizeCall logSize answeredSize
   size-low book =
-      cond-elim (λ (a : Answer ℕ). answeredSize a ≤ 8064) (sound digest book)
+      cond-elim (λ (a : Answer ℕ). answeredSize a ≤ 128000) (sound digest book)
       (λ e. omega (arith, log-few digest (decode book) (certified-state (sound-decode digest book e))))
       (λ _. omega arith)

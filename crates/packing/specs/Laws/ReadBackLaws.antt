@@ -119,7 +119,7 @@ move-read-back (accepted m) ok low =
     unfold unpackedRefusal unpackedMove unpackedHeight unpackedCertificate unpackedFinalize in
     let k = kinds m in
     let n : moveNumber m < 256 = number-low m in
-    let h : moveHeight m < 256 = omega arith in
+    let h : moveHeight m < 65536 = omega arith in
     rw (k .0) (record {
       numbered = ok;
       refusal = rw byte (omega arith);

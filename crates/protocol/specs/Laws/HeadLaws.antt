@@ -321,6 +321,55 @@ module _ (s : State) (more : Bytes) where
           40 front-size 2 (le16 c) (unfold le16 in omega (arith, length-zeros 18)) ∙ unfold put le16 in refl)
       go false e = rw (other-head old finalized e, other-head c finalized e)
 
+-- ---- a number of the head stands in a byte or in two: the other place is among the bytes called zero
+module _ (book : Bytes) (long : 64 ≤ length book) (unused : isZero (headUnused book) ≡ true) where
+  -- two bytes within a part that is zero
+  no-word : (i k j : ℕ) → i + k ≤ 64 → j + 1 < k → isZero (part book i k) ≡ true → word16 book (i + j) ≡ 0
+  no-word i k j within inside z =
+      sym (word-part book i k j inside) ∙ unfold word16 in
+      rw (is-zero-byte (part book i k) j z, is-zero-byte (part book i k) (j + 1) z)
+
+  either-place : (byte word : ℕ) →
+      (eqb (byteAt book 7) 3 ≡ true → byteAt book byte ≡ 0) → (eqb (byteAt book 7) 3 ≡ false → word16 book word ≡ 0) →
+      byteAt book byte + word16 book word ≡ headNumber byte word book
+  unfolding headNumber
+  either-place byte word in-third in-other = go (eqb (byteAt book 7) 3) in-third in-other
+    where
+      go : (b : Bool) → (b ≡ true → byteAt book byte ≡ 0) → (b ≡ false → word16 book word ≡ 0) →
+          byteAt book byte + word16 book word ≡ cond b (word16 book word) (byteAt book byte)
+      go true z _ = omega (arith, z refl)
+      go false _ z = omega (arith, z refl)
+
+  no-later-word : (j : ℕ) → j + 1 < 24 → eqb (byteAt book 7) 3 ≡ false → word16 book (40 + j) ≡ 0
+  unfolding headUnused
+  no-later-word j inside f = go (edition-case (byteAt book 7))
+    where
+      go : EditionCase (byteAt book 7) → word16 book (40 + j) ≡ 0
+      go (first e _) =
+          let same : 8 + (32 + j) ≡ 40 + j = omega arith in
+          rw same at (no-word 8 56 (32 + j) (omega arith) (omega arith) (rw e at unused))
+      go (third _ e) = absurd (false≢true (sym f ∙ e))
+      go (other e _) = no-word 40 24 j (omega arith) inside (rw (e, f) at unused)
+
+  no-short-byte : eqb (byteAt book 7) 3 ≡ true → (i : ℕ) →
+      byteAt (byteAt book 2 ∷ byteAt book 4 ∷ byteAt book 5 ∷ part book 46 18) i ≡ 0
+  unfolding headUnused
+  no-short-byte f i = go (edition-case (byteAt book 7))
+    where
+      go : EditionCase (byteAt book 7) → byteAt (byteAt book 2 ∷ byteAt book 4 ∷ byteAt book 5 ∷ part book 46 18) i ≡ 0
+      go (first _ e) = absurd (false≢true (sym e ∙ f))
+      go (third e _) = is-zero-byte _ i (rw (e, f) at unused)
+      go (other _ e) = absurd (false≢true (sym e ∙ f))
+
+  pub heights-sum : byteAt book 2 + word16 book 40 ≡ bookHeights book
+  heights-sum = either-place 2 40 (λ e. no-short-byte e 0) (no-later-word 0 (omega arith))
+
+  pub current-sum : byteAt book 4 + word16 book 42 ≡ bookCurrent book
+  current-sum = either-place 4 42 (λ e. no-short-byte e 1) (no-later-word 2 (omega arith))
+
+  pub finalized-sum : byteAt book 5 + word16 book 44 ≡ bookFinalized book
+  finalized-sum = either-place 5 44 (λ e. no-short-byte e 2) (no-later-word 4 (omega arith))
+
 -- ---- a head whose bytes called zero are zero
 module _ (book : Bytes) (long : 64 ≤ length book) (small : AreBytes book) (unused : isZero (headUnused book) ≡ true) where
   abbrev E : ℕ

@@ -6,19 +6,19 @@ use Rattle.soundness.proofs.numbers_sound.Tie as tie
 
 returns : tie.Need-returns
 returns c =
-    let after-byte5 = c .before in
-    let after-byte4 = after-byte5 .before in
-    let after-byte3 = after-byte4 .before in
-    let after-byte2 = after-byte3 .before in
-    let after-byte = after-byte2 .before in
-    let start = after-byte .before .before in
+    let current = c .before in
+    let flags = current .before in
+    let heights = flags .before in
+    let own = heights .before in
+    let n = own .before in
+    let start = n .before .before in
     rw (
-      c .byte6 .ensures .0,
-      after-byte5 .byte5 .ensures .0,
-      after-byte4 .byte4 .ensures .0,
-      after-byte3 .byte3 .ensures .0,
-      after-byte2 .byte2 .ensures .0,
-      after-byte .byte .ensures .0,
+      c .byte4 .ensures .0,
+      current .number2 .ensures .0,
+      flags .byte3 .ensures .0,
+      heights .number .ensures .0,
+      own .byte2 .ensures .0,
+      n .byte .ensures .0,
     )
     (numbers-are (start .args .book .now))
 

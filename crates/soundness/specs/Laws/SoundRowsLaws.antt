@@ -1,5 +1,6 @@
 -- The groups of rows make soundness; a sound head can be read.
 use Prim.Native.Nat.{ℕ, _+_, _*_, _≤_}
+use native.Mathlib.Nat.{le-trans}
 use mathlib.Core.Path.{_≡_}
 use mathlib.Core.Bool.{Bool, true, _&&_}
 use lib.ListN.{length}
@@ -8,9 +9,9 @@ use borrow.Author.Tests.{eqb-true}
 use Rattle.protocol.specs.Every.{none, one}
 use Rattle.protocol.specs.Bytes.{Bytes, isZero}
 use Rattle.protocol.specs.Tests.{allOf, inRange, everyHeight}
-use Rattle.protocol.specs.Block.{maximumHeights}
 use Rattle.protocol.specs.State.{decode, weightsIn, bookSize, bookHeights, maximumPending}
 use Rattle.protocol.specs.Sound.{view, sound, masksBelow, blocksWellFormed, contentZeros}
+use Rattle.protocol.specs.Laws.SoundLaws.{most-heights}
 use Rattle.protocol.specs.Laws.TestsLaws.{and-both, both-ways}
 use Rattle.protocol.specs.Laws.RowLaws.{row, by-rows, all-of, true-and, every-height-at, every-height, in-range}
 use Rattle.book_fields.specs.Laws.BookLaws.{readable as make-readable}
@@ -26,7 +27,6 @@ use Rattle.protocol.specs.Laws.SoundRowNames.{certifiedRow, headZerosRow, conte
 module _ (book : Bytes) where
   record NumbersPass : Type 0 where
     own : ltb (decode book .own) (decode book .n) ≡ true
-    heights : inRange 1 maximumHeights (bookHeights book) ≡ true
     current : inRange 1 (bookHeights book + 1) (decode book .current) ≡ true
     flags : ltb (decode book .flags) 16 ≡ true
     pending : leb (decode book .pendingCount) maximumPending ≡ true
@@ -34,9 +34,8 @@ module _ (book : Bytes) where
   number-rows : allOf (numberRows book) ≡ true → NumbersPass
   unfolding numberRows
   number-rows e =
-      by-rows _ e λ own heights current flags pending. record {
+      by-rows _ e λ own current flags pending. record {
         own = own;
-        heights = heights;
         current = current;
         flags = flags;
         pending = pending;
@@ -88,13 +87,13 @@ module _ (digest : Bytes → Bytes) (book : Bytes) where
     head-passes =
         let setting = setting-pass book (record {
           replicas = row _ replicasRow e;
+          heights = row _ heightsRow e;
           edition = row _ editionRow e;
           weights = row _ weightsRow e;
           unused = row _ headZerosRow e;
         }) in
         let numbers = all-of
-        (one (row _ ownRow e) (one (row _ heightsRow e) (one (row _ currentRow e)
-        (one (row _ flagsRow e) (one (row _ pendingRow e) none))))) in
+        (one (row _ ownRow e) (one (row _ currentRow e) (one (row _ flagsRow e) (one (row _ pendingRow e) none)))) in
         all-of (one (row _ lengthRow e) (one setting (one numbers none)))
 
     height-passes : (h : ℕ) → 1 ≤ h → h ≤ bookHeights book → allOf (heightRows book h) ≡ true
@@ -123,7 +122,7 @@ module _ (digest : Bytes → Bytes) (book : Bytes) where
         let set = is .setting in
         all-of
         (one (is .size)
-        (one (set .replicas) (one (n .own) (one (n .heights) (one (set .edition) (one (set .weights)
+        (one (set .replicas) (one (n .own) (one (set .heights) (one (set .edition) (one (set .weights)
         (one (n .current) (one (n .flags) (one (n .pending)
         (one (every-height _ _ (λ h low high. at-height h low high .leader))
         (one (every-height _ _ (λ h low high. at-height h low high .masks))
@@ -149,5 +148,6 @@ unfolding bookSize decode
 readable book e =
     let is = head-rows book e in
     let size : length book ≡ 576 + 880 * bookHeights book = eqb-true _ _ (is .size) in
-    make-readable book size (in-range _ _ _ (is .setting .replicas) .1) (in-range _ _ _ (is .numbers .heights) .1)
-    (is .setting .unused) (unfold view in setting-weighs book (is .setting))
+    make-readable book size (in-range _ _ _ (is .setting .replicas) .1)
+    (le-trans (in-range _ _ _ (is .setting .heights) .1) (most-heights _)) (is .setting .unused)
+    (unfold view in setting-weighs book (is .setting))

@@ -5,14 +5,14 @@ use mathlib.Core.Path.{_≡_, ap, _∙_}
 use borrow.Author.Needs.{needs}
 use lib.ListN.{length, length-set}
 use Rattle.protocol.specs.State.{encode}
-use Rattle.protocol.specs.Open.{newState, weighed}
+use Rattle.protocol.specs.Open.{newState, long}
 use Rattle.book_changes.proofs.Leaders.{led, led-none, led-more, led-all}
 use Rattle.book_changes.proofs.fresh.new_book.Statement.{statement}
 use Rattle.book_changes.proofs.fresh.new_book.Tie as tie
 
 abbrev Inv-loop : tie.InvT-loop
 Inv-loop book₀ n own weights leaders i₀ book i =
-    (i ≤ length leaders) × (book ≡ encode (newState (weighed weights) n own (led leaders i))) ×
+    (i ≤ length leaders) × (book ≡ encode (newState (long weights) n own (led leaders i))) ×
     (length book ≡ 576 + 880 * length leaders)
 
 abbrev μ-loop : tie.MeasureT-loop
@@ -26,7 +26,7 @@ loop-holds c =
     let made = after-led-by-zero .led-by-zero in (
       omega arith,
       made .ensures
-          ∙ ap (λ l. encode (newState (weighed (start .args .weights .now)) (start .args .n) (start .args .own) l))
+          ∙ ap (λ l. encode (newState (long (start .args .weights .now)) (start .args .n) (start .args .own) l))
           (led-none leaders),
       omega (arith, made .kept .0),
     )
@@ -38,7 +38,7 @@ loop-again c =
     let args = start .args in
     let at = after-loop .loop in (
       omega arith,
-      led-more (weighed (args .weights .now)) (args .n) (args .own) (args .leaders .now) (at .i) (at .book)
+      led-more (long (args .weights .now)) (args .n) (args .own) (args .leaders .now) (at .i) (at .book)
           (at .inv .1) (omega arith),
       rw length-set (at .inv .2),
     )
@@ -49,7 +49,7 @@ returns c =
     let start = after-loop .before .before .before .before .before .before .before .before in
     let args = start .args in
     let at = after-loop .loop in
-    at .inv .1 ∙ ap (λ l. encode (newState (weighed (args .weights .now)) (args .n) (args .own) l))
+    at .inv .1 ∙ ap (λ l. encode (newState (long (args .weights .now)) (args .n) (args .own) l))
     (led-all (args .leaders .now) (at .i) (omega arith))
 
 pub new-book-spec : {M : Type 1} → statement M

@@ -5,10 +5,10 @@ use borrow.Author.Needs.{needs}
 use Rattle.book_fields.proofs.kind.heights.Statement.{statement}
 use Rattle.book_fields.proofs.kind.heights.Tie as tie
 
-number-requires : tie.Need-number-requires
-number-requires c κs =
+good-number-requires : tie.Need-good-number-requires
+good-number-requires c κs =
     let start = c .before in
     (head-room (start .args .kind) (start .args .book .now) (start .pre), (omega arith, omega arith))
 
 pub heights-spec : {M : Type 1} → statement M
-heights-spec = tie.close (tie.spec number-requires (λ c. search needs))
+heights-spec = tie.close (tie.spec good-number-requires (λ c. search needs))

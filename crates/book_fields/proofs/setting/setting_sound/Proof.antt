@@ -8,11 +8,13 @@ use Rattle.book_fields.proofs.setting.setting_sound.Tie as tie
 
 returns : tie.Need-returns
 returns c =
-    let edition = c .before .before in
+    let fit = c .before in
+    let branch = fit .before .before in
+    let edition = branch .before in
     let n = edition .before in
     let start = n .before .before in
-    rw (c .weights-sound .ensures, edition .byte2 .ensures .0, n .byte .ensures .0)
-    (setting-are (start .args .book .now) (omega (arith, n .byte .ensures .0, c .before .if1 .taken)))
+    rw (c .weights-sound .ensures, fit .heights-fit .ensures, fit .before .number .ensures .0, edition .byte2 .ensures .0, n .byte .ensures .0)
+    (setting-are (start .args .book .now) (omega (arith, n .byte .ensures .0, branch .if1 .taken)))
 
 returns-2 : tie.Need-returns-2
 returns-2 c =
@@ -23,4 +25,5 @@ returns-2 c =
 pub setting-sound-spec : {M : Type 1} → statement M
 setting-sound-spec =
     tie.close
-    (tie.spec (λ c κs. search needs) (λ c κs. search needs) (λ c κs. search needs) returns returns-2)
+    (tie.spec (λ c κs. search needs) (λ c κs. search needs) (λ c κs. search needs) (λ c κs. search needs)
+    (λ c κs. search needs) returns returns-2)

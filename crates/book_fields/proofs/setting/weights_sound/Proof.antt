@@ -15,10 +15,11 @@ returns c =
 
 returns-2 : tie.Need-returns-2
 returns-2 c =
-    let there = c .before .before in
+    let absent = c .before in
+    let there = absent .before .before in
     let branch = there .before .before in
     let start = branch .before .before in
-    rw (c .is-zero2 .ensures, there .in-range .ensures)
+    rw (c .later-unused .ensures, absent .is-zero2 .ensures, there .in-range .ensures)
     (unfold part in
     others-are (start .args .n) (start .args .edition) (start .args .book .now) (branch .if1 .left) (start .pre .1)
     (start .pre .0))
@@ -40,6 +41,7 @@ weights-sound-spec =
     (λ c. search needs)
     (λ c. search needs)
     (λ c. search needs)
+    (λ c κs. search needs)
     (λ c κs. search needs)
     returns
     returns-2)

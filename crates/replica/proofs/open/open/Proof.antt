@@ -7,7 +7,7 @@ use borrow.Author.Tests.{eqb-true}
 use Rattle.protocol.specs.Bytes.{Bytes, all}
 use Rattle.protocol.specs.Tests.{inRange}
 use Rattle.protocol.specs.State.{words, maximumWeight}
-use Rattle.protocol.specs.Open.{weighed, weightsInRange}
+use Rattle.protocol.specs.Open.{long, weightsInRange}
 use Rattle.protocol.specs.Laws.TestsLaws.{and-both}
 use mathlib.Core.Path.{_≡_, sym, _∙_}
 use lib.ListN.{length}
@@ -20,7 +20,7 @@ use Rattle.replica.proofs.open.open.Tie as tie
 use Rattle.protocol.specs.Block.{maximumHeights}
 use Rattle.protocol.specs.Laws.TestedLaws.{open-ranges}
 
-counted : (n : ℕ) (weights : Bytes) → weightsInRange n (weighed weights) ≡ true → length weights ≡ 2 * n
+counted : (n : ℕ) (weights : Bytes) → weightsInRange n (long weights) ≡ true → length weights ≡ 2 * n
 unfolding weightsInRange
 counted n weights e = eqb-true _ _
     (and-both (eqb (length weights) (2 * n)) (all (λ w. inRange 1 maximumWeight w) (words n weights)) e .0)
@@ -29,7 +29,7 @@ mul-if2 : tie.Need-mul-if2
 mul-if2 c =
     let after-numbers-fit = c .before in
     let z = after-numbers-fit .before .before .before .before in
-    let way = weighed (z .args .weights .now) in
+    let way = long (z .args .weights .now) in
     let fits = open-ranges way (z .args .n) (z .args .own) (z .args .heights) (z .args .leaders .now)
     (sym (after-numbers-fit .numbers-fit .ensures) ∙ c .if1 .taken) in
     omega arith
@@ -38,7 +38,7 @@ add-if2 : tie.Need-add-if2
 add-if2 c =
     let after-numbers-fit = c .before in
     let z = after-numbers-fit .before .before .before .before in
-    let way = weighed (z .args .weights .now) in
+    let way = long (z .args .weights .now) in
     let fits = open-ranges way (z .args .n) (z .args .own) (z .args .heights) (z .args .leaders .now)
     (sym (after-numbers-fit .numbers-fit .ensures) ∙ c .if1 .taken) in
     omega arith
@@ -48,7 +48,7 @@ new-book-requires c κs =
     let after-if1 = c .before .before in
     let after-numbers-fit = after-if1 .before in
     let z = after-numbers-fit .before .before .before .before in
-    let way = weighed (z .args .weights .now) in
+    let way = long (z .args .weights .now) in
     let fits = open-ranges way (z .args .n) (z .args .own) (z .args .heights) (z .args .leaders .now)
     (sym (after-numbers-fit .numbers-fit .ensures) ∙ after-if1 .if1 .taken) in
     let size : length (z .args .book .now) ≡ 576 + 880 * length (z .args .leaders .now) = omega arith in
@@ -64,7 +64,7 @@ returns c =
     let after-if1 = after-if2 .before in
     let after-numbers-fit = after-if1 .before in
     let z = after-numbers-fit .before .before .before .before in
-    let way = weighed (z .args .weights .now) in
+    let way = long (z .args .weights .now) in
     outcome-done (open-done way (z .args .book .now) (z .args .n) (z .args .own) (z .args .heights)
     (z .args .leaders .now) (sym (after-numbers-fit .numbers-fit .ensures) ∙ after-if1 .if1 .taken)
     (long-enough (z .args .book .now) (z .args .heights) (after-if2 .if2 .taken)))
@@ -75,7 +75,7 @@ returns-2 c =
     let after-if1 = c .before in
     let after-numbers-fit = after-if1 .before in
     let z = after-numbers-fit .before .before .before .before in
-    let way = weighed (z .args .weights .now) in
+    let way = long (z .args .weights .now) in
     outcome-refused (open-short way (z .args .book .now) (z .args .n) (z .args .own) (z .args .heights)
     (z .args .leaders .now) (sym (after-numbers-fit .numbers-fit .ensures) ∙ after-if1 .if1 .taken)
     (not-long-enough (z .args .book .now) (z .args .heights) (c .if2 .left)))
@@ -84,7 +84,7 @@ returns-3 : tie.Need-returns-3
 returns-3 c =
     let after-numbers-fit = c .before in
     let z = after-numbers-fit .before .before .before .before in
-    let way = weighed (z .args .weights .now) in
+    let way = long (z .args .weights .now) in
     outcome-refused (open-unfit way (z .args .book .now) (z .args .n) (z .args .own) (z .args .heights)
     (z .args .leaders .now) (sym (after-numbers-fit .numbers-fit .ensures) ∙ c .if1 .left))
 

@@ -10,7 +10,7 @@ use borrow.Author.Tests.{eqb-true, eq-eqb, ne-eqb}
 use Rattle.protocol.specs.Bytes.{Bytes, all}
 use Rattle.protocol.specs.Tests.{inRange}
 use Rattle.protocol.specs.State.{words, maximumWeight}
-use Rattle.protocol.specs.Open.{weighed, weightsInRange}
+use Rattle.protocol.specs.Open.{long, weightsInRange}
 use Rattle.protocol.specs.Laws.TestsLaws.{and-both}
 use Rattle.wire.proofs.weights.fit.Statement.{statement}
 use Rattle.wire.proofs.weights.fit.Tie as tie
@@ -27,12 +27,12 @@ module _ (n : ℕ) (weights : Bytes) where
       let even : length weights ≡ 2 * (length weights / 2) = eqb-true _ _ (tested .1) in
       omega arith
 
-  are-in-range : as-many → all (λ w. inRange 1 maximumWeight w) (words n weights) ≡ weightsInRange n (weighed weights)
+  are-in-range : as-many → all (λ w. inRange 1 maximumWeight w) (words n weights) ≡ weightsInRange n (long weights)
   unfolding weightsInRange
   are-in-range e = rw (eq-eqb (length weights) (2 * n) (counted e))
 
   too-few-or-many : (eqb (length weights / 2) n && eqb (length weights) (2 * (length weights / 2))) ≡ false →
-      false ≡ weightsInRange n (weighed weights)
+      false ≡ weightsInRange n (long weights)
   unfolding weightsInRange
   too-few-or-many e = rw (ne-eqb (length weights) (2 * n) λ many.
       true≢false (sym (rw (
