@@ -68,6 +68,8 @@ use Rattle.agreement.specs.Laws.ObserverUnpackedLaws.{observed-deliveries-alone
 use Rattle.agreement.specs.Laws.ObserverUnpacksLaws.{observer-unpacks}
 use Rattle.agreement.specs.Unpacked.{AgreementOn, Unpacks, unpacked}
 use Rattle.agreement.specs.Laws.UnpacksLaws.{deliveries-alone, unpacks}
+use Rattle.witnesses.specs.AllEditions.{AllEditions, block}
+use Rattle.witnesses.specs.Laws.AllEditionsLaws.{all-editions}
 use Rattle.call_laws.specs.Refusals.{Refuses}
 use Rattle.call_laws.specs.Laws.RefusalsLaws.{open-refuses, deliver-refuses, packet-refuses, move-refuses}
 use Rattle.call_laws.specs.Laws.RefusalsLaws.{signal-refuses, submit-refuses, size-refuses, fetch-refuses}
@@ -352,6 +354,10 @@ no-fork-with-observers = observed-agreement sha256
 -- .. and a list of calls with a dishonest replica meets every premise of it, with two observers that read an entry
 pub no-fork-with-observers-is-met : ObserverWitness sha256
 no-fork-with-observers-is-met = observer-witness sha256 (sha256-length nextBlock)
+
+-- .. so does one in which each replica and each observer has a book of another edition, and all read an entry
+pub no-fork-of-all-editions-is-met : AllEditions sha256
+no-fork-of-all-editions-is-met = all-editions sha256 (sha256-length block)
 
 -- the same of honest replicas alone, which follows from it
 pub no-fork : Agreement sha256
