@@ -1,5 +1,5 @@
--- The calls with heights of two bytes and on books of edition 3 (document 02, 2.7): what Open makes and refuses, heights
--- that agree with others in their low byte alone, and a run that is the same in each edition.
+-- The calls with heights of two bytes and on books of edition 3 (document 02, 2.7): what Open makes and refuses,
+-- heights that agree with others in their low byte alone, and a run that is the same in each edition.
 use Prim.Native.Nat.{ℕ, _+_, _*_}
 use mathlib.Core.Path.{_≡_, refl}
 use mathlib.Core.Bool.{true}

@@ -171,7 +171,8 @@ carried : (frame block : ℕ) → List Bool
 carried frame block = map frameWellFormed
     (proposal 1 frame (newBlock block 0 (zeros 32) []) ∷ blockCertificate frame 7 (newBlock block 0 (zeros 32) []) ∷ [])
 
-agreeing : carried 3 3 ++ (carried 259 259 ++ (carried 259 3 ++ (carried 3 259 ++ (carried 768 3 ++
-    carried 256 256)))) ≡ (true ∷ true ∷ []) ++ ((true ∷ true ∷ []) ++ (replicate 6 false ++ (true ∷ true ∷ [])))
+agreeing : carried 3 3 ++ (carried 259 259 ++ (carried 256 256 ++
+    (carried 259 3 ++ (carried 3 259 ++ (carried 768 3 ++ (carried 259 260 ++ carried 4 3)))))) ≡
+    replicate 6 true ++ replicate 10 false
 unfolding stateTools carried
 agreeing = refl
