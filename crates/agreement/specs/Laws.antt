@@ -32,7 +32,6 @@ pub mod ObserverUnpackedGrantsLaws
 pub mod ObserverUnpacksLaws
 pub mod OneBookLaws
 pub mod TurnsLaws
-pub mod WitnessLaws
 pub mod AnyDigestLaws
 pub mod ObserverMetLaws
 pub mod EchoLaws

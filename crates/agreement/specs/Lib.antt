@@ -1,4 +1,4 @@
--- Demand 3: the claim over lists of calls, without observers and with them, its proof, and three lists that meet every
+-- Demand 3: the claim over lists of calls, without observers and with them, its proof, and two lists that meet every
 -- premise.
 pub mod Lists
 pub mod ObserverLists
@@ -7,7 +7,6 @@ pub mod ObserverUnpacked
 pub mod Met
 pub mod ListTests
 pub mod Turns
-pub mod Witness
 pub mod AnyDigest
 pub mod ObserverMet
 pub mod ObserverListTests

@@ -141,20 +141,6 @@ malformed : allOf
 unfolding books spoiled
 malformed = refl
 
--- the bytes after heights are zero: byte 3 of each kind of frame, bytes 1 and 3 of a block, in frames and in a book
-bytes-after-heights : allOf
-    (spoiled (blockVote 1 1 (standIn one)) (3 ∷ []) ∷
-    spoiled (dummyVote 1 1) (3 ∷ []) ∷
-    spoiled (finalize 1 1) (3 ∷ []) ∷
-    spoiled (dummyCertificate 1 7) (3 ∷ []) ∷
-    spoiled (finalizeCertificate 1 7) (3 ∷ []) ∷
-    spoiled (proposal 0 1 one) (3 ∷ 49 ∷ 51 ∷ []) ∷
-    spoiled (blockCertificate 1 7 one) (3 ∷ 49 ∷ 51 ∷ []) ∷
-    not (sound standIn (splice 593 (1 ∷ []) settled)) ∷
-    not (sound standIn (splice 769 (1 ∷ []) settled)) ∷ []) ≡ true
-unfolding books spoiled
-bytes-after-heights = refl
-
 -- the frames as they were are all fresh
 formed : answers single
     (delivery (blockVote 1 1 (standIn one)) ∷ delivery (dummyVote 1 1) ∷ delivery (finalize 1 1) ∷ delivery
@@ -253,8 +239,8 @@ damages : allOf
 unfolding books
 damages = refl
 
--- edition 3, and edition 1 beside weights; a weight of 0 and of 1,001; a weight of a fifth replica of four; in edition
--- 1 the head's first zero byte
+-- edition 3 where H stands in byte 2, and edition 1 beside weights; a weight of 0 and of 1,001; a weight of a fifth
+-- replica of four; in edition 1 the head's first zero byte
 later-editions : allOf
     (not (sound standIn (splice 7 (3 ∷ []) settled)) ∷
     not (sound standIn (splice 7 (1 ∷ []) settled)) ∷

@@ -15,3 +15,4 @@ pub mod RepeatChecks
 pub mod EffectChecks
 pub mod WeightCallChecks
 pub mod WeightForkChecks
+pub mod HeightCallChecks

@@ -55,14 +55,14 @@ lists = tt
 
 -- ---- the fork
 -- 0 settles its block by its own vote, 9 of 12; the others pass height 1 as a dummy and settle another block. All four
--- are honest: what was delivered in a replica's name is what its own calls wrote.
+-- are honest: what was delivered in a replica's name is what its own calls wrote; 3 does as 2 does.
 fork-without-shared-weights : told (zeros 2336) (alone (weighing (9 ∷ 1 ∷ 1 ∷ 1 ∷ []))) ∷
-    map (λ own. told (zeros 2336) (together unweighed own)) (1 ∷ 2 ∷ 3 ∷ []) ≡
+    map (λ own. told (zeros 2336) (together unweighed own)) (1 ∷ 2 ∷ []) ≡
     (proposal 0 1 mine ∷ blockVote 0 1 (standIn mine) ∷ blockCertificate 1 1 mine ∷ finalize 0 1 ∷ entry 1 ∷ []) ∷
     (dummyVote 1 1 ∷ dummyCertificate 1 14 ∷ proposal 1 2 theirs ∷ blockVote 1 2 (standIn theirs) ∷
     blockCertificate 2 14 theirs ∷ finalize 1 2 ∷ entry 2 ∷ []) ∷
-    map (λ s. dummyVote s 1 ∷ dummyCertificate 1 14 ∷ blockVote s 2 (standIn theirs) ∷
-    blockCertificate 2 14 theirs ∷ finalize s 2 ∷ entry 2 ∷ []) (2 ∷ 3 ∷ [])
+    (dummyVote 2 1 ∷ dummyCertificate 1 14 ∷ blockVote 2 2 (standIn theirs) ∷
+    blockCertificate 2 14 theirs ∷ finalize 2 2 ∷ entry 2 ∷ []) ∷ []
 unfolding lists
 fork-without-shared-weights = refl
 

@@ -3,11 +3,11 @@ use Prim.Native.Nat.{ℕ, zero, suc, _+_, _*_, _%_}
 use mathlib.Core.Bool.{Bool, _&&_, cond}
 use mathlib.Core.List.{List, [], _∷_, _++_, map}
 use lib.ListN.{length, replicate, take, drop}
-use Rattle.protocol.specs.Bytes.{Bytes, le16, zeros, join, same}
+use Rattle.protocol.specs.Bytes.{Bytes, byteAt, le16, zeros, join, same}
 use Rattle.protocol.specs.Answer.{Answer, refused, accepted, Done, Delivery, known, fresh, Counts, Move, idle}
 use Rattle.protocol.specs.Answer.{voteDummy, output, pass, propose, voteBlock, certificateKind, finalizeKind}
 use Rattle.protocol.specs.Answer.{moveNumber, moveHeight}
-use Rattle.protocol.specs.Open.{Opening, weighed, openCall}
+use Rattle.protocol.specs.Open.{Opening, weighed, long, openCall}
 use Rattle.protocol.specs.Deliver.{deliverCall}
 use Rattle.protocol.specs.Packet.{packetCall}
 use Rattle.protocol.specs.Move.{moveCall}
@@ -46,6 +46,10 @@ oneBytes n = join (replicate n (1 ∷ 0 ∷ []))
 
 unfoldable pub oneEach : ℕ → Opening
 oneEach n = weighed (oneBytes n)
+
+-- the same for a book of edition 3
+unfoldable pub longEach : ℕ → Opening
+longEach n = long (oneBytes n)
 
 -- ---- answers as numbers
 -- a refusal's number alone, or 0 and what the answer says; of a reading the part that it returns
@@ -147,6 +151,13 @@ splice place new bytes = take place bytes ++ (new ++ drop (place + length new) b
 unfoldable pub firstEdition : Bytes → Bytes
 firstEdition book = splice 7 (1 ∷ zeros 56) book
 
+-- the book of edition 3 with the same in it, of one of edition 2: H, the current and the finalized height stand further
+-- back, in two bytes each
+unfoldable pub thirdEdition : Bytes → Bytes
+thirdEdition book =
+    splice 40 (byteAt book 2 ∷ 0 ∷ byteAt book 4 ∷ 0 ∷ byteAt book 5 ∷ 0 ∷ [])
+    (splice 2 (0 ∷ []) (splice 4 (0 ∷ 0 ∷ []) (splice 7 (3 ∷ []) book)))
+
 -- ---- calls with what is expected of them
 pub record Expected : Type 0 where
   pub call : Call
@@ -176,7 +187,7 @@ disagreement i book (x ∷ xs) =
 
 -- opens every definition and these tools
 unfoldable pub tools : Unit {0}
-unfolding everything standIn placeSum countUp twoBytes weighing oneBytes oneEach numbersOf doneNumbers deliveryNumbers
-    countNumbers passNumbers moveNumbers answerOf lent lentAfter perform answers refuses splice firstEdition expect
-    changed agrees disagreement
+unfolding everything standIn placeSum countUp twoBytes weighing oneBytes oneEach longEach numbersOf doneNumbers
+    deliveryNumbers countNumbers passNumbers moveNumbers answerOf lent lentAfter perform answers refuses splice
+    firstEdition thirdEdition expect changed agrees disagreement
 tools = tt

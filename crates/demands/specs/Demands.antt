@@ -19,25 +19,28 @@
 --
 -- What these definitions say follows, demand by demand. A premise `AreBytes book` says that each number of the book is
 -- below 256, as in a byte slice.
-use Prim.Native.Nat.{ℕ, _*_, _≤_}
+use Prim.Native.Nat.{ℕ, _-_, _*_, _≤_, _<_}
 use mathlib.Core.Path.{_≡_}
-use mathlib.Core.Bool.{true, false}
+use mathlib.Core.Bool.{true, false, _&&_}
 use mathlib.Core.List.{List, [], _∷_, _++_, map}
 use mathlib.Core.Option.{none}
 use lib.ListN.{length, replicate}
-use lib.Dec.{leb}
+use lib.Dec.{leb, ltb}
 use borrow.Author.Tests.{le-leb}
 use Rattle.sha256.specs.Digest.{sha256}
 use Rattle.sha256.specs.Laws.DigestLaws.{sha256-length}
-use Rattle.protocol.specs.Bytes.{Bytes, AreBytes, holds}
+use Rattle.protocol.specs.Bytes.{Bytes, AreBytes, byteAt, holds, join, le16, zeros}
 use Rattle.protocol.specs.Distinct.{distinctAfter, distinct, noneTwice}
-use Rattle.protocol.specs.Tests.{firstRefusal}
-use Rattle.protocol.specs.Frame.{frameSize}
+use Rattle.protocol.specs.Tests.{firstRefusal, inRange}
+use Rattle.protocol.specs.Block.{blockWellFormed, newBlock}
+use Rattle.protocol.specs.Frame.{frameHeight, frameOf, frameSize, frameWellFormed}
 use Rattle.protocol.specs.State.{State, decode, bookFinalized, flag}
 use Rattle.protocol.specs.Mask.{ones, intersection}
 use Rattle.protocol.specs.View.{View, maskWeight, quorum, totalWeight, logAt}
 use Rattle.protocol.specs.Laws.SharedLaws.{quorums-third, third-tight, quorum-equal, equal-third}
 use Rattle.protocol.specs.Sound.{view, sound, log}
+use Rattle.protocol.specs.Before.{blockBefore, frameBefore, soundBefore}
+use Rattle.protocol.specs.Laws.BeforeLaws.{short-frame, short-block, block-before, frame-before, sound-before}
 use Rattle.protocol.specs.Laws.DistinctLaws.{distinct-append}
 use Rattle.protocol.specs.Laws.LogLaws.{log-once, log-holds, log-whole}
 use Rattle.protocol.specs.Laws.SoundLaws.{sound-decode}
@@ -65,6 +68,8 @@ use Rattle.agreement.specs.Laws.ObserverUnpackedLaws.{observed-deliveries-alone
 use Rattle.agreement.specs.Laws.ObserverUnpacksLaws.{observer-unpacks}
 use Rattle.agreement.specs.Unpacked.{AgreementOn, Unpacks, unpacked}
 use Rattle.agreement.specs.Laws.UnpacksLaws.{deliveries-alone, unpacks}
+use Rattle.witnesses.specs.AllEditions.{AllEditions, block}
+use Rattle.witnesses.specs.Laws.AllEditionsLaws.{all-editions}
 use Rattle.call_laws.specs.Refusals.{Refuses}
 use Rattle.call_laws.specs.Laws.RefusalsLaws.{open-refuses, deliver-refuses, packet-refuses, move-refuses}
 use Rattle.call_laws.specs.Laws.RefusalsLaws.{signal-refuses, submit-refuses, size-refuses, fetch-refuses}
@@ -316,6 +321,32 @@ pub equal-quorums-share-a-third : (v v′ : View) (n weight a b : ℕ) → 1 ≤
     v′ .weights ≡ replicate n weight → quorum v a ≡ true → quorum v′ b ≡ true → n ≤ 3 * ones (intersection n a b) n
 equal-quorums-share-a-third = equal-third
 
+-- ---- request 2.7: heights of two bytes
+-- a frame or a block of a height below 256 has the bytes that it had before, so that its digest stays ..
+pub short-frames-keep-their-bytes : (k s h mask : ℕ) (digest block : Bytes) → h < 256 →
+    frameOf k s h mask digest block ≡ (k ∷ s ∷ h ∷ 0 ∷ []) ++ (le16 mask ++ (zeros 10 ++ (digest ++ block)))
+short-frames-keep-their-bytes = short-frame
+
+pub short-blocks-keep-their-bytes : (h parent : ℕ) (digest : Bytes) (es : List Bytes) → parent < h → h < 256 →
+    newBlock h parent digest es ≡
+    (h ∷ 0 ∷ parent ∷ 0 ∷ length es ∷ zeros 11) ++ (digest ++ (join es ++ zeros (128 - 16 * length es)))
+short-blocks-keep-their-bytes = short-block
+
+-- .. and is well formed just where it was
+pub short-frames-stay-well-formed : (frame : Bytes) → AreBytes frame →
+    frameBefore frame ≡ (frameWellFormed frame && ltb (frameHeight frame) 256)
+short-frames-stay-well-formed = frame-before
+
+pub short-blocks-stay-well-formed : (h : ℕ) (block : Bytes) → AreBytes block →
+    blockBefore h block ≡ (blockWellFormed h block && ltb h 256)
+short-blocks-stay-well-formed = block-before
+
+-- to a program that knew edition 1 alone, or editions 1 and 2, just those books were sound that are sound now and of an
+-- edition that it knew: it takes none of edition 3
+pub earlier-programs-take-their-editions : (latest : ℕ) → latest ≤ 2 → (book : Bytes) →
+    soundBefore sha256 latest book ≡ (sound sha256 book && inRange 1 latest (byteAt book 7))
+earlier-programs-take-their-editions = sound-before sha256
+
 -- ---- demand 3: of two logs read in any list of calls from observers and honest replicas one begins the other
 pub no-fork-with-observers : ObservedAgreement sha256
 no-fork-with-observers = observed-agreement sha256
@@ -323,6 +354,10 @@ no-fork-with-observers = observed-agreement sha256
 -- .. and a list of calls with a dishonest replica meets every premise of it, with two observers that read an entry
 pub no-fork-with-observers-is-met : ObserverWitness sha256
 no-fork-with-observers-is-met = observer-witness sha256 (sha256-length nextBlock)
+
+-- .. so does one in which each replica and each observer has a book of another edition, and all read an entry
+pub no-fork-of-all-editions-is-met : AllEditions sha256
+no-fork-of-all-editions-is-met = all-editions sha256 (sha256-length block)
 
 -- the same of honest replicas alone, which follows from it
 pub no-fork : Agreement sha256

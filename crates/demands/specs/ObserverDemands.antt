@@ -11,19 +11,22 @@
 -- - Read, every byte: `ObserverCalls.observerReadBuffer sha256`; `read::read_into`
 use Prim.Native.Nat.{ℕ, _≤_}
 use mathlib.Core.Path.{_≡_}
-use mathlib.Core.Bool.{true, false}
+use mathlib.Core.Bool.{true, false, _&&_}
 use mathlib.Core.List.{[], _∷_}
 use mathlib.Core.Option.{none}
 use lib.ListN.{length}
 use Rattle.sha256.specs.Digest.{sha256}
 use Rattle.sha256.specs.Laws.DigestLaws.{sha256-length}
 use Rattle.protocol.specs.Open.{Opening}
-use Rattle.protocol.specs.Bytes.{Bytes, AreBytes}
+use Rattle.protocol.specs.Bytes.{Bytes, AreBytes, byteAt}
+use Rattle.protocol.specs.Tests.{inRange}
 use Rattle.protocol.specs.State.{decode, bookFinalized}
 use Rattle.protocol.specs.Sound.{view, sound}
 use Rattle.protocol.specs.Answer.{Done, Delivery, Move, accepted, done}
 use Rattle.protocol.specs.Observer.{observerState}
 use Rattle.protocol.specs.ObserverSound.{observerSound}
+use Rattle.protocol.specs.ObserverBefore.{observerSoundBefore}
+use Rattle.protocol.specs.Laws.ObserverBeforeLaws.{observer-sound-before}
 use Rattle.protocol.specs.ObserverCalls.{observerOpenRows, observerOpenCall, observerDeliverCall, observerMoveRows}
 use Rattle.protocol.specs.ObserverCalls.{observerMoveCall, observerSizeCall, observerReadPart, observerReadBuffer}
 use Rattle.protocol.specs.ObserverCall.{ObserverCall, observation, observesBook}
@@ -95,6 +98,11 @@ no-observer-book = replica-no-observer sha256
 pub no-replica-book : (book : Bytes) → observerSound sha256 book ≡ true → sound sha256 book ≡ false
 no-replica-book = observer-no-replica sha256
 
+-- to a program before request 2.7 just those books were sound that are sound now and of an edition that it knew
+pub earlier-observers-take-their-editions : (latest : ℕ) → latest ≤ 2 → (book : Bytes) →
+    observerSoundBefore sha256 latest book ≡ (observerSound sha256 book && inRange 1 latest (byteAt book 7))
+earlier-observers-take-their-editions = observer-sound-before sha256
+
 -- ---- what is left
 -- every byte of an opened book; and each call leaves a sound book sound
 pub observer-open-writes : (way : Opening) (book : Bytes) (n heights : ℕ) →
@@ -132,7 +140,8 @@ pub nothing-else-is-kept : (book frame : Bytes) (news : Delivery) →
 nothing-else-is-kept = observer-keeps-exact sha256
 
 -- ---- the paper's steps
--- on a sound book Move outputs just where the paper's last step does, and then byte 5 alone changes; else it is idle
+-- on a sound book Move outputs just where the paper's last step does, and then the finalized height alone changes;
+-- else it is idle
 pub the-observers-step : (book : Bytes) → observerSound sha256 book ≡ true → AreBytes book → ObserverStep sha256 book
 the-observers-step = observer-moves sha256
 

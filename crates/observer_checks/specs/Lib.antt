@@ -4,3 +4,4 @@ pub mod ObserverDeliverChecks
 pub mod ObserverChecks
 pub mod ObserverExamples
 pub mod ObserverWeightChecks
+pub mod ObserverHeightChecks

@@ -25,7 +25,7 @@ malformed =
     [] ∷ take 223 (dummyCertificate 1 7) ∷ (dummyCertificate 1 7 ++ (0 ∷ [])) ∷
     blockCertificate 2 7 lowest ∷ blockCertificate 2 7 (zeros 176) ∷
     (map (λ kind. withByte 0 kind (dummyCertificate 1 7)) (0 ∷ 8 ∷ 255 ∷ []) ++
-    (withOne (dummyCertificate 1 7) (1 ∷ 3 ∷ 6 ∷ 16 ∷ 48 ∷ []) ++
+    (withOne (dummyCertificate 1 7) (1 ∷ 6 ∷ 16 ∷ 48 ∷ []) ++
     (withOne (finalizeCertificate 1 7) (1 ∷ 15 ∷ 47 ∷ 223 ∷ []) ++
     withOne (blockCertificate 1 7 lowest) (1 ∷ 47 ∷ 53 ∷ 223 ∷ []))))
 
@@ -36,7 +36,7 @@ malformedStatements =
     proposal 0 2 lowest ∷ proposal 0 0 (firstBlock 0 1) ∷ take 223 (dummyVote 0 1) ∷
     (withOne (proposal 0 2 middle) (4 ∷ 53 ∷ []) ++
     (withOne (blockVote 1 1 (zeros 32)) (4 ∷ 48 ∷ []) ++
-    (withOne (dummyVote 0 0) (3 ∷ 6 ∷ []) ++
+    (withOne (dummyVote 0 0) (6 ∷ []) ++
     withOne (finalize 99 99) (15 ∷ 16 ∷ 223 ∷ []))))
 
 -- 4 before 6, before 5, before 9 and before 10
@@ -97,7 +97,7 @@ frames = tt
 refused-frames : map (deliveries season)
     (malformed ∷ malformedStatements ∷ malformedToo ∷ statements ∷ outside ∷ strangers ∷ tooFew ∷ unlike ∷
     knownFrames ∷ []) ≡
-    replicate 21 (4 ∷ []) ∷ replicate 12 (4 ∷ []) ∷ replicate 6 (4 ∷ []) ∷ replicate 23 (16 ∷ []) ∷
+    replicate 20 (4 ∷ []) ∷ replicate 11 (4 ∷ []) ∷ replicate 6 (4 ∷ []) ∷ replicate 23 (16 ∷ []) ∷
     replicate 13 (6 ∷ []) ∷ replicate 9 (5 ∷ []) ∷ replicate 7 (9 ∷ []) ∷ replicate 3 (10 ∷ []) ∷
     replicate 6 (0 ∷ 0 ∷ []) ∷ []
 unfolding frames

@@ -65,9 +65,8 @@ there-and-back = refl
 -- ---- soundness
 -- bytes 8 to 63 with one byte larger by one: the weights of the book's replicas, but not 1,000; in edition 1 none
 places : map (λ book. freePlaces observes book (counting 8 56))
-    (bookOf 4 fourBytes ∷ bookOf 15 (oneBytes 15) ∷ bookOf 16 (oneBytes 16) ∷ bookOf 1 (oneBytes 1) ∷
-    firstEdition (bookOf 16 []) ∷ []) ≡
-    (8 ∷ 9 ∷ 10 ∷ 11 ∷ 14 ∷ 15 ∷ []) ∷ counting 8 30 ∷ counting 8 32 ∷ (8 ∷ 9 ∷ []) ∷ [] ∷ []
+    (bookOf 4 fourBytes ∷ bookOf 16 (oneBytes 16) ∷ bookOf 1 (oneBytes 1) ∷ firstEdition (bookOf 4 []) ∷ []) ≡
+    (8 ∷ 9 ∷ 10 ∷ 11 ∷ 14 ∷ 15 ∷ []) ∷ counting 8 32 ∷ (8 ∷ 9 ∷ []) ∷ [] ∷ []
 unfolding books
 places = refl
 

@@ -55,6 +55,8 @@ pub mod FourReplicasLaws
 pub mod ExamplesLaws
 pub mod BuildLaws
 pub mod EditionLaws
+pub mod BeforeLaws
+pub mod ObserverBeforeLaws
 pub mod CallLaws
 pub mod SoundRowNames
 pub mod ObserverFieldLaws

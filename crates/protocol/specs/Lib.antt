@@ -25,6 +25,8 @@ pub mod ObserverCalls
 pub mod ObserverCall
 pub mod Linked
 pub mod Examples
+pub mod Before
+pub mod ObserverBefore
 pub mod Computing
 pub mod Every
 pub mod SoundState

@@ -7,7 +7,8 @@ use lib.Dec.{eqb}
 use Rattle.protocol.specs.Bytes.{Bytes, byteAt, isZero}
 use Rattle.protocol.specs.Tests.{allOf, implies, inRange, everyHeight}
 use Rattle.protocol.specs.Block.{blockWellFormed}
-use Rattle.protocol.specs.State.{State, at, bookHeights, bookCurrent, headUnused, isNotarized, maximumReplicas, mostHeights}
+use Rattle.protocol.specs.State.{State, at, bookHeights, bookCurrent, headUnused, isNotarized, maximumReplicas}
+use Rattle.protocol.specs.State.{mostHeights}
 use Rattle.protocol.specs.View.{quorum, isFinalized}
 use Rattle.protocol.specs.Sound.{view, masksBelow, weightsFit}
 use Rattle.protocol.specs.Observer.{observerState, observerBookSize, observedContentSize}

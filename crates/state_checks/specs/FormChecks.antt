@@ -104,55 +104,48 @@ dummyCertified = 6 ∷ 0 ∷ 3 ∷ 0 ∷ 7 ∷ 1 ∷ zeros 218
 finalizeCertified : Bytes
 finalizeCertified = 7 ∷ 0 ∷ 3 ∷ 0 ∷ 7 ∷ 1 ∷ zeros 218
 
--- the places of a frame but for the byte after its height
+-- the places of a frame
 places : List ℕ
-places = 0 ∷ 1 ∷ 2 ∷ counting 4 220
+places = counting 0 224
 
 unfoldable frames : Unit {0}
 unfolding blocks places proposed voted dummyVoted finalized certified dummyCertified finalizeCertified
 frames = tt
 
 -- kind 1: the signer; of the block its fourth entry, parent digest and entries
-proposal-places : freePlaces frameWellFormed proposed (counting 0 224) ≡ 1 ∷ 52 ∷ counting 64 80
+proposal-places : freePlaces frameWellFormed proposed places ≡ 1 ∷ 52 ∷ counting 64 80
 unfolding frames
 proposal-places = refl
 
 -- kind 2: the signer, the height, the digest
-vote-places : freePlaces frameWellFormed voted places ≡ 1 ∷ 2 ∷ counting 16 32
+vote-places : freePlaces frameWellFormed voted places ≡ 1 ∷ 2 ∷ 3 ∷ counting 16 32
 unfolding frames
 vote-places = refl
 
 -- kind 3: the signer, the height, and the kind, since kind 4 uses the same
-dummy-vote-places : freePlaces frameWellFormed dummyVoted places ≡ 0 ∷ 1 ∷ 2 ∷ []
+dummy-vote-places : freePlaces frameWellFormed dummyVoted places ≡ 0 ∷ 1 ∷ 2 ∷ 3 ∷ []
 unfolding frames
 dummy-vote-places = refl
 
 -- kind 4: the signer and the height; kind 5 has no signer
-finalize-places : freePlaces frameWellFormed finalized places ≡ 1 ∷ 2 ∷ []
+finalize-places : freePlaces frameWellFormed finalized places ≡ 1 ∷ 2 ∷ 3 ∷ []
 unfolding frames
 finalize-places = refl
 
 -- kind 5: the mask, and of the block as in kind 1
-certificate-places : freePlaces frameWellFormed certified (counting 0 224) ≡ 4 ∷ 5 ∷ 52 ∷ counting 64 80
+certificate-places : freePlaces frameWellFormed certified places ≡ 4 ∷ 5 ∷ 52 ∷ counting 64 80
 unfolding frames
 certificate-places = refl
 
 -- kind 6: the height, the mask, and the kind, since kind 7 uses the same
-dummy-certificate-places : freePlaces frameWellFormed dummyCertified places ≡ 0 ∷ 2 ∷ 4 ∷ 5 ∷ []
+dummy-certificate-places : freePlaces frameWellFormed dummyCertified places ≡ 0 ∷ 2 ∷ 3 ∷ 4 ∷ 5 ∷ []
 unfolding frames
 dummy-certificate-places = refl
 
 -- kind 7: the height and the mask; there is no kind 8
-finalize-certificate-places : freePlaces frameWellFormed finalizeCertified places ≡ 2 ∷ 4 ∷ 5 ∷ []
+finalize-certificate-places : freePlaces frameWellFormed finalizeCertified places ≡ 2 ∷ 3 ∷ 4 ∷ 5 ∷ []
 unfolding frames
 finalize-certificate-places = refl
-
--- the byte after the height is free in no kind without a block; in those with one it is among the places above
-bytes-after-heights : freePlaces frameWellFormed voted (3 ∷ []) ++ (freePlaces frameWellFormed dummyVoted (3 ∷ []) ++
-    (freePlaces frameWellFormed finalized (3 ∷ []) ++ (freePlaces frameWellFormed dummyCertified (3 ∷ []) ++
-    freePlaces frameWellFormed finalizeCertified (3 ∷ [])))) ≡ []
-unfolding frames
-bytes-after-heights = refl
 
 -- of a frame that is zero but for its kind, kinds 2, 3, 4, 6 and 7 are well formed; 1 and 5 lack a block, 0 and 8 up
 -- are none
@@ -168,7 +161,7 @@ frame-bounds : allOf
     frameWellFormed certified ∷
     frameWellFormed finalizeCertified ∷
     -- any signer, height and mask are left to refusals 5 and 6
-    frameWellFormed (4 ∷ 255 ∷ 255 ∷ zeros 221) ∷
+    frameWellFormed (4 ∷ 255 ∷ 255 ∷ 255 ∷ zeros 220) ∷
     frameWellFormed (6 ∷ 0 ∷ 0 ∷ 0 ∷ 255 ∷ 255 ∷ zeros 218) ∷
     -- the lengths beside 224
     not (frameWellFormed (take 223 voted)) ∷
@@ -194,7 +187,7 @@ frames-made : proposal 1 3 block ∷ blockVote 1 3 (countUp 1 32) ∷ dummyVote 
 unfolding frames
 frames-made = refl
 
--- heights have two bytes, the low one first; that the high one must be zero is in bytes-after-heights
+-- heights have two bytes, the low one first; HeightChecks has their bounds
 height-bytes : (blockHeight (1 ∷ 2 ∷ 3 ∷ 4 ∷ []) ∷ parentHeight (1 ∷ 2 ∷ 3 ∷ 4 ∷ []) ∷
     frameHeight (1 ∷ 2 ∷ 3 ∷ 4 ∷ []) ∷ []) ∷ take 4 (newBlock 513 1027 (zeros 32) []) ∷ take 4 (dummyVote 1 1027) ∷ [] ≡
     (513 ∷ 1027 ∷ 1027 ∷ []) ∷ (1 ∷ 2 ∷ 3 ∷ 4 ∷ []) ∷ (3 ∷ 1 ∷ 3 ∷ 4 ∷ []) ∷ []

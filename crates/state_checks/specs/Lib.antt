@@ -5,3 +5,4 @@ pub mod SoundChecks
 pub mod ViewChecks
 pub mod WeightChecks
 pub mod WeightQuorumChecks
+pub mod HeightChecks

@@ -111,8 +111,8 @@ replicas : soundWith wide 0 (15 ∷ 16 ∷ 17 ∷ 255 ∷ []) ∷ soundWith wide
 unfolding books isSound soundWith
 replicas = refl
 
--- 1 to 63 heights, each book of the right length
-heights : passing (λ h. isSound (empty h)) (0 ∷ 1 ∷ 2 ∷ 63 ∷ 64 ∷ []) ≡ 1 ∷ 2 ∷ 63 ∷ []
+-- 1 to 63 heights, each book of the right length; HeightChecks has one of 64
+heights : passing (λ h. isSound (empty h)) (0 ∷ 1 ∷ 2 ∷ 63 ∷ []) ≡ 1 ∷ 2 ∷ 63 ∷ []
 unfolding books isSound
 heights = refl
 

@@ -1,5 +1,5 @@
 -- The weights in a book's head (document 02, 2.6): their bytes, what they are read as in each edition, and which of
--- them are sound, of four, of fifteen and of sixteen replicas, and of one; and which masks are, by weight.
+-- them are sound, of four and of sixteen replicas, and of one; and which masks are, by weight.
 use Prim.Native.Nat.{ℕ, _+_, _*_}
 use mathlib.Core.Path.{_≡_, refl}
 use mathlib.Core.Bool.{Bool}
@@ -121,12 +121,11 @@ unfolding weights headWith
 unused = refl
 
 -- ---- soundness
--- Bytes 8 to 63 with one byte larger by one: of four replicas the weights of the four, but not 1,000; of fifteen and of
--- sixteen theirs; bytes of absent ones, and from 40 on, never. In edition 1 none.
+-- Bytes 8 to 63 with one byte larger by one: of four replicas the weights of the four, but not 1,000; of sixteen
+-- theirs; bytes of absent ones, and from 40 on, never. In edition 1 none.
 places : map (λ book. freePlaces isSound book (counting 8 56))
-    (bookOf 4 (oneBytes 4) ∷ bookOf 4 fourBytes ∷ bookOf 15 (oneBytes 15) ∷ bookOf 16 (oneBytes 16) ∷
-    bookOf 1 (oneBytes 1) ∷ firstEdition (bookOf 4 []) ∷ firstEdition (bookOf 16 []) ∷ []) ≡
-    counting 8 8 ∷ (8 ∷ 9 ∷ 10 ∷ 11 ∷ 14 ∷ 15 ∷ []) ∷ counting 8 30 ∷ counting 8 32 ∷ (8 ∷ 9 ∷ []) ∷ [] ∷ [] ∷ []
+    (bookOf 4 fourBytes ∷ bookOf 16 (oneBytes 16) ∷ bookOf 1 (oneBytes 1) ∷ firstEdition (bookOf 4 []) ∷ []) ≡
+    (8 ∷ 9 ∷ 10 ∷ 11 ∷ 14 ∷ 15 ∷ []) ∷ counting 8 32 ∷ (8 ∷ 9 ∷ []) ∷ [] ∷ []
 unfolding weights bookOf isSound
 places = refl
 

@@ -36,13 +36,13 @@ use Rattle.agreement.specs.ObserverWitness.{meantObservers, observerHear
 use Rattle.agreement.specs.Turns.{Turn, anything, build, entry, everyTurn, nextBlock, nextLog, otherEntry}
 
 -- ---- the replicas' calls
-replicaTurns : List AnyTurn → List Turn
+unfoldable pub replicaTurns : List AnyTurn → List Turn
 replicaTurns [] = []
 replicaTurns (byReplica turn ∷ turns) = turn ∷ replicaTurns turns
 replicaTurns (byObserver s call ∷ turns) = replicaTurns turns
 
 module _ (digest : Bytes → Bytes) where
-  replicas-built : (books observed : List Bytes) (turns : List AnyTurn) →
+  pub replicas-built : (books observed : List Bytes) (turns : List AnyTurn) →
       replicaCalls (buildAny digest books observed turns) ≡ build digest books (replicaTurns turns)
   unfolding replicaCalls buildAny replicaTurns build
   replicas-built books observed [] = refl

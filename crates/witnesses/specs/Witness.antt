@@ -4,7 +4,7 @@
 -- dummy block; height 2 is notarized by votes that come in one packet and are tallied, and its block carries an entry
 -- twice; height 3 has the block of an honest leader on that of height 2, and two honest replicas read the log at height
 -- 3, one of them also at height 2. The digest must compute here, and SHA-256 does not in the prover; a list for SHA-256
--- is in AnyDigest.antt.
+-- is `AnyDigest` of `agreement`.
 use Prim.Native.Nat.{ℕ}
 use mathlib.Core.Logic.{_≢_}
 use mathlib.Core.List.{List, [], _∷_, _++_, map, List·Memᴰ}

@@ -14,20 +14,20 @@ use Rattle.protocol.specs.Frame.{blockVote, dummyCertificate, frameBlock, frame
 use Rattle.protocol.specs.Laws.RowLaws.{by-rows}
 use Rattle.protocol.specs.Mask.{inMask, total, weigh}
 use Rattle.protocol.specs.Tests.{allOf}
 use Rattle.agreement.specs.ListTests.{everyHonest, hearsAt, hearsWhereAt, isHonest, noCollision, notForged}
 use Rattle.agreement.specs.ListTests.{opensOnce, readsAt, readsWhereAt, showsOnly, someIn, writesAt}
 use Rattle.agreement.specs.Laws.ListTestsLaws.{collision-sound, hears-found, honest-in, reads-found}
 use Rattle.agreement.specs.Laws.ListTestsLaws.{reads-where-found, where-found, writes-found}
 use Rattle.agreement.specs.Laws.NotForgedLaws.{forged-sound}
 use Rattle.agreement.specs.Lists.{Begins, FewDishonest, HonestIn, Member, Reads, proposes, statementOf}
 use Rattle.agreement.specs.Lists.{votesBlock, when}
 use Rattle.agreement.specs.Met.{MemberOf, Met, ReadsWhere, firesTimer, hasEdition, isPacket}
 use Rattle.agreement.specs.Laws.MetLaws.{OneBegins, applied}
 use Rattle.agreement.specs.Turns.{anything, entry, everyTurn, nextBlock, nextLog, otherEntry}
 use Rattle.agreement.specs.Laws.TurnsLaws.{keeps}
-use Rattle.agreement.specs.Witness.{Witness, agreed, dishonest, extended, lastBlock, lastEntry, lastLog, list}
-use Rattle.agreement.specs.Witness.{oneBlock, openings, otherBlock, readings, sample, split, timeouts, votes}
-use Rattle.agreement.specs.Witness.{weights}
+use Rattle.witnesses.specs.Witness.{Witness, agreed, dishonest, extended, lastBlock, lastEntry, lastLog, list}
+use Rattle.witnesses.specs.Witness.{oneBlock, openings, otherBlock, readings, sample, split, timeouts, votes}
+use Rattle.witnesses.specs.Witness.{weights}
 
 -- ---- weights, and who is honest
 few : FewDishonest weights dishonest

@@ -1,0 +1,1 @@
+// Theorems on lists of calls: no code, all in specs/.
