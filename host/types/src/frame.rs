@@ -94,11 +94,12 @@ mod tests {
 
     #[test]
     fn every_kind_comes_back() {
-        let block = Block { height: 3, parent: 1, digest: [7; 32], entries: [[9; 16]; 8].into() };
+        let entries = [[9; 16]; 8].into();
+        let block = Block { height: 1000, parent: 256, digest: [7; 32], entries };
         let frames = [
             Frame::Proposal { signer: 1, block: block.clone() },
             Frame::BlockVote { signer: 2, height: 3, digest: [4; 32] },
-            Frame::DummyVote { signer: 3, height: 4 },
+            Frame::DummyVote { signer: 3, height: 257 },
             Frame::Finalize { signer: 4, height: 5 },
             Frame::BlockCertificate { mask: 0x8001, block },
             Frame::DummyCertificate { mask: 7, height: crate::MOST_HEIGHTS },
@@ -109,6 +110,16 @@ mod tests {
             assert_eq!(bytes[0], kind);
             assert_eq!(Frame::parts(&bytes), Some(frame));
         }
+    }
+
+    #[test]
+    fn heights_have_two_bytes() {
+        let block = Block { height: 1000, parent: 0x0201, ..Block::default() };
+        let bytes = Frame::Proposal { signer: 1, block }.bytes();
+        assert_eq!(
+            (&bytes[..5], &bytes[48..53]),
+            (&[1, 1, 0xe8, 3, 0][..], &[0xe8, 3, 1, 2, 0][..])
+        );
     }
 
     #[test]

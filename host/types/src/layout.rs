@@ -6,28 +6,32 @@ use std::ops::Range;
 /// The length of an entry in bytes.
 pub const ENTRY: usize = 16;
 
-/// Bytes of the head, by name.
+/// The head, by name.
 pub mod field {
+    use crate::HeadHeight;
+
     /// The number of replicas.
     pub const N: usize = 0;
     /// The replica's own number.
     pub const OWN: usize = 1;
     /// The number of heights.
-    pub const HEIGHTS: usize = 2;
+    pub const HEIGHTS: HeadHeight = HeadHeight { short: 2, long: 40 };
     /// The flags of the current height.
     pub const FLAGS: usize = 3;
     /// The current height.
-    pub const CURRENT: usize = 4;
+    pub const CURRENT: HeadHeight = HeadHeight { short: 4, long: 42 };
     /// The finalized height (document 01: settled height).
-    pub const FINALIZED: usize = 5;
+    pub const FINALIZED: HeadHeight = HeadHeight { short: 5, long: 44 };
     /// The number of pending entries.
     pub const PENDING: usize = 6;
-    /// The edition, 1 or 2.
+    /// The edition, 1 to 3.
     pub const EDITION: usize = 7;
-    /// The weights of edition 2, two bytes for each of sixteen replicas.
+    /// The weights from edition 2 on, two bytes for each of sixteen replicas; zero in edition 1.
     pub const WEIGHTS: usize = 8;
-    /// The first byte of the head that both editions call zero, up to its end.
-    pub const UNUSED: usize = 40;
+    /// The first byte after the weights: the heights of edition 3 start here, and the other editions call it zero.
+    pub const LONG: usize = 40;
+    /// The first byte of the head that every edition calls zero, up to its end.
+    pub const UNUSED: usize = 46;
 }
 
 /// What the contents and the body of a height consist of.
@@ -100,6 +104,7 @@ mod tests {
         assert_eq!(layout.area(3, Area::Row).end, layout.area(1, Area::Held).start);
         assert_eq!(layout.area(1, Area::Votes).end, layout.area(2, Area::Held).start);
         assert_eq!(layout.area(3, Area::Votes).end, book_length(3));
-        assert_eq!(book_length(crate::MOST_HEIGHTS), 56_016);
+        assert_eq!(book_length(crate::MOST_SHORT_HEIGHTS), 56_016);
+        assert_eq!(book_length(crate::MOST_HEIGHTS), 880_576);
     }
 }

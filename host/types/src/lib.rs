@@ -12,6 +12,7 @@ mod block;
 mod book;
 mod bounds;
 mod calls;
+mod editions;
 mod entries;
 mod evidence;
 mod frame;
@@ -29,15 +30,17 @@ pub use block::{Block, BLOCK, BLOCK_HEIGHT, BLOCK_PARENT};
 pub use book::{Book, Written};
 pub use bounds::*;
 pub use calls::Calls;
+pub use editions::{put_edition, put_first_edition};
 pub use entries::{Entries, TooManyEntries};
 pub use evidence::{Answered, Evidence};
 pub use frame::{Frame, FRAME, FRAME_HEIGHT};
 pub use height::{
-    head_height, height_at, height_bytes, nearest_height, put_head_height, put_height, Height,
+    head_height, height_at, height_bytes, most_heights, nearest_height, put_head_height,
+    put_height, HeadHeight, Height,
 };
 pub use layout::{book_length, field, mask_at, Area, Layout, ENTRY};
 pub use observer_book::ObserverBook;
 pub use observer_layout::{is_observers, observer_book_length, ObserverArea, ObserverLayout};
 pub use refusal::Refusal;
 pub use second_block::{held_block, is_second_block};
-pub use weights::{put_first_edition, put_weights, weight_bytes, Weights};
+pub use weights::{put_weights, weight_bytes, Weights};

@@ -24,9 +24,14 @@ pub fn observer_book_length(heights: Height) -> usize {
 }
 
 /// Whether bytes have the length of an observer's book with the number of heights that their head says. No replica's
-/// book has the length of an observer's with the same number of heights.
+/// book has the length of an observer's with the same number of heights; the length alone does not tell the two apart.
 pub fn is_observers(book: &[u8]) -> bool {
-    book.len() == observer_book_length(head_height(book, field::HEIGHTS))
+    has_observers_length(book, book.len())
+}
+
+/// Whether an observer's book with the number of heights that this head says has this length.
+fn has_observers_length(head: &[u8], length: usize) -> bool {
+    length == observer_book_length(head_height(head, field::HEIGHTS))
 }
 
 /// The offsets in an observer's book with this many heights.
@@ -59,7 +64,7 @@ impl ObserverLayout {
 #[cfg(test)]
 mod tests {
     use super::*;
-    use crate::{book_length, MOST_HEIGHTS};
+    use crate::{book_length, EDITION, MOST_HEIGHTS, MOST_SHORT_HEIGHTS};
 
     #[test]
     fn areas_meet_without_gaps() {
@@ -71,20 +76,31 @@ mod tests {
         assert_eq!((first.len(), first.end), (176, layout.area(2, ObserverArea::Notarized).start));
         assert_eq!(layout.area(3, ObserverArea::Notarized).end, observer_book_length(3));
         assert_eq!(layout.area(0, ObserverArea::Row), 0..0);
-        assert_eq!([1, MOST_HEIGHTS].map(observer_book_length), [248, 11_656]);
+        let lengths = [1, MOST_SHORT_HEIGHTS, MOST_HEIGHTS].map(observer_book_length);
+        assert_eq!(lengths, [248, 11_656, 184_064]);
     }
 
     #[test]
     fn no_book_is_a_replicas_and_an_observers() {
-        for heights in 0..=Height::MAX {
-            let mut book = vec![0; observer_book_length(heights)];
-            crate::put_head_height(&mut book, field::HEIGHTS, heights);
-            assert!(is_observers(&book));
-            book.resize(book_length(heights), 0);
-            assert!(!is_observers(&book), "{heights}");
+        for (edition, heights) in [(1, 0..=255), (2, 0..=255), (EDITION, 0..=Height::MAX)] {
+            for heights in heights {
+                let mut head = [0; HEAD];
+                head[field::EDITION] = edition;
+                crate::put_head_height(&mut head, field::HEIGHTS, heights);
+                let is = |length: fn(Height) -> usize| has_observers_length(&head, length(heights));
+                assert_eq!([is(observer_book_length), is(book_length)], [true, false], "{heights}");
+            }
         }
-        let lengths = |length: fn(Height) -> usize| (1..=MOST_HEIGHTS).map(length);
-        let shared = |length: &usize| lengths(book_length).any(|other| other == *length);
-        assert_eq!(lengths(observer_book_length).find(shared), None);
+    }
+
+    #[test]
+    fn the_length_alone_does_not_tell() {
+        assert_eq!((book_length(22), observer_book_length(108)), (19_936, 19_936));
+        for (heights, observers) in [(22, false), (108, true)] {
+            let mut book = [0; 19_936];
+            book[field::EDITION] = EDITION;
+            crate::put_head_height(&mut book, field::HEIGHTS, heights);
+            assert_eq!(is_observers(&book), observers);
+        }
     }
 }

@@ -5,7 +5,7 @@
 use crate::{height_at, height_bytes, Certificate, Delivered, Move, LAST_REFUSAL};
 
 /// The number of the C interface, as MAVUNILAI_INTERFACE of the header; what a library is of, it says itself.
-pub const INTERFACE: u64 = 6;
+pub const INTERFACE: u64 = 7;
 
 /// Stands for a number that no replica answers with; it is no refusal of the table.
 pub const UNKNOWN: u8 = 255;
@@ -128,8 +128,8 @@ mod tests {
         let others = [
             Move::Idle,
             Move::Dummy { height: crate::MOST_HEIGHTS },
-            Move::Final { height: 1 },
-            Move::Offer { height: 2 },
+            Move::Final { height: 256 },
+            Move::Offer { height: 257 },
             Move::Vote { height: 3 },
         ];
         for made in passes.chain(others) {
@@ -141,6 +141,7 @@ mod tests {
     fn the_bytes_are_where_the_header_has_them() {
         let pass = Move::Pass { height: 2, certificate: Certificate::Dummy, finalized: true };
         assert_eq!(pack_move(Ok(pass)), 0x04_06_00_02_03_00);
+        assert_eq!(pack_move(Ok(Move::Final { height: 1000 })), 0x03_e8_02_00);
         assert_eq!(pack_delivered(Ok(Delivered::Fresh)), 0x100);
         assert_eq!(pack_size(Ok(16)), 0x1000);
     }

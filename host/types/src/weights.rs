@@ -1,6 +1,6 @@
 //! The weights of a book's replicas: their bytes in the head, read by edition, and what a mask of replicas weighs.
 
-use crate::{field, EDITION, FIRST_EDITION, MOST_REPLICAS};
+use crate::{field, FIRST_EDITION, MOST_REPLICAS, SECOND_EDITION};
 
 /// How many replicas the head has room for.
 const PLACES: usize = MOST_REPLICAS as usize;
@@ -71,23 +71,19 @@ pub fn weight_bytes(weights: &[u16]) -> Vec<u8> {
     weights.iter().flat_map(|weight| weight.to_le_bytes()).collect()
 }
 
-/// Makes a book, a replica's or an observer's, one of the first edition: its weights go, so that all are read as 1. No
-/// call makes such a book. A book that was sound and whose replicas all weigh 1 stays sound and says the same.
-pub fn put_first_edition(book: &mut [u8]) {
-    book.iter_mut().skip(field::EDITION).take(1).for_each(|edition| *edition = FIRST_EDITION);
-    book.iter_mut().skip(field::WEIGHTS).take(AREA).for_each(|byte| *byte = 0);
-}
-
-/// Makes a book of any edition one of edition 2 with these weights; those past 16 are left out.
+/// Gives a book these weights; those past 16 are left out. A book of the first edition, which has none, becomes one of
+/// the second.
 pub fn put_weights(book: &mut [u8], weights: &[u16]) {
+    let edition = book.iter_mut().skip(field::EDITION).take(1);
+    edition.for_each(|edition| *edition = (*edition).max(SECOND_EDITION));
     let bytes = weight_bytes(weights).into_iter().chain([0; AREA]).take(AREA);
-    book.iter_mut().skip(field::EDITION).take(1).for_each(|edition| *edition = EDITION);
     book.iter_mut().skip(field::WEIGHTS).zip(bytes).for_each(|(to, from)| *to = from);
 }
 
 #[cfg(test)]
 mod tests {
     use super::*;
+    use crate::put_first_edition;
 
     /// A head of so many replicas with these weights.
     fn head(n: u8, weights: &[u16]) -> [u8; 64] {
@@ -110,7 +106,6 @@ mod tests {
     fn a_first_edition_is_read_as_ones() {
         let mut book = head(4, &[9, 1, 1, 1]);
         put_first_edition(&mut book);
-        assert_eq!((book[7], &book[8..]), (1, &[0; 56][..]));
         assert_eq!(Weights::of(&book), Weights::equal(4));
         assert_eq!(Weights::of(&head(4, &[1; 4])), Weights::equal(4));
         assert_eq!(Weights::equal(4).each(), [1; 4]);
@@ -130,7 +125,6 @@ mod tests {
         assert_eq!(Weights::of(&[]).total(), 0);
         assert_eq!(Weights::of(&[255; 11]).each(), [[0xffff].as_slice(), &[0; 15]].concat());
         assert_eq!(Weights::equal(255).total(), 16);
-        put_first_edition(&mut [0; 7]);
         put_weights(&mut [0; 9], &[7; 40]);
         assert_eq!(weight_bytes(&[1, 1000]), [1, 0, 0xe8, 3]);
     }

@@ -45,7 +45,7 @@ fn other_frames_and_other_bytes_are_none() {
     for frame in [&[][..], &longer[..FRAME - 1], &longer] {
         assert!(!is_second_block(&book(), frame));
     }
-    for height in [0, 3, Height::MAX] {
+    for height in [0, 3, 258, Height::MAX] {
         assert!(!is_second_block(&book(), &proposal(height, 2)));
         assert_eq!(held_block(&book(), height), None);
     }
