@@ -37,7 +37,6 @@ pub(crate) fn is_well_formed(block: &Block, height: Height) -> bool {
     let parent = parent_height(block);
     let past_count = places(block).skip(usize::from(count(block)));
     block[0..2] == height::to_bytes(height)
-        && block[2..4] == height::to_bytes(parent)
         && parent < height
         && count(block) <= MOST
         && is_zero(&block[5..16])

@@ -1,6 +1,6 @@
 //! Chains: which heights are dummies, which blocks extend one another, what is finalized.
 
-use crate::block::{self, Block};
+use crate::block::Block;
 use crate::height::Height;
 use crate::view::View;
 use crate::{quorum, Digest, Rules};
@@ -8,8 +8,8 @@ use crate::{quorum, Digest, Rules};
 /// A state, a replica's or an observer's, seen as chains of blocks, with the digest that ties a block to its parent.
 #[derive(Clone, Copy)]
 pub(crate) struct Chain<'a> {
-    view: &'a dyn View,
-    digest: Digest,
+    pub(crate) view: &'a dyn View,
+    pub(crate) digest: Digest,
 }
 
 impl Rules {
@@ -31,26 +31,9 @@ impl<'a> Chain<'a> {
         self.view.shown(height)?.notarized
     }
 
-    /// The digest that a child of this height names: zero for height 0.
-    pub fn digest_at(&self, height: Height) -> Option<[u8; 32]> {
-        match height {
-            0 => Some([0; 32]),
-            _ => Some((self.digest)(self.notarized(height)?)),
-        }
-    }
-
     /// Whether a chain of notarized blocks and dummies goes from this height down to 0.
     pub fn is_linked(&self, height: Height) -> bool {
-        height == 0 || self.notarized(height).is_some_and(|block| self.extends(block, height))
-    }
-
-    /// Whether a block of this height sits on a chain of the state (document 01: stands).
-    pub fn extends(&self, block: &Block, height: Height) -> bool {
-        let parent = block::parent_height(block);
-        parent < height
-            && self.is_linked(parent)
-            && self.digest_at(parent).is_some_and(|digest| digest == block::parent_digest(block))
-            && (parent.saturating_add(1)..height).all(|between| self.is_dummy(between))
+        self.link(height).is_some_and(|link| link.linked)
     }
 
     /// Whether a height is linked and a quorum finalized it (document 01: settled).
@@ -69,10 +52,8 @@ impl<'a> Chain<'a> {
     /// The parent for a block of this height: the largest linked height below it from which dummies
     /// reach up to it. None if no chain ends just below this height.
     pub fn parent_for(&self, height: Height) -> Option<Height> {
-        let reached = |&parent: &Height| {
-            (parent.saturating_add(1)..height).all(|between| self.is_dummy(between))
-        };
-        let mut candidates = (0..height).rev().take_while(reached);
-        candidates.find(|&parent| self.is_linked(parent))
+        let below = height.checked_sub(1)?;
+        let lowest = self.link(below)?.dummies_from.saturating_sub(1);
+        (lowest..=below).rev().find(|&parent| self.is_linked(parent))
     }
 }

@@ -2,11 +2,11 @@
 
 use crate::block::BLOCK;
 use crate::entry::ENTRY;
+use crate::head::{Head, HEAD};
+use crate::links::Links;
 use crate::state::{book_length, Slot, State, PLACES, REPLICAS};
-use crate::weights;
 
-/// The lengths of the book's parts.
-const HEAD: usize = 64;
+/// The lengths of the book's parts after the head.
 const PENDING: usize = PLACES * ENTRY;
 const ROW: usize = 16;
 const BODY: usize = 2 * BLOCK + VOTES;
@@ -17,38 +17,23 @@ impl State {
     /// writing the state again gives the same bytes.
     pub fn decode(book: &[u8]) -> Option<State> {
         let (head, rest) = book.split_first_chunk::<HEAD>()?;
-        let [n, own, heights, flags, current, finalized, pending_count, edition, ..] = *head;
-        if book.len() != book_length(heights) {
+        let head = Head::decode(head);
+        if book.len() != book_length(head.heights) {
             return None;
         }
         let (pending, rest) = rest.split_first_chunk::<PENDING>()?;
-        let (rows, bodies) = rest.split_at_checked(ROW.checked_mul(usize::from(heights))?)?;
+        let (rows, bodies) = rest.split_at_checked(ROW.checked_mul(head.heights.into())?)?;
         let pending = *pending.as_chunks::<ENTRY>().0.as_array()?;
         let both = rows.as_chunks::<ROW>().0.iter().zip(bodies.as_chunks::<BODY>().0);
         let slots = both.map(|(row, body)| Slot::decode(row, body)).collect::<Option<_>>()?;
-        let weights = weights::decode(head, n, edition)?;
-        let state = State {
-            n,
-            own,
-            flags,
-            current,
-            finalized,
-            pending_count,
-            edition,
-            weights,
-            pending,
-            slots,
-        };
+        let state = State { head, pending, slots, links: Links::default() };
         (state.encode() == book).then_some(state)
     }
 
     /// The bytes of the state.
     pub fn encode(&self) -> Vec<u8> {
-        let mut book = Vec::with_capacity(book_length(self.heights()));
-        let head = [self.n, self.own, self.heights(), self.flags, self.current, self.finalized];
-        book.extend(head);
-        book.extend([self.pending_count, self.edition]);
-        book.extend(weights::encode(&self.weights, self.edition));
+        let mut book = Vec::with_capacity(book_length(self.head.heights));
+        book.extend(self.head.encode());
         book.extend(self.pending.as_flattened());
         self.slots.iter().for_each(|slot| book.extend(slot.encode_row()));
         self.slots.iter().for_each(|slot| slot.encode_body(&mut book));

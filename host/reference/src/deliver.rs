@@ -14,11 +14,16 @@ impl Rules {
     /// Refuses with 1, 4, 6, 5, 7, 9, 8, 10 in this order.
     pub fn deliver(&self, book: &mut [u8], frame: &[u8]) -> Result<Delivered, u8> {
         let mut state = self.sound(book)?;
-        let frame = Frame::read(frame).ok_or(refusal::MALFORMED)?;
-        admit(&state, &frame)?;
-        let answer = state.take(&frame, self.digest)?;
+        let answer = self.deliver_to(&mut state, frame)?;
         state.store(book);
         Ok(answer)
+    }
+
+    /// Takes a frame into the state of a sound book; a refused one changes nothing.
+    pub(crate) fn deliver_to(&self, state: &mut State, frame: &[u8]) -> Result<Delivered, u8> {
+        let frame = Frame::read(frame).ok_or(refusal::MALFORMED)?;
+        admit(state, &frame)?;
+        state.take(&frame, self.digest)
     }
 }
 
@@ -30,15 +35,15 @@ fn admit(state: &State, frame: &Frame) -> Result<(), u8> {
         | Statement::BlockVote { signer, .. }
         | Statement::DummyVote { signer }
         | Statement::Finalize { signer } => {
-            require(signer < state.n, refusal::NO_SUCH_REPLICA)?;
+            require(signer < state.head.n, refusal::NO_SUCH_REPLICA)?;
             let proposes = matches!(frame.statement, Statement::Proposal { .. });
             require(!proposes || signer == slot.leader, refusal::NOT_LEADER)
         }
         Statement::BlockCertificate { mask, .. }
         | Statement::DummyCertificate { mask }
         | Statement::FinalizeCertificate { mask } => {
-            require(quorum::is_within(mask, state.n), refusal::NO_SUCH_REPLICA)?;
-            require(quorum::is_quorum(mask, &state.weights), refusal::NO_QUORUM)
+            require(quorum::is_within(mask, state.head.n), refusal::NO_SUCH_REPLICA)?;
+            require(quorum::is_quorum(mask, &state.head.weights), refusal::NO_QUORUM)
         }
     }
 }
@@ -51,7 +56,7 @@ pub(crate) fn require(condition: bool, refusal: u8) -> Result<(), u8> {
 impl State {
     /// Takes an admitted frame; refuses with 8 or 10 before anything is changed.
     fn take(&mut self, frame: &Frame, digest: Digest) -> Result<Delivered, u8> {
-        let weights = self.weights;
+        let weights = self.head.weights;
         let slot = self.slot_mut(frame.height).ok_or(refusal::NO_SUCH_HEIGHT)?;
         match frame.statement {
             Statement::Proposal { block, .. } => self.take_proposal(frame.height, block, digest),
@@ -74,7 +79,7 @@ impl State {
         block: &Block,
         digest: Digest,
     ) -> Result<Delivered, u8> {
-        let weights = self.weights;
+        let weights = self.head.weights;
         let slot = self.slot_mut(height).ok_or(refusal::NO_SUCH_HEIGHT)?;
         match slot.held().map(|held| held == block) {
             None => Ok(slot.hold(block, &weights, digest)),
@@ -87,11 +92,11 @@ impl State {
     /// paper allows: flag 1 is added, nothing else changes, and it is known where the timer had fired before. At every
     /// other height, and at all of them once the last is passed, the second proposal is refused and forgotten.
     fn leader_equivocates(&mut self, height: Height) -> Result<Delivered, u8> {
-        require(height == self.current, refusal::CONFLICT)?;
+        require(height == self.head.current, refusal::CONFLICT)?;
         if self.has(TIMER_FIRED) {
             return Ok(Delivered::Known);
         }
-        self.flags |= TIMER_FIRED;
+        self.head.flags |= TIMER_FIRED;
         Ok(Delivered::Fresh)
     }
 }

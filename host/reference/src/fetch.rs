@@ -39,6 +39,6 @@ impl State {
             7 => (slot.finalizes, Statement::FinalizeCertificate { mask: slot.finalizes }),
             _ => return None,
         };
-        quorum::is_quorum(mask, &self.weights).then_some(Frame { height, statement })
+        quorum::is_quorum(mask, &self.head.weights).then_some(Frame { height, statement })
     }
 }

@@ -74,15 +74,15 @@ pub fn inspect(book: &[u8]) -> Result<Inspection, u8> {
         finalized: chain.is_finalized(height),
     };
     Ok(Inspection {
-        n: state.n,
+        n: state.head.n,
         weights: Weights::of(book),
-        own: state.own,
-        flags: state.flags,
-        current: state.current,
-        finalized: state.finalized,
-        pending: state.pending_count,
-        parent: chain.parent_for(state.current),
-        carried: chain.entries(state.finalized).into_iter().copied().collect(),
+        own: state.head.own,
+        flags: state.head.flags,
+        current: state.head.current,
+        finalized: state.head.finalized,
+        pending: state.head.pending_count,
+        parent: chain.parent_for(state.head.current),
+        carried: chain.entries(state.head.finalized).into_iter().copied().collect(),
         heights: (1..).zip(&state.slots).map(tell).collect(),
     })
 }

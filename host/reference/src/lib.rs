@@ -1,4 +1,4 @@
-//! The reference replica: the rules of document 01, and of requests 2.1 to 2.6 of document 02, in plain Rust, apart
+//! The reference replica: the rules of document 01, and of requests 2.1 to 2.7 of document 02, in plain Rust, apart
 //! from the proved replica.
 //!
 //! Every call takes the bytes that it may read or write and answers with a value or with the number
@@ -16,13 +16,16 @@ mod calls;
 mod chain;
 mod codec;
 mod deliver;
+mod edition;
 mod entry;
 mod fetch;
 mod frame;
 mod frame_reader;
 mod frame_writer;
+mod head;
 mod height;
 pub mod inspect;
+mod links;
 mod log;
 mod make_move;
 mod observer;

@@ -1,6 +1,6 @@
 //! The log (document 01: register): the entries of a chain, each once, their size, and reading them.
 
-use crate::block;
+use crate::block::{self, Block};
 use crate::chain::Chain;
 use crate::entry::{Entry, ENTRY};
 use crate::height::Height;
@@ -11,13 +11,21 @@ impl<'a> Chain<'a> {
     /// All entries of the chain that ends in the block of a linked height, oldest block first, as often as its blocks
     /// carry them: the log before it is shortened.
     pub fn entries(&self, height: Height) -> Vec<&'a Entry> {
-        let Some(last) = self.notarized(height) else {
-            return Vec::new();
-        };
-        let parent = block::parent_height(last);
-        let mut entries = if parent < height { self.entries(parent) } else { Vec::new() };
-        entries.extend(block::entries(last));
-        entries
+        let mut blocks: Vec<&Block> = self.blocks(height).collect();
+        blocks.reverse();
+        blocks.into_iter().flat_map(block::entries).collect()
+    }
+
+    /// The blocks of that chain, the newest first. Heights fall from each to the next, so that they end.
+    fn blocks(&self, height: Height) -> impl Iterator<Item = &'a Block> {
+        let mut next = Some(height);
+        let chain = *self;
+        std::iter::from_fn(move || {
+            let height = next?;
+            let block = chain.notarized(height)?;
+            next = Some(block::parent_height(block)).filter(|parent| *parent < height);
+            Some(block)
+        })
     }
 
     /// The log of that chain: what is filed again counts once, at its first place.
@@ -35,7 +43,7 @@ impl Rules {
     /// Refuses with 1.
     pub fn size(&self, book: &[u8]) -> Result<usize, u8> {
         let state = self.sound(book)?;
-        Ok(self.chain(&state).log(state.finalized).len().saturating_mul(ENTRY))
+        Ok(self.chain(&state).log(state.head.finalized).len().saturating_mul(ENTRY))
     }
 
     /// Writes the log to the front of the buffer, each entry at its first place, and returns that part. The part is
@@ -44,7 +52,7 @@ impl Rules {
         let Ok(state) = self.sound(book) else {
             return &mut [];
         };
-        write(&self.chain(&state).log(state.finalized), buffer)
+        write(&self.chain(&state).log(state.head.finalized), buffer)
     }
 }
 

@@ -31,18 +31,18 @@ impl Rules {
         if !state.has(TIMER_FIRED) || state.has(DUMMY_VOTED) {
             return None;
         }
-        Frame { height, statement: Statement::DummyVote { signer: state.own } }.write(first);
-        state.flags |= DUMMY_VOTED;
+        Frame { height, statement: Statement::DummyVote { signer: state.head.own } }.write(first);
+        state.head.flags |= DUMMY_VOTED;
         Some(Move::Dummy { height })
     }
 
     /// Move 2: the finalized height follows the book, wherever the current height is.
     fn finalize(&self, state: &mut State) -> Option<Move> {
         let height = self.chain(state).largest_finalized();
-        if height <= state.finalized {
+        if height <= state.head.finalized {
             return None;
         }
-        state.finalized = height;
+        state.head.finalized = height;
         Some(Move::Final { height })
     }
 
@@ -59,12 +59,13 @@ impl Rules {
         state.certificate(certificate.kind(), height)?.write(first);
         let finalized = !state.has(TIMER_FIRED);
         if finalized {
-            Frame { height, statement: Statement::Finalize { signer: state.own } }.write(second);
+            Frame { height, statement: Statement::Finalize { signer: state.head.own } }
+                .write(second);
         } else {
             second.fill(0);
         }
-        state.current = height.saturating_add(1);
-        state.flags = 0;
+        state.head.current = height.saturating_add(1);
+        state.head.flags = 0;
         Some(Move::Pass { height, certificate, finalized })
     }
 
@@ -80,7 +81,7 @@ impl Rules {
     /// Move 4: the leader's proposal, on the chain with the highest parent.
     fn offer(&self, state: &mut State, first: &mut FrameBytes) -> Option<Move> {
         let height = state.open_height()?;
-        if state.slot(height)?.leader != state.own || state.has(PROPOSED) {
+        if state.slot(height)?.leader != state.head.own || state.has(PROPOSED) {
             return None;
         }
         let chain = self.chain(state);
@@ -88,9 +89,9 @@ impl Rules {
         let carried = chain.entries(parent);
         let entries = state.pending().filter(|entry| !carried.contains(entry));
         let block = block::compose(height, parent, &chain.digest_at(parent)?, entries);
-        let statement = Statement::Proposal { signer: state.own, block: &block };
+        let statement = Statement::Proposal { signer: state.head.own, block: &block };
         Frame { height, statement }.write(first);
-        state.flags |= PROPOSED;
+        state.head.flags |= PROPOSED;
         Some(Move::Offer { height })
     }
 
@@ -102,9 +103,9 @@ impl Rules {
             return None;
         }
         let digest = &(self.digest)(held);
-        Frame { height, statement: Statement::BlockVote { signer: state.own, digest } }
+        Frame { height, statement: Statement::BlockVote { signer: state.head.own, digest } }
             .write(first);
-        state.flags |= BLOCK_VOTED;
+        state.head.flags |= BLOCK_VOTED;
         Some(Move::Vote { height })
     }
 }
@@ -112,6 +113,6 @@ impl Rules {
 impl State {
     /// The current height, unless the last one is passed already.
     fn open_height(&self) -> Option<Height> {
-        (self.current <= self.heights()).then_some(self.current)
+        (self.head.current <= self.head.heights).then_some(self.head.current)
     }
 }

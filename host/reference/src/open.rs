@@ -2,10 +2,12 @@
 
 use crate::block::BLOCK;
 use crate::entry::ENTRY;
-use crate::soundness::{MOST_HEIGHTS, MOST_REPLICAS};
+use crate::head::Head;
+use crate::height::Height;
+use crate::links::Links;
+use crate::soundness::MOST_REPLICAS;
 use crate::state::{Slot, State, PLACES, REPLICAS};
-use crate::weights::{self, WEIGHED_EDITION};
-use crate::{refusal, Rules};
+use crate::{edition, refusal, weights, Rules};
 
 impl Rules {
     /// Makes a new book for replica `own` of `n`, with `heights` heights, the weight of each replica in two bytes, and
@@ -36,21 +38,21 @@ fn new_state(n: u64, own: u64, heights: u64, weights: &[u8], leaders: &[u8]) -> 
     let weights = weights::opened(n, weights)?;
     let in_range = (1..=MOST_REPLICAS).contains(&n)
         && own < n
-        && (1..=MOST_HEIGHTS).contains(&heights)
+        && (1..=edition::MOST_HEIGHTS.into()).contains(&heights)
         && u64::try_from(leaders.len()) == Ok(heights)
         && leaders.iter().all(|&leader| u64::from(leader) < n);
-    in_range.then_some(State {
+    let head = Head {
         n: u8::try_from(n).ok()?,
         own: u8::try_from(own).ok()?,
-        flags: 0,
+        heights: Height::try_from(heights).ok()?,
         current: 1,
-        finalized: 0,
-        pending_count: 0,
-        edition: WEIGHED_EDITION,
+        edition: edition::LONG,
         weights,
-        pending: [[0; ENTRY]; PLACES],
-        slots: leaders.iter().map(|&leader| new_slot(leader)).collect(),
-    })
+        ..Head::default()
+    };
+    let slots = leaders.iter().map(|&leader| new_slot(leader)).collect();
+    let pending = [[0; ENTRY]; PLACES];
+    in_range.then_some(State { head, pending, slots, links: Links::default() })
 }
 
 /// A height of which nothing is known but its leader.

@@ -10,10 +10,10 @@ impl Rules {
     pub fn signal(&self, book: &mut [u8], height: u64) -> Result<(), u8> {
         let mut state = self.sound(book)?;
         let height = state.known_height(height).ok_or(refusal::NO_SUCH_HEIGHT)?;
-        if height != state.current || state.has(TIMER_FIRED) {
+        if height != state.head.current || state.has(TIMER_FIRED) {
             return Err(refusal::STALE_SIGNAL);
         }
-        state.flags |= TIMER_FIRED;
+        state.head.flags |= TIMER_FIRED;
         state.store(book);
         Ok(())
     }

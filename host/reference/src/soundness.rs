@@ -1,12 +1,11 @@
 //! Which books are sound, and getting the state out of one.
 
+use crate::head::Head;
 use crate::height::Height;
 use crate::state::{Slot, State, HELD, NOTARIZED, PLACES};
-use crate::weights::{self, Weights};
+use crate::weights::Weights;
 use crate::{block, quorum, refusal, Rules};
 
-/// The most heights of a book.
-pub(crate) const MOST_HEIGHTS: u64 = 63;
 /// The most replicas of a book.
 pub(crate) const MOST_REPLICAS: u64 = 16;
 
@@ -17,25 +16,22 @@ impl Rules {
     /// The state of a sound book; of any other, refusal 1.
     pub(crate) fn sound(&self, book: &[u8]) -> Result<State, u8> {
         let state = State::decode(book).ok_or(refusal::UNSOUND)?;
-        let sound = head_is_sound(&state)
-            && (1..)
-                .zip(&state.slots)
-                .all(|(height, slot)| slot_is_sound(slot, height, state.n, &state.weights))
-            && (state.finalized == 0 || self.chain(&state).is_finalized(state.finalized));
+        let (n, weights, finalized) = (state.head.n, &state.head.weights, state.head.finalized);
+        let mut slots = (1..).zip(&state.slots);
+        let sound = head_is_sound(&state.head)
+            && slots.all(|(height, slot)| slot_is_sound(slot, height, n, weights))
+            && (finalized == 0 || self.chain(&state).is_finalized(finalized));
         sound.then_some(state).ok_or(refusal::UNSOUND)
     }
 }
 
 /// Whether the numbers of the head are in range, the finalized height aside.
-fn head_is_sound(state: &State) -> bool {
-    let heights = state.heights();
-    (1..=MOST_REPLICAS).contains(&u64::from(state.n))
-        && state.own < state.n
-        && (1..=MOST_HEIGHTS).contains(&u64::from(heights))
-        && (1..=heights.saturating_add(1)).contains(&state.current)
-        && state.flags <= ALL_FLAGS
-        && usize::from(state.pending_count) <= PLACES
-        && weights::fit(state.edition, state.n, &state.weights)
+fn head_is_sound(head: &Head) -> bool {
+    head.setting_is_sound()
+        && head.own < head.n
+        && (1..=head.heights.saturating_add(1)).contains(&head.current)
+        && head.flags <= ALL_FLAGS
+        && usize::from(head.pending_count) <= PLACES
 }
 
 /// Whether what the book keeps of a height is in order by itself.

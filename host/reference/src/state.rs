@@ -2,10 +2,11 @@
 
 use crate::block::Block;
 use crate::entry::Entry;
+use crate::head::Head;
 use crate::height::Height;
+use crate::links::Links;
 use crate::quorum;
 use crate::view::{Shown, View};
-use crate::weights::Weights;
 
 /// The places for pending entries.
 pub(crate) const PLACES: usize = 32;
@@ -35,16 +36,11 @@ pub fn book_length(heights: Height) -> usize {
 /// A whole book, field by field. Areas that no mark or count covers keep whatever bytes they have.
 #[derive(Clone)]
 pub(crate) struct State {
-    pub n: u8,
-    pub own: u8,
-    pub flags: u8,
-    pub current: Height,
-    pub finalized: Height,
-    pub pending_count: u8,
-    pub edition: u8,
-    pub weights: Weights,
+    pub head: Head,
     pub pending: [Entry; PLACES],
     pub slots: Vec<Slot>,
+    /// No part of the book: what a call has found out about the slots.
+    pub links: Links,
 }
 
 /// What a book keeps of one height.
@@ -62,39 +58,35 @@ pub(crate) struct Slot {
 }
 
 impl State {
-    /// The last height; the slots are never more than a height can count.
-    pub fn heights(&self) -> Height {
-        Height::try_from(self.slots.len()).unwrap_or(Height::MAX)
-    }
-
     /// The slot of a height, if the height is one of the book's.
     pub fn slot(&self, height: Height) -> Option<&Slot> {
         self.slots.get(usize::from(height.checked_sub(1)?))
     }
 
-    /// The slot of a height, to be changed.
+    /// The slot of a height, to be changed: what was found out about the slots is forgotten.
     pub fn slot_mut(&mut self, height: Height) -> Option<&mut Slot> {
+        self.links = Links::default();
         self.slots.get_mut(usize::from(height.checked_sub(1)?))
     }
 
     /// Whether a flag of the current height is set.
     pub fn has(&self, flag: u8) -> bool {
-        self.flags & flag != 0
+        self.head.flags & flag != 0
     }
 
     /// The pending entries up to the count.
     pub fn pending(&self) -> impl Iterator<Item = &Entry> {
-        self.pending.iter().take(usize::from(self.pending_count))
+        self.pending.iter().take(usize::from(self.head.pending_count))
     }
 }
 
 impl View for State {
     fn weights(&self) -> &[u16] {
-        &self.weights
+        &self.head.weights
     }
 
     fn heights(&self) -> Height {
-        State::heights(self)
+        self.head.heights
     }
 
     fn shown(&self, height: Height) -> Option<Shown<'_>> {
@@ -103,6 +95,10 @@ impl View for State {
             dummies: slot.dummies,
             finalizes: slot.finalizes,
         })
+    }
+
+    fn links(&self) -> &Links {
+        &self.links
     }
 }
 

@@ -11,7 +11,7 @@ impl Rules {
     pub fn submit(&self, book: &mut [u8], entry: &[u8]) -> Result<(), u8> {
         let mut state = self.sound(book)?;
         let entry: &Entry = entry.try_into().map_err(|_| refusal::MALFORMED)?;
-        let logged = self.chain(&state).log(state.finalized);
+        let logged = self.chain(&state).log(state.head.finalized);
         if state.pending().any(|pending| pending == entry) || logged.contains(&entry) {
             return Err(refusal::REPEATED);
         }
@@ -20,7 +20,7 @@ impl Rules {
         if entries.len() > PLACES {
             return Err(refusal::FULL);
         }
-        state.pending_count = u8::try_from(entries.len()).map_err(|_| refusal::FULL)?;
+        state.head.pending_count = u8::try_from(entries.len()).map_err(|_| refusal::FULL)?;
         state.pending = [[0; ENTRY]; PLACES];
         state.pending.iter_mut().zip(entries).for_each(|(place, entry)| *place = entry);
         state.store(book);

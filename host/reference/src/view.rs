@@ -2,6 +2,7 @@
 
 use crate::block::Block;
 use crate::height::Height;
+use crate::links::Links;
 
 /// A state that chains can be seen in.
 pub(crate) trait View {
@@ -13,6 +14,9 @@ pub(crate) trait View {
 
     /// What is shown of a height, if the height is one of the book's.
     fn shown(&self, height: Height) -> Option<Shown<'_>>;
+
+    /// What has been worked out of its chains.
+    fn links(&self) -> &Links;
 }
 
 /// What a state shows of one height: the notarized block, and who voted for the dummy block and who finalized.

@@ -45,14 +45,18 @@ fn unused_bytes_are_zero() {
     }
 }
 
-/// Request 2.7 makes these the high bytes of heights.
+/// With one high byte set a frame's height is not its block's, and the parent is above the block.
 #[test]
-fn bytes_after_heights_are_zero() {
+fn one_high_byte_alone_is_another_height() {
     for (frame, _) in good_frames() {
-        refused_with_one(&frame, [HIGH_BYTE]);
+        let mut high = frame;
+        high[HIGH_BYTE] = 1;
+        let mut book = new_book(4, 2, &[0, 1]);
         if [1, 5].contains(&frame[0]) {
-            refused_with_one(&frame, HIGH_BYTES.map(|at| 48 + at));
+            refused_with_one(&frame, HIGH_BYTES.map(|at| 48 + at).into_iter().chain([HIGH_BYTE]));
+            high[48 + HIGH_BYTES[0]] = 1;
         }
+        assert_eq!(RULES.deliver(&mut book, &high), Err(6), "kind {}", frame[0]);
     }
 }
 

@@ -1,4 +1,4 @@
-//! Linking, finality and parents against a second definition that works upwards from height 1.
+//! Linking, finality and parents against a second definition that goes back through the parents.
 
 use crate::common::random::Random;
 use crate::common::random_book::{full_mask, random_book};
@@ -18,22 +18,27 @@ fn is_dummy(book: &[u8], height: usize) -> bool {
     is_quorum(mask(book, row(height) + 4), &weights_of(book))
 }
 
-/// Which heights are linked, from 0 up: each looks only at those before it.
-fn links(book: &[u8]) -> Vec<bool> {
-    let mut linked = vec![true];
-    for height in 1..=usize::from(book[HEIGHTS]) {
-        let fits = notarized(book, height).is_some_and(|block| {
-            let parent = usize::from(block[2]);
-            let digest = match parent {
-                0 => Some(ZERO),
-                _ => notarized(book, parent).map(reference::sha256::digest),
-            };
-            let bridged = (parent + 1..height).all(|between| is_dummy(book, between));
-            linked[parent] && bridged && digest.is_some_and(|digest| digest == block[16..48])
-        });
-        linked.push(fits);
+/// Whether a height is linked, by going back through the parents.
+fn is_linked(book: &[u8], height: usize) -> bool {
+    let Some(block) = notarized(book, height) else {
+        return false;
+    };
+    let parent = usize::from(height_in(&block[2..4]));
+    let bridged = (parent + 1..height).all(|between| is_dummy(book, between));
+    match parent {
+        0 => bridged && block[16..48] == ZERO,
+        _ => {
+            let below = notarized(book, parent).map(reference::sha256::digest);
+            bridged
+                && below.is_some_and(|digest| digest == block[16..48])
+                && is_linked(book, parent)
+        }
     }
-    linked
+}
+
+/// Which heights are linked, from 0 up.
+fn links(book: &[u8]) -> Vec<bool> {
+    (0..=heights_of(book)).map(|height| height == 0 || is_linked(book, height)).collect()
 }
 
 /// The largest linked parent for a height, by trying all.
@@ -58,7 +63,7 @@ fn the_largest_finalized_height() {
         let (made, _) = one_move(&mut book);
         let final_made = matches!(made, Move::Final { height } if usize::from(height) == largest);
         assert_eq!(final_made, largest > 0);
-        assert_eq!(usize::from(book[FINALIZED]), largest);
+        assert_eq!(usize::from(book[place_of(&book, FINALIZED)]), largest);
         assert!(is_sound(&book));
         seen[largest] += 1;
     }
@@ -71,11 +76,10 @@ fn the_parent_of_an_offer_and_the_pass() {
     let (mut offers, mut passes, mut neither) = (0, 0, 0);
     for _ in 0..3000 {
         let mut book = random_book(&mut random, reference::sha256::digest);
-        let height = 1 + random.below(book[HEIGHTS].into());
-        (book[3], book[CURRENT]) = (4, height as u8);
+        let (height, current) = (1 + random.below(heights_of(&book)), place_of(&book, CURRENT));
+        (book[3], book[current]) = (4, height as u8);
         book[row(height)] = book[1];
-        (1..=usize::from(book[HEIGHTS]))
-            .for_each(|height| book[row(height) + 6..row(height) + 8].fill(0));
+        (1..=heights_of(&book)).for_each(|height| book[row(height) + 6..row(height) + 8].fill(0));
         let linked = links(&book);
         let parent = largest_parent(&book, &linked, height);
         let may_pass = linked[height] || is_dummy(&book, height) && parent.is_some();

@@ -16,17 +16,19 @@ fn followed() -> (Vec<u8>, Block, Block) {
 
 #[test]
 fn lengths() {
-    assert_eq!([1, 2, 63].map(observer_book_length), [248, 432, 11_656]);
+    assert_eq!([1, 2, 63, 1000].map(observer_book_length), [248, 432, 11_656, 184_064]);
 }
 
 #[test]
 fn a_new_book_has_n_heights_edition_and_weights_alone() {
-    for (n, heights) in [(1, 1), (4, 3), (16, 63)] {
+    for (n, heights) in [(1, 1), (4, 3), (16, 63), (4, 64), (16, 1000)] {
         let book = new_observer(n.into(), heights);
-        assert_eq!(book[..8], [n, 0, heights, 0, 0, 0, 0, 2]);
-        let (weights, rest) = book[8..].split_at(2 * usize::from(n));
-        assert_eq!(weights, ones(n.into()));
-        assert!(rest.iter().all(|&byte| byte == 0));
+        assert_eq!(book[..8], [n, 0, 0, 0, 0, 0, 0, 3]);
+        assert_eq!(book[8..8 + 2 * usize::from(n)], ones(n.into()));
+        assert_eq!(height_in(&book[HEIGHTS..]), heights);
+        let said = (8..8 + 2 * usize::from(n)).chain(40..42);
+        let rest = (8..book.len()).filter(|at| !said.clone().any(|other| other == *at));
+        assert!(rest.map(|at| book[at]).all(|byte| byte == 0));
         assert_eq!(RULES.observer_size(&book), Ok(0));
     }
 }
@@ -35,7 +37,7 @@ fn a_new_book_has_n_heights_edition_and_weights_alone() {
 fn open_2_then_1() {
     let mut book = [0x5a; 248];
     for (n, heights) in
-        [(0, 1), (17, 1), (4, 0), (4, 64), (260, 1), (4, 257), (u64::MAX, 1), (4, u64::MAX)]
+        [(0, 1), (17, 1), (4, 0), (4, 1001), (260, 1), (4, 65_537), (u64::MAX, 1), (4, u64::MAX)]
     {
         assert_eq!(RULES.observer_open(&mut book, n, heights, &ones(n)), Err(2), "{n} {heights}");
         assert_eq!(RULES.observer_open(&mut [], n, heights, &ones(n)), Err(2), "{n} {heights}");

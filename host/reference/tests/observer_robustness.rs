@@ -7,7 +7,7 @@ use reference::{observer_book_length, Delivered, Move};
 
 /// A number that sits on a limit, or any other.
 fn any_number(random: &mut Random) -> u64 {
-    let near = [0, 1, 4, 16, 17, 63, 64, 255, 256, 257, u64::MAX];
+    let near = [0, 1, 4, 16, 17, 63, 64, 256, 257, 1000, 1001, 65_537, u64::MAX];
     match random.below(3) {
         0 => random.next(),
         _ => near[random.below(near.len())],
@@ -15,7 +15,7 @@ fn any_number(random: &mut Random) -> u64 {
 }
 
 /// A certificate for a book of so many replicas and heights, now and then with some bytes changed.
-fn any_frame(random: &mut Random, n: u8, heights: u8) -> Vec<u8> {
+fn any_frame(random: &mut Random, n: u8, heights: Height) -> Vec<u8> {
     let height = random.below(usize::from(heights) + 2) as Height;
     let all = ((1_u32 << n) - 1) as u16;
     let mask = if random.one_in(3) { all & random.next() as u16 } else { all };
@@ -47,7 +47,7 @@ fn try_calls(random: &mut Random, book: &mut [u8], calls: usize) -> usize {
     for _ in 0..calls {
         let (before, was_sound) = (book.to_vec(), is_sound_observer(book));
         let (n, heights) = match was_sound {
-            true => (book[0], book[HEIGHTS]),
+            true => (book[0], heights_of(book) as Height),
             false => (4, 3),
         };
         let answer = match random.below(8) {
@@ -81,9 +81,9 @@ fn random_bytes_as_books() {
             _ => observer_book_length(random.below(5) as Height),
         };
         let mut book = random.bytes(length);
-        if length > 7 && random.one_in(2) {
+        if length > 63 && random.one_in(2) {
             let heights = (length.saturating_sub(64) / 184).max(1);
-            book[..8].copy_from_slice(&new_observer(4, heights as Height)[..8]);
+            book[..64].copy_from_slice(&new_observer(4, heights as Height)[..64]);
         }
         try_calls(&mut random, &mut book, 6);
         let mut buffer = vec![0xaa; random.below(200)];
@@ -113,7 +113,7 @@ fn books_with_a_few_bytes_changed() {
     assert!(taken > 2000, "{taken}");
 }
 
-/// What a delivery changes is the row and the page of its height; a move, byte 5.
+/// What a delivery changes is the row and the page of its height; a move, the finalized height.
 #[test]
 fn nothing_else_changes() {
     let mut random = Random::new(33);
@@ -124,7 +124,7 @@ fn nothing_else_changes() {
             let (frame, before) = (any_frame(&mut random, 4, 5), book.clone());
             if RULES.observer_deliver(&mut book, &frame) == Ok(Delivered::Fresh) {
                 fresh += 1;
-                let height = usize::from(frame[2]);
+                let height = usize::from(height_in(&frame[2..4]));
                 let (row, page) = (observer_row(height), observer_page(&book, height));
                 let concerned =
                     |at: usize| (row..row + 8).contains(&at) || (page..page + 176).contains(&at);

@@ -50,24 +50,17 @@ fn numbers_of_the_head() {
 /// Own number, flags, current height and pending count of a replica's head: every value but zero.
 #[test]
 fn bytes_that_a_replica_uses() {
-    for at in [1, FLAGS, CURRENT, 6] {
+    for at in [1, FLAGS, CURRENT, CURRENT + 1, 6] {
         (1..=255).for_each(|byte| assert_unsound(&with(at, byte)));
     }
 }
 
-/// What request 2.7 turns over: its edition, and the bytes of the head that it uses.
-#[test]
-fn later_editions() {
-    assert_unsound(&with(7, 3));
-    (40..46).for_each(|at| assert_unsound(&with(at, 1)));
-}
-
 #[test]
 fn heights_out_of_range_with_a_fitting_length() {
-    for heights in [0, 64, 255] {
+    for heights in [0, 1001, 1024, 1256, 2000] {
         let mut book = new_observer(4, 1);
-        book.resize(reference::observer_book_length(heights as Height), 0);
-        book[HEIGHTS] = heights;
+        book.resize(reference::observer_book_length(heights), 0);
+        put_height(&mut book[HEIGHTS..HEIGHTS + 2], heights);
         assert_unsound(&book);
     }
 }

@@ -114,9 +114,8 @@ fn packet_1_then_15() {
 
 /// A frame that a book of this kind may well take, or one with a byte changed.
 fn any_frame(random: &mut Random, book: &[u8]) -> FrameBytes {
-    let (n, heights) = (book[0], book[HEIGHTS]);
-    let (signer, height) =
-        (random.below(n.into()) as u8, 1 + random.below(heights.into()) as Height);
+    let (n, heights) = (book[0], heights_of(book));
+    let (signer, height) = (random.below(n.into()) as u8, 1 + random.below(heights) as Height);
     let page = random_block(book, random, height, sha256::digest);
     let mut frame = match random.below(7) {
         0 => proposal(book[row(height.into())], &page),

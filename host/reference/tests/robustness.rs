@@ -97,7 +97,7 @@ fn try_calls(random: &mut Random, book: &mut [u8], calls: usize) -> usize {
             assert!(reply.iter().all(|&byte| byte == 0xaa));
         } else {
             assert!(is_sound(book));
-            assert!(!opened || book[EDITION] == 2);
+            assert!(!opened || book[EDITION] == 3);
             taken += 1;
         }
         assert!(reply.iter().skip(448).all(|&byte| byte == 0xaa));
@@ -115,9 +115,10 @@ fn random_bytes_as_books() {
             _ => reference::book_length(random.below(5) as Height),
         };
         let mut book = random.bytes(length);
-        if length > 7 && random.one_in(2) {
+        if length > 63 && random.one_in(2) {
             let heights = length.saturating_sub(576) / 880;
-            book[..8].copy_from_slice(&new_book(4, 1, &vec![0; heights.max(1)])[..8]);
+            let new = new_book(4, 1, &vec![0; heights.max(1)]);
+            book[..64].copy_from_slice(&new[..64]);
         }
         try_calls(&mut random, &mut book, 8);
     }
@@ -163,7 +164,7 @@ fn written_frames_are_read() {
     let mut count = 0;
     for _ in 0..2000 {
         let mut book = random_book(&mut random, digest);
-        let leaders: Vec<u8> = (1..=book[HEIGHTS]).map(|height| book[row(height.into())]).collect();
+        let leaders: Vec<u8> = (1..=heights_of(&book)).map(|height| book[row(height)]).collect();
         let mut other = weighed_book(&weights_of(&book), 0, &leaders);
         for _ in 0..6 {
             let mut reply = [0; 448];

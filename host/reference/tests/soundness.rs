@@ -57,19 +57,12 @@ fn numbers_of_the_head() {
     (4..=255).chain([0]).for_each(|edition| assert_unsound(&with(7, edition)));
 }
 
-/// What request 2.7 turns over: its edition, and the bytes of the head that it uses.
-#[test]
-fn later_editions() {
-    assert_unsound(&with(7, 3));
-    (40..46).for_each(|at| assert_unsound(&with(at, 1)));
-}
-
 #[test]
 fn heights_out_of_range_with_a_fitting_length() {
-    for heights in [0, 64, 255] {
+    for heights in [0, 1001, 1024, 1256, 2000] {
         let mut book = new_book(4, 2, &[0]);
-        book.resize(reference::book_length(heights as Height), 0);
-        book[HEIGHTS] = heights;
+        book.resize(reference::book_length(heights), 0);
+        put_height(&mut book[HEIGHTS..HEIGHTS + 2], heights);
         assert_unsound(&book);
     }
 }

@@ -24,14 +24,14 @@ fn refused(n: u64, weights: &[u8]) {
     }
 }
 
-/// Both kinds take these weights, and the head has them from byte 8 on, with zeros up to its end.
+/// Both kinds take these weights, and the head has them from byte 8 on, with zeros up to byte 40.
 #[track_caller]
 fn taken(weights: &[u16]) {
     let (n, bytes) = (weights.len() as u64, weight_bytes(weights));
     for (answer, book) in [opened(n, &bytes), observed(n, &bytes)] {
-        assert_eq!((answer, book[0], book[EDITION]), (Ok(()), n as u8, 2));
+        assert_eq!((answer, book[0], book[EDITION]), (Ok(()), n as u8, 3));
         assert_eq!(book[8..8 + bytes.len()], bytes);
-        assert!(book[8 + bytes.len()..64].iter().all(|&byte| byte == 0));
+        assert!(book[8 + bytes.len()..40].iter().all(|&byte| byte == 0));
         assert_eq!(weights_of(&book), weights);
     }
 }
@@ -104,14 +104,15 @@ fn two_comes_before_1() {
     assert_eq!(RULES.open(&mut [0; 1456], 4, 3, 1, &ones(4), &[]), Err(2));
 }
 
-/// Weights of 1 make edition 2 as well.
+/// Weights of 1 are written as well.
 #[test]
 fn a_new_book_to_the_byte() {
     let book = new_book(4, 2, &[3, 1]);
     let mut expected = vec![0; book_length(2)];
-    expected[..16].copy_from_slice(&[4, 2, 2, 0, 1, 0, 0, 2, 1, 0, 1, 0, 1, 0, 1, 0]);
+    expected[..16].copy_from_slice(&[4, 2, 0, 0, 0, 0, 0, 3, 1, 0, 1, 0, 1, 0, 1, 0]);
+    expected[40..46].copy_from_slice(&[2, 0, 1, 0, 0, 0]);
     (expected[row(1)], expected[row(2)]) = (3, 1);
     assert_eq!(book, expected);
     let book = weighed_book(&[1000, 2, 258], 1, &[2]);
-    assert_eq!(book[..16], [3, 1, 1, 0, 1, 0, 0, 2, 0xe8, 3, 2, 0, 2, 1, 0, 0]);
+    assert_eq!(book[..16], [3, 1, 0, 0, 0, 0, 0, 3, 0xe8, 3, 2, 0, 2, 1, 0, 0]);
 }

@@ -45,13 +45,14 @@ fn weights_of_present_replicas_are_1_to_1000() {
     }
 }
 
-/// In edition 2: the bytes of absent replicas, one by one, and those up to the end of the head.
+/// In editions 2 and 3: the bytes of absent replicas, one by one.
 #[test]
 fn bytes_past_the_weights_are_zero() {
     for (open, sound) in KINDS {
-        for n in 1..=16 {
+        for (n, second) in (1..=16).flat_map(|n| [(n, false), (n, true)]) {
             let book = open(&vec![1; n]);
-            for at in 8 + 2 * n..64 {
+            let book = if second { second_edition(&book) } else { book };
+            for at in 8 + 2 * n..40 {
                 for byte in [1, 0x80, 0xff] {
                     assert!(!sound(&with(&book, at, byte)), "{n} {at}");
                 }
@@ -79,18 +80,6 @@ fn edition_1_has_no_weights() {
     }
 }
 
-#[test]
-fn no_other_edition_is_sound() {
-    for (open, sound) in KINDS {
-        let book = open(&[1, 2, 3]);
-        let first = first_edition(&open(&[1; 3]));
-        for edition in 0..=255 {
-            assert_eq!(sound(&with(&book, EDITION, edition)), edition == 2);
-            assert_eq!(sound(&with(&first, EDITION, edition)), edition == 1);
-        }
-    }
-}
-
 /// Another n without another weight: one more has no weight, one fewer leaves a weight of an absent one.
 #[test]
 fn there_are_n_weights_in_a_book() {
@@ -102,24 +91,28 @@ fn there_are_n_weights_in_a_book() {
     }
 }
 
-/// The same call on a book and on the same one in edition 1: the answers are alike, and so are the books but for the
-/// head's edition and weights.
+/// The same call on a book in each of the three editions: the answers are alike, and so are the books but for what the
+/// head has by edition.
 fn alike<T: PartialEq + std::fmt::Debug>(
-    books: &mut [Vec<u8>; 2],
+    books: &mut [Vec<u8>; 3],
     call: impl Fn(&mut Vec<u8>) -> T,
 ) -> T {
-    let [one, two] = books.each_mut().map(&call);
-    assert_eq!(one, two);
-    assert_eq!(books[0], first_edition(&books[1]));
+    let [one, two, three] = books.each_mut().map(&call);
+    assert_eq!((&one, &one), (&two, &three));
+    assert_eq!([first_edition(&books[2]), second_edition(&books[2])], books[..2]);
     one
+}
+
+/// A new book in each edition.
+fn editions(book: Vec<u8>) -> [Vec<u8>; 3] {
+    [first_edition(&book), second_edition(&book), book]
 }
 
 /// Every call, on the book of station 2 of 4.
 #[test]
-fn the_same_book_in_both_editions_answers_alike() {
+fn the_same_book_in_each_edition_answers_alike() {
     let block = block(1, 0, ZERO, &[entry(1)]);
-    let second = new_book(4, 2, &[0, 2]);
-    let mut books = [first_edition(&second), second];
+    let mut books = editions(new_book(4, 2, &[0, 2]));
     let frames = [
         proposal(0, &block),
         vote_for(0, &block),
@@ -151,10 +144,9 @@ fn the_same_book_in_both_editions_answers_alike() {
 }
 
 #[test]
-fn observers_books_of_both_editions_answer_alike() {
+fn observers_books_of_each_edition_answer_alike() {
     let block = block(1, 0, ZERO, &[entry(1), entry(1), entry(2)]);
-    let second = new_observer(4, 2);
-    let mut books = [first_edition(&second), second];
+    let mut books = editions(new_observer(4, 2));
     let frames = [
         (block_certificate(3, &block), Err(9)),
         (block_certificate(14, &block), Ok(Fresh)),
@@ -170,23 +162,18 @@ fn observers_books_of_both_editions_answer_alike() {
     assert_eq!(log, ([entry(1), entry(2)].concat(), Ok(32)));
 }
 
-/// Books that no run makes, in edition 2 with weights of 1 and in edition 1: moves are the same to the byte.
+/// Books that no run makes, with weights of 1 in each edition: moves are the same to the byte.
 #[test]
-fn random_books_of_both_editions_move_alike() {
+fn random_books_of_each_edition_move_alike() {
     let mut random = Random::new(26);
     let mut count = 0;
     for _ in 0..1500 {
-        let mut first = random_book(&mut random, digest_of);
-        if first[EDITION] != 1 {
+        let third = random_book(&mut random, digest_of);
+        if third[EDITION] != 3 || weights_of(&third).iter().any(|&weight| weight != 1) {
             continue;
         }
-        let mut second = first.clone();
-        second[EDITION] = 2;
-        second[8..8 + 2 * usize::from(first[0])].copy_from_slice(&ones(first[0].into()));
-        for _ in 0..8 {
-            assert_eq!(one_move(&mut first), one_move(&mut second));
-            assert_eq!(first, first_edition(&second));
-        }
+        let mut books = editions(third);
+        (0..8).for_each(|_| _ = alike(&mut books, |book| one_move(book)));
         count += 1;
     }
     assert!(count > 100, "{count}");
@@ -211,7 +198,7 @@ fn weights_stay() {
     observe_all(&mut observer, &[block_certificate(1, &block), finalize_certificate(1, 1)]);
     assert_eq!(observer_moves(&mut observer).len(), 1);
     for book in [book, observer] {
-        assert_eq!((book[EDITION], weights_of(&book)), (2, weights.to_vec()));
-        assert!(book[16..64].iter().all(|&byte| byte == 0));
+        assert_eq!((book[EDITION], weights_of(&book)), (3, weights.to_vec()));
+        assert!(book[16..40].iter().all(|&byte| byte == 0));
     }
 }

@@ -2,11 +2,10 @@
 
 use super::state::{observer_book_length, Observed, ObserverState};
 use crate::block::BLOCK;
-use crate::view::View;
-use crate::weights;
+use crate::head::{Head, HEAD};
+use crate::links::Links;
 
-/// The lengths of the book's parts.
-const HEAD: usize = 64;
+/// The length of a row.
 const ROW: usize = 8;
 
 impl ObserverState {
@@ -15,23 +14,22 @@ impl ObserverState {
     /// zeros.
     pub fn decode(book: &[u8]) -> Option<ObserverState> {
         let (head, rest) = book.split_first_chunk::<HEAD>()?;
-        let [n, _, heights, _, _, finalized, _, edition, ..] = *head;
+        let Head { n, heights, finalized, edition, weights, .. } = Head::decode(head);
         if book.len() != observer_book_length(heights) {
             return None;
         }
         let (rows, blocks) = rest.split_at_checked(ROW.checked_mul(usize::from(heights))?)?;
         let both = rows.as_chunks::<ROW>().0.iter().zip(blocks.as_chunks::<BLOCK>().0);
         let slots = both.map(|(row, block)| Observed::decode(row, block)).collect::<Option<_>>()?;
-        let weights = weights::decode(head, n, edition)?;
-        let state = ObserverState { n, finalized, edition, weights, slots };
+        let head = Head { n, heights, finalized, edition, weights, ..Head::default() };
+        let state = ObserverState { head, slots, links: Links::default() };
         (state.encode() == book).then_some(state)
     }
 
     /// The bytes of the state.
     pub fn encode(&self) -> Vec<u8> {
-        let mut book = Vec::with_capacity(observer_book_length(self.heights()));
-        book.extend([self.n, 0, self.heights(), 0, 0, self.finalized, 0, self.edition]);
-        book.extend(weights::encode(&self.weights, self.edition));
+        let mut book = Vec::with_capacity(observer_book_length(self.head.heights));
+        book.extend(self.head.encode());
         self.slots.iter().for_each(|slot| book.extend(slot.encode_row()));
         self.slots.iter().for_each(|slot| book.extend(slot.block));
         book

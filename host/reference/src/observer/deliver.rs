@@ -15,7 +15,7 @@ impl Rules {
         let mut state = self.observer_sound(book)?;
         let frame = Frame::read(frame).ok_or(refusal::MALFORMED)?;
         let mask = signers(&frame).ok_or(refusal::NOT_A_CERTIFICATE)?;
-        let (n, weights) = (state.n, state.weights);
+        let (n, weights) = (state.head.n, state.head.weights);
         let slot = state.slot_mut(frame.height).ok_or(refusal::NO_SUCH_HEIGHT)?;
         require(quorum::is_within(mask, n), refusal::NO_SUCH_REPLICA)?;
         require(quorum::is_quorum(mask, &weights), refusal::NO_QUORUM)?;

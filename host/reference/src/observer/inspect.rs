@@ -52,11 +52,11 @@ pub fn inspect_observer(book: &[u8]) -> Result<ObserverInspection, u8> {
         finalized: chain.is_finalized(height),
     };
     Ok(ObserverInspection {
-        n: state.n,
+        n: state.head.n,
         weights: Weights::of(book),
-        finalized: state.finalized,
+        finalized: state.head.finalized,
         largest: chain.largest_finalized(),
-        carried: chain.entries(state.finalized).into_iter().copied().collect(),
+        carried: chain.entries(state.head.finalized).into_iter().copied().collect(),
         heights: (1..).zip(&state.slots).map(tell).collect(),
     })
 }

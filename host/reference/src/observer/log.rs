@@ -9,7 +9,7 @@ impl Rules {
     /// Refuses with 1.
     pub fn observer_size(&self, book: &[u8]) -> Result<usize, u8> {
         let state = self.observer_sound(book)?;
-        Ok(self.chain(&state).log(state.finalized).len().saturating_mul(ENTRY))
+        Ok(self.chain(&state).log(state.head.finalized).len().saturating_mul(ENTRY))
     }
 
     /// Writes the log to the front of the buffer, each entry at its first place, and returns that part. The part is
@@ -18,6 +18,6 @@ impl Rules {
         let Ok(state) = self.observer_sound(book) else {
             return &mut [];
         };
-        log::write(&self.chain(&state).log(state.finalized), buffer)
+        log::write(&self.chain(&state).log(state.head.finalized), buffer)
     }
 }

@@ -9,10 +9,10 @@ impl Rules {
     pub fn observer_move(&self, book: &mut [u8]) -> Result<Move, u8> {
         let mut state = self.observer_sound(book)?;
         let height = self.chain(&state).largest_finalized();
-        if height <= state.finalized {
+        if height <= state.head.finalized {
             return Ok(Move::Idle);
         }
-        state.finalized = height;
+        state.head.finalized = height;
         state.store(book);
         Ok(Move::Final { height })
     }

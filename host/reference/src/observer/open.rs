@@ -2,9 +2,11 @@
 
 use super::state::{Observed, ObserverState};
 use crate::block::BLOCK;
-use crate::soundness::{MOST_HEIGHTS, MOST_REPLICAS};
-use crate::weights::{self, WEIGHED_EDITION};
-use crate::{refusal, Rules};
+use crate::head::Head;
+use crate::height::Height;
+use crate::links::Links;
+use crate::soundness::MOST_REPLICAS;
+use crate::{edition, refusal, weights, Rules};
 
 impl Rules {
     /// Makes a new observer's book over `n` replicas, with `heights` heights and the weight of each replica in two
@@ -31,12 +33,17 @@ impl Rules {
 /// The state that an observer begins with, if both numbers and the weights are in range.
 fn new_state(n: u64, heights: u64, weights: &[u8]) -> Option<ObserverState> {
     let weights = weights::opened(n, weights)?;
-    if !(1..=MOST_REPLICAS).contains(&n) || !(1..=MOST_HEIGHTS).contains(&heights) {
-        return None;
-    }
+    let in_range =
+        (1..=MOST_REPLICAS).contains(&n) && (1..=edition::MOST_HEIGHTS.into()).contains(&heights);
+    let head = Head {
+        n: u8::try_from(n).ok()?,
+        heights: Height::try_from(heights).ok()?,
+        edition: edition::LONG,
+        weights,
+        ..Head::default()
+    };
     let nothing =
         Observed { marks: 0, certificate: 0, dummies: 0, finalizes: 0, block: [0; BLOCK] };
-    let slots = vec![nothing; usize::try_from(heights).ok()?];
-    let (n, edition) = (u8::try_from(n).ok()?, WEIGHED_EDITION);
-    Some(ObserverState { n, finalized: 0, edition, weights, slots })
+    let slots = vec![nothing; head.heights.into()];
+    in_range.then_some(ObserverState { head, slots, links: Links::default() })
 }

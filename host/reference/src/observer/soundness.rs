@@ -2,23 +2,19 @@
 
 use super::state::{Observed, ObserverState};
 use crate::height::Height;
-use crate::soundness::{MOST_HEIGHTS, MOST_REPLICAS};
 use crate::state::NOTARIZED;
-use crate::view::View;
-use crate::weights::{self, Weights};
+use crate::weights::Weights;
 use crate::{block, quorum, refusal, Rules};
 
 impl Rules {
     /// The state of a sound observer's book; of any other bytes, refusal 1.
     pub(crate) fn observer_sound(&self, book: &[u8]) -> Result<ObserverState, u8> {
         let state = ObserverState::decode(book).ok_or(refusal::UNSOUND)?;
-        let sound = (1..=MOST_REPLICAS).contains(&u64::from(state.n))
-            && (1..=MOST_HEIGHTS).contains(&u64::from(state.heights()))
-            && weights::fit(state.edition, state.n, &state.weights)
-            && (1..)
-                .zip(&state.slots)
-                .all(|(height, slot)| slot_is_sound(slot, height, state.n, &state.weights))
-            && (state.finalized == 0 || self.chain(&state).is_finalized(state.finalized));
+        let (n, weights, finalized) = (state.head.n, &state.head.weights, state.head.finalized);
+        let mut slots = (1..).zip(&state.slots);
+        let sound = state.head.setting_is_sound()
+            && slots.all(|(height, slot)| slot_is_sound(slot, height, n, weights))
+            && (finalized == 0 || self.chain(&state).is_finalized(finalized));
         sound.then_some(state).ok_or(refusal::UNSOUND)
     }
 }

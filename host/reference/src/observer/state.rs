@@ -1,24 +1,24 @@
 //! The state of an observer as a record.
 
 use crate::block::Block;
+use crate::head::Head;
 use crate::height::Height;
+use crate::links::Links;
 use crate::state::NOTARIZED;
 use crate::view::{Shown, View};
-use crate::weights::Weights;
 
 /// The length in bytes of an observer's book with this many heights.
 pub fn observer_book_length(heights: Height) -> usize {
     usize::from(heights).saturating_mul(184).saturating_add(64)
 }
 
-/// A whole observer's book, field by field.
+/// A whole observer's book, field by field. Of the head it has no more than an observer's has.
 #[derive(Clone)]
 pub(crate) struct ObserverState {
-    pub n: u8,
-    pub finalized: Height,
-    pub edition: u8,
-    pub weights: Weights,
+    pub head: Head,
     pub slots: Vec<Observed>,
+    /// No part of the book: what a call has found out about the slots.
+    pub links: Links,
 }
 
 /// What an observer's book keeps of one height. A block that no mark covers keeps whatever bytes it has, and so does
@@ -33,25 +33,31 @@ pub(crate) struct Observed {
 }
 
 impl ObserverState {
-    /// The slot of a height, to be changed, if the height is one of the book's.
+    /// The slot of a height, to be changed, if the height is one of the book's; what was found out about the slots is
+    /// forgotten.
     pub fn slot_mut(&mut self, height: Height) -> Option<&mut Observed> {
+        self.links = Links::default();
         self.slots.get_mut(usize::from(height.checked_sub(1)?))
     }
 }
 
 impl View for ObserverState {
     fn weights(&self) -> &[u16] {
-        &self.weights
+        &self.head.weights
     }
 
     fn heights(&self) -> Height {
-        Height::try_from(self.slots.len()).unwrap_or(Height::MAX)
+        self.head.heights
     }
 
     fn shown(&self, height: Height) -> Option<Shown<'_>> {
         let slot = self.slots.get(usize::from(height.checked_sub(1)?))?;
         let (dummies, finalizes) = (slot.dummies, slot.finalizes);
         Some(Shown { notarized: slot.notarized(), dummies, finalizes })
+    }
+
+    fn links(&self) -> &Links {
+        &self.links
     }
 }
 

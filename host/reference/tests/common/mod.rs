@@ -14,11 +14,16 @@ pub type Block = [u8; 176];
 pub type FrameBytes = [u8; 224];
 pub const ZERO: [u8; 32] = [0; 32];
 
-/// Where the head has its heights, H, the current and the finalized one, the flags and the edition.
-pub const HEIGHTS: usize = 2;
+/// Where the head of edition 3 has the low bytes of H, of the current and of the finalized height; the high one follows.
+pub const HEIGHTS: usize = 40;
+pub const CURRENT: usize = 42;
+pub const FINALIZED: usize = 44;
+
+/// Where editions 1 and 2 have these three.
+pub const SHORT: [usize; 3] = [2, 4, 5];
+
+/// Where every edition has its flags and its number.
 pub const FLAGS: usize = 3;
-pub const CURRENT: usize = 4;
-pub const FINALIZED: usize = 5;
 pub const EDITION: usize = 7;
 
 /// Where the parts of a book begin.
@@ -42,13 +47,40 @@ pub fn weights_of(book: &[u8]) -> Vec<u16> {
     (0..book[0].into()).map(weight).collect()
 }
 
-/// The same book in edition 1, a replica's or an observer's; its replicas must all weigh 1.
+/// A book of edition 3 in edition 2, a replica's or an observer's; it must have at most 63 heights.
+pub fn second_edition(book: &[u8]) -> Vec<u8> {
+    let mut second = book.to_vec();
+    let long = [HEIGHTS, CURRENT, FINALIZED];
+    assert_eq!((book[EDITION], long.map(|at| book[at + 1])), (3, [0; 3]));
+    SHORT.iter().zip(long).for_each(|(to, from)| second[*to] = book[from]);
+    second[EDITION] = 2;
+    second[40..64].fill(0);
+    second
+}
+
+/// The same book in edition 1; its replicas must all weigh 1.
 pub fn first_edition(book: &[u8]) -> Vec<u8> {
-    let mut first = book.to_vec();
-    assert_eq!((book[EDITION], weights_of(book)), (2, vec![1; book[0].into()]));
+    let mut first = if book[EDITION] == 3 { second_edition(book) } else { book.to_vec() };
+    assert_eq!((first[EDITION], weights_of(book)), (2, vec![1; book[0].into()]));
     first[EDITION] = 1;
-    first[8..64].fill(0);
+    first[8..40].fill(0);
     first
+}
+
+/// Where a book of any edition has the low byte of one of the three heights of its head.
+pub fn place_of(book: &[u8], long: usize) -> usize {
+    let short = SHORT[[HEIGHTS, CURRENT, FINALIZED].iter().position(|at| *at == long).unwrap()];
+    if book[EDITION] == 3 {
+        long
+    } else {
+        short
+    }
+}
+
+/// The number of heights of a book of any edition.
+pub fn heights_of(book: &[u8]) -> usize {
+    let high = if book[EDITION] == 3 { book[HEIGHTS + 1] } else { 0 };
+    usize::from(book[place_of(book, HEIGHTS)]) + 256 * usize::from(high)
 }
 
 /// A new book of replicas of these weights.
@@ -64,10 +96,10 @@ pub fn new_book(n: u64, own: u64, leaders: &[u8]) -> Vec<u8> {
     weighed_book(&vec![1; n as usize], own, leaders)
 }
 
-/// The bytes of a block that follow its heights; request 2.7 makes them their high bytes.
+/// Where a block has the high bytes of its heights.
 pub const HIGH_BYTES: [usize; 2] = [1, 3];
 
-/// The byte of a frame that follows its height; request 2.7 makes it the high byte.
+/// Where a frame has the high byte of its height.
 pub const HIGH_BYTE: usize = 3;
 
 /// A byte of a frame that no kind uses, now or later.
@@ -80,7 +112,7 @@ pub fn row(height: usize) -> usize {
 
 /// Where the body of a height begins; its notarized block is 176 and its votes 352 further on.
 pub fn body(book: &[u8], height: usize) -> usize {
-    CONTENTS + 16 * usize::from(book[HEIGHTS]) + 864 * (height - 1)
+    CONTENTS + 16 * heights_of(book) + 864 * (height - 1)
 }
 
 /// An entry that differs from those with another tag. Its first byte is 0 to 3: request 2.13 takes no other.
@@ -90,12 +122,12 @@ pub fn entry(tag: u8) -> [u8; 16] {
 
 /// Puts a height into its two bytes of a frame or a block.
 pub fn put_height(bytes: &mut [u8], height: Height) {
-    bytes.copy_from_slice(&[height, 0]);
+    bytes.copy_from_slice(&[height as u8, (height >> 8) as u8]);
 }
 
 /// The height in two bytes of a frame or a block.
 pub fn height_in(bytes: &[u8]) -> Height {
-    bytes[0]
+    Height::from(bytes[0]) + 256 * Height::from(bytes[1])
 }
 
 /// A block of these parts.
@@ -203,6 +235,6 @@ pub fn is_sound(book: &[u8]) -> bool {
 
 /// The log of a book as bytes.
 pub fn log_of(book: &[u8]) -> Vec<u8> {
-    let mut buffer = vec![0; 63 * 8 * 16];
+    let mut buffer = vec![0; 128_000];
     RULES.read(book, &mut buffer).to_vec()
 }

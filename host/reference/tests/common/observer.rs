@@ -23,7 +23,7 @@ pub fn observer_row(height: usize) -> usize {
 
 /// Where the notarized block of a height begins.
 pub fn observer_page(book: &[u8], height: usize) -> usize {
-    64 + 8 * usize::from(book[super::HEIGHTS]) + 176 * (height - 1)
+    64 + 8 * super::heights_of(book) + 176 * (height - 1)
 }
 
 /// Delivers certificates that must all be fresh.
@@ -52,6 +52,6 @@ pub fn is_sound_observer(book: &[u8]) -> bool {
 
 /// The log that an observer reads, as bytes.
 pub fn observed_log(book: &[u8]) -> Vec<u8> {
-    let mut buffer = vec![0; 63 * 8 * 16];
+    let mut buffer = vec![0; 128_000];
     RULES.observer_read(book, &mut buffer).to_vec()
 }

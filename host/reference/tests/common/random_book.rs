@@ -4,18 +4,20 @@ use super::random::Random;
 use super::*;
 use reference::Digest;
 
-/// A book of a few heights, of weights of any kind, some in edition 1. Its finalized height is 0.
+/// A book of a few heights, of weights of any kind, in any edition. Its finalized height is 0.
 pub fn random_book(random: &mut Random, digest: Digest) -> Vec<u8> {
     let (n, heights) = (1 + random.below(16) as u8, 1 + random.below(7) as Height);
     let own = random.below(n.into()) as u64;
     let weights = random_weights(random, n);
     let mut book = weighed_book(&weights, own, &vec![0; heights.into()]);
-    if weights.iter().all(|&weight| weight == 1) && random.one_in(2) {
-        book = first_edition(&book);
-    }
     book[3] = random.below(16) as u8;
     book[CURRENT] = 1 + random.below(usize::from(heights) + 1) as u8;
     book[6] = random.below(33) as u8;
+    if weights.iter().all(|&weight| weight == 1) && random.one_in(2) {
+        book = first_edition(&book);
+    } else if random.one_in(3) {
+        book = second_edition(&book);
+    }
     for place in book[PENDING..CONTENTS].chunks_mut(16) {
         place.copy_from_slice(&random_entry(random));
     }
