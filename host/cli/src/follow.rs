@@ -30,7 +30,17 @@ pub struct Follower<'a> {
 impl<'a> Follower<'a> {
     /// A follower of the book in a file, which prints entries as objects or in words.
     pub fn new(file: &'a str, disk: Disk, keeper: Keeper, json: bool) -> Follower<'a> {
-        Follower { file, disk, keeper, json, told: 0, settled: 0, frames: 0, refused: 0, strange: 0 }
+        Follower {
+            file,
+            disk,
+            keeper,
+            json,
+            told: 0,
+            settled: 0,
+            frames: 0,
+            refused: 0,
+            strange: 0,
+        }
     }
 
     /// Prints what is settled from this height on, if one is given, and then what settles with each line of the input.

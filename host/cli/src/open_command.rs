@@ -43,7 +43,9 @@ fn roll(arguments: &Arguments) -> Result<Vec<u8>, Problem> {
     let heights = usize::from(arguments.height("heights")?);
     if roll.len() > heights {
         let leaders = roll.len();
-        return Err(Problem::input(format!("--roll has {leaders} leaders, and --heights is {heights}")));
+        return Err(Problem::input(format!(
+            "--roll has {leaders} leaders, and --heights is {heights}"
+        )));
     }
     Ok(roll.into_iter().cycle().take(heights).collect())
 }

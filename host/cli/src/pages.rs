@@ -103,7 +103,8 @@ pub fn register(book: &[u8]) -> BTreeSet<Height> {
 /// The entries that the register does not count, because an earlier one of its chain equals them: each by the height of
 /// its page and its place there.
 pub fn filed_before(book: &[u8], register: &BTreeSet<Height>) -> BTreeSet<(Height, usize)> {
-    let pages = register.iter().filter_map(|height| Some((*height, page(book, *height, Area::Notarized)?)));
+    let pages =
+        register.iter().filter_map(|height| Some((*height, page(book, *height, Area::Notarized)?)));
     let (mut filed, mut repeats) = (BTreeSet::new(), BTreeSet::new());
     for (height, page) in pages {
         let entries = page.block.entries.into_iter().enumerate();

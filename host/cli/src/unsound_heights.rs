@@ -14,7 +14,10 @@ pub fn no_length(book: &[u8]) -> Option<String> {
     let newer = match at(book, field::EDITION) {
         0..=EDITION => String::new(),
         edition => {
-            format!("; byte {} says edition {edition}, which this program does not know", field::EDITION)
+            format!(
+                "; byte {} says edition {edition}, which this program does not know",
+                field::EDITION
+            )
         }
     };
     let (length, rule) = (book.len(), format!("for any H from 1 to {MOST_HEIGHTS}"));

@@ -27,9 +27,9 @@ pub fn fault(book: &[u8]) -> Option<Fault> {
     match at(book, field::EDITION) {
         FIRST_EDITION => zeros(book, field::WEIGHTS..END),
         SECOND_EDITION => weights(book).or_else(|| zeros(book, field::LONG..END)),
-        _ => zeros(book, short)
-            .or_else(|| weights(book))
-            .or_else(|| zeros(book, field::UNUSED..END)),
+        _ => {
+            zeros(book, short).or_else(|| weights(book)).or_else(|| zeros(book, field::UNUSED..END))
+        }
     }
 }
 

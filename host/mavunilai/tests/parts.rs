@@ -63,7 +63,7 @@ fn line(heights: Height, leader: impl Fn(Height) -> Option<u8>, station: bool) -
     let mut words: Vec<u32> = vec![heights.into(), station.into(), 0];
     let leaders = (0..=MOST_HEIGHTS + 300).map(|height| leader(height).unwrap_or(NO_STATION));
     words.extend(leaders.chain([NO_STATION; 6]).map(u32::from));
-    words.extend([heights.into(), station.into()]);
+    words.extend([u32::from(heights), u32::from(station)]);
     words.iter().map(u32::to_string).collect::<Vec<_>>().join(" ")
 }
 
