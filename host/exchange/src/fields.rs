@@ -3,15 +3,18 @@
 use crate::{bytes, words};
 use std::ops::Range;
 use types::{book_length, field, head_height, mask_at, observer_book_length, Height};
-use types::{BLOCK, ENTRY, FRAME, MOST_PENDING, MOST_REPLICAS};
+use types::{BLOCK, EDITION, ENTRY, FRAME, MOST_PENDING, MOST_REPLICAS};
 
 /// Of bytes that are no field of their own so many are told, from the first that differs.
 const MOST_TOLD: usize = 32;
 
+/// Where the head of a book ends.
+const HEAD: usize = 64;
+
 /// What bytes stand for.
 #[derive(Clone, Copy, Debug, PartialEq, Eq)]
 pub enum Shape {
-    /// A book, a station's or an observer's: by its length.
+    /// A book, a station's or an observer's: by the number of heights in its head and its length.
     Book,
     /// The reply of move or fetch: frames.
     Reply,
@@ -96,6 +99,7 @@ fn fields(shape: Shape, one: &[u8], two: &[u8]) -> Vec<Field> {
     let length = one.len().max(two.len());
     let mut fields = Fields::default();
     let heights = [one, two].map(|book| head_height(book, field::HEIGHTS));
+    fields.long = [one, two].iter().any(|book| book.get(field::EDITION) == Some(&EDITION));
     match (shape, heights) {
         (Shape::Book, [h, other]) => match [one.len(), two.len()] {
             lengths if h == other && lengths == [book_length(h); 2] => fields.book(h),
@@ -123,6 +127,8 @@ fn fields(shape: Shape, one: &[u8], two: &[u8]) -> Vec<Field> {
 struct Fields {
     list: Vec<Field>,
     end: usize,
+    /// Whether a head has two bytes for each height.
+    long: bool,
 }
 
 impl Fields {
@@ -137,15 +143,28 @@ impl Fields {
     fn head(&mut self) {
         self.add("number of stations", 1, Sort::Number);
         self.add("own number", 1, Sort::Number);
-        self.add("number of heights", 1, Sort::Number);
+        match self.long {
+            true => self.add("zero before the flags", 1, Sort::Bytes),
+            false => self.add("number of heights", 1, Sort::Number),
+        }
         self.add("flags of the current height", 1, Sort::Flags);
-        self.add("current height", 1, Sort::Number);
-        self.add("settled height", 1, Sort::Number);
+        match self.long {
+            true => self.add("zeros behind the flags", 2, Sort::Bytes),
+            false => self.heights_of_head(&["current height", "settled height"], 1),
+        }
         self.add("number of pending entries", 1, Sort::Number);
         self.add("edition", 1, Sort::Number);
         (0..MOST_REPLICAS)
             .for_each(|at| self.add(format!("weight of station {at}"), 2, Sort::Number));
-        self.add("zeros of the head", 24, Sort::Bytes);
+        if self.long {
+            self.heights_of_head(&["number of heights", "current height", "settled height"], 2);
+        }
+        self.add("zeros of the head", HEAD.saturating_sub(self.end), Sort::Bytes);
+    }
+
+    /// Heights of the head, each of so many bytes.
+    fn heights_of_head(&mut self, names: &[&str], length: usize) {
+        names.iter().for_each(|name| self.add(*name, length, Sort::Number));
     }
 
     /// The fields of a book.
@@ -193,10 +212,9 @@ impl Fields {
         stations.for_each(|at| self.add(format!("{of}, page vote of {at}"), 32, Sort::Digest));
     }
 
-    /// A height of a page or a frame, and the zero behind it.
+    /// A height of a page or a frame.
     fn height(&mut self, of: &str, name: &str) {
-        self.add(format!("{of}, {name}"), 1, Sort::Number);
-        self.add(format!("{of}, zero behind the {name}"), 1, Sort::Bytes);
+        self.add(format!("{of}, {name}"), 2, Sort::Number);
     }
 
     /// A page.
@@ -252,19 +270,25 @@ fn told(sort: Sort, one: &[u8], two: &[u8]) -> [String; 2] {
 #[allow(clippy::unwrap_used, clippy::panic)]
 mod tests {
     use super::*;
-    use types::{put_head_height, Area, Layout, ObserverArea, ObserverLayout, MOST_HEIGHTS};
+    use types::{put_head_height, Area, Layout, ObserverArea, ObserverLayout};
 
-    /// An observer's book of zeros but for its number of heights.
-    fn observer(heights: Height) -> Vec<u8> {
-        let mut book = vec![0; observer_book_length(heights)];
+    /// Bytes of zeros but for their edition and number of heights.
+    fn book(length: usize, edition: u8, heights: Height) -> Vec<u8> {
+        let mut book = vec![0; length];
+        book[field::EDITION] = edition;
         put_head_height(&mut book, field::HEIGHTS, heights);
         book
     }
 
+    /// An observer's book of zeros but for its edition and number of heights.
+    fn observer(edition: u8, heights: Height) -> Vec<u8> {
+        book(observer_book_length(heights), edition, heights)
+    }
+
     #[test]
     fn fields_fill_an_observers_book_and_lie_where_its_layout_has_them() {
-        for heights in [1, 3, MOST_HEIGHTS] {
-            let book = observer(heights);
+        for (edition, heights) in [(1, 1), (2, 63), (3, 3), (3, 1000)] {
+            let book = observer(edition, heights);
             let fields = fields(Shape::Book, &book, &book);
             let ends: Vec<usize> = fields.iter().map(|field| field.range.end).collect();
             assert!(fields.iter().skip(1).zip(&ends).all(|(field, end)| field.range.start == *end));
@@ -280,9 +304,9 @@ mod tests {
 
     #[test]
     fn each_changed_field_of_an_observers_book_is_told() {
-        let one = observer(2);
+        let one = observer(3, 2);
         let mut two = one.clone();
-        (two[field::CURRENT], two[72], two[73], two[76]) = (1, 2, 9, 7);
+        (two[43], two[72], two[73], two[76]) = (1, 2, 9, 7);
         two[64 + 16 + 176] = 2;
         let told: Vec<String> = differences(Shape::Book, &one, &two)
             .iter()
@@ -291,7 +315,7 @@ mod tests {
         assert_eq!(
             told,
             [
-                "current height (4): 0 | 1",
+                "current height (42): 0 | 256",
                 "height 2, state (72): 0 | 2 (page notarised)",
                 "height 2, zero behind the state (73): 00 | 09",
                 "height 2, blank (76): - | 0 1 2",
@@ -302,9 +326,8 @@ mod tests {
 
     #[test]
     fn fields_fill_a_book_and_lie_where_the_layout_has_them() {
-        for heights in [1, 3, MOST_HEIGHTS] {
-            let mut book = vec![0; book_length(heights)];
-            put_head_height(&mut book, field::HEIGHTS, heights);
+        for (edition, heights) in [(1, 1), (2, 63), (3, 3), (3, 1000)] {
+            let book = book(book_length(heights), edition, heights);
             let fields = fields(Shape::Book, &book, &book);
             let ends: Vec<usize> = fields.iter().map(|field| field.range.end).collect();
             assert!(fields.iter().skip(1).zip(&ends).all(|(field, end)| field.range.start == *end));
@@ -325,8 +348,7 @@ mod tests {
 
     #[test]
     fn each_changed_field_is_told() {
-        let mut one = vec![0; book_length(1)];
-        put_head_height(&mut one, field::HEIGHTS, 1);
+        let one = book(book_length(1), 3, 1);
         let mut two = one.clone();
         two[field::FLAGS] = 3;
         two[576 + 4] = 7;
@@ -352,9 +374,9 @@ mod tests {
     #[test]
     fn every_byte_of_both_books_and_of_a_reply_counts() {
         let lengths = [book_length(2), observer_book_length(2)].map(|length| (Shape::Book, length));
-        for (shape, length) in lengths.into_iter().chain([(Shape::Reply, 449)]) {
-            let mut one = vec![0; length];
-            put_head_height(&mut one, field::HEIGHTS, 2);
+        let shapes = lengths.into_iter().chain([(Shape::Reply, 449)]);
+        for ((shape, length), edition) in shapes.flat_map(|shape| [1, 2, 3].map(|e| (shape, e))) {
+            let one = book(length, edition, 2);
             for at in 0..length {
                 let mut two = one.clone();
                 two[at] ^= 1;
@@ -363,6 +385,29 @@ mod tests {
         }
         assert_eq!(differences(Shape::Register, &[0; 40], &[1; 40]).len(), 3);
         assert_eq!(differences(Shape::Book, &[0; 3], &[0; 4]).len(), 2);
+    }
+
+    #[test]
+    fn heads_are_told_by_edition() {
+        let names = |edition: u8| {
+            let book = book(book_length(1), edition, 1);
+            let told = [2, 4, 5, 8, 39, 40, 41, 42, 44, 45, 46, 63];
+            told.map(|at| place(&book, at).unwrap())
+        };
+        let of = |name: &str, at: usize| (name.to_string(), at);
+        let [zeros, weights] = [("zeros of the head", 40), ("weight of station 15", 38)];
+        let (first, last) = (of("weight of station 0", 8), of(weights.0, weights.1));
+        let short = [of("number of heights", 2), of("current height", 4), of("settled height", 5)];
+        let rest = [(); 7].map(|()| of(zeros.0, zeros.1));
+        let expected: Vec<_> = short.into_iter().chain([first.clone(), last.clone()]).collect();
+        assert_eq!([&expected[..], &rest].concat(), names(2));
+        let unused = [of("zero before the flags", 2), of("zeros behind the flags", 4)];
+        let [h, c, g] = [("number of heights", 40), ("current height", 42), ("settled height", 44)]
+            .map(|(name, at)| of(name, at));
+        let zeros = of("zeros of the head", 46);
+        let [one, two] = unused;
+        let heights = [h.clone(), h, c, g.clone(), g, zeros.clone(), zeros];
+        assert_eq!([&[one, two.clone(), two, first, last][..], &heights].concat(), names(3));
     }
 
     #[test]

@@ -2,6 +2,7 @@
 
 mod calls;
 mod folder;
+mod heights;
 mod observers;
 mod played;
 mod repeats;

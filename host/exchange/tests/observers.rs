@@ -4,7 +4,7 @@ use crate::played::{list, played};
 use exchange::{scenarios, Answer, Call, Line, List, ObserverCall};
 use std::collections::BTreeSet;
 use types::Delivered::{Fresh, Known};
-use types::{is_observers, Move, FRAME_HEIGHT};
+use types::{field, head_height, height_at, is_observers, Move, FRAME_HEIGHT};
 
 /// Each call of a list with the book before it and what it answers.
 fn calls(list: &List) -> Vec<(Call, String, Vec<u8>, Answer)> {
@@ -45,8 +45,9 @@ fn frames_of_every_kind_occur_with_every_answer() {
     for (call, _, book, answer) in calls(&list("observers")) {
         let Call::Observer(ObserverCall::Deliver { frame }) = call else { continue };
         let [kind, signer, ..] = frame[..] else { continue };
-        let height = frame[FRAME_HEIGHT];
-        let outside = (height == 0 || height > book[2], signer >= book[0]);
+        let height = height_at(&frame, FRAME_HEIGHT);
+        let last = head_height(&book, field::HEIGHTS);
+        let outside = (height == 0 || height > last, signer >= book[0]);
         seen.insert((kind, outside, answer.to_string()));
     }
     for kind in 5..=7 {
@@ -105,10 +106,14 @@ fn the_observer_of_the_season_is_given_certificates_and_follows() {
     assert_eq!(watched().next_back().unwrap().3, Answer::Part(64));
 }
 
-/// The program `calls`, which plays a list on the proved code, has room for so many buffers of such names and lengths.
+/// The lists with books of more than 63 heights.
+const LONG: [&str; 2] = ["heights", "long"];
+
+/// The program `calls`, which plays a list on the proved code, has room for so many buffers of such names and lengths;
+/// lists with longer books are not for it.
 #[test]
 fn lists_fit_the_program_that_plays_them() {
-    for name in scenarios::NAMES {
+    for name in scenarios::NAMES.into_iter().filter(|name| !LONG.contains(name)) {
         let mut names = BTreeSet::new();
         for line in list(name).lines {
             if let Line::Give { name, bytes } = line {

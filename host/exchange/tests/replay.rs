@@ -60,10 +60,12 @@ fn a_list_in_full_has_bytes_and_replays() {
     let text = full_sample();
     assert_eq!(problem(&text), None);
     assert!(
-        text.contains("\nsignal book 1 == done 040201010100000201000100010001+00*1441\n"),
+        text.contains(
+            "\nsignal book 1 == done 040200010000000301000100010001+00*25+010001+00*1413\n"
+        ),
         "{text}"
     );
-    assert!(text.contains(" == dummy 1 04020103") && text.contains(" 030201+00*221+aa*224\n"));
+    assert!(text.contains(" == dummy 1 04020003") && text.contains(" 030201+00*221+aa*224\n"));
     let list = List::parse(&text).unwrap();
     assert_eq!(list.to_string(), text);
     assert_eq!(record(&list, &Rules::SHA256), Ok(list));
@@ -71,7 +73,7 @@ fn a_list_in_full_has_bytes_and_replays() {
 
 #[test]
 fn other_bytes_in_full_are_found_with_both_books() {
-    let text = full_sample().replacen("== done 04020101", "== done 04020100", 1);
+    let text = full_sample().replacen("== done 04020001", "== done 04020000", 1);
     let list = List::parse(&text).unwrap();
     let failure = replay(&list, &Rules::SHA256).unwrap_err();
     assert_eq!(failure.to_string(), "line 5: the bytes of the book are not the expected ones");

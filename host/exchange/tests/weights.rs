@@ -32,25 +32,30 @@ fn delivered(call: &Call) -> Option<(bool, &[u8])> {
 
 #[test]
 fn no_call_but_open_changes_edition_or_weights() {
-    let mut editions = BTreeSet::new();
+    let mut editions = [1, 2].map(|edition| (edition, BTreeSet::new()));
     for made in all() {
-        let head = |book: &[u8]| book.get(field::EDITION..64).map(<[u8]>::to_vec);
+        let kept = (field::EDITION..field::CURRENT.long).chain(field::UNUSED..64);
+        let head = |book: &[u8]| kept.clone().map(|at| book.get(at).copied()).collect::<Vec<_>>();
         if opening(&made.call).is_none() || made.answer != Answer::Done {
             assert_eq!(head(&made.book), head(&made.left), "{:?}", made.call);
         } else {
-            assert_eq!(made.left[field::EDITION], 2);
+            assert_eq!(made.left[field::EDITION], 3);
         }
         let name = made.call.words("", "").split(' ').next().unwrap().to_string();
         let refused = matches!(made.answer, Answer::Deny(_) | Answer::Part(0));
-        if !refused && made.book.get(field::EDITION) == Some(&1) {
-            editions.insert(name);
+        for (edition, seen) in &mut editions {
+            if !refused && made.book.get(field::EDITION) == Some(edition) {
+                seen.insert(name.clone());
+            }
         }
     }
-    assert_eq!(editions.len(), 14, "every call, taken on a book of edition 1: {editions:?}");
+    for (edition, seen) in editions {
+        assert_eq!(seen.len(), 14, "every call, taken on a book of edition {edition}: {seen:?}");
+    }
 }
 
 #[test]
-fn each_byte_of_the_head_is_broken_alone_in_both_editions() {
+fn each_byte_of_the_head_is_broken_alone_in_editions_1_and_2() {
     let calls = played(&list("editions"));
     for (observers, edition) in [(false, 1), (false, 2), (true, 1), (true, 2)] {
         let of = |made: &&Played| {

@@ -63,7 +63,7 @@ fn free_bytes<C: Calls>(to: &mut Recorder<C>) {
 fn past_the_end<C: Calls>(to: &mut Recorder<C>) {
     to.part("All heights passed and all flags set, or flag 1 alone: only move 2 is left");
     for flags in [1, 15] {
-        edited(to, &[(field::FLAGS, flags), (field::CURRENT, 3)]);
+        edited(to, &[(field::FLAGS, flags), (field::CURRENT.long, 3)]);
         moves(to, BOOK);
     }
     deliver(to, BOOK, &[Frame::FinalizeCertificate { mask: 13, height: 1 }]);
@@ -110,11 +110,11 @@ fn damage<C: Calls>(to: &mut Recorder<C>) {
         (field::N, 0),
         (field::N, 17),
         (field::OWN, 4),
-        (field::HEIGHTS, 3),
+        (field::HEIGHTS.long, 3),
         (field::FLAGS, 16),
-        (field::CURRENT, 0),
-        (field::CURRENT, 4),
-        (field::FINALIZED, 2),
+        (field::CURRENT.long, 0),
+        (field::CURRENT.long, 4),
+        (field::FINALIZED.long, 2),
         (field::PENDING, 33),
         (field::EDITION, 255),
         (UNUSED, 1),

@@ -1,8 +1,8 @@
-//! The end of the list of corners: fields that a frame does not use, lengths one byte off, the largest book.
+//! The end of the list of corners: fields that a frame does not use, lengths one byte off, a book of 63 heights.
 
 use super::parts::*;
 use crate::{equal_weights, Call, Recorder};
-use types::{Calls, Frame, MOST_HEIGHTS};
+use types::{Calls, Frame, MOST_SHORT_HEIGHTS};
 
 /// The one book of the list.
 const BOOK: &str = "book";
@@ -10,9 +10,9 @@ const BOOK: &str = "book";
 /// Records these parts.
 pub fn run<C: Calls>(to: &mut Recorder<C>) {
     single_bytes(to);
-    bytes_after_heights(to);
+    high_bytes(to);
     one_byte_more(to);
-    largest_book(to);
+    most_stations(to);
 }
 
 /// A frame of each kind.
@@ -46,21 +46,28 @@ fn single_bytes<C: Calls>(to: &mut Recorder<C>) {
     }
 }
 
-/// The bytes that request 2.7 makes the high bytes of heights: byte 3 of a frame, bytes 1 and 3 of its page.
-fn bytes_after_heights<C: Calls>(to: &mut Recorder<C>) {
-    to.part("The byte after a height is 4 as well: in a frame of each kind, and in the pages of kinds 1 and 5");
+/// The high bytes of heights: byte 3 of a frame, bytes 1 and 3 of its page.
+fn high_bytes<C: Calls>(to: &mut Recorder<C>) {
+    to.part("The high byte of a height: 6 in a frame of each kind; in kinds 1 and 5 it is 4 unless the page has it too");
     for frame in &kinds() {
         with_one(to, frame, 3);
         if matches!(frame, Frame::Proposal { .. } | Frame::BlockCertificate { .. }) {
             [49, 51].into_iter().for_each(|at| with_one(to, frame, at));
+            with_ones(to, frame, &[3, 49]);
         }
     }
 }
 
 /// Delivers a frame with one byte set.
 fn with_one<C: Calls>(to: &mut Recorder<C>, frame: &Frame, at: usize) {
+    with_ones(to, frame, &[at]);
+}
+
+/// Delivers a frame with some bytes set.
+fn with_ones<C: Calls>(to: &mut Recorder<C>, frame: &Frame, places: &[usize]) {
     let mut bytes = frame.bytes();
-    bytes.iter_mut().skip(at).take(1).for_each(|byte| *byte = 1);
+    let set = bytes.iter_mut().enumerate().filter(|(at, _)| places.contains(at));
+    set.for_each(|(_, byte)| *byte = 1);
     to.deliver(BOOK, &bytes);
 }
 
@@ -76,10 +83,10 @@ fn one_byte_more<C: Calls>(to: &mut Recorder<C>) {
     to.make(Call::Open { n: 4, own: 2, heights: 1, weights, leaders: vec![0] }, BOOK, "");
 }
 
-fn largest_book<C: Calls>(to: &mut Recorder<C>) {
-    to.part("The largest book: 16 stations, 63 heights; station 15 has the last bit of a mask");
-    let height = MOST_HEIGHTS;
-    to.open(BOOK, 16, 15, &[15; MOST_HEIGHTS as usize]);
+fn most_stations<C: Calls>(to: &mut Recorder<C>) {
+    to.part("16 stations, 63 heights; station 15 has the last bit of a mask");
+    let height = MOST_SHORT_HEIGHTS;
+    to.open(BOOK, 16, 15, &[15; MOST_SHORT_HEIGHTS as usize]);
     let (one, last) = (first(1, &[]), first(height, &[]));
     let of_station_15 = [
         Frame::Proposal { signer: 15, block: last.clone() },

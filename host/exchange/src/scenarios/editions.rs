@@ -1,26 +1,29 @@
-//! The list of editions: which bytes of the head each has, broken one by one, and books of edition 1 in every call.
+//! The list of editions: which bytes of the heads of editions 1 and 2 are what, broken one by one, and books of all
+//! three editions in every call.
 
 use super::observer_chains::settle;
 use super::observers::{blank, finalise, observe, page, WATCH};
 use super::parts::*;
 use crate::{equal_weights, Call, ObserverCall, Recorder};
-use types::{field, put_first_edition, put_weights, Calls, Frame};
+use types::{field, put_edition, put_weights, Calls, Frame, FIRST_EDITION, SECOND_EDITION};
 
 /// A station's book.
 const BOOK: &str = "book";
 
-/// The same book in edition 1.
+/// The same book in editions 1 and 2.
 const FIRST: &str = "first";
+const SECOND: &str = "second";
 
-/// The same observer's book in edition 1.
+/// The same observer's book in editions 1 and 2.
 const EARLIER: &str = "earlier";
+const EARLY: &str = "early";
 
 /// Where the head ends.
 const HEAD: usize = 64;
 
 /// Records the list.
 pub fn run<C: Calls>(to: &mut Recorder<C>) {
-    to.remark("Edition 2 has weights in its head. Edition 1 has none, is read as all weights 1, and stays edition 1.");
+    to.remark("Edition 1 has no weights in its head and is read as all weights 1; edition 2 has them. Both stay.");
     to.give(REPLY, vec![0xaa; 448]);
     for book in [BOOK, WATCH] {
         first_edition(to, book);
@@ -43,10 +46,10 @@ fn new<C: Calls>(to: &mut Recorder<C>, book: &str) -> Vec<u8> {
     to.bytes(book).to_vec()
 }
 
-/// The same book in edition 1.
-fn in_first_edition(book: &[u8]) -> Vec<u8> {
+/// The same book in another edition.
+fn in_edition(edition: u8, book: &[u8]) -> Vec<u8> {
     let mut book = book.to_vec();
-    put_first_edition(&mut book);
+    put_edition(&mut book, edition);
     book
 }
 
@@ -77,7 +80,7 @@ fn first_edition<C: Calls>(to: &mut Recorder<C>, book: &str) {
         "Edition 1, {}: sound; then each byte from 8 to 63 in turn is not zero",
         whose(book)
     ));
-    let sound = in_first_edition(&new(to, book));
+    let sound = in_edition(FIRST_EDITION, &new(to, book));
     ask(to, book, &sound, &[]);
     (field::WEIGHTS..HEAD).for_each(|at| ask(to, book, &sound, &[(at, 1)]));
     to.remark("All four weights of 1 are written out in it");
@@ -88,7 +91,7 @@ fn first_edition<C: Calls>(to: &mut Recorder<C>, book: &str) {
 fn second_edition<C: Calls>(to: &mut Recorder<C>, book: &str) {
     let book_of = whose(book);
     to.part(&format!("Edition 2, {book_of}: sound; each station weighs 0, 1,001, and 1,000 and 256, which are sound"));
-    let sound = new(to, book);
+    let sound = in_edition(SECOND_EDITION, &new(to, book));
     ask(to, book, &sound, &[]);
     let places = (field::WEIGHTS..).step_by(2).take(4);
     for place in places {
@@ -107,19 +110,18 @@ fn second_edition<C: Calls>(to: &mut Recorder<C>, book: &str) {
 }
 
 fn other_editions<C: Calls>(to: &mut Recorder<C>, book: &str) {
-    to.part(&format!(
-        "Editions 0, 3 and above are none, {}: with weights, and without",
-        whose(book)
-    ));
-    let second = new(to, book);
-    let first = in_first_edition(&second);
-    for edition in [0, 3, 4, 128, 255] {
-        ask(to, book, &second, &[(field::EDITION, edition)]);
-        ask(to, book, &first, &[(field::EDITION, edition)]);
+    to.part(&format!("Editions 0, 4 and above are none, {}: over each head", whose(book)));
+    let third = new(to, book);
+    let heads = [FIRST_EDITION, SECOND_EDITION].map(|edition| in_edition(edition, &third));
+    let heads = heads.into_iter().chain([third]).collect::<Vec<_>>();
+    for edition in [0, 4, 128, 255] {
+        heads.iter().for_each(|head| ask(to, book, head, &[(field::EDITION, edition)]));
     }
-    to.remark("Edition 2 without weights, edition 1 with them");
-    ask(to, book, &first, &[(field::EDITION, 2)]);
-    ask(to, book, &second, &[(field::EDITION, 1)]);
+    to.remark("Each edition over the heads of the other two");
+    for (own, head) in (1..).zip(&heads) {
+        let others = (1..=3).filter(|edition| *edition != own);
+        others.for_each(|edition| ask(to, book, head, &[(field::EDITION, edition)]));
+    }
 }
 
 fn numbers_of_stations<C: Calls>(to: &mut Recorder<C>, book: &str) {
@@ -127,26 +129,27 @@ fn numbers_of_stations<C: Calls>(to: &mut Recorder<C>, book: &str) {
         "Another n in {}: one station without a weight, one weight too many; edition 1 has none",
         whose(book)
     ));
-    let second = new(to, book);
-    let first = in_first_edition(&second);
+    let third = new(to, book);
+    let [first, second] =
+        [FIRST_EDITION, SECOND_EDITION].map(|edition| in_edition(edition, &third));
     for n in [3, 5, 16, 0, 17, 255] {
         ask(to, book, &second, &[(field::N, n)]);
         ask(to, book, &first, &[(field::N, n)]);
     }
     to.remark("Sixteen stations: the last weight is 1,000, then 1,001");
-    let mut all = second.clone();
+    let mut all = third.clone();
     put_weights(&mut all, &[1000; 16]);
     for low in [0xe8, 0xe9] {
-        ask(to, book, &all, &[(field::N, 16), (field::UNUSED.saturating_sub(2), low)]);
+        ask(to, book, &all, &[(field::N, 16), (field::LONG.saturating_sub(2), low)]);
     }
 }
 
 fn quorums<C: Calls>(to: &mut Recorder<C>) {
     to.part("Edition 1: three of four are a quorum, two not, for each kind of certificate, and for a book's own masks");
-    let first = in_first_edition(&new(to, BOOK));
-    to.give(BOOK, first);
-    let earlier = in_first_edition(&new(to, WATCH));
-    to.give(WATCH, earlier);
+    for book in [BOOK, WATCH] {
+        let first = in_edition(FIRST_EDITION, &new(to, book));
+        to.give(book, first);
+    }
     let none = super::parts::first(1, &[]);
     for mask in [3, 9, 7, 14] {
         let frames = [page(mask, &none), blank(mask, 1), finalise(mask, 1)];
@@ -160,43 +163,49 @@ fn quorums<C: Calls>(to: &mut Recorder<C>) {
     ask(to, WATCH, &observer, &[(66, 13)]);
 }
 
-/// Makes the same calls on the book of edition 2 and on that of edition 1.
-fn on_both<C: Calls>(to: &mut Recorder<C>, make: impl Fn(&mut Recorder<C>, &str)) {
-    [BOOK, FIRST].into_iter().for_each(|book| make(to, book));
+/// Makes the same calls on the book of edition 3 and on those of editions 1 and 2.
+fn on_all<C: Calls>(to: &mut Recorder<C>, make: impl Fn(&mut Recorder<C>, &str)) {
+    [BOOK, FIRST, SECOND].into_iter().for_each(|book| make(to, book));
+}
+
+/// Gives a book in editions 1 and 2 under these names.
+fn give_older<C: Calls>(to: &mut Recorder<C>, book: &str, names: [&str; 2]) {
+    for (edition, name) in (1..).zip(names) {
+        let older = in_edition(edition, to.bytes(book));
+        to.give(name, older);
+    }
 }
 
 fn calls<C: Calls>(to: &mut Recorder<C>) {
-    to.part("Every call on a book of edition 2 with weights of 1 and on it in edition 1: alike but for the head");
+    to.part("Every call on a book of edition 3 with weights of 1 and on it in editions 1 and 2: alike but for the head");
     to.open(BOOK, 4, 2, &[0, 2]);
-    let first = in_first_edition(to.bytes(BOOK));
-    to.give(FIRST, first);
+    give_older(to, BOOK, [FIRST, SECOND]);
     to.give("register", vec![0xbb; 48]);
     let block = super::parts::first(1, &[entry("swap A1 B2")]);
     let votes = [0, 1, 3].map(|signer| vote(signer, &block));
     let proposal = Frame::Proposal { signer: 0, block: block.clone() };
-    on_both(to, |to, book| deliver(to, book, &[proposal.clone(), blank(3, 1)]));
-    on_both(to, |to, book| _ = to.make_move(book, REPLY));
-    on_both(to, |to, book| deliver(to, book, &votes));
-    on_both(to, |to, book| _ = submit(to, book, entry("lot 7 to C3")));
-    on_both(to, |to, book| _ = signal(to, book, 1));
+    on_all(to, |to, book| deliver(to, book, &[proposal.clone(), blank(3, 1)]));
+    on_all(to, |to, book| _ = to.make_move(book, REPLY));
+    on_all(to, |to, book| deliver(to, book, &votes));
+    on_all(to, |to, book| _ = submit(to, book, entry("lot 7 to C3")));
+    on_all(to, |to, book| _ = signal(to, book, 1));
     let packet = [finalise(13, 1), finalise(3, 1), Frame::Finalize { signer: 1, height: 1 }];
-    on_both(to, |to, book| _ = to.packet(book, &packet.clone().map(|frame| frame.bytes())));
-    on_both(to, |to, book| _ = moves(to, book));
+    on_all(to, |to, book| _ = to.packet(book, &packet.clone().map(|frame| frame.bytes())));
+    on_all(to, |to, book| _ = moves(to, book));
     for (kind, height) in [(5, 1), (7, 1), (6, 1), (5, 3)] {
-        on_both(to, |to, book| _ = to.make(Call::Fetch { kind, height }, book, REPLY));
+        on_all(to, |to, book| _ = to.make(Call::Fetch { kind, height }, book, REPLY));
     }
-    on_both(to, |to, book| _ = to.make(Call::Size, book, ""));
-    on_both(to, |to, book| _ = to.make(Call::Read, book, "register"));
+    on_all(to, |to, book| _ = to.make(Call::Size, book, ""));
+    on_all(to, |to, book| _ = to.make(Call::Read, book, "register"));
 }
 
 fn observers<C: Calls>(to: &mut Recorder<C>) {
-    to.part("An observer's calls on a book of edition 2 with weights of 1, and on the same book in edition 1");
+    to.part("An observer's calls on a book of edition 3 with weights of 1, and on the same book in editions 1 and 2");
     to.open_observer(WATCH, 4, 2);
-    let earlier = in_first_edition(to.bytes(WATCH));
-    to.give(EARLIER, earlier);
+    give_older(to, WATCH, [EARLIER, EARLY]);
     let block = super::parts::first(1, &[entry("swap A1 B2")]);
     let frames = [page(3, &block), page(7, &block), finalise(14, 1), blank(9, 2), blank(13, 2)];
-    for book in [WATCH, EARLIER] {
+    for book in [WATCH, EARLIER, EARLY] {
         observe(to, book, &frames);
         settle(to, book);
         to.observer(book, ObserverCall::Size);
@@ -205,13 +214,19 @@ fn observers<C: Calls>(to: &mut Recorder<C>) {
 }
 
 fn opened_over<C: Calls>(to: &mut Recorder<C>) {
-    to.part("Opening over a book of edition 1 makes edition 2, also with weights of 1; refused, it stays edition 1");
+    to.part(
+        "Opening over books of editions 1 and 2 makes edition 3; refused, they keep their edition",
+    );
     let open = |weights| Call::Open { n: 4, own: 2, heights: 2, weights, leaders: vec![0, 2] };
-    to.make(open(equal_weights(3)), FIRST, "");
-    to.make(Call::Size, FIRST, "");
-    to.make(open(equal_weights(4)), FIRST, "");
+    for book in [FIRST, SECOND] {
+        to.make(open(equal_weights(3)), book, "");
+        to.make(Call::Size, book, "");
+        to.make(open(equal_weights(4)), book, "");
+    }
     let open = |weights| ObserverCall::Open { n: 4, heights: 2, weights };
-    to.observer(EARLIER, open(equal_weights(5)));
-    to.observer(EARLIER, ObserverCall::Size);
-    to.observer(EARLIER, open(equal_weights(4)));
+    for book in [EARLIER, EARLY] {
+        to.observer(book, open(equal_weights(5)));
+        to.observer(book, ObserverCall::Size);
+        to.observer(book, open(equal_weights(4)));
+    }
 }

@@ -4,6 +4,9 @@ mod books;
 mod corners;
 mod edges;
 mod editions;
+mod heads;
+mod heights;
+mod long;
 mod moves;
 mod observer_books;
 mod observer_chains;
@@ -28,7 +31,7 @@ use types::Calls;
 pub use vectors::vectors;
 
 /// The names of the lists; each is a file of the folder with `.txt` behind it.
-pub const NAMES: [&str; 13] = [
+pub const NAMES: [&str; 15] = [
     "refusals",
     "orders",
     "moves",
@@ -41,6 +44,8 @@ pub const NAMES: [&str; 13] = [
     "observers",
     "weights",
     "editions",
+    "heights",
+    "long",
     "unequal",
 ];
 
@@ -60,6 +65,8 @@ pub fn record(name: &str, calls: impl Calls) -> Option<List> {
         "observers" => observers::run(&mut to),
         "weights" => weights::run(&mut to),
         "editions" => editions::run(&mut to),
+        "heights" => heights::run(&mut to),
+        "long" => long::run(&mut to),
         "unequal" => unequal::run(&mut to),
         _ => return None,
     }

@@ -58,15 +58,19 @@ fn head<C: Calls>(to: &mut Recorder<C>, sound: &[u8]) {
     for n in [0, 17, 255] {
         ask(to, sound, &[(row, 0), (row.saturating_add(2), 0), (field::N, n)]);
     }
-    let numbers =
-        [(field::HEIGHTS, 0), (field::HEIGHTS, 2), (field::EDITION, 0), (field::EDITION, 255)];
+    let numbers = [
+        (field::HEIGHTS.long, 0),
+        (field::HEIGHTS.long, 2),
+        (field::EDITION, 0),
+        (field::EDITION, 255),
+    ];
     let zeros = [
         (field::OWN, 1),
         (field::OWN, 255),
         (field::FLAGS, 1),
         (field::FLAGS, 16),
-        (field::CURRENT, 1),
-        (field::CURRENT, 2),
+        (field::CURRENT.long, 1),
+        (field::CURRENT.long, 2),
         (field::PENDING, 1),
         (field::PENDING, 33),
         (46, 1),
@@ -124,17 +128,22 @@ fn free_bytes<C: Calls>(to: &mut Recorder<C>, sound: &[u8]) {
     settle(to, WATCH);
     to.observer(WATCH, ObserverCall::Size);
     to.remark("g may be 0 where a height is settled; a move finds it again");
-    ask(to, sound, &[(field::FINALIZED, 0)]);
+    ask(to, sound, &[(field::FINALIZED.long, 0)]);
     settle(to, WATCH);
 }
 
 fn settled<C: Calls>(to: &mut Recorder<C>, sound: &[u8]) {
     to.part("g must be settled: not a blank height, not one without finalises, not one above H");
     let [one, two, three] = [1, 2, 3].map(|height| start(height, ObserverArea::Row));
-    ask_each(to, sound, 0, &[(field::FINALIZED, 2), (field::FINALIZED, 3), (field::FINALIZED, 4)]);
+    ask_each(
+        to,
+        sound,
+        0,
+        &[(field::FINALIZED.long, 2), (field::FINALIZED.long, 3), (field::FINALIZED.long, 4)],
+    );
     ask(to, sound, &[(one.saturating_add(6), 12)]);
     to.remark("With finalises 3 is settled; not so where 2 is not blank, the back digest is another, page 1 is none");
-    let last = [(field::FINALIZED, 3), (three.saturating_add(6), 7)];
+    let last = [(field::FINALIZED.long, 3), (three.saturating_add(6), 7)];
     let digest = start(3, ObserverArea::Notarized).saturating_add(20);
     let spoilt = sound.get(digest).copied().unwrap_or(0) ^ 1;
     ask(to, sound, &last);

@@ -4,7 +4,7 @@ use super::observers::{blank, finalise, observe, page, WATCH};
 use super::parts::*;
 use crate::{Answer, Call, ObserverCall, Recorder};
 use types::{Block, Calls, Frame, Move};
-use types::{ObserverArea, ObserverLayout, ENTRY, MOST_HEIGHTS, MOST_REPLICAS};
+use types::{ObserverArea, ObserverLayout, ENTRY, MOST_REPLICAS, MOST_SHORT_HEIGHTS};
 
 /// The buffer that registers are read into.
 const REGISTER: &str = "register";
@@ -152,17 +152,21 @@ fn side_by_side<C: Calls>(to: &mut Recorder<C>) {
 }
 
 fn largest<C: Calls>(to: &mut Recorder<C>) {
-    to.part("The largest book: 63 heights, 16 stations, all blank below the last, whose page stands on none");
+    to.part("63 heights, 16 stations, all blank below the last, whose page stands on none");
     let all = u16::MAX;
-    to.open_observer(WATCH, MOST_REPLICAS.into(), MOST_HEIGHTS);
+    to.open_observer(WATCH, MOST_REPLICAS.into(), MOST_SHORT_HEIGHTS);
     let mut book = to.bytes(WATCH).to_vec();
-    for height in 1..MOST_HEIGHTS {
-        let row = ObserverLayout::new(MOST_HEIGHTS).area(height, ObserverArea::Row);
+    for height in 1..MOST_SHORT_HEIGHTS {
+        let row = ObserverLayout::new(MOST_SHORT_HEIGHTS).area(height, ObserverArea::Row);
         book.iter_mut().skip(row.start.saturating_add(4)).take(2).for_each(|byte| *byte = 0xff);
     }
     to.give(WATCH, book);
     let entries: Vec<_> = (1..=8).map(numbered).collect();
-    observe(to, WATCH, &[page(all, &first(MOST_HEIGHTS, &entries)), finalise(0x7ff, MOST_HEIGHTS)]);
+    observe(
+        to,
+        WATCH,
+        &[page(all, &first(MOST_SHORT_HEIGHTS, &entries)), finalise(0x7ff, MOST_SHORT_HEIGHTS)],
+    );
     observe(to, WATCH, &[Frame::DummyCertificate { mask: all, height: 64 }]);
     settle(to, WATCH);
     read(to, WATCH, 128);

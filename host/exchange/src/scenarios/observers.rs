@@ -3,7 +3,9 @@
 use super::observer_chains;
 use super::parts::*;
 use crate::{equal_weights, Call, ObserverCall, Recorder};
-use types::{Block, Calls, Frame, Height, Weights, MOST_HEIGHTS, MOST_REPLICAS};
+use types::{
+    Block, Calls, Frame, Height, Weights, MOST_HEIGHTS, MOST_REPLICAS, MOST_SHORT_HEIGHTS,
+};
 
 /// The book of most lines: an observer of 4 stations.
 pub const WATCH: &str = "watch";
@@ -56,8 +58,8 @@ fn opening<C: Calls>(to: &mut Recorder<C>) {
     for (n, heights) in [(0, 1), (17, 1), (4, 0), (4, past)] {
         to.observer(WATCH, open(n, heights));
     }
-    to.remark("A number is not cut to a byte");
-    for (n, heights) in [(260, 1), (4, 257), (u64::MAX, 1), (4, u64::MAX)] {
+    to.remark("A number is not cut to a byte, nor to two");
+    for (n, heights) in [(260, 1), (4, 65_537), (u64::MAX, 1), (4, u64::MAX)] {
         to.observer(WATCH, open(n, heights));
     }
     to.observer(WATCH, open(4, 1));
@@ -71,7 +73,7 @@ fn opening<C: Calls>(to: &mut Recorder<C>) {
     to.observer(WATCH, ObserverCall::Size);
     to.give(REPLY, vec![0xaa; 448]);
     to.make(Call::Observer(ObserverCall::Read), WATCH, REPLY);
-    to.open_observer(WATCH, MOST_REPLICAS.into(), MOST_HEIGHTS);
+    to.open_observer(WATCH, MOST_REPLICAS.into(), MOST_SHORT_HEIGHTS);
     to.observer(WATCH, ObserverCall::Size);
 }
 
@@ -83,9 +85,8 @@ fn forms<C: Calls>(to: &mut Recorder<C>) {
         let frame: Vec<u8> = good.iter().copied().chain([0]).take(length).collect();
         observe_bytes(to, WATCH, &frame);
     }
-    to.remark("Kinds 0 and 8; a signer, the byte after the height, a digest and a page in a blank certificate");
-    for (at, byte) in [(0, 0), (0, 8), (0, 255), (1, 1), (3, 1), (6, 1), (16, 1), (47, 1), (48, 1)]
-    {
+    to.remark("Kinds 0 and 8; a signer, a zero, a digest and a page in a blank certificate");
+    for (at, byte) in [(0, 0), (0, 8), (0, 255), (1, 1), (6, 1), (16, 1), (47, 1), (48, 1)] {
         observe_bytes(to, WATCH, &edited(good, &[(at, byte)]));
     }
     to.remark("A blank vote with a mask, a finalise with a digest, a page vote with a page");

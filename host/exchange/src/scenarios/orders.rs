@@ -7,7 +7,7 @@ use types::{field, Area, Calls, Frame, Layout};
 /// The one book of the list.
 const BOOK: &str = "book";
 
-/// The bytes of a page that follow its heights; request 2.7 makes them their high bytes.
+/// Where a page has the high bytes of its heights.
 const HIGH_BYTES: [usize; 2] = [1, 3];
 
 /// Records the list.
@@ -123,7 +123,7 @@ fn soundness<C: Calls>(to: &mut Recorder<C>) {
     let edits = rows.map(|(at, byte)| (row.saturating_add(at), byte)).into_iter();
     let edits = edits.chain(pages.clone().map(|(at, byte)| (held.saturating_add(at), byte)));
     let edits = edits.chain(pages.map(|(at, byte)| (notarized.saturating_add(at), byte)));
-    for (at, byte) in edits.chain([(field::FINALIZED, 1), (row.saturating_add(1), 4)]) {
+    for (at, byte) in edits.chain([(field::FINALIZED.long, 1), (row.saturating_add(1), 4)]) {
         let mut book = sound.clone();
         book.iter_mut().skip(at).take(1).for_each(|place| *place = byte);
         to.give(BOOK, book);

@@ -2,7 +2,7 @@
 
 use super::parts::*;
 use crate::{Call, Recorder};
-use types::{Calls, Frame, FRAME, MOST_HEIGHTS, MOST_REPLICAS};
+use types::{Calls, Frame, FRAME, MOST_REPLICAS, MOST_SHORT_HEIGHTS};
 
 /// The one book of the list.
 const BOOK: &str = "book";
@@ -101,8 +101,8 @@ fn large_counts<C: Calls>(to: &mut Recorder<C>) {
     to.packet(BOOK, &[blank(0)]);
     to.packet(BOOK, &[blank(0); 256]);
     to.packet(BOOK, &[MALFORMED; 290]);
-    to.open(BOOK, 16, 15, &[15; MOST_HEIGHTS as usize]);
-    let heights = MOST_HEIGHTS.saturating_sub(16)..=MOST_HEIGHTS;
+    to.open(BOOK, 16, 15, &[15; MOST_SHORT_HEIGHTS as usize]);
+    let heights = MOST_SHORT_HEIGHTS.saturating_sub(16)..=MOST_SHORT_HEIGHTS;
     let votes = heights.flat_map(|height| {
         (0..MOST_REPLICAS).map(move |signer| Frame::Finalize { signer, height }.bytes())
     });

@@ -39,8 +39,10 @@ fn opening<C: Calls>(to: &mut Recorder<C>) {
     }
     to.make(open(4, 2, 1, &[4]), BOOK, "");
     to.make(open(u64::MAX, 2, 1, &[0]), BOOK, "");
-    to.remark("A number is not cut to a byte; 64 heights with a roll of 64 are too many");
-    for (n, own, heights) in [(260, 2, 1), (4, 258, 1), (4, 2, 257)] {
+    to.remark(
+        "A number is not cut to a byte or two; 1,001 heights with a roll of 1,001 are too many",
+    );
+    for (n, own, heights) in [(260, 2, 1), (4, 258, 1), (4, 2, 257), (4, 2, 65_537)] {
         to.make(open(n, own, heights, &[0]), BOOK, "");
     }
     to.make(open(4, 2, past, &[0; MOST_HEIGHTS as usize + 1]), BOOK, "");

@@ -5,7 +5,7 @@ use super::parts::*;
 use super::repeats_pool;
 use crate::{colliding, Call, ObserverCall, Recorder};
 use reference::Rules;
-use types::{Block, Book, Calls, Frame, Height, ObserverBook, ENTRY, MOST_HEIGHTS};
+use types::{Block, Book, Calls, Frame, Height, ObserverBook, ENTRY, MOST_SHORT_HEIGHTS};
 
 /// The station's book of the list; the observer's is [`WATCH`].
 pub const BOOK: &str = "book";
@@ -202,7 +202,7 @@ fn growing<C: Calls>(to: &mut Recorder<C>) {
     }
 }
 
-/// The pages of the longest chain: each has five entries of its own, and repeats a near one, a far one and the first.
+/// The pages of a long chain: each has five entries of its own, and repeats a near one, a far one and the first.
 fn longest_pages() -> Vec<Block> {
     let entries = |height: u8| {
         let [far, near] = [height / 3, height.saturating_sub(1)].map(|height| height.max(1));
@@ -211,10 +211,10 @@ fn longest_pages() -> Vec<Block> {
         let all = places.into_iter().chain(others);
         all.map(|(height, at)| own_of(height, at)).collect()
     };
-    pages(&(1..).take(MOST_HEIGHTS.into()).map(entries).collect::<Vec<_>>())
+    pages(&(1..=63).map(entries).collect::<Vec<_>>())
 }
 
-/// An entry of the longest chain: one of five that a page has of its own.
+/// An entry of the long chain: one of five that a page has of its own.
 fn own_of(height: u8, at: u8) -> Entry {
     let mut entry = [0; ENTRY];
     entry.iter_mut().zip([at % 4, height, at / 4]).for_each(|(to, from)| *to = from);
@@ -222,8 +222,8 @@ fn own_of(height: u8, at: u8) -> Entry {
 }
 
 fn longest<C: Calls>(to: &mut Recorder<C>) {
-    to.part("The longest chain: 63 full pages, in each three repeats, of an entry near, far and the very first");
-    both(to, MOST_HEIGHTS, &certificates(&longest_pages()));
+    to.part("A long chain: 63 full pages, in each three repeats, of an entry near, far and the very first");
+    both(to, MOST_SHORT_HEIGHTS, &certificates(&longest_pages()));
     ask(to, &[5039, 5040]);
     for entry in [own_of(63, 4), own_of(1, 0), own_of(64, 0)] {
         submit(to, BOOK, entry);
