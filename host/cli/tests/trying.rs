@@ -129,7 +129,7 @@ fn what_a_program_may_do_but_answer() {
         ("echo hello; cat >/dev/null", "hello"),
         ("echo; cat >/dev/null", "'"),
         ("printf '\\377\\n'; cat >/dev/null", "it printed a line that is no text"),
-        ("cat /dev/zero", "it printed a line of 1048576 bytes or more"),
+        ("cat /dev/zero", "it printed a line of 8388608 bytes or more"),
         ("M answer | sed -u 's/$/00/'", "its book has 4097 bytes, and it was lent one of 4096"),
         ("M answer | sed -u 's/ [^ ]*$//'", "is no answer followed by the bytes of 1 buffer"),
         ("M answer | sed -u 's/ [^ ]*$/ 0g/'", "'0g' is not pairs of hexadecimal digits"),
