@@ -212,7 +212,7 @@ fn books_of_one_length_are_told_apart() {
     );
 }
 
-/// What an edition has no room for, and what a newer one may be.
+/// What an edition has no room for.
 #[test]
 fn the_rule_of_the_edition_is_told() {
     for edition in [1, 2] {
@@ -228,6 +228,11 @@ fn the_rule_of_the_edition_is_told() {
         );
         refused("show book -", &damaged, &zero);
     }
+}
+
+/// A book of an edition that is not known is told so wherever books are told, and that a newer program may have made it.
+#[test]
+fn a_newer_edition_is_told() {
     let path = fresh("newer");
     for mut book in [station(1000), observer(1000), of_edition(station(3), 1)] {
         book[7] = 4;
@@ -249,6 +254,11 @@ fn the_rule_of_the_edition_is_told() {
         book.pop();
         refused("show book -", &book, "; byte 7 says edition 4, which this program does not know");
     }
+}
+
+/// More than 1,000 heights no book has.
+#[test]
+fn too_many_heights_are_told() {
     let long = [station(1000), vec![0; 880]].concat();
     refused(
         "show book -",

@@ -128,11 +128,10 @@ fn entries_that_were_filed_before_are_marked() {
 }
 
 #[test]
-fn the_rule_that_a_book_breaks_is_told_with_its_byte() {
+fn the_rule_that_a_head_breaks_is_told_with_its_byte() {
     let sound = settled(b"\0one entry      ");
     assert!(Calls::size(&Rules::SHA256, &sound).is_ok());
-    let page = Layout::new(1).area(1, Area::Notarized).start;
-    let cases: [(usize, u8, &str); 19] = [
+    let cases = [
         (0, 17, "byte 0 (number of stations): n is 17, not 1 to 16"),
         (1, 4, "byte 1 (own number): own number 4 is not below n, which is 4"),
         (2, 1, "byte 2 (zero before the flags): it is 1, and must be zero in a book of edition 3"),
@@ -145,6 +144,19 @@ fn the_rule_that_a_book_breaks_is_told_with_its_byte() {
         (7, 0, "byte 7 (edition): the edition is 0, not 1 to 3"),
         (7, 4, "byte 7 (edition): the edition is 4, and this program knows 1 to 3: was the book made by a newer one?"),
         (46, 1, "byte 46 (zeros of the head): it is 1, and must be zero in a book of edition 3"),
+    ];
+    for (byte, value, told) in cases {
+        let mut book = sound.clone();
+        book[byte] = value;
+        refused("show book -", &book, told);
+    }
+}
+
+#[test]
+fn the_rule_that_a_height_breaks_is_told_with_its_byte() {
+    let sound = settled(b"\0one entry      ");
+    let page = Layout::new(1).area(1, Area::Notarized).start;
+    let cases = [
         (576, 4, "byte 576 (height 1, leader): leader 4 is not below n, which is 4"),
         (577, 4, "byte 577 (height 1, state): the state is 4, above 3"),
         (581, 1, "byte 580 (height 1, blank): the mask has a bit that is not below n, which is 4"),
@@ -159,7 +171,9 @@ fn the_rule_that_a_book_breaks_is_told_with_its_byte() {
             "height 1 is not settled: its finalises are no quorum, they weigh 2 of 4, 3 needed",
         ),
         (page + 4, 0, "notarised page, entry 1): it is 111, and must be zero"),
+        (page + 1, 1, "notarised page, height): the page says height 257, and stands at 1"),
         (page + 2, 1, "notarised page, back height): its back height 1 is not below 1"),
+        (page + 3, 1, "notarised page, back height): its back height 256 is not below 1"),
     ];
     for (byte, value, told) in cases {
         let mut book = sound.clone();

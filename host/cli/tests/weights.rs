@@ -252,7 +252,12 @@ fn a_head_that_is_not_sound_is_told() {
             refused("show book -", &book, told);
         }
     }
-    for sound in &sound {
+}
+
+/// What an edition 1 calls zero is told with its byte.
+#[test]
+fn zeros_of_edition_1_are_told() {
+    for sound in [station(&[1; 4], &[]).bytes(), observer(&[1; 4], &[]).bytes()] {
         let older = older(sound);
         fine("show book -", &older);
         for (at, told) in
