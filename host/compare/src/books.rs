@@ -1,17 +1,18 @@
 //! Random books: new ones, sound ones that no run makes, damaged ones and garbage.
 
 use crate::frames::{any_block, any_entry, any_mask};
+use crate::long_books::damage_head;
 use crate::weights::{any_weights, damage_weights, some_edition};
 use crate::Random;
 use reference::{is_quorum, sha256, Rules};
 use types::{book_length, field, head_height, mask_at, put_head_height, Weights};
 use types::{Area, Book, Calls, Height, Layout};
-use types::{ALL_FLAGS, BLOCK, MOST_HEIGHTS, MOST_PENDING, MOST_REPLICAS};
+use types::{ALL_FLAGS, BLOCK, MOST_PENDING, MOST_REPLICAS, MOST_SHORT_HEIGHTS};
 
-/// A number of heights: mostly small, now and then up to the most.
+/// A number of heights that every edition may have: mostly small, now and then up to 63.
 pub fn any_heights(random: &mut Random) -> Height {
     let bound = match random.below(16) {
-        0 => MOST_HEIGHTS,
+        0 => MOST_SHORT_HEIGHTS,
         1..=3 => 20,
         _ => 6,
     };
@@ -44,7 +45,7 @@ fn opened(weights: &[u16], own: u8, leaders: &[u8]) -> Vec<u8> {
     book.map_or_else(|_| Vec::new(), |book| book.bytes().to_vec())
 }
 
-/// A sound book of either edition with any weights, any flags, any current height, junk in every free byte, and blocks
+/// A sound book of any edition with any weights, any flags, any current height, junk in every free byte, and blocks
 /// that may not fit together.
 pub fn strange_book(random: &mut Random, heights: Height) -> Vec<u8> {
     let (n, own, leaders) = arguments_for(random, heights);
@@ -115,10 +116,12 @@ fn settle(random: &mut Random, book: &mut [u8]) {
     put_head_height(book, field::FINALIZED, 0);
 }
 
-/// Changes one byte, a weight or the edition, or cuts or lengthens the book.
+/// Changes one byte, a weight, the edition or a height of the head, or cuts or lengthens the book.
 pub fn damage(random: &mut Random, book: &mut Vec<u8>) {
-    if random.one_in(6) {
-        return damage_weights(random, book);
+    match random.below(12) {
+        0 | 1 => return damage_weights(random, book),
+        2 => return damage_head(random, book),
+        _ => {}
     }
     let at = any_place(random, book);
     let bit = 1 << random.below(8);
@@ -189,7 +192,7 @@ mod tests {
             seen.iter_mut().zip(values).for_each(|(seen, value)| _ = seen.insert(value));
             finalized += u32::from(head_height(&book, field::FINALIZED) > 0);
         }
-        assert_eq!(seen.map(|seen| seen.len()), [16, 16, MOST_HEIGHTS.into(), 16]);
+        assert_eq!(seen.map(|seen| seen.len()), [16, 16, MOST_SHORT_HEIGHTS.into(), 16]);
         assert!(finalized > 600);
     }
 

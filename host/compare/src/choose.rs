@@ -2,13 +2,14 @@
 
 use crate::books::any_arguments;
 use crate::frames::{any_entry, any_frame_bytes, any_height};
+use crate::long_books::longest_log;
 use crate::observer_single::any_observer_call;
 use crate::packets::any_packet;
 use crate::weights::weights_to_open;
 use crate::{repeat_kinds, Random};
 use exchange::Call;
 use reference::Rules;
-use types::{book_length, field, head_height, Calls, ENTRY, MOST_HEIGHTS, MOST_LOG};
+use types::{book_length, field, head_height, Calls, ENTRY, MOST_HEIGHTS};
 
 /// Lengths of replies far from the limits of move and fetch.
 const LENGTHS: [usize; 8] = [0, 1, 32, 256, 400, 600, 671, 672];
@@ -40,7 +41,7 @@ pub fn any_call(random: &mut Random, book: &[u8], recent: &mut Recent) -> (Call,
             let (call, length) = any_observer_call(random, book);
             (Call::Observer(call), length)
         }
-        _ => (Call::Read, MOST_LOG),
+        _ => (Call::Read, longest_log(book)),
     }
 }
 
@@ -93,11 +94,12 @@ fn signal_height(random: &mut Random, book: &[u8]) -> u64 {
     }
 }
 
-/// A height as an argument; seldom a number that no byte holds.
+/// A height as an argument; seldom a number that no two bytes hold, of which the low ones may be a height.
 fn number(random: &mut Random, book: &[u8]) -> u64 {
-    match random.one_in(32) {
-        true => *random.pick(&[256, 257, 1 << 32, u64::MAX]).unwrap_or(&256),
-        false => any_height(random, book).into(),
+    let height = u64::from(any_height(random, book));
+    match random.one_in(24) {
+        true => height | random.pick(&[1 << 8, 1 << 16, 1 << 32, 1 << 63]).copied().unwrap_or(0),
+        false => height,
     }
 }
 
@@ -153,7 +155,11 @@ pub fn any_open(random: &mut Random, book: &[u8]) -> Call {
     match random.below(12) {
         0 => n = *random.pick(&[0, 17, 256, 260, u64::MAX]).unwrap_or(&0),
         1 => own = *random.pick(&[n, 255, 256, u64::MAX]).unwrap_or(&n),
-        2 => heights = *random.pick(&[0, TOO_MANY, 256, 257, u64::MAX]).unwrap_or(&0),
+        2 => {
+            heights = *random
+                .pick(&[0, TOO_MANY, 256 + heights, 65_536 + heights, u64::MAX])
+                .unwrap_or(&0)
+        }
         3 => leaders.push(0),
         4 => leaders.truncate(leaders.len().saturating_sub(1)),
         5 => leaders.extend([255; 4]),

@@ -15,6 +15,9 @@ use types::{
 /// Where the block in a frame has its height.
 const PAGE_HEIGHT: usize = FRAME - BLOCK + BLOCK_HEIGHT;
 
+/// Where a frame and the block in it have the high bytes of their heights.
+pub const HIGH_BYTES: [usize; 3] = [FRAME_HEIGHT + 1, PAGE_HEIGHT + 1, PAGE_HEIGHT + 3];
+
 /// The byte of a book at an offset; 0 past the end.
 pub fn byte(book: &[u8], at: usize) -> u8 {
     book.get(at).copied().unwrap_or(0)
@@ -73,7 +76,10 @@ pub fn any_height(random: &mut Random, book: &[u8]) -> Height {
     let [last, current] = [field::HEIGHTS, field::CURRENT].map(|at| head_height(book, at));
     let near = current.saturating_add(random.height_below(4)).saturating_sub(1);
     match random.below(24) {
-        0 => *random.pick(&[0, last.wrapping_add(1), MOST_HEIGHTS + 1, Height::MAX]).unwrap_or(&0),
+        0 => {
+            let outside = [0, last.wrapping_add(1), MOST_HEIGHTS + 1, Height::MAX];
+            *random.pick(&[&outside[..], &[current ^ 256, 256, 257]].concat()).unwrap_or(&0)
+        }
         1..=5 => random.height_below(last).saturating_add(1),
         _ => near.clamp(1, last.max(1)),
     }
@@ -140,6 +146,10 @@ fn odd_frame(random: &mut Random, book: &[u8]) -> [u8; FRAME] {
         if height_at(&frame, PAGE_HEIGHT) == height && !random.one_in(4) {
             put_height(&mut frame, PAGE_HEIGHT, other);
         }
+    }
+    if random.one_in(4) {
+        let high = *random.pick(&HIGH_BYTES).unwrap_or(&0);
+        frame[high] ^= 1;
     }
     if signed && random.one_in(2) {
         frame[1] = *random.pick(&[0, n.wrapping_sub(1), n, 16, 255]).unwrap_or(&0);

@@ -2,13 +2,13 @@
 
 use crate::traits::{observer_read_length, read_length, reply_length};
 use crate::{
-    listening, observer_kinds, observer_single, packet_kinds, repeat_kinds, second_page_kinds,
-    two_pages, weight_kinds,
+    height_kinds, listening, observer_kinds, observer_single, packet_kinds, repeat_kinds,
+    second_page_kinds, two_pages, weight_kinds,
 };
 use exchange::{Answer, Call, ObserverCall};
 use std::collections::{BTreeMap, BTreeSet};
 use std::fmt;
-use types::{field, head_height, Delivered, MOST_HEIGHTS, MOST_REPLICAS};
+use types::{field, head_height, Delivered, MOST_REPLICAS, MOST_SHORT_HEIGHTS};
 
 /// The refusals of each call that has some.
 const REFUSALS: [(&str, &[u8]); 12] = [
@@ -92,12 +92,14 @@ fn expected() -> Vec<String> {
     let two_pages = second_page_kinds::NAMES.into_iter().chain(two_pages::NAMES);
     let observers = observer_kinds::NAMES.into_iter().chain(observer_single::NAMES);
     let observers = observers.chain(listening::NAMES).chain(weight_kinds::NAMES);
+    let observers = observers.chain(height_kinds::NAMES);
     let named = NAMED.into_iter().chain(packet_kinds::NAMES).chain(two_pages).chain(observers);
     let named = named.map(str::to_string);
     let mut all: Vec<String> = REFUSALS.into_iter().flat_map(refused).collect();
     all.extend(done.into_iter().chain(kinds).chain(lengths).chain(timers).chain(named));
     all.extend(second_page_kinds::by_flags().chain(observer_kinds::by_kind()));
     all.extend(repeat_kinds::names().into_iter().chain(weight_kinds::names()));
+    all.extend(height_kinds::names());
     all
 }
 
@@ -143,6 +145,7 @@ impl Kinds {
         observer_kinds::kinds(call, book, answer).iter().for_each(|name| self.saw(name));
         repeat_kinds::kinds(call, book, lent, answer).iter().for_each(|name| self.saw(name));
         weight_kinds::kinds(call, book, answer).iter().for_each(|name| self.saw(name));
+        height_kinds::kinds(call, book, answer).iter().for_each(|name| self.saw(name));
         let flags = book.get(field::FLAGS).copied().unwrap_or(0);
         if let (Call::Signal { .. }, Answer::Done) = (call, answer) {
             self.saw(&timer(flags));
@@ -161,8 +164,10 @@ impl Kinds {
         if let (true, Some(n)) = (sound && answer != Answer::Deny(1), book.get(field::N)) {
             let heights = head_height(book, field::HEIGHTS);
             let values = [u64::from(*n), heights.into(), flags.into()];
-            let sizes = self.sizes.iter_mut().skip(first);
-            sizes.zip(values).take(3).for_each(|(seen, value)| _ = seen.insert(value));
+            let short = |at: usize| at != 1 || heights <= MOST_SHORT_HEIGHTS;
+            let sizes = self.sizes.iter_mut().skip(first).zip(values).take(3).enumerate();
+            let told = sizes.filter(|(at, _)| short(*at));
+            told.for_each(|(_, (seen, value))| _ = seen.insert(value));
         }
     }
 
@@ -219,10 +224,10 @@ impl Kinds {
 /// How many values each size has.
 const SIZES: [(usize, &str); 5] = [
     (MOST_REPLICAS as usize, "numbers of stations"),
-    (MOST_HEIGHTS as usize, "numbers of heights"),
+    (MOST_SHORT_HEIGHTS as usize, "numbers of heights up to 63"),
     (16, "values of the flags"),
     (MOST_REPLICAS as usize, "numbers of stations of observers"),
-    (MOST_HEIGHTS as usize, "numbers of heights of observers"),
+    (MOST_SHORT_HEIGHTS as usize, "numbers of heights up to 63 of observers"),
 ];
 
 impl fmt::Display for Kinds {

@@ -10,7 +10,7 @@ use exchange::{Answer, Call};
 use reference::is_quorum;
 use types::{book_length, field, head_height, weight_bytes, Weights};
 use types::{Block, Calls, Counts, Delivered, Frame, Height, Move};
-use types::{BLOCK, EDITION, ENTRY, FIRST_EDITION, FRAME, MOST_LOG};
+use types::{BLOCK, EDITION, ENTRY, FIRST_EDITION, FRAME, SECOND_EDITION};
 
 /// The replicas and what is under way between them. The last few replicas are dishonest and have no book here.
 pub struct Network<'a, A, B> {
@@ -113,10 +113,8 @@ impl<'a, A: Calls, B: Second> Network<'a, A, B> {
             (self.weights.iter().any(|weight| *weight != 1), "unequal weights"),
             (self.n > 1 && alone, "one station of several is a quorum alone"),
             (by_number, "a third or more are dishonest by number, not by weight"),
-            (
-                edition(FIRST_EDITION) && edition(EDITION),
-                "a book of edition 1 among others of edition 2",
-            ),
+            (edition(FIRST_EDITION) && edition(EDITION), "books of editions 1 and 3"),
+            (edition(SECOND_EDITION) && edition(EDITION), "books of editions 2 and 3"),
         ];
         told.into_iter().filter(|(is, _)| *is).for_each(|(_, name)| self.saw(name));
     }
@@ -304,10 +302,15 @@ impl<'a, A: Calls, B: Second> Network<'a, A, B> {
         }
     }
 
+    /// The length of the longest log that a replica, or an observer of a few heights more, may have.
+    fn longest_log(&self) -> usize {
+        self.leaders.len().saturating_add(16).saturating_mul(8 * ENTRY)
+    }
+
     /// Reads all logs, observers' too: none may have shrunk, and of any two one must begin the other. An entry that a
     /// chain repeats stands in them once.
     pub fn check(&mut self) -> Result<Option<&'static str>, Halt> {
-        let mut buffer = vec![0xbb; MOST_LOG];
+        let mut buffer = vec![0xbb; self.longest_log()];
         for reader in 0..self.logs.len() {
             let log = match reader.checked_sub(self.books.len()) {
                 Some(observer) => self.observed(observer, &mut buffer)?,

@@ -2,6 +2,7 @@
 
 use crate::books::{any_heights, any_replicas};
 use crate::frames::any_mask;
+use crate::long_books::damage_head;
 use crate::observer_frames::{any_observed_block, observed};
 use crate::weights::{any_weights, damage_weights, some_edition};
 use crate::Random;
@@ -16,7 +17,7 @@ pub fn opened(weights: &[u16], heights: Height) -> Vec<u8> {
     book.map_or_else(|_| Vec::new(), |book| book.bytes().to_vec())
 }
 
-/// A sound book of either edition with any weights, junk in every free byte, and blocks that may not fit together.
+/// A sound book of any edition with any weights, junk in every free byte, and blocks that may not fit together.
 pub fn strange_observer(random: &mut Random, heights: Height) -> Vec<u8> {
     let n = any_replicas(random);
     let mut book = opened(&any_weights(random, n), heights);
@@ -62,8 +63,10 @@ fn settle(random: &mut Random, book: &mut [u8]) {
 /// Changes one byte, often to a value that a station's book has there, a weight or the edition, or cuts or lengthens
 /// the book.
 pub fn damage(random: &mut Random, book: &mut Vec<u8>) {
-    if random.one_in(6) {
-        return damage_weights(random, book);
+    match random.below(12) {
+        0 | 1 => return damage_weights(random, book),
+        2 => return damage_head(random, book),
+        _ => {}
     }
     let at = any_place(random, book);
     let bit = 1 << random.below(8);
@@ -77,8 +80,15 @@ pub fn damage(random: &mut Random, book: &mut Vec<u8>) {
     }
 }
 
-/// The bytes of the head that a station's book uses and an observer's does not.
-const STATIONS: [usize; 4] = [field::OWN, field::FLAGS, field::CURRENT, field::PENDING];
+/// The bytes of the head that a station's book uses and an observer's does not, in one edition or another.
+const STATIONS: [usize; 6] = [
+    field::OWN,
+    field::FLAGS,
+    field::CURRENT.short,
+    field::CURRENT.long,
+    field::CURRENT.long + 1,
+    field::PENDING,
+];
 
 /// A place in an observer's book: in the head's fields, the head, a row, a page or anywhere.
 fn any_place(random: &mut Random, book: &[u8]) -> usize {
@@ -138,7 +148,7 @@ pub fn traits(book: &[u8]) -> Vec<&'static str> {
 mod tests {
     use super::*;
     use std::collections::BTreeSet;
-    use types::MOST_HEIGHTS;
+    use types::MOST_SHORT_HEIGHTS;
 
     #[test]
     fn strange_books_are_sound_and_of_every_size() {
@@ -153,7 +163,7 @@ mod tests {
             seen.iter_mut().zip(values).for_each(|(seen, value)| _ = seen.insert(value));
             finalized += u32::from(head_height(&book, field::FINALIZED) > 0);
         }
-        assert_eq!(seen.map(|seen| seen.len()), [16, MOST_HEIGHTS.into()]);
+        assert_eq!(seen.map(|seen| seen.len()), [16, MOST_SHORT_HEIGHTS.into()]);
         assert!(finalized > 600);
     }
 

@@ -1,6 +1,6 @@
 //! Random frames for an observer's book: mostly certificates that it takes, some that it must refuse.
 
-use crate::frames::{any_entries, any_frame_bytes, any_mask, byte};
+use crate::frames::{any_entries, any_frame_bytes, any_mask, byte, HIGH_BYTES};
 use crate::Random;
 use reference::{is_quorum, sha256};
 use types::{field, head_height, mask_at, put_height, Block, Entries, Frame, Height, Weights};
@@ -36,7 +36,7 @@ fn any_observed_height(random: &mut Random, book: &[u8]) -> Height {
     let last = head_height(book, field::HEIGHTS);
     let near = frontier(book).saturating_add(random.height_below(4)).saturating_sub(2);
     match random.below(24) {
-        0 => *random.pick(&[0, last.wrapping_add(1), Height::MAX]).unwrap_or(&0),
+        0 => *random.pick(&[0, last.wrapping_add(1), 256, 257, Height::MAX]).unwrap_or(&0),
         1..=7 => random.height_below(last).saturating_add(1),
         _ => near.clamp(1, last.max(1)),
     }
@@ -106,6 +106,10 @@ fn odd_frame(random: &mut Random, book: &[u8]) -> [u8; FRAME] {
         let above = 1_u16.checked_shl(n.into()).unwrap_or(0);
         let mask = *random.pick(&[0, 1, above, above | 1, u16::MAX]).unwrap_or(&0);
         frame[4..6].copy_from_slice(&mask.to_le_bytes());
+    }
+    if random.one_in(4) {
+        let high = *random.pick(&HIGH_BYTES).unwrap_or(&0);
+        frame[high] ^= 1;
     }
     if random.one_in(4) {
         frame[random.index(6)] = *random.pick(&[0, 1, 4, 5, 8]).unwrap_or(&0);

@@ -2,15 +2,16 @@
 
 use crate::books::{any_heights, any_replicas, arguments_for};
 use crate::choose::{any_call, near_size, Recent};
+use crate::long_books::{linked, long_heights, longest_log, stretched, watched};
 use crate::observer_books::{damage, garbage, strange_observer, traits};
 use crate::observer_frames::{any_certificate, any_observed_bytes};
 use crate::weights::{any_weights, some_edition, weights_to_open};
 use crate::Random;
-use crate::{repeat_kinds, weight_kinds, Halt, Pair, Second};
+use crate::{height_kinds, repeat_kinds, weight_kinds, Halt, Pair, Second};
 use exchange::{Answer, Call, ObserverCall};
 use reference::Rules;
 use types::{book_length, is_observers, observer_book_length, weight_bytes, Calls, Height, Move};
-use types::{FRAME, MOST_HEIGHTS, MOST_LOG, MOST_REPLICAS};
+use types::{FRAME, MOST_HEIGHTS, MOST_REPLICAS, MOST_SHORT_HEIGHTS};
 
 /// Nothing, or why it ends here.
 type Outcome = Result<(), Halt>;
@@ -39,10 +40,14 @@ const BESIDE: &str = "observer: reads what a station beside it reads, not empty"
 /// Runs one list on an observer's book, of whatever sort, or on one with a station beside it.
 pub fn list<A: Calls, B: Second>(pair: &mut Pair<A, B>, random: &mut Random) -> Found {
     let heights = any_heights(random);
-    match random.below(20) {
+    match random.below(24) {
         0 => {
             pair.begin("observers' books of every size");
             every_size(pair, random)?;
+        }
+        20..=23 => {
+            pair.begin("an observer's book of more than 63 heights, or of too many");
+            from_long(pair, random)?;
         }
         1..=5 => {
             pair.begin("a new observer's book");
@@ -72,7 +77,7 @@ pub fn list<A: Calls, B: Second>(pair: &mut Pair<A, B>, random: &mut Random) -> 
 
 /// A few calls on a new book and on a strange one for every number of heights, and of stations.
 fn every_size<A: Calls, B: Second>(pair: &mut Pair<A, B>, random: &mut Random) -> Outcome {
-    (1..=MOST_HEIGHTS).try_for_each(|heights| {
+    (1..=MOST_SHORT_HEIGHTS).try_for_each(|heights| {
         from_new(pair, random, heights, 1)?;
         from_strange(pair, random, heights, 2)
     })
@@ -125,6 +130,24 @@ fn from_strange<A: Calls, B: Second>(
     calls(pair, random, &mut book, count)
 }
 
+/// A few calls on a book of many heights, which is new, sound and that no run makes, or linked; then one of too many.
+fn from_long<A: Calls, B: Second>(pair: &mut Pair<A, B>, random: &mut Random) -> Outcome {
+    let heights = long_heights(random);
+    match random.below(4) {
+        0 => from_new(pair, random, heights, 4)?,
+        1 => from_strange(pair, random, heights, 8)?,
+        _ => {
+            let mut book = watched(&linked(random, heights));
+            calls(pair, random, &mut book, 12)?;
+        }
+    }
+    (0..2).try_for_each(|_| {
+        let mut book = stretched(random, true);
+        pair.make(&Call::Observer(ObserverCall::Size), &mut book, &mut [])?;
+        calls(pair, random, &mut book, 2)
+    })
+}
+
 /// Begins with a sound book in which something was damaged, again and again, and now and then with another one.
 fn from_damaged<A: Calls, B: Second>(
     pair: &mut Pair<A, B>,
@@ -147,6 +170,7 @@ fn from_damaged<A: Calls, B: Second>(
         pair.kinds.saw(name);
         let is_sound = name == "observer's book: damaged at one byte, still sound";
         weight_kinds::damaged(&sound, &book, is_sound).iter().for_each(|name| pair.kinds.saw(name));
+        height_kinds::damaged(&sound, &book, true).iter().for_each(|name| pair.kinds.saw(name));
         pair.make(&Call::Observer(ObserverCall::Size), &mut book, &mut [])?;
         let count = random.below(3);
         calls(pair, random, &mut book, count)?;
@@ -179,7 +203,7 @@ pub fn any_open(random: &mut Random, book: &[u8]) -> ObserverCall {
     match random.below(8) {
         0 => n = *random.pick(&[0, most + 1, 256, 256 + most, u64::MAX]).unwrap_or(&0),
         1 => {
-            let outside = [0, last + 1, 256, 256 + heights, u64::MAX];
+            let outside = [0, last + 1, 256 + heights, 65_536 + heights, u64::MAX];
             heights = *random.pick(&outside).unwrap_or(&0);
         }
         _ => {}
@@ -194,7 +218,7 @@ pub fn any_observer_call(random: &mut Random, book: &[u8]) -> (ObserverCall, usi
         14..=18 => (ObserverCall::Move, 0),
         19 => (ObserverCall::Size, 0),
         20 if random.one_in(8) => (any_open(random, book), 0),
-        20 | 21 => (ObserverCall::Read, MOST_LOG),
+        20 | 21 => (ObserverCall::Read, longest_log(book)),
         _ => (ObserverCall::Read, reading_length(random, book)),
     }
 }
@@ -281,7 +305,7 @@ fn register<A: Calls, B: Second>(pair: &mut Pair<A, B>, book: &mut [u8]) -> Resu
             break;
         }
     }
-    let mut buffer = vec![0; MOST_LOG];
+    let mut buffer = vec![0; longest_log(book)];
     if let Answer::Part(length) = pair.make(&reading, book, &mut buffer)? {
         buffer.truncate(usize::try_from(length).unwrap_or(0));
     }

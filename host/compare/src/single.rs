@@ -2,12 +2,14 @@
 
 use crate::books::{any_heights, arguments_for, damage, garbage, strange_book};
 use crate::choose::{any_call, any_open, Recent};
+use crate::long_books::{linked, long_heights, stretched};
 use crate::weights::{any_weights, some_edition};
 use crate::Random;
-use crate::{traits, two_pages, weight_kinds, Halt, Pair, Second};
+use crate::{height_kinds, traits, two_pages, weight_kinds, Halt, Pair, Second};
 use exchange::Call;
 use reference::Rules;
-use types::{book_length, field, head_height, weight_bytes, Calls, Height, MOST_HEIGHTS};
+use types::{book_length, field, head_height, weight_bytes, Calls, Height};
+use types::{MOST_HEIGHTS, MOST_SHORT_HEIGHTS};
 
 /// Nothing, or why it ends here.
 type Outcome = Result<(), Halt>;
@@ -15,10 +17,14 @@ type Outcome = Result<(), Halt>;
 /// Runs one list of calls on one book, of whatever sort; now and then a short list for every number of heights.
 pub fn list<A: Calls, B: Second>(pair: &mut Pair<A, B>, random: &mut Random) -> Outcome {
     let heights = any_heights(random);
-    match random.below(40) {
+    match random.below(43) {
         0 => {
             pair.begin("books of every size");
             every_size(pair, random)
+        }
+        40..=42 => {
+            pair.begin("a book of more than 63 heights, or of too many");
+            from_long(pair, random)
         }
         1..=13 => {
             pair.begin("a new book");
@@ -47,7 +53,7 @@ pub fn list<A: Calls, B: Second>(pair: &mut Pair<A, B>, random: &mut Random) -> 
 
 /// A few calls on a new book and on a strange one for every number of heights.
 fn every_size<A: Calls, B: Second>(pair: &mut Pair<A, B>, random: &mut Random) -> Outcome {
-    (1..=MOST_HEIGHTS).try_for_each(|heights| {
+    (1..=MOST_SHORT_HEIGHTS).try_for_each(|heights| {
         from_new(pair, random, heights, 1)?;
         from_strange(pair, random, heights, 2)
     })
@@ -93,6 +99,24 @@ fn from_strange<A: Calls, B: Second>(
     calls(pair, random, &mut book, count)
 }
 
+/// A few calls on a book of many heights, which is new, sound and that no run makes, or linked; then one of too many.
+fn from_long<A: Calls, B: Second>(pair: &mut Pair<A, B>, random: &mut Random) -> Outcome {
+    let heights = long_heights(random);
+    match random.below(4) {
+        0 => from_new(pair, random, heights, 3)?,
+        1 => from_strange(pair, random, heights, 8)?,
+        _ => {
+            let mut book = linked(random, heights);
+            calls(pair, random, &mut book, 12)?;
+        }
+    }
+    (0..2).try_for_each(|_| {
+        let mut book = stretched(random, false);
+        pair.make(&Call::Size, &mut book, &mut [])?;
+        calls(pair, random, &mut book, 2)
+    })
+}
+
 /// Begins with a sound book in which something was damaged, again and again, and now and then with another one.
 fn from_damaged<A: Calls, B: Second>(
     pair: &mut Pair<A, B>,
@@ -115,6 +139,7 @@ fn from_damaged<A: Calls, B: Second>(
         pair.kinds.saw(name);
         let is_sound = name == "book: damaged at one byte, still sound";
         weight_kinds::damaged(&sound, &book, is_sound).iter().for_each(|name| pair.kinds.saw(name));
+        height_kinds::damaged(&sound, &book, false).iter().for_each(|name| pair.kinds.saw(name));
         let count = random.below(3).saturating_add(1);
         calls(pair, random, &mut book, count)?;
     }

@@ -26,7 +26,7 @@ const OPENINGS: [&str; 5] = [
 /// What a sound book is, by its weights.
 const BOOKS: [&str; 4] = [
     "book of edition 1",
-    "book of edition 2, all weights 1",
+    "book of edition 2 or 3, all weights 1",
     "book of unequal weights",
     "book in which one station of several is a quorum alone",
 ];
@@ -42,13 +42,14 @@ const DAMAGED: [&str; 6] = [
 ];
 
 /// What befell votes for a page, and networks.
-pub const NAMES: [&str; 9] = [
+pub const NAMES: [&str; 10] = [
     NOTARISED,
     BY_NUMBER,
     WEIGHTS_BEFORE_LENGTH,
     "network: unequal weights",
     "network: one station of several is a quorum alone",
-    "network: a book of edition 1 among others of edition 2",
+    "network: books of editions 1 and 3",
+    "network: books of editions 2 and 3",
     "network: an observer's book of edition 1",
     "network: a third or more are dishonest by number, not by weight",
     "network: a certificate of a quorum by number alone is sent",
@@ -204,11 +205,13 @@ pub fn damaged(sound: &[u8], book: &[u8], is_sound: bool) -> Option<String> {
     let at = before.iter().zip(&after).position(|(one, two)| one != two)?;
     let first = before.get(field::EDITION) == Some(&types::FIRST_EDITION);
     let present = usize::from(*before.first()?).saturating_mul(2).saturating_add(field::WEIGHTS);
+    let second = before.get(field::EDITION) == Some(&types::SECOND_EDITION);
     let place = match at {
         field::EDITION => 5,
         _ if at < field::WEIGHTS => return None,
         _ if first => 3,
-        _ if at >= field::UNUSED => 4,
+        _ if at >= field::LONG && second => 4,
+        _ if at >= field::LONG => return None,
         _ if at >= present => 2,
         _ => usize::from(is_sound),
     };

@@ -2,7 +2,8 @@
 //! for Open; and masks that weigh about two thirds.
 
 use crate::Random;
-use types::{field, put_first_edition, weight_bytes, Weights, MOST_REPLICAS, MOST_WEIGHT};
+use types::{field, head_height, put_edition, weight_bytes, Weights, FIRST_EDITION};
+use types::{MOST_REPLICAS, MOST_SHORT_HEIGHTS, MOST_WEIGHT, SECOND_EDITION};
 
 /// Weights that a large and a small partner may have.
 const MIXED: [u16; 6] = [1, 1, 2, 3, 10, 100];
@@ -65,11 +66,15 @@ pub fn weights_to_open(random: &mut Random, n: u64) -> Vec<u8> {
     bytes
 }
 
-/// Makes a sound book whose stations all weigh 1 one of edition 1, every other time.
+/// Makes a sound book of at most 63 heights one of an older edition, every other time: of the first, if its stations
+/// all weigh 1, or of the second.
 pub fn some_edition(random: &mut Random, book: &mut [u8]) {
     let equal = Weights::of(book).each().iter().all(|weight| *weight == 1);
-    if equal && random.one_in(2) {
-        put_first_edition(book);
+    let short = head_height(book, field::HEIGHTS) <= MOST_SHORT_HEIGHTS;
+    match random.below(6) {
+        0 | 1 if equal && short => put_edition(book, FIRST_EDITION),
+        2 | 3 if short => put_edition(book, SECOND_EDITION),
+        _ => {}
     }
 }
 
@@ -92,7 +97,7 @@ pub fn near_quorum(random: &mut Random, weights: &Weights) -> u16 {
 /// Changes the edition or a weight of a book, mostly to a neighbour of what is in range.
 pub fn damage_weights(random: &mut Random, book: &mut [u8]) {
     if random.one_in(4) {
-        let edition = *random.pick(&[0, 1, 2, 3, 255]).unwrap_or(&0);
+        let edition = *random.pick(&[0, 1, 2, 3, 4, 255]).unwrap_or(&0);
         book.iter_mut().skip(field::EDITION).take(1).for_each(|byte| *byte = edition);
         return;
     }

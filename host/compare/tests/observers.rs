@@ -5,7 +5,8 @@ mod as_reference;
 
 use compare::run;
 use reference::Rules;
-use types::{field, is_observers, mask_at, Calls, Delivered, Height, Move, Weights};
+use types::{field, head_height, height_at, is_observers, mask_at, put_head_height, Height};
+use types::{Calls, Delivered, Move, Weights, FRAME_HEIGHT};
 use types::{ObserverArea, ObserverLayout, FRAME};
 
 /// What a faulty observer does wrong.
@@ -52,9 +53,9 @@ impl Faulty {
     /// A book that this one takes for sound, made sound; none where the fault does not concern it.
     fn repaired(&self, book: &[u8]) -> Option<Vec<u8>> {
         let mut book = book.to_vec();
-        let heights = *book.get(field::HEIGHTS)?;
+        let heights = head_height(&book, field::HEIGHTS);
         match self.0 {
-            Fault::TakesACurrentHeight => *book.get_mut(field::CURRENT)? = 0,
+            Fault::TakesACurrentHeight => put_head_height(&mut book, field::CURRENT, 0),
             Fault::TakesAnOwnNumber => *book.get_mut(field::OWN)? = 0,
             Fault::TakesAHeldState => {
                 let layout = ObserverLayout::new(heights);
@@ -71,12 +72,13 @@ impl Faulty {
 
 /// The largest height whose finalizes are a quorum, linked or not.
 fn finalized_alone(book: &[u8]) -> Height {
-    let (weights, layout) = (Weights::of(book), ObserverLayout::new(book[field::HEIGHTS]));
+    let last = head_height(book, field::HEIGHTS);
+    let (weights, layout) = (Weights::of(book), ObserverLayout::new(last));
     let masked = |height: &Height| {
         let row = &book[layout.area(*height, ObserverArea::Row)];
         row[0] == 2 && weights.weight_of(mask_at(row, 6)) >= weights.needed()
     };
-    (1..=book[field::HEIGHTS]).rev().find(masked).unwrap_or(0)
+    (1..=last).rev().find(masked).unwrap_or(0)
 }
 
 impl Calls for Faulty {
@@ -93,7 +95,7 @@ impl Calls for Faulty {
         Calls::observer_open(&RULES, book, n, heights, weights)?;
         match self.0 {
             Fault::OpenLeavesJunk => *book.last_mut().unwrap() = last,
-            Fault::OpenSetsCurrent => book[field::CURRENT] = 1,
+            Fault::OpenSetsCurrent => put_head_height(book, field::CURRENT, 1),
             _ => {}
         }
         Ok(())
@@ -103,16 +105,18 @@ impl Calls for Faulty {
         let kind = frame.first().copied().unwrap_or(0);
         let answer = Calls::observer_deliver(&RULES, book, frame);
         let nobody = |frame: &[u8]| kind >= 5 && frame[4..6] == [0, 0];
-        let high = |frame: &[u8]| frame[2] == 0 || frame[2] > book[field::HEIGHTS];
+        let last = head_height(book, field::HEIGHTS);
+        let height = height_at(frame, FRAME_HEIGHT);
+        let high = height == 0 || height > last;
         match (self.0, answer) {
             (Fault::TakesVotes, Err(16)) => Ok(Delivered::Known),
             (Fault::VotesBeforeForm, Err(4)) if (1..=4).contains(&kind) => Err(16),
-            (Fault::VotesAfterHeight, Err(16)) if high(frame) => Err(6),
+            (Fault::VotesAfterHeight, Err(16)) if high => Err(6),
             (Fault::TakesNobodysCertificate, Err(9)) if nobody(frame) => Ok(Delivered::Known),
             (Fault::OtherPageIsKnown, Err(10)) => Ok(Delivered::Known),
             (Fault::EverythingIsFresh, Ok(_)) => Ok(Delivered::Fresh),
             (fault, _) => {
-                let layout = ObserverLayout::new(book.get(field::HEIGHTS).copied().unwrap_or(0));
+                let layout = ObserverLayout::new(last);
                 spoil(fault, book, frame, answer, layout);
                 answer
             }
@@ -120,19 +124,22 @@ impl Calls for Faulty {
     }
 
     fn observer_move(&self, book: &mut [u8]) -> Result<Move, u8> {
-        let before = book.get(field::FINALIZED).copied().unwrap_or(0);
+        let before = head_height(book, field::FINALIZED);
         let made = Calls::observer_move(&RULES, book)?;
         match (self.0, made) {
-            (Fault::SettlesWithoutLink, _) if finalized_alone(book) > book[field::FINALIZED] => {
-                book[field::FINALIZED] = finalized_alone(book);
-                Ok(Move::Final { height: book[field::FINALIZED] })
+            (Fault::SettlesWithoutLink, _)
+                if finalized_alone(book) > head_height(book, field::FINALIZED) =>
+            {
+                let height = finalized_alone(book);
+                put_head_height(book, field::FINALIZED, height);
+                Ok(Move::Final { height })
             }
             (Fault::SettlesOneByOne, Move::Final { height }) if height > before + 1 => {
-                book[field::FINALIZED] = before + 1;
+                put_head_height(book, field::FINALIZED, before + 1);
                 Ok(Move::Final { height: before + 1 })
             }
             (Fault::NeverSettles, _) => {
-                book[field::FINALIZED] = before;
+                put_head_height(book, field::FINALIZED, before);
                 Ok(Move::Idle)
             }
             (Fault::MoveAnswersTheOldHeight, Move::Final { .. }) => {
@@ -176,16 +183,17 @@ fn spoil(
     answer: Result<Delivered, u8>,
     layout: ObserverLayout,
 ) {
-    let row = |at: usize| layout.area(frame[2], ObserverArea::Row).start + at;
+    let height = height_at(frame, FRAME_HEIGHT);
+    let row = |at: usize| layout.area(height, ObserverArea::Row).start + at;
     match (fault, answer) {
         (Fault::SamePageJoinsSigners, Ok(Delivered::Known)) if frame[0] == 5 => {
             book[row(2)] |= frame[4];
         }
         (Fault::OtherPageReplaces, Err(10)) => {
-            book[layout.area(frame[2], ObserverArea::Notarized)].copy_from_slice(&frame[48..FRAME]);
+            book[layout.area(height, ObserverArea::Notarized)].copy_from_slice(&frame[48..FRAME]);
         }
         (Fault::TouchesFreeByte, Ok(Delivered::Fresh)) if frame[0] != 5 && book[row(0)] == 0 => {
-            book[layout.area(frame[2], ObserverArea::Notarized).start + 9] ^= 1;
+            book[layout.area(height, ObserverArea::Notarized).start + 9] ^= 1;
         }
         (Fault::ChangesOnRefusal, Err(16)) => *book.last_mut().unwrap() ^= 1,
         _ => {}

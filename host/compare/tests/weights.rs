@@ -48,9 +48,9 @@ struct Faulty(Fault);
 
 const RULES: Rules = Rules::SHA256;
 
-/// The head of a book from its edition on, or as much of it as there is.
+/// The head of a book from its edition to the end of its weights, or as much of it as there is.
 fn head(book: &mut [u8]) -> Option<&mut [u8]> {
-    let end = book.len().min(64);
+    let end = book.len().min(field::LONG);
     book.get_mut(field::EDITION..end)
 }
 
@@ -118,6 +118,7 @@ impl Faulty {
             _ => return None,
         };
         put(&mut repaired, edition, &weights);
+        repaired[field::EDITION] = edition.min(EDITION);
         (repaired != book).then_some(repaired)
     }
 
