@@ -29,7 +29,7 @@ def taken(number):
     return rest
 
 
-if call("interface") != 6:
+if call("interface") != 7:
     sys.exit("the library is of another interface than this program")
 book, reply = ctypes.create_string_buffer(576 + 880 * 3), ctypes.create_string_buffer(448)
 weights, roll = bytes([1, 0] * 4), bytes([0, 1, 2])  # of a weight the low byte first
@@ -40,4 +40,5 @@ for signer in range(3):
 while (move := taken(call("move", book, reply)))[0]:
     made, low, high, certificate, finalise, *_ = move
     print(f"move {made} at height {low + 256 * high}: certificate {certificate}, finalise {finalise}")
-print(f"current height {book.raw[4]}, settled height {book.raw[5]}")
+current, settled = (int.from_bytes(book.raw[at:at + 2], "little") for at in (42, 44))  # a new book is of edition 3
+print(f"current height {current}, settled height {settled}")

@@ -37,10 +37,13 @@
 static char book_name[PATH_MAX], new_name[PATH_MAX], frames_name[PATH_MAX], frames_new[PATH_MAX], lock_name[PATH_MAX];
 static char folder_name[PATH_MAX], evidence_name[PATH_MAX];
 
-/* The book as it is in the file, and which file that is. */
-static uint8_t book[MAVUNILAI_MOST_BOOK];
+/* The book as it is in the file, with a byte more so that a file that is too long is seen; and which file that is. */
+static uint8_t book[MAVUNILAI_MOST_BOOK + 1];
 static size_t book_length;
 static struct stat book_file;
+
+/* The copy of the book on which a call is made before it is committed: too large for the stack of some threads. */
+static uint8_t next[MAVUNILAI_MOST_BOOK + 1];
 
 /* The longest time in milliseconds that a message takes between two stations that work; the height that the timer was
  * started for last, and when it fires, -1 while it does not run. */
@@ -48,8 +51,9 @@ static long delta;
 static unsigned timed;
 static long long timer = -1;
 
-/* How many bytes of the register are told. */
+/* How many bytes of the register are told, and the settled height at which they were read. */
 static uint64_t told;
+static unsigned told_height;
 
 /* Ends the host with a sentence: nothing is lost, and it can be begun again. */
 static void die(const char *sentence) {
@@ -127,7 +131,7 @@ static void rename_file(const char *from, const char *to) {
 
 /* Puts frames beside the book, with the digest of the book that cast them: who finds them knows whether it was ever
  * committed. The form is that of host/store. */
-static void keep_frames(const uint8_t *next, const uint8_t *frames, unsigned count) {
+static void keep_frames(const uint8_t *frames, unsigned count) {
     uint8_t digest[MAVUNILAI_DIGEST];
     FILE *file = open_file(frames_new, "w");
     unsigned at;
@@ -144,10 +148,10 @@ static void keep_frames(const uint8_t *next, const uint8_t *frames, unsigned cou
 }
 
 /* Writes a book to the new file beside it; which file that is. */
-static struct stat write_new(const uint8_t *next) {
+static struct stat write_new(const uint8_t *bytes) {
     struct stat written;
     FILE *file = open_file(new_name, "w");
-    if (fstat(fileno(file), &written) != 0 || fwrite(next, 1, book_length, file) != book_length) {
+    if (fstat(fileno(file), &written) != 0 || fwrite(bytes, 1, book_length, file) != book_length) {
         fail(new_name);
     }
     close_synced(file, new_name);
@@ -155,8 +159,8 @@ static struct stat write_new(const uint8_t *next) {
     return written;
 }
 
-/* Puts a book in the place of the one in the file. This is the commit. */
-static void replace_book(const uint8_t *next) {
+/* Puts the copy in the place of the book in the file. This is the commit. */
+static void replace_book(void) {
     struct stat found, written = write_new(next);
     /* One who renamed or replaced the book meanwhile would make two books of one station. */
     if (stat(book_name, &found) != 0 || found.st_dev != book_file.st_dev || found.st_ino != book_file.st_ino) {
@@ -170,12 +174,12 @@ static void replace_book(const uint8_t *next) {
 
 /* Commits a call: first the frames that it cast, then the book. An end at any step leaves the old book, or the new one
  * with its frames beside it. */
-static void commit(const uint8_t *next, const uint8_t *frames, unsigned count) {
+static void commit(const uint8_t *frames, unsigned count) {
     if (count > 0) {
-        keep_frames(next, frames, count);
+        keep_frames(frames, count);
     }
     if (memcmp(next, book, book_length) != 0) {
-        replace_book(next);
+        replace_book();
     }
 }
 
@@ -212,7 +216,7 @@ static void flush_output(void) {
 static void send_certificates(void) {
     uint8_t reply[MAVUNILAI_FETCH_REPLY];
     unsigned height, kind;
-    for (height = 1; height <= book[MAVUNILAI_HEAD_HEIGHTS]; height++) {
+    for (height = 1; height <= mavunilai_heights(book); height++) {
         for (kind = MAVUNILAI_KIND_PAGE_CERTIFICATE; kind <= MAVUNILAI_KIND_FINALISE_CERTIFICATE; kind++) {
             /* Refused with 11 where the book does not hold it. */
             if (mavunilai_refusal(mavunilai_fetch(book, book_length, kind, height, reply, sizeof reply)) == 0) {
@@ -274,7 +278,6 @@ static int signatures_hold(const uint8_t *frame) {
 
 /* Takes a frame whose signatures hold, and keeps it where it shows that somebody broke the rules. */
 static void deliver(const uint8_t *frame) {
-    uint8_t next[MAVUNILAI_MOST_BOOK];
     unsigned refusal;
     memcpy(next, book, book_length);
     refusal = mavunilai_refusal(mavunilai_deliver(next, book_length, frame, MAVUNILAI_FRAME));
@@ -289,18 +292,17 @@ static void deliver(const uint8_t *frame) {
         if (mavunilai_second_page(next, frame)) {
             keep_evidence("second page", frame);
         }
-        commit(next, NULL, 0);
+        commit(NULL, 0);
     }
 }
 
 /* Hands an entry to the station. One that is pending or in the register already is taken. */
 static void submit(const uint8_t *entry) {
-    uint8_t next[MAVUNILAI_MOST_BOOK];
     unsigned refusal;
     memcpy(next, book, book_length);
     refusal = mavunilai_refusal(mavunilai_submit(next, book_length, entry, MAVUNILAI_ENTRY));
     if (refusal == 0) {
-        commit(next, NULL, 0);
+        commit(NULL, 0);
     } else if (refusal != MAVUNILAI_REFUSED_ENTRY_KNOWN) {
         fprintf(stderr, "host: an entry is not taken: %s\n", mavunilai_refusal_text(refusal));
     }
@@ -308,11 +310,10 @@ static void submit(const uint8_t *entry) {
 
 /* The timer of the current height has fired. That it comes late is no fault: it is refused with 14. */
 static void timer_fired(void) {
-    uint8_t next[MAVUNILAI_MOST_BOOK];
     timer = -1;
     memcpy(next, book, book_length);
     if (mavunilai_refusal(mavunilai_signal(next, book_length, timed)) == 0) {
-        commit(next, NULL, 0);
+        commit(NULL, 0);
     }
 }
 
@@ -335,7 +336,7 @@ static void take_message(const char *line) {
 /* Makes a move, delivers what it wrote to the same book, commits both, and sends; 0 if no move applies. With each pass
  * and each proposal goes all that fetch gives. */
 static int make_move(void) {
-    uint8_t next[MAVUNILAI_MOST_BOOK], reply[MAVUNILAI_MOVE_REPLY];
+    uint8_t reply[MAVUNILAI_MOVE_REPLY];
     mavunilai_answer answer;
     unsigned made, at;
     memcpy(next, book, book_length);
@@ -347,7 +348,7 @@ static int make_move(void) {
         /* What the own book refuses is sent all the same. */
         mavunilai_disregard(mavunilai_deliver(next, book_length, reply + at * MAVUNILAI_FRAME, MAVUNILAI_FRAME));
     }
-    commit(next, reply, mavunilai_frames(answer));
+    commit(reply, mavunilai_frames(answer));
     for (at = 0; at < mavunilai_frames(answer); at++) {
         send_frame(reply + at * MAVUNILAI_FRAME);
     }
@@ -367,10 +368,16 @@ static long long now(void) {
     return time.tv_sec * 1000LL + time.tv_nsec / 1000000;
 }
 
-/* Tells the entries by which the register has grown: they are in it for good. */
+/* Tells the entries by which the register has grown: they are in it for good. It is read where the settled height has
+ * grown, and not with every frame. */
 static void tell_register(void) {
     static uint8_t entries[MAVUNILAI_MOST_REGISTER];
-    uint64_t length = mavunilai_read(book, book_length, entries, sizeof entries);
+    uint64_t length;
+    if (mavunilai_settled(book) == told_height) {
+        return;
+    }
+    told_height = mavunilai_settled(book);
+    length = mavunilai_read(book, book_length, entries, sizeof entries);
     for (; told < length; told += MAVUNILAI_ENTRY) {
         printf("settled ");
         print_digits(stdout, entries + told, MAVUNILAI_ENTRY);

@@ -28,14 +28,15 @@ def replica(name, book, buffer, words):
         return "part 0" if name.endswith("read") else "deny 1"
     n, own, heights = (int(word) for word in words[:3])
     weights, roll = parse(words[3]), parse(words[4])
-    in_range = 1 <= n <= 16 and own < n and 1 <= heights <= 63 and len(weights) == 2 * n and len(roll) == heights
+    in_range = 1 <= n <= 16 and own < n and 1 <= heights <= 1000 and len(weights) == 2 * n and len(roll) == heights
     pairs = zip(weights[::2], weights[1::2])
     if not in_range or any(not 1 <= low + 256 * high <= 1000 for low, high in pairs) or any(s >= n for s in roll):
         return "deny 2"
     if len(book) != 576 + 880 * heights:
         return "deny 1"
     book[:] = bytes(len(book))
-    book[0:8 + 2 * n] = bytes([n, own, heights, 0, 1, 0, 0, 2]) + weights
+    book[0:8 + 2 * n] = bytes([n, own, 0, 0, 0, 0, 0, 3]) + weights
+    book[40:43] = heights.to_bytes(2, "little") + bytes([1])
     book[576:576 + 16 * heights:16] = roll
     return "done"
 

@@ -1,14 +1,18 @@
 /* The C interface of the proved replica: each call on pointers and lengths, each answer as one number.
  *
- * A book is 576 + 880 * H bytes that you own and keep (H heights, 1 to 63). Lend it to every call; nothing else is
+ * A book is 576 + 880 * H bytes that you own and keep (H heights, 1 to 1000). Lend it to every call; nothing else is
  * remembered between calls, nothing is allocated, and no call keeps a pointer. So threads may call at the same time, as
  * long as each has a book and buffers of its own. An observer, which follows the register without a vote, has a book of
- * 64 + 184 * H bytes and calls of its own, mavunilai_observer_..; neither's calls take the other's book.
+ * 64 + 184 * H bytes and calls of its own, mavunilai_observer_..; neither's calls take the other's book. Their lengths
+ * do not tell the two apart (22 heights of a station, 108 of an observer: 19936 bytes), the calls do.
  *
  * Each station has a weight, 1 to 1000, which is fixed when a book is opened and must be the same in the books of all
  * stations and observers of a season. Stations are a quorum if they weigh two thirds of all or more, and the register
- * is safe while the dishonest ones weigh less than a third. A book of edition 1, kept from before there were weights,
- * is read as one in which all weights are 1; it works on and stays of edition 1.
+ * is safe while the dishonest ones weigh less than a third.
+ *
+ * A new book is of edition 3. Books of editions 1 and 2, kept from before, have 63 heights at most; they work on and
+ * stay of their edition. One of edition 1, from before there were weights, is read as one in which all weights are 1.
+ * Heights in frames and pages have two bytes whatever the edition of a book is.
  *
  * What you owe for each pointer and the length behind it, and nothing checks:
  *   - So many bytes are there, readable, and writable too where the pointer is not const. No alignment is needed.
@@ -19,8 +23,9 @@
  * All else is checked: bytes, lengths and numbers may have any value. Bytes behind a const pointer never change.
  *
  * This header is for C99 or later and for C++. The library is for x86-64 Linux, where size_t and uint64_t are the same,
- * and needs nothing but memset. Before its first call a program asks mavunilai_fits() whether library and header are of
- * one interface.
+ * and needs nothing but memset. The stack that a call needs grows with the book; docs/PARTNERS.md says how much it is
+ * at 1000 heights. Before its first call a program asks mavunilai_fits() whether library and header are of one
+ * interface.
  *
  * Every packed answer's lowest byte is the number of a refusal, 0 if the call was not refused; MAVUNILAI_REFUSED_..
  * below names them. A refused call leaves every byte of every buffer as it was, and its answer is that number alone.
@@ -57,9 +62,10 @@ extern "C" {
 /* The number of the interface that this header declares. It goes up with each call that is added, with each change to
  * a call's arguments or to the set of its answers, and where a replica would read another register from the same book:
  * so with 4, where an entry that its chain repeats is read once; with 5 there is mavunilai_digest; with 6 both opening
- * calls take the stations' weights. A change of another rule by which a call chooses another of the answers that it had
- * leaves the number as it is: a program that was built before still fits. */
-#define MAVUNILAI_INTERFACE 6u
+ * calls take the stations' weights; with 7 there are 1000 heights, in answers, frames, pages and books of edition 3. A
+ * change of another rule by which a call chooses another of the answers that it had leaves the number as it is: a
+ * program that was built before still fits. */
+#define MAVUNILAI_INTERFACE 7u
 
 /* The number of the interface that the library has. */
 MAVUNILAI_LOOK uint64_t mavunilai_interface(void);
@@ -85,12 +91,13 @@ MAVUNILAI_LOOK static inline int mavunilai_fits(void) {
 
 #define MAVUNILAI_MOST_STATIONS 16u
 #define MAVUNILAI_MOST_WEIGHT 1000u    /* of one station; the least is 1 */
-#define MAVUNILAI_MOST_HEIGHTS 63u
+#define MAVUNILAI_MOST_HEIGHTS 1000u
+#define MAVUNILAI_MOST_SHORT_HEIGHTS 63u /* of a book of edition 1 or 2 */
 #define MAVUNILAI_MOST_PENDING 32u     /* entries */
 #define MAVUNILAI_MOST_PAGE_ENTRIES 8u /* entries of one page */
-#define MAVUNILAI_MOST_REGISTER 8064u  /* bytes: 63 pages of 8 entries of 16, none of which repeats another */
-#define MAVUNILAI_MOST_BOOK 56016u     /* bytes: MAVUNILAI_BOOK(63) */
-#define MAVUNILAI_MOST_OBSERVER_BOOK 11656u /* bytes: MAVUNILAI_OBSERVER_BOOK(63) */
+#define MAVUNILAI_MOST_REGISTER 128000u /* bytes: 1000 pages of 8 entries of 16, none of which repeats another */
+#define MAVUNILAI_MOST_BOOK 880576u     /* bytes: MAVUNILAI_BOOK(1000) */
+#define MAVUNILAI_MOST_OBSERVER_BOOK 184064u /* bytes: MAVUNILAI_OBSERVER_BOOK(1000) */
 
 #define MAVUNILAI_NO_STATION 255u /* what stands for a station where there is none; a station's number is below 16 */
 
@@ -142,14 +149,14 @@ static inline const char *mavunilai_refusal_text(unsigned refusal) {
 
 #define MAVUNILAI_FRAME_KIND 0u
 #define MAVUNILAI_FRAME_SIGNER 1u  /* kinds 1 to 4 */
-#define MAVUNILAI_FRAME_HEIGHT 2u
+#define MAVUNILAI_FRAME_HEIGHT 2u  /* two bytes, the low one first: mavunilai_frame_height reads them */
 #define MAVUNILAI_FRAME_MASK 4u    /* kinds 5 to 7; two bytes, the low one first, bit i for station i */
 #define MAVUNILAI_FRAME_DIGEST 16u /* kind 2; 32 bytes */
 #define MAVUNILAI_FRAME_PAGE 48u   /* kinds 1 and 5; 176 bytes */
 
 /* Within a page. */
-#define MAVUNILAI_PAGE_HEIGHT 0u
-#define MAVUNILAI_PAGE_BACK_HEIGHT 2u
+#define MAVUNILAI_PAGE_HEIGHT 0u      /* two bytes, the low one first, as every height */
+#define MAVUNILAI_PAGE_BACK_HEIGHT 2u /* two bytes */
 #define MAVUNILAI_PAGE_COUNT 4u
 #define MAVUNILAI_PAGE_BACK_DIGEST 16u
 #define MAVUNILAI_PAGE_ENTRIES 48u
@@ -162,19 +169,33 @@ static inline const char *mavunilai_refusal_text(unsigned refusal) {
 #define MAVUNILAI_KIND_BLANK_CERTIFICATE 6u
 #define MAVUNILAI_KIND_FINALISE_CERTIFICATE 7u
 
+/* The number in two bytes, the low one first. */
+static inline unsigned mavunilai_word(const uint8_t *bytes) {
+    return bytes[0] + 256u * bytes[1];
+}
+
+/* The height of a frame of 224 bytes, whatever they are: 0 to 65535. */
+static inline unsigned mavunilai_frame_height(const uint8_t *frame) {
+    return mavunilai_word(frame + MAVUNILAI_FRAME_HEIGHT);
+}
+
 /* ---- The book: where its head's fields are, and readers of them ---- */
 
 #define MAVUNILAI_HEAD_STATIONS 0u /* n */
 #define MAVUNILAI_HEAD_OWN 1u
-#define MAVUNILAI_HEAD_HEIGHTS 2u  /* H */
 #define MAVUNILAI_HEAD_FLAGS 3u    /* of the current height */
-#define MAVUNILAI_HEAD_CURRENT 4u  /* c */
-#define MAVUNILAI_HEAD_SETTLED 5u  /* g */
 #define MAVUNILAI_HEAD_PENDING 6u  /* how many entries are pending */
-#define MAVUNILAI_HEAD_EDITION 7u  /* 1 or 2; no call changes it but the opening ones, which make 2 */
-#define MAVUNILAI_HEAD_WEIGHTS 8u  /* edition 2: two bytes for each of 16 stations, the low one first, 0 from n up */
+#define MAVUNILAI_HEAD_EDITION 7u  /* 1 to 3; no call changes it but the opening ones, which make 3 */
+#define MAVUNILAI_HEAD_WEIGHTS 8u  /* from edition 2 on: two bytes for each of 16 stations, 0 from n up */
+#define MAVUNILAI_HEAD_LONG_HEIGHTS 40u /* edition 3: H in two bytes, the low one first */
+#define MAVUNILAI_HEAD_LONG_CURRENT 42u /* edition 3: c in two bytes */
+#define MAVUNILAI_HEAD_LONG_SETTLED 44u /* edition 3: g in two bytes */
+#define MAVUNILAI_HEAD_SHORT_HEIGHTS 2u /* editions 1 and 2: H in one byte; in edition 3 it is 0 */
+#define MAVUNILAI_HEAD_SHORT_CURRENT 4u /* editions 1 and 2: c */
+#define MAVUNILAI_HEAD_SHORT_SETTLED 5u /* editions 1 and 2: g */
 #define MAVUNILAI_EDITION_UNWEIGHED 1u /* the edition in which bytes 8 to 63 are 0 and all weights 1 */
-#define MAVUNILAI_EDITION_WEIGHED 2u   /* the edition with weights in the head */
+#define MAVUNILAI_EDITION_WEIGHED 2u   /* the edition with weights in the head and heights of one byte */
+#define MAVUNILAI_EDITION_LONG 3u      /* the edition with weights in the head and heights of two bytes */
 #define MAVUNILAI_PENDING_AT 64u   /* the pending entries, 16 bytes each */
 #define MAVUNILAI_CONTENTS_AT 576u /* the rows, 16 bytes for each height; a row's first byte is the leader */
 #define MAVUNILAI_ROW 16u
@@ -187,8 +208,8 @@ static inline const char *mavunilai_refusal_text(unsigned refusal) {
 #define MAVUNILAI_FLAG_PAGE_VOTE 4u
 #define MAVUNILAI_FLAG_PROPOSED 8u
 
-/* An observer's book: its head is laid out so too, with own number, flags, current height and pending count 0. Then
- * come rows of 8 bytes, one for each height, then the notarised pages, 176 bytes for each height. */
+/* An observer's book: its head is laid out so too, by edition, with own number, flags, current height and pending
+ * count 0. Then come rows of 8 bytes, one for each height, then the notarised pages, 176 bytes for each height. */
 #define MAVUNILAI_OBSERVER_ROWS_AT 64u
 #define MAVUNILAI_OBSERVER_ROW 8u           /* state, 0 or 2; a zero; three masks of two bytes, the low one first */
 #define MAVUNILAI_OBSERVER_ROW_PAGE 2u      /* within a row: signers of the page certificate */
@@ -196,37 +217,50 @@ static inline const char *mavunilai_refusal_text(unsigned refusal) {
 #define MAVUNILAI_OBSERVER_ROW_FINALISE 6u  /* signers of finalise certificates */
 #define MAVUNILAI_STATE_NOTARISED 2u        /* a page is notarised; in a station's row a bit: & and not == */
 
-/* These read bytes of a book, a station's or an observer's, and no height that they are given makes them read beyond
- * it. But they do not look whether it is sound: they are for a book that a call has taken, so not refused with 1, and
- * that no other hand has changed since. Bytes that no call has taken may be too few to be read at all. */
+/* These read bytes of a book, a station's or an observer's, of any edition, and no height that they are given makes
+ * them read beyond it. But they do not look whether it is sound: they are for a book that a call has taken, so not
+ * refused with 1, and that no other hand has changed since. Bytes that no call has taken may be too few to be read at
+ * all. */
+
+/* A number of the head that stands in one byte or, in a book of edition 3, in two bytes at another place. */
+static inline unsigned mavunilai_head_number(const uint8_t *book, size_t short_at, size_t long_at) {
+    if (book[MAVUNILAI_HEAD_EDITION] == MAVUNILAI_EDITION_LONG) {
+        return mavunilai_word(book + long_at);
+    }
+    return book[short_at];
+}
+
+/* The number of heights, H: 1 to 1000, in a book of edition 1 or 2 to 63. */
+static inline unsigned mavunilai_heights(const uint8_t *book) {
+    return mavunilai_head_number(book, MAVUNILAI_HEAD_SHORT_HEIGHTS, MAVUNILAI_HEAD_LONG_HEIGHTS);
+}
 
 /* The current height, 1 to H + 1: the one whose timer is to run. At H + 1 all heights are passed. Of an observer's book
  * 0: it has none. */
 static inline unsigned mavunilai_current(const uint8_t *book) {
-    return book[MAVUNILAI_HEAD_CURRENT];
+    return mavunilai_head_number(book, MAVUNILAI_HEAD_SHORT_CURRENT, MAVUNILAI_HEAD_LONG_CURRENT);
 }
 
 /* The settled height, 0 to H; of a station's book and of an observer's. */
 static inline unsigned mavunilai_settled(const uint8_t *book) {
-    return book[MAVUNILAI_HEAD_SETTLED];
+    return mavunilai_head_number(book, MAVUNILAI_HEAD_SHORT_SETTLED, MAVUNILAI_HEAD_LONG_SETTLED);
 }
 
 /* 1 if a book is a station's and has that height, 1 to H; 0 for every other height, and for an observer's book. */
 static inline int mavunilai_has_height(const uint8_t *book, unsigned height) {
-    return mavunilai_current(book) != 0 && height != 0 && height <= book[MAVUNILAI_HEAD_HEIGHTS];
+    return mavunilai_current(book) != 0 && height != 0 && height <= mavunilai_heights(book);
 }
 
 /* The weight of a station as the book is read, 1 to 1000: in a book of edition 1 it is 1. 0 for a station that is not
  * below n. */
 static inline unsigned mavunilai_weight(const uint8_t *book, unsigned station) {
-    const uint8_t *weight = book + MAVUNILAI_HEAD_WEIGHTS;
     if (station >= MAVUNILAI_MOST_STATIONS || station >= book[MAVUNILAI_HEAD_STATIONS]) {
         return 0;
     }
     if (book[MAVUNILAI_HEAD_EDITION] == MAVUNILAI_EDITION_UNWEIGHED) {
         return 1;
     }
-    return weight[2u * station] + 256u * weight[2u * station + 1u];
+    return mavunilai_word(book + MAVUNILAI_HEAD_WEIGHTS + 2u * station);
 }
 
 /* The weight of the stations of a mask together, bit i for station i; bits from n up weigh nothing. */
@@ -273,12 +307,12 @@ static inline unsigned mavunilai_leader(const uint8_t *book, unsigned height) {
  * ask after mavunilai_packet: it may bring the first page itself. Then, before any move, deliver each for which this is
  * 1 once more: any refusal but 8 says it is no second page. */
 static inline int mavunilai_second_page(const uint8_t *book, const uint8_t *frame) {
-    size_t height = frame[MAVUNILAI_FRAME_HEIGHT], rows = MAVUNILAI_CONTENTS_AT, held, at;
+    size_t height = mavunilai_frame_height(frame), rows = MAVUNILAI_CONTENTS_AT, held, at;
     if (frame[MAVUNILAI_FRAME_KIND] != MAVUNILAI_KIND_PROPOSAL || !mavunilai_has_height(book, (unsigned)height) ||
         (book[rows + MAVUNILAI_ROW * (height - 1u) + MAVUNILAI_ROW_STATE] & MAVUNILAI_STATE_HELD) == 0) {
         return 0;
     }
-    held = rows + (size_t)MAVUNILAI_ROW * book[MAVUNILAI_HEAD_HEIGHTS] + MAVUNILAI_BODY * (height - 1u);
+    held = rows + (size_t)MAVUNILAI_ROW * mavunilai_heights(book) + MAVUNILAI_BODY * (height - 1u);
     for (at = 0; at < MAVUNILAI_PAGE; at++) {
         if (book[held + at] != frame[MAVUNILAI_FRAME_PAGE + at]) {
             return 1;
@@ -358,12 +392,12 @@ static inline uint64_t mavunilai_bytes(mavunilai_answer answer) {
 
 /* ---- The calls ---- */
 
-/* Makes a new book for station `own` of `n`, with `heights` heights. `weights` has two bytes for each station, the low
- * one first, each weight 1 to 1000, so `weights_len` must be MAVUNILAI_WEIGHTS(n); mavunilai_make_weights writes them.
- * Byte h - 1 of `leaders` leads height h, so `leaders_len` must equal `heights`, and `book_len`
- * MAVUNILAI_BOOK(heights). The book's old bytes do not matter.
- * Refusals: 2, 1. After 0 the book is new: n, own number, heights, current height 1, edition 2, the weights and the
- * leaders stand in it, and every other byte is 0. So it is where all weights are 1. */
+/* Makes a new book for station `own` of `n`, with `heights` heights, 1 to 1000. `weights` has two bytes for each
+ * station, the low one first, each weight 1 to 1000, so `weights_len` must be MAVUNILAI_WEIGHTS(n);
+ * mavunilai_make_weights writes them. Byte h - 1 of `leaders` leads height h, so `leaders_len` must equal `heights`,
+ * and `book_len` MAVUNILAI_BOOK(heights). The book's old bytes do not matter.
+ * Refusals: 2, 1. After 0 the book is new: n, own number, heights, current height 1, edition 3, the weights and the
+ * leaders stand in it, and every other byte is 0. So it is for every number of heights and where all weights are 1. */
 MAVUNILAI_LOOK
 mavunilai_answer mavunilai_open(uint8_t *book, size_t book_len, uint64_t n, uint64_t own, uint64_t heights,
                                 const uint8_t *weights, size_t weights_len, const uint8_t *leaders,
@@ -372,7 +406,8 @@ mavunilai_answer mavunilai_open(uint8_t *book, size_t book_len, uint64_t n, uint
 /* Takes one frame of 224 bytes whose signatures you have checked; a station's own frames too.
  * Refusals: 1, 4, 6, 5, 7, 9, 8, 10. Else byte 1 of the answer (mavunilai_fresh) is 1 if the frame was fresh: the book
  * now holds what it states; 0 if it was known: the book is as before. Of the book only the frame's height changes: its
- * row of the contents and its body.
+ * row of the contents and its body. A height above the book's last is 6 over books of every edition, unless frame and
+ * page, of kinds 1 and 5, have different heights: that is 4.
  * One frame is otherwise: a proposal of another page than the held one, by the leader of the current height, for that
  * height. It is not refused with 8 but fires the timer, and is not kept: fresh, and flag 1 alone is set; or known, if
  * it was set. At every other height it is 8. mavunilai_second_page tells such a frame. */
@@ -401,8 +436,9 @@ mavunilai_answer mavunilai_packet(uint8_t *book, size_t book_len, const uint8_t 
 MAVUNILAI_LOOK
 mavunilai_answer mavunilai_move(uint8_t *book, size_t book_len, uint8_t *reply, size_t reply_len);
 
-/* Tells the book that the timer of a height fired. Refusals: 1, 6, 14; 14 too if a second page of the leader fired it
- * before. After 0 flag 1 of the current height is set, and no other byte has changed. */
+/* Tells the book that the timer of a height fired. The height is any number and is not cut to two bytes: 65537 is not
+ * height 1, and gets 6. Refusals: 1, 6, 14; 14 too if a second page of the leader fired it before. After 0 flag 1 of
+ * the current height is set, and no other byte has changed. */
 MAVUNILAI_LOOK
 mavunilai_answer mavunilai_signal(uint8_t *book, size_t book_len, uint64_t height);
 
@@ -415,7 +451,7 @@ mavunilai_answer mavunilai_submit(uint8_t *book, size_t book_len, const uint8_t 
 /* The register's length in bytes: mavunilai_bytes of the answer, which is the refusal plus 256 times the size. The
  * register is the entries of the chain that ends at the settled height, oldest page first; one that the same page or
  * one below has before is not counted again.
- * Refusals: 1. No byte changes. The largest size, where no entry repeats another, is 63 * 8 * 16 = 8064. */
+ * Refusals: 1. No byte changes. The largest size, where no entry repeats another, is 1000 * 8 * 16 = 128000. */
 MAVUNILAI_LOOK
 mavunilai_answer mavunilai_size(const uint8_t *book, size_t book_len);
 
@@ -426,7 +462,8 @@ mavunilai_answer mavunilai_size(const uint8_t *book, size_t book_len);
 MAVUNILAI_LOOK
 uint64_t mavunilai_read(const uint8_t *book, size_t book_len, uint8_t *buffer, size_t buffer_len);
 
-/* Writes the certificate of kind 5, 6 or 7 of a height to bytes 0 to 223 of the reply, which needs 224 or more.
+/* Writes the certificate of kind 5, 6 or 7 of a height to bytes 0 to 223 of the reply, which needs 224 or more. The
+ * height is taken as mavunilai_signal takes it.
  * Refusals: 1, 4, 6, 3, 11. Bytes of the reply past 223 keep their values. */
 MAVUNILAI_LOOK
 mavunilai_answer mavunilai_fetch(const uint8_t *book, size_t book_len, uint64_t kind, uint64_t height, uint8_t *reply,
@@ -446,10 +483,10 @@ mavunilai_answer mavunilai_digest(const uint8_t *bytes, size_t bytes_len, uint8_
  * checked the signatures. These calls take an observer's book alone; to them a station's book is not sound, and to the
  * calls above an observer's is not. */
 
-/* Makes a new observer's book over `n` stations, with `heights` heights: `book_len` must be
+/* Makes a new observer's book over `n` stations, with `heights` heights, 1 to 1000: `book_len` must be
  * MAVUNILAI_OBSERVER_BOOK(heights). `weights` and `weights_len` are as for mavunilai_open, and must be the stations'.
  * The book's old bytes do not matter.
- * Refusals: 2, 1. After 0 the book is new: n, heights, edition 2 and the weights stand in it, and every other byte
+ * Refusals: 2, 1. After 0 the book is new: n, heights, edition 3 and the weights stand in it, and every other byte
  * is 0. */
 MAVUNILAI_LOOK
 mavunilai_answer mavunilai_observer_open(uint8_t *book, size_t book_len, uint64_t n, uint64_t heights,
@@ -464,7 +501,7 @@ mavunilai_answer mavunilai_observer_deliver(uint8_t *book, size_t book_len, cons
 
 /* Lets the settled height follow the certificates; nothing but the book is written, so that no reply is lent.
  * Refusals: 1. Else the answer is packed as that of mavunilai_move: move MAVUNILAI_MOVE_SETTLE with the new settled
- * height, the one byte of the book that changes, or MAVUNILAI_MOVE_IDLE. After the first the next one is idle, until a
+ * height, which alone of the book changes, or MAVUNILAI_MOVE_IDLE. After the first the next one is idle, until a
  * certificate comes. */
 MAVUNILAI_LOOK
 mavunilai_answer mavunilai_observer_move(uint8_t *book, size_t book_len);
@@ -542,7 +579,7 @@ static inline void mavunilai_make_frame(uint8_t *frame, uint8_t kind, uint8_t si
 
 /* Kind 1: the signer proposes a page of 176 bytes, for the height that stands in it. */
 static inline void mavunilai_make_proposal(uint8_t *frame, uint8_t signer, const uint8_t *page) {
-    unsigned height = page[MAVUNILAI_PAGE_HEIGHT] + 256u * page[MAVUNILAI_PAGE_HEIGHT + 1u];
+    unsigned height = mavunilai_word(page + MAVUNILAI_PAGE_HEIGHT);
     mavunilai_make_frame(frame, MAVUNILAI_KIND_PROPOSAL, signer, (uint16_t)height);
     mavunilai_copy(frame + MAVUNILAI_FRAME_PAGE, page, MAVUNILAI_PAGE);
 }

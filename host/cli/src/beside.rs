@@ -88,7 +88,7 @@ fn fence(file: &str, said: Kept, bytes: &[u8]) -> Fence {
 fn compared(said: &Said, book: &Book<impl Calls>) -> Fence {
     let shown = Said::shown_by(book);
     let against = |(height, one): &(Height, Statement)| {
-        shown.statements().any(|(at, other)| at == *height && one.contradicts(other))
+        shown.of_height(*height).any(|other| one.contradicts(other))
     };
     if let Some((height, one)) = said.statements().find(against) {
         return Fence::Contradicts(height, one);

@@ -3,7 +3,7 @@
 use std::io::{BufRead, Read};
 
 /// The most bytes of a line that is read from a program: a call has fewer than half as many.
-pub const MOST: usize = 1 << 20;
+pub const MOST: usize = 1 << 23;
 
 /// What comes next of a text.
 #[derive(Clone, Debug, PartialEq, Eq)]

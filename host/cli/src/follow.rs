@@ -18,8 +18,9 @@ pub struct Follower<'a> {
     disk: Disk,
     keeper: Keeper,
     json: bool,
-    /// How many entries of the register are printed, or were there before.
+    /// How many entries of the register are printed, or were there before, and the settled height at which it was read.
     told: usize,
+    settled: Height,
     /// How many frames came, how many of them were refused, and how many lines were neither frame nor answer.
     frames: usize,
     refused: usize,
@@ -29,7 +30,17 @@ pub struct Follower<'a> {
 impl<'a> Follower<'a> {
     /// A follower of the book in a file, which prints entries as objects or in words.
     pub fn new(file: &'a str, disk: Disk, keeper: Keeper, json: bool) -> Follower<'a> {
-        Follower { file, disk, keeper, json, told: 0, frames: 0, refused: 0, strange: 0 }
+        Follower {
+            file,
+            disk,
+            keeper,
+            json,
+            told: 0,
+            settled: 0,
+            frames: 0,
+            refused: 0,
+            strange: 0,
+        }
     }
 
     /// Prints what is settled from this height on, if one is given, and then what settles with each line of the input.
@@ -73,6 +84,10 @@ impl<'a> Follower<'a> {
             }
         }
         observer.make_move()?;
+        if observer.book().finalized() == self.settled {
+            return Ok(());
+        }
+        self.settled = observer.book().finalized();
         let filed = register::filed(observer.book().bytes())?;
         drop(observer);
         for entry in filed.iter().skip(self.told) {

@@ -102,31 +102,36 @@ stations and what a quorum weighs, and a table of heights (leader, held proposal
 votes, notarised page, signers of the page certificate, blank and finalise signers, with
 what they weigh together if not each weighs 1, whether it is linked, settled and in the
 register), with its pending entries and those of its pages, the reason why the current
-height is where it is, and the next move of the replica at hand. An entry of a page in
-the register that equals an earlier one of the chain is marked `filed before`: it is not
-counted or read again. Pages and votes are named by the first eight digits of the
-digest. Of a book that is not sound the first byte is told that breaks a rule. Several
-books, of stations with the same roll and of observers, all with the same weights, are
-shown side by side: a row for each height, a column for each book, <- at a station's
-current height. A book of edition 1 counts as one in which each station weighs 1. A
-station's column has its number, an observer's its file. An observer's book is told from
-a station's by its length. Of frames, FILE may also be what `call` printed. --json
+height is where it is, and the next move of the replica at hand. An entry of a page in the
+register that equals an earlier one of the chain is marked `filed before`: it is not
+counted or read again. Pages and votes are named by the first eight digits of the digest.
+Of a book that is not sound the first byte is told that breaks a rule. Several books, of
+stations with the same roll and of observers, all with the same weights, are shown side by
+side: a row for each height, a column for each book, <- at a station's current height. A
+book of edition 1 counts as one in which each station weighs 1. A station's column has its
+number, an observer's its file. An observer's book is told from a station's by its length
+for the number of heights that it says; where neither kind of book has that length for it,
+both are named whose length it is. Of frames, FILE may also be what `call` printed. --json
 prints an object for each frame or book (docs/JSON.md).
 ";
 
 const OPEN: &str = "\
-mavunilai open FILE --n N --own S --roll L,L,.. [--weights W,W,..] [--force] [--wait T]
+mavunilai open FILE --n N --own S --roll L,L,.. [--heights H] [--weights W,W,..]
+               [--force] [--wait T]
 
-Keeps a new book in FILE, for station S of N, with one leader L for each height and one
-weight W for each station, 1 to 1000; each weighs 1 if not said. Stations that weigh two
-thirds of all or more are a quorum, and the register is safe while the dishonest ones
-weigh less than a third: the books of all stations and observers must have the same
-weights. A file that is there is left alone, unless --force begins a new book in its
-place: a station that forgets what it said may say another thing, so do this for a new
-season only. So too where the book is gone and FILE.said still tells what it said. FILE
-may be - for standard output. --wait is as for `call`, with T seconds.
+Keeps a new book in FILE, for station S of N, with one leader L for each height, of which
+there may be 1 to 1000, and one weight W for each station, 1 to 1000; each weighs 1 if not
+said. With --heights there are H heights, at which the leaders of the roll take turns.
+Stations that weigh two thirds of all or more are a quorum, and the register is safe while
+the dishonest ones weigh less than a third: the books of all stations and observers must
+have the same weights. The book is of edition 3, which a program from before 0.2.7 refuses
+with 1. A file that is there is left alone, unless --force begins a new book in its place:
+a station that forgets what it said may say another thing, so do this for a new season
+only. So too where the book is gone and FILE.said still tells what it said. FILE may be -
+for standard output. --wait is as for `call`, with T seconds.
 
 Example: mavunilai open book --n 4 --own 2 --roll 0,1,2
+Example: mavunilai open book --n 4 --own 2 --roll 0,1,2,3 --heights 1000
 Example: mavunilai open book --n 4 --own 2 --roll 0,1,2 --weights 10,1,1,1
 ";
 
@@ -211,16 +216,16 @@ mavunilai observer BOOK follow [--since HEIGHT] [--evidence FOLDER] [--wait T]
 
 An observer follows the register of N stations without a vote: it is given certificates,
 frames of kinds 5 to 7, settles, and reads. It has no timer and sends nothing. open keeps
-a new book in the file BOOK (- is standard output), for H heights and with the weights W,
-those of the stations (1 each if not said, as for `mavunilai open`); a file that is there
-is left alone unless --force begins anew. deliver takes the frames of the file FRAMES (-
-is standard input) in order; `help call` says how they are written, and what becomes of a
-cut one and of none. Each has its line, fresh, known, or `deny` and a number: 16 for a
-frame that is no certificate. Any refusal makes the status 3, while the others are taken
-all the same; 10 makes it 4, and both certificates are kept in FOLDER, as by `mavunilai
-call`. move prints `final` and the settled height if it grew, else `idle`; after deliver
-one move is enough. size and read print what the register holds by then, an entry that
-the chain repeats once. --json prints each answer as an object (docs/JSON.md).
+a new book in the file BOOK (- is standard output), for H heights, 1 to 1000, and with the
+weights W, those of the stations (1 each if not said, as for `mavunilai open`); a file
+that is there is left alone unless --force begins anew. deliver takes the frames of the
+file FRAMES (- is standard input) in order; `help call` says how they are written, and
+what becomes of a cut one and of none. Each has its line, fresh, known, or `deny` and a
+number: 16 for a frame that is no certificate. Any refusal makes the status 3, while the
+others are taken all the same; 10 makes it 4, and both certificates are kept in FOLDER, as
+by `mavunilai call`. move prints `final` and the settled height if it grew, else `idle`;
+after deliver one move is enough. size and read print what the register holds by then, an
+entry that the chain repeats once. --json prints each answer as an object (docs/JSON.md).
 
 follow goes on reading standard input, a frame in digits on each line, as `certificates`
 prints them; answers between them are skipped. It delivers each, moves, and prints each
@@ -260,7 +265,7 @@ mavunilai record --folder FOLDER
 Prints the list of FILE (- is standard input) with the answers and digests that the
 replica gives now; the calls may stand there without any. --scenario prints a ready list:
 refusals, orders, moves, corners, tallies, repeats, rehearsal, season, books, observers,
-weights, editions or unequal.
+weights, editions, unequal, heights or long.
 --random prints N calls (1000 if not said) as `try` makes them from this seed. With --full
 the list has the bytes of the buffers and not their digests. --folder writes all ready
 lists there.

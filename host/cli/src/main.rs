@@ -51,6 +51,7 @@ mod told;
 mod try_command;
 mod unmet;
 mod unsound;
+mod unsound_heights;
 mod unsound_observer;
 mod unsound_setting;
 mod waiting;

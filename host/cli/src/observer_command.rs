@@ -52,7 +52,7 @@ fn open(all: &[String], output: &mut Vec<u8>) -> Result<(), Problem> {
     let arguments = Arguments::sort(all, &["n", "heights", "weights", "wait"], &["force"])?;
     let [file, _] =
         arguments.plain("the file of the new book, or - for standard output, then `open`")?;
-    let (n, heights) = (arguments.byte("n")?, arguments.byte("heights")?);
+    let (n, heights) = (arguments.byte("n")?, arguments.height("heights")?);
     let weighing = Weighing::read(&arguments, n)?;
     let book = ObserverBook::open(REPLICA, n.into(), heights, &weighing.numbers())
         .map_err(|refusal| weighing.refused(refusal))?;

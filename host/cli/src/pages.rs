@@ -87,11 +87,11 @@ pub fn votes(book: &[u8], height: Height, voters: u16) -> String {
 }
 
 /// The heights whose pages are in the register: the chain that ends at the settled height.
-pub fn register(book: &[u8]) -> Vec<Height> {
-    let mut heights = Vec::new();
+pub fn register(book: &[u8]) -> BTreeSet<Height> {
+    let mut heights = BTreeSet::new();
     let mut height = head_height(book, field::FINALIZED);
     while let Some(page) = page(book, height, Area::Notarized) {
-        heights.push(height);
+        heights.insert(height);
         if page.block.parent >= height {
             break;
         }
@@ -102,9 +102,9 @@ pub fn register(book: &[u8]) -> Vec<Height> {
 
 /// The entries that the register does not count, because an earlier one of its chain equals them: each by the height of
 /// its page and its place there.
-pub fn filed_before(book: &[u8], register: &[Height]) -> BTreeSet<(Height, usize)> {
-    let chain = register.iter().rev();
-    let pages = chain.filter_map(|height| Some((*height, page(book, *height, Area::Notarized)?)));
+pub fn filed_before(book: &[u8], register: &BTreeSet<Height>) -> BTreeSet<(Height, usize)> {
+    let pages =
+        register.iter().filter_map(|height| Some((*height, page(book, *height, Area::Notarized)?)));
     let (mut filed, mut repeats) = (BTreeSet::new(), BTreeSet::new());
     for (height, page) in pages {
         let entries = page.block.entries.into_iter().enumerate();

@@ -33,7 +33,7 @@ impl Filed {
 pub fn filed(book: &[u8]) -> Result<Vec<Filed>, Problem> {
     let bytes = read(book).map_err(|number| not_sound(book, number))?;
     let mut heights = BTreeMap::new();
-    for height in pages::register(book).into_iter().rev() {
+    for height in pages::register(book) {
         let page = pages::page(book, height, Area::Notarized);
         for entry in page.into_iter().flat_map(|page| page.block.entries) {
             heights.entry(entry).or_insert(height);

@@ -5,6 +5,7 @@ use crate::problem::Problem;
 use crate::words::{count, entry};
 use crate::{show_observer, table, unsound, weighed, why};
 use reference::inspect::{inspect, AtHeight, Inspection};
+use std::collections::BTreeSet;
 use types::refusal::meaning;
 use types::{field, is_observers, Area, Height};
 
@@ -123,11 +124,11 @@ fn pending(book: &Inspection, bytes: &[u8]) -> Vec<String> {
 
 /// The entries of all pages that have some, height by height; a page that is held and notarised stands once. Of those
 /// in the register the ones are marked that it does not count, as an earlier one equals them.
-pub fn entries(bytes: &[u8], last: Height, register: &[Height]) -> Vec<String> {
+pub fn entries(bytes: &[u8], last: Height, register: &BTreeSet<Height>) -> Vec<String> {
     let mut lines = Vec::new();
     let repeats = pages::filed_before(bytes, register);
-    let of = |wanted: Height| {
-        let places = repeats.iter().filter(move |(height, _)| *height == wanted);
+    let of = |height: Height| {
+        let places = repeats.range((height, 0)..=(height, usize::MAX));
         places.map(|(_, at)| *at).collect::<Vec<usize>>()
     };
     for height in 1..=last {

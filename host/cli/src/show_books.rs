@@ -3,6 +3,7 @@
 use crate::problem::Problem;
 use crate::words::count;
 use crate::{files, pages, register, show_book, show_observer, table, weighed};
+use std::collections::BTreeSet;
 use types::{is_observers, Area, Height, Weights};
 
 /// What a book says of a height.
@@ -29,7 +30,7 @@ struct Shown {
     finalized: Height,
     station: Option<Station>,
     heights: Vec<Slot>,
-    register: Vec<Height>,
+    register: BTreeSet<Height>,
 }
 
 /// The lines about books.

@@ -3,7 +3,7 @@
 use crate::problem::Problem;
 use crate::words::{entry, hex, members};
 use reference::sha256;
-use types::{Block, Book, Frame, Height, Refusal, FRAME, MOST_HEIGHTS, MOST_REPLICAS};
+use types::{Block, Book, Frame, Height, Refusal, FRAME};
 
 /// The lines about one frame or several, with an empty line between two.
 pub fn all(bytes: &[u8]) -> Result<String, Problem> {
@@ -47,16 +47,9 @@ fn strange(bytes: &[u8; FRAME]) -> String {
     }
 }
 
-/// Whether the largest book refuses the frame for its form alone.
+/// Whether a book refuses the frame for its form. That is looked at before height and signer, so any book will do.
 fn is_refused_for_form(bytes: &[u8]) -> bool {
-    let leaders = [0; MOST_HEIGHTS as usize];
-    let book = Book::open(
-        reference::Rules::SHA256,
-        MOST_REPLICAS.into(),
-        0,
-        &[1; MOST_REPLICAS as usize],
-        &leaders,
-    );
+    let book = Book::open(reference::Rules::SHA256, 1, 0, &[1], &[0]);
     book.and_then(|mut book| book.deliver(bytes)) == Err(Refusal::Malformed)
 }
 

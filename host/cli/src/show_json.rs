@@ -132,7 +132,7 @@ fn last(bytes: &[u8], rows: Vec<Json>, made: Result<types::Move, u8>) -> Fields 
     let register = pages::register(bytes);
     let next = made.map_or_else(|number| format!("deny {number}"), |made| made.to_string());
     vec![
-        ("register", Json::list(register.into_iter().rev().map(Json::number))),
+        ("register", Json::list(register.into_iter().map(Json::number))),
         ("next", Json::Text(next)),
         ("rows", Json::List(rows)),
     ]

@@ -1,45 +1,44 @@
 //! Why bytes are no sound book: the first rule that is broken, with its height and its byte.
 
-use crate::{unsound_observer, unsound_setting, weighed};
+use crate::{unsound_heights, unsound_observer, unsound_setting, weighed};
 use exchange::fields;
 use reference::inspect::inspect;
 use reference::is_quorum;
-use types::{book_length, field, head_height, height_at, mask_at, observer_book_length, Weights};
+use types::{field, head_height, height_at, is_observers, mask_at, Weights};
 use types::{
     put_head_height, Area, Height, Layout, ALL_FLAGS, BLOCK, BLOCK_HEIGHT, BLOCK_PARENT, ENTRY,
 };
-use types::{MOST_ENTRIES, MOST_HEIGHTS, MOST_PENDING, MOST_REPLICAS};
+use types::{MOST_ENTRIES, MOST_PENDING, MOST_REPLICAS};
 
 /// A byte, and what is wrong with it.
 pub type Fault = (usize, String);
 
 /// A sentence about the first rule that these bytes break; none if they are a sound book, a station's or an observer's.
-/// Which of the two they are meant to be is told by their length: no station's book has that of an observer's.
+/// Which of the two they are meant to be is told by the length for the number of heights that the head says. Where no
+/// kind of book has that length for it, both are named whose length it is.
 pub fn reason(book: &[u8]) -> Option<String> {
-    let fits = |length: fn(Height) -> usize| {
-        (1..=MOST_HEIGHTS).find(|heights| length(*heights) == book.len())
+    if let Some(rule) = unsound_heights::no_length(book) {
+        return Some(rule);
+    }
+    if let Some((byte, rule)) = unsound_setting::edition(book) {
+        return Some(format!("byte {byte} (edition): {rule}"));
+    }
+    if let Some((byte, rule)) = unsound_heights::fault(book) {
+        return Some(format!("byte {byte} (number of heights): {rule}"));
+    }
+    let (byte, rule) = match is_observers(book) {
+        true => unsound_observer::fault(book)?,
+        false => station(book)?,
     };
-    let (fault, fitting) = match (fits(book_length), fits(observer_book_length)) {
-        (Some(fitting), _) => (station(book, fitting), fitting),
-        (None, Some(fitting)) => (unsound_observer::fault(book, fitting), fitting),
-        (None, None) => {
-            let length = book.len();
-            let rule = format!("for any H from 1 to {MOST_HEIGHTS}");
-            return Some(format!("the length {length} is not 576 + 880 H, nor 64 + 184 H, {rule}"));
-        }
-    };
-    let (byte, rule) = fault?;
-    let place = match fields::place(book, byte) {
-        Some((name, _)) if head_height(book, field::HEIGHTS) == fitting => format!(" ({name})"),
-        _ => String::new(),
-    };
-    Some(format!("byte {byte}{place}: {rule}"))
+    let place = fields::place(book, byte).map(|(name, _)| format!(" ({name})"));
+    Some(format!("byte {byte}{}: {rule}", place.unwrap_or_default()))
 }
 
-/// What is wrong with bytes of the length of a station's book with so many heights.
-fn station(book: &[u8], fitting: Height) -> Option<Fault> {
-    head(book, fitting)
-        .or_else(|| (1..=fitting).find_map(|height| slot(book, height)))
+/// What is wrong with bytes of the length of a station's book with the heights that its head says.
+fn station(book: &[u8]) -> Option<Fault> {
+    let heights = head_height(book, field::HEIGHTS);
+    head(book, heights)
+        .or_else(|| (1..=heights).find_map(|height| slot(book, height)))
         .or_else(|| settled(book))
 }
 
@@ -54,19 +53,14 @@ pub fn zeros(book: &[u8], mut range: std::ops::Range<usize>) -> Option<Fault> {
     Some((byte, format!("it is {}, and must be zero", at(book, byte))))
 }
 
-/// What is wrong with the head of a book with the length of so many heights; the settled height aside.
-fn head(book: &[u8], fitting: Height) -> Option<Fault> {
+/// What is wrong with the head of a book with so many heights; its edition, which is known, and the settled height aside.
+fn head(book: &[u8], heights: Height) -> Option<Fault> {
     let value = |byte| at(book, byte);
-    let [heights, current] = [field::HEIGHTS, field::CURRENT].map(|at| head_height(book, at));
+    let current = head_height(book, field::CURRENT);
     let (n, own, flags) = (value(field::N), value(field::OWN), value(field::FLAGS));
     let pending = value(field::PENDING);
-    let last = fitting.saturating_add(1);
+    let last = heights.saturating_add(1);
     let rules = [
-        (
-            heights != fitting,
-            field::HEIGHTS,
-            format!("it says {heights} heights, the length is that of {fitting}"),
-        ),
         (
             !(1..=MOST_REPLICAS).contains(&n),
             field::N,
@@ -76,7 +70,7 @@ fn head(book: &[u8], fitting: Height) -> Option<Fault> {
         (flags > ALL_FLAGS, field::FLAGS, format!("flags {flags} are not below 16")),
         (
             !(1..=last).contains(&current),
-            field::CURRENT,
+            field::CURRENT.place(book).start,
             format!("the current height is {current}, not 1 to {last}"),
         ),
         (
@@ -158,7 +152,7 @@ pub fn page(book: &[u8], height: Height, start: usize) -> Option<Fault> {
     }
     let past = usize::from(count).saturating_mul(ENTRY).saturating_add(48);
     let digest = if back == 0 { place(16)..place(48) } else { 0..0 };
-    [place(1)..place(2), place(3)..place(4), place(5)..place(16), digest, place(past)..place(BLOCK)]
+    [place(5)..place(16), digest, place(past)..place(BLOCK)]
         .into_iter()
         .find_map(|range| zeros(book, range))
 }
@@ -181,7 +175,7 @@ fn settled(book: &[u8]) -> Option<Fault> {
             few_finalises(book, settled, finalises)
         }
     };
-    Some((field::FINALIZED, rule))
+    Some((field::FINALIZED.place(book).start, rule))
 }
 
 #[cfg(test)]

@@ -6,36 +6,27 @@ use reference::inspect::inspect_observer;
 use types::{field, head_height, mask_at, put_head_height, Height};
 use types::{ObserverArea, ObserverLayout, MOST_REPLICAS};
 
-/// What is wrong with bytes of the length of an observer's book with so many heights.
-pub fn fault(book: &[u8], fitting: Height) -> Option<Fault> {
-    head(book, fitting)
-        .or_else(|| (1..=fitting).find_map(|height| row(book, fitting, height)))
+/// What is wrong with bytes of the length of an observer's book with the heights that its head says.
+pub fn fault(book: &[u8]) -> Option<Fault> {
+    let heights = head_height(book, field::HEIGHTS);
+    head(book)
+        .or_else(|| (1..=heights).find_map(|height| row(book, heights, height)))
         .or_else(|| settled(book))
 }
 
-/// What is wrong with the head; the settled height aside.
-fn head(book: &[u8], fitting: Height) -> Option<Fault> {
-    let heights = head_height(book, field::HEIGHTS);
+/// What is wrong with the head; its edition, which is known, and the settled height aside.
+fn head(book: &[u8]) -> Option<Fault> {
     let n = at(book, field::N);
-    let rules = [
-        (
-            heights != fitting,
-            field::HEIGHTS,
-            format!("it says {heights} heights, the length is that of an observer's of {fitting}"),
-        ),
-        (
-            !(1..=MOST_REPLICAS).contains(&n),
-            field::N,
-            format!("n is {n}, not 1 to {MOST_REPLICAS}"),
-        ),
-    ];
-    let broken = rules.into_iter().find(|(broken, ..)| *broken);
-    let of_stations = [field::OWN, field::FLAGS, field::CURRENT, field::PENDING];
-    let unused = of_stations.into_iter().find(|byte| at(book, *byte) != 0).map(|byte| {
+    if !(1..=MOST_REPLICAS).contains(&n) {
+        return Some((field::N, format!("n is {n}, not 1 to {MOST_REPLICAS}")));
+    }
+    let single = [field::OWN, field::FLAGS, field::PENDING];
+    let of_stations = single.into_iter().chain(field::CURRENT.place(book));
+    let unused = of_stations.filter(|byte| at(book, *byte) != 0).min().map(|byte| {
         let value = at(book, byte);
         (byte, format!("it is {value}, and must be zero in an observer's book"))
     });
-    broken.map(|(_, byte, rule)| (byte, rule)).or(unused).or_else(|| unsound_setting::fault(book))
+    unused.or_else(|| unsound_setting::fault(book))
 }
 
 /// What is wrong with a height by itself.
@@ -77,5 +68,5 @@ fn settled(book: &[u8]) -> Option<Fault> {
             few_finalises(book, settled, finalises)
         }
     };
-    Some((field::FINALIZED, rule))
+    Some((field::FINALIZED.place(book).start, rule))
 }

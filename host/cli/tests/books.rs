@@ -24,7 +24,7 @@ fn a_new_book() {
     assert_eq!(bytes, book(&[]).bytes());
     let text = shown(&book(&[]));
     let head = "\
-Book of station 2 of 4, edition 2: 3 heights, settled height 0, 0 pending entries.
+Book of station 2 of 4, edition 3: 3 heights, settled height 0, 0 pending entries.
 Each station weighs 1; a quorum weighs 3 or more of 4.
 
 ";

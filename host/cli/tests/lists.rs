@@ -36,7 +36,7 @@ fn buffers_are_kept() {
         let text = fine(&format!("show book {kept}/book{station}"), &[]);
         let text = String::from_utf8(text).unwrap();
         assert!(text.starts_with(&format!(
-            "Book of station {station} of 4, edition 2: 5 heights, settled height 4"
+            "Book of station {station} of 4, edition 3: 5 heights, settled height 4"
         )));
     }
 }

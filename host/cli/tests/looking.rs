@@ -34,10 +34,10 @@ fn several_books_side_by_side() {
     let expected = "\
 4 books of 4 stations: 5 heights.
 Each station weighs 1; a quorum weighs 3 or more of 4.
-Station 0 (book0), edition 2: current height 2, settled height 0, 1 pending entry.
-Station 1 (book1), edition 2: current height 2, settled height 0, 2 pending entries.
-Station 2 (book2), edition 2: current height 1, settled height 0, 0 pending entries.
-Station 3 (book3), edition 2: current height 1, settled height 0, 0 pending entries.
+Station 0 (book0), edition 3: current height 2, settled height 0, 1 pending entry.
+Station 1 (book1), edition 3: current height 2, settled height 0, 2 pending entries.
+Station 2 (book2), edition 3: current height 1, settled height 0, 0 pending entries.
+Station 3 (book3), edition 3: current height 1, settled height 0, 0 pending entries.
 
 height  leader  station 0             station 1             station 2                station 3
 1       0       page 0d4594f8 linked  page 0d4594f8 linked  page 0d4594f8 linked <-  - <-
@@ -128,20 +128,35 @@ fn entries_that_were_filed_before_are_marked() {
 }
 
 #[test]
-fn the_rule_that_a_book_breaks_is_told_with_its_byte() {
+fn the_rule_that_a_head_breaks_is_told_with_its_byte() {
     let sound = settled(b"\0one entry      ");
     assert!(Calls::size(&Rules::SHA256, &sound).is_ok());
-    let page = Layout::new(1).area(1, Area::Notarized).start;
-    let cases: [(usize, u8, &str); 16] = [
+    let cases = [
         (0, 17, "byte 0 (number of stations): n is 17, not 1 to 16"),
         (1, 4, "byte 1 (own number): own number 4 is not below n, which is 4"),
-        (2, 2, "byte 2: it says 2 heights, the length is that of 1"),
+        (2, 1, "byte 2 (zero before the flags): it is 1, and must be zero in a book of edition 3"),
         (3, 16, "byte 3 (flags of the current height): flags 16 are not below 16"),
-        (4, 3, "byte 4 (current height): the current height is 3, not 1 to 2"),
-        (5, 2, "byte 5 (settled height): the settled height is 2, above the last one"),
+        (4, 3, "byte 4 (zeros behind the flags): it is 3, and must be zero in a book of edition 3"),
+        (40, 2, "byte 40 (number of heights): it is 2, and the length is that of a station's book of 1 height"),
+        (42, 3, "byte 42 (current height): the current height is 3, not 1 to 2"),
+        (44, 2, "byte 44 (settled height): the settled height is 2, above the last one"),
         (6, 33, "byte 6 (number of pending entries): 33 entries are pending, 32 at most can be"),
-        (7, 255, "byte 7 (edition): the edition is 255, not 1 or 2"),
-        (63, 1, "byte 63 (zeros of the head): it is 1, and must be zero in a book of edition 2"),
+        (7, 0, "byte 7 (edition): the edition is 0, not 1 to 3"),
+        (7, 4, "byte 7 (edition): the edition is 4, and this program knows 1 to 3: was the book made by a newer one?"),
+        (46, 1, "byte 46 (zeros of the head): it is 1, and must be zero in a book of edition 3"),
+    ];
+    for (byte, value, told) in cases {
+        let mut book = sound.clone();
+        book[byte] = value;
+        refused("show book -", &book, told);
+    }
+}
+
+#[test]
+fn the_rule_that_a_height_breaks_is_told_with_its_byte() {
+    let sound = settled(b"\0one entry      ");
+    let page = Layout::new(1).area(1, Area::Notarized).start;
+    let cases = [
         (576, 4, "byte 576 (height 1, leader): leader 4 is not below n, which is 4"),
         (577, 4, "byte 577 (height 1, state): the state is 4, above 3"),
         (581, 1, "byte 580 (height 1, blank): the mask has a bit that is not below n, which is 4"),
@@ -156,7 +171,9 @@ fn the_rule_that_a_book_breaks_is_told_with_its_byte() {
             "height 1 is not settled: its finalises are no quorum, they weigh 2 of 4, 3 needed",
         ),
         (page + 4, 0, "notarised page, entry 1): it is 111, and must be zero"),
+        (page + 1, 1, "notarised page, height): the page says height 257, and stands at 1"),
         (page + 2, 1, "notarised page, back height): its back height 1 is not below 1"),
+        (page + 3, 1, "notarised page, back height): its back height 256 is not below 1"),
     ];
     for (byte, value, told) in cases {
         let mut book = sound.clone();
@@ -166,7 +183,7 @@ fn the_rule_that_a_book_breaks_is_told_with_its_byte() {
     refused(
         "show book -",
         &sound[1..],
-        "the length 1455 is not 576 + 880 H, nor 64 + 184 H, for any H from 1 to 63",
+        "the length 1455 is not 576 + 880 H, nor 64 + 184 H, for any H from 1 to 1000",
     );
 }
 

@@ -100,12 +100,12 @@ fn opening_is_as_for_a_station() {
         ("open --heights 1", "--n is missing"),
         ("open --n 4", "--heights is missing"),
         ("open --n 4 --heights 1 --own 2", "'--own' is not known here"),
-        ("open --n 4 --heights 300", "no number from 0 to 255"),
+        ("open --n 4 --heights 65536", "no number from 0 to 65535"),
     ] {
         refused(&format!("observer {path} {words}"), &[], part);
     }
     denied(&format!("observer {path} open --n 17 --heights 1 --force"), &[], "refused with 2");
-    denied(&format!("observer {path} open --n 4 --heights 64 --force"), &[], "refused with 2");
+    denied(&format!("observer {path} open --n 4 --heights 1001 --force"), &[], "refused with 2");
 }
 
 #[test]
@@ -156,8 +156,8 @@ fn books_of_both_kinds_side_by_side() {
     let expected = "\
 2 books of 4 stations: 5 heights.
 Each station weighs 1; a quorum weighs 3 or more of 4.
-Observer (watch), edition 2: settled height 4.
-Station 3 (book3), edition 2: current height 5, settled height 4, 1 pending entry.
+Observer (watch), edition 3: settled height 4.
+Station 3 (book3), edition 3: current height 5, settled height 4, 1 pending entry.
 
 height | leader | observer watch | station 3
 1 | 0 | page 0d4594f8 in register | page 0d4594f8 in register
@@ -236,12 +236,14 @@ fn what_is_wrong_with_a_book_is_told() {
     fine(&format!("observer {book} deliver -"), &page);
     let sound = std::fs::read(&book).unwrap();
     for (at, byte, part) in [
-        (4, 1, "byte 4 (current height): it is 1, and must be zero in an observer's book"),
+        (42, 1, "byte 42 (current height): it is 1, and must be zero in an observer's book"),
+        (43, 1, "byte 43 (current height): it is 1, and must be zero in an observer's book"),
         (1, 2, "byte 1 (own number): it is 2, and must be zero in an observer's book"),
-        (5, 1, "byte 5 (settled height): height 1 is not settled: its finalises are no quorum"),
-        (5, 2, "byte 5 (settled height): height 2 is not settled: it is not linked"),
-        (7, 3, "byte 7 (edition): the edition is 3, not 1 or 2"),
-        (2, 3, "byte 2: it says 3 heights, the length is that of an observer's of 2"),
+        (5, 1, "byte 5 (zeros behind the flags): it is 1, and must be zero in a book of edition 3"),
+        (44, 1, "byte 44 (settled height): height 1 is not settled: its finalises are no quorum"),
+        (44, 2, "byte 44 (settled height): height 2 is not settled: it is not linked"),
+        (7, 9, "byte 7 (edition): the edition is 9, and this program knows 1 to 3: was the book made by"),
+        (40, 3, "byte 40 (number of heights): it is 3, and the length is that of an observer's book of 2"),
         (64, 1, "byte 64 (height 1, state): the state is 1, neither 0 nor 2"),
         (65, 1, "byte 65 (height 1, zero behind the state): it is 1, and must be zero"),
         (66, 1, "byte 66 (height 1, page certificate): a page is notarised"),

@@ -86,7 +86,7 @@ fn what_is_no_book_has_no_register() {
     refused(&format!("read {}", spoilt.display()), &[], "refused with 1: the book is not sound");
     refused("read nowhere", &[], "nowhere cannot be read");
     refused("read", &[], "the file of a book");
-    refused("read nowhere --since high", &[], "no number from 0 to 255");
+    refused("read nowhere --since high", &[], "no number from 0 to 65535");
 }
 
 /// A follower of a book, with pipes.
@@ -114,7 +114,7 @@ fn each_entry_is_printed_as_it_settles() {
         let mut line = String::new();
         output.read_line(&mut line).unwrap();
         // What is printed is in the file by now.
-        let settled = std::fs::read(&book).unwrap()[types::field::FINALIZED];
+        let settled = std::fs::read(&book).unwrap()[types::field::FINALIZED.long];
         (line, settled)
     };
     // The input stays open: what comes must be told at once. Answers between the frames are left out.

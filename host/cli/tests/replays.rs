@@ -25,7 +25,7 @@ fn replayed(options: &str, from: &str, to: &str) -> Ended {
 
 #[test]
 fn fields_are_told_where_the_list_has_bytes() {
-    let ended = replayed("--full", "== dummy 1 04020103", "== dummy 1 04020101");
+    let ended = replayed("--full", "== dummy 1 04020003", "== dummy 1 04020001");
     assert_eq!(ended.status, 1);
     let expected = "\
 mavunilai: -, line 8: the bytes of the book are not the expected ones (case \"The timer fires\")

@@ -39,13 +39,13 @@ fn deliver(book: &str, frames: &[Frame]) {
 #[test]
 fn a_book_that_is_well_has_status_0() {
     let book = book("well");
-    let sound = "book: sound, station 2 of 4, edition 2, weights all 1, 3 heights, settled height 0, 0 entries";
+    let sound = "book: sound, station 2 of 4, edition 3, weights all 1, 3 heights, settled height 0, 0 entries";
     let lines = [sound, "frames: none wait", "said: nothing is kept", "lock: nobody has it"];
     assert_eq!(check(&book), (0, lines.map(str::to_string).to_vec()));
     let kept = folder("standing").join("season").to_str().unwrap().to_string();
     fine(&format!("replay {} --keep {kept}", list("season.txt")), &[]);
     let (status, lines) = check(&format!("{kept}/watch"));
-    let sound = "book: sound, an observer of 4, edition 2, weights all 1, 5 heights, settled height 4, 4 entries";
+    let sound = "book: sound, an observer of 4, edition 3, weights all 1, 5 heights, settled height 4, 4 entries";
     assert_eq!((status, lines[0].as_str()), (0, sound));
 }
 
@@ -53,10 +53,10 @@ fn a_book_that_is_well_has_status_0() {
 fn a_book_that_is_not_sound_is_told_with_rule_and_byte() {
     let book = book("spoilt");
     let mut bytes = std::fs::read(&book).unwrap();
-    bytes[types::field::CURRENT] = 9;
+    bytes[types::field::CURRENT.long] = 9;
     std::fs::write(&book, &bytes).unwrap();
     let (status, lines) = check(&book);
-    let rule = "byte 4 (current height): the current height is 9, not 1 to 4";
+    let rule = "byte 42 (current height): the current height is 9, not 1 to 4";
     assert_eq!((status, lines[0].clone()), (3, format!("book: not sound: {rule}")));
     let ended = run(&format!("check {book}"), &[]);
     assert_eq!(ended.complaint, format!("mavunilai: {book}: not sound: {rule}\n"));

@@ -55,9 +55,9 @@ fn a_wrong_answer_is_told_with_the_call_and_can_be_replayed() {
     let ended = tried("--seed 3 --count 300", "M answer | sed -u 's/^known /fresh /'");
     assert_eq!(ended.status, 1);
     let expected = format!("\
-mavunilai: sh, call 8 (case \"seed 3, part 1, a sound book that no run makes\"): it differs from {NAME}
-the call: deliver book 040205+00*221
-its frame: finalise (kind 4), signer 2, height 5
+mavunilai: sh, call 34 (case \"seed 3, part 1, a new book\"): it differs from {NAME}
+the call: deliver book 040101+00*221
+its frame: finalise (kind 4), signer 1, height 1
 answers: ours 'known', theirs 'fresh'
 books: the same
 ");
@@ -65,8 +65,8 @@ books: the same
     let shown = ended.text();
     let mut lines = shown.lines();
     assert_eq!(lines.next(), Some("mavunilai exchange 2"));
-    assert_eq!(lines.next(), Some("# seed 3, part 1, a sound book that no run makes"));
-    assert!(shown.contains("\ndeliver book 040205+00*221 == known 0"), "{shown}");
+    assert_eq!(lines.next(), Some("# seed 3, part 1, a new book"));
+    assert!(shown.contains("\ndeliver book 040101+00*221 == known 0"), "{shown}");
     let replayed = run("replay -", shown.as_bytes());
     assert_eq!(replayed.text(), format!("-: 1 call on {NAME}, all as expected\n"));
 }
@@ -129,7 +129,7 @@ fn what_a_program_may_do_but_answer() {
         ("echo hello; cat >/dev/null", "hello"),
         ("echo; cat >/dev/null", "'"),
         ("printf '\\377\\n'; cat >/dev/null", "it printed a line that is no text"),
-        ("cat /dev/zero", "it printed a line of 1048576 bytes or more"),
+        ("cat /dev/zero", "it printed a line of 8388608 bytes or more"),
         ("M answer | sed -u 's/$/00/'", "its book has 4097 bytes, and it was lent one of 4096"),
         ("M answer | sed -u 's/ [^ ]*$//'", "is no answer followed by the bytes of 1 buffer"),
         ("M answer | sed -u 's/ [^ ]*$/ 0g/'", "'0g' is not pairs of hexadecimal digits"),

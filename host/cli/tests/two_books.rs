@@ -28,7 +28,7 @@ fn book(name: &str) -> [String; 2] {
 }
 
 /// Blank votes of the three others at these heights.
-fn blanks(heights: impl Iterator<Item = u8>) -> Vec<u8> {
+fn blanks(heights: impl Iterator<Item = types::Height>) -> Vec<u8> {
     let votes = heights.flat_map(|height| [0, 1, 3].map(|signer| (signer, height)));
     votes.flat_map(|(signer, height)| Frame::DummyVote { signer, height }.bytes()).collect()
 }

@@ -91,7 +91,7 @@ fn quorums_are_told_by_weight() {
     let mut book = station(&LARGE, &frames);
     let shown = text("show book -", book.bytes());
     for part in [
-        "Book of station 2 of 4, edition 2: 3 heights, settled height 0, 0 pending entries.\n\
+        "Book of station 2 of 4, edition 3: 3 heights, settled height 0, 0 pending entries.\n\
          The stations weigh 10,1,1,1; a quorum weighs 9 or more of 13.\n\n",
         "3 page votes are kept, and those for this page weigh 2 of 13, 9 needed.\n",
         "It is not blank: its blank votes weigh 2 of 13, 9 needed.\n",
@@ -120,7 +120,7 @@ fn an_observers_book_is_shown_by_weight() {
     ];
     let shown = text("show book -", observer(&LARGE, &frames).bytes());
     for part in [
-        "Observer's book of 4 stations, edition 2: 3 heights, settled height 0.\n\
+        "Observer's book of 4 stations, edition 3: 3 heights, settled height 0.\n\
          The stations weigh 10,1,1,1; a quorum weighs 9 or more of 13.\n\n",
         "  0 (weight 10)  ",
         "  0 1 (weight 11) (quorum)  ",
@@ -153,7 +153,7 @@ fn weights_stand_in_objects() {
         .map(|book| text("show book - --json", book));
     for shown in [&station, &observer] {
         assert!(shown.contains(head) && shown.contains(row), "{shown}");
-        assert!(shown.contains(r#""edition":2,"#), "{shown}");
+        assert!(shown.contains(r#""edition":3,"#), "{shown}");
     }
 }
 
@@ -164,7 +164,7 @@ fn kept(name: &str, bytes: &[u8]) -> String {
     file.to_str().unwrap().to_string()
 }
 
-/// An edition 1 is shown and checked as such, and goes beside an edition 2 in which each weighs 1.
+/// An edition 1 is shown and checked as such, and goes beside an edition 3 in which each weighs 1.
 #[test]
 fn books_of_edition_1_are_told_apart_and_go_with_weights_of_1() {
     let one = kept("one", &older(station(&[1; 4], &[]).bytes()));
@@ -230,20 +230,19 @@ fn a_head_that_is_not_sound_is_told() {
     let sound =
         [station(&ones, &frames).bytes().to_vec(), observer(&ones, &frames).bytes().to_vec()];
     for (bytes, told) in [
-        (vec![(7, 0)], "byte 7 (edition): the edition is 0, not 1 or 2"),
-        (vec![(7, 3)], "byte 7 (edition): the edition is 3, not 1 or 2"),
+        (vec![(7, 0)], "byte 7 (edition): the edition is 0, not 1 to 3"),
+        (
+            vec![(7, 5)],
+            "byte 7 (edition): the edition is 5, and this program knows 1 to 3: was the book",
+        ),
         (vec![(8, 0)], "byte 8 (weight of station 0): station 0 weighs 0, not 1 to 1000"),
         (vec![(14, 0xe9), (15, 3)], "byte 14 (weight of station 3): station 3 weighs 1001, not"),
         (vec![(11, 0xff)], "byte 10 (weight of station 1): station 1 weighs 65281, not 1 to 1000"),
         (vec![(17, 1)], "byte 16 (weight of station 4): it is 256, and must be zero: n is 4, so"),
         (vec![(38, 7)], "byte 38 (weight of station 15): it is 7, and must be zero: n is 4, so"),
         (
-            vec![(40, 9)],
-            "byte 40 (zeros of the head): it is 9, and must be zero in a book of edition 2",
-        ),
-        (
-            vec![(7, 1)],
-            "byte 8 (weight of station 0): it is 1, and must be zero in a book of edition 1",
+            vec![(46, 9)],
+            "byte 46 (zeros of the head): it is 9, and must be zero in a book of edition 3",
         ),
         (vec![(8, 10)], "no quorum: they weigh 3 of 13, 9 needed"),
     ] {
@@ -253,15 +252,22 @@ fn a_head_that_is_not_sound_is_told() {
             refused("show book -", &book, told);
         }
     }
-    for sound in &sound {
-        let mut book = older(sound);
-        fine("show book -", &book);
-        book[63] = 2;
-        refused(
-            "show book -",
-            &book,
-            "byte 63 (zeros of the head): it is 2, and must be zero in a book",
-        );
+}
+
+/// What an edition 1 calls zero is told with its byte.
+#[test]
+fn zeros_of_edition_1_are_told() {
+    for sound in [station(&[1; 4], &[]).bytes(), observer(&[1; 4], &[]).bytes()] {
+        let older = older(sound);
+        fine("show book -", &older);
+        for (at, told) in
+            [(8, "weight of station 0"), (40, "zeros of the head"), (63, "zeros of the head")]
+        {
+            let mut book = older.clone();
+            book[at] = 2;
+            let told = format!("({told}): it is 2, and must be zero in a book of edition 1");
+            refused("show book -", &book, &format!("byte {at} {told}"));
+        }
     }
 }
 

@@ -68,6 +68,7 @@ fn run(words: &[String]) -> Result<(), Ended> {
         timed: 0,
         timer: None,
         told: 0,
+        told_height: 0,
         evidence: OpenOptions::new().create(true).append(true).open(evidence)?,
     };
     host.begin()?;
@@ -127,8 +128,9 @@ struct Host {
     timed: Height,
     /// When the timer fires; none while it does not run.
     timer: Option<Instant>,
-    /// How many entries of the register are told.
+    /// How many entries of the register are told, and the settled height at which it was read.
     told: usize,
+    told_height: Height,
     /// Where frames are kept by which others broke the rules.
     evidence: File,
 }
@@ -255,8 +257,13 @@ impl Host {
         say(&format!("frame {}", digits(frame)))
     }
 
-    /// Tells the entries by which the register has grown: they are in it for good.
+    /// Tells the entries by which the register has grown: they are in it for good. It is read where the settled height
+    /// has grown, and not with every frame.
     fn tell(&mut self) -> Result<(), Ended> {
+        if self.book.book().finalized() == self.told_height {
+            return Ok(());
+        }
+        self.told_height = self.book.book().finalized();
         let register = self.book.book().log()?;
         for entry in register.iter().skip(self.told) {
             say(&format!("settled {}", digits(entry)))?;

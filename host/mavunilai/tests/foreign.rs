@@ -13,7 +13,7 @@ use foreign::{digest, fits, Proved, INTERFACE};
 use mavunilai::{digest, fits, Proved};
 use types::{
     nearest_height, Block, Book, Calls, Certificate, Counts, Delivered, Frame, Height, Move,
-    ObserverBook, Refusal,
+    ObserverBook, Refusal, MOST_HEIGHTS,
 };
 
 /// Replica 2 of 4 with three heights.
@@ -82,13 +82,13 @@ fn a_log_of_one_replica() {
 #[test]
 fn refusals_come_through() {
     assert_eq!(Book::open(Proved, 4, 4, &[1; 4], &[0]).err(), Some(Refusal::OutOfRange));
-    assert_eq!(Book::open(Proved, 4, 0, &[1; 4], &[0; 300]).err(), Some(Refusal::OutOfRange));
+    assert_eq!(Book::open(Proved, 4, 0, &[1; 4], &[0; 1001]).err(), Some(Refusal::OutOfRange));
     assert_eq!(Book::from_bytes(Proved, vec![]).err(), Some(Refusal::Unsound));
     assert_eq!(Proved.make_move(&mut [], &mut []), Err(1));
     let mut book = book();
     assert_eq!(book.deliver(&[]), Err(Refusal::Malformed));
     assert_eq!(book.signal(2), Err(Refusal::NotDue));
-    for number in [4, 255, 256, 257, u64::MAX] {
+    for number in [4, 255, 256, 257, 65_535, 65_536, 65_537, u64::MAX] {
         assert_eq!(book.signal(nearest_height(number)), Err(Refusal::NoSuchHeight));
         assert_eq!(Proved.signal(&mut book.bytes().to_vec(), number), Err(6));
     }
@@ -98,6 +98,66 @@ fn refusals_come_through() {
     let mut bytes = book.bytes().to_vec();
     assert_eq!(Proved.make_move(&mut bytes, &mut [0; 447]), Err(3));
     assert_eq!(Proved.read(&bytes, &mut []), 0);
+}
+
+/// A frame of a dummy certificate of this height.
+fn dummy(height: Height) -> [u8; types::FRAME] {
+    Frame::DummyCertificate { mask: 7, height }.bytes()
+}
+
+/// Heights of two bytes come through every call and answer, in books of many heights.
+#[test]
+fn great_heights_come_through() {
+    for heights in [64, 256, MOST_HEIGHTS] {
+        let roll = vec![0; heights.into()];
+        let mut book = Book::open(Proved, 4, 2, &[1; 4], &roll).unwrap();
+        assert_eq!((book.bytes().len(), book.heights()), (types::book_length(heights), heights));
+        let packet: Vec<_> = (1..=heights).map(dummy).collect();
+        let fresh = Counts { fresh: heights.into(), ..Counts::default() };
+        assert_eq!(book.deliver_packet(packet.as_flattened()), Ok(fresh));
+        assert_eq!(book.deliver(&dummy(heights + 1)), Err(Refusal::NoSuchHeight));
+        assert_eq!(book.fetch(6, heights), Ok(dummy(heights)));
+        for height in 1..=heights {
+            let pass = Move::Pass { height, certificate: Certificate::Dummy, finalized: true };
+            let frames = vec![dummy(height), Frame::Finalize { signer: 2, height }.bytes()];
+            assert_eq!(book.make_move(), Ok((pass, frames)));
+        }
+        assert_eq!((book.current(), book.make_move()), (heights + 1, Ok((Move::Idle, vec![]))));
+        assert_eq!(book.signal(heights), Err(Refusal::NotDue));
+        let mut watch = ObserverBook::open(Proved, 4, heights, &[1; 4]).unwrap();
+        let block = Block { height: heights, entries: [[3; 16]].into(), ..Block::default() };
+        assert_eq!(
+            watch.deliver(&Frame::BlockCertificate { mask: 7, block }.bytes()),
+            Ok(Delivered::Fresh)
+        );
+        let finalizes = Frame::FinalizeCertificate { mask: 7, height: heights }.bytes();
+        assert_eq!(watch.deliver(&finalizes), Ok(Delivered::Fresh));
+        for height in 1..heights {
+            assert_eq!(watch.make_move(), Ok(Move::Idle));
+            assert_eq!(watch.deliver(&dummy(height)), Ok(Delivered::Fresh));
+        }
+        assert_eq!(watch.make_move(), Ok(Move::Final { height: heights }));
+        assert_eq!((watch.log(), watch.finalized()), (Ok(vec![[3; 16]]), heights));
+    }
+}
+
+/// Books of older editions work on through the wrapper and stay of their edition.
+#[test]
+fn older_editions_come_through() {
+    for edition in [1, 2] {
+        let mut bytes = book().bytes().to_vec();
+        types::put_edition(&mut bytes, edition);
+        let mut book = Book::from_bytes(Proved, bytes).unwrap();
+        assert_eq!((book.heights(), book.current(), book.finalized()), (3, 1, 0));
+        assert_eq!(book.deliver(&dummy(256 + 1)), Err(Refusal::NoSuchHeight));
+        assert_eq!(book.deliver(&dummy(1)), Ok(Delivered::Fresh));
+        assert_eq!(book.make_move().map(|(made, _)| made.height()), Ok(1));
+        assert_eq!((book.current(), book.bytes()[7], book.bytes()[4]), (2, edition, 2));
+        let mut long = vec![0; types::book_length(64)];
+        assert_eq!(Proved.open(&mut long, 4, 2, 64, &[1, 0].repeat(4), &[0; 64]), Ok(()));
+        types::put_edition(&mut long, edition);
+        assert_eq!(Proved.size(&long), Err(1));
+    }
 }
 
 #[test]
@@ -143,7 +203,7 @@ fn refusals_of_an_observer_come_through() {
     assert_eq!(observer.deliver(&[]), Err(Refusal::Malformed));
     let high = Frame::DummyCertificate { mask: 7, height: 3 }.bytes();
     assert_eq!(observer.deliver(&high), Err(Refusal::NoSuchHeight));
-    for (n, heights) in [(0, 1), (17, 1), (4, 0), (4, 64), (4, Height::MAX)] {
+    for (n, heights) in [(0, 1), (17, 1), (4, 0), (4, 1001), (4, Height::MAX)] {
         assert_eq!(
             ObserverBook::open(Proved, n, heights, &[1; 4]).err(),
             Some(Refusal::OutOfRange)
@@ -166,8 +226,8 @@ fn weights_come_through() {
     let bytes = [0xe8, 3, 1, 0, 0, 1, 1, 2, 0, 0];
     let station = Book::open(Proved, 4, 0, &weights, &[0]).unwrap();
     let observer = ObserverBook::open(Proved, 4, 1, &weights).unwrap();
-    assert_eq!((station.bytes()[7], &station.bytes()[8..18]), (2, &bytes[..]));
-    assert_eq!((observer.bytes()[7], &observer.bytes()[8..18]), (2, &bytes[..]));
+    assert_eq!((station.bytes()[7], &station.bytes()[8..18]), (3, &bytes[..]));
+    assert_eq!((observer.bytes()[7], &observer.bytes()[8..18]), (3, &bytes[..]));
     let refused: [&[u16]; 6] =
         [&[], &[1; 3], &[1; 5], &[1, 0, 1, 1], &[1, 1, 1, 1001], &[65535, 1, 1, 1]];
     for weights in refused {

@@ -30,11 +30,12 @@ fn numbers() -> BTreeMap<String, u64> {
 }
 
 /// The programs in C that tests here and beside this file run.
-const TESTS: [&str; 10] = [
+const TESTS: [&str; 11] = [
     "promises",
     "observers",
     "repeats",
     "weights",
+    "heights",
     "texts",
     "readers",
     "weighing",
@@ -85,7 +86,8 @@ fn row(bytes: &[u8]) -> String {
     format!("{{{}}}", bytes.iter().map(u8::to_string).collect::<Vec<_>>().join(","))
 }
 
-/// What the header says of second pages, over a book that holds a page of height 2 of three heights.
+/// What the header says of second pages, over a book that holds a page of height 2 of three heights: a frame whose
+/// height has the same low byte is of another height.
 #[test]
 fn a_second_page_is_told_as_by_the_types() {
     let page = |height, byte| Block { height, entries: [[byte; 16]].into(), ..Block::default() };
@@ -93,7 +95,7 @@ fn a_second_page_is_told_as_by_the_types() {
     let mut book = Book::open(reference::Rules::SHA256, 4, 2, &[1; 4], &[0; 3]).unwrap();
     book.deliver(&proposal(2, 1)).unwrap();
     let certificate = Frame::BlockCertificate { mask: 7, block: page(2, 2) }.bytes();
-    let frames = [(2, 1), (2, 2), (1, 2), (3, 2), (0, 2), (4, 2), (255, 2)];
+    let frames = [(2, 1), (2, 2), (1, 2), (3, 2), (0, 2), (4, 2), (258, 2)];
     let frames = frames.map(|(height, byte)| proposal(height, byte)).into_iter();
     let frames: Vec<_> = frames.chain([certificate]).collect();
     let rows: Vec<String> = frames.iter().map(|frame| row(frame)).collect();
@@ -149,6 +151,7 @@ fn lengths_and_maxima_are_those_of_the_types() {
     is("MOST_STATIONS", types::MOST_REPLICAS.into());
     is("MOST_WEIGHT", types::MOST_WEIGHT.into());
     is("MOST_HEIGHTS", types::MOST_HEIGHTS.into());
+    is("MOST_SHORT_HEIGHTS", types::MOST_SHORT_HEIGHTS.into());
     is("MOST_PENDING", Layout::new(1).pending().len() / types::ENTRY);
     is("MOST_BOOK", book_length(types::MOST_HEIGHTS));
     is("MOST_OBSERVER_BOOK", observer_book_length(types::MOST_HEIGHTS));
@@ -164,15 +167,18 @@ fn fields_of_the_book_are_where_the_types_have_them() {
     let is = |name: &str, value: usize| assert_eq!(numbers[name], value as u64, "{name}");
     is("HEAD_STATIONS", field::N);
     is("HEAD_OWN", field::OWN);
-    is("HEAD_HEIGHTS", field::HEIGHTS);
     is("HEAD_FLAGS", field::FLAGS);
-    is("HEAD_CURRENT", field::CURRENT);
-    is("HEAD_SETTLED", field::FINALIZED);
+    let heights = [field::HEIGHTS, field::CURRENT, field::FINALIZED];
+    for (name, of) in ["HEIGHTS", "CURRENT", "SETTLED"].into_iter().zip(heights) {
+        is(&format!("HEAD_LONG_{name}"), of.long);
+        is(&format!("HEAD_SHORT_{name}"), of.short);
+    }
     is("HEAD_PENDING", field::PENDING);
     is("HEAD_EDITION", field::EDITION);
     is("HEAD_WEIGHTS", field::WEIGHTS);
     is("EDITION_UNWEIGHED", types::FIRST_EDITION.into());
-    is("EDITION_WEIGHED", types::EDITION.into());
+    is("EDITION_WEIGHED", types::SECOND_EDITION.into());
+    is("EDITION_LONG", types::EDITION.into());
     is("PENDING_AT", Layout::new(1).pending().start);
     is("CONTENTS_AT", Layout::new(1).area(1, Area::Row).start);
     is("ROW", Layout::new(1).area(1, Area::Row).len());
@@ -283,10 +289,10 @@ fn interface_is_that_of_the_wrapper() {
 #[test]
 #[cfg(feature = "proved")]
 fn promises_are_kept() {
-    for name in ["promises", "observers", "repeats", "weights", "packet_each"] {
+    for name in ["promises", "observers", "repeats", "weights", "heights", "packet_each"] {
         let program = word(&format!("mavunilai/tests/c/{name}.c"));
         for language in LANGUAGES {
-            let files = [&program, "-x", "none", env!("MAVUNILAI_ARCHIVE")];
+            let files = [&program, "-x", "none", env!("MAVUNILAI_ARCHIVE"), "-pthread"];
             let printed = prints(language, name, &files);
             let kept = printed.as_ref().is_none_or(|(text, ended)| text.is_empty() && *ended);
             assert!(kept, "{name}: {printed:?}");

@@ -4,8 +4,8 @@
 mod common;
 
 use common::{compiler, host, prints, prints_of, scratch, LANGUAGES};
-use types::{book_length, field, observer_book_length, Block, Book, Entries, Frame, Height};
-use types::{ObserverBook, MOST_HEIGHTS};
+use types::{book_length, observer_book_length, Block, Book, Entries, Frame, Height, ObserverBook};
+use types::{EDITION, MOST_HEIGHTS, MOST_SHORT_HEIGHTS};
 
 /// What stands for no station, as MAVUNILAI_NO_STATION of the header.
 const NO_STATION: u8 = 255;
@@ -30,53 +30,70 @@ fn watched() -> Vec<&'static str> {
     Vec::new()
 }
 
-/// A proposal of height 1 of another page than the one that [`station`] holds.
-fn second() -> [u8; types::FRAME] {
-    let block = Block { height: 1, entries: [[2; 16]].into(), ..Block::default() };
+/// A proposal of a height of another page than the one that [`station`] holds at its last height.
+fn second(height: Height) -> [u8; types::FRAME] {
+    let block = Block { height, entries: [[2; 16]].into(), ..Block::default() };
     Frame::Proposal { signer: 3, block }.bytes()
 }
 
-/// A book of so many heights, led by stations 3, 2, 1, 0 in turn, which holds a page of height 1.
-fn station(heights: Height) -> Book<reference::Rules> {
-    let leaders: Vec<u8> = (0..heights).map(|height| 3 - height % 4).collect();
+/// A book of so many heights and of this edition, led by stations 3, 2, 1, 0 in turn, the last by 3, which holds a page
+/// of its last height.
+fn station(heights: Height, edition: u8) -> Book<reference::Rules> {
+    let mut leaders: Vec<u8> = (0..heights).map(|height| 3 - (height % 4) as u8).collect();
+    *leaders.last_mut().unwrap() = 3;
     let mut book = Book::open(reference::Rules::SHA256, 4, 2, &[1; 4], &leaders).unwrap();
-    let block = Block { height: 1, entries: [[1; 16]].into(), ..Block::default() };
+    let block = Block { height: heights, entries: [[1; 16]].into(), ..Block::default() };
     book.deliver(&Frame::Proposal { signer: 3, block }.bytes()).unwrap();
-    book
+    let mut bytes = book.bytes().to_vec();
+    types::put_edition(&mut bytes, edition);
+    Book::from_bytes(reference::Rules::SHA256, bytes).unwrap()
 }
 
-/// The line that `readers.c` is to print of a book: what the types say of each height.
-fn line(bytes: &[u8], leader: impl Fn(Height) -> Option<u8>, second: bool) -> String {
-    let mut words = vec![bytes[field::CURRENT], bytes[field::FINALIZED]];
-    words.extend((0..=255).map(|height| leader(height).unwrap_or(NO_STATION)));
-    words.extend([NO_STATION; 6]);
-    words.push(second.into());
-    words.iter().map(u8::to_string).collect::<Vec<_>>().join(" ")
+/// An observer's book of so many heights and of this edition.
+fn observer(heights: Height, edition: u8) -> ObserverBook<reference::Rules> {
+    let book = ObserverBook::open(reference::Rules::SHA256, 4, heights, &[1; 4]).unwrap();
+    let mut bytes = book.bytes().to_vec();
+    types::put_edition(&mut bytes, edition);
+    ObserverBook::from_bytes(reference::Rules::SHA256, bytes).unwrap()
 }
 
-/// Heights that a book does not have have no leader and no second page, and nothing beyond the book is read.
+/// The line that `readers.c` is to print of a book with so many heights, and of the proposal that is a second page of a
+/// station's: what the types say of each height.
+fn line(heights: Height, leader: impl Fn(Height) -> Option<u8>, station: bool) -> String {
+    let mut words: Vec<u32> = vec![heights.into(), station.into(), 0];
+    let leaders = (0..=MOST_HEIGHTS + 300).map(|height| leader(height).unwrap_or(NO_STATION));
+    words.extend(leaders.chain([NO_STATION; 6]).map(u32::from));
+    words.extend([u32::from(heights), u32::from(station)]);
+    words.iter().map(u32::to_string).collect::<Vec<_>>().join(" ")
+}
+
+/// Heights that a book does not have have no leader and no second page, and nothing beyond the book is read, whatever
+/// its edition is.
 #[test]
 fn readers_keep_to_the_book() {
     let (mut input, mut expected) = (Vec::new(), Vec::new());
-    let mut put = |bytes: &[u8], line: String| {
-        input.extend(u16::try_from(bytes.len()).unwrap().to_le_bytes());
-        input.extend([bytes, &second()].concat());
+    let mut put = |bytes: &[u8], second: [u8; types::FRAME], line: String| {
+        input.extend(u32::try_from(bytes.len()).unwrap().to_le_bytes());
+        input.extend([bytes, &second].concat());
         expected.push(line);
     };
-    for heights in [1, 2, 3, 62, MOST_HEIGHTS] {
-        let book = station(heights);
+    let short = [1, 2, 3, 62, MOST_SHORT_HEIGHTS].into_iter();
+    let short = short.flat_map(|heights| [(heights, 1), (heights, 2), (heights, EDITION)]);
+    let long = [64, 108, 255, 256, 257, 999, MOST_HEIGHTS].map(|heights| (heights, EDITION));
+    for (heights, edition) in short.chain(long) {
+        let book = station(heights, edition);
         assert_eq!(book.bytes().len(), book_length(heights));
-        assert!(book.is_second_block(&second()));
-        put(book.bytes(), line(book.bytes(), |height| book.leader(height), true));
-        let book = ObserverBook::open(reference::Rules::SHA256, 4, heights, &[1; 4]).unwrap();
+        assert!(book.is_second_block(&second(heights)));
+        put(book.bytes(), second(heights), line(heights, |height| book.leader(height), true));
+        let book = observer(heights, edition);
         assert_eq!(book.bytes().len(), observer_book_length(heights));
-        assert!(!types::is_second_block(book.bytes(), &second()));
-        put(book.bytes(), line(book.bytes(), |_| None, false));
+        assert!(!types::is_second_block(book.bytes(), &second(heights)));
+        put(book.bytes(), second(heights), line(heights, |_| None, false));
     }
     let program = word("mavunilai/tests/c/readers.c");
     let words = [&watched()[..], &[&program]].concat();
     if let Some((text, ended)) = prints_of(LANGUAGES[0], "readers", &words, &input) {
-        assert!(ended && text.lines().eq(expected.iter().map(String::as_str)), "{text}");
+        assert!(ended && text.lines().eq(expected.iter().map(String::as_str)));
     }
 }
 
@@ -91,18 +108,20 @@ fn pages_and_frames_are_made_as_by_the_types() {
     let entry = |first: u8| std::array::from_fn(|at| first + at as u8);
     let entries = Entries::from([entry(1), entry(17), entry(33)]);
     let block = Block { height: 9, parent: 7, digest, entries };
-    let mut high = Frame::Finalize { signer: 255, height: 0 }.bytes();
-    high[2..4].copy_from_slice(&1000u16.to_le_bytes());
+    let entries = std::array::from_fn::<_, 8, _>(|at| entry(1 + 16 * at as u8)).into();
+    let high = Block { height: 1000, parent: 513, digest, entries };
     let mut expected = vec![digits(&block.bytes())];
     for frame in [
         Frame::Proposal { signer: 5, block },
         Frame::BlockVote { signer: 6, height: 63, digest },
         Frame::DummyVote { signer: 15, height: 2 },
         Frame::Finalize { signer: 0, height: 1 },
+        Frame::Finalize { signer: 255, height: 1000 },
     ] {
         expected.push(digits(&frame.bytes()));
     }
-    expected.push(digits(&high));
+    expected.push(digits(&high.bytes()));
+    expected.push(digits(&Frame::Proposal { signer: 3, block: high }.bytes()));
     let weights: [u16; 6] = [1, 255, 256, 1000, 0, 65535];
     expected.push(digits(weights.map(u16::to_le_bytes).as_flattened()));
     let program = word("mavunilai/tests/c/makers.c");
@@ -147,14 +166,17 @@ fn weights_are_read_from_the_head() {
         let n = weights.len() as u64;
         let station = Book::open(reference::Rules::SHA256, n, 0, &weights, &[0]).unwrap();
         let observer = ObserverBook::open(reference::Rules::SHA256, n, 1, &weights).unwrap();
-        let mut older = station.bytes().to_vec();
-        types::put_first_edition(&mut older);
-        assert!(Book::from_bytes(reference::Rules::SHA256, older.clone()).is_ok());
-        for book in [station.bytes(), observer.bytes(), &older] {
+        let older = [1, 2].map(|edition| {
+            let mut older = station.bytes().to_vec();
+            types::put_edition(&mut older, edition);
+            assert!(Book::from_bytes(reference::Rules::SHA256, older.clone()).is_ok());
+            older
+        });
+        for book in [station.bytes(), observer.bytes(), &older[0], &older[1]] {
             input.extend(&book[..64]);
         }
         let ones = vec![1; weights.len()];
-        for weights in [&weights, &weights, &ones] {
+        for weights in [&weights, &weights, &ones, &weights] {
             expected.extend(weighed(weights));
         }
     }

@@ -41,6 +41,12 @@ impl Said {
         self.statements.iter().copied()
     }
 
+    /// The statements about a height.
+    pub fn of_height(&self, height: Height) -> impl Iterator<Item = Statement> + '_ {
+        let all = (height, Statement::FIRST)..=(height, Statement::LAST);
+        self.statements.range(all).map(|(_, statement)| *statement)
+    }
+
     /// Whether it is of the season of this book, and of its station.
     pub fn is_of<C: Calls>(&self, book: &Book<C>) -> bool {
         self.season == season(book)
@@ -50,8 +56,7 @@ impl Said {
     pub(crate) fn after(&self, frames: &[[u8; FRAME]], own: u8) -> Result<Said, Error> {
         let mut after = self.clone();
         for (height, now) in frames.iter().filter_map(|frame| Statement::of(frame, own)) {
-            let against = |(at, said): &(Height, Statement)| *at == height && said.contradicts(now);
-            if let Some((_, said)) = after.statements().find(against) {
+            if let Some(said) = after.of_height(height).find(|said| said.contradicts(now)) {
                 return Err(Error::Contradiction { height, said, now });
             }
             after.statements.insert((height, now));

@@ -18,6 +18,10 @@ pub enum Statement {
 }
 
 impl Statement {
+    /// The first and the last of all statements, by their order.
+    pub(crate) const FIRST: Statement = Statement::Proposal([0; 32]);
+    pub(crate) const LAST: Statement = Statement::Finalize;
+
     /// The statement of a frame in this signer's name, and its height; none of certificates and of other signers.
     pub fn of(frame: &[u8; FRAME], own: u8) -> Option<(Height, Statement)> {
         let (signer, height, statement) = match Frame::parts(frame)? {

@@ -24,7 +24,8 @@ fn script() -> Vec<[u8; FRAME]> {
     let mut frames = Vec::new();
     for height in 1..=3 {
         let digest = if height == 1 { [0; 32] } else { sha256::digest(&parent.bytes()) };
-        let block = Block { height, parent: height - 1, digest, entries: [[height; 16]].into() };
+        let block =
+            Block { height, parent: height - 1, digest, entries: [[height as u8; 16]].into() };
         frames.push(Frame::BlockCertificate { mask: 7, block: block.clone() }.bytes());
         frames.push(Frame::Finalize { signer: 0, height }.bytes());
         frames.push(Frame::DummyCertificate { mask: 11, height }.bytes());

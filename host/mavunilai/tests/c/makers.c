@@ -1,5 +1,5 @@
-/* Prints what the header makes out of parts, as digits: a page, a frame of each kind from 1 to 4 and one of a great
- * height, and weights. */
+/* Prints what the header makes out of parts, as digits: pages, frames of each kind from 1 to 4, some of great heights,
+ * and weights. */
 #include <stdio.h>
 
 #include "mavunilai.h"
@@ -44,6 +44,12 @@ int main(void) {
     mavunilai_make_finalise(frame, 0, 1);
     print(frame, sizeof frame);
     mavunilai_make_finalise(frame, 255, 1000);
+    print(frame, sizeof frame);
+    if (!mavunilai_make_page(page, 1000, 513, digest, entries, 8)) {
+        return 1;
+    }
+    print(page, sizeof page);
+    mavunilai_make_proposal(frame, 3, page);
     print(frame, sizeof frame);
     mavunilai_make_weights(weights, numbers, 6);
     print(weights, sizeof weights);

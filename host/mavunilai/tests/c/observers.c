@@ -40,8 +40,8 @@ static void opened(uint8_t *book) {
     for (at = 0; at < LENGTH; at++) {
         set += book[at] != 0;
     }
-    EXPECT(set == 7 && book[MAVUNILAI_HEAD_STATIONS] == 4 && book[MAVUNILAI_HEAD_HEIGHTS] == HEIGHTS);
-    EXPECT(book[MAVUNILAI_HEAD_EDITION] == MAVUNILAI_EDITION_WEIGHED && mavunilai_settled(book) == 0);
+    EXPECT(set == 7 && book[MAVUNILAI_HEAD_STATIONS] == 4 && book[MAVUNILAI_HEAD_LONG_HEIGHTS] == HEIGHTS);
+    EXPECT(book[MAVUNILAI_HEAD_EDITION] == MAVUNILAI_EDITION_LONG && mavunilai_settled(book) == 0);
     EXPECT(memcmp(book + MAVUNILAI_HEAD_WEIGHTS, weights, sizeof weights) == 0);
     EXPECT(REFUSED(mavunilai_observer_deliver(book, LENGTH, NULL, 0)) == MAVUNILAI_REFUSED_MALFORMED);
     EXPECT(mavunilai_observer_read(book, LENGTH, NULL, 0) == 0);

@@ -148,10 +148,10 @@ static void packets(const uint8_t *opened) {
 
 /* The parts of answers and books, through two heights of a station alone. */
 static void parts(uint8_t *book) {
-    uint8_t buffer[MAVUNILAI_MOST_REGISTER];
+    static uint8_t buffer[MAVUNILAI_MOST_REGISTER];
     open_alone(book);
     EXPECT(mavunilai_current(book) == 1 && mavunilai_settled(book) == 0 && mavunilai_leader(book, 2) == 0);
-    EXPECT(book[MAVUNILAI_HEAD_STATIONS] == 1 && book[MAVUNILAI_HEAD_HEIGHTS] == HEIGHTS);
+    EXPECT(book[MAVUNILAI_HEAD_STATIONS] == 1 && mavunilai_heights(book) == HEIGHTS);
     null_beside(book, 0);
     EXPECT(REFUSED(mavunilai_submit(book, LENGTH, (const uint8_t *)"swap A12 to B40 ", MAVUNILAI_ENTRY)) == 0);
     EXPECT(book[MAVUNILAI_HEAD_PENDING] == 1);

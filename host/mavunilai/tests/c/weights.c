@@ -3,6 +3,7 @@
  * book of edition 1 works and stays one. Says what fails, and ends with the count of it. */
 #include <string.h>
 
+#include "editions.h"
 #include "expect.h"
 #include "mavunilai.h"
 
@@ -98,13 +99,13 @@ static void lengths(void) {
     EXPECT(untouched());
 }
 
-/* The weights stand in the head, low byte first, and nothing behind them. */
+/* The weights stand in the head, low byte first, and nothing behind them but the heights. */
 static void heads(void) {
     static const uint16_t numbers[STATIONS] = {1000, 1, 256, 513};
-    static const uint8_t expected[56] = {0xe8, 3, 1, 0, 0, 1, 1, 2};
+    static const uint8_t expected[32] = {0xe8, 3, 1, 0, 0, 1, 1, 2};
     EXPECT(open_numbers(numbers, STATIONS) == 0);
-    EXPECT(station[MAVUNILAI_HEAD_EDITION] == MAVUNILAI_EDITION_WEIGHED);
-    EXPECT(observer[MAVUNILAI_HEAD_EDITION] == MAVUNILAI_EDITION_WEIGHED);
+    EXPECT(station[MAVUNILAI_HEAD_EDITION] == MAVUNILAI_EDITION_LONG);
+    EXPECT(observer[MAVUNILAI_HEAD_EDITION] == MAVUNILAI_EDITION_LONG);
     EXPECT(memcmp(station + MAVUNILAI_HEAD_WEIGHTS, expected, sizeof expected) == 0);
     EXPECT(memcmp(observer + MAVUNILAI_HEAD_WEIGHTS, expected, sizeof expected) == 0);
     EXPECT(mavunilai_total_weight(station) == 1770 && mavunilai_needed_weight(observer) == 1180);
@@ -169,11 +170,12 @@ static void heads_not_sound(void) {
     static const uint16_t numbers[STATIONS] = {1, 1, 1, 1000};
     size_t at;
     EXPECT(open_numbers(numbers, STATIONS) == 0 && sound(1));
-    EXPECT(sound_with(MAVUNILAI_HEAD_EDITION, 0, 0) && sound_with(MAVUNILAI_HEAD_EDITION, 3, 0));
+    EXPECT(sound_with(MAVUNILAI_HEAD_EDITION, 0, 0) && sound_with(MAVUNILAI_HEAD_EDITION, 4, 0));
     EXPECT(sound_with(MAVUNILAI_HEAD_EDITION, MAVUNILAI_EDITION_UNWEIGHED, 0));
+    EXPECT(sound_with(MAVUNILAI_HEAD_EDITION, MAVUNILAI_EDITION_WEIGHED, 0));
     EXPECT(sound_with(MAVUNILAI_HEAD_WEIGHTS, 0, 0) && sound_with(MAVUNILAI_HEAD_WEIGHTS, 2, 1));
     EXPECT(sound_with(MAVUNILAI_HEAD_WEIGHTS + 6, 0xe9, 0) && sound_with(MAVUNILAI_HEAD_WEIGHTS + 6, 0xe7, 1));
-    for (at = MAVUNILAI_HEAD_WEIGHTS + MAVUNILAI_WEIGHTS(STATIONS); at < MAVUNILAI_PENDING_AT; at++) {
+    for (at = MAVUNILAI_HEAD_WEIGHTS + MAVUNILAI_WEIGHTS(STATIONS); at < MAVUNILAI_HEAD_LONG_HEIGHTS; at++) {
         EXPECT(sound_with(at, 1, 0));
     }
 }
@@ -182,9 +184,8 @@ static void heads_not_sound(void) {
 static void of_edition_1(void) {
     static const uint16_t numbers[STATIONS] = {1, 1, 1, 1};
     EXPECT(open_numbers(numbers, STATIONS) == 0);
-    station[MAVUNILAI_HEAD_EDITION] = observer[MAVUNILAI_HEAD_EDITION] = MAVUNILAI_EDITION_UNWEIGHED;
-    memset(station + MAVUNILAI_HEAD_WEIGHTS, 0, MAVUNILAI_WEIGHTS(STATIONS));
-    memset(observer + MAVUNILAI_HEAD_WEIGHTS, 0, MAVUNILAI_WEIGHTS(STATIONS));
+    put_edition(station, MAVUNILAI_EDITION_UNWEIGHED);
+    put_edition(observer, MAVUNILAI_EDITION_UNWEIGHED);
 }
 
 /* A book of edition 1 is read as all weights 1, works, and stays of edition 1; weights have no place in it. */
