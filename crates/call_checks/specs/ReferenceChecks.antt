@@ -63,8 +63,11 @@ alone = refl
 -- without a finalize, a block on a parent that was not notarized, a log of one entry
 votes : disagreement 1 (replicate 2336 90)
     (expect (opening (longEach 4) 4 2 2 (0 ∷ 1 ∷ [])) (0 ∷ [])
-    ((0, 4 ∷ 2 ∷ 0 ∷ 0 ∷ 0 ∷ 0 ∷ 0 ∷ 3 ∷
-    (oneBytes 4 ++ (zeros 24 ++ (2 ∷ 0 ∷ 1 ∷ (zeros 549 ++ (1 ∷ zeros 1743)))))) ∷ []) [] ∷
+    ((
+      0,
+      4 ∷ 2 ∷ 0 ∷ 0 ∷ 0 ∷ 0 ∷ 0 ∷ 3 ∷
+          (oneBytes 4 ++ (zeros 24 ++ (2 ∷ 0 ∷ 1 ∷ (zeros 549 ++ (1 ∷ zeros 1743))))),
+    ) ∷ []) [] ∷
     expect (delivery (2 ∷ 3 ∷ 1 ∷ (zeros 13 ++ (countUp 123 32 ++ (zeros 176))))) (0 ∷ 1 ∷ [])
     ((584, 8 ∷ []) ∷ (1056, countUp 123 32) ∷ []) [] ∷
     expect (delivery (2 ∷ 3 ∷ 1 ∷ (zeros 13 ++ (countUp 23 32 ++ (zeros 176))))) (8 ∷ []) [] [] ∷

@@ -40,9 +40,11 @@ newObserver way n heights = record {
 }
 
 unfoldable pub observerOpenRows : Opening → Bytes → ℕ → ℕ → List Row
-observerOpenRows way book n heights =
-    (2, allOf
-    (inRange 1 maximumReplicas n ∷ inRange 1 (mostHeights (openedEdition way)) heights ∷ weightsInRange n way ∷ [])) ∷
+observerOpenRows way book n heights = (
+  2,
+  allOf
+      (inRange 1 maximumReplicas n ∷ inRange 1 (mostHeights (openedEdition way)) heights ∷ weightsInRange n way ∷ []),
+) ∷
     (1, eqb (length book) (observerBookSize heights)) ∷ []
 
 unfoldable pub observerOpenCall : Opening → Bytes → ℕ → ℕ → Outcome Done

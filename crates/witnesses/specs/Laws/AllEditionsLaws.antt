@@ -198,8 +198,12 @@ module _ (digest : Bytes → Bytes) where
   observers-open = (
     (_, List·Memᴰ·tail (List·Memᴰ·tail (List·Memᴰ·tail (List·Memᴰ·head refl))), refl, refl),
     (_, List·Memᴰ·tail (List·Memᴰ·tail (List·Memᴰ·tail (List·Memᴰ·tail (List·Memᴰ·head refl)))), refl, refl),
-    (_, List·Memᴰ·tail (List·Memᴰ·tail (List·Memᴰ·tail (List·Memᴰ·tail (List·Memᴰ·tail (List·Memᴰ·head refl))))), refl,
-        refl),
+    (
+      _,
+      List·Memᴰ·tail (List·Memᴰ·tail (List·Memᴰ·tail (List·Memᴰ·tail (List·Memᴰ·tail (List·Memᴰ·head refl))))),
+      refl,
+      refl,
+    ),
   )
 
   reads-at : (s : ℕ) → someIn (readsAt digest log s) calls ≡ true →
