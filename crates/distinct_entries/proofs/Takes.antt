@@ -1,5 +1,5 @@
 -- Entries gone through one by one: one that is a repeat, one that is new, and none at all.
-use Prim.Native.Nat.{ℕ, _+_, _*_, _≤_}
+use Prim.Native.Nat.{ℕ, _+_, _*_, _≤_, _<_}
 use native.Mathlib.Omega.{arith}
 use mathlib.Core.Path.{_≡_, refl, sym, ap, subst, _∙_}
 use mathlib.Core.Bool.{true, false}
@@ -11,16 +11,16 @@ use Rattle.protocol.specs.Distinct.{distinctAfter, distinct}
 use Rattle.protocol.specs.Laws.PiecesLaws.{join-more, length-join}
 use Rattle.protocol.specs.Laws.FrontLaws.{goes-on, front-none}
 use Rattle.protocol.specs.Laws.DistinctLaws.{distinct-repeat, distinct-new, every-distinct}
-use Rattle.filter.specs.Filter.{filterSize, Marked}
+use Rattle.filter.specs.Filter.{Marked}
 use Rattle.distinct_entries.specs.Taking.{Taken}
 use Rattle.filter.proofs.Filtering.{marked-none}
 
 -- ---- none at all
-pub none-taken : (buffer filter : Bytes) → length filter ≡ filterSize → Taken [] buffer filter buffer 0
+pub none-taken : (buffer filter : Bytes) → 32 < length filter → Taken [] buffer filter buffer 0
 unfolding distinct distinctAfter join
-none-taken buffer filter size = record {
+none-taken buffer filter some = record {
   counted = refl;
-  marked = marked-none filter size;
+  marked = marked-none filter some;
   same-length = refl;
   copied = λ h. sym (front-none buffer);
 }

@@ -79,9 +79,9 @@ module _ (t : ℕ) where
 
   same-length : take-chain-lts.Need-same-length (take-chain-claims t) (take-chain-at t) take-chain.Post
   same-length c =
-      let z = c .before .before .before .before .before .before .before .before .before .before .before .before .before
-      .before .before .before .before .before .before .before in
-      returns-2 c .marked .size ∙ sym (z .pre .1 .1)
+      let last = c .before .before .before .before in
+      last .take-block .kept .1 .1 .1 .1 .0
+      ∙ last .before .before .before .before .before .before .before .take-chain .kept .1 .1 .1 .0
 
   same-length-2 : take-chain-lts.Need-same-length-2 (take-chain-claims t) (take-chain-at t) take-chain.Post
   same-length-2 c = returns-2 c .same-length

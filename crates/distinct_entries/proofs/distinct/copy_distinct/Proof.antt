@@ -24,8 +24,8 @@ returns c =
 
 returns-2 : tie.Need-returns-2
 returns-2 c =
-    let taken = c .before .before .before .take-chain .ensures in
-    let z = c .before .before .before .before .before .before .before .before .before in
+    let taken = c .before .before .take-distinct .ensures in
+    let z = c .before .before .before .before .before .before .before in
     let counted = taken .counted in
     let few = distinct-few (z .pre .0) in
     let room = z .pre .1 in (
@@ -36,4 +36,4 @@ returns-2 c =
 pub copy-distinct-spec : {M : Type 1} → statement M
 copy-distinct-spec =
     tie.close
-    (tie.spec returns (λ c. search needs) (λ c κs. search needs) (λ c. search needs) returns-2)
+    (tie.spec returns (λ c κs. search needs) (λ c. search needs) returns-2)

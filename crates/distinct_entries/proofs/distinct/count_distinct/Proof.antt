@@ -18,11 +18,11 @@ returns c =
 
 returns-2 : tie.Need-returns-2
 returns-2 c =
-    let counted = c .before .before .take-chain .ensures .counted in
-    let few = distinct-few (c .before .before .before .before .before .before .before .pre) in
+    let counted = c .before .take-distinct .ensures .counted in
+    let few = distinct-few (c .before .before .before .before .before .pre) in
     (counted, subst (λ (k : ℕ). k ≤ maximumEntries) (sym counted) few)
 
 pub count-distinct-spec : {M : Type 1} → statement M
 count-distinct-spec =
     tie.close
-    (tie.spec returns (λ c. search needs) (λ c. search needs) (λ c κs. search needs) returns-2)
+    (tie.spec returns (λ c. search needs) (λ c κs. search needs) returns-2)

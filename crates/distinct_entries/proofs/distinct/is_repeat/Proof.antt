@@ -15,7 +15,7 @@ returns c =
     let read = marks .before .before .before in
     let z = read .before .before .before in (
       c .stands-before .ensures,
-      marked-next (z .pre .0) (read .block .ensures .0) (marks .mark .ensures .1 .0 _ (z .pre .1)),
+      marked-next (z .pre .0) (read .block .ensures .0) (marks .mark .ensures .1 _ (z .pre .1)),
     )
 
 returns-2 : tie.Need-returns-2
@@ -26,7 +26,7 @@ returns-2 c =
     let before = upTo (viewOf (z .args .kind) (z .args .book .now)) (z .args .h) (z .args .k) in
     let cut = cut-entry (z .pre .0) (read .block .ensures .0) in (
       sym (subst (λ (x : Bytes). holds x before ≡ false) cut (marks .mark .ensures .0 _ (z .pre .1) (c .if1 .left))),
-      marked-next (z .pre .0) (read .block .ensures .0) (marks .mark .ensures .1 .0 _ (z .pre .1)),
+      marked-next (z .pre .0) (read .block .ensures .0) (marks .mark .ensures .1 _ (z .pre .1)),
     )
 
 pub is-repeat-spec : {M : Type 1} → statement M

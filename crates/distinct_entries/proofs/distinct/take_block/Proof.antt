@@ -4,6 +4,7 @@ use native.Mathlib.Omega.{arith}
 use native.Mathlib.Nat.{le-of-lt}
 use mathlib.Core.Path.{_≡_, refl, sym, ap, subst, _∙_}
 use mathlib.Core.List.{List}
+use lib.ListN.{length}
 use Rattle.protocol.specs.Bytes.{Bytes, part, put}
 use Rattle.protocol.specs.Block.{entryCount}
 use Rattle.protocol.specs.State.{maximumEntries}
@@ -18,7 +19,7 @@ use Rattle.distinct_entries.proofs.distinct.take_block.Tie as tie
 abbrev Inv-loop : tie.InvT-loop
 Inv-loop kind book h count filter₀ buffer₀ block size taken₀ k₀ filter buffer taken k =
     (k ≤ size) × Going (upTo (viewOf kind book) h 0) (upTo (viewOf kind book) h k) filter₀ buffer₀ count filter buffer
-    taken
+    taken × (length filter ≡ length filter₀)
 
 abbrev μ-loop : tie.MeasureT-loop
 μ-loop kind book h count filter₀ buffer₀ block size taken₀ k₀ filter buffer taken k = size - k
@@ -54,6 +55,7 @@ loop-holds c =
     let start = c .before .before .before .before .before in (
       omega arith,
       record { marked = start .pre .1 .0; counted = start .pre .1 .1; same-length = refl; goes = λ before t. t },
+      refl,
     )
 
 is-repeat-requires : tie.Need-is-repeat-requires Inv-loop μ-loop
@@ -68,6 +70,7 @@ loop-again c =
       omega arith,
       repeat-goes (at turn .loop .inv .1) (entryOf (v turn) h k) (before-next (v turn) h k)
           (asked .is-repeat .ensures .1) (sym (c .if1 .taken) ∙ asked .is-repeat .ensures .0),
+      asked .is-repeat .kept .1 .1 .1 .1 .0 ∙ at turn .loop .inv .2,
     )
 
 put-entry-requires : tie.Need-put-entry-requires Inv-loop μ-loop
@@ -95,12 +98,11 @@ loop-again-2 c =
           (sym (left .if1 .left) ∙ asked .is-repeat .ensures .0) (wrote .put-entry .ensures .0)
           (λ fits. wrote .put-entry .ensures .1 fits
           ∙ ap (put (at turn .loop .buffer) (16 * at turn .loop .taken)) place),
+      asked .is-repeat .kept .1 .1 .1 .1 .0 ∙ at turn .loop .inv .2,
     )
 
 same-length : tie.Need-same-length Inv-loop μ-loop
-same-length c =
-    let start = c .before .before .before .before .before .before .before in
-    c .before .loop .inv .1 .marked .size ∙ sym (start .pre .1 .0 .size)
+same-length c = c .before .loop .inv .2
 
 returns : tie.Need-returns Inv-loop μ-loop
 returns c before t =
