@@ -16,7 +16,7 @@ use Rattle.distinct_entries.specs.Taking.{Taken}
 use Rattle.filter.proofs.Filtering.{marked-none}
 
 -- ---- none at all
-pub none-taken : (buffer filter : Bytes) → 0 < length filter → Taken [] buffer filter buffer 0
+pub none-taken : (buffer filter : Bytes) → 32 < length filter → Taken [] buffer filter buffer 0
 unfolding distinct distinctAfter join
 none-taken buffer filter some = record {
   counted = refl;

@@ -38,6 +38,11 @@ pub record Taken (es : List Bytes) (before filter buffer : Bytes) (count : ℕ) 
   pub same-length : length buffer ≡ length before
   pub copied : 16 * count ≤ length before → buffer ≡ overFront (join (distinct es)) before
 
+-- what is told of it to those who lent no filter
+pub record Told (es : List Bytes) (before buffer : Bytes) (count : ℕ) : Type 0 where
+  pub counted : count ≡ length (distinct es)
+  pub copied : 16 * count ≤ length before → buffer ≡ overFront (join (distinct es)) before
+
 -- what is read of the chain that ends in height `h`: its distinct entries, or nothing where they do not fit
 abbrev pub partRead : View → ℕ → Bytes → Bytes
 partRead v h buffer = cond (leb (16 * length (logOf v h)) (length buffer)) (join (logOf v h)) []

@@ -14,7 +14,7 @@ ghost use Rattle.protocol.specs.View.{logAt, logOf};
 ghost use Rattle.book_fields.specs.Book.{viewOf};
 ghost use Rattle.chains.specs.Walkable.{WalkableAs};
 ghost use Rattle.filter.specs.Filter.{Marked};
-ghost use Rattle.distinct_entries.specs.Taking.{Inside, entryOf, upTo, Taken, partRead};
+ghost use Rattle.distinct_entries.specs.Taking.{Inside, entryOf, upTo, Taken, Told, partRead};
 
 // Whether the entry at place `k` of the block of height `h` equals one before it in the chain. Looks into the block
 // first, then walks back through those below.
@@ -101,7 +101,7 @@ fn take_block(
 // the front of the buffer, where there is room. Says how many they are. Each call goes to a lower height.
 fn take_chain(kind: Kind, book: &[u8], h: usize, filter: &mut [u8], buffer: &mut [u8]) -> usize
     requires { ⌜ WalkableAs kind (now book) h ⌝ }
-    requires { ⌜ 0 < length (now filter) ⌝ }
+    requires { ⌜ 32 < length (now filter) ⌝ }
     ensures { λ r. ⌜ Taken (logAt (viewOf kind (now (book .entry))) h) (now (buffer .entry)) (now (filter .exit))
         (now (buffer .exit)) r ⌝ }
 {
@@ -114,9 +114,48 @@ fn take_chain(kind: Kind, book: &[u8], h: usize, filter: &mut [u8], buffer: &mut
     take_block(kind, book, h, count, filter, buffer)
 }
 
-// How many distinct entries the chain that ends in height `h` has. Makes a filter where there is a block, by
-// the number of the chain's entries, goes through the chain once more, and looks back where the filter says perhaps,
-// once an entry at most.
+// The same, with a filter of any bytes whose key is the parent digest of the chain's newest block: it was not known to
+// those who chose the entries of the blocks below, and costs no digest.
+fn take_keyed(kind: Kind, book: &[u8], h: usize, filter: &mut [u8], buffer: &mut [u8]) -> usize
+    requires { ⌜ WalkableAs kind (now book) h × (0 < h) ⌝ }
+    requires { ⌜ 32 < length (now filter) ⌝ }
+    ensures { λ r. ⌜ Told (logAt (viewOf kind (now (book .entry))) h) (now (buffer .entry)) (now (buffer .exit)) r ⌝ }
+{
+    let block = book_fields::kind::block(kind, book, h);
+    wire::bytes::copy_to(filter, 0, &block[16..48]);
+    take_chain(kind, book, h, filter, buffer)
+}
+
+// The same with the filter that is lent, or with a larger one where it has less than 64 places an entry.
+// It calls itself: a compiler does not put such a function's frame, with the large filter, into those of its callers.
+fn take_long(kind: Kind, book: &[u8], h: usize, filter: &mut [u8], buffer: &mut [u8]) -> usize
+    requires { ⌜ WalkableAs kind (now book) h × (0 < h) ⌝ }
+    requires { ⌜ 32 < length (now filter) ⌝ }
+    ensures { λ r. ⌜ Told (logAt (viewOf kind (now (book .entry))) h) (now (buffer .entry)) (now (buffer .exit)) r ⌝ }
+{
+    if 32 + 64 * h <= filter.len() {
+        take_keyed(kind, book, h, filter, buffer)
+    } else {
+        let mut large = [0u8; LARGE];
+        take_long(kind, book, h, &mut large, buffer)
+    }
+}
+
+// The same with a filter of its own, of a size that goes by the height. Goes through the chain once, and looks back
+// where the filter says perhaps, once an entry at most.
+fn take_distinct(kind: Kind, book: &[u8], h: usize, buffer: &mut [u8]) -> usize
+    requires { ⌜ WalkableAs kind (now book) h × (0 < h) ⌝ }
+    ensures { λ r. ⌜ Told (logAt (viewOf kind (now (book .entry))) h) (now (buffer .entry)) (now (buffer .exit)) r ⌝ }
+{
+    let mut filter = [0u8; SMALL];
+    if 32 + 64 * h <= SMALL {
+        take_keyed(kind, book, h, &mut filter, buffer)
+    } else {
+        take_long(kind, book, h, &mut filter, buffer)
+    }
+}
+
+// How many distinct entries the chain that ends in height `h` has.
 pub fn count_distinct(kind: Kind, book: &[u8], h: usize) -> usize
     requires { ⌜ WalkableAs kind (now book) h ⌝ }
     ensures { λ r. ⌜ (r ≡ length (logOf (viewOf kind (now (book .entry))) h)) × (r ≤ maximumEntries) ⌝ }
@@ -125,13 +164,7 @@ pub fn count_distinct(kind: Kind, book: &[u8], h: usize) -> usize
         return 0;
     }
     let mut no_room = [0u8; 1];
-    if chains::chains::chain_entries(kind, book, h) <= 504 {
-        let mut filter = [0u8; SMALL];
-        take_chain(kind, book, h, &mut filter, &mut no_room)
-    } else {
-        let mut filter = [0u8; LARGE];
-        take_chain(kind, book, h, &mut filter, &mut no_room)
-    }
+    take_distinct(kind, book, h, &mut no_room)
 }
 
 // Whether the distinct entries of the chain that ends in height `h` fit into `room` bytes. Counts them only where all
@@ -149,7 +182,7 @@ fn fits_into(kind: Kind, book: &[u8], h: usize, room: usize) -> bool
 }
 
 // Copies the distinct entries of the chain that ends in height `h` to the front of the buffer, where they fit, and says
-// how many they are. Makes a filter where there is a block.
+// how many they are.
 fn copy_distinct(kind: Kind, book: &[u8], h: usize, buffer: &mut [u8]) -> usize
     requires { ⌜ WalkableAs kind (now book) h ⌝ }
     requires { ⌜ 16 * length (logOf (viewOf kind (now book)) h) ≤ length (now buffer) ⌝ }
@@ -160,13 +193,7 @@ fn copy_distinct(kind: Kind, book: &[u8], h: usize, buffer: &mut [u8]) -> usize
     if h == 0 {
         return 0;
     }
-    if chains::chains::chain_entries(kind, book, h) <= 504 {
-        let mut filter = [0u8; SMALL];
-        take_chain(kind, book, h, &mut filter, buffer)
-    } else {
-        let mut filter = [0u8; LARGE];
-        take_chain(kind, book, h, &mut filter, buffer)
-    }
+    take_distinct(kind, book, h, buffer)
 }
 
 // Copies the distinct entries of the chain that ends in height `h` to the front of the buffer, or nothing where they do

@@ -4,7 +4,7 @@ use native.Mathlib.Omega.{arith}
 use borrow.Author.Needs.{needs}
 use mathlib.Core.Path.{sym, ap, subst, _∙_}
 use mathlib.Core.List.{List}
-use lib.ListN.{length, length-replicate}
+use lib.ListN.{length}
 use Rattle.protocol.specs.Bytes.{Bytes, join, overFront}
 use Rattle.protocol.specs.State.{maximumEntries}
 use Rattle.protocol.specs.Laws.FrontLaws.{front-none}
@@ -24,33 +24,16 @@ returns c =
 
 returns-2 : tie.Need-returns-2
 returns-2 c =
-    let taken = c .before .before .before .take-chain .ensures in
-    let z = c .before .before .before .before .before .before .before .before .before .before .before in
-    let counted = taken .counted in
-    let few = distinct-few (z .pre .0) in
-    let room = z .pre .1 in (
-      (counted, subst (λ (k : ℕ). k ≤ maximumEntries) (sym counted) few),
-      taken .copied (subst (λ (k : ℕ). 16 * k ≤ length (z .args .buffer .now)) (sym counted) room),
-    )
-
-returns-3 : tie.Need-returns-3
-returns-3 c =
-    let taken = c .before .before .before .take-chain2 .ensures in
-    let z = c .before .before .before .before .before .before .before .before .before .before .before in
-    let counted = taken .counted in
-    let few = distinct-few (z .pre .0) in
-    let room = z .pre .1 in (
-      (counted, subst (λ (k : ℕ). k ≤ maximumEntries) (sym counted) few),
-      taken .copied (subst (λ (k : ℕ). 16 * k ≤ length (z .args .buffer .now)) (sym counted) room),
-    )
-
-take-chain-requires-2 : tie.Need-take-chain-requires-2
-take-chain-requires-2 c κs =
+    let taken = c .before .before .take-distinct .ensures in
     let z = c .before .before .before .before .before .before .before in
-    (z .pre .0, rw length-replicate (omega arith))
+    let counted = taken .counted in
+    let few = distinct-few (z .pre .0) in
+    let room = z .pre .1 in (
+      (counted, subst (λ (k : ℕ). k ≤ maximumEntries) (sym counted) few),
+      taken .copied (subst (λ (k : ℕ). 16 * k ≤ length (z .args .buffer .now)) (sym counted) room),
+    )
 
 pub copy-distinct-spec : {M : Type 1} → statement M
 copy-distinct-spec =
     tie.close
-    (tie.spec returns (λ c κs. search needs) (λ c. search needs) (λ c κs. search needs) (λ c. search needs)
-    take-chain-requires-2 (λ c. search needs) returns-2 (λ c. search needs) returns-3)
+    (tie.spec returns (λ c κs. search needs) (λ c. search needs) returns-2)

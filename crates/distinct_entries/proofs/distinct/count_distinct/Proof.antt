@@ -3,7 +3,7 @@ use Prim.Native.Nat.{ℕ, _≤_}
 use native.Mathlib.Omega.{arith}
 use borrow.Author.Needs.{needs}
 use mathlib.Core.Path.{sym, ap, subst}
-use lib.ListN.{length, length-replicate}
+use lib.ListN.{length}
 use Rattle.protocol.specs.State.{maximumEntries}
 use Rattle.book_fields.specs.Book.{viewOf}
 use Rattle.distinct_entries.proofs.Chain.{distinct-none, distinct-few}
@@ -18,23 +18,11 @@ returns c =
 
 returns-2 : tie.Need-returns-2
 returns-2 c =
-    let counted = c .before .before .take-chain .ensures .counted in
-    let few = distinct-few (c .before .before .before .before .before .before .before .before .before .pre) in
+    let counted = c .before .take-distinct .ensures .counted in
+    let few = distinct-few (c .before .before .before .before .before .pre) in
     (counted, subst (λ (k : ℕ). k ≤ maximumEntries) (sym counted) few)
-
-returns-3 : tie.Need-returns-3
-returns-3 c =
-    let counted = c .before .before .take-chain2 .ensures .counted in
-    let few = distinct-few (c .before .before .before .before .before .before .before .before .before .pre) in
-    (counted, subst (λ (k : ℕ). k ≤ maximumEntries) (sym counted) few)
-
-take-chain-requires-2 : tie.Need-take-chain-requires-2
-take-chain-requires-2 c κs =
-    let z = c .before .before .before .before .before .before in
-    (z .pre, rw length-replicate (omega arith))
 
 pub count-distinct-spec : {M : Type 1} → statement M
 count-distinct-spec =
     tie.close
-    (tie.spec returns (λ c κs. search needs) (λ c. search needs) (λ c. search needs) (λ c κs. search needs)
-    (λ c. search needs) (λ c. search needs) take-chain-requires-2 returns-2 returns-3)
+    (tie.spec returns (λ c. search needs) (λ c κs. search needs) returns-2)
