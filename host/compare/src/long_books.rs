@@ -81,7 +81,11 @@ pub fn linked(random: &mut Random, heights: Height) -> Vec<u8> {
     _ = book.deliver_packet(&packet);
     let mut book = book.bytes().to_vec();
     let any = random.height_below(heights.saturating_add(1)).saturating_add(1);
-    let current = if random.one_in(4) { any } else { top.saturating_add(1) };
+    let current = match random.below(4) {
+        0 => any,
+        1 => top.saturating_sub(random.height_below(3)),
+        _ => top.saturating_add(1),
+    };
     put_head_height(&mut book, field::CURRENT, current);
     let flags = if random.one_in(2) { random.byte_below(16) } else { 0 };
     book.iter_mut().skip(field::FLAGS).take(1).for_each(|byte| *byte = flags);

@@ -107,7 +107,10 @@ fn from_long<A: Calls, B: Second>(pair: &mut Pair<A, B>, random: &mut Random) ->
         1 => from_strange(pair, random, heights, 8)?,
         _ => {
             let mut book = linked(random, heights);
-            calls(pair, random, &mut book, 12)?;
+            for _ in 0..5 {
+                pair.make(&Call::Move, &mut book, &mut [0xaa; 448])?;
+            }
+            calls(pair, random, &mut book, 8)?;
         }
     }
     (0..2).try_for_each(|_| {

@@ -72,8 +72,8 @@ pub fn some_edition(random: &mut Random, book: &mut [u8]) {
     let equal = Weights::of(book).each().iter().all(|weight| *weight == 1);
     let short = head_height(book, field::HEIGHTS) <= MOST_SHORT_HEIGHTS;
     match random.below(6) {
-        0 | 1 if equal && short => put_edition(book, FIRST_EDITION),
-        2 | 3 if short => put_edition(book, SECOND_EDITION),
+        0..=2 if equal && short => put_edition(book, FIRST_EDITION),
+        3 | 4 if short => put_edition(book, SECOND_EDITION),
         _ => {}
     }
 }
