@@ -1,10 +1,11 @@
 //! The cases: every call, on a book of some size and filling; then those of an observer beside it.
 
 use crate::observer_cases::observer_cases;
+use crate::run::LONGEST_LOG;
 use crate::station::{entry, Fill, Size, Station};
 use crate::Case;
 use exchange::{equal_weights, Call};
-use types::{Frame, Height, FRAME, MOST_LOG};
+use types::{Frame, Height, FRAME};
 
 /// What all cases of one size and filling begin with.
 struct Start {
@@ -101,7 +102,7 @@ impl Start {
             case("Signal", &open, signal, 0, "done".to_string()),
             case("Submit", &closed, submit, 0, "done".to_string()),
             case("Register size", &closed, Call::Size, 0, format!("size {size}")),
-            case("Read", &closed, Call::Read, MOST_LOG, format!("part {size}")),
+            case("Read", &closed, Call::Read, LONGEST_LOG, format!("part {size}")),
             case("Fetch, page certificate", &closed, fetch, FRAME, fetched.to_string()),
         ])
     }

@@ -1,10 +1,11 @@
 //! The cases of an observer: its calls on the book of one that has heard what the measured station has.
 
+use crate::run::LONGEST_LOG;
 use crate::station::{Fill, Size, Station};
 use crate::Case;
 use exchange::{equal_weights, Call, ObserverCall};
 use reference::Rules;
-use types::{observer_book_length, Book, Frame, Move, ObserverBook, FRAME, MOST_LOG};
+use types::{observer_book_length, Book, Frame, Move, ObserverBook, FRAME};
 
 /// All cases of an observer: `open` is a station with a height to work at, `closed` one where no move applies, and
 /// `behind` one that has all that settles its heights, but has made no move.
@@ -31,7 +32,7 @@ pub fn observer_cases(
         case("Observer, settles all", &late, ObserverCall::Move, format!("final {last}")),
         case("Observer, idle", &idle, ObserverCall::Move, "idle".to_string()),
         case("Observer, register size", &idle, ObserverCall::Size, format!("size {bytes}")),
-        Case { lent: MOST_LOG, ..read },
+        Case { lent: LONGEST_LOG, ..read },
     ])
 }
 

@@ -1,11 +1,12 @@
 //! The cases of registers: their size and a read, on chains of full pages whose entries all differ, all agree, or
 //! collide.
 
+use crate::run::LONGEST_LOG;
 use crate::station::{entry, Size};
 use crate::Case;
 use exchange::{colliding, Call, ObserverCall};
 use reference::{sha256, Rules};
-use types::{Block, Book, Frame, Height, ObserverBook, Refusal, ENTRY, MOST_ENTRIES, MOST_LOG};
+use types::{Block, Book, Frame, Height, ObserverBook, Refusal, ENTRY, MOST_ENTRIES};
 
 /// What the entries of a chain have to do with one another.
 #[derive(Clone, Copy, Debug, PartialEq, Eq)]
@@ -90,7 +91,8 @@ pub fn register_cases(size: Size) -> Result<Vec<Case>, String> {
         let refused = |refusal| format!("a register cannot be prepared: {refusal}");
         let [station, observer] = books(size, entries).map_err(refused)?;
         let bytes = entries.bytes(size.heights);
-        let (answers, lent) = ([format!("size {bytes}"), format!("part {bytes}")], [0, MOST_LOG]);
+        let (answers, lent) =
+            ([format!("size {bytes}"), format!("part {bytes}")], [0, LONGEST_LOG]);
         let (sized, read) = (ObserverCall::Size, ObserverCall::Read);
         let calls = [Call::Size, Call::Read, Call::Observer(sized), Call::Observer(read)];
         let books = [&station, &station, &observer, &observer];

@@ -3,10 +3,13 @@
 use crate::packet_table::packet_table;
 use crate::table::markdown;
 use crate::{cases, measure, register_cases, Case, Fill, Measured, Size};
-use types::{Calls, Height, MOST_HEIGHTS, MOST_REPLICAS};
+use types::{Calls, Height, ENTRY, MOST_ENTRIES, MOST_REPLICAS, MOST_SHORT_HEIGHTS};
 
 /// The heights of the small and of the large book.
-const HEIGHTS: [Height; 2] = [8, MOST_HEIGHTS];
+const HEIGHTS: [Height; 2] = [8, MOST_SHORT_HEIGHTS];
+
+/// The length of the longest log of the large book: what Read is lent.
+pub const LONGEST_LOG: usize = MOST_SHORT_HEIGHTS as usize * MOST_ENTRIES as usize * ENTRY;
 
 /// The numbers of replicas, a table each.
 const REPLICAS: [u8; 2] = [4, MOST_REPLICAS];
@@ -48,7 +51,7 @@ pub fn run<A: Calls, B: Calls>(ours: &A, reference: &B, options: &Options) -> Re
         let rows: Vec<_> = rows.into_iter().map(|row| row.to_vec()).collect();
         println!("registers:\n\n{}", markdown(&REGISTERS, &rows));
     }
-    let sizes = REPLICAS.map(|n| Size { n, heights: MOST_HEIGHTS });
+    let sizes = REPLICAS.map(|n| Size { n, heights: MOST_SHORT_HEIGHTS });
     let rounds = options.rounds.div_ceil(SHARE);
     let packets = packet_table(ours, reference, &sizes, rounds, &options.only)?;
     packets.iter().for_each(|table| println!("packets:\n\n{table}"));

@@ -54,13 +54,15 @@ fn a_network_that_is_cut_is_not_counted() {
 fn a_wrong_answer_is_told_with_the_call_and_can_be_replayed() {
     let ended = tried("--seed 3 --count 300", "M answer | sed -u 's/^known /fresh /'");
     assert_eq!(ended.status, 1);
-    let expected = format!("\
+    let expected = format!(
+        "\
 mavunilai: sh, call 34 (case \"seed 3, part 1, a new book\"): it differs from {NAME}
 the call: deliver book 040101+00*221
 its frame: finalise (kind 4), signer 1, height 1
 answers: ours 'known', theirs 'fresh'
 books: the same
-");
+"
+    );
     assert_eq!(ended.complaint, expected);
     let shown = ended.text();
     let mut lines = shown.lines();

@@ -79,7 +79,12 @@ pub fn linked(random: &mut Random, heights: Height) -> Vec<u8> {
     frames.extend(finals.map(|height| Frame::FinalizeCertificate { mask: 15, height }));
     let packet: Vec<u8> = frames.iter().flat_map(Frame::bytes).collect();
     _ = book.deliver_packet(&packet);
-    let mut book = book.bytes().to_vec();
+    entered(random, book.bytes().to_vec(), top)
+}
+
+/// The book at its height above the linked ones mostly, or at one near it or any, every other time with any flags.
+fn entered(random: &mut Random, mut book: Vec<u8>, top: Height) -> Vec<u8> {
+    let heights = head_height(&book, field::HEIGHTS);
     let any = random.height_below(heights.saturating_add(1)).saturating_add(1);
     let current = match random.below(4) {
         0 => any,
@@ -165,8 +170,8 @@ mod tests {
             let book = linked(&mut random, heights);
             let mut watched = watched(&book);
             assert!(is_sound(&book, false) && is_sound(&watched, true));
-            let moved = Calls::observer_move(&Rules::SHA256, &mut watched).unwrap();
-            assert!(moved.height() > heights / 2 - 20, "{moved}");
+            let moved = Calls::observer_move(&Rules::SHA256, &mut watched);
+            assert!(moved.is_ok_and(|moved| moved.height() > heights / 2 - 20), "{moved:?}");
         }
     }
 

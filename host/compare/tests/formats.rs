@@ -3,15 +3,16 @@
 
 mod formats {
     pub mod bench;
+    pub mod editions;
+    pub mod heights;
     pub mod observer;
     pub mod page;
     pub mod weights;
 }
 
 use formats::bench::{changed, shifted, Bench, HEIGHTS, N, OWN, ROLL};
-use formats::observer;
 use formats::page::Formats;
-use formats::weights;
+use formats::{editions, heights, observer, weights};
 use reference::{sha256, Rules};
 use types::{Calls, Move};
 
@@ -30,6 +31,8 @@ fn holds<C: Calls + Copy>(calls: C) {
     zeros_of_books(&bench);
     observer::holds(&bench);
     weights::hold(&bench);
+    editions::hold(&bench);
+    heights::hold(&bench);
     formats.all_asked();
 }
 
@@ -49,7 +52,7 @@ fn the_proved_replica_has_the_formats_of_the_page() {
 fn opening<C: Calls + Copy>(bench: &Bench<C>) {
     let mut expected = vec![0; 576 + 880 * HEIGHTS];
     let head = [("n", N as u8), ("own number", OWN as u8), ("H", HEIGHTS as u8)];
-    for (field, value) in head.into_iter().chain([("current height", 1), ("edition", 2)]) {
+    for (field, value) in head.into_iter().chain([("current height", 1), ("edition", 3)]) {
         expected[bench.head(field).start] = value;
     }
     let weights = bench.head("weights").start;

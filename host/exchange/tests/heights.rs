@@ -158,7 +158,7 @@ fn arguments_that_a_cut_would_take_occur() {
     let calls = all();
     for heights in [1, 300] {
         for number in [257, 65_537, 65_793, 1 << 32 | 1, 1 << 48 | 257] {
-            let above = number > u64::from(heights as u16);
+            let above = number > u64::from(heights);
             let asked = |call: &Call| match call {
                 Call::Signal { height } => *height == number,
                 Call::Fetch { kind: 6, height } => *height == number,

@@ -62,7 +62,7 @@ pub use types::{
     book_length, held_block, is_second_block, nearest_height, observer_book_length, Answered,
     Block, Book, Calls, Certificate, Counts, Delivered, Entries, Evidence, Frame, Height, Move,
     ObserverBook, Refusal, TooManyEntries, Weights, Written, BLOCK, ENTRY, FRAME, MOST_HEIGHTS,
-    MOST_REPLICAS, MOST_WEIGHT,
+    MOST_REPLICAS, MOST_SHORT_HEIGHTS, MOST_WEIGHT,
 };
 
 /// The file of the static library that is linked: the archive with which a program in C is linked too.

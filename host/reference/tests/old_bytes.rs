@@ -3,8 +3,8 @@
 use crate::common::*;
 use reference::Move;
 
-/// What was recorded with the replica of the landing before, whose heights had one byte: the frames of each kind, and the
-/// digest of them all.
+/// What was recorded with the replica of the landing before, whose heights had one byte: the frames of each kind, and
+/// the digest of them all.
 const RECORDED: [usize; 7] = [42, 42, 21, 42, 84, 42, 42];
 const RECORDED_DIGEST: &str = "67f571096003e237e3cae4ec758f8e287b7a6ed9d956d254f2dd8c6222cbd3cb";
 

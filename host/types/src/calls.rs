@@ -2,8 +2,9 @@
 
 use crate::{Counts, Delivered, Move};
 
-/// A replica's calls, then those of an observer: with the number of heights that its head says, no book has the length of
-/// both, so that a replica's call finds an observer's book not sound, and the other way round. An error is the number of a refusal; a refused call changes no byte.
+/// A replica's calls, then those of an observer: with the number of heights that its head says, no book has the length
+/// of both, so that a replica's call finds an observer's book not sound, and the other way round. An error is the
+/// number of a refusal; a refused call changes no byte.
 pub trait Calls {
     /// Makes a new book. The weights are two bytes for each replica, the low one first ([`crate::weight_bytes`]): 2, 1.
     fn open(

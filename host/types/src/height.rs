@@ -31,8 +31,8 @@ pub fn put_height(bytes: &mut [u8], at: usize, height: Height) {
     bytes.iter_mut().skip(at).zip(height_bytes(height)).for_each(|(to, from)| *to = from);
 }
 
-/// A height of a book's head, which is one of [`field::HEIGHTS`], [`field::CURRENT`] and [`field::FINALIZED`]: its place
-/// goes by the edition.
+/// A height of a book's head, which is one of [`field::HEIGHTS`], [`field::CURRENT`] and [`field::FINALIZED`]: its
+/// place goes by the edition.
 #[derive(Clone, Copy, Debug, PartialEq, Eq)]
 pub struct HeadHeight {
     /// Its byte in editions 1 and 2; zero in edition 3.

@@ -40,6 +40,12 @@ impl<C: Calls + Copy> Bench<'_, C> {
         self.formats.place("Head", field)
     }
 
+    /// A number of two bytes in the head of a book.
+    pub fn number(&self, book: &[u8], heading: &str, field: &str) -> u16 {
+        let place = self.formats.place(heading, field);
+        u16::from_le_bytes(book[place].try_into().unwrap())
+    }
+
     /// A field of a height's row, as the page places rows.
     pub fn row(&self, height: usize, field: &str) -> Range<usize> {
         shifted(self.formats.place("Row of a height", field), 576 + 16 * (height - 1))
@@ -52,26 +58,27 @@ impl<C: Calls + Copy> Bench<'_, C> {
     }
 
     /// A page on a parent page, or on none.
-    pub fn page(&self, height: u8, parent: Option<&[u8]>, entries: &[[u8; 16]]) -> Vec<u8> {
+    pub fn page(&self, height: u16, parent: Option<&[u8]>, entries: &[[u8; 16]]) -> Vec<u8> {
         let mut page = vec![0; 176];
         let mut put = |field: &str, bytes: &[u8]| {
             let place = self.formats.place("Page", field);
             page[place.start..place.start + bytes.len()].copy_from_slice(bytes);
         };
-        put("height", &[height]);
+        put("height", &height.to_le_bytes());
         put("count", &[entries.len() as u8]);
         put("entries", entries.as_flattened());
         if let Some(parent) = parent {
-            put("back height", &[parent[self.formats.place("Page", "height").start]]);
+            put("back height", &parent[self.formats.place("Page", "height")]);
             put("back digest", &sha256::digest(parent));
         }
         page
     }
 
     /// A frame of a kind and a height, with these other fields.
-    pub fn frame(&self, kind: u8, height: u8, fields: &[(&str, &[u8])]) -> Vec<u8> {
+    pub fn frame(&self, kind: u8, height: u16, fields: &[(&str, &[u8])]) -> Vec<u8> {
         let mut frame = vec![0; 224];
-        let all: [(&str, &[u8]); 2] = [("kind", &[kind]), ("height", &[height])];
+        let height = height.to_le_bytes();
+        let all: [(&str, &[u8]); 2] = [("kind", &[kind]), ("height", &height)];
         for (field, bytes) in all.iter().chain(fields) {
             frame[self.formats.place("Frame", field)].copy_from_slice(bytes);
         }

@@ -46,7 +46,7 @@ pub fn holds<C: Calls + Copy>(bench: &Bench<C>) {
 /// Opening writes n, H, the edition and a weight of 1 for each station; all else is zero.
 fn opening<C: Calls + Copy>(bench: &Bench<C>) {
     let mut expected = vec![0; PAGES + 176 * HEIGHTS];
-    for (field, value) in [("n", N as u8), ("H", HEIGHTS as u8), ("edition", 2)] {
+    for (field, value) in [("n", N as u8), ("H", HEIGHTS as u8), ("edition", 3)] {
         expected[bench.observer_head(field).start] = value;
     }
     let weights = bench.observer_head("weights").start;
@@ -58,7 +58,7 @@ fn opening<C: Calls + Copy>(bench: &Bench<C>) {
 fn certificates<C: Calls + Copy>(bench: &Bench<C>) {
     let mask: [u8; 2] = [0b1101, 0];
     for height in [1, HEIGHTS] {
-        let page = bench.page(height as u8, None, &[[3; 16]; 8]);
+        let page = bench.page(height as u16, None, &[[3; 16]; 8]);
         let kinds: [(u8, &[_], &[_]); 3] = [
             (5, &[("mask", &mask[..]), ("page", &page)], &["state", "page certificate"]),
             (6, &[("mask", &mask[..])], &["blank"]),
@@ -67,7 +67,7 @@ fn certificates<C: Calls + Copy>(bench: &Bench<C>) {
         for (kind, fields, concerned) in kinds {
             let before = bench.observer();
             let mut book = before.clone();
-            let frame = bench.frame(kind, height as u8, fields);
+            let frame = bench.frame(kind, height as u16, fields);
             assert_eq!(bench.calls.observer_deliver(&mut book, &frame), Ok(Delivered::Fresh));
             let rows = concerned.iter().map(|field| bench.observer_row(height, field));
             let places: Vec<_> = rows.chain((kind == 5).then(|| page_of(height))).collect();
@@ -104,7 +104,7 @@ fn zeros<C: Calls + Copy>(bench: &Bench<C>) {
         zeros.map(move |at| ROWS + 8 * before + at)
     });
     let zeros = bench.formats.zeros("Head of an observer's book");
-    assert_eq!(zeros.len(), 28);
+    assert_eq!(zeros.len(), 26);
     for at in zeros.into_iter().chain(rows) {
         let mut book = bench.observer();
         assert_eq!(bench.calls.observer_size(&book), Ok(0));

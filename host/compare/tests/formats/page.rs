@@ -72,9 +72,13 @@ impl Formats {
             ("Page", 176),
             ("Frame", 224),
             ("Head", 64),
+            ("Head of edition 2", 64),
+            ("Head of edition 1", 64),
             ("Row of a height", 16),
             ("Body of a height", 864),
             ("Head of an observer's book", 64),
+            ("Head of an observer's book of edition 2", 64),
+            ("Head of an observer's book of edition 1", 64),
             ("Row of a height in an observer's book", 8),
         ];
         for (heading, size) in wanted {

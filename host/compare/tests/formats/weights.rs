@@ -1,4 +1,4 @@
-//! Weights and editions against the page, in a station's and in an observer's head.
+//! Weights against the page, in a station's and in an observer's head.
 
 use super::bench::{Bench, HEIGHTS, N, OWN, ROLL};
 use std::ops::Range;
@@ -12,7 +12,7 @@ const HEADS: [(&str, bool); 2] = [("Head", false), ("Head of an observer's book"
 
 impl<C: Calls + Copy> Bench<'_, C> {
     /// A new book of a kind, with these weights, over old bytes that are not zero.
-    fn weighed(&self, observers: bool, weights: &[u16]) -> Result<Vec<u8>, u8> {
+    pub fn weighed(&self, observers: bool, weights: &[u16]) -> Result<Vec<u8>, u8> {
         let (length, bytes) = (
             if observers { 64 + 184 * HEIGHTS } else { 576 + 880 * HEIGHTS },
             weight_bytes(weights),
@@ -27,20 +27,18 @@ impl<C: Calls + Copy> Bench<'_, C> {
     }
 
     /// Whether a book of a kind is sound.
-    fn is_sound(&self, observers: bool, book: &[u8]) -> bool {
+    pub fn is_sound(&self, observers: bool, book: &[u8]) -> bool {
         let size = if observers { self.calls.observer_size(book) } else { self.calls.size(book) };
         size.is_ok()
     }
 }
 
-/// All that the page says of weights and editions.
+/// All that the page says of weights.
 pub fn hold<C: Calls + Copy>(bench: &Bench<C>) {
     for (heading, observers) in HEADS {
         let area = bench.formats.place(heading, "weights");
-        let edition = bench.formats.place(heading, "edition").start;
         placed(bench, observers, area.clone());
-        ranges(bench, observers, area.clone());
-        editions(bench, observers, edition, area.start);
+        ranges(bench, observers, area);
     }
 }
 
@@ -69,26 +67,5 @@ fn ranges<C: Calls + Copy>(bench: &Bench<C>, observers: bool, area: Range<usize>
                 assert_eq!(bench.weighed(observers, &weights).err(), (!fits).then_some(2));
             }
         }
-    }
-}
-
-/// A book of edition 1 has zeros from byte 8 on; no edition is sound but 1 and 2.
-fn editions<C: Calls + Copy>(bench: &Bench<C>, observers: bool, edition: usize, from: usize) {
-    let new = bench.weighed(observers, &WEIGHTS).unwrap();
-    assert_eq!(new[edition], 2);
-    for other in (0..=255).filter(|other| *other != 2) {
-        let mut book = new.clone();
-        book[edition] = other;
-        assert!(!bench.is_sound(observers, &book), "edition {other}");
-        book[from..64].fill(0);
-        assert_eq!(bench.is_sound(observers, &book), other == 1, "edition {other}");
-    }
-    let mut older = new;
-    older[edition] = 1;
-    older[from..64].fill(0);
-    for at in from..64 {
-        let mut book = older.clone();
-        book[at] = 1;
-        assert!(!bench.is_sound(observers, &book), "byte {at}");
     }
 }

@@ -48,7 +48,7 @@ fn single_bytes<C: Calls>(to: &mut Recorder<C>) {
 
 /// The high bytes of heights: byte 3 of a frame, bytes 1 and 3 of its page.
 fn high_bytes<C: Calls>(to: &mut Recorder<C>) {
-    to.part("The high byte of a height: 6 in a frame of each kind; in kinds 1 and 5 it is 4 unless the page has it too");
+    to.part("The high byte of a height is 6 in a frame of each kind; in kinds 1 and 5 it is 4 unless the page has it");
     for frame in &kinds() {
         with_one(to, frame, 3);
         if matches!(frame, Frame::Proposal { .. } | Frame::BlockCertificate { .. }) {

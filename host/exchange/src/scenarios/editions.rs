@@ -177,7 +177,7 @@ fn give_older<C: Calls>(to: &mut Recorder<C>, book: &str, names: [&str; 2]) {
 }
 
 fn calls<C: Calls>(to: &mut Recorder<C>) {
-    to.part("Every call on a book of edition 3 with weights of 1 and on it in editions 1 and 2: alike but for the head");
+    to.part("Every call on a book of edition 3 with weights of 1, and on it in editions 1 and 2: alike but for heads");
     to.open(BOOK, 4, 2, &[0, 2]);
     give_older(to, BOOK, [FIRST, SECOND]);
     to.give("register", vec![0xbb; 48]);

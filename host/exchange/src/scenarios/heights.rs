@@ -1,4 +1,4 @@
-//! The list of heights above 63: heads of edition 3, then openings, frames, arguments and moves at heights of two bytes.
+//! The list of heights above 63: heads of edition 3, then openings, frames and arguments with heights of two bytes.
 
 use super::heads;
 use super::observer_chains::settle;
@@ -34,7 +34,7 @@ pub fn run<C: Calls>(to: &mut Recorder<C>) {
 }
 
 fn opening<C: Calls>(to: &mut Recorder<C>) {
-    to.part("Open: 64, 255, 256, 257 and 1,000 heights, a station's and an observer's; 0, 1,001 and numbers past 65,535");
+    to.part("Open: 64, 255, 256, 257 and 1,000 heights, of both kinds of book; then 0, 1,001 and numbers past 65,535");
     for heights in EDGES {
         to.open(BOOK, 4, 2, &vec![0; heights.into()]);
         to.open_observer(WATCH, 4, heights);

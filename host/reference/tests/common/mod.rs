@@ -14,7 +14,7 @@ pub type Block = [u8; 176];
 pub type FrameBytes = [u8; 224];
 pub const ZERO: [u8; 32] = [0; 32];
 
-/// Where the head of edition 3 has the low bytes of H, of the current and of the finalized height; the high one follows.
+/// Where the head of edition 3 has the low bytes of H, the current and the finalized height; the high one follows.
 pub const HEIGHTS: usize = 40;
 pub const CURRENT: usize = 42;
 pub const FINALIZED: usize = 44;
