@@ -11,7 +11,7 @@ ghost use Rattle.book_fields.specs.Book.{viewOf};
 ghost use Rattle.chains.specs.Walkable.{WalkableAs};
 ghost use Rattle.chains.specs.Entries.{firstEntries};
 
-// How many entries the chain that ends in height `h` has. Reads three bytes of each of its blocks, 63 at most.
+// How many entries the chain that ends in height `h` has. Reads three bytes of each of its blocks, 1,000 at most.
 pub fn chain_entries(kind: Kind, book: &[u8], h: usize) -> usize
     requires { ⌜ WalkableAs kind (now book) h ⌝ }
     ensures { λ r. ⌜ (r ≡ length (logAt (viewOf kind (now (book .entry))) h)) × (r ≤ maximumEntries) ⌝ }
@@ -43,7 +43,7 @@ pub fn block_holds(block: &[u8], count: usize, entry: &[u8]) -> bool
     false
 }
 
-// Whether the chain that ends in height `h` has this entry. Looks at each of its blocks, 63 at most, newest first.
+// Whether the chain that ends in height `h` has this entry. Looks at each of its blocks, 1,000 at most, newest first.
 pub fn chain_holds(kind: Kind, book: &[u8], h: usize, entry: &[u8]) -> bool
     requires { ⌜ WalkableAs kind (now book) h ⌝ }
     ensures { λ r. ⌜ r ≡ holds (now (entry .entry)) (logAt (viewOf kind (now (book .entry))) h) ⌝ }

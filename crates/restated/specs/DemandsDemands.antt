@@ -1,20 +1,23 @@
 -- Written by tests/restated --write: what docs/statements has of
 -- crates/demands/specs/Demands.antt.
-use package.Prim.Native.Nat.{ℕ, _*_, _≤_}
+use package.Prim.Native.Nat.{ℕ, _-_, _*_, _≤_, _<_}
 use package.mathlib.Core.Path.{_≡_}
-use package.mathlib.Core.Bool.{true, false}
+use package.mathlib.Core.Bool.{true, false, _&&_}
 use package.mathlib.Core.List.{List, [], _∷_, _++_, map}
 use package.mathlib.Core.Option.{none}
 use package.lib.ListN.{length, replicate}
-use package.lib.Dec.{leb}
+use package.lib.Dec.{leb, ltb}
 use package.Rattle.sha256.specs.Digest.{sha256}
-use package.Rattle.protocol.specs.Bytes.{Bytes, AreBytes, byteAt, holds}
+use package.Rattle.protocol.specs.Bytes.{Bytes, AreBytes, byteAt, holds, join, le16, zeros}
 use package.Rattle.protocol.specs.Distinct.{distinctAfter, distinct, noneTwice}
-use package.Rattle.protocol.specs.Frame.{frameSize}
-use package.Rattle.protocol.specs.State.{State, decode, flag}
+use package.Rattle.protocol.specs.Tests.{inRange}
+use package.Rattle.protocol.specs.Block.{blockWellFormed, newBlock}
+use package.Rattle.protocol.specs.Frame.{frameHeight, frameOf, frameSize, frameWellFormed}
+use package.Rattle.protocol.specs.State.{State, decode, bookFinalized, flag}
 use package.Rattle.protocol.specs.Mask.{ones, intersection}
 use package.Rattle.protocol.specs.View.{View, maskWeight, quorum, totalWeight, logAt}
 use package.Rattle.protocol.specs.Sound.{view, sound, log}
+use package.Rattle.protocol.specs.Before.{blockBefore, frameBefore, soundBefore}
 use package.Rattle.protocol.specs.Answer.{Done, Delivery, Counts, Move, accepted, done}
 use package.Rattle.protocol.specs.Open.{Opening, openRows, openCall}
 use package.Rattle.protocol.specs.Deliver.{deliverRows, deliverCall, deliverAll}
@@ -31,6 +34,7 @@ use package.Rattle.agreement.specs.AnyDigest.{AnyDigest}
 use package.Rattle.agreement.specs.ObserverWitness.{ObserverWitness}
 use package.Rattle.agreement.specs.ObserverUnpacked.{ObservedAgreementOn, ObserverUnpacks, allUnpacked}
 use package.Rattle.agreement.specs.Unpacked.{AgreementOn, Unpacks, unpacked}
+use package.Rattle.witnesses.specs.AllEditions.{AllEditions, block}
 use package.Rattle.call_laws.specs.Refusals.{Refuses}
 use package.Rattle.call_laws.specs.BookBytes.{openedBook, Signals, Submits, headOf}
 use package.Rattle.call_laws.specs.Equivocating.{Equivocation}
@@ -185,7 +189,7 @@ the-register·kept = page.the-register
 
 pub nothing-else-is-read·kept : (book buffer : Bytes) (size : ℕ) → sizeCall sha256 book ≡ accepted size →
     size ≤ length buffer → (part after : Bytes) (size′ : ℕ) →
-    ReadsChainOf sha256 (view (decode book)) (byteAt book 5) part buffer after size′ →
+    ReadsChainOf sha256 (view (decode book)) (bookFinalized book) part buffer after size′ →
     (part ≡ readPart sha256 book buffer) × (after ≡ readBuffer sha256 book buffer) × (size′ ≡ size)
 nothing-else-is-read·kept = page.nothing-else-is-read
 
@@ -228,11 +232,35 @@ pub equal-quorums-share-a-third·kept : (v v′ : View) (n weight a b : ℕ) →
     v′ .weights ≡ replicate n weight → quorum v a ≡ true → quorum v′ b ≡ true → n ≤ 3 * ones (intersection n a b) n
 equal-quorums-share-a-third·kept = page.equal-quorums-share-a-third
 
+pub short-frames-keep-their-bytes·kept : (k s h mask : ℕ) (digest block : Bytes) → h < 256 →
+    frameOf k s h mask digest block ≡ (k ∷ s ∷ h ∷ 0 ∷ []) ++ (le16 mask ++ (zeros 10 ++ (digest ++ block)))
+short-frames-keep-their-bytes·kept = page.short-frames-keep-their-bytes
+
+pub short-blocks-keep-their-bytes·kept : (h parent : ℕ) (digest : Bytes) (es : List Bytes) → parent < h → h < 256 →
+    newBlock h parent digest es ≡
+    (h ∷ 0 ∷ parent ∷ 0 ∷ length es ∷ zeros 11) ++ (digest ++ (join es ++ zeros (128 - 16 * length es)))
+short-blocks-keep-their-bytes·kept = page.short-blocks-keep-their-bytes
+
+pub short-frames-stay-well-formed·kept : (frame : Bytes) → AreBytes frame →
+    frameBefore frame ≡ (frameWellFormed frame && ltb (frameHeight frame) 256)
+short-frames-stay-well-formed·kept = page.short-frames-stay-well-formed
+
+pub short-blocks-stay-well-formed·kept : (h : ℕ) (block : Bytes) → AreBytes block →
+    blockBefore h block ≡ (blockWellFormed h block && ltb h 256)
+short-blocks-stay-well-formed·kept = page.short-blocks-stay-well-formed
+
+pub earlier-programs-take-their-editions·kept : (latest : ℕ) → latest ≤ 2 → (book : Bytes) →
+    soundBefore sha256 latest book ≡ (sound sha256 book && inRange 1 latest (byteAt book 7))
+earlier-programs-take-their-editions·kept = page.earlier-programs-take-their-editions
+
 pub no-fork-with-observers·kept : ObservedAgreement sha256
 no-fork-with-observers·kept = page.no-fork-with-observers
 
 pub no-fork-with-observers-is-met·kept : ObserverWitness sha256
 no-fork-with-observers-is-met·kept = page.no-fork-with-observers-is-met
+
+pub no-fork-of-all-editions-is-met·kept : AllEditions sha256
+no-fork-of-all-editions-is-met·kept = page.no-fork-of-all-editions-is-met
 
 pub no-fork·kept : Agreement sha256
 no-fork·kept = page.no-fork

@@ -2,18 +2,20 @@
 -- crates/demands/specs/ObserverDemands.antt.
 use package.Prim.Native.Nat.{ℕ, _≤_}
 use package.mathlib.Core.Path.{_≡_}
-use package.mathlib.Core.Bool.{true, false}
+use package.mathlib.Core.Bool.{true, false, _&&_}
 use package.mathlib.Core.List.{[], _∷_}
 use package.mathlib.Core.Option.{none}
 use package.lib.ListN.{length}
 use package.Rattle.sha256.specs.Digest.{sha256}
 use package.Rattle.protocol.specs.Open.{Opening}
 use package.Rattle.protocol.specs.Bytes.{Bytes, AreBytes, byteAt}
-use package.Rattle.protocol.specs.State.{decode}
+use package.Rattle.protocol.specs.Tests.{inRange}
+use package.Rattle.protocol.specs.State.{decode, bookFinalized}
 use package.Rattle.protocol.specs.Sound.{view, sound}
 use package.Rattle.protocol.specs.Answer.{Done, Delivery, Move, accepted, done}
 use package.Rattle.protocol.specs.Observer.{observerState}
 use package.Rattle.protocol.specs.ObserverSound.{observerSound}
+use package.Rattle.protocol.specs.ObserverBefore.{observerSoundBefore}
 use package.Rattle.protocol.specs.ObserverCalls.{observerOpenRows, observerOpenCall, observerDeliverCall, observerMoveRows}
 use package.Rattle.protocol.specs.ObserverCalls.{observerMoveCall, observerSizeCall, observerReadPart, observerReadBuffer}
 use package.Rattle.protocol.specs.ObserverCall.{ObserverCall, observation, observesBook}
@@ -66,6 +68,10 @@ no-observer-book·kept = page.no-observer-book
 pub no-replica-book·kept : (book : Bytes) → observerSound sha256 book ≡ true → sound sha256 book ≡ false
 no-replica-book·kept = page.no-replica-book
 
+pub earlier-observers-take-their-editions·kept : (latest : ℕ) → latest ≤ 2 → (book : Bytes) →
+    observerSoundBefore sha256 latest book ≡ (observerSound sha256 book && inRange 1 latest (byteAt book 7))
+earlier-observers-take-their-editions·kept = page.earlier-observers-take-their-editions
+
 pub observer-open-writes·kept : (way : Opening) (book : Bytes) (n heights : ℕ) →
     observerOpenCall way book n heights .answer ≡ accepted done →
     observerOpenCall way book n heights .book ≡ openedObserver way n heights
@@ -106,7 +112,7 @@ the-observers-register·kept = page.the-observers-register
 
 pub observers-read-nothing-else·kept : (book buffer : Bytes) (size : ℕ) → observerSizeCall sha256 book ≡ accepted size →
     size ≤ length buffer → (part after : Bytes) (size′ : ℕ) →
-    ReadsChainOf sha256 (view (observerState book)) (byteAt book 5) part buffer after size′ →
+    ReadsChainOf sha256 (view (observerState book)) (bookFinalized book) part buffer after size′ →
     (part ≡ observerReadPart sha256 book buffer) × (after ≡ observerReadBuffer sha256 book buffer) × (size′ ≡ size)
 observers-read-nothing-else·kept = page.observers-read-nothing-else
 

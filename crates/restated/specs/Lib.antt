@@ -17,7 +17,6 @@ pub mod AgreementObserverUnpacked
 pub mod AgreementObserverWitness
 pub mod AgreementTurns
 pub mod AgreementUnpacked
-pub mod AgreementWitness
 pub mod AnswersAnswers
 pub mod AnswersMoveNumbers
 pub mod CallLawsBookBytes
@@ -51,6 +50,7 @@ pub mod PaperSteps
 pub mod PaperSteps2
 pub mod PaperTimer
 pub mod ProtocolAnswer
+pub mod ProtocolBefore
 pub mod ProtocolBlock
 pub mod ProtocolBytes
 pub mod ProtocolCall
@@ -66,6 +66,7 @@ pub mod ProtocolFrame
 pub mod ProtocolBlockLaws
 pub mod ProtocolCodecLaws
 pub mod ProtocolDeliverLaws
+pub mod ProtocolHeadLaws
 pub mod ProtocolMoveLaws
 pub mod ProtocolMoveLaws2
 pub mod ProtocolObserverCodecLaws
@@ -77,6 +78,7 @@ pub mod ProtocolLinked
 pub mod ProtocolMask
 pub mod ProtocolMove
 pub mod ProtocolObserver
+pub mod ProtocolObserverBefore
 pub mod ProtocolObserverCall
 pub mod ProtocolObserverCalls
 pub mod ProtocolObserverSound
@@ -104,6 +106,8 @@ pub mod Sha256PaddingPadding
 pub mod Sha256RoundsConstants
 pub mod Sha256RoundsRounds
 pub mod Sha256ScheduleSchedule
+pub mod WitnessesAllEditions
+pub mod WitnessesWitness
 pub mod DemandsDemands
 pub mod DemandsObserverDemands
 pub mod ProtocolExamplesLaws
@@ -117,7 +121,6 @@ pub mod AgreementObserverUnpacksLaws
 pub mod AgreementObserverWitnessLaws
 pub mod AgreementUnpacksLaws
 pub mod AgreementWithoutObserversLaws
-pub mod AgreementWitnessLaws
 pub mod AnswersMoveNumbersLaws
 pub mod CallLawsCallWrittenLaws
 pub mod CallLawsEquivocatingLaws
@@ -149,11 +152,12 @@ pub mod PaperRegisterExactLaws
 pub mod PaperRegisterLaws
 pub mod PaperStepsLaws
 pub mod PaperTimerLaws
+pub mod ProtocolBeforeLaws
+pub mod ProtocolBuildLaws
 pub mod ProtocolCallLaws
 pub mod ProtocolChainLaws
 pub mod ProtocolDistinctLaws
 pub mod ProtocolFetchLaws
-pub mod ProtocolHeadLaws
 pub mod ProtocolLinkedLaws
 pub mod ProtocolLogLaws
 pub mod ProtocolNewStateLaws
@@ -166,3 +170,5 @@ pub mod ProtocolSharedLaws
 pub mod ProtocolSoundLaws
 pub mod ProtocolStateLaws
 pub mod ProtocolViewLaws
+pub mod WitnessesAllEditionsLaws
+pub mod WitnessesWitnessLaws

@@ -13,5 +13,5 @@ module _ (digest : Bytes → Bytes) where
   pub move-height-low·kept : (book reply : Bytes) → answeredHeight (moveCall digest book reply .answer) ≤ maximumHeights
   move-height-low·kept = page.move-height-low digest
 
-  pub size-low·kept : (book : Bytes) → answeredSize (sizeCall digest book) ≤ 8064
+  pub size-low·kept : (book : Bytes) → answeredSize (sizeCall digest book) ≤ 128000
   size-low·kept = page.size-low digest

@@ -5,10 +5,10 @@ use package.mathlib.Core.Path.{_≡_}
 use package.mathlib.Core.Logic.{_⊎_}
 use package.mathlib.Core.List.{_++_}
 use package.lib.ListN.{length, drop}
-use package.Rattle.protocol.specs.Bytes.{Bytes, byteAt, join}
+use package.Rattle.protocol.specs.Bytes.{Bytes, join}
 use package.Rattle.protocol.specs.Distinct.{distinct}
 use package.Rattle.protocol.specs.Block.{entrySize}
-use package.Rattle.protocol.specs.State.{decode}
+use package.Rattle.protocol.specs.State.{bookFinalized, decode}
 use package.Rattle.protocol.specs.View.{View}
 use package.Rattle.protocol.specs.Sound.{view}
 use package.Rattle.protocol.specs.Answer.{refused, accepted}
@@ -26,7 +26,7 @@ ReadsChainOf·kept digest v g part buffer after size x0 x1 x2 x3 x4 x5 x6 x7 = r
 
 abbrev ReadsChain·kept : (Bytes → Bytes) → Bytes → Bytes → ℕ → Type 0
 ReadsChain·kept digest book buffer size =
-    ReadsChainOf digest (view (decode book)) (byteAt book 5) (readPart digest book buffer) buffer
+    ReadsChainOf digest (view (decode book)) (bookFinalized book) (readPart digest book buffer) buffer
     (readBuffer digest book buffer) size
 
 same·ReadsChain : ReadsChain·kept is-kept page.ReadsChain
@@ -34,7 +34,7 @@ same·ReadsChain = by-text
 
 abbrev ObserverReadsChain·kept : (Bytes → Bytes) → Bytes → Bytes → ℕ → Type 0
 ObserverReadsChain·kept digest book buffer size =
-    ReadsChainOf digest (view (observerState book)) (byteAt book 5) (observerReadPart digest book buffer) buffer
+    ReadsChainOf digest (view (observerState book)) (bookFinalized book) (observerReadPart digest book buffer) buffer
     (observerReadBuffer digest book buffer) size
 
 same·ObserverReadsChain : ObserverReadsChain·kept is-kept page.ObserverReadsChain

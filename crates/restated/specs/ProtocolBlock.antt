@@ -12,7 +12,7 @@ use package.mathlib.Core.Path.{_≡_ as _is-kept_, refl as by-text}
 use package.Rattle.protocol.specs.Block as page
 
 abbrev maximumHeights·kept : ℕ
-maximumHeights·kept = 63
+maximumHeights·kept = 1000
 
 same·maximumHeights : maximumHeights·kept is-kept page.maximumHeights
 same·maximumHeights = by-text
@@ -80,9 +80,7 @@ blockWellFormed·kept : ℕ → Bytes → Bool
 blockWellFormed·kept h block = allOf
     (eqb (length block) blockSize ∷
     eqb (blockHeight block) h ∷
-    eqb (byteAt block 1) 0 ∷
     ltb (parentHeight block) h ∷
-    eqb (byteAt block 3) 0 ∷
     leb (entryCount block) blockEntries ∷
     isZero (part block 5 11) ∷
     implies (eqb (parentHeight block) 0) (isZero (parentDigest block)) ∷

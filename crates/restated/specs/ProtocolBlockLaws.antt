@@ -21,5 +21,5 @@ module _ (h parent : ℕ) (digest : Bytes) (es : List Bytes)
   pub entries-back·kept : entries block ≡ es
   entries-back·kept = page.entries-back h parent digest es below digest-size from-start few sized
 
-  pub new-block-good·kept : h < 256 → blockWellFormed h block ≡ true
+  pub new-block-good·kept : blockWellFormed h block ≡ true
   new-block-good·kept = page.new-block-good h parent digest es below digest-size from-start few sized

@@ -11,10 +11,11 @@ use package.Rattle.protocol.specs.Frame.{isCertificate, carriesBlock, carriesDi
 use package.Rattle.protocol.specs.Frame.{blockVote, dummyVote, finalize, blockCertificate, dummyCertificate}
 use package.Rattle.protocol.specs.Frame.{finalizeCertificate}
 use package.Rattle.protocol.specs.Mask.{inMask, maskOf, ones, union, intersection, belowBit, weigh, total}
-use package.Rattle.protocol.specs.State.{bookSize, padded, evenly, words, weightBytes, weightsIn, headUnused, headBytes}
-use package.Rattle.protocol.specs.State.{contentBytes, bodyBytes, encode, decodeHeight, decodeHeights, decode, last}
-use package.Rattle.protocol.specs.State.{noHeight, at, holdsProposal, isNotarized, voteOf, withEdition, withHeight}
-use package.Rattle.protocol.specs.State.{withHead, withPool, withTimerFired, flag, pending}
+use package.Rattle.protocol.specs.State.{bookSize, mostHeights, headNumber, headPut, shortNumber, numberBytes, padded}
+use package.Rattle.protocol.specs.State.{evenly, words, weightBytes, weightsIn, headUnused, headBytes, contentBytes}
+use package.Rattle.protocol.specs.State.{bodyBytes, encode, decodeHeight, decodeHeights, decode, last, noHeight, at}
+use package.Rattle.protocol.specs.State.{holdsProposal, isNotarized, voteOf, withEdition, withHeight, withHead, withPool}
+use package.Rattle.protocol.specs.State.{withTimerFired, flag, pending}
 use package.Rattle.protocol.specs.View.{quorum, isDummy, dummyRun, digestAt, extendsOver, linkedWithin, linked, extends}
 use package.Rattle.protocol.specs.View.{isFinalized, largestFinalized, parentOf, chainWithin, chain, logAt}
 use package.Rattle.protocol.specs.Sound.{view, log, weightsFit, masksBelow, blocksWellFormed, contentZeros, sound}
@@ -57,24 +58,25 @@ unfolding word16 le16 part zeros overFront all isZero same pieces join holds wit
     blockWellFormed newBlock allEntries kind signer frameHeight signerMask frameDigest frameBlock isStatement
     isCertificate carriesBlock carriesDigest frameWellFormed frameOf proposal blockVote dummyVote finalize
     blockCertificate dummyCertificate finalizeCertificate inMask maskOf ones union intersection belowBit weigh total
-    bookSize padded evenly words weightBytes weightsIn headUnused headBytes contentBytes bodyBytes encode decodeHeight
-    decodeHeights decode last noHeight at holdsProposal isNotarized voteOf withEdition withHeight withHead withPool
-    withTimerFired flag pending quorum isDummy dummyRun digestAt extendsOver linkedWithin linked extends isFinalized
-    largestFinalized parentOf chainWithin chain logAt view log weightsFit masksBelow blocksWellFormed contentZeros sound
-    isAccepted unlessRefused refusalNumber certificateKind finalizeKind moveNumber moveHeight newHeight openedEdition
-    openedWeights weightsInRange newState openInRange openRows openCall withProposal withNotarized withMasks withVote
-    votersFor keepDummyVote keepFinalize keepBlockCertificate keepDummyCertificate keepFinalizeCertificate readRows
-    secondProposal leaderEquivocates timerFires clashRows notarize keepProposal keepBlockVote keep kept deliverRows
-    heard deliverCall deliverAll packetFrames noFrames countedIn countAll acceptedOf packetRows packetCall
-    certificateFrame firstStep isSome someOr isRunning idleStep dummyVoteApplies dummyVoteStep offered unused written
-    moved unlessMoveRefused newFinalized outputApplies outputStep passApplies passStep proposeApplies proposedBlock
-    proposeStep blockVoteApplies blockVoteStep step afterMoves moveRows moveCall signalRows signalCall withPending
-    stillPending submitRows submitCall logSize sizeCall readPart readBuffer hasCertificate certificateIf certificatesAt
-    certificatesTo everyCertificate unlessFetchRefused fetchRows fetchCall effect bookAfterAll asReplicaHeight asReplica
-    observedHeight observed observerBookSize observedContentBytes observedBodyBytes encodeObserver decodeObservedHeight
-    decodeObservedHeights decodeObserver replicaHead observedZero observerSound newObservedHeight newObserver
-    observerOpenRows observerOpenCall observerKept observerLogSize observerDeliverRows observerDeliverCall observerStep
-    observerMoved observerMoveRows observerMoveCall observerSizeCall observerReadPart observerReadBuffer observation
+    bookSize mostHeights headNumber headPut shortNumber numberBytes padded evenly words weightBytes weightsIn headUnused
+    headBytes contentBytes bodyBytes encode decodeHeight decodeHeights decode last noHeight at holdsProposal isNotarized
+    voteOf withEdition withHeight withHead withPool withTimerFired flag pending quorum isDummy dummyRun digestAt
+    extendsOver linkedWithin linked extends isFinalized largestFinalized parentOf chainWithin chain logAt view log
+    weightsFit masksBelow blocksWellFormed contentZeros sound isAccepted unlessRefused refusalNumber certificateKind
+    finalizeKind moveNumber moveHeight newHeight openedEdition openedWeights weightsInRange newState openInRange
+    openRows openCall withProposal withNotarized withMasks withVote votersFor keepDummyVote keepFinalize
+    keepBlockCertificate keepDummyCertificate keepFinalizeCertificate readRows secondProposal leaderEquivocates
+    timerFires clashRows notarize keepProposal keepBlockVote keep kept deliverRows heard deliverCall deliverAll
+    packetFrames noFrames countedIn countAll acceptedOf packetRows packetCall certificateFrame firstStep isSome someOr
+    isRunning idleStep dummyVoteApplies dummyVoteStep offered unused written moved unlessMoveRefused newFinalized
+    outputApplies outputStep passApplies passStep proposeApplies proposedBlock proposeStep blockVoteApplies
+    blockVoteStep step afterMoves moveRows moveCall signalRows signalCall withPending stillPending submitRows submitCall
+    logSize sizeCall readPart readBuffer hasCertificate certificateIf certificatesAt certificatesTo everyCertificate
+    unlessFetchRefused fetchRows fetchCall effect bookAfterAll asReplicaHeight asReplica observedHeight observed
+    observerBookSize observedContentBytes observedBodyBytes encodeObserver decodeObservedHeight decodeObservedHeights
+    decodeObserver replicaHead observedZero observerSound newObservedHeight newObserver observerOpenRows
+    observerOpenCall observerKept observerLogSize observerDeliverRows observerDeliverCall observerStep observerMoved
+    observerMoveRows observerMoveCall observerSizeCall observerReadPart observerReadBuffer observation
     observerBookAfterAll
 everything·kept = tt
 

@@ -8,7 +8,7 @@ use package.Rattle.protocol.specs.Bytes.{Bytes, byteAt, word16, part}
 use package.Rattle.protocol.specs.Block.{parentHeight, entryCount}
 use package.Rattle.protocol.specs.Frame.{kind, frameBlock, dummyCertificate}
 use package.Rattle.protocol.specs.Mask.{ones}
-use package.Rattle.protocol.specs.State.{at, decode}
+use package.Rattle.protocol.specs.State.{at, decode, bookFinalized}
 use package.Rattle.protocol.specs.View.{View, quorum}
 use package.Rattle.protocol.specs.Answer.{accepted, done, pass, propose, onDummy}
 use package.Rattle.protocol.specs.Open.{Opening, openedWeights, openCall}
@@ -74,7 +74,7 @@ same·proposesFirst = by-text
 abbrev notFinalized·kept : Bytes → Type 0
 notFinalized·kept book =
     (word16 book 582 ≡ 7) ×
-    (byteAt book 5 ≡ 0) ×
+    (bookFinalized book ≡ 0) ×
     (at (decode book) 1 .finalizeMask ≡ 7) ×
     (decode book .finalized ≡ 0)
 

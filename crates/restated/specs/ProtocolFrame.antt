@@ -135,7 +135,6 @@ frameWellFormed·kept frame = allOf
     (eqb (length frame) frameSize ∷
     (isStatement (kind frame) || isCertificate (kind frame)) ∷
     (isStatement (kind frame) || eqb (signer frame) 0) ∷
-    eqb (byteAt frame 3) 0 ∷
     (isCertificate (kind frame) || eqb (signerMask frame) 0) ∷
     isZero (part frame 6 10) ∷
     (carriesDigest (kind frame) || isZero (frameDigest frame)) ∷

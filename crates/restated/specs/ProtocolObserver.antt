@@ -5,7 +5,7 @@ use package.mathlib.Core.List.{List, [], _∷_, _++_, map}
 use package.lib.ListN.{drop}
 use package.Rattle.protocol.specs.Bytes.{Bytes, byteAt, word16, le16, zeros, join, pieces}
 use package.Rattle.protocol.specs.Block.{blockSize}
-use package.Rattle.protocol.specs.State.{State, Height, headBytes, bookHeights, bookWeights, poolSize}
+use package.Rattle.protocol.specs.State.{State, Height, headBytes, bookHeights, bookFinalized, bookWeights, poolSize}
 use package.Rattle.protocol.specs.View.{View}
 use package.Rattle.protocol.specs.Sound.{view}
 use package.Rattle.protocol.specs.Observer.{ObservedHeight, Observer, asReplicaHeight, asReplica, observedHeight, observedContentSize, observedContentBytes, observedBodyBytes, decodeObservedHeight, decodeObservedHeights, decodeObserver}
@@ -155,7 +155,7 @@ decodeObserver·kept book =
       edition = byteAt book 7;
       n = byteAt book 0;
       weights = bookWeights book;
-      finalized = byteAt book 5;
+      finalized = bookFinalized book;
       heights = decodeObservedHeights
           (pieces observedContentSize heights (drop 64 book))
           (pieces blockSize heights (drop (64 + observedContentSize * heights) book));

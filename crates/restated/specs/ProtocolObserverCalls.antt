@@ -8,9 +8,9 @@ use package.lib.ListN.{length, replicate}
 use package.lib.Dec.{eqb, leb}
 use package.Rattle.protocol.specs.Bytes.{Bytes, zeros, join, overFront}
 use package.Rattle.protocol.specs.Tests.{allOf, inRange, Row, firstRefusal}
-use package.Rattle.protocol.specs.Block.{maximumHeights, entrySize}
+use package.Rattle.protocol.specs.Block.{entrySize}
 use package.Rattle.protocol.specs.Frame.{kind, frameHeight, frameWellFormed, isCertificate}
-use package.Rattle.protocol.specs.State.{State, Height, withHeight, maximumReplicas, padded}
+use package.Rattle.protocol.specs.State.{State, Height, withHeight, maximumReplicas, mostHeights, padded}
 use package.Rattle.protocol.specs.Open.{Opening, openedEdition, openedWeights, weightsInRange}
 use package.Rattle.protocol.specs.Sound.{log}
 use package.Rattle.protocol.specs.Answer.{Answer, Outcome, Done, Delivery, Move, done, known, fresh, refused, accepted}
@@ -51,8 +51,11 @@ unfolding newObserver·kept page.newObserver
 same·newObserver = by-text
 
 observerOpenRows·kept : Opening → Bytes → ℕ → ℕ → List Row
-observerOpenRows·kept way book n heights =
-    (2, allOf (inRange 1 maximumReplicas n ∷ inRange 1 maximumHeights heights ∷ weightsInRange n way ∷ [])) ∷
+observerOpenRows·kept way book n heights = (
+  2,
+  allOf
+      (inRange 1 maximumReplicas n ∷ inRange 1 (mostHeights (openedEdition way)) heights ∷ weightsInRange n way ∷ []),
+) ∷
     (1, eqb (length book) (observerBookSize heights)) ∷ []
 
 same·observerOpenRows : observerOpenRows·kept is-kept page.observerOpenRows

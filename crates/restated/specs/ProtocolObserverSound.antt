@@ -7,8 +7,9 @@ use package.lib.ListN.{length}
 use package.lib.Dec.{eqb}
 use package.Rattle.protocol.specs.Bytes.{Bytes, byteAt, isZero}
 use package.Rattle.protocol.specs.Tests.{allOf, implies, inRange, everyHeight}
-use package.Rattle.protocol.specs.Block.{maximumHeights, blockWellFormed}
-use package.Rattle.protocol.specs.State.{State, at, bookHeights, headUnused, isNotarized, maximumReplicas}
+use package.Rattle.protocol.specs.Block.{blockWellFormed}
+use package.Rattle.protocol.specs.State.{State, at, bookHeights, bookCurrent, headUnused, isNotarized, maximumReplicas}
+use package.Rattle.protocol.specs.State.{mostHeights}
 use package.Rattle.protocol.specs.View.{quorum, isFinalized}
 use package.Rattle.protocol.specs.Sound.{view, masksBelow, weightsFit}
 use package.Rattle.protocol.specs.Observer.{observerState, observerBookSize, observedContentSize}
@@ -17,7 +18,7 @@ use package.mathlib.Core.Path.{_≡_ as _is-kept_, refl as by-text}
 use package.Rattle.protocol.specs.ObserverSound as page
 
 replicaHead·kept : Bytes → Bytes
-replicaHead·kept book = byteAt book 1 ∷ byteAt book 3 ∷ byteAt book 4 ∷ byteAt book 6 ∷ []
+replicaHead·kept book = byteAt book 1 ∷ byteAt book 3 ∷ bookCurrent book ∷ byteAt book 6 ∷ []
 
 same·replicaHead : replicaHead·kept is-kept page.replicaHead
 unfolding replicaHead·kept page.replicaHead
@@ -38,8 +39,8 @@ module _ (digest : Bytes → Bytes) where
       allOf
       (eqb (length book) (observerBookSize heights) ∷
       inRange 1 maximumReplicas (s .n) ∷
-      inRange 1 maximumHeights heights ∷
-      inRange 1 2 (s .edition) ∷
+      inRange 1 (mostHeights (s .edition)) heights ∷
+      inRange 1 3 (s .edition) ∷
       weightsFit (s .n) (s .weights) ∷
       everyHeight (λ h. masksBelow (s .n) (at s h)) heights ∷
       everyHeight (λ h. eqb (at s h .status) 0 || eqb (at s h .status) 2) heights ∷

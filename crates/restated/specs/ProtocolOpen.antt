@@ -7,11 +7,11 @@ use package.lib.ListN.{length, replicate}
 use package.lib.Dec.{eqb, ltb}
 use package.Rattle.protocol.specs.Bytes.{Bytes, zeros, all}
 use package.Rattle.protocol.specs.Tests.{allOf, inRange, Row, firstRefusal}
-use package.Rattle.protocol.specs.Block.{maximumHeights}
+use package.Rattle.protocol.specs.State.{mostHeights}
 use package.Rattle.protocol.specs.State.{State, Height, encode, bookSize, poolSize, maximumReplicas, maximumWeight}
 use package.Rattle.protocol.specs.State.{padded, words}
 use package.Rattle.protocol.specs.Answer.{Outcome, Done, done, accepted, unlessRefused}
-use package.Rattle.protocol.specs.Open.{newHeight, Opening, unweighed, weighed, openedEdition, openedWeights, weightsInRange, startState, newState, openInRange, openRows}
+use package.Rattle.protocol.specs.Open.{newHeight, Opening, unweighed, weighed, long, openedEdition, openedWeights, weightsInRange, startState, newState, openInRange, openRows}
 use package.mathlib.Core.Path.{_≡_ as _is-kept_, refl as by-text}
 use package.Rattle.protocol.specs.Open as page
 
@@ -38,13 +38,18 @@ Opening·unweighed·kept = page.Opening.unweighed
 Opening·weighed·kept : (weights : Bytes) → Opening
 Opening·weighed·kept = page.Opening.weighed
 
+Opening·long·kept : (weights : Bytes) → Opening
+Opening·long·kept = page.Opening.long
+
 Opening·apart : Opening → Unit {0}
 Opening·apart (page.Opening.unweighed) = tt
 Opening·apart (page.Opening.weighed _) = tt
+Opening·apart (page.Opening.long _) = tt
 
 openedEdition·kept : Opening → ℕ
 openedEdition·kept unweighed = 1
 openedEdition·kept (weighed weights) = 2
+openedEdition·kept (long weights) = 3
 
 same·openedEdition : openedEdition·kept is-kept page.openedEdition
 unfolding openedEdition·kept page.openedEdition
@@ -53,6 +58,7 @@ same·openedEdition = by-text
 openedWeights·kept : ℕ → Opening → List ℕ
 openedWeights·kept n unweighed = replicate n 1
 openedWeights·kept n (weighed weights) = words n weights
+openedWeights·kept n (long weights) = words n weights
 
 same·openedWeights : openedWeights·kept is-kept page.openedWeights
 unfolding openedWeights·kept page.openedWeights
@@ -61,6 +67,8 @@ same·openedWeights = by-text
 weightsInRange·kept : ℕ → Opening → Bool
 weightsInRange·kept n unweighed = true
 weightsInRange·kept n (weighed weights) =
+    eqb (length weights) (2 * n) && all (λ w. inRange 1 maximumWeight w) (words n weights)
+weightsInRange·kept n (long weights) =
     eqb (length weights) (2 * n) && all (λ w. inRange 1 maximumWeight w) (words n weights)
 
 same·weightsInRange : weightsInRange·kept is-kept page.weightsInRange
@@ -95,7 +103,7 @@ openInRange·kept : Opening → ℕ → ℕ → ℕ → Bytes → Bool
 openInRange·kept way n own heights leaders = allOf
     (inRange 1 maximumReplicas n ∷
     ltb own n ∷
-    inRange 1 maximumHeights heights ∷
+    inRange 1 (mostHeights (openedEdition way)) heights ∷
     eqb (length leaders) heights ∷
     all (λ leader. ltb leader n) leaders ∷
     weightsInRange n way ∷ [])

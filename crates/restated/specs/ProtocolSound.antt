@@ -7,10 +7,10 @@ use package.lib.ListN.{length, take, drop}
 use package.lib.Dec.{eqb, leb, ltb}
 use package.Rattle.protocol.specs.Bytes.{Bytes, part, all, isZero}
 use package.Rattle.protocol.specs.Tests.{allOf, implies, inRange, everyHeight}
-use package.Rattle.protocol.specs.Block.{maximumHeights, blockWellFormed}
+use package.Rattle.protocol.specs.Block.{blockWellFormed}
 use package.Rattle.protocol.specs.Mask.{belowBit}
 use package.Rattle.protocol.specs.State.{State, Height, at, decode, bookSize, holdsProposal, isNotarized, bookHeights}
-use package.Rattle.protocol.specs.State.{maximumReplicas, maximumPending, maximumWeight, headUnused}
+use package.Rattle.protocol.specs.State.{maximumReplicas, maximumPending, maximumWeight, mostHeights, headUnused}
 use package.Rattle.protocol.specs.View.{View, quorum, isFinalized, logOf}
 use package.Rattle.protocol.specs.Sound.{view, weightsFit, masksBelow, blocksWellFormed, contentZeros}
 use package.mathlib.Core.Path.{_≡_ as _is-kept_, refl as by-text}
@@ -81,8 +81,8 @@ module _ (digest : Bytes → Bytes) where
       (eqb (length book) (bookSize heights) ∷
       inRange 1 maximumReplicas (s .n) ∷
       ltb (s .own) (s .n) ∷
-      inRange 1 maximumHeights heights ∷
-      inRange 1 2 (s .edition) ∷
+      inRange 1 (mostHeights (s .edition)) heights ∷
+      inRange 1 3 (s .edition) ∷
       weightsFit (s .n) (s .weights) ∷
       inRange 1 (heights + 1) (s .current) ∷
       ltb (s .flags) 16 ∷

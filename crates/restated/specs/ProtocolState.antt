@@ -5,9 +5,9 @@ use package.mathlib.Core.Bool.{Bool, cond}
 use package.mathlib.Core.List.{List, [], _∷_, _++_, map}
 use package.lib.ListN.{length, getD, set, drop, take, replicate}
 use package.lib.Dec.{eqb, leb}
-use package.Rattle.protocol.specs.Bytes.{Bytes, byteAt, word16, le16, part, zeros, join, pieces}
+use package.Rattle.protocol.specs.Bytes.{Bytes, byteAt, word16, le16, part, zeros, join, pieces, put}
 use package.Rattle.protocol.specs.Block.{entrySize}
-use package.Rattle.protocol.specs.State.{Height, State, maximumReplicas, poolSize, contentSize, bodySize, bookHeights, padded, evenly, words, weightBytes, weightsIn, bookWeights, headBytes, contentBytes, bodyBytes, decodeHeight, decodeHeights, noHeight, renewedIn, renewed, withHead, withFlag}
+use package.Rattle.protocol.specs.State.{Height, State, maximumReplicas, poolSize, contentSize, bodySize, headNumber, bookHeights, bookCurrent, bookFinalized, shortNumber, numberBytes, padded, evenly, words, weightBytes, weightsIn, bookWeights, headBytes, contentBytes, bodyBytes, decodeHeight, decodeHeights, noHeight, renewedIn, renewed, withHead, withFlag}
 use package.mathlib.Core.Path.{_≡_ as _is-kept_, refl as by-text}
 use package.Rattle.protocol.specs.State as page
 
@@ -62,11 +62,59 @@ same·bookSize : bookSize·kept is-kept page.bookSize
 unfolding bookSize·kept page.bookSize
 same·bookSize = by-text
 
+mostHeights·kept : ℕ → ℕ
+mostHeights·kept edition = cond (eqb edition 3) 1000 63
+
+same·mostHeights : mostHeights·kept is-kept page.mostHeights
+unfolding mostHeights·kept page.mostHeights
+same·mostHeights = by-text
+
+headNumber·kept : (byte word : ℕ) → Bytes → ℕ
+headNumber·kept byte word book = cond (eqb (byteAt book 7) 3) (word16 book word) (byteAt book byte)
+
+same·headNumber : headNumber·kept is-kept page.headNumber
+unfolding headNumber·kept page.headNumber
+same·headNumber = by-text
+
+headPut·kept : (byte word : ℕ) → ℕ → Bytes → Bytes
+headPut·kept byte word x book = cond (eqb (byteAt book 7) 3) (put book word (le16 x)) (set book byte x)
+
+same·headPut : headPut·kept is-kept page.headPut
+unfolding headPut·kept page.headPut
+same·headPut = by-text
+
 abbrev bookHeights·kept : Bytes → ℕ
-bookHeights·kept book = byteAt book 2
+bookHeights·kept book = headNumber 2 40 book
 
 same·bookHeights : bookHeights·kept is-kept page.bookHeights
 same·bookHeights = by-text
+
+abbrev bookCurrent·kept : Bytes → ℕ
+bookCurrent·kept book = headNumber 4 42 book
+
+same·bookCurrent : bookCurrent·kept is-kept page.bookCurrent
+same·bookCurrent = by-text
+
+abbrev bookFinalized·kept : Bytes → ℕ
+bookFinalized·kept book = headNumber 5 44 book
+
+same·bookFinalized : bookFinalized·kept is-kept page.bookFinalized
+same·bookFinalized = by-text
+
+shortNumber·kept : ℕ → ℕ → ℕ
+shortNumber·kept edition x = cond (eqb edition 3) 0 x
+
+same·shortNumber : shortNumber·kept is-kept page.shortNumber
+unfolding shortNumber·kept page.shortNumber
+same·shortNumber = by-text
+
+numberBytes·kept : (edition heights current finalized : ℕ) → Bytes
+numberBytes·kept edition heights current finalized =
+    cond (eqb edition 3) (le16 heights ++ (le16 current ++ (le16 finalized ++ zeros 18))) (zeros 24)
+
+same·numberBytes : numberBytes·kept is-kept page.numberBytes
+unfolding numberBytes·kept page.numberBytes
+same·numberBytes = by-text
 
 padded·kept : List ℕ → List ℕ
 padded·kept weights = take maximumReplicas (weights ++ replicate maximumReplicas 0)
@@ -110,7 +158,9 @@ same·bookWeights : bookWeights·kept is-kept page.bookWeights
 same·bookWeights = by-text
 
 headUnused·kept : Bytes → Bytes
-headUnused·kept book = cond (eqb (byteAt book 7) 1) (part book 8 56) (part book 40 24)
+headUnused·kept book =
+    cond (eqb (byteAt book 7) 1) (part book 8 56)
+    (cond (eqb (byteAt book 7) 3) (byteAt book 2 ∷ byteAt book 4 ∷ byteAt book 5 ∷ part book 46 18) (part book 40 24))
 
 same·headUnused : headUnused·kept is-kept page.headUnused
 unfolding headUnused·kept page.headUnused
@@ -118,8 +168,10 @@ same·headUnused = by-text
 
 headBytes·kept : State → Bytes
 headBytes·kept s =
-    s .n ∷ s .own ∷ length (s .heights) ∷ s .flags ∷ s .current ∷ s .finalized ∷ s .pendingCount ∷ s .edition ∷
-    (weightBytes (s .edition) (s .weights) ++ zeros 24)
+    let e : ℕ = s .edition in
+    s .n ∷ s .own ∷ shortNumber e (length (s .heights)) ∷ s .flags ∷ shortNumber e (s .current) ∷
+    shortNumber e (s .finalized) ∷ s .pendingCount ∷ e ∷
+    (weightBytes e (s .weights) ++ numberBytes e (length (s .heights)) (s .current) (s .finalized))
 
 same·headBytes : headBytes·kept is-kept page.headBytes
 unfolding headBytes·kept page.headBytes
@@ -185,8 +237,8 @@ decode·kept book =
       weights = bookWeights book;
       own = byteAt book 1;
       flags = byteAt book 3;
-      current = byteAt book 4;
-      finalized = byteAt book 5;
+      current = bookCurrent book;
+      finalized = bookFinalized book;
       pendingCount = byteAt book 6;
       pool = part book 64 poolSize;
       heights = decodeHeights

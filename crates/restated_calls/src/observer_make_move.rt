@@ -8,7 +8,7 @@ ghost use package.Rattle.answers.specs.MoveNumbers.{movedNumbers, answerNumbers
 use answers::answer::Moved;
 
 // Makes move 2, if it applies; a refused call changes nothing. Costs one pass over the book, and at most one digest for
-// each height.
+// each height. A book of few heights does not pay for the memory of a longer one.
 pub fn make_move(book: &mut [u8]) -> Moved
     ensures answer { λ r. ⌜ movedAnswer r ≡ observerMoveCall sha (now (book .entry)) .answer ⌝ }
     ensures book { λ _. ⌜ now (book .exit) ≡ observerMoveCall sha (now (book .entry)) .book ⌝ }

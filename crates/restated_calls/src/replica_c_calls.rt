@@ -3,7 +3,7 @@
 ghost use package.mathlib.Core.Path.{_≡_};
 ghost use package.lib.ListN.{length};
 ghost use package.Rattle.sha256.specs.Digest.{sha256};
-ghost use package.Rattle.protocol.specs.Open.{weighed, openCall};
+ghost use package.Rattle.protocol.specs.Open.{long, openCall};
 ghost use package.Rattle.protocol.specs.Deliver.{deliverCall};
 ghost use package.Rattle.protocol.specs.Packet.{packetCall};
 ghost use package.Rattle.protocol.specs.Move.{moveCall};
@@ -30,9 +30,9 @@ pub fn mavunilai_open(
     leaders: &[u8],
 ) -> usize
     ensures answer { λ r. ⌜ r ≡ packedDone (openCall
-        (weighed (now (weights .entry))) (now (book .entry)) n own heights (now (leaders .entry)) .answer) ⌝ }
+        (long (now (weights .entry))) (now (book .entry)) n own heights (now (leaders .entry)) .answer) ⌝ }
     ensures book { λ _. ⌜ now (book .exit) ≡
-        openCall (weighed (now (weights .entry))) (now (book .entry)) n own heights (now (leaders .entry)) .book ⌝ }
+        openCall (long (now (weights .entry))) (now (book .entry)) n own heights (now (leaders .entry)) .book ⌝ }
 {
     replica_c::mavunilai_open(book, n, own, heights, weights, leaders)
 }
@@ -125,9 +125,9 @@ pub fn mavunilai_size(book: &[u8]) -> usize
 // Returns 0 where it is made. Refusals, the first that applies: 2, 1 (`observerOpenCall`).
 pub fn mavunilai_observer_open(book: &mut [u8], n: usize, heights: usize, weights: &[u8]) -> usize
     ensures answer { λ r. ⌜ r ≡
-        packedDone (observerOpenCall (weighed (now (weights .entry))) (now (book .entry)) n heights .answer) ⌝ }
+        packedDone (observerOpenCall (long (now (weights .entry))) (now (book .entry)) n heights .answer) ⌝ }
     ensures book { λ _. ⌜ now (book .exit) ≡
-        observerOpenCall (weighed (now (weights .entry))) (now (book .entry)) n heights .book ⌝ }
+        observerOpenCall (long (now (weights .entry))) (now (book .entry)) n heights .book ⌝ }
 {
     replica_c::mavunilai_observer_open(book, n, heights, weights)
 }

@@ -1,7 +1,7 @@
 // Written by tests/restated --write: what docs/statements has of
 // crates/replica/src/open.rt.
 ghost use package.mathlib.Core.Path.{_≡_};
-ghost use package.Rattle.protocol.specs.Open.{weighed, openCall};
+ghost use package.Rattle.protocol.specs.Open.{long, openCall};
 ghost use package.Rattle.answers.specs.Answers.{doneAnswer};
 use answers::answer::Answer;
 
@@ -15,9 +15,9 @@ pub fn open(
     leaders: &[u8],
 ) -> Answer
     ensures answer { λ r. ⌜ doneAnswer r ≡
-        openCall (weighed (now (weights .entry))) (now (book .entry)) n own heights (now (leaders .entry)) .answer ⌝ }
+        openCall (long (now (weights .entry))) (now (book .entry)) n own heights (now (leaders .entry)) .answer ⌝ }
     ensures book { λ _. ⌜ now (book .exit) ≡
-        openCall (weighed (now (weights .entry))) (now (book .entry)) n own heights (now (leaders .entry)) .book ⌝ }
+        openCall (long (now (weights .entry))) (now (book .entry)) n own heights (now (leaders .entry)) .book ⌝ }
 {
     replica::open::open(book, n, own, heights, weights, leaders)
 }

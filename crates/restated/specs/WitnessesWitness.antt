@@ -1,5 +1,5 @@
 -- Written by tests/restated --write: what docs/statements has of
--- crates/agreement/specs/Witness.antt.
+-- crates/witnesses/specs/Witness.antt.
 use package.Prim.Native.Nat.{ℕ}
 use package.mathlib.Core.Logic.{_≢_}
 use package.mathlib.Core.List.{List, [], _∷_, _++_, map, List·Memᴰ}
@@ -13,9 +13,9 @@ use package.Rattle.protocol.specs.Call.{moving, opening, reading, signalling, s
 use package.Rattle.agreement.specs.Lists.{Member, proposes, votesBlock, writes}
 use package.Rattle.agreement.specs.Met.{Hears, HearsWhere, MemberOf, Met, ReadsWhere, firesTimer, hasEdition, isPacket}
 use package.Rattle.agreement.specs.Turns.{Turn, anything, build, entry, hear, hearPacket, move, nextBlock, nextLog}
-use package.Rattle.agreement.specs.Witness.{sample, weights, dishonest, leaders, lastEntry, openings, oneBlock, otherBlock, split, timeouts, votes, agreed, lastBlock, extended, readings, list, lastLog, Witness}
+use package.Rattle.witnesses.specs.Witness.{sample, weights, dishonest, leaders, lastEntry, openings, oneBlock, otherBlock, split, timeouts, votes, agreed, lastBlock, extended, readings, list, lastLog, Witness}
 use package.mathlib.Core.Path.{_≡_ as _is-kept_, refl as by-text}
-use package.Rattle.agreement.specs.Witness as page
+use package.Rattle.witnesses.specs.Witness as page
 
 sample·kept : Bytes → Bytes
 sample·kept block = byteAt block 0 ∷ part block 48 31
