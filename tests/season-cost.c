@@ -1,7 +1,8 @@
 /* The calls whose instructions tests/season-cost counts: each call over full books of so many heights, its argument.
  * The books come about by calls, so that any library can be linked that takes as many heights; the current height alone
- * is written into the head, where the edition has it, and an observer's rows and pages are those of a station. For each counted call it prints a line: the book, the call, its
- * answer, and a sum over the bytes that it left. Exit status 3: the library does not open so many heights. */
+ * is written into the head, where the edition has it, and an observer's rows and pages are those of a station. For each
+ * counted call it prints a line: the book, the call, its answer, and a sum over the bytes that it left. Exit status 3:
+ * the library does not open so many heights. */
 #include <stdint.h>
 #include <stdio.h>
 #include <stdlib.h>
