@@ -36,7 +36,7 @@ fn in_time(book: &[u8]) -> bool
 
 // Writes a pass's second frame, from byte 224 on: a finalize statement, or zero bytes. Costs 224 stores.
 fn write_pass_finalize(book: &[u8], reply: &mut [u8], finalizes: bool)
-    requires { ⌜ Readable (now book) ⌝ }
+    requires { ⌜ Readable (now book) × (decode (now book) .current ≤ bookHeights (now book)) ⌝ }
     requires { ⌜ 448 ≤ length (now reply) ⌝ }
     ensures { λ _. ⌜ now (reply .exit) ≡
         put (now (reply .entry)) 224 (finalizeOn finalizes (decode (now (book .entry)))) ⌝ }
