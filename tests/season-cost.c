@@ -1,7 +1,8 @@
 /* The calls whose instructions tests/season-cost counts: each call over full books of so many heights, its argument.
- * The books come about by calls, so that any library can be linked that takes as many heights; its current height alone
- * is written into the head, where the edition has it. For each counted call it prints a line: the book, the call, its
- * answer, and a sum over the bytes that it left. Exit status 3: the library does not open so many heights. */
+ * The books come about by calls, so that any library can be linked that takes as many heights; the current height alone
+ * is written into the head, where the edition has it, and an observer's rows and pages are those of a station. For each
+ * counted call it prints a line: the book, the call, its answer, and a sum over the bytes that it left. Exit status 3:
+ * the library does not open so many heights. */
 #include <stdint.h>
 #include <stdio.h>
 #include <stdlib.h>
@@ -171,22 +172,35 @@ static unsigned certificates(enum shape shape) {
     return count;
 }
 
-/* A book of a shape whose current height is the last, before its first move. */
-static void filled(Book *book, int observer, enum shape shape) {
-    unsigned k, count = certificates(shape);
-    uint64_t counts[3];
+/* A new book. */
+static void opened(Book *book, int observer) {
     memset(book, 0, sizeof *book);
     book->observer = observer;
     book->size = observer ? 64 + 184 * heights : 576 + 880 * heights;
     if (open_call(book)) {
         exit(3);
     }
-    for (k = 0; observer && k < count; k++) {
-        mavunilai_observer_deliver(book->bytes, book->size, packet + FRAME * k, FRAME);
-    }
-    if (!observer) {
-        mavunilai_packet(book->bytes, book->size, packet, FRAME * count, counts);
-        put_height(book->bytes + (book->bytes[7] == 3 ? 42 : 4), heights);
+}
+
+/* A station's book of a shape whose current height is the last, before its first move. */
+static void filled(Book *book, enum shape shape) {
+    unsigned count = certificates(shape);
+    uint64_t counts[3];
+    opened(book, 0);
+    mavunilai_packet(book->bytes, book->size, packet, FRAME * count, counts);
+    put_height(book->bytes + (book->bytes[7] == 3 ? 42 : 4), heights);
+}
+
+/* The observer's book with the same certificates; it has no packets, so that rows and pages are copied. */
+static void watched(Book *book, const Book *station) {
+    unsigned at;
+    opened(book, 1);
+    for (at = 0; at < heights; at++) {
+        const uint8_t *row = station->bytes + 576 + 16 * at;
+        const uint8_t *page = station->bytes + 576 + 16 * heights + 864 * at + PAGE;
+        book->bytes[64 + 8 * at] = row[1] & 2;
+        memcpy(book->bytes + 64 + 8 * at + 2, row + 2, 6);
+        memcpy(book->bytes + 64 + 8 * heights + PAGE * at, page, PAGE);
     }
 }
 
@@ -220,7 +234,7 @@ static void station(enum shape shape) {
     static Book book;
     uint8_t three[3 * FRAME], entry[ENTRY] = "\1a new entry";
     unsigned k;
-    filled(&book, 0, shape);
+    filled(&book, shape);
     row(shape, "Open", OPEN, &book, 0, 0);
     moves(shape, &book);
     mavunilai_move(book.bytes, book.size, reply, sizeof reply);
@@ -246,8 +260,9 @@ static void station(enum shape shape) {
 }
 
 static void observer(enum shape shape) {
-    static Book book;
-    filled(&book, 1, shape);
+    static Book book, station;
+    filled(&station, shape);
+    watched(&book, &station);
     row(shape, "Open", OPEN, &book, 0, 0);
     row(shape, "Move", MOVE, &book, 0, 0);
     mavunilai_observer_move(book.bytes, book.size);
