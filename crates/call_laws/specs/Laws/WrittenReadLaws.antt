@@ -21,7 +21,6 @@ use Rattle.protocol.specs.Move.{dummyVoteApplies, dummyVoteStep, outputStep, pa
 use Rattle.protocol.specs.Move.{proposeStep, blockVoteApplies, blockVoteStep, idleStep, passesAt}
 use Rattle.protocol.specs.Certificates.{certificateFrame}
 use Rattle.protocol.specs.Linked.{Linked, start, link}
-use Rattle.protocol.specs.Laws.SoundLaws.{last-high}
 use Rattle.protocol.specs.Laws.LinkedLaws.{linked-sound}
 use Rattle.protocol.specs.Laws.ParentLaws.{parent-some}
 use Rattle.protocol.specs.Laws.TestsLaws.{and-both}
