@@ -7,7 +7,8 @@ use mathlib.Core.List.{List, [], _∷_, _++_, map}
 use lib.ListN.{length, set}
 use Rattle.protocol.specs.Open.{Opening, openedEdition, openedWeights}
 use Rattle.protocol.specs.Bytes.{Bytes, byteAt, zeros, join, put}
-use Rattle.protocol.specs.State.{State, decode, flag, pending, weightBytes, padded, shortNumber, numberBytes, headPut, bookCurrent}
+use Rattle.protocol.specs.State.{State, decode, flag, pending, weightBytes, padded, shortNumber, numberBytes, headPut}
+use Rattle.protocol.specs.State.{bookCurrent}
 use Rattle.protocol.specs.Submit.{stillPending}
 
 -- Open: n, own number, H, flags 0, c 1, g 0, no pending entry, the edition, the weights if it has any; for each height

@@ -127,7 +127,8 @@ module _ (filter : Bytes) (es : List Bytes) (m : Marked filter es) (entry : Byte
         none : inMask (byteAt filter at) (place % 8) ≡ false
         none = ap (λ (b : ℕ). inMask b (place % 8)) (sym value) ∙ unset
 
-        set-in : (x : Bytes) → holds x (es ++ (entry ∷ [])) ≡ true → isSet (next filter at (place % 8) fits none) (placeOf filter x) ≡ true
+        set-in : (x : Bytes) → holds x (es ++ (entry ∷ [])) ≡ true →
+            isSet (next filter at (place % 8) fits none) (placeOf filter x) ≡ true
         set-in x h =
             ⊎-elim (λ q. still-set filter at (place % 8) fits none (placeOf filter x) (m .marks x q))
             (λ q. ap (λ (y : Bytes). isSet (next filter at (place % 8) fits none) (placeOf filter y)) (holds-one x entry q)

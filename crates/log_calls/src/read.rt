@@ -10,7 +10,7 @@ ghost use Rattle.protocol.specs.Read.{readPart, readBuffer};
 ghost use Rattle.book_fields.specs.Book.{SoundBook};
 
 // How many entries the log of a sound book has. Goes through the entries of its chain once, and looks back at those
-// before an entry for which the filter says perhaps, 504 times at most.
+// before an entry for which the filter says perhaps, 8,000 times at most.
 pub fn log_count(book: &[u8]) -> usize
     requires { ⌜ SoundBook sha (now book) ⌝ }
     ensures { λ r. ⌜ (r ≡ length (log (decode (now (book .entry))))) × (r ≤ maximumEntries) ⌝ }

@@ -12,7 +12,7 @@ ghost use Rattle.protocol.specs.ObserverCalls.{observerReadPart, observerReadBu
 ghost use Rattle.book_fields.specs.Book.{SoundObserverBook};
 
 // How many entries the log of a sound book has. Goes through the entries of its chain once, and looks back at those
-// before an entry for which the filter says perhaps, 504 times at most.
+// before an entry for which the filter says perhaps, 8,000 times at most.
 pub fn log_count(book: &[u8]) -> usize
     requires { ⌜ SoundObserverBook sha (now book) ⌝ }
     ensures { λ r. ⌜ (r ≡ length (log (observerState (now (book .entry))))) × (r ≤ maximumEntries) ⌝ }

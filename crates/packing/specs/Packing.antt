@@ -37,8 +37,8 @@ passKinds (pass h certificate finalized) = certificateKind certificate + 256 * f
 passKinds (propose h) = 0
 passKinds (voteBlock h) = 0
 
--- Move: byte 1 is the move's number, bytes 2 and 3 its height (at most 1,000), byte 4 the certificate's kind, byte 5 the
--- finalize's kind
+-- Move: byte 1 is the move's number, bytes 2 and 3 its height (at most 1,000), byte 4 the certificate's kind, byte 5
+-- the finalize's kind
 unfoldable pub packedMove : Answer Move → ℕ
 packedMove (refused number) = number
 packedMove (accepted move) = 256 * moveNumber move + 65536 * moveHeight move + 4294967296 * passKinds move

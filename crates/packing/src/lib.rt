@@ -80,8 +80,8 @@ fn move_number(number: usize, height: usize, kinds: usize) -> usize
     256 * number + 65536 * height + 4294967296 * kinds
 }
 
-// The number for the answer of Move. No answer of Move names a height above 1,000 (`PackingLaws.move-height-low`), so the
-// sum fits.
+// The number for the answer of Move. No answer of Move names a height above 1,000 (`PackingLaws.move-height-low`), so
+// the sum fits.
 pub fn moved_number(answer: Moved) -> usize
     requires { ⌜ answeredHeight (movedAnswer answer) ≤ maximumHeights ⌝ }
     ensures { λ r. ⌜ r ≡ packedMove (movedAnswer answer) ⌝ }

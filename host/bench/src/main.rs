@@ -13,8 +13,8 @@ and of 63 heights with 4 and with 16 replicas that weigh 1 each, and prints tabl
 Markdown. A cell has how many times as fast the proved replica is, above 1 where it is
 faster, and its microseconds for a call in brackets. Growth is the time at 63 heights
 over that at 8, the reference's in brackets. A table of registers has their size and a
-read where the entries of all pages differ, agree, or collide in the filter by which the
-proved replica looks for repeats, with 4 replicas. A last table has packets of 1 to 400
+read where the entries of all pages differ, agree, or collide in a filter that has no
+key, with 4 replicas. A last table has packets of 1 to 400
 frames on a full book of 63 heights, in N / 10 rounds: the proved replica's
 microseconds, how many times as long it takes to deliver the frames one by one, and how
 many times as long the reference takes for the packet. All are medians over the rounds.

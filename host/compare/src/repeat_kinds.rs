@@ -113,7 +113,7 @@ fn is_near(one: &Entry, two: &Entry) -> bool {
     one.iter().zip(two).filter(|(one, two)| one != two).count() == 1
 }
 
-/// Whether two entries differ and have one place in the filter of the proved replica.
+/// Whether two entries differ and have one place in a filter that has no key.
 fn collide(carried: &[(Height, Entry)]) -> bool {
     let entries: BTreeSet<Entry> = carried.iter().map(|(_, entry)| *entry).collect();
     let places: BTreeSet<u64> = entries.iter().map(place_in_filter).collect();

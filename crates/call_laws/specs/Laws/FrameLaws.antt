@@ -66,7 +66,6 @@ module _ (k s h mask : ℕ) (digest block : Bytes) (digest-size : length digest 
     pub block-size : length block ≡ 176
     pub a-kind : (isStatement k || isCertificate k) ≡ true
     pub a-signer : (isStatement k || eqb s 0) ≡ true
-    pub a-height : h < 65536
     pub a-mask : (isCertificate k || eqb mask 0) ≡ true
     pub a-digest : (carriesDigest k || isZero digest) ≡ true
     pub a-block : (carriesBlock k || isZero block) ≡ true

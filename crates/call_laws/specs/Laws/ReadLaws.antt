@@ -81,15 +81,14 @@ module _ (t : State) (k s h mask : ℕ) (digest block : Bytes) (digest-size : le
 
 -- ---- what a kind asks of the other fields
 -- where it carries no digest and no block
-bare : (k s h mask : ℕ) → h < 65536 → (isStatement k || isCertificate k) ≡ true → (isStatement k || eqb s 0) ≡ true →
+bare : (k s h mask : ℕ) → (isStatement k || isCertificate k) ≡ true → (isStatement k || eqb s 0) ≡ true →
     (isCertificate k || eqb mask 0) ≡ true →
     carriesDigest k ≡ false → carriesBlock k ≡ false → Fitting k s h mask (zeros 32) (zeros 176) (length-zeros 32)
 unfolding implies
-bare k s h mask short a b c d e = record {
+bare k s h mask a b c d e = record {
   block-size = length-zeros 176;
   a-kind = a;
   a-signer = b;
-  a-height = short;
   a-mask = c;
   a-digest = rw d (zeros-is-zero 32);
   a-block = rw e (zeros-is-zero 176);
@@ -97,16 +96,15 @@ bare k s h mask short a b c d e = record {
 }
 
 -- where it carries a block
-carrying : (k s h mask : ℕ) (block : Bytes) → h < 65536 → (isStatement k || isCertificate k) ≡ true →
+carrying : (k s h mask : ℕ) (block : Bytes) → (isStatement k || isCertificate k) ≡ true →
     (isStatement k || eqb s 0) ≡ true → (isCertificate k || eqb mask 0) ≡ true →
     carriesDigest k ≡ false → carriesBlock k ≡ true → blockWellFormed h block ≡ true →
     Fitting k s h mask (zeros 32) block (length-zeros 32)
 unfolding implies
-carrying k s h mask block short a b c d e good = record {
+carrying k s h mask block a b c d e good = record {
   block-size = formed h block good .size;
   a-kind = a;
   a-signer = b;
-  a-height = short;
   a-mask = c;
   a-digest = rw d (zeros-is-zero 32);
   a-block = rw e;
@@ -114,14 +112,14 @@ carrying k s h mask block short a b c d e good = record {
 }
 
 -- ---- each kind over a state that has its height
-module _ (t : State) (h : ℕ) (low : 1 ≤ h) (high : h ≤ last t) (short : h < 65536) where
+module _ (t : State) (h : ℕ) (low : 1 ≤ h) (high : h ≤ last t) where
   module _ (s : ℕ) (small : s < t .n) where
     pub proposal-read : (block : Bytes) → blockWellFormed h block ≡ true → s ≡ at t h .leader →
         Written t (proposalFields s h block) (proposal s h block)
     unfolding proposal proposalFields isStatement isCertificate carriesBlock carriesDigest inRange implies
     proposal-read block good leads =
         read-over t 1 s h 0 (zeros 32) block (length-zeros 32)
-        (carrying 1 s h 0 block short refl refl refl refl refl good) low high
+        (carrying 1 s h 0 block refl refl refl refl refl good) low high
         (lt-ltb s (t .n) small) (eq-eqb s (at t h .leader) leads) refl
 
     pub block-vote-read : (digest : Bytes) → length digest ≡ 32 →
@@ -133,7 +131,6 @@ module _ (t : State) (h : ℕ) (low : 1 ≤ h) (high : h ≤ last t) (short : h 
           block-size = length-zeros 176;
           a-kind = refl;
           a-signer = refl;
-          a-height = short;
           a-mask =
               refl;
           a-digest = refl;
@@ -145,13 +142,13 @@ module _ (t : State) (h : ℕ) (low : 1 ≤ h) (high : h ≤ last t) (short : h 
     pub dummy-vote-read : Written t (dummyVoteFields s h) (dummyVote s h)
     unfolding dummyVote dummyVoteFields isStatement isCertificate carriesBlock carriesDigest inRange implies
     dummy-vote-read =
-        read-over t 3 s h 0 (zeros 32) (zeros 176) (length-zeros 32) (bare 3 s h 0 short refl refl refl refl refl) low
+        read-over t 3 s h 0 (zeros 32) (zeros 176) (length-zeros 32) (bare 3 s h 0 refl refl refl refl refl) low
         high (lt-ltb s (t .n) small) refl refl
 
     pub finalize-read : Written t (finalizeFields s h) (finalize s h)
     unfolding finalize finalizeFields isStatement isCertificate carriesBlock carriesDigest inRange implies
     finalize-read =
-        read-over t 4 s h 0 (zeros 32) (zeros 176) (length-zeros 32) (bare 4 s h 0 short refl refl refl refl refl) low
+        read-over t 4 s h 0 (zeros 32) (zeros 176) (length-zeros 32) (bare 4 s h 0 refl refl refl refl refl) low
         high (lt-ltb s (t .n) small) refl refl
 
   module _ (mask : ℕ) (small : belowBit (t .n) mask ≡ true) (enough : quorum (view t) mask ≡ true) where
@@ -161,20 +158,20 @@ module _ (t : State) (h : ℕ) (low : 1 ≤ h) (high : h ≤ last t) (short : h 
         implies
     block-certificate-read block good =
         read-over t 5 0 h mask (zeros 32) block (length-zeros 32)
-        (carrying 5 0 h mask block short refl refl refl refl refl good) low high small refl enough
+        (carrying 5 0 h mask block refl refl refl refl refl good) low high small refl enough
 
     pub dummy-certificate-read : Written t (dummyCertificateFields h mask) (dummyCertificate h mask)
     unfolding dummyCertificate dummyCertificateFields isStatement isCertificate carriesBlock carriesDigest inRange
         implies
     dummy-certificate-read =
-        read-over t 6 0 h mask (zeros 32) (zeros 176) (length-zeros 32) (bare 6 0 h mask short refl refl refl refl refl)
+        read-over t 6 0 h mask (zeros 32) (zeros 176) (length-zeros 32) (bare 6 0 h mask refl refl refl refl refl)
         low high small refl enough
 
     pub finalize-certificate-read : Written t (finalizeCertificateFields h mask) (finalizeCertificate h mask)
     unfolding finalizeCertificate finalizeCertificateFields isStatement isCertificate carriesBlock carriesDigest inRange
         implies
     finalize-certificate-read =
-        read-over t 7 0 h mask (zeros 32) (zeros 176) (length-zeros 32) (bare 7 0 h mask short refl refl refl refl refl)
+        read-over t 7 0 h mask (zeros 32) (zeros 176) (length-zeros 32) (bare 7 0 h mask refl refl refl refl refl)
         low high small refl enough
 
 -- ---- 224 zero bytes

@@ -21,7 +21,6 @@ use Rattle.protocol.specs.Move.{dummyVoteApplies, dummyVoteStep, outputStep, pa
 use Rattle.protocol.specs.Move.{proposeStep, blockVoteApplies, blockVoteStep, idleStep, passesAt}
 use Rattle.protocol.specs.Certificates.{certificateFrame}
 use Rattle.protocol.specs.Linked.{Linked, start, link}
-use Rattle.protocol.specs.Laws.SoundLaws.{last-high}
 use Rattle.protocol.specs.Laws.LinkedLaws.{linked-sound}
 use Rattle.protocol.specs.Laws.ParentLaws.{parent-some}
 use Rattle.protocol.specs.Laws.TestsLaws.{and-both}
@@ -64,14 +63,11 @@ module _ (digest : Bytes → Bytes) (s : State) (is : SoundState digest s) (t : 
     also-high : h ≤ last t
     also-high = rw (same .same-last) high
 
-    short : h < 65536
-    short = let few = last-high is in omega arith
-
     pub block-certificate : isNotarized (at s h) ≡ true →
         Written t (blockCertificateFields h (at s h .certificateMask) (at s h .notarized))
         (blockCertificate h (at s h .certificateMask) (at s h .notarized))
     block-certificate has =
-        block-certificate-read t h low also-high short (at s h .certificateMask)
+        block-certificate-read t h low also-high (at s h .certificateMask)
         (mask-small (at s h .certificateMask) (facts .certificate-below))
         (as-many (at s h .certificateMask) (facts .certified has)) (at s h .notarized) (facts .notarized-formed has)
 
@@ -79,14 +75,14 @@ module _ (digest : Bytes → Bytes) (s : State) (is : SoundState digest s) (t : 
         Written t (dummyCertificateFields h (at s h .dummyMask)) (dummyCertificate h (at s h .dummyMask))
     unfolding isDummy view
     dummy-certificate enough =
-        dummy-certificate-read t h low also-high short (at s h .dummyMask)
+        dummy-certificate-read t h low also-high (at s h .dummyMask)
         (mask-small (at s h .dummyMask) (facts .dummy-below))
         (as-many (at s h .dummyMask) enough)
 
     pub finalize-certificate : quorum (view s) (at s h .finalizeMask) ≡ true →
         Written t (finalizeCertificateFields h (at s h .finalizeMask)) (finalizeCertificate h (at s h .finalizeMask))
     finalize-certificate enough =
-        finalize-certificate-read t h low also-high short (at s h .finalizeMask)
+        finalize-certificate-read t h low also-high (at s h .finalizeMask)
         (mask-small (at s h .finalizeMask) (facts .finalize-below))
         (as-many (at s h .finalizeMask) enough)
 
@@ -103,7 +99,7 @@ module _ (digest : Bytes → Bytes) (s : State) (is : SoundState digest s) (t : 
   dummy-vote e =
       let high : c ≤ last s = runs (dummy-vote-rows s e .running) in
       said-more (dummy-vote-read t c (is .current-low) (also-high c (is .current-low) high)
-      (short c (is .current-low) high) (s .own) own-small) (said-none t)
+      (s .own) own-small) (said-none t)
 
   output-good : Good (outputStep digest s)
   unfolding outputStep moveFields
@@ -132,7 +128,7 @@ module _ (digest : Bytes → Bytes) (s : State) (is : SoundState digest s) (t : 
       go true = unfold moveFields in
           said-more (certificate (linked digest (view s) c) refl (runs (both .0)) (both .1))
           (said-more (finalize-read t c (is .current-low) (also-high c (is .current-low) (runs (both .0)))
-          (short c (is .current-low) (runs (both .0))) (s .own) own-small) (said-none t))
+          (s .own) own-small) (said-none t))
       go false = unfold moveFields in said-more (certificate (linked digest (view s) c) refl (runs (both .0)) (both .1))
           (said-none t)
 
@@ -156,7 +152,7 @@ module _ (digest : Bytes → Bytes) (s : State) (is : SoundState digest s) (t : 
         let rows = propose-rows digest s e in
         let high : c ≤ last s = runs (rows .running) in
         said-more
-        (proposal-read t c (is .current-low) (also-high c (is .current-low) high) (short c (is .current-low) high)
+        (proposal-read t c (is .current-low) (also-high c (is .current-low) high)
         (s .own) own-small
         (proposedBlock digest s (someOr 0 (parentBelow digest s)))
         (proposed-good (parentBelow digest s) refl (rows .has-parent))
@@ -168,7 +164,7 @@ module _ (digest : Bytes → Bytes) (s : State) (is : SoundState digest s) (t : 
     block-vote e =
         let high : c ≤ last s = runs (block-vote-rows digest s e .running) in
         said-more (block-vote-read t c (is .current-low) (also-high c (is .current-low) high)
-        (short c (is .current-low) high) (s .own) own-small (digest (at s c .proposal)) (sized _))
+        (s .own) own-small (digest (at s c .proposal)) (sized _))
         (said-none t)
 
     idle-good : Good (idleStep s)

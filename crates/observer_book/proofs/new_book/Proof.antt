@@ -51,7 +51,8 @@ returns c =
     written .put-word2 .ensures
     ∙ ap (λ (b : Bytes). put b 42 (le16 0)) (counted .put-word .ensures ∙
     ap (λ (b : Bytes). put b 40 (le16 (args .heights))) (copied .copy-to .ensures))
-    ∙ observer-made (args .n) (args .heights) weights (args .book .now) _ (start .pre .0) small (start .pre .1 .1) (start .pre .1 .0 .0)
+    ∙ observer-made (args .n) (args .heights) weights (args .book .now) _ (start .pre .0) small (start .pre .1 .1)
+    (start .pre .1 .0 .0)
     (cleared .clear .ensures)
 
 pub new-book-spec : {M : Type 1} → statement M

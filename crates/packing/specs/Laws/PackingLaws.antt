@@ -1,5 +1,5 @@
--- What the calls answer is small: a move's height is at most 1,000 and a size at most 128,000, so that each has room in its
--- place of the packing.
+-- What the calls answer is small: a move's height is at most 1,000 and a size at most 128,000, so that each has room in
+-- its place of the packing.
 use Prim.Native.Nat.{ℕ, _≤_}
 use native.Mathlib.Omega.{arith}
 use mathlib.Core.Path.{_≡_, refl}

@@ -12,7 +12,8 @@ use Rattle.protocol.specs.SoundState.{ShapedHeight, Shaped}
 use Rattle.protocol.specs.Bytes.{Bytes, byteAt, le16, part, zeros, isZero, join, pieces, AreBytes}
 use Rattle.protocol.specs.State.{State, noHeight, at, last, isNotarized, encode, decode, headBytes, contentBytes}
 use Rattle.protocol.specs.State.{bodyBytes, decodeHeight, decodeHeights, bookHeights, headUnused}
-use Rattle.protocol.specs.Laws.HeadLaws.{weights-weighed, rest-back, heights-back, current-back, finalized-back, head-spelled}
+use Rattle.protocol.specs.Laws.HeadLaws.{weights-weighed, rest-back, heights-back, current-back, finalized-back}
+use Rattle.protocol.specs.Laws.HeadLaws.{head-spelled}
 use Rattle.protocol.specs.Laws.TestsLaws.{le-or-lt}
 use Rattle.protocol.specs.Laws.EveryLaws.{every-from}
 use Rattle.protocol.specs.Laws.BytesLaws.{are-bytes-take, are-bytes-drop, word-low, word-high, length-part}

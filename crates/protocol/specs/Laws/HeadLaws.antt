@@ -8,19 +8,22 @@ use borrow.Author.Tests.{eqb-true}
 use mathlib.Core.List.{List, [], _∷_, _++_, map, append-assoc, append-nil}
 use lib.Dec.{eqb}
 use native.Mathlib.Nat.{add-zero, le-of-suc-le-suc, not-suc-le-zero}
-use lib.ListN.{getD, set, length, take, drop, drop-of-length-le, replicate, length-append, length-map, length-drop, length-replicate}
+use lib.ListN.{getD, set, length, take, drop, drop-of-length-le, replicate, length-append, length-map, length-drop}
+use lib.ListN.{length-replicate}
 use lib.ListN.{replicate-append-replicate, getD-replicate, List·getD-append}
 use lib.Seq.{getD-take, take-append-add, take-at, drop-at, take-all, take-add, drop-drop, take-take, length-take-le}
 use Rattle.protocol.specs.SoundState.{Weighed}
 use Rattle.protocol.specs.Every.{Every, none, one}
-use Rattle.protocol.specs.Bytes.{Bytes, byteAt, word16, le16, part, zeros, all, isZero, join, pieces, put, AreBytes, Sized}
+use Rattle.protocol.specs.Bytes.{Bytes, byteAt, word16, le16, part, zeros, all, isZero, join, pieces, put}
+use Rattle.protocol.specs.Bytes.{AreBytes, Sized}
 use Rattle.protocol.specs.State.{State, headBytes, padded, evenly, words, weightBytes, weightsIn, bookWeights}
 use Rattle.protocol.specs.State.{headUnused, headNumber, shortNumber, numberBytes, bookHeights, bookCurrent}
 use Rattle.protocol.specs.State.{bookFinalized, headPut, withHead}
 use Rattle.protocol.specs.Laws.RowLaws.{zeros-is-zero, is-zero-byte}
 use Rattle.protocol.specs.Laws.TestsLaws.{and-both}
 use Rattle.protocol.specs.Laws.BytesLaws.{length-zeros, zeros-add, zero-part, word16-le16, word-low, word-high}
-use Rattle.protocol.specs.Laws.BytesLaws.{are-bytes-take, are-bytes-drop, length-part, firsts, spell, word-part, part-part}
+use Rattle.protocol.specs.Laws.BytesLaws.{are-bytes-take, are-bytes-drop, length-part, firsts, spell, word-part}
+use Rattle.protocol.specs.Laws.BytesLaws.{part-part}
 use Rattle.protocol.specs.Laws.BytesLaws.{middle-put, put-at}
 use Rattle.protocol.specs.Laws.PiecesLaws.{length-join, pieces-join, length-pieces, get-pieces, join-append}
 
@@ -285,7 +288,8 @@ module _ (s : State) (more : Bytes) where
   front-size : length (firstEight s 0 0 0 F) ≡ 40
   front-size = omega (arith, weight-size (s .edition) (s .weights))
 
-  kind-byte : (current finalized : ℕ) → byteAt (headBytes (withHead s (s .flags) current finalized) ++ more) 7 ≡ s .edition
+  kind-byte : (current finalized : ℕ) →
+      byteAt (headBytes (withHead s (s .flags) current finalized) ++ more) 7 ≡ s .edition
   unfolding headBytes withHead
   kind-byte current finalized = refl
 
@@ -371,7 +375,8 @@ module _ (book : Bytes) (long : 64 ≤ length book) (unused : isZero (headUnused
   finalized-sum = either-place 5 44 (λ e. no-short-byte e 2) (no-later-word 4 (omega arith))
 
 -- ---- a head whose bytes called zero are zero
-module _ (book : Bytes) (long : 64 ≤ length book) (small : AreBytes book) (unused : isZero (headUnused book) ≡ true) where
+module _ (book : Bytes) (long : 64 ≤ length book) (small : AreBytes book)
+    (unused : isZero (headUnused book) ≡ true) where
   abbrev E : ℕ
   E = byteAt book 7
 

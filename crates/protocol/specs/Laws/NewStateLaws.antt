@@ -18,7 +18,8 @@ use Rattle.protocol.specs.Every.{Every, none, one}
 use Rattle.protocol.specs.Bytes.{Bytes, le16, zeros, all, join, put, AreBytes}
 use Rattle.protocol.specs.State.{State, Height, at, last, noHeight, withHeight, encode, headBytes, contentBytes}
 use Rattle.protocol.specs.State.{bodyBytes, padded, evenly, words, maximumWeight, shortNumber}
-use Rattle.protocol.specs.Open.{Opening, unweighed, weighed, long, openedEdition, openedWeights, weightsInRange, newHeight}
+use Rattle.protocol.specs.Open.{Opening, unweighed, weighed, long, openedEdition, openedWeights, weightsInRange}
+use Rattle.protocol.specs.Open.{newHeight}
 use Rattle.protocol.specs.Open.{newState}
 use Rattle.protocol.specs.Laws.CodecLaws.{at-suc}
 use Rattle.protocol.specs.Laws.PlaceLaws.{with-at}

@@ -11,7 +11,8 @@ use Rattle.protocol.specs.SoundState.{Shaped}
 use Rattle.protocol.specs.Every.{Every, none, one}
 use Rattle.protocol.specs.Bytes.{Bytes, byteAt, le16, part, isZero, join, pieces, AreBytes, Sized}
 use Rattle.protocol.specs.State.{at, last, headBytes, bookHeights, bookCurrent, headUnused}
-use Rattle.protocol.specs.Laws.HeadLaws.{weights-weighed, rest-back, heights-back, current-back, finalized-back, head-spelled}
+use Rattle.protocol.specs.Laws.HeadLaws.{weights-weighed, rest-back, heights-back, current-back, finalized-back}
+use Rattle.protocol.specs.Laws.HeadLaws.{head-spelled}
 use Rattle.protocol.specs.Laws.HeadLaws.{head-unused, head-current}
 use Rattle.protocol.specs.Observer.{Observer, ObservedHeight, asReplica, asReplicaHeight, decodeObserver}
 use Rattle.protocol.specs.Observer.{decodeObservedHeight, decodeObservedHeights, encodeObserver}

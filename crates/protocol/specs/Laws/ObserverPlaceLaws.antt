@@ -9,7 +9,8 @@ use lib.ListN.{length, take, drop, set, replicate, length-append, length-map, le
 use lib.Seq.{length-take-le}
 use Rattle.protocol.specs.Every.{Every, none, one}
 use Rattle.protocol.specs.Bytes.{Bytes, le16, zeros, join, put, Sized, AreBytes}
-use Rattle.protocol.specs.State.{State, Height, at, headBytes, headPut, shortNumber, withHead, withHeight, bookHeights}
+use Rattle.protocol.specs.State.{State, Height, at, headBytes, headPut, shortNumber, withHead, withHeight}
+use Rattle.protocol.specs.State.{bookHeights}
 use Rattle.protocol.specs.Deliver.{withNotarized, withMasks}
 use Rattle.protocol.specs.Observer.{Observer, ObservedHeight, asReplica, asReplicaHeight, observed}
 use Rattle.protocol.specs.Observer.{observedHeight, observedContentBytes, observedBodyBytes, encodeObserver}

@@ -16,7 +16,8 @@ use Rattle.protocol.specs.Bytes.{Bytes, byteAt, part, all, isZero, AreBy
 use Rattle.protocol.specs.Tests.{implies, inRange}
 use Rattle.protocol.specs.Block.{blockWellFormed}
 use Rattle.protocol.specs.Mask.{belowBit}
-use Rattle.protocol.specs.State.{State, Height, at, last, bookHeights, bookCurrent, mostHeights, headUnused, holdsProposal, isNotarized}
+use Rattle.protocol.specs.State.{State, Height, at, last, bookHeights, bookCurrent, mostHeights, headUnused}
+use Rattle.protocol.specs.State.{holdsProposal, isNotarized}
 use Rattle.protocol.specs.State.{maximumReplicas}
 use Rattle.protocol.specs.View.{View, quorum, isFinalized}
 use Rattle.protocol.specs.Sound.{view, masksBelow}

@@ -9,7 +9,8 @@ use Rattle.protocol.specs.SoundState.{ShapedHeight, Shaped, Weighed}
 use Rattle.protocol.specs.Every.{Every, none, one}
 use Rattle.protocol.specs.Bytes.{Bytes, word16, le16, zeros, join, pieces, Sized, byteAt}
 use Rattle.protocol.specs.Deliver.{withNotarized, withMasks}
-use Rattle.protocol.specs.State.{headPut, State, Height, headBytes, bookWeights, bookHeights, bookFinalized, noHeight, at, last, withHeight, withHead}
+use Rattle.protocol.specs.State.{headPut, State, Height, headBytes, bookWeights, bookHeights, bookFinalized}
+use Rattle.protocol.specs.State.{noHeight, at, last, withHeight, withHead}
 use Rattle.protocol.specs.Observer.{Observer, ObservedHeight, asReplica, asReplicaHeight, observed}
 use Rattle.protocol.specs.Observer.{observedHeight, observedContentBytes, observedBodyBytes, encodeObserver}
 use Rattle.protocol.specs.Observer.{decodeObserver, decodeObservedHeight, decodeObservedHeights, observerState}

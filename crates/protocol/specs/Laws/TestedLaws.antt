@@ -10,7 +10,8 @@ use borrow.Author.Tests.{eqb-true, leb-true, ltb-true, not-true}
 use Rattle.protocol.specs.Bytes.{Bytes, all, holds}
 use Rattle.protocol.specs.Tests.{firstRefusal}
 use Rattle.protocol.specs.Block.{maximumHeights, entrySize}
-use Rattle.protocol.specs.State.{mostHeights, State, last, decode, flag, pending, bookSize, maximumReplicas, maximumPending}
+use Rattle.protocol.specs.State.{mostHeights, State, last, decode, flag, pending, bookSize, maximumReplicas}
+use Rattle.protocol.specs.State.{maximumPending}
 use Rattle.protocol.specs.Sound.{sound, log}
 use Rattle.protocol.specs.Open.{Opening, openedEdition, weightsInRange, openInRange, openRows}
 use Rattle.protocol.specs.Signal.{signalRows}

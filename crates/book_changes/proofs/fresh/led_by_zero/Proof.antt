@@ -55,7 +55,8 @@ returns c =
     written .put-word2 .ensures
     ∙ ap (λ (b : Bytes). put b 42 (le16 1)) (counted .put-word .ensures ∙
     ap (λ (b : Bytes). put b 40 (le16 (args .heights))) (copied .copy-to .ensures))
-    ∙ head-made (args .n) (args .own) (args .heights) weights (args .book .now) _ (start .pre .0) small (start .pre .1 .1) (start .pre .1 .0 .0)
+    ∙ head-made (args .n) (args .own) (args .heights) weights (args .book .now) _ (start .pre .0) small
+    (start .pre .1 .1) (start .pre .1 .0 .0)
     (cleared .clear .ensures)
 
 pub led-by-zero-spec : {M : Type 1} → statement M

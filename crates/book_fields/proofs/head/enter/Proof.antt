@@ -28,7 +28,11 @@ put-number-requires c κs =
 same-length : tie.Need-same-length
 same-length c =
     let start = c .before .before .before .before .before in
-    ap length (c .before .before .put-number .ensures) ∙ put-length 4 42 (start .args .h) (set (start .args .book .now) 3 0) (simp length-set (omega (arith, start .pre .0 .readable .sized .size))) (omega arith) ∙ length-set (start .args .book .now) 3 0
+    let book = start .args .book .now in
+    ap length (c .before .before .put-number .ensures)
+    ∙ put-length 4 42 (start .args .h) (set book 3 0)
+    (simp length-set (omega (arith, start .pre .0 .readable .sized .size))) (omega arith)
+    ∙ length-set book 3 0
 
 returns : tie.Need-returns
 returns c =

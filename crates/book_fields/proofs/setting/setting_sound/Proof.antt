@@ -13,7 +13,13 @@ returns c =
     let edition = branch .before in
     let n = edition .before in
     let start = n .before .before in
-    rw (c .weights-sound .ensures, fit .heights-fit .ensures, fit .before .number .ensures .0, edition .byte2 .ensures .0, n .byte .ensures .0)
+    rw (
+      c .weights-sound .ensures,
+      fit .heights-fit .ensures,
+      fit .before .number .ensures .0,
+      edition .byte2 .ensures .0,
+      n .byte .ensures .0,
+    )
     (setting-are (start .args .book .now) (omega (arith, n .byte .ensures .0, branch .if1 .taken)))
 
 returns-2 : tie.Need-returns-2
