@@ -60,7 +60,7 @@ unfolding observerTools
 head-places = refl
 
 -- the same where the log ends at height 1, which byte 5 said: no current height, and the finalized one by both bytes
-head-bytes : map (λ place. observesWith (thirdEdition (seasonTo 1)) place (0 ∷ 1 ∷ 255 ∷ []))
+head-bytes : map (λ place. observesWith (thirdEdition (seasonTo 1)) place (0 ∷ 1 ∷ []))
     (2 ∷ 4 ∷ 5 ∷ 41 ∷ 42 ∷ 43 ∷ 45 ∷ 46 ∷ 63 ∷ []) ≡ replicate 9 (0 ∷ [])
 unfolding observerTools
 head-bytes = refl

@@ -91,8 +91,7 @@ unfolding books isSound soundWith
 zero-bytes = refl
 
 -- H, the current and the finalized height by both bytes: 257 is not 1, though the book has one height
-high-bytes : map (λ place. soundWith (settled 1) place (0 ∷ 1 ∷ 2 ∷ 255 ∷ [])) (41 ∷ 43 ∷ 45 ∷ []) ≡
-    replicate 3 (0 ∷ [])
+high-bytes : map (λ place. soundWith (settled 1) place (0 ∷ 1 ∷ [])) (41 ∷ 43 ∷ 45 ∷ []) ≡ replicate 3 (0 ∷ [])
 unfolding books isSound soundWith
 high-bytes = refl
 
