@@ -7,7 +7,8 @@ use package.mathlib.Core.List.{List, [], _∷_, _++_, map}
 use package.lib.ListN.{length, set}
 use package.Rattle.protocol.specs.Open.{Opening, openedEdition, openedWeights}
 use package.Rattle.protocol.specs.Bytes.{Bytes, byteAt, zeros, join, put}
-use package.Rattle.protocol.specs.State.{State, decode, flag, pending, weightBytes, padded, shortNumber, numberBytes, headPut, bookCurrent}
+use package.Rattle.protocol.specs.State.{State, decode, flag, pending, weightBytes, padded, shortNumber, numberBytes, headPut}
+use package.Rattle.protocol.specs.State.{bookCurrent}
 use package.Rattle.protocol.specs.Submit.{stillPending}
 use package.Rattle.call_laws.specs.BookBytes.{Signals, entriesAfter, Submits}
 use package.mathlib.Core.Path.{_≡_ as _is-kept_, refl as by-text}
