@@ -1,6 +1,6 @@
 -- What the readers of any kind of book need of it: the fact of one arm carried over to that kind, and the head, which
 -- all kinds have alike.
-use Prim.Native.Nat.{ℕ, _+_, _-_, _*_, _≤_, _<_}
+use Prim.Native.Nat.{_≤_}
 use native.Mathlib.Omega.{arith}
 use mathlib.Core.Path.{_≡_, refl, sym, ap, subst}
 use mathlib.Core.Bool.{Bool, true, false, cond}
@@ -39,11 +39,3 @@ byte-number false = refl
 pub byte-at-most : (t : Bool) → boolByte t ≤ 1
 byte-at-most true = omega arith
 byte-at-most false = omega arith
-
--- one of two numbers, by a test as a number
-pub either : (t : Bool) (word byte : ℕ) → word < 65536 → byte < 256 →
-    (boolByte t ≤ 1) × (boolByte t * word < 65536) × ((1 - boolByte t) * byte < 256) ×
-    (boolByte t * word + (1 - boolByte t) * byte ≡ cond t word byte) ×
-    (boolByte t * word + (1 - boolByte t) * byte < 65536)
-either true word byte w b = (omega arith, omega arith, omega arith, omega arith, omega arith)
-either false word byte w b = (omega arith, omega arith, omega arith, omega arith, omega arith)

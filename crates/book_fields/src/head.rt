@@ -12,17 +12,21 @@ ghost use Rattle.protocol.specs.Move.{isRunning};
 ghost use Rattle.protocol.specs.Block.{maximumHeights};
 ghost use Rattle.book_fields.specs.Book.{Readable, Ready, recoded};
 
-// A number of any head: in a byte, and in edition 3 in two bytes elsewhere. Costs four reads and no branch.
+// A number of any head: in a byte, and in edition 3 in two bytes elsewhere. Costs two or three reads.
 pub fn number(book: &[u8], short: usize, long: usize) -> usize
     requires { ⌜ 64 ≤ length (now book) ⌝ }
     requires { ⌜ (short < 64) × (long + 1 < 64) ⌝ }
     ensures { λ r. ⌜ (r ≡ headNumber short long (now (book .entry))) × (r < 65536) ⌝ }
 {
-    let third = (wire::bytes::byte(book, 7) == 3) as usize;
-    third * wire::bytes::word(book, long) + (1 - third) * wire::bytes::byte(book, short)
+    if wire::bytes::byte(book, 7) == 3 {
+        wire::bytes::word(book, long)
+    } else {
+        wire::bytes::byte(book, short)
+    }
 }
 
-// The same where the head is known to be good: of the byte and the two bytes one place is zero. Costs three reads.
+// The same where the head is known to be good: of the byte and the two bytes one place is zero. Costs three reads and no
+// branch, since the tally finds votes by H.
 pub fn good_number(book: &[u8], short: usize, long: usize) -> usize
     requires { ⌜ 64 ≤ length (now book) ⌝ }
     requires { ⌜ (short < 64) × (long + 1 < 64) ⌝ }

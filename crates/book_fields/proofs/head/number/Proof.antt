@@ -1,41 +1,31 @@
 -- `number` meets its contract: two bytes in edition 3, one in the others.
 use native.Mathlib.Omega.{arith}
-use mathlib.Core.Path.{_∙_}
+use mathlib.Core.Path.{_≡_, sym, _∙_}
 use borrow.Author.Needs.{needs}
-use lib.Dec.{eqb}
-use Rattle.protocol.specs.State.{headNumber}
-use Rattle.book_fields.proofs.Showing.{either, byte-at-most}
+use Rattle.book_fields.specs.Laws.HeadLaws.{long-number, short-number}
 use Rattle.book_fields.proofs.head.number.Statement.{statement}
 use Rattle.book_fields.proofs.head.number.Tie as tie
 
-mul-result : tie.Need-mul-result
-mul-result c =
-    let all = either (eqb (c .before .byte .result) 3) (c .word .result) 0 (c .word .ensures .1) (omega arith) in
-    omega (arith, all .1)
-
-sub-result : tie.Need-sub-result
-sub-result c = byte-at-most (eqb (c .before .byte .result) 3)
-
-mul-result-2 : tie.Need-mul-result-2
-mul-result-2 c =
-    let all = either (eqb (c .before .before .byte .result) 3) (c .before .word .result) (c .byte2 .result)
-    (c .before .word .ensures .1) (c .byte2 .ensures .1) in
-    omega (arith, all .2)
-
-add-result : tie.Need-add-result
-add-result c =
-    let all = either (eqb (c .before .before .byte .result) 3) (c .before .word .result) (c .byte2 .result)
-    (c .before .word .ensures .1) (c .byte2 .ensures .1) in
-    omega (arith, all .4)
-
 returns : tie.Need-returns
-unfolding headNumber
 returns c =
-    let all = either (eqb (c .before .before .byte .result) 3) (c .before .word .result) (c .byte2 .result)
-    (c .before .word .ensures .1) (c .byte2 .ensures .1) in
-    (all .3 ∙ rw (c .before .before .byte .ensures .0, c .before .word .ensures .0, c .byte2 .ensures .0), all .4)
+    let branch = c .before in
+    let edition = branch .before in
+    let args = edition .before .before .args in (
+      c .word .ensures .0 ∙ long-number (args .short) (args .long) (args .book .now)
+          (sym (edition .byte .ensures .0) ∙ branch .if1 .taken),
+      c .word .ensures .1,
+    )
+
+returns-2 : tie.Need-returns-2
+returns-2 c =
+    let branch = c .before in
+    let edition = branch .before in
+    let args = edition .before .before .args in (
+      c .byte2 .ensures .0 ∙ short-number (args .short) (args .long) (args .book .now)
+          (λ e. branch .if1 .left (edition .byte .ensures .0 ∙ e)),
+      omega (arith, c .byte2 .ensures .1),
+    )
 
 pub number-spec : {M : Type 1} → statement M
 number-spec =
-    tie.close (tie.spec (λ c κs. search needs) (λ c. search needs) (λ c κs. search needs) mul-result sub-result
-    (λ c κs. search needs) mul-result-2 add-result returns)
+    tie.close (tie.spec (λ c κs. search needs) (λ c κs. search needs) (λ c κs. search needs) returns returns-2)
