@@ -1,17 +1,18 @@
 -- The tests that the code of an observer's soundness makes are the rows of the definition, group by group.
-use Prim.Native.Nat.{ℕ, _+_, _-_, _*_, _^_, _<_}
+use Prim.Native.Nat.{ℕ, _+_, _-_, _*_, _^_, _≤_, _<_}
 use native.Mathlib.Omega.{arith}
-use mathlib.Core.Path.{_≡_, subst}
-use mathlib.Core.Bool.{Bool, true, false, _&&_, _||_, and-true, and-assoc}
+use mathlib.Core.Path.{_≡_, sym, subst}
+use mathlib.Core.Bool.{Bool, true, false, _&&_, _||_, and-true, and-false, and-assoc}
 use lib.ListN.{length}
 use lib.Pow.{pow-pos}
 use lib.Dec.{eqb, leb}
 use borrow.Author.Tests.{ne-eqb, lt-ltb}
-use Rattle.protocol.specs.Bytes.{Bytes, byteAt, part, all, isZero}
+use Rattle.protocol.specs.Bytes.{Bytes, byteAt, word16, part, all, isZero}
 use Rattle.protocol.specs.Tests.{allOf, inRange, everyHeight}
 use Rattle.protocol.specs.Block.{blockWellFormed}
 use Rattle.protocol.specs.Mask.{belowBit}
-use Rattle.protocol.specs.State.{Height, at, isNotarized, bookHeights, bookCurrent}
+use Rattle.protocol.specs.State.{Height, at, isNotarized, bookHeights, bookCurrent, headUnused}
+use Rattle.protocol.specs.Laws.HeadLaws.{heights-sum, current-sum}
 use Rattle.protocol.specs.View.{quorum}
 use Rattle.protocol.specs.Sound.{view, masksBelow}
 use Rattle.protocol.specs.Observer.{asReplica, asReplicaHeight, decodeObserver, observerState, observerBookSize}
@@ -21,6 +22,7 @@ use Rattle.protocol.specs.Laws.PlaceLaws.{suc-pred}
 use Rattle.protocol.specs.Laws.ObserverCodecLaws.{at-observed}
 use Rattle.book_fields.specs.Book.{Within, observedIn}
 use Rattle.book_fields.specs.Setting.{settingRows}
+use Rattle.book_fields.specs.Laws.SettingRowsLaws.{setting-passes}
 use Rattle.observer_soundness.specs.ObserverRows.{headRows, heightRows, blockRow, certificateRow}
 use Rattle.observer_soundness.specs.ObserverRows.{bookRows, finalRow}
 use Rattle.observer_soundness.specs.Laws.ObserverRowsLaws.{observer-sound-is}
@@ -37,6 +39,21 @@ module _ (book : Bytes) where
       (allOf (settingRows book) && isZero (replicaHead book))) ≡ allOf (headRows book)
   unfolding headRows observerBookSize allOf
   head-are = simp and-true
+
+  -- the same where the head is good: of both places of a number one is zero
+  pub replica-summed : 64 ≤ length book → isZero (headUnused book) ≡ true →
+      (eqb (byteAt book 1) 0 &&
+      (eqb (byteAt book 3) 0 && (eqb (byteAt book 4 + word16 book 42) 0 && eqb (byteAt book 6) 0))) ≡
+      isZero (replicaHead book)
+  replica-summed long unused = rw (current-sum book long unused) replica-are
+
+  pub head-set : 64 ≤ length book → allOf (settingRows book) ≡ true →
+      (eqb (length book) (64 + 184 * (byteAt book 2 + word16 book 40)) && isZero (replicaHead book)) ≡
+      allOf (headRows book)
+  head-set long e = rw (heights-sum book long (setting-passes book e .unused)) (rw e at head-are)
+
+  pub head-unset : allOf (settingRows book) ≡ false → allOf (headRows book) ≡ false
+  head-unset e = sym (rw (e, and-false) at head-are)
 
   pub head-short : length book < 64 → allOf (headRows book) ≡ false
   unfolding headRows observerBookSize allOf

@@ -1,5 +1,5 @@
 // Soundness of an observer's book: one pass over its bytes, and one digest for each block of the finalized chain.
-use book_fields::head::number;
+use book_fields::head::good_number;
 use book_fields::kind::Kind;
 use book_fields::observed::content_at;
 use book_fields::observed::is_notarized;
@@ -13,7 +13,7 @@ ghost use lib.ListN.{length};
 ghost use Rattle.sha256.specs.Digest.{sha256 as sha};
 ghost use Rattle.protocol.specs.Bytes.{isZero, AreBytes};
 ghost use Rattle.protocol.specs.Tests.{allOf, everyHeight};
-ghost use Rattle.protocol.specs.State.{bookHeights};
+ghost use Rattle.protocol.specs.State.{bookHeights, headUnused};
 ghost use Rattle.protocol.specs.Sound.{masksBelow};
 ghost use Rattle.protocol.specs.Observer.{observerState};
 ghost use Rattle.protocol.specs.ObserverSound.{observerSound, replicaHead};
@@ -23,14 +23,16 @@ ghost use Rattle.memory.specs.Memo.{MemoAs};
 ghost use Rattle.observer_soundness.specs.ObserverRows.{headRows, blockRow, certificateRow};
 ghost use Rattle.observer_soundness.specs.ObserverRows.{heightRows, bookRows, finalRow};
 
-// Whether the numbers that only a replica has are zero: own number, flags, current height and pending count.
+// Whether the numbers that only a replica has are zero, in a head whose unused bytes are zero: own number, flags,
+// current height and pending count.
 fn replica_zero(book: &[u8]) -> bool
     requires { ⌜ 64 ≤ length (now book) ⌝ }
+    requires { ⌜ isZero (headUnused (now book)) ≡ true ⌝ }
     ensures { λ r. ⌜ r ≡ isZero (replicaHead (now (book .entry))) ⌝ }
 {
     let own = byte(book, 1);
     let flags = byte(book, 3);
-    let current = number(book, 4, 42);
+    let current = good_number(book, 4, 42);
     let pending = byte(book, 6);
     (own == 0) & ((flags == 0) & ((current == 0) & (pending == 0)))
 }
@@ -40,10 +42,13 @@ fn head_sound(book: &[u8]) -> bool
     ensures { λ r. ⌜ r ≡ allOf (headRows (now (book .entry))) ⌝ }
 {
     if 64 <= book.len() {
-        let size = book.len() == 64 + 184 * number(book, 2, 40);
-        let setting = book_fields::setting::setting_sound(book);
-        let replica = replica_zero(book);
-        size & (setting & replica)
+        if book_fields::setting::setting_sound(book) {
+            let size = book.len() == 64 + 184 * good_number(book, 2, 40);
+            let replica = replica_zero(book);
+            size & replica
+        } else {
+            false
+        }
     } else {
         false
     }

@@ -1,20 +1,23 @@
 -- The tests that the code of soundness makes are the rows of the definition, group by group.
-use Prim.Native.Nat.{ℕ, _+_, _-_, _*_, _<_}
+use Prim.Native.Nat.{ℕ, _+_, _-_, _*_, _≤_, _<_}
 use native.Mathlib.Omega.{arith}
-use mathlib.Core.Path.{_≡_}
-use mathlib.Core.Bool.{Bool, true, false, _&&_, and-true}
+use mathlib.Core.Path.{_≡_, sym}
+use mathlib.Core.Bool.{Bool, true, false, _&&_, and-true, and-false}
 use lib.ListN.{length, take, drop}
 use lib.Dec.{eqb, leb, ltb}
 use borrow.Author.Tests.{ne-eqb}
-use Rattle.protocol.specs.Bytes.{Bytes, byteAt, part, isZero}
+use Rattle.protocol.specs.Bytes.{Bytes, byteAt, word16, part, isZero}
 use Rattle.protocol.specs.Tests.{allOf, implies, inRange, everyHeight}
 use Rattle.protocol.specs.Block.{blockWellFormed}
 use Rattle.protocol.specs.Mask.{belowBit}
 use Rattle.protocol.specs.State.{Height, at, decode, bookSize, holdsProposal, isNotarized, bookHeights, bookCurrent}
+use Rattle.protocol.specs.State.{headUnused}
+use Rattle.protocol.specs.Laws.HeadLaws.{heights-sum, current-sum}
 use Rattle.protocol.specs.View.{quorum}
 use Rattle.protocol.specs.Sound.{view, masksBelow, blocksWellFormed, contentZeros, sound}
 use Rattle.protocol.specs.Laws.RowLaws.{heads-pass, heads-fail, last-decides, rows-decide}
 use Rattle.book_fields.specs.Setting.{settingRows}
+use Rattle.book_fields.specs.Laws.SettingRowsLaws.{setting-passes}
 use Rattle.soundness.specs.SoundRows.{numberRows, headRows, heightRows, bookRows, finalRow}
 use Rattle.soundness.specs.Laws.SoundRowsLaws.{sound-is}
 
@@ -31,6 +34,22 @@ module _ (book : Bytes) where
       (allOf (settingRows book) && allOf (numberRows book))) ≡ allOf (headRows book)
   unfolding headRows bookSize allOf
   head-are = simp and-true
+
+  -- the same where the head is good: of both places of a number one is zero
+  pub numbers-summed : 64 ≤ length book → isZero (headUnused book) ≡ true →
+      (ltb (byteAt book 1) (byteAt book 0) &&
+      ((leb 1 (byteAt book 4 + word16 book 42) &&
+      leb (byteAt book 4 + word16 book 42) (byteAt book 2 + word16 book 40 + 1)) &&
+      (ltb (byteAt book 3) 16 && leb (byteAt book 6) 32))) ≡ allOf (numberRows book)
+  numbers-summed long unused = rw (current-sum book long unused, heights-sum book long unused) numbers-are
+
+  pub head-set : 64 ≤ length book → allOf (settingRows book) ≡ true →
+      (eqb (length book) (576 + 880 * (byteAt book 2 + word16 book 40)) && allOf (numberRows book)) ≡
+      allOf (headRows book)
+  head-set long e = rw (heights-sum book long (setting-passes book e .unused)) (rw e at head-are)
+
+  pub head-unset : allOf (settingRows book) ≡ false → allOf (headRows book) ≡ false
+  head-unset e = sym (rw (e, and-false) at head-are)
 
   pub head-short : length book < 576 → allOf (headRows book) ≡ false
   unfolding headRows bookSize allOf

@@ -1,6 +1,6 @@
 // Soundness of a book: one pass over its bytes, and one digest for each block of the finalized chain.
 use book_fields::bounds::MAXIMUM_PENDING;
-use book_fields::head::number;
+use book_fields::head::good_number;
 use book_fields::height::holds_proposal;
 use book_fields::height::is_notarized;
 use book_fields::height::notarized;
@@ -17,23 +17,24 @@ ghost use Rattle.sha256.specs.Digest.{sha256 as sha};
 ghost use Rattle.protocol.specs.Bytes.{isZero, AreBytes};
 ghost use Rattle.protocol.specs.Tests.{allOf, implies, everyHeight};
 ghost use Rattle.protocol.specs.Block.{blockWellFormed};
-ghost use Rattle.protocol.specs.State.{decode, at, bookHeights};
+ghost use Rattle.protocol.specs.State.{decode, at, bookHeights, headUnused};
 ghost use Rattle.protocol.specs.View.{quorum};
 ghost use Rattle.protocol.specs.Sound.{masksBelow, contentZeros, sound as isSound};
 ghost use Rattle.book_fields.specs.Book.{Within, Readable, heightIn};
 ghost use Rattle.memory.specs.Memo.{Memo};
 ghost use Rattle.soundness.specs.SoundRows.{numberRows, headRows, certificateRow, heightRows, bookRows, finalRow};
 
-// Whether the numbers that only a replica has are in their ranges.
+// Whether the numbers that only a replica has are in their ranges, in a head whose unused bytes are zero.
 fn numbers_sound(book: &[u8]) -> bool
     requires { ⌜ 576 ≤ length (now book) ⌝ }
+    requires { ⌜ isZero (headUnused (now book)) ≡ true ⌝ }
     ensures { λ r. ⌜ r ≡ allOf (numberRows (now (book .entry))) ⌝ }
 {
     let n = byte(book, 0);
     let own = byte(book, 1);
-    let heights = number(book, 2, 40);
+    let heights = good_number(book, 2, 40);
     let flags = byte(book, 3);
-    let current = number(book, 4, 42);
+    let current = good_number(book, 4, 42);
     let pending = byte(book, 6);
     let place = (1 <= current) & (current <= heights + 1);
     (own < n) & (place & ((flags < 16) & (pending <= MAXIMUM_PENDING)))
@@ -44,10 +45,13 @@ fn head_sound(book: &[u8]) -> bool
     ensures { λ r. ⌜ r ≡ allOf (headRows (now (book .entry))) ⌝ }
 {
     if 576 <= book.len() {
-        let size = book.len() == 576 + 880 * number(book, 2, 40);
-        let setting = book_fields::setting::setting_sound(book);
-        let numbers = numbers_sound(book);
-        size & (setting & numbers)
+        if book_fields::setting::setting_sound(book) {
+            let size = book.len() == 576 + 880 * good_number(book, 2, 40);
+            let numbers = numbers_sound(book);
+            size & numbers
+        } else {
+            false
+        }
     } else {
         false
     }

@@ -1,5 +1,6 @@
 -- `numbers_sound` meets its contract: its tests are the rows of the head's numbers.
-use Rattle.soundness.proofs.SoundTests.{numbers-are}
+use Rattle.soundness.proofs.SoundTests.{numbers-summed}
+use native.Mathlib.Omega.{arith}
 use borrow.Author.Needs.{needs}
 use Rattle.soundness.proofs.numbers_sound.Statement.{statement}
 use Rattle.soundness.proofs.numbers_sound.Tie as tie
@@ -14,13 +15,13 @@ returns c =
     let start = n .before .before in
     rw (
       c .byte4 .ensures .0,
-      current .number2 .ensures .0,
+      current .good-number2 .ensures .0,
       flags .byte3 .ensures .0,
-      heights .number .ensures .0,
+      heights .good-number .ensures .0,
       own .byte2 .ensures .0,
       n .byte .ensures .0,
     )
-    (numbers-are (start .args .book .now))
+    (numbers-summed (start .args .book .now) (omega (arith, start .pre .0)) (start .pre .1))
 
 pub numbers-sound-spec : {M : Type 1} → statement M
 numbers-sound-spec =
