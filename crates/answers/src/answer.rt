@@ -1,14 +1,14 @@
 // What the calls answer: a refusal by document 01's number, or what the call did.
 
 // Open, Signal, Submit and Fetch.
-#[derive(Drop)]
+#[derive(Clone, Copy)]
 pub enum Answer {
     Done,
     Refused(usize),
 }
 
 // Deliver: whether the book changed.
-#[derive(Drop)]
+#[derive(Clone, Copy)]
 pub enum Delivered {
     Fresh,
     Known,
@@ -16,14 +16,14 @@ pub enum Delivered {
 }
 
 // Deliver of a packet: how many frames were fresh, known and refused, in that order.
-#[derive(Drop)]
+#[derive(Clone, Copy)]
 pub enum Counted {
     Frames(usize, usize, usize),
     Refused(usize),
 }
 
 // The certificate that a pass goes by.
-#[derive(Drop)]
+#[derive(Clone, Copy)]
 pub enum Certificate {
     Page,
     Blank,
@@ -31,7 +31,7 @@ pub enum Certificate {
 
 // Move, with the height (of `Final`: the new settled height). A pass also says its certificate and whether it
 // finalised.
-#[derive(Drop)]
+#[derive(Clone, Copy)]
 pub enum Moved {
     Idle,
     Dummy(usize),
@@ -43,7 +43,7 @@ pub enum Moved {
 }
 
 // Register size, in bytes.
-#[derive(Drop)]
+#[derive(Clone, Copy)]
 pub enum Size {
     Bytes(usize),
     Refused(usize),

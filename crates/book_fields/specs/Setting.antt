@@ -1,5 +1,5 @@
 -- The rows of soundness that the heads of all kinds of books share.
-use Rattle.std.specs.Prelude.{ℕ, Bool, cond, List, [], ◌∷◌, eqb, leb}
+use Rattle.std.specs.Prelude.{ℕ, Bool, cond, List, [], ◌∷◌, eqb}
 use Rattle.protocol.specs.Bytes.{Bytes, byte_at, part, is_zero}
 use Rattle.protocol.specs.Tests.{all_of, in_range}
 use Rattle.protocol.specs.State.{weights_in, book_heights, most_heights, maximum_replicas}

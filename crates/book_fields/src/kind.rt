@@ -7,7 +7,7 @@ ghost use Rattle.protocol.specs.Block.{maximum_heights};
 ghost use Rattle.protocol.specs.State.{book_heights, maximum_replicas};
 ghost use Rattle.book_fields.specs.Book.{Within, Shown, view_of};
 
-#[derive(Drop)]
+#[derive(Clone, Copy)]
 pub enum Kind {
     Replica,
     Observer,

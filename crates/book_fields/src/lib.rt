@@ -1,4 +1,6 @@
 // The fields of a book: reading them where they lie, and writing those of the head.
+#![tactic(auto)]
+
 pub mod bounds;
 pub mod head;
 pub mod height;

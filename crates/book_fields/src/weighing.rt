@@ -9,7 +9,7 @@ ghost use Rattle.book_fields.specs.Book.{Shown, view_of};
 use crate::kind::Kind;
 
 // The weight of all replicas, and of those that a mask holds.
-#[derive(Drop)]
+#[derive(Clone, Copy)]
 pub struct Weighing {
     pub all: usize,
     pub held: usize,

@@ -1,4 +1,6 @@
 // How two byte strings differ, worked out and not decided: no byte says which way the code goes.
+#![tactic(auto)]
+
 ghost use Rattle.std.specs.Prelude.{◌≡◌, cond, ◌<◌, ◌≤◌, length};
 ghost use Rattle.protocol.specs.Bytes.{same};
 ghost use Rattle.difference.specs.Difference.{difference as difference_of};

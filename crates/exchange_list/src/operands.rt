@@ -5,7 +5,7 @@ use crate::buffers::{enter, place, size_at};
 use crate::literal::literal;
 use crate::words::{is_number, name, word};
 
-#[derive(Drop)]
+#[derive(Clone, Copy)]
 pub enum Call {
     Give,
     Open,
@@ -113,7 +113,7 @@ fn operand(kind: usize, word: &[u8], table: &[usize; 32], out: &mut [u8]) -> usi
 
 // What the words of a line come to: how many bytes its call is lent besides the book, or the number of the first word
 // that does not fit, counted from 1.
-#[derive(Drop)]
+#[derive(Clone, Copy)]
 pub enum Operands {
     Fit(usize),
     Wrong(usize),

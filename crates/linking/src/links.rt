@@ -11,7 +11,7 @@ ghost use Rattle.linking.specs.Parent.{parent_option};
 use book_fields::kind::Kind;
 
 // The height of a chain's last block, or nothing where there is no chain.
-#[derive(Drop)]
+#[derive(Clone, Copy)]
 pub enum Parent {
     At(usize),
     Nothing,

@@ -7,7 +7,7 @@ ghost use Rattle.packets.specs.Reached.{counts_of};
 use answers::answer::Delivered;
 
 // How many frames were fresh, known and refused.
-#[derive(Drop)]
+#[derive(Clone, Copy)]
 pub struct Progress {
     pub fresh: usize,
     pub known: usize,

@@ -1,4 +1,6 @@
 // The last one or two blocks of the padded message: FIPS 180-4, section 5.1.1.
+#![tactic(auto)]
+
 ghost use Rattle.std.specs.Prelude.{◌≡◌, ◌++◌, ◌*◌, ◌<◌, length, take};
 ghost use Rattle.sha256_padding.specs.Padding.{big_endian, zeros};
 ghost use Rattle.sha256_padding.specs.Ending.{opened};

@@ -1,5 +1,7 @@
 // The rounds of FIPS 180-4, section 6.2.2, step 3: the table of constants, and one round. What each must compute is
 // defined in specs/.
+#![tactic(auto)]
+
 ghost use Rattle.std.specs.Prelude.{◌≡◌};
 ghost use Rattle.sha256_rounds.specs.Constants.{K};
 ghost use Rattle.sha256_rounds.specs.Rounds.{round};

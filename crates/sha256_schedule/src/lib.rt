@@ -1,4 +1,6 @@
 // The message schedule of FIPS 180-4, section 6.2.2, step 1: the words of a block, and the words that follow from them.
+#![tactic(auto)]
+
 ghost use Rattle.std.specs.Prelude.{◌≡◌, ◌+◌, ◌*◌, ◌^◌, ◌<◌, ◌≤◌, length, take};
 ghost use Rattle.sha256_schedule.specs.Schedule.{message_word, message_words, next_word};
 

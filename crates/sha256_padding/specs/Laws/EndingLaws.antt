@@ -7,7 +7,7 @@ use Rattle.std.proofs.Math.ListN.{length, take}
 use Rattle.sha256_functions.specs.Bytes.{Bytes}
 use Rattle.sha256_padding.specs.Laws.PaddingLaws.{zeros_length, zeros_add}
 use Rattle.sha256_padding.specs.Ending.{opened}
-use Rattle.sha256_padding.specs.Padding.{big_endian, zeros, zero_count, padding, block}
+use Rattle.sha256_padding.specs.Padding.{big_endian, zeros, zero_count, padding}
 
 pub opened_length : (rest : Bytes) → length rest < 64 → length (opened rest) ≡ 64
 unfolding opened

@@ -1,0 +1,11 @@
+-- `status` meets its contract: the byte that it reads stands at the place of that field.
+use mathlib.Core.Path.{◌∙◌}
+use Rattle.book_fields.proofs.ObservedPlaces.{observed_status_at}
+use Rattle.book_fields.proofs.observed.status.Goals as goal
+
+pub returns : goal.returns
+returns c = (
+  c.byte.ensures.0 ∙ observed_status_at c.args.book.now c.args.h c.requires.within _
+      c.content_at-from.ensures,
+  c.byte.ensures.1,
+)
