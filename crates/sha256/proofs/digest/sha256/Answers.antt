@@ -1,6 +1,6 @@
 -- digest::sha256 meets its contract: the whole blocks where they lie, then the rest with the padding.
 -- Assumes nothing.
-use Rattle.std.proofs.Common.{◌∙◌, rules}
+use Rattle.std.proofs.Common.{◌∙◌}
 use Rattle.sha256.specs.Laws.DigestLaws.{sha256_parts}
 use Rattle.sha256.proofs.digest.sha256.Goals as goal
 

@@ -1,10 +1,8 @@
 -- digest::to_bytes meets its contract. The invariant: the words passed stand as bytes in front of zeros.
 -- Assumes nothing.
-use Rattle.std.proofs.Common.{◌≡◌, ◌-◌, ◌*◌, ◌≤◌, ◌++◌, length, take, refl, ◌∙◌, arith, rules}
+use Rattle.std.proofs.Common.{◌≡◌, ◌-◌, ◌*◌, ◌≤◌, ◌++◌, take}
 use Rattle.sha256_padding.specs.Padding.{zeros}
 use Rattle.sha256.specs.Digest.{words_bytes}
-use Rattle.sha256.proofs.WordStores.{worded, wrote}
-use borrow.Author.Rules.{rules}
 use Rattle.sha256.proofs.digest.to_bytes.Given as goal
 
 abbrev pub invariant-loop-i : goal.invariant-loop-i
