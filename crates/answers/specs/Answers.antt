@@ -4,17 +4,11 @@ use Rattle.protocol.specs.Answer as protocol
 use Rattle.protocol.specs.Answer.{refused, accepted, Done, done, Delivery, known, fresh, Counts, Move, idle, vote_dummy}
 use Rattle.protocol.specs.Answer.{output, pass, propose, vote_block, on_block, on_dummy}
 use Rattle.answers.specs.declared.answer.Answer.{Answer}
-use Rattle.answers.specs.declared.answer.Answer.TheVariants as Answer
 use Rattle.answers.specs.declared.answer.Delivered.{Delivered}
-use Rattle.answers.specs.declared.answer.Delivered.TheVariants as Delivered
 use Rattle.answers.specs.declared.answer.Counted.{Counted}
-use Rattle.answers.specs.declared.answer.Counted.TheVariants as Counted
 use Rattle.answers.specs.declared.answer.Certificate.{Certificate}
-use Rattle.answers.specs.declared.answer.Certificate.TheVariants as Certificate
 use Rattle.answers.specs.declared.answer.Moved.{Moved}
-use Rattle.answers.specs.declared.answer.Moved.TheVariants as Moved
 use Rattle.answers.specs.declared.answer.Size.{Size}
-use Rattle.answers.specs.declared.answer.Size.TheVariants as Size
 
 unfoldable pub done_answer : Answer → protocol.Answer Done
 done_answer Answer.Done = accepted done

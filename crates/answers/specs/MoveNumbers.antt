@@ -4,7 +4,6 @@ use Rattle.protocol.specs.Answer as protocol
 use Rattle.protocol.specs.Answer.{refused, accepted, certificate_kind, finalize_kind, move_number, move_height}
 use Rattle.protocol.specs.Answer.{Move, idle, vote_dummy, output, pass, propose, vote_block}
 use Rattle.answers.specs.declared.answer.Moved.{Moved}
-use Rattle.answers.specs.declared.answer.Moved.TheVariants as Moved
 use Rattle.answers.specs.Answers.{certificate_of}
 
 -- a refusal's number, or the move's number and height, and for a pass the kinds of its two frames; 0 for all else

@@ -1,2 +1,4 @@
 // What the calls of a replica answer.
+#![tactic(auto)]
+
 pub mod answer;

@@ -2,7 +2,6 @@
 use Rattle.std.specs.Prelude.{◌≡◌, refl}
 use Rattle.protocol.specs.Answer.{move_number, move_height}
 use Rattle.answers.specs.declared.answer.Moved.{Moved}
-use Rattle.answers.specs.declared.answer.Moved.TheVariants as Moved
 use Rattle.answers.specs.Answers.{moved_answer}
 use Rattle.answers.specs.MoveNumbers.{moved_numbers, answer_numbers, move_certificate, move_finalize}
 
