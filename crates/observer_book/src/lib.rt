@@ -1,4 +1,6 @@
 // Changes of an observer's book, in place: each leaves the bytes of the changed state, and touches no byte besides.
+#![tactic(auto)]
+
 ghost use Rattle.std.specs.Prelude.{◌≡◌, ◌+◌, ◌*◌, ◌<◌, ◌≤◌, length};
 ghost use Rattle.protocol.specs.Mask.{mask_limit};
 ghost use Rattle.protocol.specs.Deliver.{with_notarized};

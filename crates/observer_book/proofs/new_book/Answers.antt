@@ -1,0 +1,44 @@
+-- `new_book` meets its contract: the book is cleared, two bytes of its head are set, and weights and H written.
+use native.Mathlib.Omega.{arith}
+use mathlib.Core.Path.{◌∙◌, ap}
+use lib.ListN.{length-set}
+use Rattle.protocol.specs.Bytes.{Bytes, AreBytes, put, le16}
+use Rattle.observer_book.proofs.ObserverWrites.{observer_made}
+use Rattle.observer_book.proofs.new_book.Goals as goal
+
+pub bounds-book-7 : goal.bounds-book-7
+bounds-book-7 c = simp length-set (omega arith)
+
+pub copy_to-requires : goal.copy_to-requires
+copy_to-requires c = simp length-set (omega arith)
+
+pub put_word-requires : goal.put_word-requires
+put_word-requires c = let size = simp length-set at c.copy_to.auto.target in
+    let whole = c.clear.auto.target in
+    record {
+      at_in_bounds = omega arith;
+      value_bound = omega arith;
+    }
+
+pub put_word-requires-2 : goal.put_word-requires-2
+put_word-requires-2 c = let size = c.put_word.auto.bytes ∙ (simp length-set at c.copy_to.auto.target) in
+    let whole = c.clear.auto.target in
+    record {
+      at_in_bounds = omega arith;
+      value_bound = omega arith;
+    }
+
+pub shape_of-book : goal.shape_of-book
+shape_of-book c = c.put_word-2.auto.bytes ∙ c.put_word.auto.bytes ∙ c.copy_to.auto.target
+    ∙ simp length-set c.clear.auto.target
+
+pub returns : goal.returns
+returns c = let args = c.args in
+    let weights = args.weights.now in
+    let small : AreBytes weights = λ i. omega (arith, c.type_inv.weights i) in
+    c.put_word-2.ensures
+    ∙ ap (λ (b : Bytes). put b 42 (le16 0)) (c.put_word.ensures ∙
+    ap (λ (b : Bytes). put b 40 (le16 args.heights)) c.copy_to.ensures)
+    ∙ observer_made args.n args.heights weights args.book.now _ c.requires.book_len small c.requires.weights_len
+    c.requires.n_bound.0
+    c.clear.ensures
