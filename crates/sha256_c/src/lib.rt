@@ -1,4 +1,6 @@
 // SHA-256 for programs in C, on byte slices, each a pointer and a length.
+#![tactic(auto)]
+
 ghost use Rattle.std.specs.Prelude.{◌≡◌, leb, length};
 ghost use Rattle.sha256_c.specs.Written.{written};
 ghost use Rattle.sha256_c.specs.DigestCall.{digest_number};
