@@ -1,6 +1,8 @@
 // The tally of the votes that a height keeps. No byte of a vote decides which way it goes: what differs is gathered
 // into one number, and a 1 or 0 that is worked out from it is added. `tests/branch-free` reads this file, and what it
 // calls.
+#![tactic(auto)]
+
 ghost use Rattle.std.specs.Prelude.{◌≡◌, ◌&&◌, cond, ◌<◌, ◌≤◌};
 ghost use Rattle.protocol.specs.Bytes.{same};
 ghost use Rattle.protocol.specs.Mask.{in_mask, mask_limit};
