@@ -1,4 +1,6 @@
 // Frames, 224 bytes each: their parts, the test of their form, and the writing of each kind.
+#![tactic(auto)]
+
 mod parts;
 mod well_formed;
 mod write;
