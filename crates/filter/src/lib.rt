@@ -1,6 +1,8 @@
 // The filter of a call: a key of 32 bytes, then a bit for each place. An entry has a place, worked out from its bytes
 // and the key, and one bit is set for each entry that was gone through. Where an entry's bit is not set, no equal entry
 // came before, and nobody has to look back.
+#![tactic(auto)]
+
 ghost use Rattle.std.specs.Prelude.{◌≡◌, false, List, [], ◌∷◌, ◌++◌, ◌+◌, ◌<◌, length};
 ghost use Rattle.protocol.specs.Bytes.{Bytes, holds};
 ghost use Rattle.filter.specs.Filter.{word32, place_of, byte_of, Marked};

@@ -4,9 +4,7 @@ use native.Mathlib.Omega.{arith}
 use native.Mathlib.Nat.{mod-lt}
 use mathlib.Core.Path.{◌≡◌, refl}
 use Rattle.filter.specs.Filter.{byte_of}
-use borrow.Author.Rules.{rules}
-use Rattle.filter.proofs.byte_of.Statement.{statement}
-use Rattle.filter.proofs.byte_of.Tie as tie
+use Rattle.filter.proofs.byte_of.Goals as goal
 
 -- of a size that is known
 small : (size place : ℕ) → size ≡ 4128 → (32 + place / 8 % 4096 ≡ byte_of size place) × (32 + place / 8 % 4096 < size)
@@ -20,24 +18,12 @@ unfolding byte_of
 any size place some =
     (refl, let low : place / 8 % (size - 32) < size - 32 = mod-lt (place / 8) (omega arith) in omega arith)
 
-add-result-2 : tie.Need-overflow-add-result-2
-add-result-2 c =
-    let low = (any c.before.args.size c.before.args.place c.before.requires).1 in
+pub overflow_add-result-else-size-eq-SMALL : goal.overflow_add-result-else-size-eq-SMALL
+overflow_add-result-else-size-eq-SMALL c = let low = (any c.args.size c.args.place c.requires).1 in
     omega (arith, low)
 
-returns : tie.Need-returns
-returns c = small c.before.args.size c.before.args.place c.if1.true
+pub returns-then-size-eq-SMALL : goal.returns-then-size-eq-SMALL
+returns-then-size-eq-SMALL c = small c.args.size c.args.place c.if-size-eq-SMALL.true
 
-returns-2 : tie.Need-returns-2
-returns-2 c = any c.before.args.size c.before.args.place c.before.requires
-
-pub byte-of-spec : {M : Type 1} → statement M
-byte-of-spec =
-    tie.close
-    (tie.spec
-    (λ c. search rules)
-    (λ c. search rules)
-    (λ c. search rules)
-    add-result-2
-    returns
-    returns-2)
+pub returns-else-size-eq-SMALL : goal.returns-else-size-eq-SMALL
+returns-else-size-eq-SMALL c = any c.args.size c.args.place c.requires
