@@ -1,5 +1,7 @@
 // An answer as one number, for programs in C. Its lowest byte is the refusal's number, 0 where the call is not refused;
 // specs/Packing says what stands above, and specs/Unpacking what the header's functions read out of it again.
+#![tactic(auto)]
+
 ghost use Rattle.std.specs.Prelude.{◌≡◌, ◌+◌, ◌*◌, ◌<◌, ◌≤◌};
 ghost use Rattle.protocol.specs.Answer.{certificate_kind, finalize_kind};
 ghost use Rattle.protocol.specs.Block.{maximum_heights};

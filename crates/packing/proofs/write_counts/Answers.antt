@@ -5,22 +5,17 @@ use mathlib.Core.List.{List}
 use Rattle.answers.specs.Answers.{counted_answer}
 use Rattle.answers.specs.declared.answer.Counted.{Counted}
 use Rattle.packing.specs.Packing.{counts_after}
-use borrow.Author.Rules.{rules}
-use Rattle.packing.proofs.write_counts.Statement.{statement}
-use Rattle.packing.proofs.write_counts.Tie as tie
+use Rattle.packing.proofs.write_counts.Goals as goal
 
 -- what an answer leaves in the lent numbers is what the case leaves that it is
 by-case : {answer given : Counted} → answer ≡ given → (before : List ℕ) →
     counts_after (counted_answer given) before ≡ counts_after (counted_answer answer) before
 by-case e before = ap (λ (a : Counted). counts_after (counted_answer a) before) (sym e)
 
-returns : tie.Need-returns
+pub returns-in-Frames : goal.returns-in-Frames
 unfolding counts_after counted_answer
-returns c = by-case c.before.before.answer.given.1 _
+returns-in-Frames c = by-case c.in-Frames.is _
 
-returns-2 : tie.Need-returns-2
+pub returns-in_default : goal.returns-in_default
 unfolding counts_after counted_answer
-returns-2 c = by-case c.enum_told.given.1 _
-
-pub write-counts-spec : {M : Type 1} → statement M
-write-counts-spec = tie.close (tie.spec (λ c. search rules) (λ c. search rules) returns returns-2)
+returns-in_default c = by-case c.in_default.is _
