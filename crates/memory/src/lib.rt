@@ -1,6 +1,8 @@
 // What a call remembers of a book while it walks it, so that it looks at each height, counts each mask and computes
 // each digest once. A memory has 36 bytes a height: whether it is linked, whether its digest is known, where its run of
 // dummies starts (two bytes), and the digest.
+#![tactic(auto)]
+
 ghost use Rattle.std.specs.Prelude.{◌≡◌, ◌+◌, ◌*◌, ◌-◌, ◌≤◌, leb};
 ghost use Rattle.sha256.specs.Digest.{sha256 as sha};
 ghost use Rattle.protocol.specs.Bytes.{part};
