@@ -1,4 +1,6 @@
 // The refusals that keep a frame from being read, and what the others are made of too.
+#![tactic(auto)]
+
 mod carried;
 mod first;
 mod read;
