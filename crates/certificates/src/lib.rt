@@ -1,4 +1,6 @@
 // Certificates of a replica's book: whether it has the one of a kind and a height, and writing it as a frame.
+#![tactic(auto)]
+
 ghost use Rattle.std.specs.Prelude.{◌≡◌, ◌≤◌, length};
 ghost use Rattle.protocol.specs.Bytes.{over_front};
 ghost use Rattle.protocol.specs.State.{decode};
