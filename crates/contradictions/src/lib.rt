@@ -1,5 +1,7 @@
 // Frames that contradict what a height keeps: refusals 8 and 10, and the second proposal of a leader, which fires the
 // timer.
+#![tactic(auto)]
+
 mod clash;
 mod equivocation;
 
