@@ -1,4 +1,6 @@
 // The refusals of a frame that an observer is given: 4, 16, 6, 5, 9 and 10, in this order.
+#![tactic(auto)]
+
 ghost use Rattle.std.specs.Prelude.{◌≡◌, length};
 ghost use Rattle.protocol.specs.Tests.{first_refusal};
 ghost use Rattle.protocol.specs.Observer.{observer_state};
