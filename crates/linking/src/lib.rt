@@ -1,4 +1,6 @@
 // Linked and finalized heights: the walk back over parent heights.
+#![tactic(auto)]
+
 pub mod alone;
 pub mod linking;
 pub mod links;
