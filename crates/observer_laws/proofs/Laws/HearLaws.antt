@@ -94,4 +94,5 @@ module _ (digest : Bytes → Bytes) where
       Alike (hear_all s frames) (hear_all t frames)
   unfolding hear_all
   hear_all_alike alike [] are = alike
-  hear_all_alike alike (frame ∷ frames) (one is are) = hear_all_alike (hear_alike alike frame is) frames are
+  hear_all_alike {s = s} {t = t} alike (frame ∷ frames) (one is are) =
+      hear_all_alike {s = hear s frame} {t = hear t frame} (hear_alike alike frame is) frames are
