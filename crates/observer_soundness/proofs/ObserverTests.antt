@@ -5,17 +5,17 @@ use mathlib.Core.Path.{◌≡◌, sym, subst}
 use mathlib.Core.Bool.{Bool, true, false, ◌&&◌, ◌||◌, and-true, and-false, and_assoc}
 use lib.ListN.{length}
 use lib.Pow.{pow_pos}
-use lib.Dec.{eqb, leb}
+use lib.Dec.{eqb}
 use borrow.Author.Tests.{ne_eqb, lt-ltb}
-use Rattle.protocol.specs.Bytes.{Bytes, byte_at, word16, part, all, is_zero}
-use Rattle.protocol.specs.Tests.{all_of, in_range, every_height}
+use Rattle.protocol.specs.Bytes.{Bytes, byte_at, word16, all, is_zero}
+use Rattle.protocol.specs.Tests.{all_of, every_height}
 use Rattle.protocol.specs.Block.{block_well_formed}
 use Rattle.protocol.specs.Mask.{below_bit}
 use Rattle.protocol.specs.State.{Height, at, is_notarized, book_heights, book_current, head_unused}
 use Rattle.protocol.proofs.Laws.HeadLaws.{heights_sum, current_sum}
 use Rattle.protocol.specs.View.{quorum}
 use Rattle.protocol.specs.Sound.{view, masks_below}
-use Rattle.protocol.specs.Observer.{as_replica, as_replica_height, decode_observer, observer_state, observer_book_size}
+use Rattle.protocol.specs.Observer.{as_replica_height, observer_state, observer_book_size}
 use Rattle.protocol.specs.ObserverSound.{observer_sound, replica_head, observed_zero}
 use Rattle.protocol.proofs.Laws.RowLaws.{where_held, where_none, heads_pass, heads_fail, last_decides, rows_decide}
 use Rattle.protocol.proofs.Laws.PlaceLaws.{suc_pred}

@@ -1,4 +1,6 @@
 // Soundness of an observer's book: one pass over its bytes, and one digest for each block of the finalized chain.
+#![tactic(auto)]
+
 ghost use Rattle.std.specs.Prelude.{◌≡◌, true, ◌&&◌, ◌≤◌, length};
 ghost use Rattle.sha256.specs.Digest.{sha256 as sha};
 ghost use Rattle.protocol.specs.Bytes.{is_zero, AreBytes};

@@ -3,7 +3,7 @@ use Rattle.std.specs.Prelude.{ℕ, ◌+◌, ◌*◌, ◌≤◌, ◌≡◌, Bool,
 use Rattle.std.proofs.Common.{le_trans, eqb-true}
 use Rattle.protocol.specs.Every.{none, one}
 use Rattle.protocol.specs.Bytes.{Bytes, is_zero}
-use Rattle.protocol.specs.Tests.{all_of, in_range, every_height}
+use Rattle.protocol.specs.Tests.{all_of, every_height}
 use Rattle.protocol.specs.State.{book_heights, weights_in}
 use Rattle.protocol.specs.Sound.{view, masks_below}
 use Rattle.protocol.specs.Observer.{as_replica, decode_observer, observer_state, observer_book_size}
