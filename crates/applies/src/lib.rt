@@ -1,5 +1,7 @@
 // Which of the moves apply to a book: one test for each, over a memory of linked heights. A test answers what it found,
 // so that the step need not look for it again.
+#![tactic(auto)]
+
 pub mod found;
 
 ghost use Rattle.std.specs.Prelude.{◌≡◌, ◌≤◌};
