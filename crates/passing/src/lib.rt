@@ -1,4 +1,6 @@
 // The step that move 3 takes: a pass to the next height, by the certificate that the move's test has found.
+#![tactic(auto)]
+
 ghost use Rattle.std.specs.Prelude.{◌≡◌, not, ◌≤◌, length};
 ghost use Rattle.sha256.specs.Digest.{sha256 as sha};
 ghost use Rattle.protocol.specs.Bytes.{put};

@@ -4,21 +4,14 @@ use mathlib.Core.Path.{sym, ap}
 use Rattle.protocol.specs.Answer.{certificate_kind}
 use Rattle.answers.specs.declared.answer.Certificate.{Certificate}
 use Rattle.answers.specs.Answers.{certificate_of}
-use borrow.Author.Rules.{rules}
-use Rattle.passing.proofs.kind_of.Statement.{statement}
-use Rattle.passing.proofs.kind_of.Tie as tie
+use Rattle.passing.proofs.kind_of.Goals as goal
 
-returns : tie.Need-returns
+pub returns-in-Page : goal.returns-in-Page
 unfolding certificate_kind certificate_of
-returns c =
-    let by-is = sym c.enum_told.given.1 in
+returns-in-Page c = let by-is = sym c.in-Page.is in
     (ap (λ (by : Certificate). certificate_kind (certificate_of by)) by-is, (omega arith, omega arith))
 
-returns-2 : tie.Need-returns-2
+pub returns-in-Blank : goal.returns-in-Blank
 unfolding certificate_kind certificate_of
-returns-2 c =
-    let by-is = sym c.enum-told2.given.1 in
+returns-in-Blank c = let by-is = sym c.in-Blank.is in
     (ap (λ (by : Certificate). certificate_kind (certificate_of by)) by-is, (omega arith, omega arith))
-
-pub kind-of-spec : {M : Type 1} → statement M
-kind-of-spec = tie.close (tie.spec (λ c. search rules) (λ c. search rules) returns returns-2)
