@@ -4,7 +4,7 @@ use Rattle.std.proofs.Common.{arith, ap, ◌∙◌}
 use Rattle.std.proofs.Math.Option.{Option, some, none}
 use Rattle.std.proofs.lemmas.Bool.{eqb-false}
 use Rattle.protocol.specs.SoundState.{ShapedHeight, Shaped}
-use Rattle.protocol.specs.Bytes.{Bytes, byte_at}
+use Rattle.protocol.specs.Bytes.{Bytes}
 use Rattle.protocol.specs.Mask.{in_mask}
 use Rattle.protocol.specs.State.{State, Height, at, last, decode, encode, with_height, holds_proposal, book_heights}
 use Rattle.protocol.specs.View.{quorum}
