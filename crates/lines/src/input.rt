@@ -5,7 +5,7 @@ use std::io;
 use std::io::Read;
 
 // Reads until `buf` is full or the input ends. Answers how many bytes it put at the front of `buf`. An error of the
-// reader is passed on.
+// reader is passed on; what was read before it is then at the front of `buf`.
 pub fn read_full(input: &mut impl Read, buf: &mut [u8]) -> io::Result<usize>
     ensures { IfOk result (λ n. n ≤ length buf.new) }
 {
