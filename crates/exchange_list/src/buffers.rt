@@ -60,7 +60,7 @@ pub fn buffer<'a>(memory: &'a mut [u8], table: &[usize; 32], word: &[u8]) -> &'a
 pub fn load(word: &[u8], memory: &mut [u8], table: &[usize; 32], out: &mut [u8]) {
     let held = buffer(memory, table, word);
     if held.len() <= out.len() {
-        bytes::copy(held, out);
+        out[..held.len()].copy_from_slice(held);
     }
 }
 
@@ -72,6 +72,6 @@ pub fn keep(word: &[u8], bytes: &[u8], memory: &mut [u8], table: &mut [usize; 32
     }
     let held = buffer(memory, table, word);
     if bytes.len() <= held.len() {
-        bytes::copy(bytes, held);
+        held[..bytes.len()].copy_from_slice(bytes);
     }
 }

@@ -1,6 +1,8 @@
 // Whether a line makes a call, the part of it that says which, and what is printed of one that does not fit.
 use crate::words::find;
 use lines::print::text;
+use std::io;
+use std::io::Write;
 
 // Whether a line makes no call: it is empty, a remark or the heading.
 pub fn is_remark(line: &[u8]) -> bool {
@@ -29,14 +31,17 @@ pub fn call_text(line: &[u8]) -> &[u8] {
 }
 
 // What is printed behind that heading: what has changed since.
-pub fn unweighed() {
-    text(b"\nlists say `mavunilai exchange 2` now: `open` has the weights before the roll, ");
-    text(b"and `observer-open` at its end, two bytes a station");
+pub fn unweighed(out: &mut impl Write) -> io::Result<()> {
+    text(
+        out,
+        b"\nlists say `mavunilai exchange 2` now: `open` has the weights before the roll, ",
+    )?;
+    text(out, b"and `observer-open` at its end, two bytes a station")
 }
 
 // Names a line and the word in it that does not fit.
-pub fn misfit(line: usize, word: usize) {
-    lines::print::word(b"\nline", line);
-    lines::print::word(b", word", word);
-    text(b": it does not fit here");
+pub fn misfit(out: &mut impl Write, line: usize, word: usize) -> io::Result<()> {
+    lines::print::word(out, b"\nline", line)?;
+    lines::print::word(out, b", word", word)?;
+    text(out, b": it does not fit here")
 }

@@ -1,35 +1,29 @@
-// Words, numbers and bytes to standard output.
-use libc::STDOUT_FILENO;
+// Words, numbers and bytes to a writer. Where it fails, its error is passed on, and nothing more is written.
+use std::io;
+use std::io::Write;
 
-fn wide(x: usize) -> u64 {
-    x as u64
-}
-
-fn byte(x: u8) -> u64 {
-    x as u64
-}
-
-pub fn text(words: &[u8]) {
-    io::write_all(STDOUT_FILENO, words);
+pub fn text(out: &mut impl Write, words: &[u8]) -> io::Result<()> {
+    out.write_all(words)
 }
 
 // A number in decimal digits.
-pub fn number(n: usize) {
-    io::print_decimal(STDOUT_FILENO, wide(n));
+pub fn number(out: &mut impl Write, n: usize) -> io::Result<()> {
+    write!(out, "{n}")
 }
 
 // A word, a space and a number.
-pub fn word(name: &[u8], n: usize) {
-    text(name);
-    text(b" ");
-    number(n);
+pub fn word(out: &mut impl Write, name: &[u8], n: usize) -> io::Result<()> {
+    text(out, name)?;
+    text(out, b" ")?;
+    number(out, n)
 }
 
 // Bytes, two hexadecimal digits each.
-pub fn hex(bytes: &[u8]) {
+pub fn hex(out: &mut impl Write, bytes: &[u8]) -> io::Result<()> {
     let mut i = 0;
     while i < bytes.len() {
-        io::print_hex(STDOUT_FILENO, byte(bytes[i]), 2);
+        write!(out, "{:02x}", bytes[i])?;
         i += 1;
     }
+    Ok(())
 }

@@ -1,7 +1,11 @@
 // Read, and the buffer around the part that it returns: the program lends the middle of an array of dots, prints the
 // part, and, once it is done with the part, looks at the whole array. It reads a register that fits, one that is too
 // long for what is lent, and a book that is not sound.
+#![tactic(auto)]
+
 use lines::print::{text, word};
+use std::io;
+use std::io::Write;
 
 // The book after one more move of its replica, which is delivered what it wrote: zero bytes are refused.
 fn moved(before: [u8; 1456]) -> [u8; 1456] {
@@ -29,30 +33,31 @@ fn unsound() -> [u8; 1456] {
     book
 }
 
-fn line(array: &[u8; 28]) {
-    text(b", array \"");
-    text(array);
-    text(b"\"\n");
+fn line(out: &mut impl Write, array: &[u8; 28]) -> io::Result<()> {
+    text(out, b", array \"")?;
+    text(out, array)?;
+    text(out, b"\"\n")
 }
 
 // Reads into `size` bytes from byte 4 of an array of 28 dots; prints the part's length, the part, and then the array.
-fn reading(what: &[u8], book: [u8; 1456], size: usize) {
+fn reading(out: &mut impl Write, what: &[u8], book: [u8; 1456], size: usize) -> io::Result<()> {
     let mut array = [b'.'; 28];
-    text(what);
+    text(out, what)?;
     if size <= 24 {
         let end = 4 + size;
         let part = replica::read::read(&book, &mut array[4..end]);
-        word(b": part of", part.len());
-        text(b" \"");
-        text(part);
-        text(b"\"");
+        word(out, b": part of", part.len())?;
+        text(out, b" \"")?;
+        text(out, part)?;
+        text(out, b"\"")?;
     }
-    line(&array);
+    line(out, &array)
 }
 
-fn main() {
-    reading(b"24 bytes", settled(), 24);
-    reading(b"16 bytes", settled(), 16);
-    reading(b"15 bytes", settled(), 15);
-    reading(b"not sound", unsound(), 24);
+fn main(rt: HostRuntime) -> io::Result<()> {
+    let mut out = rt.stdout();
+    reading(&mut out, b"24 bytes", settled(), 24)?;
+    reading(&mut out, b"16 bytes", settled(), 16)?;
+    reading(&mut out, b"15 bytes", settled(), 15)?;
+    reading(&mut out, b"not sound", unsound(), 24)
 }

@@ -1,36 +1,49 @@
 // The rehearsal of document 01: one replica of four stations that weigh 1 each, number 2, with three heights led by 0,
 // 1 and 2. It reads frames from standard input, delivers each (a short last one too), and then moves until idle; its
 // own frames are not fed back.
+#![tactic(auto)]
+
 mod printed;
 
-use answers::answer::Moved;
+use lines::input::read_full;
+use std::io;
+use std::io::{Read, Write};
 
 // Moves until idle and prints a line for each move. A season of three heights has no more than six moves in a row.
-fn move_until_idle(book: &mut [u8], reply: &mut [u8]) {
+fn move_until_idle(out: &mut impl Write, book: &mut [u8], reply: &mut [u8]) -> io::Result<()> {
     let mut turns: u64 = 1000;
-    while turns > 0 && printed::moved(replica::make_move::make_move(book, reply)) {
+    while turns > 0 && printed::moved(out, replica::make_move::make_move(book, reply))? {
         turns -= 1;
     }
+    Ok(())
 }
 
 // Reads one frame, delivers it and moves until idle. Answers whether there may be more.
-fn next_frame(book: &mut [u8], reply: &mut [u8]) -> bool {
+fn next_frame(
+    input: &mut impl Read,
+    out: &mut impl Write,
+    book: &mut [u8],
+    reply: &mut [u8],
+) -> io::Result<bool> {
     let mut frame = [0u8; 224];
-    let got = io::read_full(libc::STDIN_FILENO, &mut frame);
+    let got = read_full(input, &mut frame)?;
     if got == 0 {
-        return false;
+        return Ok(false);
     }
-    printed::delivered(replica::deliver::deliver(book, &frame[..got]), &frame);
-    move_until_idle(book, reply);
-    got == 224
+    printed::delivered(out, replica::deliver::deliver(book, &frame[..got]), &frame)?;
+    move_until_idle(out, book, reply)?;
+    Ok(got == 224)
 }
 
-fn main() {
+fn main(rt: HostRuntime) -> io::Result<()> {
+    let mut input = rt.stdin();
+    let mut out = rt.stdout();
     let mut book = [0u8; 3216];
     let mut reply = [0u8; 448];
     replica::open::open(&mut book, 4, 2, 3, &[1, 0, 1, 0, 1, 0, 1, 0], &[0, 1, 2]);
     let mut turns = u64::MAX;
-    while turns > 0 && next_frame(&mut book, &mut reply) {
+    while turns > 0 && next_frame(&mut input, &mut out, &mut book, &mut reply)? {
         turns -= 1;
     }
+    Ok(())
 }
