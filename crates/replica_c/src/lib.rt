@@ -24,8 +24,7 @@ ghost use Rattle.packing.specs.Packing.{packed_done, packed_delivery, packed_pac
 // Open: makes a new book for replica `own` of `n`; bytes 2 s and 2 s + 1 of `weights` are the weight of replica s, the
 // low byte first, and byte h - 1 of `leaders` is the leader of height h. The book's old bytes do not matter.
 // Returns 0 where it is made. Refusals, the first that applies: 2, 1 (`open_call`).
-#[unsafe(no_mangle)]
-pub extern "C" fn mavunilai_open(
+pub fn mavunilai_open(
     book: &mut [u8],
     n: usize,
     own: usize,
@@ -45,8 +44,7 @@ pub extern "C" fn mavunilai_open(
 // height fires the timer instead.
 // Returns 256 where the frame was fresh, so that the book changed, and 0 where it was known. Refusals: 1, 4, 6, 5, 7,
 // 9, 8, 10 (`deliver_call`).
-#[unsafe(no_mangle)]
-pub extern "C" fn mavunilai_deliver(book: &mut [u8], frame: &[u8]) -> usize
+pub fn mavunilai_deliver(book: &mut [u8], frame: &[u8]) -> usize
     ensures answer { result ≡ packed_delivery (deliver_call sha256 book.old frame.now).answer }
     ensures book { book.new ≡ (deliver_call sha256 book.old frame.now).book }
 {
@@ -57,8 +55,7 @@ pub extern "C" fn mavunilai_deliver(book: &mut [u8], frame: &[u8]) -> usize
 // and the next one follows.
 // Returns 0 and writes how many frames were fresh, known and refused to `counts`, in that order. Refusals: 1, 15
 // (`packet_call`); a refused packet leaves `counts` as they were.
-#[unsafe(no_mangle)]
-pub extern "C" fn mavunilai_packet(book: &mut [u8], packet: &[u8], counts: &mut [usize; 3]) -> usize
+pub fn mavunilai_packet(book: &mut [u8], packet: &[u8], counts: &mut [usize; 3]) -> usize
     ensures answer { result ≡ packed_packet (packet_call sha256 book.old packet.now).answer }
     ensures book { book.new ≡ (packet_call sha256 book.old packet.now).book }
     ensures counts { counts.new ≡
@@ -71,8 +68,7 @@ pub extern "C" fn mavunilai_packet(book: &mut [u8], packet: &[u8], counts: &mut 
 
 // Signal: sets the timer flag of the current height, which the caller names.
 // Returns 0 where it is set. Refusals: 1, 6, 14 (`signal_call`).
-#[unsafe(no_mangle)]
-pub extern "C" fn mavunilai_signal(book: &mut [u8], height: usize) -> usize
+pub fn mavunilai_signal(book: &mut [u8], height: usize) -> usize
     ensures answer { result ≡ packed_done (signal_call sha256 book.old height).answer }
     ensures book { book.new ≡ (signal_call sha256 book.old height).book }
 {
@@ -81,8 +77,7 @@ pub extern "C" fn mavunilai_signal(book: &mut [u8], height: usize) -> usize
 
 // Submit: makes an entry of 16 bytes the last pending one, and drops pending ones that the log has.
 // Returns 0 where it is pending. Refusals: 1, 4, 13, 12 (`submit_call`).
-#[unsafe(no_mangle)]
-pub extern "C" fn mavunilai_submit(book: &mut [u8], entry: &[u8]) -> usize
+pub fn mavunilai_submit(book: &mut [u8], entry: &[u8]) -> usize
     ensures answer { result ≡ packed_done (submit_call sha256 book.old entry.now).answer }
     ensures book { book.new ≡ (submit_call sha256 book.old entry.now).book }
 {
@@ -91,8 +86,7 @@ pub extern "C" fn mavunilai_submit(book: &mut [u8], entry: &[u8]) -> usize
 
 // Fetch: writes a height's certificate of kind 5, 6 or 7 to the first 224 bytes of the reply.
 // Returns 0 where it is written. Refusals: 1, 4, 6, 3, 11 (`fetch_call`).
-#[unsafe(no_mangle)]
-pub extern "C" fn mavunilai_fetch(
+pub fn mavunilai_fetch(
     book: &[u8],
     kind: usize,
     height: usize,
@@ -109,8 +103,7 @@ pub extern "C" fn mavunilai_fetch(
 // Read: copies the log to the front of the buffer.
 // Returns how many bytes it wrote, not a packed answer: 0 where the book is not sound, the buffer is too short or the
 // log is empty (`read_part`).
-#[unsafe(no_mangle)]
-pub extern "C" fn mavunilai_read(book: &[u8], buffer: &mut [u8]) -> usize
+pub fn mavunilai_read(book: &[u8], buffer: &mut [u8]) -> usize
     ensures length { result ≡ length (read_part sha256 book.now buffer.old) }
     ensures buffer { buffer.new ≡ read_buffer sha256 book.now buffer.old }
 {
@@ -121,8 +114,7 @@ pub extern "C" fn mavunilai_read(book: &[u8], buffer: &mut [u8]) -> usize
 // move's number, in bytes 2 and 3 its height, in bytes 4 and 5 the kinds of a pass's frames; 0 where it is idle
 // (`packed_move`). Refusals: 1, 3 (`move_call`). Test for a refusal first: the bytes above it are 0, and 0 is idle's
 // number too.
-#[unsafe(no_mangle)]
-pub extern "C" fn mavunilai_move(book: &mut [u8], reply: &mut [u8]) -> usize
+pub fn mavunilai_move(book: &mut [u8], reply: &mut [u8]) -> usize
     ensures answer { result ≡ packed_move (move_call sha256 book.old reply.old).answer }
     ensures book { book.new ≡ (move_call sha256 book.old reply.old).book }
     ensures reply { reply.new ≡ (move_call sha256 book.old reply.old).reply }
@@ -132,8 +124,7 @@ pub extern "C" fn mavunilai_move(book: &mut [u8], reply: &mut [u8]) -> usize
 
 // Register size: the length of the log in bytes.
 // Returns 256 times the length (`packed_size`). Refusals: 1 (`size_call`).
-#[unsafe(no_mangle)]
-pub extern "C" fn mavunilai_size(book: &[u8]) -> usize
+pub fn mavunilai_size(book: &[u8]) -> usize
     ensures { result ≡ packed_size (size_call sha256 book.now) }
 {
     packing::size_number(replica::read::size(book))
@@ -142,8 +133,7 @@ pub extern "C" fn mavunilai_size(book: &[u8]) -> usize
 // Open of an observer: makes a new book for one who follows the log of `n` replicas and has no vote; `weights` as in
 // `mavunilai_open`. The book's old bytes do not matter.
 // Returns 0 where it is made. Refusals, the first that applies: 2, 1 (`observer_open_call`).
-#[unsafe(no_mangle)]
-pub extern "C" fn mavunilai_observer_open(
+pub fn mavunilai_observer_open(
     book: &mut [u8],
     n: usize,
     heights: usize,
@@ -160,8 +150,7 @@ pub extern "C" fn mavunilai_observer_open(
 // Deliver to an observer: keeps what a certificate says, whose signatures the caller has checked.
 // Returns 256 where it was fresh, so that the book changed, and 0 where it was known. Refusals: 1, 4, 16, 6, 5, 9, 10
 // (`observer_deliver_call`).
-#[unsafe(no_mangle)]
-pub extern "C" fn mavunilai_observer_deliver(book: &mut [u8], frame: &[u8]) -> usize
+pub fn mavunilai_observer_deliver(book: &mut [u8], frame: &[u8]) -> usize
     ensures answer { result ≡
         packed_delivery (observer_deliver_call sha256 book.old frame.now).answer }
     ensures book { book.new ≡
@@ -172,8 +161,7 @@ pub extern "C" fn mavunilai_observer_deliver(book: &mut [u8], frame: &[u8]) -> u
 
 // Move of an observer: move 2 where it applies, which writes no frame. Returns in byte 1 the move's number and in bytes
 // 2 and 3 the new finalized height; 0 where it is idle (`packed_move`). Refusals: 1 (`observer_move_call`).
-#[unsafe(no_mangle)]
-pub extern "C" fn mavunilai_observer_move(book: &mut [u8]) -> usize
+pub fn mavunilai_observer_move(book: &mut [u8]) -> usize
     ensures answer { result ≡ packed_move (observer_move_call sha256 book.old).answer }
     ensures book { book.new ≡ (observer_move_call sha256 book.old).book }
 {
@@ -182,8 +170,7 @@ pub extern "C" fn mavunilai_observer_move(book: &mut [u8]) -> usize
 
 // Register size of an observer: the length of the log in bytes.
 // Returns 256 times the length (`packed_size`). Refusals: 1 (`observer_size_call`).
-#[unsafe(no_mangle)]
-pub extern "C" fn mavunilai_observer_size(book: &[u8]) -> usize
+pub fn mavunilai_observer_size(book: &[u8]) -> usize
     ensures { result ≡ packed_size (observer_size_call sha256 book.now) }
 {
     packing::size_number(observer::read::size(book))
@@ -192,8 +179,7 @@ pub extern "C" fn mavunilai_observer_size(book: &[u8]) -> usize
 // Read of an observer: copies the log to the front of the buffer.
 // Returns how many bytes it wrote, not a packed answer: 0 where the book is not sound, the buffer is too short or the
 // log is empty (`observer_read_part`).
-#[unsafe(no_mangle)]
-pub extern "C" fn mavunilai_observer_read(book: &[u8], buffer: &mut [u8]) -> usize
+pub fn mavunilai_observer_read(book: &[u8], buffer: &mut [u8]) -> usize
     ensures length { result ≡ length (observer_read_part sha256 book.now buffer.old) }
     ensures buffer { buffer.new ≡
         observer_read_buffer sha256 book.now buffer.old }
@@ -203,8 +189,7 @@ pub extern "C" fn mavunilai_observer_read(book: &[u8], buffer: &mut [u8]) -> usi
 
 // Digest: writes the SHA-256 of the bytes, a page's or any others, to the first 32 bytes of `digest`.
 // Returns 0 where it is written. Refusals: 3, where `digest` is shorter (`digest_number`).
-#[unsafe(no_mangle)]
-pub extern "C" fn mavunilai_digest(bytes: &[u8], digest: &mut [u8]) -> usize
+pub fn mavunilai_digest(bytes: &[u8], digest: &mut [u8]) -> usize
     ensures answer { result ≡ digest_number digest.old }
     ensures digest { digest.new ≡ written bytes.now digest.old }
 {
@@ -212,8 +197,7 @@ pub extern "C" fn mavunilai_digest(bytes: &[u8], digest: &mut [u8]) -> usize
 }
 
 // The number of this interface, which a program compares with its header's before it makes another call.
-#[unsafe(no_mangle)]
-pub extern "C" fn mavunilai_interface() -> usize
+pub fn mavunilai_interface() -> usize
     ensures { result ≡ interface_number }
 {
     7
