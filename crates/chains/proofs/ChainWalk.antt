@@ -40,7 +40,8 @@ walk_step {h = zero} w low e = absurd (omega arith)
 walk_step {kind} {book} {h = suc i} w low e =
     let (has, parent, on) = linked_parent sha256 (view_of kind book) i w.is_linked_lem in
     let lower = on.below in
-    let f : Formed (suc i) ((view_of kind book).block (suc i)) = formed (suc i) _ (w.formed (suc i) (omega arith) has) in
+    let f : Formed (suc i) ((view_of kind book).block (suc i)) =
+    formed (suc i) _ (w.formed (suc i) (omega arith) has) in
     let h-high = w.high in
     subst (λ (b : Bytes). Step kind book (suc i) b) (sym e)
     (record {
@@ -90,7 +91,8 @@ module _ (x block : Bytes) (count k : ℕ) where
   entries_over h = ap (holds x) (pieces_done 16 count (drop 48 block) k h) ∙ holds_none x
 
 -- all places of a block
-pub all_entries_lem : (block : Bytes) (count : ℕ) → count ≡ entry_count block → first_entries count block ≡ entries block
+pub all_entries_lem : (block : Bytes) (count : ℕ) → count ≡ entry_count block →
+    first_entries count block ≡ entries block
 unfolding entries
 all_entries_lem block count e = ap (λ (k : ℕ). first_entries k block) e
 

@@ -1,3 +1,5 @@
 pub mod ChainWalk
 pub mod Pending
 pub mod Closing
+pub mod OfferLoop
+pub mod AddPendingLoop

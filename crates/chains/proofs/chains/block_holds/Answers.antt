@@ -1,10 +1,6 @@
 -- `block_holds` meets its contract: the entries before `k` are not the one looked for.
-use Prim.Native.Nat.{◌≤◌, ◌-◌}
 use native.Mathlib.Omega.{arith}
-use mathlib.Core.Path.{◌≡◌, refl, sym, ◌∙◌}
-use lib.ListN.{drop}
-use Rattle.protocol.specs.Bytes.{holds}
-use Rattle.chains.specs.Entries.{first_entries}
+use mathlib.Core.Path.{refl, sym, ◌∙◌}
 use Rattle.chains.proofs.ChainWalk.{entry_found, entry_differs, entries_over}
 use Rattle.chains.proofs.chains.block_holds.Goals as goal
 

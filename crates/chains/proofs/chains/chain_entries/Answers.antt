@@ -1,12 +1,7 @@
 -- `chain_entries` meets its contract: what is counted and the log that is left make the whole log.
-use Prim.Native.Nat.{◌+◌}
 use native.Mathlib.Omega.{arith}
-use mathlib.Core.Path.{◌≡◌, ap}
+use mathlib.Core.Path.{ap}
 use lib.ListN.{length}
-use Rattle.protocol.specs.State.{decode}
-use Rattle.protocol.specs.Sound.{view}
-use Rattle.protocol.specs.View.{log_at}
-use Rattle.chains.specs.Walkable.{WalkableAs}
 use Rattle.book_fields.specs.Book.{view_of}
 use Rattle.protocol.proofs.Laws.EntriesLaws.{log_start}
 use Rattle.chains.proofs.ChainWalk.{walk_step, walk_few, walk_parent, walk_count}
@@ -24,7 +19,8 @@ block-block-requires c = let w = c.loop-at.invariant.0 in
     }
 
 pub entry_count-sum-requires : goal.entry_count-sum-requires
-entry_count-sum-requires c = let step = walk_step c.loop-at.invariant.0 c.loop-at-test.true c.block-block.ensures.block in
+entry_count-sum-requires c =
+    let step = walk_step c.loop-at.invariant.0 c.loop-at-test.true c.block-block.ensures.block in
     step.size
 
 pub overflow_add-sum : goal.overflow_add-sum

@@ -1,15 +1,10 @@
 -- `chain_entries` meets its contract: what is counted and the log that is left make the whole log.
 use Prim.Native.Nat.{◌+◌}
-use native.Mathlib.Omega.{arith}
-use mathlib.Core.Path.{◌≡◌, ap}
+use mathlib.Core.Path.{◌≡◌}
 use lib.ListN.{length}
-use Rattle.protocol.specs.State.{decode}
-use Rattle.protocol.specs.Sound.{view}
 use Rattle.protocol.specs.View.{log_at}
 use Rattle.chains.specs.Walkable.{WalkableAs}
 use Rattle.book_fields.specs.Book.{view_of}
-use Rattle.protocol.proofs.Laws.EntriesLaws.{log_start}
-use Rattle.chains.proofs.ChainWalk.{walk_step, walk_few, walk_parent, walk_count}
 use Rattle.chains.proofs.chains.chain_entries.Given as goal
 
 abbrev pub invariant-loop-at : goal.invariant-loop-at

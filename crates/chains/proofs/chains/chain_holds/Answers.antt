@@ -1,12 +1,8 @@
 -- `chain_holds` meets its contract: the blocks passed do not have the entry, so that the whole log has it if the rest
 -- has it.
 use native.Mathlib.Omega.{arith}
-use mathlib.Core.Path.{◌≡◌, refl, sym, ap, ◌∙◌}
+use mathlib.Core.Path.{refl, sym, ap, ◌∙◌}
 use Rattle.protocol.specs.Bytes.{holds}
-use Rattle.protocol.specs.State.{decode}
-use Rattle.protocol.specs.Sound.{view}
-use Rattle.protocol.specs.View.{log_at}
-use Rattle.chains.specs.Walkable.{WalkableAs}
 use Rattle.book_fields.specs.Book.{view_of}
 use Rattle.protocol.proofs.Laws.EntriesLaws.{log_start, holds_none}
 use Rattle.chains.proofs.ChainWalk.{walk_step, walk_parent, walk_found, walk_on, all_entries_lem}

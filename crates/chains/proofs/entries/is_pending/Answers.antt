@@ -1,10 +1,8 @@
 -- `is_pending` meets its contract: the places before `k` do not have the entry.
-use Prim.Native.Nat.{◌≤◌, ◌<◌, ◌-◌}
+use Prim.Native.Nat.{◌≤◌, ◌<◌}
 use native.Mathlib.Omega.{arith}
-use mathlib.Core.Path.{◌≡◌, refl, sym, ◌∙◌}
-use lib.ListN.{drop}
-use Rattle.protocol.specs.Bytes.{holds}
-use Rattle.protocol.specs.State.{decode, pending}
+use mathlib.Core.Path.{refl, sym, ◌∙◌}
+use Rattle.protocol.specs.State.{decode}
 use Rattle.chains.proofs.Pending.{pending_found, pending_differs, pending_over}
 use Rattle.chains.proofs.entries.is_pending.Goals as goal
 

@@ -1,11 +1,9 @@
 -- `is_pending` meets its contract: the places before `k` do not have the entry.
-use Prim.Native.Nat.{◌≤◌, ◌<◌, ◌-◌}
-use native.Mathlib.Omega.{arith}
-use mathlib.Core.Path.{◌≡◌, refl, sym, ◌∙◌}
+use Prim.Native.Nat.{◌≤◌, ◌-◌}
+use mathlib.Core.Path.{◌≡◌}
 use lib.ListN.{drop}
 use Rattle.protocol.specs.Bytes.{holds}
 use Rattle.protocol.specs.State.{decode, pending}
-use Rattle.chains.proofs.Pending.{pending_found, pending_differs, pending_over}
 use Rattle.chains.proofs.entries.is_pending.Given as goal
 
 abbrev pub invariant-loop-k : goal.invariant-loop-k

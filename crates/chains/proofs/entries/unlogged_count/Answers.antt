@@ -1,7 +1,7 @@
 -- `unlogged_count` meets its contract: after `k` places, those of them that the log lacks are counted.
-use Prim.Native.Nat.{◌≤◌, ◌<◌, ◌-◌}
+use Prim.Native.Nat.{◌≤◌, ◌<◌}
 use native.Mathlib.Omega.{arith}
-use mathlib.Core.Path.{◌≡◌, refl, sym, ap, ◌∙◌}
+use mathlib.Core.Path.{refl, sym, ap, ◌∙◌}
 use lib.ListN.{length, take}
 use Rattle.protocol.specs.State.{decode, pending}
 use Rattle.protocol.specs.Sound.{view}
