@@ -1,4 +1,6 @@
 // The steps of moves 1, 2, 4 and 5: each writes its frame to the front of the reply and what it changes to the book.
+#![tactic(auto)]
+
 ghost use Rattle.std.specs.Prelude.{◌≡◌, ◌≤◌, length};
 ghost use Rattle.std.proofs.Math.Option.{some};
 ghost use Rattle.sha256.specs.Digest.{sha256 as sha};
