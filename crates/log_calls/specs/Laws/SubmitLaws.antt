@@ -1,11 +1,11 @@
 -- What Submit answers, row by row: the first test that fails decides.
-use Rattle.std.specs.Prelude.{◌≡◌, Bool, true, false, ◌||◌, [], ◌∷◌, ◌++◌, length, eqb, ltb}
+use Rattle.std.specs.Prelude.{◌≡◌, true, false, [], ◌∷◌, ◌++◌, length, eqb, ltb}
 use Rattle.log_calls.specs.EntryKnown.{is_entry_known}
 use Rattle.sha256.specs.Digest.{sha256}
-use Rattle.protocol.specs.Bytes.{Bytes, holds}
+use Rattle.protocol.specs.Bytes.{Bytes}
 use Rattle.protocol.specs.Tests.{first_refusal}
-use Rattle.protocol.specs.State.{State, decode, pending, maximum_pending}
-use Rattle.protocol.specs.Sound.{sound, log}
+use Rattle.protocol.specs.State.{decode, maximum_pending}
+use Rattle.protocol.specs.Sound.{sound}
 use Rattle.protocol.specs.Answer.{unless_refused}
 use Rattle.protocol.specs.Submit.{with_pending, still_pending, submit_rows, submit_call}
 use Rattle.answers.proofs.Laws.CallLaws.{refusal, doing}
