@@ -14,7 +14,6 @@ use Rattle.protocol.specs.Move.{is_running, new_finalized, dummy_vote_applies, d
 use Rattle.protocol.specs.Move.{output_applies, output_step, pass_applies, pass_step, propose_applies, propose_step}
 use Rattle.protocol.specs.Move.{block_vote_applies, block_vote_step, idle_step}
 use Rattle.answers.specs.declared.answer.Moved.{Moved}
-use Rattle.answers.specs.declared.answer.Moved.TheVariants as Moved
 use Rattle.answers.specs.Answers.{moved_answer}
 use Rattle.applies.specs.Took.{Took}
 use Rattle.moves.specs.Later.{later_step}
