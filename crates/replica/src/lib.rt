@@ -1,4 +1,6 @@
 // The calls of the station's replica, on lent byte slices and numbers of any value. A refused call changes nothing.
+#![tactic(auto)]
+
 pub mod deliver;
 pub mod fetch;
 pub mod make_move;
