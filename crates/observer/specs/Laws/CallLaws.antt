@@ -10,14 +10,13 @@ use Rattle.protocol.specs.Tests.{all_of, in_range, first_refusal}
 use Rattle.protocol.specs.Block.{maximum_heights}
 use Rattle.protocol.specs.State.{maximum_replicas, most_heights, with_head}
 use Rattle.protocol.specs.Open.{long, opened_edition, weights_in_range}
-use Rattle.protocol.specs.Answer.{Outcome, Done, Move, done, refused, accepted, unless_refused}
+use Rattle.protocol.specs.Answer.{Outcome, Done, done, refused, accepted, unless_refused}
 use Rattle.protocol.specs.Move.{new_finalized, output_applies, output_step, first_step, idle_step}
 use Rattle.protocol.specs.Observer.{observer_book_size, observed, encode_observer, decode_observer, observer_state}
 use Rattle.protocol.specs.ObserverSound.{observer_sound}
 use Rattle.protocol.specs.ObserverCalls.{new_observer, observer_open_rows, observer_open_call, observer_step, observer_moved}
 use Rattle.protocol.specs.ObserverCalls.{observer_move_rows, observer_move_call}
 use Rattle.protocol.proofs.Laws.TestsLaws.{and_both}
-use Rattle.protocol.proofs.Laws.RowLaws.{by_rows, in_range_lem}
 use Rattle.protocol.proofs.Laws.ObserverStateLaws.{observed_as}
 use Rattle.answers.specs.Answers.{moved_answer}
 use Rattle.answers.specs.declared.answer.Moved.TheVariants as Moved
