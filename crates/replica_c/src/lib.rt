@@ -4,6 +4,8 @@
 // says what stands above.
 // Each contract equates the number with the packing of what the protocol's definition of the call answers, and the lent
 // bytes with what it leaves.
+#![tactic(auto)]
+
 ghost use Rattle.std.specs.Prelude.{◌≡◌, length};
 ghost use Rattle.sha256.specs.Digest.{sha256};
 ghost use Rattle.protocol.specs.Open.{long, open_call};
@@ -86,12 +88,7 @@ pub fn mavunilai_submit(book: &mut [u8], entry: &[u8]) -> usize
 
 // Fetch: writes a height's certificate of kind 5, 6 or 7 to the first 224 bytes of the reply.
 // Returns 0 where it is written. Refusals: 1, 4, 6, 3, 11 (`fetch_call`).
-pub fn mavunilai_fetch(
-    book: &[u8],
-    kind: usize,
-    height: usize,
-    reply: &mut [u8],
-) -> usize
+pub fn mavunilai_fetch(book: &[u8], kind: usize, height: usize, reply: &mut [u8]) -> usize
     ensures answer { result ≡
         packed_done (fetch_call sha256 book.now kind height reply.old).answer }
     ensures reply { reply.new ≡
@@ -133,12 +130,7 @@ pub fn mavunilai_size(book: &[u8]) -> usize
 // Open of an observer: makes a new book for one who follows the log of `n` replicas and has no vote; `weights` as in
 // `mavunilai_open`. The book's old bytes do not matter.
 // Returns 0 where it is made. Refusals, the first that applies: 2, 1 (`observer_open_call`).
-pub fn mavunilai_observer_open(
-    book: &mut [u8],
-    n: usize,
-    heights: usize,
-    weights: &[u8],
-) -> usize
+pub fn mavunilai_observer_open(book: &mut [u8], n: usize, heights: usize, weights: &[u8]) -> usize
     ensures answer { result ≡
         packed_done (observer_open_call (long weights.now) book.old n heights).answer }
     ensures book { book.new ≡

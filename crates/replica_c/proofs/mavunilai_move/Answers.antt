@@ -1,0 +1,14 @@
+-- `mavunilai_move` meets its contract: it packs what the call answers, whose height is low enough for that.
+use Rattle.sha256.specs.Digest.{sha256}
+use Rattle.packing.proofs.Laws.PackingLaws.{move_height_low}
+use Rattle.replica_c.proofs.mavunilai_move.Goals as goal
+
+pub moved_number-requires : goal.moved_number-requires
+moved_number-requires c = rw c.make_move.ensures.answer (move_height_low sha256 _ _)
+
+pub returns : goal.returns
+returns c = record {
+  answer = cc;
+  book = cc;
+  reply = cc;
+}
