@@ -10,6 +10,7 @@ pub mod CallingLaws
 pub mod OpeningLaws
 pub mod FetchingLaws
 pub mod ReplicaLaws
+pub mod GoodAfterLaws
 pub mod ObserverListsLaws
 pub mod ObserverGrantsLaws
 pub mod ObserverRunLaws
