@@ -17,7 +17,7 @@ use Rattle.protocol.specs.ObserverCall.{ObserverCall, observation, observer_deli
 use Rattle.protocol.specs.ObserverCall.{observer_reading, observer_sizing}
 use Rattle.protocol.specs.ObserverCalls.{observer_deliver_call, observer_move_call}
 use Rattle.protocol.specs.ObserverCalls.{observer_move_rows, observer_moved}
-use Rattle.protocol.specs.State.{State, at}
+use Rattle.protocol.specs.State.{State}
 use Rattle.protocol.specs.Tests.{first_refusal}
 use Rattle.agreement.proofs.Laws.ObserverListsLaws.{observer_left_snoc, observers_append}
 use Rattle.agreement.proofs.Laws.ObserverRunLaws.{Followed, FollowedBytes, bytes_more, changed_followed}
