@@ -15,6 +15,7 @@ pub mod ObserverListsLaws
 pub mod ObserverGrantsLaws
 pub mod ObserverRunLaws
 pub mod ObserverBookLaws
+pub mod FollowedAfterLaws
 pub mod ChainsLaws
 pub mod ViewsLaws
 pub mod WithoutObserversLaws
