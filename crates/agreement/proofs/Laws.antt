@@ -10,10 +10,12 @@ pub mod CallingLaws
 pub mod OpeningLaws
 pub mod FetchingLaws
 pub mod ReplicaLaws
+pub mod GoodAfterLaws
 pub mod ObserverListsLaws
 pub mod ObserverGrantsLaws
 pub mod ObserverRunLaws
 pub mod ObserverBookLaws
+pub mod FollowedAfterLaws
 pub mod ChainsLaws
 pub mod ViewsLaws
 pub mod WithoutObserversLaws

@@ -19,11 +19,11 @@ use Rattle.protocol.specs.Sound.{log, sound, view}
 use Rattle.protocol.specs.State.{decode}
 use Rattle.protocol.specs.View.{View, log_of}
 use Rattle.agreement.proofs.Laws.GrantsLaws.{grants}
-use Rattle.agreement.proofs.Laws.ObserverBookLaws.{followed_after}
+use Rattle.agreement.proofs.Laws.FollowedAfterLaws.{followed_after}
 use Rattle.agreement.proofs.Laws.ObserverGrantsLaws.{observer_grants}
 use Rattle.agreement.proofs.Laws.ObserverListsLaws.{observers_append, replica_member}
 use Rattle.agreement.proofs.Laws.ObserverRunLaws.{Followed, FollowedBytes, followed_more}
-use Rattle.agreement.proofs.Laws.ReplicaLaws.{good_after}
+use Rattle.agreement.proofs.Laws.GoodAfterLaws.{good_after}
 use Rattle.agreement.proofs.Laws.RunLaws.{Good, GoodBytes}
 use Rattle.agreement.proofs.Laws.ViewsLaws.{HadView, kept_shown, logs}
 use Rattle.agreement.proofs.Laws.WithoutObserversLaws.{forged_to_replicas, without_observers}

@@ -1,5 +1,5 @@
 -- One call more in the list: what a delivery, a packet, a refused opening, a signal and a move leave of a good book.
-use Rattle.std.specs.Prelude.{ℕ, suc, ◌+◌, ◌≡◌, ◌⊎◌, true, false, cond, get_or}
+use Rattle.std.specs.Prelude.{ℕ, suc, ◌≡◌, ◌⊎◌, true, false, cond, get_or}
 use Rattle.std.proofs.Math.Path.{refl}
 use Rattle.std.proofs.Common.{sym, subst, ◌∙◌, inl, inr, true≢false}
 use mathlib.Core.List.Memᴰ

@@ -18,7 +18,7 @@ use Rattle.agreement.proofs.Laws.ChainsLaws.{Prefix, prefix_bytes, settled_chain
 use Rattle.agreement.proofs.Laws.ListsLaws.{wrote_more}
 use Rattle.agreement.proofs.Laws.ObserverListsLaws.{member_replica}
 use Rattle.agreement.proofs.Laws.ObserverRunLaws.{AnySeen, AnyStates}
-use Rattle.agreement.proofs.Laws.ReplicaLaws.{good_after}
+use Rattle.agreement.proofs.Laws.GoodAfterLaws.{good_after}
 use Rattle.agreement.proofs.Laws.RunLaws.{GoodBytes, Kept}
 use Rattle.agreement.proofs.Laws.WithoutObserversLaws.{forged_to_replicas}
 use Rattle.agreement.specs.Lists.{Begins, FewDishonest, HonestIn, KeepsOneBook, Member, Shows, Wrote}
