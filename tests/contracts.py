@@ -13,10 +13,13 @@ PUBLIC = ("replica", "observer", "replica_c", "sha256", "sha256_c")
 
 ITEM = re.compile(
     r"^[ ]*(?P<pub>pub )?(?P<extern>extern \"C\" )?(?P<sort>fn|enum|struct|type|const) (?P<name>\w+)", re.M)
-HEAD = re.compile(r"(?:^[ ]*(?://|#\[no_mangle\]$).*\n)*\Z", re.M)
-CLAUSE = re.compile(r"(?:^|\s)(requires|ensures|ghost|measure|decreases)(?:\s+\w+)?\s*$")
+# what may stand above an item; a hint for the prover says nothing of what is promised
+HINT = r"[ ]*#\[(?:tactic|cycle)\b[^\[\]]*\]\n"
+ATTRIBUTE = rf"{HINT}|[ ]*#\[(?:unsafe\(no_mangle\)|derive\([\w, ]*\)|test)\]\n"
+HEAD = re.compile(rf"(?:^(?:[ ]*//.*\n|{ATTRIBUTE}))*\Z", re.M)
+CLAUSE = re.compile(r"(?:^|\s)(requires|ensures|ghost|measure|decreases)(\*?)(?:\s+\w+:?)?\s*$")
 IMPORT = re.compile(r"^(pub )?use ([\w:]+)(?: as (\w+))?;$")
-OUTER = re.compile(r"^(?:ghost use|(?:pub )?use|(?:pub )?mod) .*", re.M)
+OUTER = re.compile(r"^(?:(?:ghost use|(?:pub )?use|(?:pub )?mod) .*|#!\[tactic\([^\[\]]*\)\]$)", re.M)
 MODULE = re.compile(r"(pub )?mod (\w+);")
 LITERAL = re.compile(r"//.*|b?\"(?:\\.|[^\"\\\n])*\"|b?'(?:\\[^\n]|[^'\\\n])'")
 # in a signature: each word but a lifetime, a number, and the name of a parameter or a field
@@ -52,7 +55,7 @@ class Item:
         self.clauses, self.types = [], set()
         end = self.function(bare, m.end()) if self.sort == "fn" else self.type_of(bare, m.end())
         self.start = HEAD.search(text, 0, m.start()).start()
-        self.whole = text[self.start : end].rstrip()
+        self.whole = re.sub(rf"^{HINT}", "", text[self.start : end], flags=re.M).rstrip()
         self.signature = bare[m.end() : end]
         self.body = bare[end : closing(bare, end)] if self.sort == "fn" and bare[end] == "{" else ""
         self.end = end + len(self.body)
@@ -71,6 +74,8 @@ class Item:
                 self.refuse(between)
             if not clause:
                 return brace
+            if clause[2]:
+                self.refuse(clause[0])
             at, signature = closing(text, brace), False
             self.clauses.append((clause[1], text[brace + 1 : at - 1].strip()))
             if UNREAD.search(self.clauses[-1][1]):
@@ -130,7 +135,9 @@ class SourceFile:
             raise Unreadable(f"{self.place}: what is no import, module, function or type: {' '.join(left[:8])}")
 
     def takes(self, line):
-        """An import, of antt's names or of the code's, or a module."""
+        """An import, of antt's names or of the code's, or a module; a hint for the prover is none."""
+        if line.startswith("#!"):
+            return
         if line.startswith("ghost "):
             self.uses.append(Use(line))
             return
