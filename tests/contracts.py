@@ -18,8 +18,10 @@ HINT = r"[ ]*#\[(?:tactic|cycle)\b[^\[\]]*\]\n"
 ATTRIBUTE = rf"{HINT}|[ ]*#\[(?:unsafe\(no_mangle\)|derive\([\w, ]*\)|test)\]\n"
 HEAD = re.compile(rf"(?:^(?:[ ]*//.*\n|{ATTRIBUTE}))*\Z", re.M)
 CLAUSE = re.compile(r"(?:^|\s)(requires|ensures|ghost|measure|decreases)(\*?)(?:\s+\w+:?)?\s*$")
-IMPORT = re.compile(r"^(pub )?use ([\w:]+)(?: as (\w+))?;$")
-OUTER = re.compile(r"^(?:(?:ghost use|(?:pub )?use|(?:pub )?mod) .*|#!\[tactic\([^\[\]]*\)\]$)", re.M)
+IMPORT = re.compile(r"^(pub )?use ([\w:]+?)(?:::\{([^{}]*)\})?(?: as (\w+))?;$")
+NAMED = re.compile(r"(\w+(?:::\w+)*)(?: as (\w+))?")
+OUTER = re.compile(r"^(?:(?:pub )?use [\w:]+::\{[^{};]*\};$|(?:ghost use|(?:pub )?use|(?:pub )?mod) .*"
+                   r"|#!\[tactic\([^\[\]]*\)\]$)", re.M)
 MODULE = re.compile(r"(pub )?mod (\w+);")
 LITERAL = re.compile(r"//.*|b?\"(?:\\.|[^\"\\\n])*\"|b?'(?:\\[^\n]|[^'\\\n])'")
 # in a signature: each word but a lifetime, a number, and the name of a parameter or a field
@@ -144,11 +146,20 @@ class SourceFile:
         m, module = IMPORT.match(line), MODULE.fullmatch(line)
         if module:
             self.modules[module[2]] = bool(module[1])
-        elif m:
-            path = m[2].split("::")
-            self.imports.append((m[0], bool(m[1]), path, m[3] or path[-1]))
+        elif m and not (m[3] is not None and m[4]):
+            items = [item.strip() for item in m[3].split(",") if item.strip()] if m[3] is not None else [""]
+            for item in items:
+                self.brings(m[1] or "", f"{m[2]}::{item}" if item else m[2] + (f" as {m[4]}" if m[4] else ""))
         else:
             raise Unreadable(f"{self.place}: an import of another form: {line}")
+
+    def brings(self, public, item):
+        """A name that an import of the code brings, each as if it stood on a line of its own."""
+        named = NAMED.fullmatch(item)
+        if not named or named[1].split("::")[-1] == "self":
+            raise Unreadable(f"{self.place}: an import of another form: {public}use {item};")
+        path = named[1].split("::")
+        self.imports.append((f"{public}use {item};", bool(public), path, named[2] or path[-1]))
 
     def find(self, name):
         return [item for item in self.items if item.name == name]
