@@ -15,7 +15,7 @@ FUNCTION = re.compile(r"^pub (?:extern \"C\" )?fn (\w+)(?:<[^>]*>)?\(([^)]*)\)",
 def imported(line, crate):
     """A kept import: of antt's names from the libraries, of the code's by the crate's name."""
     if line.startswith("ghost "):
-        line = line.replace("ghost use ", "ghost use package.", 1).replace("·specs.specs.", ".specs.")
+        line = line.replace("ghost use ", "ghost use package.", 1)
     return line.replace("use crate::", f"use {crate}::") + ";"
 
 
@@ -23,7 +23,7 @@ def calling(text, path):
     """A kept function with a body that calls it."""
     found = FUNCTION.search(text)
     names = [given.split(":")[0].strip() for given in re.split(r",(?![^\[]*\])", found[2]) if given.strip()]
-    bare = text.replace("#[no_mangle]\n", "").replace('extern "C" ', "")
+    bare = text.replace("#[unsafe(no_mangle)]\n", "").replace('extern "C" ', "")
     laid = re.compile(r"^(pub fn \w+\()\n((?:    .*\n)*?)(\).*)$", re.M).search(bare)
     if laid and len(line := laid[1] + " ".join(laid[2].split())[:-1] + laid[3]) <= WIDTH:
         bare = bare.replace(laid[0], line)

@@ -4,5 +4,5 @@ use package.Rattle.sha256_functions.specs.Bytes.{Bytes}
 use package.mathlib.Core.Path.{◌≡◌ as ◌is-kept◌, refl as by-text}
 use package.Rattle.sha256.specs.Bytes as page
 
-same·Bytes : Bytes is-kept page.Bytes
-same·Bytes = by-text
+same-Bytes : Bytes is-kept page.Bytes
+same-Bytes = by-text

@@ -4,5 +4,5 @@ use package.Rattle.witnesses.specs.Witness.{Witness}
 use package.mathlib.Core.Path.{◌≡◌ as ◌is-kept◌, refl as by-text}
 use package.Rattle.witnesses.specs.Laws.WitnessLaws as page
 
-pub witness·kept : Witness
-witness·kept = page.witness
+pub witness-kept : Witness
+witness-kept = page.witness
