@@ -5,15 +5,13 @@ import re
 import shutil
 
 from contracts import Crate, SourceFile
+from imports import KIT_CRATES
 from specs import Passing, SpecFile
 from words import Unreadable, readable
 
 # a file of specs/, of specs/Laws or of proofs/Laws; and a type of src/, in lib.rt where no file stands before it
 OWN = re.compile(r"Rattle\.(\w+)\.specs\.((?:Laws\.)?(?!Laws\b|declared\b)\w+)|Rattle\.(\w+)\.(proofs\.Laws\.\w+)")
 DECLARED = re.compile(r"Rattle\.(\w+)\.specs\.declared\.(?:([a-z]\w*)\.)?([A-Z]\w*)(?:\.TheVariants)?")
-# the kit's crates whose definitions a crate may name, where no crate of the repository has the name
-KIT_CRATES = {"std", "core", "std_alloc", "std_collections", "std_heap", "std_io", "bytes", "check", "io"}
-
 
 # the types that the language has, and words of its signatures
 BUILT_IN = set("u8 u16 u32 u64 u128 usize i8 i16 i32 i64 i128 isize bool mut".split())

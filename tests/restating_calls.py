@@ -1,9 +1,11 @@
 """How the kept contracts are restated for the prover: each by a function that calls the one which has the contract.
 
-The function has the kept contract, over the kept imports, each behind `package`; the prover takes it only where that
-follows from the contract of the function that it calls. It needs no proof by hand.
+The function has the kept contract, over the kept imports, those from this repository behind `package`; the prover takes
+it only where that follows from the contract of the function that it calls. It needs no proof by hand.
 """
 import re
+
+from imports import Use, from_libraries, unbent
 
 HEAD = "// Written by tests/restated --write: what docs/statements has of\n// {}.\n"
 LIB = "// Written by tests/restated --write: the kept contracts, each of a function that calls the one that has it.\n"
@@ -15,7 +17,9 @@ FUNCTION = re.compile(r"^pub (?:extern \"C\" )?fn (\w+)(?:<[^>]*>)?\(([^)]*)\)",
 def imported(line, crate):
     """A kept import: of antt's names from the libraries, of the code's by the crate's name."""
     if line.startswith("ghost "):
-        line = line.replace("ghost use ", "ghost use package.", 1)
+        use = Use(line + ";")
+        unbent([use], [], line)
+        line = from_libraries(line)
     return line.replace("use crate::", f"use {crate}::") + ";"
 
 
@@ -40,7 +44,9 @@ def files(texts, lead):
             stem, path = file[: -len(".rt")], lead(crate, file[: -len(".rt")])
             imports, _, rest = part.partition("\n\n")
             lines = [imported(line, crate) for line in imports.splitlines() if line]
+            ghosts = [line for line in lines if line.startswith("ghost ")]
+            lines = [*ghosts, *([""] if ghosts and ghosts != lines else []), *(line for line in lines if line not in ghosts)]
             said = [calling(each, path) for each in re.split(r"\n\n+", rest.strip())]
             name = f"{crate}_{'calls' if stem == 'lib' else stem}"
             made[f"{name}.rt"] = HEAD.format(place) + "\n".join(lines) + "\n\n" + "\n\n".join(said) + "\n"
-    return {"lib.rt": LIB + "".join(f"pub mod {name[:-3]};\n" for name in sorted(made)), **made}
+    return {"lib.rt": LIB + "#![tactic(auto)]\n\n" + "".join(f"pub mod {name[:-3]};\n" for name in sorted(made)), **made}

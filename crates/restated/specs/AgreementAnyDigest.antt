@@ -1,7 +1,7 @@
 -- Written by tests/restated --write: what docs/statements has of
 -- crates/agreement/specs/AnyDigest.antt.
-use package.Rattle.std.specs.Prelude.{ℕ, ◌*◌, ◌<◌, ◌≤◌, ◌≡◌, ◌≢◌, false, length, replicate}
-use package.mathlib.Core.List.{List, [], ◌∷◌, ◌++◌, map, Memᴰ}
+use Rattle.std.specs.Prelude.{ℕ, ◌*◌, ◌<◌, ◌≤◌, ◌≡◌, ◌≢◌, false, length, replicate}
+use mathlib.Core.List.{List, [], ◌∷◌, ◌++◌, map, Memᴰ}
 use package.Rattle.protocol.specs.Bytes.{Bytes, join, le16, zeros}
 use package.Rattle.protocol.specs.Block.{entries}
 use package.Rattle.protocol.specs.Mask.{ones}
@@ -15,7 +15,7 @@ use package.Rattle.agreement.specs.Met.{Hears, HearsWhere, MemberOf, Met, is_pac
 use package.Rattle.agreement.specs.Turns.{Turn, anything, build, entry, hear, hear_packet, move, next_block, next_log}
 use package.Rattle.agreement.specs.Turns.{other_entry}
 use package.Rattle.agreement.specs.AnyDigest.{weights, heavy_two, light_four, way, one_digest, other_digest, leaders, dishonest, openings, split, timeouts, agreed, readings}
-use package.mathlib.Core.Path.{◌≡◌ as ◌is-kept◌, refl as by-text}
+use mathlib.Core.Path.{◌≡◌ as ◌is-kept◌, refl as by-text}
 use package.Rattle.agreement.specs.AnyDigest as page
 
 abbrev weights-kept : List ℕ

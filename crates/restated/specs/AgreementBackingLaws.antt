@@ -1,11 +1,11 @@
 -- Written by tests/restated --write: what docs/statements has of
 -- crates/agreement/proofs/Laws/BackingLaws.antt.
-use package.Rattle.std.specs.Prelude.{ℕ, ◌≡◌, Bool}
-use package.Rattle.std.proofs.Math.Bool.{true}
+use Rattle.std.specs.Prelude.{ℕ, ◌≡◌, Bool}
+use Rattle.std.proofs.Math.Bool.{true}
 use package.Rattle.protocol.specs.Bytes.{Bytes}
 use package.Rattle.protocol.specs.Mask.{in_mask}
 use package.Rattle.agreement.specs.Lists.{Statement, finalizes, votes_block, votes_dummy}
-use package.mathlib.Core.Path.{◌≡◌ as ◌is-kept◌, refl as by-text}
+use mathlib.Core.Path.{◌≡◌ as ◌is-kept◌, refl as by-text}
 use package.Rattle.agreement.proofs.Laws.BackingLaws as page
 
 module _ (digest : Bytes → Bytes) where

@@ -1,12 +1,12 @@
 -- Written by tests/restated --write: what docs/statements has of
 -- crates/agreement/proofs/Laws/ChainsLaws.antt.
-use package.Rattle.std.specs.Prelude.{◌≡◌, List, ◌++◌}
+use Rattle.std.specs.Prelude.{◌≡◌, List, ◌++◌}
 use package.Rattle.protocol.specs.Block.{all_entries}
 use package.Rattle.protocol.specs.Bytes.{Bytes, join}
 use package.Rattle.protocol.specs.Distinct.{distinct}
 use package.Rattle.agreement.specs.Lists.{Begins}
 use package.Rattle.agreement.proofs.Laws.ChainsLaws.{Prefix}
-use package.mathlib.Core.Path.{◌≡◌ as ◌is-kept◌, refl as by-text}
+use mathlib.Core.Path.{◌≡◌ as ◌is-kept◌, refl as by-text}
 use package.Rattle.agreement.proofs.Laws.ChainsLaws as page
 
 Prefix-kept : {A : Type 0} → List A → List A → Type 0

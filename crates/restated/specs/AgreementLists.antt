@@ -1,8 +1,8 @@
 -- Written by tests/restated --write: what docs/statements has of
 -- crates/agreement/specs/Lists.antt.
-use package.Rattle.std.specs.Prelude.{ℕ, ◌*◌, ◌<◌, ◌≡◌, ◌⊎◌, Bool, true, false, cond, length, take, eqb}
-use package.mathlib.Core.List.{List, [], ◌∷◌, ◌++◌, Memᴰ}
-use package.Rattle.std.proofs.Math.Option.{Option, some, none}
+use Rattle.std.specs.Prelude.{ℕ, ◌*◌, ◌<◌, ◌≡◌, ◌⊎◌, Bool, true, false, cond, length, take, eqb}
+use mathlib.Core.List.{List, [], ◌∷◌, ◌++◌, Memᴰ}
+use Rattle.std.proofs.Math.Option.{Option, some, none}
 use package.Rattle.protocol.specs.Bytes.{Bytes}
 use package.Rattle.protocol.specs.Frame.{kind, signer, frame_height, signer_mask, frame_digest, frame_block, carries_block}
 use package.Rattle.protocol.specs.Frame.{is_proposal, is_block_vote, is_dummy_vote, is_finalize, is_block_certificate}
@@ -10,7 +10,7 @@ use package.Rattle.protocol.specs.Frame.{is_dummy_certificate, is_finalize_certi
 use package.Rattle.protocol.specs.Mask.{in_mask, weigh, total}
 use package.Rattle.protocol.specs.Call.{Call, Effect, effect}
 use package.Rattle.agreement.specs.Lists.{Member, Statement, proposes, votes_block, votes_dummy, finalizes, when, block_in, Begins, HonestIn, FewDishonest, or_else}
-use package.mathlib.Core.Path.{◌≡◌ as ◌is-kept◌, refl as by-text}
+use mathlib.Core.Path.{◌≡◌ as ◌is-kept◌, refl as by-text}
 use package.Rattle.agreement.specs.Lists as page
 
 Member-kept : (replica : ℕ) (book : Bytes) (call : Call) →

@@ -1,8 +1,8 @@
 -- Written by tests/restated --write: what docs/statements has of
 -- crates/agreement/specs/Met.antt.
-use package.Rattle.std.specs.Prelude.{ℕ, ◌≡◌, ◌≢◌, Bool, true, ◌&&◌, not, eqb}
-use package.mathlib.Core.List.{List, [], Memᴰ}
-use package.Rattle.std.proofs.Math.Option.{some}
+use Rattle.std.specs.Prelude.{ℕ, ◌≡◌, ◌≢◌, Bool, true, ◌&&◌, not, eqb}
+use mathlib.Core.List.{List, [], Memᴰ}
+use Rattle.std.proofs.Math.Option.{some}
 use package.Rattle.protocol.specs.Bytes.{Bytes}
 use package.Rattle.protocol.specs.State.{decode, flag}
 use package.Rattle.protocol.specs.Move.{is_some}
@@ -10,7 +10,7 @@ use package.Rattle.agreement.specs.Lists.{Member, Statement, statement_of, deliv
 use package.Rattle.agreement.specs.Lists.{KeepsOneBook, NotForged, NoCollision, Reads, does}
 use package.Rattle.agreement.specs.Unpacked.{packet_in}
 use package.Rattle.agreement.specs.Met.{MemberOf}
-use package.mathlib.Core.Path.{◌≡◌ as ◌is-kept◌, refl as by-text}
+use mathlib.Core.Path.{◌≡◌ as ◌is-kept◌, refl as by-text}
 use package.Rattle.agreement.specs.Met as page
 
 abbrev MemberOf-kept : List Member → ℕ → (Member → Type 0) → Type 0

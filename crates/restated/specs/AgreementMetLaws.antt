@@ -1,13 +1,13 @@
 -- Written by tests/restated --write: what docs/statements has of
 -- crates/agreement/proofs/Laws/MetLaws.antt.
-use package.Rattle.std.specs.Prelude.{◌⊎◌}
+use Rattle.std.specs.Prelude.{◌⊎◌}
 use package.Rattle.protocol.specs.Bytes.{Bytes}
 use package.Rattle.agreement.specs.Lists.{Begins}
-use package.Rattle.std.specs.Prelude.{ℕ, ◌≡◌, List}
+use Rattle.std.specs.Prelude.{ℕ, ◌≡◌, List}
 use package.Rattle.agreement.specs.Lists.{Agreement, Member}
 use package.Rattle.agreement.specs.Met.{Claim, Met}
 use package.Rattle.agreement.proofs.Laws.MetLaws.{OneBegins}
-use package.mathlib.Core.Path.{◌≡◌ as ◌is-kept◌, refl as by-text}
+use mathlib.Core.Path.{◌≡◌ as ◌is-kept◌, refl as by-text}
 use package.Rattle.agreement.proofs.Laws.MetLaws as page
 
 abbrev OneBegins-kept : Bytes → Bytes → Type 0

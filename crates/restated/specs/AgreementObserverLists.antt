@@ -1,14 +1,14 @@
 -- Written by tests/restated --write: what docs/statements has of
 -- crates/agreement/specs/ObserverLists.antt.
-use package.Rattle.std.specs.Prelude.{ℕ, ◌≡◌, ◌⊎◌, cond, eqb}
-use package.mathlib.Core.List.{List, [], ◌∷◌, ◌++◌, Memᴰ}
-use package.Rattle.std.proofs.Math.Option.{Option, some, none}
+use Rattle.std.specs.Prelude.{ℕ, ◌≡◌, ◌⊎◌, cond, eqb}
+use mathlib.Core.List.{List, [], ◌∷◌, ◌++◌, Memᴰ}
+use Rattle.std.proofs.Math.Option.{Option, some, none}
 use package.Rattle.protocol.specs.Bytes.{Bytes}
 use package.Rattle.protocol.specs.ObserverCall.{ObserverCall, Observation, observation}
 use package.Rattle.agreement.specs.Lists.{Begins, FewDishonest, HonestIn, KeepsOneBook, Member, Reads, Statement, Wrote}
 use package.Rattle.agreement.specs.Lists.{block_in, delivers, or_else, statement_of, writes}
 use package.Rattle.agreement.specs.ObserverLists.{ObserverMember, AnyMember, of_replica, of_observer, replica_calls, observer_calls, Meant}
-use package.mathlib.Core.Path.{◌≡◌ as ◌is-kept◌, refl as by-text}
+use mathlib.Core.Path.{◌≡◌ as ◌is-kept◌, refl as by-text}
 use package.Rattle.agreement.specs.ObserverLists as page
 
 ObserverMember-kept : (observer : ℕ) (book : Bytes) (call : ObserverCall) →

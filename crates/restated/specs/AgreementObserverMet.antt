@@ -1,8 +1,8 @@
 -- Written by tests/restated --write: what docs/statements has of
 -- crates/agreement/specs/ObserverMet.antt.
-use package.Rattle.std.specs.Prelude.{ℕ, ◌≡◌, ◌≢◌}
-use package.mathlib.Core.List.{List, [], Memᴰ}
-use package.Rattle.std.proofs.Math.Option.{some}
+use Rattle.std.specs.Prelude.{ℕ, ◌≡◌, ◌≢◌}
+use mathlib.Core.List.{List, [], Memᴰ}
+use Rattle.std.proofs.Math.Option.{some}
 use package.Rattle.protocol.specs.Bytes.{Bytes}
 use package.Rattle.agreement.specs.Lists.{Begins, FewDishonest, HonestIn, KeepsOneBook, Reads}
 use package.Rattle.agreement.specs.Met.{MemberOf}
@@ -10,7 +10,7 @@ use package.Rattle.agreement.specs.ObserverLists.{AnyMember, AnyReads, Meant, No
 use package.Rattle.agreement.specs.ObserverLists.{ObserverKeepsOneBook, ObserverMember, observer_calls, observes}
 use package.Rattle.agreement.specs.ObserverLists.{of_observer, replica_calls}
 use package.Rattle.agreement.specs.ObserverMet.{ObserverOf}
-use package.mathlib.Core.Path.{◌≡◌ as ◌is-kept◌, refl as by-text}
+use mathlib.Core.Path.{◌≡◌ as ◌is-kept◌, refl as by-text}
 use package.Rattle.agreement.specs.ObserverMet as page
 
 abbrev ObserverOf-kept : List AnyMember → ℕ → (ObserverMember → Type 0) → Type 0

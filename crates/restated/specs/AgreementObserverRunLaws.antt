@@ -1,12 +1,12 @@
 -- Written by tests/restated --write: what docs/statements has of
 -- crates/agreement/proofs/Laws/ObserverRunLaws.antt.
-use package.Prim.Native.Nat.{ℕ}
-use package.mathlib.Core.List.{List, Memᴰ}
+use Prim.Native.Nat.{ℕ}
+use mathlib.Core.List.{List, Memᴰ}
 use package.Rattle.protocol.specs.Bytes.{Bytes}
 use package.Rattle.agreement.specs.Lists.{Statement, Wrote}
 use package.Rattle.agreement.specs.ObserverLists.{AnyMember, AnyShows, Meant}
 use package.Rattle.agreement.specs.ObserverLists.{replica_calls}
-use package.mathlib.Core.Path.{◌≡◌ as ◌is-kept◌, refl as by-text}
+use mathlib.Core.Path.{◌≡◌ as ◌is-kept◌, refl as by-text}
 use package.Rattle.agreement.proofs.Laws.ObserverRunLaws as page
 
 module _ (digest : Bytes → Bytes) (weights : List ℕ) (books names observers : ℕ → Type 0) where

@@ -1,14 +1,14 @@
 -- Written by tests/restated --write: what docs/statements has of
 -- crates/agreement/specs/ObserverUnpacked.antt.
-use package.Rattle.std.specs.Prelude.{ℕ, ◌≡◌, ◌⊎◌, ◌↔◌}
-use package.mathlib.Core.List.{List, [], ◌∷◌, ◌++◌, map, Memᴰ}
-use package.Rattle.std.proofs.Math.Option.{none}
+use Rattle.std.specs.Prelude.{ℕ, ◌≡◌, ◌⊎◌, ◌↔◌}
+use mathlib.Core.List.{List, [], ◌∷◌, ◌++◌, map, Memᴰ}
+use Rattle.std.proofs.Math.Option.{none}
 use package.Rattle.protocol.specs.Bytes.{Bytes}
 use package.Rattle.agreement.specs.Lists.{Begins, FewDishonest, HonestIn, KeepsOneBook, Member}
 use package.Rattle.agreement.specs.Unpacked.{Unpacks, packet_in, stands_for, unpacked}
 use package.Rattle.agreement.specs.ObserverLists.{AnyMember, of_replica, of_observer, replica_calls, observer_calls, Meant}
 use package.Rattle.agreement.specs.ObserverLists.{AnyReads, ObserverKeepsOneBook, NoneForged, NoneCollide}
-use package.mathlib.Core.Path.{◌≡◌ as ◌is-kept◌, refl as by-text}
+use mathlib.Core.Path.{◌≡◌ as ◌is-kept◌, refl as by-text}
 use package.Rattle.agreement.specs.ObserverUnpacked as page
 
 module _ (digest : Bytes → Bytes) where

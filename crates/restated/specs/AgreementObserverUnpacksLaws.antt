@@ -1,15 +1,15 @@
 -- Written by tests/restated --write: what docs/statements has of
 -- crates/agreement/proofs/Laws/ObserverUnpacksLaws.antt.
-use package.Rattle.std.specs.Prelude.{◌≡◌}
-use package.mathlib.Core.List.{List, Memᴰ}
-use package.Rattle.std.proofs.Math.Option.{none}
+use Rattle.std.specs.Prelude.{◌≡◌}
+use mathlib.Core.List.{List, Memᴰ}
+use Rattle.std.proofs.Math.Option.{none}
 use package.Rattle.protocol.specs.Bytes.{Bytes}
 use package.Rattle.agreement.specs.Lists.{Member}
 use package.Rattle.agreement.specs.Unpacked.{packet_in}
 use package.Rattle.agreement.specs.ObserverLists.{AnyMember, ObservedAgreement}
 use package.Rattle.agreement.specs.ObserverLists.{of_replica}
 use package.Rattle.agreement.specs.ObserverUnpacked.{ObservedAgreementOn, ObserverUnpacks}
-use package.mathlib.Core.Path.{◌≡◌ as ◌is-kept◌, refl as by-text}
+use mathlib.Core.Path.{◌≡◌ as ◌is-kept◌, refl as by-text}
 use package.Rattle.agreement.proofs.Laws.ObserverUnpacksLaws as page
 
 module _ (digest : Bytes → Bytes) (list : List AnyMember) where

@@ -1,6 +1,6 @@
 -- Written by tests/restated --write: what docs/statements has of
 -- crates/agreement/specs/ObserverWitness.antt.
-use package.Rattle.std.specs.Prelude.{ℕ, ◌<◌, ◌≡◌, ◌⊎◌, List, [], ◌∷◌, ◌++◌, map, get_or, set, replicate}
+use Rattle.std.specs.Prelude.{ℕ, ◌<◌, ◌≡◌, ◌⊎◌, List, [], ◌∷◌, ◌++◌, map, get_or, set, replicate}
 use package.Rattle.protocol.specs.Bytes.{Bytes, zeros}
 use package.Rattle.protocol.specs.Block.{new_block}
 use package.Rattle.protocol.specs.Frame.{block_certificate, dummy_certificate, dummy_vote, finalize_certificate}
@@ -15,7 +15,7 @@ use package.Rattle.agreement.specs.ObserverLists.{AnyMember, of_observer, of_rep
 use package.Rattle.agreement.specs.ObserverMet.{ObservedMet, ObserverOf, ObserverReads}
 use package.Rattle.agreement.specs.Turns.{Turn, anything, next_block, next_log}
 use package.Rattle.agreement.specs.ObserverWitness.{AnyTurn, by_replica, by_observer, observer_hears, observer_openings, observer_hearings, lonely_entry, lonely_block, lonely, by_replicas, build_any, anything_observed, meant_observers, any_turns}
-use package.mathlib.Core.Path.{◌≡◌ as ◌is-kept◌, refl as by-text}
+use mathlib.Core.Path.{◌≡◌ as ◌is-kept◌, refl as by-text}
 use package.Rattle.agreement.specs.ObserverWitness as page
 
 AnyTurn-by_replica-kept : Turn → AnyTurn

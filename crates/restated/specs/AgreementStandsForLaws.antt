@@ -1,12 +1,12 @@
 -- Written by tests/restated --write: what docs/statements has of
 -- crates/agreement/proofs/Laws/StandsForLaws.antt.
-use package.Rattle.std.specs.Prelude.{ℕ, ◌≡◌}
-use package.mathlib.Core.List.{List, [], Memᴰ}
-use package.Rattle.std.proofs.Math.Option.{none}
+use Rattle.std.specs.Prelude.{ℕ, ◌≡◌}
+use mathlib.Core.List.{List, [], Memᴰ}
+use Rattle.std.proofs.Math.Option.{none}
 use package.Rattle.protocol.specs.Bytes.{Bytes}
 use package.Rattle.agreement.specs.Lists.{Member, delivers, does, writes}
 use package.Rattle.agreement.specs.Unpacked.{packet_in}
-use package.mathlib.Core.Path.{◌≡◌ as ◌is-kept◌, refl as by-text}
+use mathlib.Core.Path.{◌≡◌ as ◌is-kept◌, refl as by-text}
 use package.Rattle.agreement.proofs.Laws.StandsForLaws as page
 
 module _ (digest : Bytes → Bytes) where

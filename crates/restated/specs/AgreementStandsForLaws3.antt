@@ -1,16 +1,16 @@
 -- Written by tests/restated --write: what docs/statements has of
 -- crates/agreement/proofs/Laws/StandsForLaws.antt.
-use package.Rattle.std.specs.Prelude.{◌≡◌}
-use package.mathlib.Core.List.{List, []}
+use Rattle.std.specs.Prelude.{◌≡◌}
+use mathlib.Core.List.{List, []}
 use package.Rattle.protocol.specs.Bytes.{Bytes}
 use package.Rattle.protocol.specs.Packet.{packet_frames}
 use package.Rattle.protocol.specs.Call.{packet_delivery}
 use package.Rattle.agreement.specs.Lists.{Member, delivers, does}
-use package.Rattle.std.proofs.Math.Option.{some}
+use Rattle.std.proofs.Math.Option.{some}
 use package.Rattle.protocol.specs.Deliver.{deliver_all}
 use package.Rattle.protocol.specs.Packet.{accepted_of}
 use package.Rattle.agreement.specs.Unpacked.{deliveries_of, stands_for}
-use package.mathlib.Core.Path.{◌≡◌ as ◌is-kept◌, refl as by-text}
+use mathlib.Core.Path.{◌≡◌ as ◌is-kept◌, refl as by-text}
 use package.Rattle.agreement.proofs.Laws.StandsForLaws as page
 
 module _ (digest : Bytes → Bytes) where

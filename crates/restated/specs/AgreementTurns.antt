@@ -1,6 +1,6 @@
 -- Written by tests/restated --write: what docs/statements has of
 -- crates/agreement/specs/Turns.antt.
-use package.Rattle.std.specs.Prelude.{ℕ, List, [], ◌∷◌, ◌++◌, get_or, set, replicate}
+use Rattle.std.specs.Prelude.{ℕ, List, [], ◌∷◌, ◌++◌, get_or, set, replicate}
 use package.Rattle.protocol.specs.Bytes.{Bytes, join, zeros}
 use package.Rattle.protocol.specs.Block.{new_block}
 use package.Rattle.protocol.specs.State.{book_size}
@@ -8,7 +8,7 @@ use package.Rattle.protocol.specs.Call.{Call, delivery, packet_delivery, moving}
 use package.Rattle.protocol.specs.Call.{book_after}
 use package.Rattle.agreement.specs.Lists.{Member}
 use package.Rattle.agreement.specs.Turns.{Turn, entry, other_entry}
-use package.mathlib.Core.Path.{◌≡◌ as ◌is-kept◌, refl as by-text}
+use mathlib.Core.Path.{◌≡◌ as ◌is-kept◌, refl as by-text}
 use package.Rattle.agreement.specs.Turns as page
 
 abbrev Turn-kept : Type 0

@@ -1,8 +1,8 @@
 -- Written by tests/restated --write: what docs/statements has of
 -- crates/agreement/specs/Unpacked.antt.
-use package.Rattle.std.specs.Prelude.{ℕ, ◌≡◌, ◌⊎◌, ◌↔◌, cond, eqb}
-use package.mathlib.Core.List.{List, [], ◌∷◌, ◌++◌, Memᴰ}
-use package.Rattle.std.proofs.Math.Option.{Option, some, none}
+use Rattle.std.specs.Prelude.{ℕ, ◌≡◌, ◌⊎◌, ◌↔◌, cond, eqb}
+use mathlib.Core.List.{List, [], ◌∷◌, ◌++◌, Memᴰ}
+use Rattle.std.proofs.Math.Option.{Option, some, none}
 use package.Rattle.protocol.specs.Bytes.{Bytes}
 use package.Rattle.protocol.specs.Answer.{is_accepted}
 use package.Rattle.protocol.specs.Deliver.{deliver_call}
@@ -12,7 +12,7 @@ use package.Rattle.protocol.specs.Call.{reading, fetching}
 use package.Rattle.agreement.specs.Lists.{Member, Begins, HonestIn, FewDishonest, KeepsOneBook, NotForged, NoCollision}
 use package.Rattle.agreement.specs.Lists.{Reads, does, delivers, writes, last_left}
 use package.Rattle.agreement.specs.Unpacked.{listed, packet_in}
-use package.mathlib.Core.Path.{◌≡◌ as ◌is-kept◌, refl as by-text}
+use mathlib.Core.Path.{◌≡◌ as ◌is-kept◌, refl as by-text}
 use package.Rattle.agreement.specs.Unpacked as page
 
 listed-kept : {A : Type 0} → Option A → List A

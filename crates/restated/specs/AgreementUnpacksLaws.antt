@@ -1,12 +1,12 @@
 -- Written by tests/restated --write: what docs/statements has of
 -- crates/agreement/proofs/Laws/UnpacksLaws.antt.
-use package.Rattle.std.specs.Prelude.{◌≡◌}
-use package.mathlib.Core.List.{List, Memᴰ}
-use package.Rattle.std.proofs.Math.Option.{none}
+use Rattle.std.specs.Prelude.{◌≡◌}
+use mathlib.Core.List.{List, Memᴰ}
+use Rattle.std.proofs.Math.Option.{none}
 use package.Rattle.protocol.specs.Bytes.{Bytes}
 use package.Rattle.agreement.specs.Lists.{Agreement, Member}
 use package.Rattle.agreement.specs.Unpacked.{AgreementOn, Unpacks, packet_in, unpacked}
-use package.mathlib.Core.Path.{◌≡◌ as ◌is-kept◌, refl as by-text}
+use mathlib.Core.Path.{◌≡◌ as ◌is-kept◌, refl as by-text}
 use package.Rattle.agreement.proofs.Laws.UnpacksLaws as page
 
 module _ (digest : Bytes → Bytes) (list : List Member) where

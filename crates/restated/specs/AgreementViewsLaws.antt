@@ -1,6 +1,6 @@
 -- Written by tests/restated --write: what docs/statements has of
 -- crates/agreement/proofs/Laws/ViewsLaws.antt.
-use package.Rattle.std.specs.Prelude.{ℕ, suc, ◌≡◌, ◌⊎◌, true, List}
+use Rattle.std.specs.Prelude.{ℕ, suc, ◌≡◌, ◌⊎◌, true, List}
 use package.Rattle.protocol.specs.Bytes.{Bytes}
 use package.Rattle.protocol.specs.View.{View, is_finalized, quorum}
 use package.Rattle.agreement.proofs.Laws.BackingLaws.{Shown}
@@ -10,7 +10,7 @@ use package.Rattle.agreement.specs.Lists.{finalizes}
 use package.Rattle.agreement.specs.ObserverLists.{AnyMember, Meant, NoneCollide, NoneForged}
 use package.Rattle.agreement.specs.ObserverLists.{replica_calls}
 use package.Rattle.agreement.proofs.Laws.ViewsLaws.{ShownIn}
-use package.mathlib.Core.Path.{◌≡◌ as ◌is-kept◌, refl as by-text}
+use mathlib.Core.Path.{◌≡◌ as ◌is-kept◌, refl as by-text}
 use package.Rattle.agreement.proofs.Laws.ViewsLaws as page
 
 module _ (digest : Bytes → Bytes) (weights : List ℕ) (books names observers : ℕ → Type 0) (l : List AnyMember) where

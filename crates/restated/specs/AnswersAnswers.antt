@@ -1,6 +1,6 @@
 -- Written by tests/restated --write: what docs/statements has of
 -- crates/answers/specs/Answers.antt.
-use package.Rattle.std.specs.Prelude.{ℕ}
+use Rattle.std.specs.Prelude.{ℕ}
 use package.Rattle.protocol.specs.Answer as protocol
 use package.Rattle.protocol.specs.Answer.{refused, accepted, Done, done, Delivery, known, fresh, Counts, Move, idle, vote_dummy}
 use package.Rattle.protocol.specs.Answer.{output, pass, propose, vote_block, on_block, on_dummy}
@@ -11,7 +11,7 @@ use package.Rattle.answers.specs.declared.answer.Certificate.{Certificate}
 use package.Rattle.answers.specs.declared.answer.Moved.{Moved}
 use package.Rattle.answers.specs.declared.answer.Size.{Size}
 use package.Rattle.answers.specs.Answers.{certificate_of}
-use package.mathlib.Core.Path.{◌≡◌ as ◌is-kept◌, refl as by-text}
+use mathlib.Core.Path.{◌≡◌ as ◌is-kept◌, refl as by-text}
 use package.Rattle.answers.specs.Answers as page
 
 done_answer-kept : Answer → protocol.Answer Done

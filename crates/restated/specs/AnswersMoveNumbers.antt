@@ -1,13 +1,13 @@
 -- Written by tests/restated --write: what docs/statements has of
 -- crates/answers/specs/MoveNumbers.antt.
-use package.Rattle.std.specs.Prelude.{ℕ}
+use Rattle.std.specs.Prelude.{ℕ}
 use package.Rattle.protocol.specs.Answer as protocol
 use package.Rattle.protocol.specs.Answer.{refused, accepted, certificate_kind, finalize_kind, move_number, move_height}
 use package.Rattle.protocol.specs.Answer.{Move, idle, vote_dummy, output, pass, propose, vote_block}
 use package.Rattle.answers.specs.declared.answer.Moved.{Moved}
 use package.Rattle.answers.specs.Answers.{certificate_of}
 use package.Rattle.answers.specs.MoveNumbers.{MoveNumbers, move_certificate, move_finalize}
-use package.mathlib.Core.Path.{◌≡◌ as ◌is-kept◌, refl as by-text}
+use mathlib.Core.Path.{◌≡◌ as ◌is-kept◌, refl as by-text}
 use package.Rattle.answers.specs.MoveNumbers as page
 
 abbrev plain_move : ℕ → ℕ → MoveNumbers

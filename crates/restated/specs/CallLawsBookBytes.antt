@@ -1,13 +1,13 @@
 -- Written by tests/restated --write: what docs/statements has of
 -- crates/call_laws/specs/BookBytes.antt.
-use package.Rattle.std.specs.Prelude.{ℕ, ◌+◌, ◌-◌, ◌*◌, ◌≤◌, ◌≡◌, false, List, [], ◌∷◌, ◌++◌, map, length, set}
+use Rattle.std.specs.Prelude.{ℕ, ◌+◌, ◌-◌, ◌*◌, ◌≤◌, ◌≡◌, false, List, [], ◌∷◌, ◌++◌, map, length, set}
 use package.Rattle.protocol.specs.Open.{Opening, opened_edition, opened_weights}
 use package.Rattle.protocol.specs.Bytes.{Bytes, byte_at, zeros, join, put}
 use package.Rattle.protocol.specs.State.{State, decode, flag, pending, weight_bytes, padded, short_number, number_bytes, head_put}
 use package.Rattle.protocol.specs.State.{book_current}
 use package.Rattle.protocol.specs.Submit.{still_pending}
 use package.Rattle.call_laws.specs.BookBytes.{Signals, entries_after, Submits}
-use package.mathlib.Core.Path.{◌≡◌ as ◌is-kept◌, refl as by-text}
+use mathlib.Core.Path.{◌≡◌ as ◌is-kept◌, refl as by-text}
 use package.Rattle.call_laws.specs.BookBytes as page
 
 opened_book-kept : Opening → ℕ → ℕ → ℕ → Bytes → Bytes

@@ -1,11 +1,11 @@
 -- Written by tests/restated --write: what docs/statements has of
 -- crates/call_laws/proofs/Laws/CallWrittenLaws.antt.
-use package.Rattle.std.specs.Prelude.{ℕ}
+use Rattle.std.specs.Prelude.{ℕ}
 use package.Rattle.protocol.specs.Bytes.{Bytes}
 use package.Rattle.protocol.specs.State.{decode}
 use package.Rattle.call_laws.specs.Readable.{SameSetting, DigestSized}
 use package.Rattle.call_laws.specs.WrittenRead.{MoveWritten, FetchWritten}
-use package.mathlib.Core.Path.{◌≡◌ as ◌is-kept◌, refl as by-text}
+use mathlib.Core.Path.{◌≡◌ as ◌is-kept◌, refl as by-text}
 use package.Rattle.call_laws.proofs.Laws.CallWrittenLaws as page
 
 pub move_written_read-kept : (digest : Bytes → Bytes) → DigestSized digest →

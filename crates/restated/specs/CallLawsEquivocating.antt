@@ -1,12 +1,12 @@
 -- Written by tests/restated --write: what docs/statements has of
 -- crates/call_laws/specs/Equivocating.antt.
-use package.Rattle.std.specs.Prelude.{◌≡◌, ◌≢◌, true}
+use Rattle.std.specs.Prelude.{◌≡◌, ◌≢◌, true}
 use package.Rattle.protocol.specs.Bytes.{Bytes}
 use package.Rattle.protocol.specs.Frame.{kind, signer, frame_height, frame_block}
 use package.Rattle.protocol.specs.State.{State, at, holds_proposal}
 use package.Rattle.call_laws.specs.Readable.{IsRead}
 use package.Rattle.call_laws.specs.Equivocating.{ProposedNow, Equivocation}
-use package.mathlib.Core.Path.{◌≡◌ as ◌is-kept◌, refl as by-text}
+use mathlib.Core.Path.{◌≡◌ as ◌is-kept◌, refl as by-text}
 use package.Rattle.call_laws.specs.Equivocating as page
 
 ProposedNow-kept : (s : State) (frame : Bytes) (read : IsRead s frame) (proposes : kind frame ≡ 1) (here : frame_height frame ≡ s.current) (by_leader : signer frame ≡ (at s s.current).leader) →

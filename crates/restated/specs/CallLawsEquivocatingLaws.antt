@@ -1,12 +1,12 @@
 -- Written by tests/restated --write: what docs/statements has of
 -- crates/call_laws/proofs/Laws/EquivocatingLaws.antt.
-use package.Rattle.std.specs.Prelude.{◌≡◌, true}
+use Rattle.std.specs.Prelude.{◌≡◌, true}
 use package.Rattle.protocol.specs.Bytes.{Bytes}
 use package.Rattle.protocol.specs.State.{decode}
 use package.Rattle.protocol.specs.Deliver.{leader_equivocates}
 use package.Rattle.protocol.proofs.Laws.DeliverLaws.{Accepts}
 use package.Rattle.call_laws.specs.Equivocating.{Equivocation}
-use package.mathlib.Core.Path.{◌≡◌ as ◌is-kept◌, refl as by-text}
+use mathlib.Core.Path.{◌≡◌ as ◌is-kept◌, refl as by-text}
 use package.Rattle.call_laws.proofs.Laws.EquivocatingLaws as page
 
 module _ (digest : Bytes → Bytes) (book frame : Bytes) where

@@ -1,11 +1,11 @@
 -- Written by tests/restated --write: what docs/statements has of
 -- crates/call_laws/specs/Fields.antt.
-use package.Rattle.std.specs.Prelude.{ℕ}
+use Rattle.std.specs.Prelude.{ℕ}
 use package.Rattle.protocol.specs.Bytes.{Bytes, zeros}
 use package.Rattle.protocol.specs.Block.{digest_size, block_size}
 use package.Rattle.protocol.specs.Frame.{kind, signer, frame_height, signer_mask, frame_digest, frame_block}
 use package.Rattle.call_laws.specs.Fields.{Fields}
-use package.mathlib.Core.Path.{◌≡◌ as ◌is-kept◌, refl as by-text}
+use mathlib.Core.Path.{◌≡◌ as ◌is-kept◌, refl as by-text}
 use package.Rattle.call_laws.specs.Fields as page
 
 Fields-kept : (kind : ℕ) (signer : ℕ) (height : ℕ) (mask : ℕ) (digest : Bytes) (block : Bytes) →

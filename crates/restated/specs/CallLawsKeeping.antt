@@ -1,6 +1,6 @@
 -- Written by tests/restated --write: what docs/statements has of
 -- crates/call_laws/specs/Keeping.antt.
-use package.Rattle.std.specs.Prelude.{ℕ, ◌+◌, ◌≤◌, ◌<◌, ◌≡◌, ◌⊎◌, ◌≢◌, Bool, true, false, ◌&&◌, ◌||◌, cond, eqb, length, set}
+use Rattle.std.specs.Prelude.{ℕ, ◌+◌, ◌≤◌, ◌<◌, ◌≡◌, ◌⊎◌, ◌≢◌, Bool, true, false, ◌&&◌, ◌||◌, cond, eqb, length, set}
 use package.Rattle.protocol.specs.Bytes.{Bytes, byte_at, AreBytes}
 use package.Rattle.protocol.specs.Answer.{Delivery, known, fresh}
 use package.Rattle.protocol.specs.Mask.{in_mask}
@@ -11,7 +11,7 @@ use package.Rattle.protocol.specs.Sound.{view, sound}
 use package.Rattle.call_laws.specs.KeptBytes.{SameOutside, delivery_parts}
 use package.Rattle.call_laws.specs.Equivocating.{Equivocation}
 use package.Rattle.call_laws.specs.Keeping.{Tallied, KeepsAt, KeepsState, KeepsStatement, FiresTimer, Keeps, says}
-use package.mathlib.Core.Path.{◌≡◌ as ◌is-kept◌, refl as by-text}
+use mathlib.Core.Path.{◌≡◌ as ◌is-kept◌, refl as by-text}
 use package.Rattle.call_laws.specs.Keeping as page
 
 says-kept : (k statement certificate : ℕ) → Bytes → ℕ → Bool

@@ -1,13 +1,13 @@
 -- Written by tests/restated --write: what docs/statements has of
 -- crates/call_laws/specs/Keeping.antt.
-use package.Rattle.std.specs.Prelude.{ℕ, ◌≡◌, ◌⊎◌, true, false}
+use Rattle.std.specs.Prelude.{ℕ, ◌≡◌, ◌⊎◌, true, false}
 use package.Rattle.protocol.specs.Bytes.{Bytes}
 use package.Rattle.protocol.specs.Frame.{signer_mask, frame_block}
 use package.Rattle.protocol.specs.State.{Height, holds_proposal, is_notarized}
 use package.Rattle.protocol.specs.View.{View, quorum}
 use package.Rattle.protocol.specs.Deliver.{voters_for}
 use package.Rattle.call_laws.specs.Keeping.{NewlyKept, KeepsMasks, KeepsVotes, KeepsProposal}
-use package.mathlib.Core.Path.{◌≡◌ as ◌is-kept◌, refl as by-text}
+use mathlib.Core.Path.{◌≡◌ as ◌is-kept◌, refl as by-text}
 use package.Rattle.call_laws.specs.Keeping as page
 
 module _ (digest : Bytes → Bytes) (v : View) where

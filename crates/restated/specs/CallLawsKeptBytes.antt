@@ -1,12 +1,12 @@
 -- Written by tests/restated --write: what docs/statements has of
 -- crates/call_laws/specs/KeptBytes.antt.
-use package.Rattle.std.specs.Prelude.{ℕ, ◌+◌, ◌-◌, ◌*◌, ◌≡◌, Bool, false, ◌&&◌, ◌||◌, not, cond, List, [], ◌∷◌, ◌++◌, leb, ltb}
+use Rattle.std.specs.Prelude.{ℕ, ◌+◌, ◌-◌, ◌*◌, ◌≡◌, Bool, false, ◌&&◌, ◌||◌, not, cond, List, [], ◌∷◌, ◌++◌, leb, ltb}
 use package.Rattle.protocol.specs.Bytes.{Bytes, byte_at}
 use package.Rattle.protocol.specs.Frame.{kind, signer, frame_height, is_proposal, is_block_vote, is_dummy_vote, is_finalize}
 use package.Rattle.protocol.specs.Frame.{is_dummy_certificate, is_finalize_certificate}
 use package.Rattle.protocol.specs.State.{Height, at, decode, is_notarized, book_heights}
 use package.Rattle.call_laws.specs.KeptBytes.{Part, in_parts, SameOutside, notarized_parts, kept_parts, newly_notarized}
-use package.mathlib.Core.Path.{◌≡◌ as ◌is-kept◌, refl as by-text}
+use mathlib.Core.Path.{◌≡◌ as ◌is-kept◌, refl as by-text}
 use package.Rattle.call_laws.specs.KeptBytes as page
 
 abbrev Part-kept : Type 0

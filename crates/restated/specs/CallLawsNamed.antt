@@ -1,6 +1,6 @@
 -- Written by tests/restated --write: what docs/statements has of
 -- crates/call_laws/specs/Named.antt.
-use package.Rattle.std.specs.Prelude.{ℕ, true, false, cond, List, [], ◌∷◌}
+use Rattle.std.specs.Prelude.{ℕ, true, false, cond, List, [], ◌∷◌}
 use package.Rattle.protocol.specs.Bytes.{Bytes}
 use package.Rattle.protocol.specs.Frame.{proposal, block_vote, dummy_vote, finalize, is_block_certificate, is_dummy_certificate}
 use package.Rattle.protocol.specs.State.{State, at}
@@ -11,7 +11,7 @@ use package.Rattle.protocol.specs.Answer.{vote_block, certificate_kind}
 use package.Rattle.call_laws.specs.Fields.{Fields, proposal_fields, block_vote_fields, dummy_vote_fields, finalize_fields}
 use package.Rattle.call_laws.specs.Fields.{block_certificate_fields, dummy_certificate_fields, finalize_certificate_fields}
 use package.Rattle.call_laws.specs.Named.{certificate_fields}
-use package.mathlib.Core.Path.{◌≡◌ as ◌is-kept◌, refl as by-text}
+use mathlib.Core.Path.{◌≡◌ as ◌is-kept◌, refl as by-text}
 use package.Rattle.call_laws.specs.Named as page
 
 certificate_fields-kept : State → ℕ → ℕ → Fields

@@ -1,14 +1,14 @@
 -- Written by tests/restated --write: what docs/statements has of
 -- crates/call_laws/specs/PacketKeeping.antt.
-use package.Rattle.std.specs.Prelude.{◌≡◌, List, [], ◌∷◌}
-use package.Rattle.std.proofs.Math.Option.{some, none}
+use Rattle.std.specs.Prelude.{◌≡◌, List, [], ◌∷◌}
+use Rattle.std.proofs.Math.Option.{some, none}
 use package.Rattle.protocol.specs.Bytes.{Bytes}
 use package.Rattle.protocol.specs.Tests.{first_refusal}
 use package.Rattle.protocol.specs.Answer.{Answer, Counts, Delivery, refused, accepted}
 use package.Rattle.protocol.specs.Deliver.{deliver_rows}
 use package.Rattle.protocol.specs.Packet.{no_frames, counted_in}
 use package.Rattle.call_laws.specs.Keeping.{Keeps}
-use package.mathlib.Core.Path.{◌≡◌ as ◌is-kept◌, refl as by-text}
+use mathlib.Core.Path.{◌≡◌ as ◌is-kept◌, refl as by-text}
 use package.Rattle.call_laws.specs.PacketKeeping as page
 
 module _ (digest : Bytes → Bytes) where

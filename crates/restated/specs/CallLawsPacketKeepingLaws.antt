@@ -1,11 +1,11 @@
 -- Written by tests/restated --write: what docs/statements has of
 -- crates/call_laws/proofs/Laws/PacketKeepingLaws.antt.
-use package.Rattle.std.specs.Prelude.{◌≡◌}
+use Rattle.std.specs.Prelude.{◌≡◌}
 use package.Rattle.protocol.specs.Bytes.{Bytes}
 use package.Rattle.protocol.specs.Answer.{Counts, accepted}
 use package.Rattle.protocol.specs.Packet.{packet_frames, packet_call}
 use package.Rattle.call_laws.specs.PacketKeeping.{KeepsAll}
-use package.mathlib.Core.Path.{◌≡◌ as ◌is-kept◌, refl as by-text}
+use mathlib.Core.Path.{◌≡◌ as ◌is-kept◌, refl as by-text}
 use package.Rattle.call_laws.proofs.Laws.PacketKeepingLaws as page
 
 module _ (digest : Bytes → Bytes) where

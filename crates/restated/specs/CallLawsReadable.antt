@@ -1,7 +1,7 @@
 -- Written by tests/restated --write: what docs/statements has of
 -- crates/call_laws/specs/Readable.antt.
-use package.Rattle.std.specs.Prelude.{ℕ, ◌≤◌, ◌≡◌, List, map, length}
-use package.Rattle.std.proofs.Math.Option.{none}
+use Rattle.std.specs.Prelude.{ℕ, ◌≤◌, ◌≡◌, List, map, length}
+use Rattle.std.proofs.Math.Option.{none}
 use package.Rattle.protocol.specs.Every.{Every}
 use package.Rattle.protocol.specs.Bytes.{Bytes, Sized}
 use package.Rattle.protocol.specs.Tests.{first_refusal}
@@ -11,7 +11,7 @@ use package.Rattle.protocol.specs.State.{State, at, last}
 use package.Rattle.protocol.specs.Deliver.{read_rows}
 use package.Rattle.call_laws.specs.Fields.{Fields, fields}
 use package.Rattle.call_laws.specs.Readable.{IsRead, SameSetting, Said}
-use package.mathlib.Core.Path.{◌≡◌ as ◌is-kept◌, refl as by-text}
+use mathlib.Core.Path.{◌≡◌ as ◌is-kept◌, refl as by-text}
 use package.Rattle.call_laws.specs.Readable as page
 
 abbrev IsRead-kept : State → Bytes → Type 0

@@ -1,12 +1,12 @@
 -- Written by tests/restated --write: what docs/statements has of
 -- crates/call_laws/specs/Reply.antt.
-use package.Rattle.std.specs.Prelude.{ℕ, ◌+◌, ◌*◌, ◌<◌, ◌≡◌, List, [], length, get_or, drop}
+use Rattle.std.specs.Prelude.{ℕ, ◌+◌, ◌*◌, ◌<◌, ◌≡◌, List, [], length, get_or, drop}
 use package.Rattle.protocol.specs.Bytes.{Bytes, part, zeros}
 use package.Rattle.protocol.specs.Frame.{frame_size}
 use package.Rattle.protocol.specs.Answer.{Answer, refused, accepted, Move}
 use package.Rattle.protocol.specs.Move.{unused}
 use package.Rattle.call_laws.specs.Reply.{Wrote}
-use package.mathlib.Core.Path.{◌≡◌ as ◌is-kept◌, refl as by-text}
+use mathlib.Core.Path.{◌≡◌ as ◌is-kept◌, refl as by-text}
 use package.Rattle.call_laws.specs.Reply as page
 
 Wrote-kept : (frames : List Bytes) (blank : ℕ) (before after : Bytes) (frame_at_lem : (i : ℕ) → i < length frames → part after (frame_size * i) frame_size ≡ get_or frames i []) (blank_after_lem : part after (frame_size * length frames) blank ≡ zeros blank) (rest_kept : drop (frame_size * length frames + blank) after ≡ drop (frame_size * length frames + blank) before) (same_length : length after ≡ length before) →

@@ -1,9 +1,9 @@
 -- Written by tests/restated --write: what docs/statements has of
 -- crates/call_laws/specs/SettingStays.antt.
-use package.Rattle.std.specs.Prelude.{◌≡◌}
+use Rattle.std.specs.Prelude.{◌≡◌}
 use package.Rattle.protocol.specs.State.{State, last}
 use package.Rattle.call_laws.specs.SettingStays.{SettingStays}
-use package.mathlib.Core.Path.{◌≡◌ as ◌is-kept◌, refl as by-text}
+use mathlib.Core.Path.{◌≡◌ as ◌is-kept◌, refl as by-text}
 use package.Rattle.call_laws.specs.SettingStays as page
 
 SettingStays-kept : (s t : State) (same_edition : t.edition ≡ s.edition) (same_n : t.n ≡ s.n) (same_weights : t.weights ≡ s.weights) (same_own : t.own ≡ s.own) (same_last : last t ≡ last s) →

@@ -1,13 +1,13 @@
 -- Written by tests/restated --write: what docs/statements has of
 -- crates/call_laws/proofs/Laws/SoundStays.antt.
-use package.Rattle.std.specs.Prelude.{ℕ, ◌≡◌, true}
+use Rattle.std.specs.Prelude.{ℕ, ◌≡◌, true}
 use package.Rattle.protocol.specs.Bytes.{Bytes}
 use package.Rattle.protocol.specs.Sound.{sound}
 use package.Rattle.protocol.specs.Answer.{accepted, done}
 use package.Rattle.protocol.specs.Open.{Opening, open_call}
 use package.Rattle.protocol.specs.Call.{Call}
 use package.Rattle.protocol.specs.Call.{book_after}
-use package.mathlib.Core.Path.{◌≡◌ as ◌is-kept◌, refl as by-text}
+use mathlib.Core.Path.{◌≡◌ as ◌is-kept◌, refl as by-text}
 use package.Rattle.call_laws.proofs.Laws.SoundStays as page
 
 module _ (digest : Bytes → Bytes) where

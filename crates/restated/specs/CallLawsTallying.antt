@@ -1,7 +1,7 @@
 -- Written by tests/restated --write: what docs/statements has of
 -- crates/call_laws/proofs/Laws/Tallying.antt.
-use package.Rattle.std.specs.Prelude.{ℕ, ◌≡◌, true}
-use package.mathlib.Core.List.{List}
+use Rattle.std.specs.Prelude.{ℕ, ◌≡◌, true}
+use mathlib.Core.List.{List}
 use package.Rattle.protocol.specs.Bytes.{Bytes}
 use package.Rattle.protocol.specs.Sound.{sound}
 use package.Rattle.protocol.specs.State.{decode}
@@ -10,7 +10,7 @@ use package.Rattle.protocol.specs.Open.{Opening, open_call}
 use package.Rattle.protocol.specs.Call.{Call}
 use package.Rattle.protocol.specs.Call.{book_after, book_after_all}
 use package.Rattle.call_laws.specs.Keeping.{AllTallied}
-use package.mathlib.Core.Path.{◌≡◌ as ◌is-kept◌, refl as by-text}
+use mathlib.Core.Path.{◌≡◌ as ◌is-kept◌, refl as by-text}
 use package.Rattle.call_laws.proofs.Laws.Tallying as page
 
 module _ (digest : Bytes → Bytes) where

@@ -1,6 +1,6 @@
 -- Written by tests/restated --write: what docs/statements has of
 -- crates/call_laws/specs/WrittenRead.antt.
-use package.Rattle.std.specs.Prelude.{ℕ, ◌≡◌}
+use Rattle.std.specs.Prelude.{ℕ, ◌≡◌}
 use package.Rattle.protocol.specs.Bytes.{Bytes}
 use package.Rattle.protocol.specs.State.{decode}
 use package.Rattle.protocol.specs.Move.{move_call}
@@ -9,7 +9,7 @@ use package.Rattle.call_laws.specs.Readable.{Said}
 use package.Rattle.call_laws.specs.Named.{move_answer_frames, move_answer_fields, fetch_answer_frames, fetch_answer_fields}
 use package.Rattle.call_laws.specs.Reply.{Wrote, blank_after}
 use package.Rattle.call_laws.specs.WrittenRead.{MoveWritten, FetchWritten}
-use package.mathlib.Core.Path.{◌≡◌ as ◌is-kept◌, refl as by-text}
+use mathlib.Core.Path.{◌≡◌ as ◌is-kept◌, refl as by-text}
 use package.Rattle.call_laws.specs.WrittenRead as page
 
 MoveWritten-kept : (digest : Bytes → Bytes) (book reply other : Bytes) (named : (move_call digest book reply).frames ≡ move_answer_frames digest (decode book) (move_call digest book reply).answer) (said : Said (decode other) (move_answer_fields digest (decode book) (move_call digest book reply).answer) (move_call digest book reply).frames) (wrote : Wrote (move_call digest book reply).frames (blank_after (move_call digest book reply).answer) reply (move_call digest book reply).reply) →

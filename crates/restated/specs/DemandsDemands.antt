@@ -1,7 +1,7 @@
 -- Written by tests/restated --write: what docs/statements has of
 -- crates/demands/specs/Demands.antt.
-use package.Rattle.std.specs.Prelude.{ℕ, ◌-◌, ◌*◌, ◌≤◌, ◌<◌, ◌≡◌, true, false, ◌&&◌, List, [], ◌∷◌, ◌++◌, map, length, replicate, leb, ltb}
-use package.Rattle.std.proofs.Math.Option.{none}
+use Rattle.std.specs.Prelude.{ℕ, ◌-◌, ◌*◌, ◌≤◌, ◌<◌, ◌≡◌, true, false, ◌&&◌, List, [], ◌∷◌, ◌++◌, map, length, replicate, leb, ltb}
+use Rattle.std.proofs.Math.Option.{none}
 use package.Rattle.sha256.specs.Digest.{sha256}
 use package.Rattle.protocol.specs.Bytes.{Bytes, AreBytes, byte_at, holds, join, le16, zeros}
 use package.Rattle.protocol.specs.Distinct.{distinct_after, distinct, none_twice}
@@ -42,7 +42,7 @@ use package.Rattle.paper.specs.Steps.{FiveSteps}
 use package.Rattle.paper.specs.Timer.{Timer, TwoBlocks, VotesDummyNext}
 use package.Rattle.paper.specs.Idle.{IdlesJustThen, MovesEnd}
 use package.Rattle.paper.specs.Register.{ReadsChainOf, ReadsChain, CannotRead}
-use package.mathlib.Core.Path.{◌≡◌ as ◌is-kept◌, refl as by-text}
+use mathlib.Core.Path.{◌≡◌ as ◌is-kept◌, refl as by-text}
 use package.Rattle.demands.specs.Demands as page
 
 pub open_refused-kept : (way : Opening) (book : Bytes) (n own heights : ℕ) (leaders : Bytes) →

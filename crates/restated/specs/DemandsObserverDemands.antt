@@ -1,7 +1,7 @@
 -- Written by tests/restated --write: what docs/statements has of
 -- crates/demands/specs/ObserverDemands.antt.
-use package.Rattle.std.specs.Prelude.{ℕ, ◌≤◌, ◌≡◌, true, false, ◌&&◌, [], ◌∷◌, length}
-use package.Rattle.std.proofs.Math.Option.{none}
+use Rattle.std.specs.Prelude.{ℕ, ◌≤◌, ◌≡◌, true, false, ◌&&◌, [], ◌∷◌, length}
+use Rattle.std.proofs.Math.Option.{none}
 use package.Rattle.sha256.specs.Digest.{sha256}
 use package.Rattle.protocol.specs.Open.{Opening}
 use package.Rattle.protocol.specs.Bytes.{Bytes, AreBytes, byte_at}
@@ -25,7 +25,7 @@ use package.Rattle.observer_laws.specs.CertificatesRead.{MoveReadByObserver, Fet
 use package.Rattle.observer_laws.specs.Twins.{Twins, TwinsMoved, ObserverIdles}
 use package.Rattle.observer_laws.specs.TwinsMet.{TwinsMet}
 use package.Rattle.call_laws.specs.SettingStays.{SettingStays}
-use package.mathlib.Core.Path.{◌≡◌ as ◌is-kept◌, refl as by-text}
+use mathlib.Core.Path.{◌≡◌ as ◌is-kept◌, refl as by-text}
 use package.Rattle.demands.specs.ObserverDemands as page
 
 pub observer_open_refused-kept : (way : Opening) (book : Bytes) (n heights : ℕ) →

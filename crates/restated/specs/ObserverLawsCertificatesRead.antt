@@ -1,7 +1,7 @@
 -- Written by tests/restated --write: what docs/statements has of
 -- crates/observer_laws/specs/CertificatesRead.antt.
-use package.Rattle.std.specs.Prelude.{ℕ, ◌≤◌, ◌≡◌, ◌≢◌, true, List, map}
-use package.Rattle.std.proofs.Math.Option.{none}
+use Rattle.std.specs.Prelude.{ℕ, ◌≤◌, ◌≡◌, ◌≢◌, true, List, map}
+use Rattle.std.proofs.Math.Option.{none}
 use package.Rattle.protocol.specs.Bytes.{Bytes}
 use package.Rattle.protocol.specs.Every.{Every}
 use package.Rattle.protocol.specs.Tests.{first_refusal}
@@ -17,7 +17,7 @@ use package.Rattle.call_laws.specs.Fields.{fields}
 use package.Rattle.call_laws.specs.Named.{move_answer_fields, fetch_answer_fields}
 use package.Rattle.observer_laws.specs.Refusing.{certificate_rows}
 use package.Rattle.observer_laws.specs.CertificatesRead.{OtherBlock}
-use package.mathlib.Core.Path.{◌≡◌ as ◌is-kept◌, refl as by-text}
+use mathlib.Core.Path.{◌≡◌ as ◌is-kept◌, refl as by-text}
 use package.Rattle.observer_laws.specs.CertificatesRead as page
 
 OtherBlock-kept : (s : State) (frame : Bytes) (certifies : kind frame ≡ 5) (has_block_lem : is_notarized (at s (frame_height frame)) ≡ true) (unlike : (at s (frame_height frame)).notarized ≢ frame_block frame) →

@@ -1,13 +1,13 @@
 -- Written by tests/restated --write: what docs/statements has of
 -- crates/observer_laws/proofs/Laws/CertificatesReadLaws.antt.
-use package.Rattle.std.specs.Prelude.{ℕ}
-use package.Rattle.std.proofs.Math.Path.{◌≡◌}
+use Rattle.std.specs.Prelude.{ℕ}
+use Rattle.std.proofs.Math.Path.{◌≡◌}
 use package.Rattle.protocol.specs.Bytes.{Bytes}
 use package.Rattle.protocol.specs.State.{decode}
 use package.Rattle.protocol.specs.Observer.{observer_state}
 use package.Rattle.call_laws.specs.Readable.{DigestSized}
 use package.Rattle.observer_laws.specs.CertificatesRead.{MoveReadByObserver, FetchReadByObserver}
-use package.mathlib.Core.Path.{◌≡◌ as ◌is-kept◌, refl as by-text}
+use mathlib.Core.Path.{◌≡◌ as ◌is-kept◌, refl as by-text}
 use package.Rattle.observer_laws.proofs.Laws.CertificatesReadLaws as page
 
 module _ (digest : Bytes → Bytes) where

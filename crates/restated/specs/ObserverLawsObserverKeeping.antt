@@ -1,6 +1,6 @@
 -- Written by tests/restated --write: what docs/statements has of
 -- crates/observer_laws/specs/ObserverKeeping.antt.
-use package.Rattle.std.specs.Prelude.{ℕ, ◌+◌, ◌-◌, ◌*◌, ◌<◌, ◌≡◌, ◌≢◌, true, false, ◌&&◌, ◌||◌, cond, List, [], ◌∷◌, length}
+use Rattle.std.specs.Prelude.{ℕ, ◌+◌, ◌-◌, ◌*◌, ◌<◌, ◌≡◌, ◌≢◌, true, false, ◌&&◌, ◌||◌, cond, List, [], ◌∷◌, length}
 use package.Rattle.protocol.specs.Bytes.{Bytes, byte_at, AreBytes}
 use package.Rattle.protocol.specs.Answer.{Delivery, known, fresh}
 use package.Rattle.protocol.specs.Mask.{in_mask}
@@ -11,7 +11,7 @@ use package.Rattle.protocol.specs.Observer.{observer_state}
 use package.Rattle.protocol.specs.ObserverSound.{observer_sound}
 use package.Rattle.call_laws.specs.KeptBytes.{Part, SameOutside}
 use package.Rattle.observer_laws.specs.ObserverKeeping.{certificate_parts, SameBlock, BlockOf, KeepsCertificate, ObserverKeeps}
-use package.mathlib.Core.Path.{◌≡◌ as ◌is-kept◌, refl as by-text}
+use mathlib.Core.Path.{◌≡◌ as ◌is-kept◌, refl as by-text}
 use package.Rattle.observer_laws.specs.ObserverKeeping as page
 
 module _ (heights h : ℕ) where

@@ -1,10 +1,10 @@
 -- Written by tests/restated --write: what docs/statements has of
 -- crates/observer_laws/specs/ObserverOpened.antt.
-use package.Rattle.std.specs.Prelude.{ℕ, ◌*◌, ◌∷◌, ◌++◌}
+use Rattle.std.specs.Prelude.{ℕ, ◌*◌, ◌∷◌, ◌++◌}
 use package.Rattle.protocol.specs.Bytes.{Bytes, zeros}
 use package.Rattle.protocol.specs.State.{weight_bytes, padded, short_number, number_bytes}
 use package.Rattle.protocol.specs.Open.{Opening, opened_edition, opened_weights}
-use package.mathlib.Core.Path.{◌≡◌ as ◌is-kept◌, refl as by-text}
+use mathlib.Core.Path.{◌≡◌ as ◌is-kept◌, refl as by-text}
 use package.Rattle.observer_laws.specs.ObserverOpened as page
 
 opened_observer-kept : Opening → ℕ → ℕ → Bytes

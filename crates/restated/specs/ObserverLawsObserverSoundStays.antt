@@ -1,6 +1,6 @@
 -- Written by tests/restated --write: what docs/statements has of
 -- crates/observer_laws/proofs/Laws/ObserverSoundStays.antt.
-use package.Rattle.std.specs.Prelude.{ℕ, ◌≡◌, true}
+use Rattle.std.specs.Prelude.{ℕ, ◌≡◌, true}
 use package.Rattle.protocol.specs.Open.{Opening}
 use package.Rattle.protocol.specs.Bytes.{Bytes}
 use package.Rattle.protocol.specs.Answer.{accepted, done}
@@ -8,7 +8,7 @@ use package.Rattle.protocol.specs.ObserverSound.{observer_sound}
 use package.Rattle.protocol.specs.ObserverCalls.{observer_open_call}
 use package.Rattle.protocol.specs.ObserverCall.{ObserverCall}
 use package.Rattle.protocol.specs.ObserverCall.{observation}
-use package.mathlib.Core.Path.{◌≡◌ as ◌is-kept◌, refl as by-text}
+use mathlib.Core.Path.{◌≡◌ as ◌is-kept◌, refl as by-text}
 use package.Rattle.observer_laws.proofs.Laws.ObserverSoundStays as page
 
 module _ (digest : Bytes → Bytes) where

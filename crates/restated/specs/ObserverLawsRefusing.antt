@@ -1,6 +1,6 @@
 -- Written by tests/restated --write: what docs/statements has of
 -- crates/observer_laws/specs/Refusing.antt.
-use package.Rattle.std.specs.Prelude.{◌≡◌, true, ◌&&◌, List, [], ◌∷◌, ◌++◌}
+use Rattle.std.specs.Prelude.{◌≡◌, true, ◌&&◌, List, [], ◌∷◌, ◌++◌}
 use package.Rattle.protocol.specs.Bytes.{Bytes, same}
 use package.Rattle.protocol.specs.Tests.{Row, implies, in_range}
 use package.Rattle.protocol.specs.Mask.{below_bit}
@@ -14,7 +14,7 @@ use package.Rattle.protocol.specs.Observer.{observer_state}
 use package.Rattle.protocol.specs.ObserverSound.{observer_sound}
 use package.Rattle.protocol.specs.ObserverCalls.{observer_deliver_call}
 use package.Rattle.observer_laws.specs.Refusing.{certificate_rows, notarized_row}
-use package.mathlib.Core.Path.{◌≡◌ as ◌is-kept◌, refl as by-text}
+use mathlib.Core.Path.{◌≡◌ as ◌is-kept◌, refl as by-text}
 use package.Rattle.observer_laws.specs.Refusing as page
 
 certificate_rows-kept : State → Bytes → List Row

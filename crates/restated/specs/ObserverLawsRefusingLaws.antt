@@ -1,12 +1,12 @@
 -- Written by tests/restated --write: what docs/statements has of
 -- crates/observer_laws/proofs/Laws/RefusingLaws.antt.
-use package.mathlib.Core.List.{[], ◌∷◌}
+use mathlib.Core.List.{[], ◌∷◌}
 use package.Rattle.protocol.specs.Bytes.{Bytes}
 use package.Rattle.protocol.specs.Answer.{Delivery}
 use package.Rattle.protocol.specs.ObserverCalls.{observer_deliver_call}
 use package.Rattle.call_laws.specs.Refusals.{Refuses}
 use package.Rattle.observer_laws.specs.Refusing.{refusal_rows, RefusesStatements}
-use package.mathlib.Core.Path.{◌≡◌ as ◌is-kept◌, refl as by-text}
+use mathlib.Core.Path.{◌≡◌ as ◌is-kept◌, refl as by-text}
 use package.Rattle.observer_laws.proofs.Laws.RefusingLaws as page
 
 module _ (digest : Bytes → Bytes) where

@@ -1,7 +1,7 @@
 -- Written by tests/restated --write: what docs/statements has of
 -- crates/observer_laws/specs/Twins.antt.
-use package.Rattle.std.specs.Prelude.{ℕ, ◌%◌, ◌≤◌, ◌≡◌, true, cond, List, [], ◌∷◌, ◌++◌, length, replicate, eqb}
-use package.Rattle.std.proofs.Math.Option.{none}
+use Rattle.std.specs.Prelude.{ℕ, ◌%◌, ◌≤◌, ◌≡◌, true, cond, List, [], ◌∷◌, ◌++◌, length, replicate, eqb}
+use Rattle.std.proofs.Math.Option.{none}
 use package.Rattle.protocol.specs.Bytes.{Bytes}
 use package.Rattle.protocol.specs.Every.{Every}
 use package.Rattle.protocol.specs.Frame.{kind, frame_size, is_certificate}
@@ -19,7 +19,7 @@ use package.Rattle.protocol.specs.ObserverCalls.{observer_read_part, observer_re
 use package.Rattle.protocol.specs.ObserverCall.{ObserverCall, observer_opening, observer_delivery, observer_moving, observer_sizing}
 use package.Rattle.protocol.specs.ObserverCall.{observer_reading, Observation, observation, observer_book_after_all}
 use package.Rattle.observer_laws.specs.Twins.{given, given_to_observer, Histories, all_given, all_given_to_observer, IsCertificate, certificates_of, opens, observer_opens}
-use package.mathlib.Core.Path.{◌≡◌ as ◌is-kept◌, refl as by-text}
+use mathlib.Core.Path.{◌≡◌ as ◌is-kept◌, refl as by-text}
 use package.Rattle.observer_laws.specs.Twins as page
 
 given-kept : Call → List Bytes

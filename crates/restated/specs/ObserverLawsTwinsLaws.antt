@@ -2,7 +2,7 @@
 -- crates/observer_laws/proofs/Laws/TwinsLaws.antt.
 use package.Rattle.protocol.specs.Bytes.{Bytes}
 use package.Rattle.observer_laws.specs.Twins.{Twins, ObserverIdles}
-use package.mathlib.Core.Path.{◌≡◌ as ◌is-kept◌, refl as by-text}
+use mathlib.Core.Path.{◌≡◌ as ◌is-kept◌, refl as by-text}
 use package.Rattle.observer_laws.proofs.Laws.TwinsLaws as page
 
 module _ (digest : Bytes → Bytes) where

@@ -1,6 +1,6 @@
 -- Written by tests/restated --write: what docs/statements has of
 -- crates/observer_laws/specs/TwinsMet.antt.
-use package.Rattle.std.specs.Prelude.{ℕ, ◌≡◌, List, [], ◌∷◌, ◌++◌, replicate}
+use Rattle.std.specs.Prelude.{ℕ, ◌≡◌, List, [], ◌∷◌, ◌++◌, replicate}
 use package.Rattle.protocol.specs.Open.{unweighed, weighed}
 use package.Rattle.protocol.specs.Bytes.{Bytes, zeros}
 use package.Rattle.protocol.specs.Block.{new_block}
@@ -15,7 +15,7 @@ use package.Rattle.protocol.specs.ObserverCall.{ObserverCall, observer_opening, 
 use package.Rattle.observer_laws.specs.Twins.{all_given, all_given_to_observer, opens, observer_opens}
 use package.Rattle.observer_laws.specs.Twins.{Histories, SameCertificates, book_of, observer_book_of, SameLog}
 use package.Rattle.observer_laws.specs.TwinsMet.{entry, block, other_block, old, observer_old, strangers_vote, vote, calls, observer_calls, histories, numbers}
-use package.mathlib.Core.Path.{◌≡◌ as ◌is-kept◌, refl as by-text}
+use mathlib.Core.Path.{◌≡◌ as ◌is-kept◌, refl as by-text}
 use package.Rattle.observer_laws.specs.TwinsMet as page
 
 abbrev move : Call

@@ -2,7 +2,7 @@
 -- crates/observer_laws/proofs/Laws/TwinsMetLaws.antt.
 use package.Rattle.protocol.specs.Bytes.{Bytes}
 use package.Rattle.observer_laws.specs.TwinsMet.{TwinsMet}
-use package.mathlib.Core.Path.{◌≡◌ as ◌is-kept◌, refl as by-text}
+use mathlib.Core.Path.{◌≡◌ as ◌is-kept◌, refl as by-text}
 use package.Rattle.observer_laws.proofs.Laws.TwinsMetLaws as page
 
 module _ (digest : Bytes → Bytes) where

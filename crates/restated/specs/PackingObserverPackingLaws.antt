@@ -1,6 +1,6 @@
 -- Written by tests/restated --write: what docs/statements has of
 -- crates/packing/proofs/Laws/ObserverPackingLaws.antt.
-use package.Rattle.std.specs.Prelude.{ℕ, ◌≡◌}
+use Rattle.std.specs.Prelude.{ℕ, ◌≡◌}
 use package.Rattle.protocol.specs.Bytes.{Bytes}
 use package.Rattle.protocol.specs.Open.{Opening}
 use package.Rattle.protocol.specs.ObserverCalls.{observer_open_call, observer_deliver_call}
@@ -9,7 +9,7 @@ use package.Rattle.protocol.specs.ObserverCalls.{observer_size_call}
 use package.Rattle.packing.specs.Packing.{packed_done, packed_delivery, packed_move, packed_size}
 use package.Rattle.packing.specs.Unpacking.{DoneRead, DeliveryRead, MoveRead, SizeRead}
 use package.Rattle.packing.specs.Unpacking.{unpacked_frames}
-use package.mathlib.Core.Path.{◌≡◌ as ◌is-kept◌, refl as by-text}
+use mathlib.Core.Path.{◌≡◌ as ◌is-kept◌, refl as by-text}
 use package.Rattle.packing.proofs.Laws.ObserverPackingLaws as page
 
 pub observer_open_read-kept : (way : Opening) (book : Bytes) (n heights : ℕ) →

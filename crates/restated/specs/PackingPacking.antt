@@ -1,11 +1,11 @@
 -- Written by tests/restated --write: what docs/statements has of
 -- crates/packing/specs/Packing.antt.
-use package.Rattle.std.specs.Prelude.{ℕ, ◌+◌, ◌*◌, List, [], ◌∷◌}
+use Rattle.std.specs.Prelude.{ℕ, ◌+◌, ◌*◌, List, [], ◌∷◌}
 use package.Rattle.protocol.specs.Answer.{Answer, refused, accepted, Done, Delivery, known, fresh, Counts, Move, idle}
 use package.Rattle.protocol.specs.Answer.{vote_dummy, output, pass, propose, vote_block, certificate_kind, finalize_kind}
 use package.Rattle.protocol.specs.Answer.{move_number, move_height}
 use package.Rattle.packing.specs.Packing.{pass_kinds}
-use package.mathlib.Core.Path.{◌≡◌ as ◌is-kept◌, refl as by-text}
+use mathlib.Core.Path.{◌≡◌ as ◌is-kept◌, refl as by-text}
 use package.Rattle.packing.specs.Packing as page
 
 packed_done-kept : Answer Done → ℕ

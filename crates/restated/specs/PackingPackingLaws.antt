@@ -1,12 +1,12 @@
 -- Written by tests/restated --write: what docs/statements has of
 -- crates/packing/proofs/Laws/PackingLaws.antt.
-use package.Rattle.std.specs.Prelude.{◌≤◌}
+use Rattle.std.specs.Prelude.{◌≤◌}
 use package.Rattle.protocol.specs.Bytes.{Bytes}
 use package.Rattle.protocol.specs.Move.{move_call}
 use package.Rattle.protocol.specs.Read.{size_call}
 use package.Rattle.protocol.specs.Block.{maximum_heights}
 use package.Rattle.packing.specs.Packing.{answered_height, answered_size}
-use package.mathlib.Core.Path.{◌≡◌ as ◌is-kept◌, refl as by-text}
+use mathlib.Core.Path.{◌≡◌ as ◌is-kept◌, refl as by-text}
 use package.Rattle.packing.proofs.Laws.PackingLaws as page
 
 module _ (digest : Bytes → Bytes) where

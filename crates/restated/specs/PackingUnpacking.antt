@@ -1,13 +1,13 @@
 -- Written by tests/restated --write: what docs/statements has of
 -- crates/packing/specs/Unpacking.antt.
-use package.Rattle.std.specs.Prelude.{ℕ, ◌/◌, ◌^◌, ◌≤◌, ◌≡◌, ◌||◌, cond, eqb}
-use package.Rattle.std.specs.Int.Bits.{bit_and}
+use Rattle.std.specs.Prelude.{ℕ, ◌/◌, ◌^◌, ◌≤◌, ◌≡◌, ◌||◌, cond, eqb}
+use Rattle.std.specs.Int.Bits.{bit_and}
 use package.Rattle.protocol.specs.Answer.{Answer, refused, accepted, Done, Delivery, known, fresh, Counts, Move}
 use package.Rattle.protocol.specs.Answer.{refusal_number}
 use package.Rattle.answers.specs.MoveNumbers.{answer_numbers}
 use package.Rattle.packing.specs.Packing.{answered_size}
 use package.Rattle.packing.specs.Unpacking.{unpacked_refusal, unpacked_fresh, unpacked_move, unpacked_height, unpacked_certificate, unpacked_finalize, unpacked_size, answered_fresh, last_refusal, Numbered, DoneRead, DeliveryRead, PacketRead, MoveRead, SizeRead}
-use package.mathlib.Core.Path.{◌≡◌ as ◌is-kept◌, refl as by-text}
+use mathlib.Core.Path.{◌≡◌ as ◌is-kept◌, refl as by-text}
 use package.Rattle.packing.specs.Unpacking as page
 
 unpacked_refusal-kept : ℕ → ℕ

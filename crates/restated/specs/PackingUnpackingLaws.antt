@@ -1,6 +1,6 @@
 -- Written by tests/restated --write: what docs/statements has of
 -- crates/packing/proofs/Laws/UnpackingLaws.antt.
-use package.Rattle.std.specs.Prelude.{ℕ, ◌≡◌, length}
+use Rattle.std.specs.Prelude.{ℕ, ◌≡◌, length}
 use package.Rattle.protocol.specs.Bytes.{Bytes}
 use package.Rattle.protocol.specs.Open.{Opening, open_call}
 use package.Rattle.protocol.specs.Deliver.{deliver_call}
@@ -13,7 +13,7 @@ use package.Rattle.protocol.specs.Move.{move_call}
 use package.Rattle.packing.specs.Packing.{packed_done, packed_delivery, packed_packet, packed_move, packed_size}
 use package.Rattle.packing.specs.Unpacking.{unpacked_frames}
 use package.Rattle.packing.specs.Unpacking.{DoneRead, DeliveryRead, PacketRead, MoveRead, SizeRead}
-use package.mathlib.Core.Path.{◌≡◌ as ◌is-kept◌, refl as by-text}
+use mathlib.Core.Path.{◌≡◌ as ◌is-kept◌, refl as by-text}
 use package.Rattle.packing.proofs.Laws.UnpackingLaws as page
 
 pub open_read-kept : (way : Opening) (book : Bytes) (n own heights : ℕ) (leaders : Bytes) →

@@ -1,7 +1,7 @@
 -- Written by tests/restated --write: what docs/statements has of
 -- crates/paper/specs/Blockchains.antt.
-use package.Rattle.std.specs.Prelude.{ℕ, suc, ◌≤◌, ◌≡◌, ◌↔◌, true}
-use package.Rattle.std.proofs.Math.Option.{some}
+use Rattle.std.specs.Prelude.{ℕ, suc, ◌≤◌, ◌≡◌, ◌↔◌, true}
+use Rattle.std.proofs.Math.Option.{some}
 use package.Rattle.protocol.specs.Bytes.{Bytes}
 use package.Rattle.protocol.specs.Distinct.{distinct}
 use package.Rattle.protocol.specs.Block.{block_height}
@@ -12,7 +12,7 @@ use package.Rattle.protocol.specs.Move.{is_some}
 use package.Rattle.paper.specs.Paper.{Sequence, height, linearize, last_block, last_digest, Follows, NotarizedBlockchain}
 use package.Rattle.paper.specs.Paper.{FinalizedBlockchain, Finalization, SeenOfHeight, SeenWithBlock}
 use package.Rattle.paper.specs.Blockchains.{LinkedIsSeen, ParentIsSeen, ParentIsLargest, ExtendsIsFollowing, FinalizedIsSeen, LogIsLinearized, InThePapersTerms}
-use package.mathlib.Core.Path.{◌≡◌ as ◌is-kept◌, refl as by-text}
+use mathlib.Core.Path.{◌≡◌ as ◌is-kept◌, refl as by-text}
 use package.Rattle.paper.specs.Blockchains as page
 
 module _ (digest : Bytes → Bytes) (v : View) where

@@ -4,7 +4,7 @@ use package.Rattle.protocol.specs.SoundState.{CertifiedState}
 use package.Rattle.protocol.specs.Bytes.{Bytes}
 use package.Rattle.protocol.specs.State.{State}
 use package.Rattle.paper.specs.Blockchains.{InThePapersTerms}
-use package.mathlib.Core.Path.{◌≡◌ as ◌is-kept◌, refl as by-text}
+use mathlib.Core.Path.{◌≡◌ as ◌is-kept◌, refl as by-text}
 use package.Rattle.paper.proofs.Laws.BlockchainsLaws as page
 
 module _ (digest : Bytes → Bytes) (s : State) (facts : CertifiedState digest s) where

@@ -1,8 +1,8 @@
 -- Written by tests/restated --write: what docs/statements has of
 -- crates/paper/proofs/Laws/EquivocationLaws.antt.
-use package.Rattle.std.specs.Prelude.{◌≡◌, false}
-use package.Rattle.std.proofs.Math.Bool.{true}
-use package.mathlib.Core.List.{List}
+use Rattle.std.specs.Prelude.{◌≡◌, false}
+use Rattle.std.proofs.Math.Bool.{true}
+use mathlib.Core.List.{List}
 use package.Rattle.protocol.specs.Bytes.{Bytes}
 use package.Rattle.protocol.specs.Answer.{Counts, accepted}
 use package.Rattle.protocol.specs.State.{flag, decode}
@@ -11,7 +11,7 @@ use package.Rattle.protocol.specs.Deliver.{deliver_call, deliver_all}
 use package.Rattle.protocol.specs.Packet.{packet_frames, packet_call}
 use package.Rattle.call_laws.specs.Equivocating.{Equivocation}
 use package.Rattle.paper.specs.Timer.{TwoBlocks, VotesDummyNext}
-use package.mathlib.Core.Path.{◌≡◌ as ◌is-kept◌, refl as by-text}
+use mathlib.Core.Path.{◌≡◌ as ◌is-kept◌, refl as by-text}
 use package.Rattle.paper.proofs.Laws.EquivocationLaws as page
 
 module _ (digest : Bytes → Bytes) where

@@ -1,12 +1,12 @@
 -- Written by tests/restated --write: what docs/statements has of
 -- crates/paper/specs/Idle.antt.
-use package.Rattle.std.specs.Prelude.{ℕ, ◌+◌, ◌-◌, ◌≤◌, ◌≡◌, ◌↔◌, false}
+use Rattle.std.specs.Prelude.{ℕ, ◌+◌, ◌-◌, ◌≤◌, ◌≡◌, ◌↔◌, false}
 use package.Rattle.protocol.specs.Bytes.{Bytes, AreBytes}
 use package.Rattle.protocol.specs.State.{State, decode, last}
 use package.Rattle.protocol.specs.Answer.{accepted, idle}
 use package.Rattle.protocol.specs.Move.{step, after_moves, move_call, dummy_vote_applies, output_applies, pass_applies}
 use package.Rattle.protocol.specs.Move.{propose_applies, block_vote_applies}
-use package.mathlib.Core.Path.{◌≡◌ as ◌is-kept◌, refl as by-text}
+use mathlib.Core.Path.{◌≡◌ as ◌is-kept◌, refl as by-text}
 use package.Rattle.paper.specs.Idle as page
 
 module _ (digest : Bytes → Bytes) where

@@ -3,7 +3,7 @@
 use package.Rattle.protocol.specs.Bytes.{Bytes}
 use package.Rattle.protocol.specs.State.{State}
 use package.Rattle.paper.specs.Idle.{IdleMeansNoMove, MovesEnd}
-use package.mathlib.Core.Path.{◌≡◌ as ◌is-kept◌, refl as by-text}
+use mathlib.Core.Path.{◌≡◌ as ◌is-kept◌, refl as by-text}
 use package.Rattle.paper.proofs.Laws.IdleLaws as page
 
 module _ (digest : Bytes → Bytes) where

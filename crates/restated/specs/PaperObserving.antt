@@ -1,6 +1,6 @@
 -- Written by tests/restated --write: what docs/statements has of
 -- crates/paper/specs/Observing.antt.
-use package.Rattle.std.specs.Prelude.{ℕ, ◌≤◌, ◌≡◌, ◌↔◌}
+use Rattle.std.specs.Prelude.{ℕ, ◌≤◌, ◌≡◌, ◌↔◌}
 use package.Rattle.protocol.specs.Bytes.{Bytes}
 use package.Rattle.protocol.specs.State.{head_put, State, last}
 use package.Rattle.protocol.specs.Sound.{view}
@@ -10,7 +10,7 @@ use package.Rattle.protocol.specs.ObserverCalls.{observer_move_call}
 use package.Rattle.paper.specs.Paper.{Finalization, SeenWithBlock}
 use package.Rattle.paper.specs.Steps.{MayOutput}
 use package.Rattle.paper.specs.Observing.{ObserverMoves}
-use package.mathlib.Core.Path.{◌≡◌ as ◌is-kept◌, refl as by-text}
+use mathlib.Core.Path.{◌≡◌ as ◌is-kept◌, refl as by-text}
 use package.Rattle.paper.specs.Observing as page
 
 ObserverMoves-kept : (digest : Bytes → Bytes) (book : Bytes) (s : State) (outputs_when : ((g : ℕ) × ((observer_move_call digest book).answer ≡ accepted (output g))) ↔ MayOutput digest s) (idles_when : ((observer_move_call digest book).answer ≡ accepted idle) ↔ (MayOutput digest s → ⊥)) (highest : (g : ℕ) → (observer_move_call digest book).answer ≡ accepted (output g) → SeenWithBlock digest (view s) g × Finalization (view s) g × ((h : ℕ) → 1 ≤ h → h ≤ last s → SeenWithBlock digest (view s) h → Finalization (view s) h → h ≤ g)) (output_writes : (g : ℕ) → (observer_move_call digest book).answer ≡ accepted (output g) → (observer_move_call digest book).book ≡ head_put 5 44 g book) (idle_writes : (observer_move_call digest book).answer ≡ accepted idle → (observer_move_call digest book).book ≡ book) →

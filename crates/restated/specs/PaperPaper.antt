@@ -1,11 +1,11 @@
 -- Written by tests/restated --write: what docs/statements has of
 -- crates/paper/specs/Paper.antt.
-use package.Rattle.std.specs.Prelude.{ℕ, suc, ◌≡◌, true, List, [], ◌++◌}
+use Rattle.std.specs.Prelude.{ℕ, suc, ◌≡◌, true, List, [], ◌++◌}
 use package.Rattle.protocol.specs.Bytes.{Bytes, zeros}
 use package.Rattle.protocol.specs.Block.{digest_size, block_height, parent_height, parent_digest, entries}
 use package.Rattle.protocol.specs.View.{View, quorum}
 use package.Rattle.paper.specs.Paper.{Sequence, genesis, add_dummy, add_block, height, last_block, start, dummy_next, block_next}
-use package.mathlib.Core.Path.{◌≡◌ as ◌is-kept◌, refl as by-text}
+use mathlib.Core.Path.{◌≡◌ as ◌is-kept◌, refl as by-text}
 use package.Rattle.paper.specs.Paper as page
 
 Sequence-genesis-kept : Sequence

@@ -1,11 +1,11 @@
 -- Written by tests/restated --write: what docs/statements has of
 -- crates/paper/specs/Paper.antt.
-use package.Rattle.std.specs.Prelude.{suc, ◌≡◌}
+use Rattle.std.specs.Prelude.{suc, ◌≡◌}
 use package.Rattle.protocol.specs.Bytes.{Bytes}
 use package.Rattle.protocol.specs.Block.{block_height, parent_height, parent_digest}
 use package.Rattle.protocol.specs.View.{View}
 use package.Rattle.paper.specs.Paper.{Sequence, genesis, add_dummy, add_block, height, NotarizedBlock, NotarizedDummy, last_block, start, dummy_next, block_next}
-use package.mathlib.Core.Path.{◌≡◌ as ◌is-kept◌, refl as by-text}
+use mathlib.Core.Path.{◌≡◌ as ◌is-kept◌, refl as by-text}
 use package.Rattle.paper.specs.Paper as page
 
 module _ (digest : Bytes → Bytes) where

@@ -1,6 +1,6 @@
 -- Written by tests/restated --write: what docs/statements has of
 -- crates/paper/specs/Register.antt.
-use package.Rattle.std.specs.Prelude.{ℕ, ◌*◌, ◌<◌, ◌≡◌, ◌⊎◌, ◌++◌, length, drop}
+use Rattle.std.specs.Prelude.{ℕ, ◌*◌, ◌<◌, ◌≡◌, ◌⊎◌, ◌++◌, length, drop}
 use package.Rattle.protocol.specs.Bytes.{Bytes, join}
 use package.Rattle.protocol.specs.Distinct.{distinct}
 use package.Rattle.protocol.specs.Block.{entry_size}
@@ -13,7 +13,7 @@ use package.Rattle.protocol.specs.Observer.{observer_state}
 use package.Rattle.protocol.specs.ObserverCalls.{observer_size_call, observer_read_part, observer_read_buffer}
 use package.Rattle.paper.specs.Paper.{Sequence, height, last_block, linearize, FinalizedBlockchain}
 use package.Rattle.paper.specs.Register.{ReadsChainOf}
-use package.mathlib.Core.Path.{◌≡◌ as ◌is-kept◌, refl as by-text}
+use mathlib.Core.Path.{◌≡◌ as ◌is-kept◌, refl as by-text}
 use package.Rattle.paper.specs.Register as page
 
 ReadsChainOf-kept : (digest : Bytes → Bytes) (v : View) (g : ℕ) (part buffer after : Bytes) (size : ℕ) (sequence : Sequence) (finalized : FinalizedBlockchain digest v sequence) (its_height : height sequence ≡ g) (its_last : last_block sequence ≡ g) (part_read_lem : part ≡ join (distinct (linearize sequence))) (its_size : size ≡ entry_size * length (distinct (linearize sequence))) (part_size : length part ≡ size) (buffer_after : after ≡ part ++ drop size buffer) →

@@ -1,6 +1,6 @@
 -- Written by tests/restated --write: what docs/statements has of
 -- crates/paper/proofs/Laws/RegisterExactLaws.antt.
-use package.Rattle.std.specs.Prelude.{ℕ, ◌≡◌}
+use Rattle.std.specs.Prelude.{ℕ, ◌≡◌}
 use package.Rattle.protocol.specs.Bytes.{Bytes}
 use package.Rattle.protocol.specs.Distinct.{distinct}
 use package.Rattle.protocol.specs.State.{State}
@@ -8,7 +8,7 @@ use package.Rattle.protocol.specs.View.{View}
 use package.Rattle.protocol.specs.Sound.{view, log}
 use package.Rattle.paper.specs.Paper.{Sequence, linearize, last_block, FinalizedBlockchain}
 use package.Rattle.paper.specs.Register.{ReadsChainOf}
-use package.mathlib.Core.Path.{◌≡◌ as ◌is-kept◌, refl as by-text}
+use mathlib.Core.Path.{◌≡◌ as ◌is-kept◌, refl as by-text}
 use package.Rattle.paper.proofs.Laws.RegisterExactLaws as page
 
 module _ (digest : Bytes → Bytes) (v : View) where

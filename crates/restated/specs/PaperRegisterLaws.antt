@@ -1,13 +1,13 @@
 -- Written by tests/restated --write: what docs/statements has of
 -- crates/paper/proofs/Laws/RegisterLaws.antt.
-use package.Rattle.std.specs.Prelude.{ℕ, ◌≤◌, ◌≡◌}
-use package.Rattle.std.proofs.Math.ListN.{length}
+use Rattle.std.specs.Prelude.{ℕ, ◌≤◌, ◌≡◌}
+use Rattle.std.proofs.Math.ListN.{length}
 use package.Rattle.protocol.specs.Bytes.{Bytes}
 use package.Rattle.protocol.specs.Answer.{accepted}
 use package.Rattle.protocol.specs.Read.{size_call}
 use package.Rattle.protocol.specs.ObserverCalls.{observer_size_call}
 use package.Rattle.paper.specs.Register.{ReadsChain, ObserverReadsChain}
-use package.mathlib.Core.Path.{◌≡◌ as ◌is-kept◌, refl as by-text}
+use mathlib.Core.Path.{◌≡◌ as ◌is-kept◌, refl as by-text}
 use package.Rattle.paper.proofs.Laws.RegisterLaws as page
 
 module _ (digest : Bytes → Bytes) (book : Bytes) where

@@ -1,6 +1,6 @@
 -- Written by tests/restated --write: what docs/statements has of
 -- crates/paper/specs/Steps.antt.
-use package.Rattle.std.specs.Prelude.{ℕ, suc, ◌+◌, ◌-◌, ◌≤◌, ◌<◌, ◌≡◌, ◌↔◌, Bool, true, false, not, cond, List, [], ◌∷◌}
+use Rattle.std.specs.Prelude.{ℕ, suc, ◌+◌, ◌-◌, ◌≤◌, ◌<◌, ◌≡◌, ◌↔◌, Bool, true, false, not, cond, List, [], ◌∷◌}
 use package.Rattle.protocol.specs.Bytes.{Bytes, without}
 use package.Rattle.protocol.specs.Block.{entries, block_well_formed}
 use package.Rattle.protocol.specs.Frame.{proposal, block_vote, dummy_vote, finalize}
@@ -14,7 +14,7 @@ use package.Rattle.paper.specs.Paper.{Sequence, height, linearize, last_block, F
 use package.Rattle.paper.specs.Paper.{SeenOfHeight, SeenWithBlock}
 use package.Rattle.paper.specs.Blockchains.{ParentOf}
 use package.Rattle.paper.specs.Steps.{it_idles, it_votes_dummy, it_outputs, it_passes, it_proposes, it_votes_block}
-use package.mathlib.Core.Path.{◌≡◌ as ◌is-kept◌, refl as by-text}
+use mathlib.Core.Path.{◌≡◌ as ◌is-kept◌, refl as by-text}
 use package.Rattle.paper.specs.Steps as page
 
 module _ (digest : Bytes → Bytes) (s : State) where

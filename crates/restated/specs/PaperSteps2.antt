@@ -4,7 +4,7 @@ use package.Rattle.protocol.specs.Bytes.{Bytes}
 use package.Rattle.protocol.specs.State.{State}
 use package.Rattle.protocol.specs.Move.{step}
 use package.Rattle.paper.specs.Steps.{LeaderProposal, DummyBlocks, NotarizingProposals, NextIteration, FinalizedOutputs, Idling, OneOfSix, FiveSteps}
-use package.mathlib.Core.Path.{◌≡◌ as ◌is-kept◌, refl as by-text}
+use mathlib.Core.Path.{◌≡◌ as ◌is-kept◌, refl as by-text}
 use package.Rattle.paper.specs.Steps as page
 
 FiveSteps-kept : (digest : Bytes → Bytes) (s : State) (leader_proposal : LeaderProposal digest s) (dummy_blocks : DummyBlocks digest s) (notarizing_proposals : NotarizingProposals digest s) (next_iteration : NextIteration digest s) (finalized_outputs : FinalizedOutputs digest s) (idling : Idling digest s) (one_of_six : OneOfSix digest s (step digest s).move) →

@@ -1,8 +1,8 @@
 -- Written by tests/restated --write: what docs/statements has of
 -- crates/paper/specs/Timer.antt.
-use package.Rattle.std.specs.Prelude.{ℕ, ◌+◌, ◌≤◌, ◌≡◌, ◌↔◌, ◌⊎◌, ◌≢◌, Bool, true, false, length}
-use package.mathlib.Core.List.{List, [], ◌∷◌, Memᴰ}
-use package.Rattle.std.proofs.Math.Option.{none}
+use Rattle.std.specs.Prelude.{ℕ, ◌+◌, ◌≤◌, ◌≡◌, ◌↔◌, ◌⊎◌, ◌≢◌, Bool, true, false, length}
+use mathlib.Core.List.{List, [], ◌∷◌, Memᴰ}
+use Rattle.std.proofs.Math.Option.{none}
 use package.Rattle.protocol.specs.Bytes.{Bytes}
 use package.Rattle.protocol.specs.Tests.{first_refusal}
 use package.Rattle.protocol.specs.Frame.{frame_block, dummy_vote}
@@ -16,7 +16,7 @@ use package.Rattle.protocol.specs.Call.{Call, opening, delivery, packet_delivery
 use package.Rattle.call_laws.specs.Equivocating.{ProposedNow, Equivocation}
 use package.Rattle.paper.specs.Steps.{Makes}
 use package.Rattle.paper.specs.Timer.{TwoBlocks, by_signal, by_equivocation, by_packet, by_pass, by_opening}
-use package.mathlib.Core.Path.{◌≡◌ as ◌is-kept◌, refl as by-text}
+use mathlib.Core.Path.{◌≡◌ as ◌is-kept◌, refl as by-text}
 use package.Rattle.paper.specs.Timer as page
 
 TwoBlocks-kept : (book : Bytes) (frames : List Bytes) (one : Bytes) (other : Bytes) (one_among : Memᴰ one frames) (other_among : Memᴰ other frames) (one_proposed : ProposedNow (decode book) one) (other_proposed : ProposedNow (decode book) other) (unlike : frame_block one ≢ frame_block other) →

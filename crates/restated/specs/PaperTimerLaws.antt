@@ -1,12 +1,12 @@
 -- Written by tests/restated --write: what docs/statements has of
 -- crates/paper/proofs/Laws/TimerLaws.antt.
-use package.Rattle.std.specs.Prelude.{◌≡◌}
-use package.Rattle.std.proofs.Math.Bool.{true}
+use Rattle.std.specs.Prelude.{◌≡◌}
+use Rattle.std.proofs.Math.Bool.{true}
 use package.Rattle.protocol.specs.Bytes.{Bytes}
 use package.Rattle.protocol.specs.Sound.{sound}
 use package.Rattle.protocol.specs.Call.{Call}
 use package.Rattle.paper.specs.Timer.{Timer}
-use package.mathlib.Core.Path.{◌≡◌ as ◌is-kept◌, refl as by-text}
+use mathlib.Core.Path.{◌≡◌ as ◌is-kept◌, refl as by-text}
 use package.Rattle.paper.proofs.Laws.TimerLaws as page
 
 module _ (digest : Bytes → Bytes) (book : Bytes) (was : sound digest book ≡ true) where

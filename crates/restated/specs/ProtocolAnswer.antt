@@ -1,10 +1,10 @@
 -- Written by tests/restated --write: what docs/statements has of
 -- crates/protocol/specs/Answer.antt.
-use package.Rattle.std.specs.Prelude.{ℕ, Bool, true, false}
-use package.Rattle.std.proofs.Math.Option.{Option, some, none}
+use Rattle.std.specs.Prelude.{ℕ, Bool, true, false}
+use Rattle.std.proofs.Math.Option.{Option, some, none}
 use package.Rattle.protocol.specs.Bytes.{Bytes}
 use package.Rattle.protocol.specs.Answer.{Answer, refused, accepted, Done, done, Delivery, known, fresh, Counts, Certificate, on_block, on_dummy, Move, idle, vote_dummy, output, pass, propose, vote_block, Outcome}
-use package.mathlib.Core.Path.{◌≡◌ as ◌is-kept◌, refl as by-text}
+use mathlib.Core.Path.{◌≡◌ as ◌is-kept◌, refl as by-text}
 use package.Rattle.protocol.specs.Answer as page
 
 Answer-refused-kept : (A : Type 0) → ℕ → Answer A

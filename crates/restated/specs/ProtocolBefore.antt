@@ -1,6 +1,6 @@
 -- Written by tests/restated --write: what docs/statements has of
 -- crates/protocol/specs/Before.antt.
-use package.Rattle.std.specs.Prelude.{ℕ, ◌+◌, ◌*◌, Bool, ◌&&◌, ◌||◌, cond, List, [], ◌∷◌, length, drop, eqb, leb, ltb}
+use Rattle.std.specs.Prelude.{ℕ, ◌+◌, ◌*◌, Bool, ◌&&◌, ◌||◌, cond, List, [], ◌∷◌, length, drop, eqb, leb, ltb}
 use package.Rattle.protocol.specs.Bytes.{Bytes, byte_at, part, is_zero, pieces}
 use package.Rattle.protocol.specs.Tests.{all_of, implies, in_range, every_height}
 use package.Rattle.protocol.specs.Block.{block_well_formed}
@@ -10,7 +10,7 @@ use package.Rattle.protocol.specs.State.{holds_proposal, is_notarized, maximum_p
 use package.Rattle.protocol.specs.View.{quorum, is_finalized}
 use package.Rattle.protocol.specs.Sound.{view, weights_fit, masks_below, content_zeros}
 use package.Rattle.protocol.specs.Before.{block_before, decode_before, blocks_before, unused_before}
-use package.mathlib.Core.Path.{◌≡◌ as ◌is-kept◌, refl as by-text}
+use mathlib.Core.Path.{◌≡◌ as ◌is-kept◌, refl as by-text}
 use package.Rattle.protocol.specs.Before as page
 
 block_before-kept : ℕ → Bytes → Bool

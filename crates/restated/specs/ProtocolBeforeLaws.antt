@@ -1,11 +1,11 @@
 -- Written by tests/restated --write: what docs/statements has of
 -- crates/protocol/proofs/Laws/BeforeLaws.antt.
-use package.Rattle.std.specs.Prelude.{ℕ, ◌-◌, ◌*◌, ◌<◌, ◌≡◌, ◌&&◌, List, [], ◌∷◌, ◌++◌, length, ltb}
+use Rattle.std.specs.Prelude.{ℕ, ◌-◌, ◌*◌, ◌<◌, ◌≡◌, ◌&&◌, List, [], ◌∷◌, ◌++◌, length, ltb}
 use package.Rattle.protocol.specs.Bytes.{Bytes, AreBytes, le16, zeros, join}
 use package.Rattle.protocol.specs.Block.{new_block, block_well_formed}
 use package.Rattle.protocol.specs.Frame.{frame_height, frame_of, frame_well_formed}
 use package.Rattle.protocol.specs.Before.{block_before, frame_before}
-use package.mathlib.Core.Path.{◌≡◌ as ◌is-kept◌, refl as by-text}
+use mathlib.Core.Path.{◌≡◌ as ◌is-kept◌, refl as by-text}
 use package.Rattle.protocol.proofs.Laws.BeforeLaws as page
 
 pub short_frame-kept : (k s h mask : ℕ) (digest block : Bytes) → h < 256 →

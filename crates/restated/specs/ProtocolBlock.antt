@@ -1,10 +1,10 @@
 -- Written by tests/restated --write: what docs/statements has of
 -- crates/protocol/specs/Block.antt.
-use package.Rattle.std.specs.Prelude.{ℕ, ◌+◌, ◌-◌, ◌*◌, Bool, List, [], ◌∷◌, ◌++◌, length, drop, eqb, leb, ltb}
+use Rattle.std.specs.Prelude.{ℕ, ◌+◌, ◌-◌, ◌*◌, Bool, List, [], ◌∷◌, ◌++◌, length, drop, eqb, leb, ltb}
 use package.Rattle.protocol.specs.Bytes.{Bytes, byte_at, word16, le16, part, zeros, is_zero, join, pieces}
 use package.Rattle.protocol.specs.Tests.{all_of, implies}
 use package.Rattle.protocol.specs.Block.{block_size, digest_size, entry_size, block_entries, block_height, parent_height, entry_count, parent_digest, entries}
-use package.mathlib.Core.Path.{◌≡◌ as ◌is-kept◌, refl as by-text}
+use mathlib.Core.Path.{◌≡◌ as ◌is-kept◌, refl as by-text}
 use package.Rattle.protocol.specs.Block as page
 
 abbrev maximum_heights-kept : ℕ

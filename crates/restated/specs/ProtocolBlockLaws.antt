@@ -1,12 +1,12 @@
 -- Written by tests/restated --write: what docs/statements has of
 -- crates/protocol/proofs/Laws/BlockLaws.antt.
-use package.Rattle.std.specs.Prelude.{ℕ, ◌≤◌, ◌<◌, ◌≡◌, true, List}
-use package.Rattle.std.proofs.Math.ListN.{length}
+use Rattle.std.specs.Prelude.{ℕ, ◌≤◌, ◌<◌, ◌≡◌, true, List}
+use Rattle.std.proofs.Math.ListN.{length}
 use package.Rattle.protocol.specs.Every.{Every}
 use package.Rattle.protocol.specs.Bytes.{Bytes, is_zero, Sized}
 use package.Rattle.protocol.specs.Block.{new_block}
 use package.Rattle.protocol.specs.Block.{entries, block_well_formed}
-use package.mathlib.Core.Path.{◌≡◌ as ◌is-kept◌, refl as by-text}
+use mathlib.Core.Path.{◌≡◌ as ◌is-kept◌, refl as by-text}
 use package.Rattle.protocol.proofs.Laws.BlockLaws as page
 
 module _ (h parent : ℕ) (digest : Bytes) (es : List Bytes)

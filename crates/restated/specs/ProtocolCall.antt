@@ -1,7 +1,7 @@
 -- Written by tests/restated --write: what docs/statements has of
 -- crates/protocol/specs/Call.antt.
-use package.Rattle.std.specs.Prelude.{ℕ, Bool, true, cond, List, [], ◌∷◌}
-use package.Rattle.std.proofs.Math.Option.{Option, some, none}
+use Rattle.std.specs.Prelude.{ℕ, Bool, true, cond, List, [], ◌∷◌}
+use Rattle.std.proofs.Math.Option.{Option, some, none}
 use package.Rattle.protocol.specs.Bytes.{Bytes}
 use package.Rattle.protocol.specs.Answer.{Done, Delivery, Counts, Outcome, is_accepted}
 use package.Rattle.protocol.specs.Open.{Opening, opened_weights, open_call}
@@ -13,7 +13,7 @@ use package.Rattle.protocol.specs.Submit.{submit_call}
 use package.Rattle.protocol.specs.Read.{size_call, read_part}
 use package.Rattle.protocol.specs.Fetch.{FetchOutcome, fetch_call}
 use package.Rattle.protocol.specs.Call.{Call, opening, delivery, packet_delivery, moving, signalling, submitting, sizing, reading, fetching, Opened, Effect, leaves, of_outcome, of_opening, of_delivery, of_packet, of_move, of_reading, of_fetch}
-use package.mathlib.Core.Path.{◌≡◌ as ◌is-kept◌, refl as by-text}
+use mathlib.Core.Path.{◌≡◌ as ◌is-kept◌, refl as by-text}
 use package.Rattle.protocol.specs.Call as page
 
 Call-opening-kept : (way : Opening) (n own heights : ℕ) (leaders : Bytes) → Call

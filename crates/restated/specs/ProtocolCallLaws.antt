@@ -1,10 +1,10 @@
 -- Written by tests/restated --write: what docs/statements has of
 -- crates/protocol/proofs/Laws/CallLaws.antt.
-use package.Rattle.std.specs.Prelude.{◌≡◌, false}
+use Rattle.std.specs.Prelude.{◌≡◌, false}
 use package.Rattle.protocol.specs.Bytes.{Bytes}
 use package.Rattle.protocol.specs.Call.{Call}
 use package.Rattle.protocol.specs.Call.{effect, leaves}
-use package.mathlib.Core.Path.{◌≡◌ as ◌is-kept◌, refl as by-text}
+use mathlib.Core.Path.{◌≡◌ as ◌is-kept◌, refl as by-text}
 use package.Rattle.protocol.proofs.Laws.CallLaws as page
 
 module _ (digest : Bytes → Bytes) (book : Bytes) where

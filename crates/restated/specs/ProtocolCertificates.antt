@@ -1,11 +1,11 @@
 -- Written by tests/restated --write: what docs/statements has of
 -- crates/protocol/specs/Certificates.antt.
-use package.Rattle.std.specs.Prelude.{ℕ, cond}
+use Rattle.std.specs.Prelude.{ℕ, cond}
 use package.Rattle.protocol.specs.Bytes.{Bytes}
 use package.Rattle.protocol.specs.Frame.{is_block_certificate, is_dummy_certificate, block_certificate, dummy_certificate}
 use package.Rattle.protocol.specs.Frame.{finalize_certificate}
 use package.Rattle.protocol.specs.State.{State, Height, at}
-use package.mathlib.Core.Path.{◌≡◌ as ◌is-kept◌, refl as by-text}
+use mathlib.Core.Path.{◌≡◌ as ◌is-kept◌, refl as by-text}
 use package.Rattle.protocol.specs.Certificates as page
 
 certificate_frame-kept : State → ℕ → ℕ → Bytes

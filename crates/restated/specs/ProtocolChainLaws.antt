@@ -1,11 +1,11 @@
 -- Written by tests/restated --write: what docs/statements has of
 -- crates/protocol/proofs/Laws/ChainLaws.antt.
-use package.Rattle.std.specs.Prelude.{ℕ, suc, ◌≡◌, true}
-use package.mathlib.Core.List.{◌++◌}
+use Rattle.std.specs.Prelude.{ℕ, suc, ◌≡◌, true}
+use mathlib.Core.List.{◌++◌}
 use package.Rattle.protocol.specs.Bytes.{Bytes}
 use package.Rattle.protocol.specs.Block.{parent_height, entries}
 use package.Rattle.protocol.specs.View.{View, linked, log_at}
-use package.mathlib.Core.Path.{◌≡◌ as ◌is-kept◌, refl as by-text}
+use mathlib.Core.Path.{◌≡◌ as ◌is-kept◌, refl as by-text}
 use package.Rattle.protocol.proofs.Laws.ChainLaws as page
 
 module _ (digest : Bytes → Bytes) (v : View) where

@@ -1,12 +1,12 @@
 -- Written by tests/restated --write: what docs/statements has of
 -- crates/protocol/proofs/Laws/CodecLaws.antt.
-use package.Prim.Native.Nat.{ℕ, ◌+◌, ◌*◌, ◌<◌}
-use package.Rattle.std.specs.Prelude.{◌≡◌, true}
-use package.Rattle.std.proofs.Math.ListN.{length}
+use Prim.Native.Nat.{ℕ, ◌+◌, ◌*◌, ◌<◌}
+use Rattle.std.specs.Prelude.{◌≡◌, true}
+use Rattle.std.proofs.Math.ListN.{length}
 use package.Rattle.protocol.specs.Bytes.{Bytes, part, zeros, is_zero}
 use package.Rattle.protocol.specs.State.{book_heights, head_unused}
 use package.Rattle.protocol.proofs.Laws.CodecLaws.{Exact, Clean}
-use package.mathlib.Core.Path.{◌≡◌ as ◌is-kept◌, refl as by-text}
+use mathlib.Core.Path.{◌≡◌ as ◌is-kept◌, refl as by-text}
 use package.Rattle.protocol.proofs.Laws.CodecLaws as page
 
 abbrev Exact-kept : Bytes → Type 0

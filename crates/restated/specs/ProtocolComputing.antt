@@ -49,7 +49,7 @@ use package.Rattle.protocol.specs.ObserverCalls.{observer_kept, observer_log_siz
 use package.Rattle.protocol.specs.ObserverCalls.{observer_step, observer_moved, observer_move_rows, observer_move_call}
 use package.Rattle.protocol.specs.ObserverCalls.{observer_size_call, observer_read_part, observer_read_buffer}
 use package.Rattle.protocol.specs.ObserverCall.{observation, observer_book_after_all}
-use package.mathlib.Core.Path.{◌≡◌ as ◌is-kept◌, refl as by-text}
+use mathlib.Core.Path.{◌≡◌ as ◌is-kept◌, refl as by-text}
 use package.Rattle.protocol.specs.Computing as page
 
 everything-kept : Unit {0}

@@ -1,7 +1,7 @@
 -- Written by tests/restated --write: what docs/statements has of
 -- crates/protocol/specs/Deliver.antt.
-use package.Rattle.std.specs.Prelude.{ℕ, ◌+◌, ◌*◌, ◌^◌, Bool, ◌&&◌, ◌||◌, not, cond, List, [], ◌∷◌, ◌++◌, take, drop, eqb, ltb}
-use package.Rattle.std.proofs.Math.Option.{Option, some, none}
+use Rattle.std.specs.Prelude.{ℕ, ◌+◌, ◌*◌, ◌^◌, Bool, ◌&&◌, ◌||◌, not, cond, List, [], ◌∷◌, ◌++◌, take, drop, eqb, ltb}
+use Rattle.std.proofs.Math.Option.{Option, some, none}
 use package.Rattle.protocol.specs.Bytes.{Bytes, same}
 use package.Rattle.protocol.specs.Tests.{all_of, implies, in_range, Row, first_refusal}
 use package.Rattle.protocol.specs.Frame.{kind, signer, frame_height, signer_mask, frame_digest, frame_block, frame_well_formed}
@@ -14,7 +14,7 @@ use package.Rattle.protocol.specs.View.{View, quorum}
 use package.Rattle.protocol.specs.Sound.{view, sound}
 use package.Rattle.protocol.specs.Answer.{Outcome, Delivery, known, fresh, accepted, unless_refused}
 use package.Rattle.protocol.specs.Deliver.{with_notarized, with_masks, second_proposal, with_proposal, with_vote, voters_for, keep_dummy_vote, keep_finalize, keep_block_certificate, keep_dummy_certificate, keep_finalize_certificate, read_rows, leader_equivocates, timer_fires, clash_rows}
-use package.mathlib.Core.Path.{◌≡◌ as ◌is-kept◌, refl as by-text}
+use mathlib.Core.Path.{◌≡◌ as ◌is-kept◌, refl as by-text}
 use package.Rattle.protocol.specs.Deliver as page
 
 with_proposal-kept : Height → Bytes → Height

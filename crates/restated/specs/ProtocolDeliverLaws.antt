@@ -1,8 +1,8 @@
 -- Written by tests/restated --write: what docs/statements has of
 -- crates/protocol/proofs/Laws/DeliverLaws.antt.
-use package.Rattle.std.specs.Prelude.{◌≡◌, ◌≢◌}
-use package.Rattle.std.proofs.Math.Bool.{true, false}
-use package.Rattle.std.proofs.Math.Option.{none}
+use Rattle.std.specs.Prelude.{◌≡◌, ◌≢◌}
+use Rattle.std.proofs.Math.Bool.{true, false}
+use Rattle.std.proofs.Math.Option.{none}
 use package.Rattle.protocol.specs.ReadFrame.{ReadFrame}
 use package.Rattle.protocol.specs.Bytes.{Bytes}
 use package.Rattle.protocol.specs.Tests.{first_refusal}
@@ -13,8 +13,8 @@ use package.Rattle.protocol.specs.State.{vote_of}
 use package.Rattle.protocol.specs.Sound.{sound}
 use package.Rattle.protocol.specs.Deliver.{read_rows}
 use package.Rattle.protocol.specs.Deliver.{leader_equivocates}
-use package.Prim.Native.Nat.{ℕ}
-use package.Rattle.std.proofs.Math.Option.{some}
+use Prim.Native.Nat.{ℕ}
+use Rattle.std.proofs.Math.Option.{some}
 use package.Rattle.protocol.specs.State.{Height, encode, with_height}
 use package.Rattle.protocol.specs.State.{flag, with_timer_fired}
 use package.Rattle.protocol.specs.Answer.{Outcome, Delivery, refused, accepted, known, fresh}
@@ -22,7 +22,7 @@ use package.Rattle.protocol.specs.Deliver.{deliver_rows}
 use package.Rattle.protocol.specs.Deliver.{keep, deliver_call}
 use package.Rattle.protocol.specs.Deliver.{timer_fires}
 use package.Rattle.protocol.proofs.Laws.DeliverLaws.{Equivocates, Agrees, Accepts}
-use package.mathlib.Core.Path.{◌≡◌ as ◌is-kept◌, refl as by-text}
+use mathlib.Core.Path.{◌≡◌ as ◌is-kept◌, refl as by-text}
 use package.Rattle.protocol.proofs.Laws.DeliverLaws as page
 
 Equivocates-kept : (s : State) (frame : Bytes) (proposes : kind frame ≡ 1) (held : holds_proposal (at s (frame_height frame)) ≡ true) (unlike : (at s (frame_height frame)).proposal ≢ frame_block frame) (here : frame_height frame ≡ s.current) →

@@ -1,9 +1,9 @@
 -- Written by tests/restated --write: what docs/statements has of
 -- crates/protocol/specs/Distinct.antt.
-use package.Rattle.std.specs.Prelude.{Bool, true, ◌&&◌, not, cond, List, [], ◌∷◌, ◌++◌}
+use Rattle.std.specs.Prelude.{Bool, true, ◌&&◌, not, cond, List, [], ◌∷◌, ◌++◌}
 use package.Rattle.protocol.specs.Bytes.{Bytes, holds}
 use package.Rattle.protocol.specs.Distinct.{distinct_after}
-use package.mathlib.Core.Path.{◌≡◌ as ◌is-kept◌, refl as by-text}
+use mathlib.Core.Path.{◌≡◌ as ◌is-kept◌, refl as by-text}
 use package.Rattle.protocol.specs.Distinct as page
 
 distinct_after-kept : List Bytes → List Bytes → List Bytes

@@ -1,9 +1,9 @@
 -- Written by tests/restated --write: what docs/statements has of
 -- crates/protocol/proofs/Laws/DistinctLaws.antt.
-use package.Rattle.std.specs.Prelude.{◌≡◌, true, cond, List, [], ◌∷◌, ◌++◌}
+use Rattle.std.specs.Prelude.{◌≡◌, true, cond, List, [], ◌∷◌, ◌++◌}
 use package.Rattle.protocol.specs.Bytes.{Bytes, holds}
 use package.Rattle.protocol.specs.Distinct.{distinct_after, distinct, none_twice}
-use package.mathlib.Core.Path.{◌≡◌ as ◌is-kept◌, refl as by-text}
+use mathlib.Core.Path.{◌≡◌ as ◌is-kept◌, refl as by-text}
 use package.Rattle.protocol.proofs.Laws.DistinctLaws as page
 
 pub distinct_append-kept : (xs ys : List Bytes) → distinct (xs ++ ys) ≡ distinct xs ++ distinct_after xs ys

@@ -1,6 +1,6 @@
 -- Written by tests/restated --write: what docs/statements has of
 -- crates/protocol/specs/Examples.antt.
-use package.Rattle.std.specs.Prelude.{ℕ, zero, suc, ◌≤◌, ◌<◌, ◌≡◌, Bool, true, false, length, replicate}
+use Rattle.std.specs.Prelude.{ℕ, zero, suc, ◌≤◌, ◌<◌, ◌≡◌, Bool, true, false, length, replicate}
 use package.Rattle.protocol.specs.Bytes.{Bytes, byte_at, word16, part}
 use package.Rattle.protocol.specs.Block.{parent_height, entry_count}
 use package.Rattle.protocol.specs.Frame.{kind, frame_block, dummy_certificate}
@@ -11,7 +11,7 @@ use package.Rattle.protocol.specs.Answer.{accepted, done, pass, propose, on_dumm
 use package.Rattle.protocol.specs.Open.{Opening, opened_weights, open_call}
 use package.Rattle.protocol.specs.Move.{MoveOutcome}
 use package.Rattle.protocol.specs.Examples.{Start, frame_in}
-use package.mathlib.Core.Path.{◌≡◌ as ◌is-kept◌, refl as by-text}
+use mathlib.Core.Path.{◌≡◌ as ◌is-kept◌, refl as by-text}
 use package.Rattle.protocol.specs.Examples as page
 
 Start-kept : (way : Opening) (old : Bytes) (n : ℕ) (own : ℕ) (heights : ℕ) (leaders : Bytes) (reply : Bytes) (even : opened_weights n way ≡ replicate n 1) (opens : (open_call way old n own heights leaders).answer ≡ accepted done) (room : 448 ≤ length reply) →

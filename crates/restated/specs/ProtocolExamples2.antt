@@ -1,6 +1,6 @@
 -- Written by tests/restated --write: what docs/statements has of
 -- crates/protocol/specs/Examples.antt.
-use package.Rattle.std.specs.Prelude.{ℕ, ◌≡◌, true, false, [], ◌∷◌}
+use Rattle.std.specs.Prelude.{ℕ, ◌≡◌, true, false, [], ◌∷◌}
 use package.Rattle.protocol.specs.Bytes.{Bytes}
 use package.Rattle.protocol.specs.Block.{parent_height}
 use package.Rattle.protocol.specs.Frame.{dummy_vote, finalize_certificate}
@@ -10,7 +10,7 @@ use package.Rattle.protocol.specs.Answer.{accepted}
 use package.Rattle.protocol.specs.Deliver.{deliver_call, deliver_all}
 use package.Rattle.protocol.specs.Signal.{signal_call}
 use package.Rattle.protocol.specs.Move.{MoveOutcome, move_call}
-use package.Rattle.std.specs.Prelude.{◌≢◌}
+use Rattle.std.specs.Prelude.{◌≢◌}
 use package.Rattle.protocol.specs.Bytes.{zeros}
 use package.Rattle.protocol.specs.Frame.{finalize}
 use package.Rattle.protocol.specs.State.{State, book_size, is_notarized}
@@ -18,7 +18,7 @@ use package.Rattle.protocol.specs.View.{is_dummy, extends}
 use package.Rattle.protocol.specs.Answer.{idle, vote_dummy}
 use package.Rattle.protocol.specs.Move.{step}
 use package.Rattle.protocol.specs.Examples.{Letter, a, b, c, d, e, f, g, h, i, j, k, l, Start, opened, first_leader, after_signal, after_dummy_votes, after_finalizes, frame_in, quorum_from, passes_dummy, proposes_first, not_finalized}
-use package.mathlib.Core.Path.{◌≡◌ as ◌is-kept◌, refl as by-text}
+use mathlib.Core.Path.{◌≡◌ as ◌is-kept◌, refl as by-text}
 use package.Rattle.protocol.specs.Examples as page
 
 Letter-a-kept : Letter

@@ -1,9 +1,9 @@
 -- Written by tests/restated --write: what docs/statements has of
 -- crates/protocol/proofs/Laws/ExamplesLaws.antt.
 use package.Rattle.protocol.specs.Examples.{Letter, claim}
-use package.Rattle.std.specs.Prelude.{◌≡◌, ◌≢◌}
+use Rattle.std.specs.Prelude.{◌≡◌, ◌≢◌}
 use package.Rattle.protocol.specs.Examples.{Start, first_leader}
-use package.mathlib.Core.Path.{◌≡◌ as ◌is-kept◌, refl as by-text}
+use mathlib.Core.Path.{◌≡◌ as ◌is-kept◌, refl as by-text}
 use package.Rattle.protocol.proofs.Laws.ExamplesLaws as page
 
 pub examples-kept : (x : Letter) → claim x

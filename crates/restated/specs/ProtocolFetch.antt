@@ -1,7 +1,7 @@
 -- Written by tests/restated --write: what docs/statements has of
 -- crates/protocol/specs/Fetch.antt.
-use package.Rattle.std.specs.Prelude.{ℕ, zero, suc, Bool, cond, List, [], ◌∷◌, ◌++◌, length, leb}
-use package.Rattle.std.proofs.Math.Option.{Option, some, none}
+use Rattle.std.specs.Prelude.{ℕ, zero, suc, Bool, cond, List, [], ◌∷◌, ◌++◌, length, leb}
+use Rattle.std.proofs.Math.Option.{Option, some, none}
 use package.Rattle.protocol.specs.Bytes.{Bytes, over_front}
 use package.Rattle.protocol.specs.Tests.{in_range, Row, first_refusal}
 use package.Rattle.protocol.specs.Frame.{frame_size, is_certificate, is_block_certificate, is_dummy_certificate}
@@ -11,7 +11,7 @@ use package.Rattle.protocol.specs.Sound.{view, sound}
 use package.Rattle.protocol.specs.Certificates.{certificate_frame}
 use package.Rattle.protocol.specs.Answer.{Answer, refused, accepted, Done, done}
 use package.Rattle.protocol.specs.Fetch.{has_certificate, certificate_if, certificates_at, certificates_to, FetchOutcome, unless_fetch_refused}
-use package.mathlib.Core.Path.{◌≡◌ as ◌is-kept◌, refl as by-text}
+use mathlib.Core.Path.{◌≡◌ as ◌is-kept◌, refl as by-text}
 use package.Rattle.protocol.specs.Fetch as page
 
 has_certificate-kept : State → ℕ → ℕ → Bool

@@ -1,16 +1,16 @@
 -- Written by tests/restated --write: what docs/statements has of
 -- crates/protocol/proofs/Laws/FetchLaws.antt.
-use package.Prim.Native.Nat.{ℕ, ◌≤◌}
-use package.Rattle.std.specs.Prelude.{◌≡◌, length}
-use package.Rattle.std.proofs.Math.Bool.{true}
-use package.mathlib.Core.List.{[], ◌∷◌, Memᴰ}
+use Prim.Native.Nat.{ℕ, ◌≤◌}
+use Rattle.std.specs.Prelude.{◌≡◌, length}
+use Rattle.std.proofs.Math.Bool.{true}
+use mathlib.Core.List.{[], ◌∷◌, Memᴰ}
 use package.Rattle.protocol.specs.Bytes.{Bytes}
 use package.Rattle.protocol.specs.State.{decode}
 use package.Rattle.protocol.specs.Sound.{sound}
 use package.Rattle.protocol.specs.Answer.{accepted, done}
 use package.Rattle.protocol.specs.Fetch.{every_certificate}
 use package.Rattle.protocol.specs.Fetch.{fetch_call}
-use package.mathlib.Core.Path.{◌≡◌ as ◌is-kept◌, refl as by-text}
+use mathlib.Core.Path.{◌≡◌ as ◌is-kept◌, refl as by-text}
 use package.Rattle.protocol.proofs.Laws.FetchLaws as page
 
 module _ (digest : Bytes → Bytes) (book reply : Bytes) where

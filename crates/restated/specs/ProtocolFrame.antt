@@ -1,11 +1,11 @@
 -- Written by tests/restated --write: what docs/statements has of
 -- crates/protocol/specs/Frame.antt.
-use package.Rattle.std.specs.Prelude.{ℕ, Bool, ◌||◌, [], ◌∷◌, ◌++◌, length, drop, eqb}
+use Rattle.std.specs.Prelude.{ℕ, Bool, ◌||◌, [], ◌∷◌, ◌++◌, length, drop, eqb}
 use package.Rattle.protocol.specs.Bytes.{Bytes, byte_at, word16, le16, part, zeros, is_zero}
 use package.Rattle.protocol.specs.Tests.{all_of, implies, in_range}
 use package.Rattle.protocol.specs.Block.{block_size, digest_size, block_well_formed}
 use package.Rattle.protocol.specs.Frame.{frame_size, kind, signer, frame_height, signer_mask, frame_digest, frame_block, is_proposal, is_block_vote, is_block_certificate, is_statement, is_certificate, carries_block, carries_digest, frame_of}
-use package.mathlib.Core.Path.{◌≡◌ as ◌is-kept◌, refl as by-text}
+use mathlib.Core.Path.{◌≡◌ as ◌is-kept◌, refl as by-text}
 use package.Rattle.protocol.specs.Frame as page
 
 abbrev frame_size-kept : ℕ

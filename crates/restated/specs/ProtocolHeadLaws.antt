@@ -1,16 +1,16 @@
 -- Written by tests/restated --write: what docs/statements has of
 -- crates/protocol/proofs/Laws/HeadLaws.antt.
-use package.mathlib.Core.List.{◌++◌}
+use mathlib.Core.List.{◌++◌}
 use package.Rattle.protocol.specs.Bytes.{Bytes}
 use package.Rattle.protocol.specs.State.{State, head_bytes}
-use package.Rattle.std.specs.Prelude.{ℕ, ◌≡◌, length}
-use package.Rattle.std.proofs.Math.Bool.{true}
-use package.mathlib.Core.List.{List, map}
+use Rattle.std.specs.Prelude.{ℕ, ◌≡◌, length}
+use Rattle.std.proofs.Math.Bool.{true}
+use mathlib.Core.List.{List, map}
 use package.Rattle.protocol.specs.Bytes.{le16, is_zero, join}
 use package.Rattle.protocol.specs.State.{words}
 use package.Rattle.protocol.specs.State.{head_unused, book_heights, book_current}
 use package.Rattle.protocol.specs.State.{book_finalized}
-use package.mathlib.Core.Path.{◌≡◌ as ◌is-kept◌, refl as by-text}
+use mathlib.Core.Path.{◌≡◌ as ◌is-kept◌, refl as by-text}
 use package.Rattle.protocol.proofs.Laws.HeadLaws as page
 
 pub words_back-kept : (ws : List ℕ) (count : ℕ) → length ws ≡ count → words count (join (map le16 ws)) ≡ ws

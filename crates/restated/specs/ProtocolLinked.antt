@@ -1,11 +1,11 @@
 -- Written by tests/restated --write: what docs/statements has of
 -- crates/protocol/specs/Linked.antt.
-use package.Rattle.std.specs.Prelude.{ℕ, ◌≤◌, ◌<◌, ◌≡◌, ◌⊎◌, true}
+use Rattle.std.specs.Prelude.{ℕ, ◌≤◌, ◌<◌, ◌≡◌, ◌⊎◌, true}
 use package.Rattle.protocol.specs.Bytes.{Bytes}
 use package.Rattle.protocol.specs.Block.{parent_height, parent_digest}
 use package.Rattle.protocol.specs.View.{View, quorum, is_dummy, digest_at}
 use package.Rattle.protocol.specs.Linked.{OnParent, Linked, start, link, Finalized, ChainOf, Largest}
-use package.mathlib.Core.Path.{◌≡◌ as ◌is-kept◌, refl as by-text}
+use mathlib.Core.Path.{◌≡◌ as ◌is-kept◌, refl as by-text}
 use package.Rattle.protocol.specs.Linked as page
 
 OnParent-kept : (digest : Bytes → Bytes) (v : View) (h j : ℕ) (block : Bytes) (height : parent_height block ≡ j) (below : j < h) (names : parent_digest block ≡ digest_at digest v j) (dummies : (k : ℕ) → j < k → k < h → is_dummy v k ≡ true) →

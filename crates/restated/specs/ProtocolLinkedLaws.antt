@@ -1,13 +1,13 @@
 -- Written by tests/restated --write: what docs/statements has of
 -- crates/protocol/proofs/Laws/LinkedLaws.antt.
-use package.Prim.Native.Nat.{ℕ, suc}
-use package.Rattle.std.specs.Prelude.{◌≡◌, ◌&&◌}
-use package.Rattle.std.proofs.Math.Bool.{true}
+use Prim.Native.Nat.{ℕ, suc}
+use Rattle.std.specs.Prelude.{◌≡◌, ◌&&◌}
+use Rattle.std.proofs.Math.Bool.{true}
 use package.Rattle.protocol.specs.Bytes.{Bytes}
 use package.Rattle.protocol.specs.View.{View, linked, extends}
 use package.Rattle.protocol.specs.View.{is_finalized}
 use package.Rattle.protocol.specs.Linked.{Linked, Finalized}
-use package.mathlib.Core.Path.{◌≡◌ as ◌is-kept◌, refl as by-text}
+use mathlib.Core.Path.{◌≡◌ as ◌is-kept◌, refl as by-text}
 use package.Rattle.protocol.proofs.Laws.LinkedLaws as page
 
 module _ (digest : Bytes → Bytes) where

@@ -1,12 +1,12 @@
 -- Written by tests/restated --write: what docs/statements has of
 -- crates/protocol/proofs/Laws/LogLaws.antt.
-use package.Rattle.std.specs.Prelude.{◌≡◌, true, List}
+use Rattle.std.specs.Prelude.{◌≡◌, true, List}
 use package.Rattle.protocol.specs.Bytes.{Bytes, holds, without}
 use package.Rattle.protocol.specs.Distinct.{none_twice}
 use package.Rattle.protocol.specs.State.{State}
 use package.Rattle.protocol.specs.View.{log_at}
 use package.Rattle.protocol.specs.Sound.{view, log}
-use package.mathlib.Core.Path.{◌≡◌ as ◌is-kept◌, refl as by-text}
+use mathlib.Core.Path.{◌≡◌ as ◌is-kept◌, refl as by-text}
 use package.Rattle.protocol.proofs.Laws.LogLaws as page
 
 module _ (s : State) where

@@ -1,8 +1,8 @@
 -- Written by tests/restated --write: what docs/statements has of
 -- crates/protocol/specs/Mask.antt.
-use package.Rattle.std.specs.Prelude.{ℕ, zero, suc, ◌+◌, ◌/◌, ◌%◌, ◌^◌, Bool, ◌&&◌, ◌||◌, cond, List, [], ◌∷◌, eqb, ltb}
+use Rattle.std.specs.Prelude.{ℕ, zero, suc, ◌+◌, ◌/◌, ◌%◌, ◌^◌, Bool, ◌&&◌, ◌||◌, cond, List, [], ◌∷◌, eqb, ltb}
 use package.Rattle.protocol.specs.Mask.{in_mask, mask_of}
-use package.mathlib.Core.Path.{◌≡◌ as ◌is-kept◌, refl as by-text}
+use mathlib.Core.Path.{◌≡◌ as ◌is-kept◌, refl as by-text}
 use package.Rattle.protocol.specs.Mask as page
 
 in_mask-kept : ℕ → ℕ → Bool

@@ -1,7 +1,7 @@
 -- Written by tests/restated --write: what docs/statements has of
 -- crates/protocol/specs/Move.antt.
-use package.Rattle.std.specs.Prelude.{ℕ, zero, suc, ◌+◌, ◌-◌, Bool, true, false, ◌&&◌, ◌||◌, not, cond, List, [], ◌∷◌, ◌++◌, length, take, eqb, leb, ltb}
-use package.Rattle.std.proofs.Math.Option.{Option, some, none}
+use Rattle.std.specs.Prelude.{ℕ, zero, suc, ◌+◌, ◌-◌, Bool, true, false, ◌&&◌, ◌||◌, not, cond, List, [], ◌∷◌, ◌++◌, length, take, eqb, leb, ltb}
+use Rattle.std.proofs.Math.Option.{Option, some, none}
 use package.Rattle.protocol.specs.Bytes.{Bytes, zeros, join, without, over_front}
 use package.Rattle.protocol.specs.Tests.{all_of, Row, first_refusal}
 use package.Rattle.protocol.specs.Block.{block_entries, new_block}
@@ -14,7 +14,7 @@ use package.Rattle.protocol.specs.Certificates.{certificate_frame}
 use package.Rattle.protocol.specs.Answer.{Answer, refused, accepted, Move, idle, vote_dummy, output, pass, propose}
 use package.Rattle.protocol.specs.Answer.{vote_block, Certificate, on_block, on_dummy, certificate_kind}
 use package.Rattle.protocol.specs.Move.{Step, chosen, is_running, unused, written, MoveOutcome, moved, first_step, is_some, some_or, idle_step, dummy_vote_applies, dummy_vote_step, offered, unless_move_refused}
-use package.mathlib.Core.Path.{◌≡◌ as ◌is-kept◌, refl as by-text}
+use mathlib.Core.Path.{◌≡◌ as ◌is-kept◌, refl as by-text}
 use package.Rattle.protocol.specs.Move as page
 
 Step-kept : (move : Move) (after : State) (frames : List Bytes) →

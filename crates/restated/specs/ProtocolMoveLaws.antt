@@ -1,12 +1,12 @@
 -- Written by tests/restated --write: what docs/statements has of
 -- crates/protocol/proofs/Laws/MoveLaws.antt.
-use package.Rattle.std.specs.Prelude.{◌≡◌, true, false}
+use Rattle.std.specs.Prelude.{◌≡◌, true, false}
 use package.Rattle.protocol.specs.Bytes.{Bytes}
 use package.Rattle.protocol.specs.State.{State, at, flag, holds_proposal}
 use package.Rattle.protocol.specs.View.{extends}
 use package.Rattle.protocol.specs.Sound.{view}
 use package.Rattle.protocol.specs.Move.{is_running}
-use package.mathlib.Core.Path.{◌≡◌ as ◌is-kept◌, refl as by-text}
+use mathlib.Core.Path.{◌≡◌ as ◌is-kept◌, refl as by-text}
 use package.Rattle.protocol.proofs.Laws.MoveLaws as page
 
 module _ (digest : Bytes → Bytes) (s : State) where

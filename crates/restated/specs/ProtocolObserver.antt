@@ -1,13 +1,13 @@
 -- Written by tests/restated --write: what docs/statements has of
 -- crates/protocol/specs/Observer.antt.
-use package.Rattle.std.specs.Prelude.{ℕ, ◌+◌, ◌*◌, List, [], ◌∷◌, ◌++◌, map, drop}
+use Rattle.std.specs.Prelude.{ℕ, ◌+◌, ◌*◌, List, [], ◌∷◌, ◌++◌, map, drop}
 use package.Rattle.protocol.specs.Bytes.{Bytes, byte_at, word16, le16, zeros, join, pieces}
 use package.Rattle.protocol.specs.Block.{block_size}
 use package.Rattle.protocol.specs.State.{State, Height, head_bytes, book_heights, book_finalized, book_weights, pool_size}
 use package.Rattle.protocol.specs.View.{View}
 use package.Rattle.protocol.specs.Sound.{view}
 use package.Rattle.protocol.specs.Observer.{ObservedHeight, Observer, as_replica_height, as_replica, observed_height, observed_content_size, observed_content_bytes, observed_body_bytes, decode_observed_height, decode_observed_heights, decode_observer}
-use package.mathlib.Core.Path.{◌≡◌ as ◌is-kept◌, refl as by-text}
+use mathlib.Core.Path.{◌≡◌ as ◌is-kept◌, refl as by-text}
 use package.Rattle.protocol.specs.Observer as page
 
 ObservedHeight-kept : (status : ℕ) (certificate_mask : ℕ) (dummy_mask : ℕ) (finalize_mask : ℕ) (notarized : Bytes) →

@@ -1,6 +1,6 @@
 -- Written by tests/restated --write: what docs/statements has of
 -- crates/protocol/specs/ObserverBefore.antt.
-use package.Rattle.std.specs.Prelude.{ℕ, ◌+◌, ◌*◌, Bool, ◌||◌, List, [], ◌∷◌, length, drop, eqb}
+use Rattle.std.specs.Prelude.{ℕ, ◌+◌, ◌*◌, Bool, ◌||◌, List, [], ◌∷◌, length, drop, eqb}
 use package.Rattle.protocol.specs.Bytes.{Bytes, byte_at, is_zero, pieces}
 use package.Rattle.protocol.specs.Tests.{all_of, implies, in_range, every_height}
 use package.Rattle.protocol.specs.Block.{block_size}
@@ -12,7 +12,7 @@ use package.Rattle.protocol.specs.Observer.{observed_content_size}
 use package.Rattle.protocol.specs.ObserverSound.{observed_zero}
 use package.Rattle.protocol.specs.Before.{block_before, unused_before}
 use package.Rattle.protocol.specs.ObserverBefore.{decode_observer_before}
-use package.mathlib.Core.Path.{◌≡◌ as ◌is-kept◌, refl as by-text}
+use mathlib.Core.Path.{◌≡◌ as ◌is-kept◌, refl as by-text}
 use package.Rattle.protocol.specs.ObserverBefore as page
 
 decode_observer_before-kept : Bytes → Observer

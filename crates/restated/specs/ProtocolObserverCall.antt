@@ -1,14 +1,14 @@
 -- Written by tests/restated --write: what docs/statements has of
 -- crates/protocol/specs/ObserverCall.antt.
-use package.Rattle.std.specs.Prelude.{ℕ, Bool, true, cond, List, [], ◌∷◌}
-use package.Rattle.std.proofs.Math.Option.{Option, some, none}
+use Rattle.std.specs.Prelude.{ℕ, Bool, true, cond, List, [], ◌∷◌}
+use Rattle.std.proofs.Math.Option.{Option, some, none}
 use package.Rattle.protocol.specs.Bytes.{Bytes}
 use package.Rattle.protocol.specs.Open.{Opening, opened_weights}
 use package.Rattle.protocol.specs.Answer.{Outcome, Done, Delivery, Move, is_accepted}
 use package.Rattle.protocol.specs.ObserverCalls.{observer_open_call, observer_deliver_call, observer_move_call}
 use package.Rattle.protocol.specs.ObserverCalls.{observer_size_call, observer_read_part}
 use package.Rattle.protocol.specs.ObserverCall.{ObserverCall, observer_opening, observer_delivery, observer_moving, observer_sizing, observer_reading, Observation, observes_book, observes_opening, observes_delivery, observes_move, observes_reading}
-use package.mathlib.Core.Path.{◌≡◌ as ◌is-kept◌, refl as by-text}
+use mathlib.Core.Path.{◌≡◌ as ◌is-kept◌, refl as by-text}
 use package.Rattle.protocol.specs.ObserverCall as page
 
 ObserverCall-observer_opening-kept : (way : Opening) (n heights : ℕ) → ObserverCall

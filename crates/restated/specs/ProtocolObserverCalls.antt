@@ -1,7 +1,7 @@
 -- Written by tests/restated --write: what docs/statements has of
 -- crates/protocol/specs/ObserverCalls.antt.
-use package.Rattle.std.specs.Prelude.{ℕ, ◌*◌, ◌&&◌, cond, List, [], ◌∷◌, ◌++◌, length, replicate, eqb, leb}
-use package.Rattle.std.proofs.Math.Option.{Option, some, none}
+use Rattle.std.specs.Prelude.{ℕ, ◌*◌, ◌&&◌, cond, List, [], ◌∷◌, ◌++◌, length, replicate, eqb, leb}
+use Rattle.std.proofs.Math.Option.{Option, some, none}
 use package.Rattle.protocol.specs.Bytes.{Bytes, zeros, join, over_front}
 use package.Rattle.protocol.specs.Tests.{all_of, in_range, Row, first_refusal}
 use package.Rattle.protocol.specs.Block.{entry_size}
@@ -17,7 +17,7 @@ use package.Rattle.protocol.specs.Observer.{Observer, ObservedHeight, observed, 
 use package.Rattle.protocol.specs.Observer.{observer_book_size}
 use package.Rattle.protocol.specs.ObserverSound.{observer_sound}
 use package.Rattle.protocol.specs.ObserverCalls.{new_observed_height, new_observer, observer_open_rows, observer_kept, observer_log_size}
-use package.mathlib.Core.Path.{◌≡◌ as ◌is-kept◌, refl as by-text}
+use mathlib.Core.Path.{◌≡◌ as ◌is-kept◌, refl as by-text}
 use package.Rattle.protocol.specs.ObserverCalls as page
 
 new_observed_height-kept : ObservedHeight

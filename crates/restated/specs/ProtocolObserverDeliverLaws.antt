@@ -1,8 +1,8 @@
 -- Written by tests/restated --write: what docs/statements has of
 -- crates/protocol/proofs/Laws/ObserverDeliverLaws.antt.
-use package.Rattle.std.specs.Prelude.{◌≤◌, ◌≡◌}
-use package.Rattle.std.proofs.Math.Bool.{true}
-use package.Rattle.std.proofs.Math.Option.{none}
+use Rattle.std.specs.Prelude.{◌≤◌, ◌≡◌}
+use Rattle.std.proofs.Math.Bool.{true}
+use Rattle.std.proofs.Math.Option.{none}
 use package.Rattle.protocol.specs.ReadFrame.{ReadFrame}
 use package.Rattle.protocol.specs.Bytes.{Bytes}
 use package.Rattle.protocol.specs.Tests.{first_refusal}
@@ -11,8 +11,8 @@ use package.Rattle.protocol.specs.Deliver.{read_rows}
 use package.Rattle.protocol.specs.Observer.{observer_state}
 use package.Rattle.protocol.specs.ObserverSound.{observer_sound}
 use package.Rattle.protocol.proofs.Laws.DeliverLaws.{Agrees}
-use package.Rattle.std.specs.Prelude.{ℕ}
-use package.Rattle.std.proofs.Math.Option.{some}
+use Rattle.std.specs.Prelude.{ℕ}
+use Rattle.std.proofs.Math.Option.{some}
 use package.Rattle.protocol.specs.Frame.{frame_height}
 use package.Rattle.protocol.specs.State.{Height, with_height}
 use package.Rattle.protocol.specs.Answer.{Outcome, Delivery, refused, accepted, known, fresh}
@@ -21,7 +21,7 @@ use package.Rattle.protocol.specs.Observer.{observed}
 use package.Rattle.protocol.specs.Observer.{encode_observer}
 use package.Rattle.protocol.specs.ObserverCalls.{observer_deliver_rows, observer_deliver_call}
 use package.Rattle.protocol.proofs.Laws.ObserverDeliverLaws.{ObserverAccepts}
-use package.mathlib.Core.Path.{◌≡◌ as ◌is-kept◌, refl as by-text}
+use mathlib.Core.Path.{◌≡◌ as ◌is-kept◌, refl as by-text}
 use package.Rattle.protocol.proofs.Laws.ObserverDeliverLaws as page
 
 ObserverAccepts-kept : (digest : Bytes → Bytes) (book frame : Bytes) (was_sound : observer_sound digest book ≡ true) (certificate : 5 ≤ kind frame) (passes : first_refusal (read_rows (observer_state book) frame) ≡ none) (read : ReadFrame (observer_state book) frame) (agrees : Agrees (observer_state book) frame) →

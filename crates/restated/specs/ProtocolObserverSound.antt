@@ -1,6 +1,6 @@
 -- Written by tests/restated --write: what docs/statements has of
 -- crates/protocol/specs/ObserverSound.antt.
-use package.Rattle.std.specs.Prelude.{ℕ, ◌+◌, ◌-◌, ◌*◌, Bool, ◌||◌, [], ◌∷◌, length, eqb}
+use Rattle.std.specs.Prelude.{ℕ, ◌+◌, ◌-◌, ◌*◌, Bool, ◌||◌, [], ◌∷◌, length, eqb}
 use package.Rattle.protocol.specs.Bytes.{Bytes, byte_at, is_zero}
 use package.Rattle.protocol.specs.Tests.{all_of, implies, in_range, every_height}
 use package.Rattle.protocol.specs.Block.{block_well_formed}
@@ -10,7 +10,7 @@ use package.Rattle.protocol.specs.View.{quorum, is_finalized}
 use package.Rattle.protocol.specs.Sound.{view, masks_below, weights_fit}
 use package.Rattle.protocol.specs.Observer.{observer_state, observer_book_size, observed_content_size}
 use package.Rattle.protocol.specs.ObserverSound.{replica_head, observed_zero}
-use package.mathlib.Core.Path.{◌≡◌ as ◌is-kept◌, refl as by-text}
+use mathlib.Core.Path.{◌≡◌ as ◌is-kept◌, refl as by-text}
 use package.Rattle.protocol.specs.ObserverSound as page
 
 replica_head-kept : Bytes → Bytes

@@ -1,7 +1,7 @@
 -- Written by tests/restated --write: what docs/statements has of
 -- crates/protocol/proofs/Laws/ObserverSoundLaws.antt.
-use package.Prim.Native.Nat.{ℕ, ◌≤◌}
-use package.Rattle.std.specs.Prelude.{◌≡◌, ◌⊎◌, true}
+use Prim.Native.Nat.{ℕ, ◌≤◌}
+use Rattle.std.specs.Prelude.{◌≡◌, ◌⊎◌, true}
 use package.Rattle.protocol.specs.SoundState.{SoundSetting}
 use package.Rattle.protocol.specs.Bytes.{Bytes, is_zero}
 use package.Rattle.protocol.specs.Tests.{implies, in_range}
@@ -14,7 +14,7 @@ use package.Rattle.protocol.specs.Sound.{view, masks_below}
 use package.Rattle.protocol.specs.Observer.{observer_state}
 use package.Rattle.protocol.specs.ObserverSound.{replica_head, observed_zero}
 use package.Rattle.protocol.proofs.Laws.ObserverCodecLaws.{ExactObserver}
-use package.mathlib.Core.Path.{◌≡◌ as ◌is-kept◌, refl as by-text}
+use mathlib.Core.Path.{◌≡◌ as ◌is-kept◌, refl as by-text}
 use package.Rattle.protocol.proofs.Laws.ObserverSoundLaws as page
 
 module _ (digest : Bytes → Bytes) where

@@ -1,7 +1,7 @@
 -- Written by tests/restated --write: what docs/statements has of
 -- crates/protocol/proofs/Laws/ObserverSoundLaws.antt.
-use package.Prim.Native.Nat.{ℕ, ◌≤◌}
-use package.Rattle.std.specs.Prelude.{◌≡◌, ◌⊎◌, true}
+use Prim.Native.Nat.{ℕ, ◌≤◌}
+use Rattle.std.specs.Prelude.{◌≡◌, ◌⊎◌, true}
 use package.Rattle.protocol.specs.SoundState.{SoundSetting}
 use package.Rattle.protocol.specs.Bytes.{Bytes, is_zero}
 use package.Rattle.protocol.specs.Tests.{implies, in_range}
@@ -19,7 +19,7 @@ use package.Rattle.protocol.specs.Bytes.{AreBytes}
 use package.Rattle.protocol.specs.Observer.{decode_observer, encode_observer}
 use package.Rattle.protocol.specs.ObserverSound.{observer_sound}
 use package.Rattle.protocol.proofs.Laws.ObserverCodecLaws.{CleanObserver}
-use package.mathlib.Core.Path.{◌≡◌ as ◌is-kept◌, refl as by-text}
+use mathlib.Core.Path.{◌≡◌ as ◌is-kept◌, refl as by-text}
 use package.Rattle.protocol.proofs.Laws.ObserverSoundLaws as page
 
 module _ (digest : Bytes → Bytes) where

@@ -1,6 +1,6 @@
 -- Written by tests/restated --write: what docs/statements has of
 -- crates/protocol/specs/Open.antt.
-use package.Rattle.std.specs.Prelude.{ℕ, ◌*◌, Bool, true, ◌&&◌, List, [], ◌∷◌, map, length, replicate, eqb, ltb}
+use Rattle.std.specs.Prelude.{ℕ, ◌*◌, Bool, true, ◌&&◌, List, [], ◌∷◌, map, length, replicate, eqb, ltb}
 use package.Rattle.protocol.specs.Bytes.{Bytes, zeros, all}
 use package.Rattle.protocol.specs.Tests.{all_of, in_range, Row, first_refusal}
 use package.Rattle.protocol.specs.State.{most_heights}
@@ -8,7 +8,7 @@ use package.Rattle.protocol.specs.State.{State, Height, encode, book_size, pool_
 use package.Rattle.protocol.specs.State.{padded, words}
 use package.Rattle.protocol.specs.Answer.{Outcome, Done, done, accepted, unless_refused}
 use package.Rattle.protocol.specs.Open.{new_height, Opening, unweighed, weighed, long, opened_edition, opened_weights, weights_in_range, start_state, new_state, open_in_range, open_rows}
-use package.mathlib.Core.Path.{◌≡◌ as ◌is-kept◌, refl as by-text}
+use mathlib.Core.Path.{◌≡◌ as ◌is-kept◌, refl as by-text}
 use package.Rattle.protocol.specs.Open as page
 
 new_height-kept : ℕ → Height

@@ -1,6 +1,6 @@
 -- Written by tests/restated --write: what docs/statements has of
 -- crates/protocol/specs/Packet.antt.
-use package.Rattle.std.specs.Prelude.{ℕ, ◌+◌, ◌/◌, ◌%◌, cond, List, [], ◌∷◌, ◌++◌, length, eqb}
+use Rattle.std.specs.Prelude.{ℕ, ◌+◌, ◌/◌, ◌%◌, cond, List, [], ◌∷◌, ◌++◌, length, eqb}
 use package.Rattle.protocol.specs.Bytes.{Bytes, pieces}
 use package.Rattle.protocol.specs.Tests.{Row, first_refusal}
 use package.Rattle.protocol.specs.Frame.{frame_size}
@@ -9,7 +9,7 @@ use package.Rattle.protocol.specs.Answer.{Answer, Outcome, Counts, Delivery, ref
 use package.Rattle.protocol.specs.Answer.{unless_refused}
 use package.Rattle.protocol.specs.Deliver.{deliver_call, deliver_all}
 use package.Rattle.protocol.specs.Packet.{packet_frames, no_frames, counted_in}
-use package.mathlib.Core.Path.{◌≡◌ as ◌is-kept◌, refl as by-text}
+use mathlib.Core.Path.{◌≡◌ as ◌is-kept◌, refl as by-text}
 use package.Rattle.protocol.specs.Packet as page
 
 packet_frames-kept : Bytes → List Bytes

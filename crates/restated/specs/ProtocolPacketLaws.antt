@@ -1,16 +1,16 @@
 -- Written by tests/restated --write: what docs/statements has of
 -- crates/protocol/proofs/Laws/PacketLaws.antt.
-use package.Prim.Native.Nat.{◌+◌, ◌*◌}
-use package.Rattle.std.specs.Prelude.{◌≡◌}
-use package.mathlib.Core.List.{List, map}
-use package.Rattle.std.proofs.Math.ListN.{length}
+use Prim.Native.Nat.{◌+◌, ◌*◌}
+use Rattle.std.specs.Prelude.{◌≡◌}
+use mathlib.Core.List.{List, map}
+use Rattle.std.proofs.Math.ListN.{length}
 use package.Rattle.protocol.specs.Bytes.{Bytes}
 use package.Rattle.protocol.specs.Frame.{frame_size}
 use package.Rattle.protocol.specs.Answer.{Counts, accepted}
 use package.Rattle.protocol.specs.Packet.{packet_frames, counted, count_all, accepted_of}
 use package.Rattle.protocol.specs.Packet.{packet_call}
 use package.Rattle.protocol.specs.Call.{delivery, book_after_all}
-use package.mathlib.Core.Path.{◌≡◌ as ◌is-kept◌, refl as by-text}
+use mathlib.Core.Path.{◌≡◌ as ◌is-kept◌, refl as by-text}
 use package.Rattle.protocol.proofs.Laws.PacketLaws as page
 
 module _ (digest : Bytes → Bytes) where

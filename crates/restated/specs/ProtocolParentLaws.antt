@@ -1,12 +1,12 @@
 -- Written by tests/restated --write: what docs/statements has of
 -- crates/protocol/proofs/Laws/ParentLaws.antt.
-use package.Prim.Native.Nat.{ℕ, ◌≤◌}
-use package.Rattle.std.specs.Prelude.{◌≡◌}
-use package.Rattle.std.proofs.Math.Option.{some, none}
+use Prim.Native.Nat.{ℕ, ◌≤◌}
+use Rattle.std.specs.Prelude.{◌≡◌}
+use Rattle.std.proofs.Math.Option.{some, none}
 use package.Rattle.protocol.specs.Bytes.{Bytes}
 use package.Rattle.protocol.specs.View.{View, parent_of, largest_finalized}
 use package.Rattle.protocol.specs.Linked.{ChainOf, Largest}
-use package.mathlib.Core.Path.{◌≡◌ as ◌is-kept◌, refl as by-text}
+use mathlib.Core.Path.{◌≡◌ as ◌is-kept◌, refl as by-text}
 use package.Rattle.protocol.proofs.Laws.ParentLaws as page
 
 module _ (digest : Bytes → Bytes) (v : View) where

@@ -1,8 +1,8 @@
 -- Written by tests/restated --write: what docs/statements has of
 -- crates/protocol/proofs/Laws/PlaceLaws.antt.
-use package.Rattle.std.specs.Prelude.{ℕ, suc, ◌≡◌}
+use Rattle.std.specs.Prelude.{ℕ, suc, ◌≡◌}
 use package.Rattle.protocol.specs.State.{State, at, with_height}
-use package.mathlib.Core.Path.{◌≡◌ as ◌is-kept◌, refl as by-text}
+use mathlib.Core.Path.{◌≡◌ as ◌is-kept◌, refl as by-text}
 use package.Rattle.protocol.proofs.Laws.PlaceLaws as page
 
 module _ (s : State) (i : ℕ) where

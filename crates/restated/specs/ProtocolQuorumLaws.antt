@@ -1,9 +1,9 @@
 -- Written by tests/restated --write: what docs/statements has of
 -- crates/protocol/proofs/Laws/QuorumLaws.antt.
-use package.Rattle.std.specs.Prelude.{ℕ, ◌+◌, ◌*◌, ◌≤◌, ◌<◌, ◌≡◌, Bool, true, false, ◌&&◌, List, length, replicate, leb}
+use Rattle.std.specs.Prelude.{ℕ, ◌+◌, ◌*◌, ◌≤◌, ◌<◌, ◌≡◌, Bool, true, false, ◌&&◌, List, length, replicate, leb}
 use package.Rattle.protocol.specs.Mask.{in_mask, ones, weigh, total}
 use package.Rattle.protocol.specs.View.{View, quorum, mask_weight, total_weight}
-use package.mathlib.Core.Path.{◌≡◌ as ◌is-kept◌, refl as by-text}
+use mathlib.Core.Path.{◌≡◌ as ◌is-kept◌, refl as by-text}
 use package.Rattle.protocol.proofs.Laws.QuorumLaws as page
 
 pub shared-kept : (p q : ℕ → Bool) (ws : List ℕ) → weigh p ws + weigh q ws ≤ total ws + weigh (λ t. p t && q t) ws

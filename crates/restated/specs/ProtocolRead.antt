@@ -1,13 +1,13 @@
 -- Written by tests/restated --write: what docs/statements has of
 -- crates/protocol/specs/Read.antt.
-use package.Rattle.std.specs.Prelude.{ℕ, ◌*◌, ◌&&◌, cond, [], length, leb}
+use Rattle.std.specs.Prelude.{ℕ, ◌*◌, ◌&&◌, cond, [], length, leb}
 use package.Rattle.protocol.specs.Bytes.{Bytes, join, over_front}
 use package.Rattle.protocol.specs.Block.{entry_size}
 use package.Rattle.protocol.specs.State.{decode}
 use package.Rattle.protocol.specs.Sound.{sound, log}
 use package.Rattle.protocol.specs.Answer.{Answer, refused, accepted}
 use package.Rattle.protocol.specs.Read.{log_size}
-use package.mathlib.Core.Path.{◌≡◌ as ◌is-kept◌, refl as by-text}
+use mathlib.Core.Path.{◌≡◌ as ◌is-kept◌, refl as by-text}
 use package.Rattle.protocol.specs.Read as page
 
 log_size-kept : Bytes → ℕ

@@ -1,6 +1,6 @@
 -- Written by tests/restated --write: what docs/statements has of
 -- crates/protocol/specs/ReadFrame.antt.
-use package.Rattle.std.specs.Prelude.{◌^◌, ◌≤◌, ◌<◌, ◌≡◌, true, length}
+use Rattle.std.specs.Prelude.{◌^◌, ◌≤◌, ◌<◌, ◌≡◌, true, length}
 use package.Rattle.protocol.specs.Bytes.{Bytes}
 use package.Rattle.protocol.specs.Block.{block_well_formed}
 use package.Rattle.protocol.specs.Frame.{kind, signer, frame_height, signer_mask, frame_block, carries_block}
@@ -8,7 +8,7 @@ use package.Rattle.protocol.specs.State.{State, at, last}
 use package.Rattle.protocol.specs.View.{quorum}
 use package.Rattle.protocol.specs.Sound.{view}
 use package.Rattle.protocol.specs.ReadFrame.{ReadFrame}
-use package.mathlib.Core.Path.{◌≡◌ as ◌is-kept◌, refl as by-text}
+use mathlib.Core.Path.{◌≡◌ as ◌is-kept◌, refl as by-text}
 use package.Rattle.protocol.specs.ReadFrame as page
 
 ReadFrame-kept : (s : State) (frame : Bytes) (size : length frame ≡ 224) (kind_low : 1 ≤ kind frame) (kind_high : kind frame ≤ 7) (block_formed : carries_block (kind frame) ≡ true → block_well_formed (frame_height frame) (frame_block frame) ≡ true) (low : 1 ≤ frame_height frame) (high : frame_height frame ≤ last s) (signer_small : kind frame ≤ 4 → signer frame < s.n) (mask_small : 5 ≤ kind frame → signer_mask frame < 2 ^ s.n) (led : kind frame ≡ 1 → signer frame ≡ (at s (frame_height frame)).leader) (enough : 5 ≤ kind frame → quorum (view s) (signer_mask frame) ≡ true) →

@@ -1,9 +1,9 @@
 -- Written by tests/restated --write: what docs/statements has of
 -- crates/protocol/proofs/Laws/SharedLaws.antt.
-use package.Rattle.std.specs.Prelude.{ℕ, ◌*◌, ◌≤◌, ◌≡◌, true, length, replicate, leb}
+use Rattle.std.specs.Prelude.{ℕ, ◌*◌, ◌≤◌, ◌≡◌, true, length, replicate, leb}
 use package.Rattle.protocol.specs.Mask.{ones, intersection}
 use package.Rattle.protocol.specs.View.{View, quorum, mask_weight, total_weight}
-use package.mathlib.Core.Path.{◌≡◌ as ◌is-kept◌, refl as by-text}
+use mathlib.Core.Path.{◌≡◌ as ◌is-kept◌, refl as by-text}
 use package.Rattle.protocol.proofs.Laws.SharedLaws as page
 
 pub quorums_third-kept : (v v' : View) (a b : ℕ) → v'.weights ≡ v.weights → quorum v a ≡ true → quorum v' b ≡ true →

@@ -1,12 +1,12 @@
 -- Written by tests/restated --write: what docs/statements has of
 -- crates/protocol/specs/Signal.antt.
-use package.Rattle.std.specs.Prelude.{ℕ, ◌&&◌, not, List, [], ◌∷◌, eqb}
+use Rattle.std.specs.Prelude.{ℕ, ◌&&◌, not, List, [], ◌∷◌, eqb}
 use package.Rattle.protocol.specs.Bytes.{Bytes}
 use package.Rattle.protocol.specs.Tests.{in_range, Row, first_refusal}
 use package.Rattle.protocol.specs.State.{State, last, encode, decode, flag, with_timer_fired}
 use package.Rattle.protocol.specs.Sound.{sound}
 use package.Rattle.protocol.specs.Answer.{Outcome, Done, done, accepted, unless_refused}
-use package.mathlib.Core.Path.{◌≡◌ as ◌is-kept◌, refl as by-text}
+use mathlib.Core.Path.{◌≡◌ as ◌is-kept◌, refl as by-text}
 use package.Rattle.protocol.specs.Signal as page
 
 module _ (digest : Bytes → Bytes) where

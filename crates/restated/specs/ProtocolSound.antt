@@ -1,6 +1,6 @@
 -- Written by tests/restated --write: what docs/statements has of
 -- crates/protocol/specs/Sound.antt.
-use package.Rattle.std.specs.Prelude.{ℕ, ◌+◌, ◌-◌, ◌*◌, Bool, ◌&&◌, ◌||◌, List, [], ◌∷◌, length, take, drop, eqb, leb, ltb}
+use Rattle.std.specs.Prelude.{ℕ, ◌+◌, ◌-◌, ◌*◌, Bool, ◌&&◌, ◌||◌, List, [], ◌∷◌, length, take, drop, eqb, leb, ltb}
 use package.Rattle.protocol.specs.Bytes.{Bytes, part, all, is_zero}
 use package.Rattle.protocol.specs.Tests.{all_of, implies, in_range, every_height}
 use package.Rattle.protocol.specs.Block.{block_well_formed}
@@ -9,7 +9,7 @@ use package.Rattle.protocol.specs.State.{State, Height, at, decode, book_size, h
 use package.Rattle.protocol.specs.State.{maximum_replicas, maximum_pending, maximum_weight, most_heights, head_unused}
 use package.Rattle.protocol.specs.View.{View, quorum, is_finalized, log_of}
 use package.Rattle.protocol.specs.Sound.{view, weights_fit, masks_below, blocks_well_formed, content_zeros}
-use package.mathlib.Core.Path.{◌≡◌ as ◌is-kept◌, refl as by-text}
+use mathlib.Core.Path.{◌≡◌ as ◌is-kept◌, refl as by-text}
 use package.Rattle.protocol.specs.Sound as page
 
 view-kept : State → View

@@ -1,12 +1,12 @@
 -- Written by tests/restated --write: what docs/statements has of
 -- crates/protocol/proofs/Laws/SoundLaws.antt.
-use package.Rattle.std.specs.Prelude.{◌≡◌, true}
+use Rattle.std.specs.Prelude.{◌≡◌, true}
 use package.Rattle.protocol.specs.SoundState.{SoundState}
 use package.Rattle.protocol.specs.Bytes.{Bytes, AreBytes}
 use package.Rattle.protocol.specs.State.{decode, encode}
 use package.Rattle.protocol.specs.Sound.{sound}
 use package.Rattle.protocol.proofs.Laws.CodecLaws.{Clean}
-use package.mathlib.Core.Path.{◌≡◌ as ◌is-kept◌, refl as by-text}
+use mathlib.Core.Path.{◌≡◌ as ◌is-kept◌, refl as by-text}
 use package.Rattle.protocol.proofs.Laws.SoundLaws as page
 
 module _ (digest : Bytes → Bytes) where

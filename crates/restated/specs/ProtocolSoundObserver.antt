@@ -1,13 +1,13 @@
 -- Written by tests/restated --write: what docs/statements has of
 -- crates/protocol/specs/SoundObserver.antt.
-use package.Rattle.std.specs.Prelude.{ℕ, ◌≤◌, ◌≡◌, ◌⊎◌, true, length}
+use Rattle.std.specs.Prelude.{ℕ, ◌≤◌, ◌≡◌, ◌⊎◌, true, length}
 use package.Rattle.protocol.specs.Bytes.{Bytes}
 use package.Rattle.protocol.specs.State.{at, maximum_replicas, most_heights}
 use package.Rattle.protocol.specs.View.{is_finalized}
 use package.Rattle.protocol.specs.SoundState.{Shaped, SoundHeight, SoundSetting}
 use package.Rattle.protocol.specs.Observer.{Observer, as_replica, observer_view}
 use package.Rattle.protocol.specs.SoundObserver.{SoundObserver}
-use package.mathlib.Core.Path.{◌≡◌ as ◌is-kept◌, refl as by-text}
+use mathlib.Core.Path.{◌≡◌ as ◌is-kept◌, refl as by-text}
 use package.Rattle.protocol.specs.SoundObserver as page
 
 SoundObserver-kept : (digest : Bytes → Bytes) (o : Observer) (shaped : Shaped (as_replica o)) (setting : SoundSetting o.edition o.n o.weights) (n_low : 1 ≤ o.n) (n_high : o.n ≤ maximum_replicas) (last_low : 1 ≤ length o.heights) (last_most : length o.heights ≤ most_heights o.edition) (each : (h : ℕ) → 1 ≤ h → h ≤ length o.heights → SoundHeight (observer_view o) h (at (as_replica o) h)) (holds_none : (h : ℕ) → 1 ≤ h → h ≤ length o.heights → ((at (as_replica o) h).status ≡ 0) ⊎ ((at (as_replica o) h).status ≡ 2)) (final : (o.finalized ≡ 0) ⊎ (is_finalized digest (observer_view o) o.finalized ≡ true)) →

@@ -1,6 +1,6 @@
 -- Written by tests/restated --write: what docs/statements has of
 -- crates/protocol/specs/SoundState.antt.
-use package.Rattle.std.specs.Prelude.{ℕ, ◌+◌, ◌^◌, ◌≤◌, ◌<◌, ◌≡◌, ◌⊎◌, true, List, length, eqb}
+use Rattle.std.specs.Prelude.{ℕ, ◌+◌, ◌^◌, ◌≤◌, ◌<◌, ◌≡◌, ◌⊎◌, true, List, length, eqb}
 use package.Rattle.protocol.specs.Bytes.{Bytes}
 use package.Rattle.protocol.specs.Tests.{in_range}
 use package.Rattle.protocol.specs.Every.{Every}
@@ -10,7 +10,7 @@ use package.Rattle.protocol.specs.State.{maximum_pending, evenly, most_heights}
 use package.Rattle.protocol.specs.View.{View, quorum, is_finalized}
 use package.Rattle.protocol.specs.Sound.{view, weights_fit}
 use package.Rattle.protocol.specs.SoundState.{ShapedHeight, Weighed, Shaped, SoundHeight, SoundSetting, SoundState, CertifiedState}
-use package.mathlib.Core.Path.{◌≡◌ as ◌is-kept◌, refl as by-text}
+use mathlib.Core.Path.{◌≡◌ as ◌is-kept◌, refl as by-text}
 use package.Rattle.protocol.specs.SoundState as page
 
 ShapedHeight-kept : (x : Height) (proposal_size : length x.proposal ≡ 176) (notarized_size : length x.notarized ≡ 176) (votes_size : length x.vote_digests ≡ 512) →

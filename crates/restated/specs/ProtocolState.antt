@@ -1,10 +1,10 @@
 -- Written by tests/restated --write: what docs/statements has of
 -- crates/protocol/specs/State.antt.
-use package.Rattle.std.specs.Prelude.{ℕ, ◌+◌, ◌-◌, ◌*◌, ◌/◌, ◌%◌, Bool, cond, List, [], ◌∷◌, ◌++◌, map, length, get_or, set, drop, take, replicate, eqb, leb}
+use Rattle.std.specs.Prelude.{ℕ, ◌+◌, ◌-◌, ◌*◌, ◌/◌, ◌%◌, Bool, cond, List, [], ◌∷◌, ◌++◌, map, length, get_or, set, drop, take, replicate, eqb, leb}
 use package.Rattle.protocol.specs.Bytes.{Bytes, byte_at, word16, le16, part, zeros, join, pieces, put}
 use package.Rattle.protocol.specs.Block.{entry_size}
 use package.Rattle.protocol.specs.State.{Height, State, maximum_replicas, pool_size, content_size, body_size, head_number, book_heights, book_current, book_finalized, short_number, number_bytes, padded, evenly, words, weight_bytes, weights_in, book_weights, head_bytes, content_bytes, body_bytes, decode_height, decode_heights, no_height, renewed_in, renewed, with_head, with_flag}
-use package.mathlib.Core.Path.{◌≡◌ as ◌is-kept◌, refl as by-text}
+use mathlib.Core.Path.{◌≡◌ as ◌is-kept◌, refl as by-text}
 use package.Rattle.protocol.specs.State as page
 
 Height-kept : (leader : ℕ) (status : ℕ) (certificate_mask : ℕ) (dummy_mask : ℕ) (finalize_mask : ℕ) (voter_mask : ℕ) (proposal : Bytes) (notarized : Bytes) (vote_digests : Bytes) →

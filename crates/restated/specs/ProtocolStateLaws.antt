@@ -1,9 +1,9 @@
 -- Written by tests/restated --write: what docs/statements has of
 -- crates/protocol/proofs/Laws/StateLaws.antt.
-use package.Rattle.std.specs.Prelude.{◌≡◌}
+use Rattle.std.specs.Prelude.{◌≡◌}
 use package.Rattle.protocol.specs.SoundState.{Shaped}
 use package.Rattle.protocol.specs.State.{State, encode, decode}
-use package.mathlib.Core.Path.{◌≡◌ as ◌is-kept◌, refl as by-text}
+use mathlib.Core.Path.{◌≡◌ as ◌is-kept◌, refl as by-text}
 use package.Rattle.protocol.proofs.Laws.StateLaws as page
 
 module _ (s : State) (shaped : Shaped s) where

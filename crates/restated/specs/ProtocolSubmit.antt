@@ -1,6 +1,6 @@
 -- Written by tests/restated --write: what docs/statements has of
 -- crates/protocol/specs/Submit.antt.
-use package.Rattle.std.specs.Prelude.{◌-◌, ◌*◌, ◌||◌, not, List, [], ◌∷◌, ◌++◌, length, eqb, ltb}
+use Rattle.std.specs.Prelude.{◌-◌, ◌*◌, ◌||◌, not, List, [], ◌∷◌, ◌++◌, length, eqb, ltb}
 use package.Rattle.protocol.specs.Bytes.{Bytes, zeros, join, holds, without}
 use package.Rattle.protocol.specs.Tests.{Row, first_refusal}
 use package.Rattle.protocol.specs.Block.{entry_size}
@@ -8,7 +8,7 @@ use package.Rattle.protocol.specs.State.{State, encode, decode, pending, pool_si
 use package.Rattle.protocol.specs.Sound.{sound, log}
 use package.Rattle.protocol.specs.Answer.{Outcome, Done, done, accepted, unless_refused}
 use package.Rattle.protocol.specs.Submit.{with_pending, still_pending}
-use package.mathlib.Core.Path.{◌≡◌ as ◌is-kept◌, refl as by-text}
+use mathlib.Core.Path.{◌≡◌ as ◌is-kept◌, refl as by-text}
 use package.Rattle.protocol.specs.Submit as page
 
 with_pending-kept : State → List Bytes → State

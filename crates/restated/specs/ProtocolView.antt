@@ -1,14 +1,14 @@
 -- Written by tests/restated --write: what docs/statements has of
 -- crates/protocol/specs/View.antt.
-use package.Rattle.std.specs.Prelude.{ℕ, zero, suc, ◌+◌, ◌-◌, ◌*◌, Bool, true, ◌&&◌, ◌||◌, cond, List, [], ◌∷◌, ◌++◌, eqb, leb, ltb}
-use package.Rattle.std.proofs.Math.Option.{Option, some, none}
+use Rattle.std.specs.Prelude.{ℕ, zero, suc, ◌+◌, ◌-◌, ◌*◌, Bool, true, ◌&&◌, ◌||◌, cond, List, [], ◌∷◌, ◌++◌, eqb, leb, ltb}
+use Rattle.std.proofs.Math.Option.{Option, some, none}
 use package.Rattle.protocol.specs.Bytes.{Bytes, zeros, same}
 use package.Rattle.protocol.specs.Distinct.{distinct}
 use package.Rattle.protocol.specs.Tests.{all_of}
 use package.Rattle.protocol.specs.Block.{digest_size, parent_height, parent_digest, all_entries}
 use package.Rattle.protocol.specs.Mask.{in_mask, weigh, total}
 use package.Rattle.protocol.specs.View.{View, mask_weight, total_weight, quorum, is_dummy, chain_within, chain, log_at, dummy_run}
-use package.mathlib.Core.Path.{◌≡◌ as ◌is-kept◌, refl as by-text}
+use mathlib.Core.Path.{◌≡◌ as ◌is-kept◌, refl as by-text}
 use package.Rattle.protocol.specs.View as page
 
 View-kept : (n : ℕ) (weights : List ℕ) (has_block : ℕ → Bool) (block : ℕ → Bytes) (certificate_mask : ℕ → ℕ) (dummy_mask : ℕ → ℕ) (finalize_mask : ℕ → ℕ) →

@@ -1,8 +1,8 @@
 -- Written by tests/restated --write: what docs/statements has of
 -- crates/sha256_c/specs/DigestCall.antt.
-use package.Rattle.std.specs.Prelude.{ℕ, cond, leb, length}
+use Rattle.std.specs.Prelude.{ℕ, cond, leb, length}
 use package.Rattle.sha256.specs.Bytes.{Bytes}
-use package.mathlib.Core.Path.{◌≡◌ as ◌is-kept◌, refl as by-text}
+use mathlib.Core.Path.{◌≡◌ as ◌is-kept◌, refl as by-text}
 use package.Rattle.sha256_c.specs.DigestCall as page
 
 digest_number-kept : Bytes → ℕ

@@ -1,9 +1,9 @@
 -- Written by tests/restated --write: what docs/statements has of
 -- crates/sha256_c/specs/Written.antt.
-use package.Rattle.std.specs.Prelude.{cond, ◌++◌, leb, length, drop}
+use Rattle.std.specs.Prelude.{cond, ◌++◌, leb, length, drop}
 use package.Rattle.sha256.specs.Bytes.{Bytes}
 use package.Rattle.sha256.specs.Digest.{sha256}
-use package.mathlib.Core.Path.{◌≡◌ as ◌is-kept◌, refl as by-text}
+use mathlib.Core.Path.{◌≡◌ as ◌is-kept◌, refl as by-text}
 use package.Rattle.sha256_c.specs.Written as page
 
 written-kept : Bytes → Bytes → Bytes

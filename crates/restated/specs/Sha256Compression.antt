@@ -1,12 +1,12 @@
 -- Written by tests/restated --write: what docs/statements has of
 -- crates/sha256/specs/Compression.antt.
-use package.Rattle.std.specs.Prelude.{ℕ, List, [], ◌∷◌, slice_index}
+use Rattle.std.specs.Prelude.{ℕ, List, [], ◌∷◌, slice_index}
 use package.Rattle.sha256_functions.specs.Words.{add}
 use package.Rattle.sha256_schedule.specs.Schedule.{schedule}
 use package.Rattle.sha256_rounds.specs.Rounds.{rounds}
 use package.Rattle.sha256.specs.Bytes.{Bytes}
 use package.Rattle.sha256.specs.Compression.{add_words}
-use package.mathlib.Core.Path.{◌≡◌ as ◌is-kept◌, refl as by-text}
+use mathlib.Core.Path.{◌≡◌ as ◌is-kept◌, refl as by-text}
 use package.Rattle.sha256.specs.Compression as page
 
 add_words-kept : List ℕ → List ℕ → List ℕ

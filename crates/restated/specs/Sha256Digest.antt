@@ -1,11 +1,11 @@
 -- Written by tests/restated --write: what docs/statements has of
 -- crates/sha256/specs/Digest.antt.
-use package.Rattle.std.specs.Prelude.{ℕ, zero, suc, ◌/◌, List, [], ◌∷◌, ◌++◌, length}
+use Rattle.std.specs.Prelude.{ℕ, zero, suc, ◌/◌, List, [], ◌∷◌, ◌++◌, length}
 use package.Rattle.sha256.specs.Bytes.{Bytes}
 use package.Rattle.sha256.specs.Compression.{compression}
 use package.Rattle.sha256_padding.specs.Padding.{big_endian, padded, block}
 use package.Rattle.sha256.specs.Digest.{initial_hash, hash_blocks, hash_all, words_bytes}
-use package.mathlib.Core.Path.{◌≡◌ as ◌is-kept◌, refl as by-text}
+use mathlib.Core.Path.{◌≡◌ as ◌is-kept◌, refl as by-text}
 use package.Rattle.sha256.specs.Digest as page
 
 initial_hash-kept : List ℕ

@@ -1,7 +1,7 @@
 -- Written by tests/restated --write: what docs/statements has of
 -- crates/sha256_functions/specs/Bytes.antt.
-use package.Rattle.std.specs.Prelude.{ℕ, List}
-use package.mathlib.Core.Path.{◌≡◌ as ◌is-kept◌, refl as by-text}
+use Rattle.std.specs.Prelude.{ℕ, List}
+use mathlib.Core.Path.{◌≡◌ as ◌is-kept◌, refl as by-text}
 use package.Rattle.sha256_functions.specs.Bytes as page
 
 abbrev Bytes-kept : Type 0

@@ -1,8 +1,8 @@
 -- Written by tests/restated --write: what docs/statements has of
 -- crates/sha256_functions/specs/Functions.antt.
-use package.Rattle.std.specs.Prelude.{ℕ}
+use Rattle.std.specs.Prelude.{ℕ}
 use package.Rattle.sha256_functions.specs.Words.{◌&◌, ◌⊕◌, complement, rotr, shr}
-use package.mathlib.Core.Path.{◌≡◌ as ◌is-kept◌, refl as by-text}
+use mathlib.Core.Path.{◌≡◌ as ◌is-kept◌, refl as by-text}
 use package.Rattle.sha256_functions.specs.Functions as page
 
 Ch-kept : ℕ → ℕ → ℕ → ℕ

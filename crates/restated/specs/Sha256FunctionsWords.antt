@@ -1,9 +1,9 @@
 -- Written by tests/restated --write: what docs/statements has of
 -- crates/sha256_functions/specs/Words.antt.
-use package.Rattle.std.specs.Prelude.{ℕ, ◌+◌, ◌-◌, ◌*◌, ◌/◌, ◌%◌, ◌^◌}
-use package.Rattle.std.specs.Int.Bits.{bit_and, bit_or, bit_xor}
+use Rattle.std.specs.Prelude.{ℕ, ◌+◌, ◌-◌, ◌*◌, ◌/◌, ◌%◌, ◌^◌}
+use Rattle.std.specs.Int.Bits.{bit_and, bit_or, bit_xor}
 use package.Rattle.sha256_functions.specs.Words.{◌&◌, ◌⊕◌, shl, shr}
-use package.mathlib.Core.Path.{◌≡◌ as ◌is-kept◌, refl as by-text}
+use mathlib.Core.Path.{◌≡◌ as ◌is-kept◌, refl as by-text}
 use package.Rattle.sha256_functions.specs.Words as page
 
 infixl 70 ◌&-kept◌

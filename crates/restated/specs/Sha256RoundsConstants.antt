@@ -1,7 +1,7 @@
 -- Written by tests/restated --write: what docs/statements has of
 -- crates/sha256_rounds/specs/Constants.antt.
-use package.Rattle.std.specs.Prelude.{ℕ, List, [], ◌∷◌}
-use package.mathlib.Core.Path.{◌≡◌ as ◌is-kept◌, refl as by-text}
+use Rattle.std.specs.Prelude.{ℕ, List, [], ◌∷◌}
+use mathlib.Core.Path.{◌≡◌ as ◌is-kept◌, refl as by-text}
 use package.Rattle.sha256_rounds.specs.Constants as page
 
 K-kept : List ℕ

@@ -1,11 +1,11 @@
 -- Written by tests/restated --write: what docs/statements has of
 -- crates/sha256_rounds/specs/Rounds.antt.
-use package.Rattle.std.specs.Prelude.{ℕ, zero, suc, List, [], ◌∷◌, slice_index}
+use Rattle.std.specs.Prelude.{ℕ, zero, suc, List, [], ◌∷◌, slice_index}
 use package.Rattle.sha256_functions.specs.Words.{add}
 use package.Rattle.sha256_functions.specs.Functions.{Ch, Maj, Σ0, Σ1}
 use package.Rattle.sha256_rounds.specs.Constants.{K}
 use package.Rattle.sha256_rounds.specs.Rounds.{variables, round}
-use package.mathlib.Core.Path.{◌≡◌ as ◌is-kept◌, refl as by-text}
+use mathlib.Core.Path.{◌≡◌ as ◌is-kept◌, refl as by-text}
 use package.Rattle.sha256_rounds.specs.Rounds as page
 
 variables-kept : (Kt Wt a b c d e f g h : ℕ) → List ℕ

@@ -1,11 +1,11 @@
 -- Written by tests/restated --write: what docs/statements has of
 -- crates/sha256_schedule/specs/Schedule.antt.
-use package.Rattle.std.specs.Prelude.{ℕ, zero, suc, ◌+◌, ◌-◌, ◌*◌, ◌^◌, List, [], ◌∷◌, ◌++◌, slice_index, slice_index_or}
+use Rattle.std.specs.Prelude.{ℕ, zero, suc, ◌+◌, ◌-◌, ◌*◌, ◌^◌, List, [], ◌∷◌, ◌++◌, slice_index, slice_index_or}
 use package.Rattle.sha256_functions.specs.Bytes.{Bytes}
 use package.Rattle.sha256_functions.specs.Words.{add}
 use package.Rattle.sha256_functions.specs.Functions.{σ0, σ1}
 use package.Rattle.sha256_schedule.specs.Schedule.{message_word, message_words, next_word, schedule_to}
-use package.mathlib.Core.Path.{◌≡◌ as ◌is-kept◌, refl as by-text}
+use mathlib.Core.Path.{◌≡◌ as ◌is-kept◌, refl as by-text}
 use package.Rattle.sha256_schedule.specs.Schedule as page
 
 message_word-kept : Bytes → ℕ → ℕ

@@ -1,6 +1,6 @@
 -- Written by tests/restated --write: what docs/statements has of
 -- crates/witnesses/specs/AllEditions.antt.
-use package.Rattle.std.specs.Prelude.{ℕ, ◌<◌, ◌≡◌, List, [], ◌∷◌, ◌++◌, map, replicate}
+use Rattle.std.specs.Prelude.{ℕ, ◌<◌, ◌≡◌, List, [], ◌∷◌, ◌++◌, map, replicate}
 use package.Rattle.protocol.specs.Bytes.{Bytes, join, le16, zeros}
 use package.Rattle.protocol.specs.Block.{new_block}
 use package.Rattle.protocol.specs.Frame.{proposal, block_certificate, finalize_certificate}
@@ -16,7 +16,7 @@ use package.Rattle.agreement.specs.ObserverMet.{ObservedMet, ObserverOf, Observe
 use package.Rattle.agreement.specs.ObserverWitness.{AnyTurn, build_any, by_observer, by_replicas, observer_hears}
 use package.Rattle.agreement.specs.Turns.{Turn, entry, hear, move, other_entry}
 use package.Rattle.witnesses.specs.AllEditions.{weights, three, ones, openings, observer_openings, block, agreed, observer_turns, dishonest, any_books, any_observed, log, any_turns, meant_observers}
-use package.mathlib.Core.Path.{◌≡◌ as ◌is-kept◌, refl as by-text}
+use mathlib.Core.Path.{◌≡◌ as ◌is-kept◌, refl as by-text}
 use package.Rattle.witnesses.specs.AllEditions as page
 
 abbrev weights-kept : List ℕ

@@ -1,9 +1,9 @@
 -- Written by tests/restated --write: what docs/statements has of
 -- crates/witnesses/specs/Laws/AllEditionsLaws.antt.
-use package.Rattle.std.specs.Prelude.{◌≡◌, length}
+use Rattle.std.specs.Prelude.{◌≡◌, length}
 use package.Rattle.protocol.specs.Bytes.{Bytes}
 use package.Rattle.witnesses.specs.AllEditions.{AllEditions, block}
-use package.mathlib.Core.Path.{◌≡◌ as ◌is-kept◌, refl as by-text}
+use mathlib.Core.Path.{◌≡◌ as ◌is-kept◌, refl as by-text}
 use package.Rattle.witnesses.specs.Laws.AllEditionsLaws as page
 
 module _ (digest : Bytes → Bytes) where

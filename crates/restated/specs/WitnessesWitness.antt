@@ -1,7 +1,7 @@
 -- Written by tests/restated --write: what docs/statements has of
 -- crates/witnesses/specs/Witness.antt.
-use package.Rattle.std.specs.Prelude.{ℕ, ◌≢◌, replicate}
-use package.mathlib.Core.List.{List, [], ◌∷◌, ◌++◌, map, Memᴰ}
+use Rattle.std.specs.Prelude.{ℕ, ◌≢◌, replicate}
+use mathlib.Core.List.{List, [], ◌∷◌, ◌++◌, map, Memᴰ}
 use package.Rattle.protocol.specs.Bytes.{Bytes, byte_at, join, le16, part, zeros}
 use package.Rattle.protocol.specs.Block.{new_block}
 use package.Rattle.protocol.specs.Frame.{proposal, block_vote, dummy_vote, finalize, block_certificate, dummy_certificate}
@@ -12,7 +12,7 @@ use package.Rattle.agreement.specs.Lists.{Member, proposes, votes_block, writes}
 use package.Rattle.agreement.specs.Met.{Hears, HearsWhere, MemberOf, Met, ReadsWhere, fires_timer, has_edition, is_packet}
 use package.Rattle.agreement.specs.Turns.{Turn, anything, build, entry, hear, hear_packet, move, next_block, next_log}
 use package.Rattle.witnesses.specs.Witness.{sample, weights, dishonest, leaders, last_entry, openings, one_block, other_block, split, timeouts, votes, agreed, last_block, extended, readings, list, last_log, Witness}
-use package.mathlib.Core.Path.{◌≡◌ as ◌is-kept◌, refl as by-text}
+use mathlib.Core.Path.{◌≡◌ as ◌is-kept◌, refl as by-text}
 use package.Rattle.witnesses.specs.Witness as page
 
 sample-kept : Bytes → Bytes

@@ -1,9 +1,10 @@
 // Written by tests/restated --write: what docs/statements has of
 // crates/observer/src/deliver.rt.
-ghost use package.Rattle.std.specs.Prelude.{◌≡◌};
+ghost use Rattle.std.specs.Prelude.{◌≡◌};
 ghost use package.Rattle.sha256.specs.Digest.{sha256};
 ghost use package.Rattle.protocol.specs.ObserverCalls.{observer_deliver_call};
 ghost use package.Rattle.answers.specs.Answers.{delivered_answer};
+
 use answers::answer::Delivered;
 
 // Reads a certificate and keeps what it states; a refused call changes nothing.

@@ -1,10 +1,11 @@
 // Written by tests/restated --write: what docs/statements has of
 // crates/observer/src/make_move.rt.
-ghost use package.Rattle.std.specs.Prelude.{◌≡◌};
+ghost use Rattle.std.specs.Prelude.{◌≡◌};
 ghost use package.Rattle.sha256.specs.Digest.{sha256 as sha};
 ghost use package.Rattle.protocol.specs.ObserverCalls.{observer_move_call};
 ghost use package.Rattle.answers.specs.Answers.{moved_answer};
 ghost use package.Rattle.answers.specs.MoveNumbers.{moved_numbers, answer_numbers};
+
 use answers::answer::Moved;
 
 // Makes move 2, if it applies; a refused call changes nothing. Costs one pass over the book, and at most one digest for

@@ -1,9 +1,10 @@
 // Written by tests/restated --write: what docs/statements has of
 // crates/observer/src/open.rt.
-ghost use package.Rattle.std.specs.Prelude.{◌≡◌};
+ghost use Rattle.std.specs.Prelude.{◌≡◌};
 ghost use package.Rattle.protocol.specs.Open.{long};
 ghost use package.Rattle.protocol.specs.ObserverCalls.{observer_open_call};
 ghost use package.Rattle.answers.specs.Answers.{done_answer};
+
 use answers::answer::Answer;
 
 // Writes a new book. Looks at the weights once and stores each byte of the book once, and those of the head twice.

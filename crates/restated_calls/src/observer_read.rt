@@ -1,9 +1,10 @@
 // Written by tests/restated --write: what docs/statements has of
 // crates/observer/src/read.rt.
-ghost use package.Rattle.std.specs.Prelude.{◌≡◌, length};
+ghost use Rattle.std.specs.Prelude.{◌≡◌, length};
 ghost use package.Rattle.sha256.specs.Digest.{sha256 as sha};
 ghost use package.Rattle.protocol.specs.ObserverCalls.{observer_size_call, observer_read_part, observer_read_buffer};
 ghost use package.Rattle.answers.specs.Answers.{size_answer};
+
 use answers::answer::Size;
 
 // The length of the log in bytes. Reads the book once to see that it is sound.

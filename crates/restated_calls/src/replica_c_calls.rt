@@ -1,6 +1,6 @@
 // Written by tests/restated --write: what docs/statements has of
 // crates/replica_c/src/lib.rt.
-ghost use package.Rattle.std.specs.Prelude.{◌≡◌, length};
+ghost use Rattle.std.specs.Prelude.{◌≡◌, length};
 ghost use package.Rattle.sha256.specs.Digest.{sha256};
 ghost use package.Rattle.protocol.specs.Open.{long, open_call};
 ghost use package.Rattle.protocol.specs.Deliver.{deliver_call};

@@ -1,9 +1,10 @@
 // Written by tests/restated --write: what docs/statements has of
 // crates/replica/src/deliver.rt.
-ghost use package.Rattle.std.specs.Prelude.{◌≡◌};
+ghost use Rattle.std.specs.Prelude.{◌≡◌};
 ghost use package.Rattle.sha256.specs.Digest.{sha256};
 ghost use package.Rattle.protocol.specs.Deliver.{deliver_call};
 ghost use package.Rattle.answers.specs.Answers.{delivered_answer};
+
 use answers::answer::Delivered;
 
 // Reads a frame and keeps what it states, or fires the timer by it; a refused call changes nothing.

@@ -1,10 +1,11 @@
 // Written by tests/restated --write: what docs/statements has of
 // crates/replica/src/make_move.rt.
-ghost use package.Rattle.std.specs.Prelude.{◌≡◌};
+ghost use Rattle.std.specs.Prelude.{◌≡◌};
 ghost use package.Rattle.sha256.specs.Digest.{sha256};
 ghost use package.Rattle.protocol.specs.Move.{move_call};
 ghost use package.Rattle.answers.specs.Answers.{moved_answer};
 ghost use package.Rattle.answers.specs.MoveNumbers.{moved_numbers, answer_numbers};
+
 use answers::answer::Moved;
 
 // Makes the first move that applies and writes its frames to the front of the reply; a refused call changes nothing.

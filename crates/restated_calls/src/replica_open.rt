@@ -1,8 +1,9 @@
 // Written by tests/restated --write: what docs/statements has of
 // crates/replica/src/open.rt.
-ghost use package.Rattle.std.specs.Prelude.{◌≡◌};
+ghost use Rattle.std.specs.Prelude.{◌≡◌};
 ghost use package.Rattle.protocol.specs.Open.{long, open_call};
 ghost use package.Rattle.answers.specs.Answers.{done_answer};
+
 use answers::answer::Answer;
 
 // Writes a new book. Looks at weights and leaders once and stores each byte of the book once, and a leader's twice.

@@ -1,9 +1,10 @@
 // Written by tests/restated --write: what docs/statements has of
 // crates/replica/src/packet.rt.
-ghost use package.Rattle.std.specs.Prelude.{◌≡◌};
+ghost use Rattle.std.specs.Prelude.{◌≡◌};
 ghost use package.Rattle.sha256.specs.Digest.{sha256};
 ghost use package.Rattle.protocol.specs.Packet.{packet_call};
 ghost use package.Rattle.answers.specs.Answers.{counted_answer};
+
 use answers::answer::Counted;
 
 // Delivers each frame of a packet in order, and counts the fresh, known and refused ones; a refused packet changes

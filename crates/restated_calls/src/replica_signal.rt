@@ -1,9 +1,10 @@
 // Written by tests/restated --write: what docs/statements has of
 // crates/replica/src/signal.rt.
-ghost use package.Rattle.std.specs.Prelude.{◌≡◌};
+ghost use Rattle.std.specs.Prelude.{◌≡◌};
 ghost use package.Rattle.sha256.specs.Digest.{sha256 as sha};
 ghost use package.Rattle.protocol.specs.Signal.{signal_call};
 ghost use package.Rattle.answers.specs.Answers.{done_answer};
+
 use answers::answer::Answer;
 
 // The timer of the current height has fired. Reads the book once to see that it is sound, and stores one byte.

@@ -1,9 +1,10 @@
 // Written by tests/restated --write: what docs/statements has of
 // crates/replica/src/submit.rt.
-ghost use package.Rattle.std.specs.Prelude.{◌≡◌};
+ghost use Rattle.std.specs.Prelude.{◌≡◌};
 ghost use package.Rattle.sha256.specs.Digest.{sha256 as sha};
 ghost use package.Rattle.protocol.specs.Submit.{submit_call};
 ghost use package.Rattle.answers.specs.Answers.{done_answer};
+
 use answers::answer::Answer;
 
 // One more pending entry. Reads the book once to see that it is sound, and walks the log once for each pending entry,

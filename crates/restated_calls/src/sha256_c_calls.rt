@@ -1,6 +1,6 @@
 // Written by tests/restated --write: what docs/statements has of
 // crates/sha256_c/src/lib.rt.
-ghost use package.Rattle.std.specs.Prelude.{◌≡◌, leb, length};
+ghost use Rattle.std.specs.Prelude.{◌≡◌, leb, length};
 ghost use package.Rattle.sha256_c.specs.Written.{written};
 ghost use package.Rattle.sha256_c.specs.DigestCall.{digest_number};
 
