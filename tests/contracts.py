@@ -11,6 +11,14 @@ from words import Unreadable, Words, readable
 # the crates whose public functions are for others to call
 PUBLIC = ("replica", "observer", "replica_c", "sha256", "sha256_c")
 
+
+def public(root):
+    """These, and the static libraries of crates.txt, which are for programs in other languages to call."""
+    path = root / "crates.txt"
+    text = path.read_text() if path.exists() else ""
+    return (*PUBLIC, *(name for name in re.findall(r"^(\w+) staticlib\b", text, re.M) if name not in PUBLIC))
+
+
 ITEM = re.compile(
     r"^[ ]*(?P<pub>pub )?(?P<extern>extern \"C\" )?(?P<sort>fn|enum|struct|type|const) (?P<name>\w+)", re.M)
 # what may stand above an item; a hint for the prover says nothing of what is promised
