@@ -65,7 +65,7 @@ class Contracts:
             for path in use.opened(words) if use.alias else ():
                 found += self.library.along([*use.module.split("."), *path])
         for path in words.paths:
-            found += self.library.along(path) if path[0].startswith("Rattle·") else []
+            found += self.library.along(path) if path[0] == "Rattle" else []
         return found
 
     def below(self, declaration):
