@@ -29,7 +29,8 @@ class Library:
         if kit and project.exists():
             for name, folder in json.loads(project.read_text())["mounts"].items():
                 of = (project.parent / folder / "antt-project.json").resolve()
-                self.libraries[name] = of.parent / (json.loads(of.read_text()).get("src", "src") if of.exists() else ".")
+                src = json.loads(of.read_text()).get("src", "src") if of.exists() else "."
+                self.libraries[name] = of.parent / src
 
     def crate(self, name):
         if name not in self.sources:

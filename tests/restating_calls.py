@@ -9,6 +9,7 @@ from imports import Use, from_libraries, unbent
 
 HEAD = "// Written by tests/restated --write: what docs/statements has of\n// {}.\n"
 LIB = "// Written by tests/restated --write: the kept contracts, each of a function that calls the one that has it.\n"
+LIB += "#![tactic(auto)]\n\n"
 # a signature that fits stands on one line (`rt fmt`)
 WIDTH = 100
 FUNCTION = re.compile(r"^pub (?:extern \"C\" )?fn (\w+)(?:<[^>]*>)?\(([^)]*)\)", re.M)
@@ -45,8 +46,9 @@ def files(texts, lead):
             imports, _, rest = part.partition("\n\n")
             lines = [imported(line, crate) for line in imports.splitlines() if line]
             ghosts = [line for line in lines if line.startswith("ghost ")]
-            lines = [*ghosts, *([""] if ghosts and ghosts != lines else []), *(line for line in lines if line not in ghosts)]
+            others = [line for line in lines if line not in ghosts]
+            lines = [*ghosts, *([""] if ghosts and others else []), *others]
             said = [calling(each, path) for each in re.split(r"\n\n+", rest.strip())]
             name = f"{crate}_{'calls' if stem == 'lib' else stem}"
             made[f"{name}.rt"] = HEAD.format(place) + "\n".join(lines) + "\n\n" + "\n\n".join(said) + "\n"
-    return {"lib.rt": LIB + "#![tactic(auto)]\n\n" + "".join(f"pub mod {name[:-3]};\n" for name in sorted(made)), **made}
+    return {"lib.rt": LIB + "".join(f"pub mod {name[:-3]};\n" for name in sorted(made)), **made}
