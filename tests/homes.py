@@ -6,9 +6,10 @@ from specs import Unreadable
 
 # CPU seconds that a crate with edits may take, if docs/seconds.txt makes no exception of it
 MOST = 6.0
-HEAD = """# CPU seconds, user and system, that a check of each crate takes alone, in the order of crates.txt. An edit that must
-# fail costs as much as its crate. tests/check-seconds writes the seconds; tests/gate-rules holds the file to the crates:
-# one with edits takes 6 at most, or its line says how many edits it may have, and why.
+HEAD = """# CPU seconds, user and system, that a check of each crate takes alone, in the order of crates.txt: on the toolchain
+# before today's, but for crates that came since. An edit that must fail costs as much as its crate at most.
+# tests/check-seconds writes the seconds; tests/gate-rules holds the file to the crates: one with edits takes 6 at most,
+# or its line says how many edits it may have, and why.
 """
 
 
