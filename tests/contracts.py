@@ -123,7 +123,7 @@ class SourceFile:
         bare = blanked(text)
         for line in OUTER.findall(bare):
             self.takes(line.rstrip())
-        if re.search(r"\b(?:impl|trait)\b", bare):
+        if re.search(r"^[ ]*(?:pub |unsafe )*(?:impl|trait)\b", bare, re.M):
             raise Unreadable(f"{place}: methods, or a trait")
         self.items = [Item(self, text, bare, m) for m in ITEM.finditer(bare)]
         self.covered(bare)
