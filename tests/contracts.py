@@ -11,12 +11,25 @@ from words import Unreadable, Words, readable
 # the crates whose public functions are for others to call
 PUBLIC = ("replica", "observer", "replica_c", "sha256", "sha256_c")
 
+
+def public(root):
+    """These, and the static libraries of crates.txt, which are for programs in other languages to call."""
+    path = root / "crates.txt"
+    text = path.read_text() if path.exists() else ""
+    return (*PUBLIC, *(name for name in re.findall(r"^(\w+) staticlib\b", text, re.M) if name not in PUBLIC))
+
+
 ITEM = re.compile(
     r"^[ ]*(?P<pub>pub )?(?P<extern>extern \"C\" )?(?P<sort>fn|enum|struct|type|const) (?P<name>\w+)", re.M)
-HEAD = re.compile(r"(?:^[ ]*(?://|#\[no_mangle\]$).*\n)*\Z", re.M)
-CLAUSE = re.compile(r"(?:^|\s)(requires|ensures|ghost|measure|decreases)(?:\s+\w+)?\s*$")
-IMPORT = re.compile(r"^(pub )?use ([\w:]+)(?: as (\w+))?;$")
-OUTER = re.compile(r"^(?:ghost use|(?:pub )?use|(?:pub )?mod) .*", re.M)
+# what may stand above an item; a hint for the prover says nothing of what is promised
+HINT = r"[ ]*#\[(?:tactic|cycle)\b[^\[\]]*\]\n"
+ATTRIBUTE = rf"{HINT}|[ ]*#\[(?:unsafe\(no_mangle\)|derive\([\w, ]*\)|test)\]\n"
+HEAD = re.compile(rf"(?:^(?:[ ]*//.*\n|{ATTRIBUTE}))*\Z", re.M)
+CLAUSE = re.compile(r"(?:^|\s)(requires|ensures|ghost|measure|decreases)(\*?)(?:\s+\w+:?)?\s*$")
+IMPORT = re.compile(r"^(pub )?use ([\w:]+?)(?:::\{([^{}]*)\})?(?: as (\w+))?;$")
+NAMED = re.compile(r"(\w+(?:::\w+)*)(?: as (\w+))?")
+OUTER = re.compile(r"^(?:(?:pub )?use [\w:]+::\{[^{};]*\};$|(?:ghost use|(?:pub )?use|(?:pub )?mod) .*"
+                   r"|#!\[tactic\([^\[\]]*\)\]$)", re.M)
 MODULE = re.compile(r"(pub )?mod (\w+);")
 LITERAL = re.compile(r"//.*|b?\"(?:\\.|[^\"\\\n])*\"|b?'(?:\\[^\n]|[^'\\\n])'")
 # in a signature: each word but a lifetime, a number, and the name of a parameter or a field
@@ -52,7 +65,7 @@ class Item:
         self.clauses, self.types = [], set()
         end = self.function(bare, m.end()) if self.sort == "fn" else self.type_of(bare, m.end())
         self.start = HEAD.search(text, 0, m.start()).start()
-        self.whole = text[self.start : end].rstrip()
+        self.whole = re.sub(rf"^{HINT}", "", text[self.start : end], flags=re.M).rstrip()
         self.signature = bare[m.end() : end]
         self.body = bare[end : closing(bare, end)] if self.sort == "fn" and bare[end] == "{" else ""
         self.end = end + len(self.body)
@@ -71,6 +84,8 @@ class Item:
                 self.refuse(between)
             if not clause:
                 return brace
+            if clause[2]:
+                self.refuse(clause[0])
             at, signature = closing(text, brace), False
             self.clauses.append((clause[1], text[brace + 1 : at - 1].strip()))
             if UNREAD.search(self.clauses[-1][1]):
@@ -108,7 +123,7 @@ class SourceFile:
         bare = blanked(text)
         for line in OUTER.findall(bare):
             self.takes(line.rstrip())
-        if re.search(r"\b(?:impl|trait)\b", bare):
+        if re.search(r"^[ ]*(?:pub |unsafe )*(?:impl|trait)\b", bare, re.M):
             raise Unreadable(f"{place}: methods, or a trait")
         self.items = [Item(self, text, bare, m) for m in ITEM.finditer(bare)]
         self.covered(bare)
@@ -130,18 +145,29 @@ class SourceFile:
             raise Unreadable(f"{self.place}: what is no import, module, function or type: {' '.join(left[:8])}")
 
     def takes(self, line):
-        """An import, of antt's names or of the code's, or a module."""
+        """An import, of antt's names or of the code's, or a module; a hint for the prover is none."""
+        if line.startswith("#!"):
+            return
         if line.startswith("ghost "):
             self.uses.append(Use(line))
             return
         m, module = IMPORT.match(line), MODULE.fullmatch(line)
         if module:
             self.modules[module[2]] = bool(module[1])
-        elif m:
-            path = m[2].split("::")
-            self.imports.append((m[0], bool(m[1]), path, m[3] or path[-1]))
+        elif m and not (m[3] is not None and m[4]):
+            items = [item.strip() for item in m[3].split(",") if item.strip()] if m[3] is not None else [""]
+            for item in items:
+                self.brings(m[1] or "", f"{m[2]}::{item}" if item else m[2] + (f" as {m[4]}" if m[4] else ""))
         else:
             raise Unreadable(f"{self.place}: an import of another form: {line}")
+
+    def brings(self, public, item):
+        """A name that an import of the code brings, each as if it stood on a line of its own."""
+        named = NAMED.fullmatch(item)
+        if not named or named[1].split("::")[-1] == "self":
+            raise Unreadable(f"{self.place}: an import of another form: {public}use {item};")
+        path = named[1].split("::")
+        self.imports.append((f"{public}use {item};", bool(public), path, named[2] or path[-1]))
 
     def find(self, name):
         return [item for item in self.items if item.name == name]

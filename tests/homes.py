@@ -1,21 +1,22 @@
 """Where edits that must fail stand: how dear their crates are, and which public contracts they bear on."""
 import re
 
-from contracts import ITEM, PUBLIC, Crate
+from contracts import ITEM, PUBLIC, Crate, public
 from specs import Unreadable
 
 # CPU seconds that a crate with edits may take, if docs/seconds.txt makes no exception of it
 MOST = 6.0
-HEAD = """# CPU seconds, user and system, that a check of each crate takes alone, in the order of crates.txt. An edit that must
-# fail costs as much as its crate. tests/check-seconds writes the seconds; tests/gate-rules holds the file to the crates:
-# one with edits takes 6 at most, or its line says how many edits it may have, and why.
+HEAD = """# CPU seconds, user and system, that a check of each crate takes alone, in the order of crates.txt: on the toolchain
+# before today's, but for crates that came since. An edit that must fail costs as much as its crate at most.
+# tests/check-seconds writes the seconds; tests/gate-rules holds the file to the crates: one with edits takes 6 at most,
+# or its line says how many edits it may have, and why.
 """
 
 
 def crates(root):
     """The crates of crates.txt, each with those that it rests on."""
     lines = [line.split("#")[0] for line in (root / "crates.txt").read_text().splitlines()]
-    return {name.strip(): rest.split() for name, sign, rest in (line.partition(":") for line in lines) if sign}
+    return {name.split()[0]: rest.split() for name, sign, rest in (line.partition(":") for line in lines) if sign}
 
 
 def edits_of(root, crate):
@@ -120,7 +121,7 @@ def changed(path):
 
 def public_functions(root):
     """The functions for others to call, each with its place and how many edits it must have: a constant one."""
-    for name in PUBLIC:
+    for name in public(root):
         crate = Crate(root / "crates" / name)
         for path, item in crate.functions().items():
             _, own, _, file = item.file.place.split("/")
@@ -130,7 +131,8 @@ def public_functions(root):
 def few_edits(root):
     """Public contracts that fewer than two edits bear on, of those that their row of ACCEPTANCE names.
 
-    An edit bears on a contract where it changes a function that the public one reaches by its calls."""
+    An edit bears on a contract where it changes a function that the public one reaches by its calls. A function of a
+    static library has the row of the library's function of its name, which it calls."""
     rows = dict(ROW.findall((root / "docs" / "ACCEPTANCE.md").read_text()))
     edits = [path for name in crates(root) for path in edits_of(root, name)]
     named = {f"{path.parts[-3]} {path.stem}": path for path in edits}
@@ -140,7 +142,10 @@ def few_edits(root):
     try:
         functions = list(public_functions(root))
         for name, place, wanted in functions:
-            found = [named.get(word) for word in dict.fromkeys(re.findall(r"`([^`]+)`", rows.get(name, "")))]
+            row = rows.get(name, "")
+            if place[0] not in PUBLIC:
+                row = next((rows[other] for other in rows if other.split("::")[-1] == place[-1]), "")
+            found = [named.get(word) for word in dict.fromkeys(re.findall(r"`([^`]+)`", row))]
             reached = code.reached(place)
             bear = [path for path in found if path and changed(path) & reached]
             if len(bear) < max(wanted, len(found)):

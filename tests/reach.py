@@ -5,12 +5,13 @@ import re
 import shutil
 
 from contracts import Crate, SourceFile
+from imports import KIT_CRATES
 from specs import Passing, SpecFile
 from words import Unreadable, readable
 
-OWN = re.compile(r"Rattle·(\w+?)(?:·specs)?\.specs\.((?:Laws\.)?(?!Laws\b)\w+)")
-DECLARED = re.compile(r"Rattle·(\w+?)(?:·specs)?\.specs\.declared\.(\w+)\.(\w+)(?:\.the-variants)?")
-
+# a file of specs/, of specs/Laws or of proofs/Laws; and a type of src/, in lib.rt where no file stands before it
+OWN = re.compile(r"Rattle\.(\w+)\.specs\.((?:Laws\.)?(?!Laws\b|declared\b)\w+)|Rattle\.(\w+)\.(proofs\.Laws\.\w+)")
+DECLARED = re.compile(r"Rattle\.(\w+)\.specs\.declared\.(?:([a-z]\w*)\.)?([A-Z]\w*)(?:\.TheVariants)?")
 
 # the types that the language has, and words of its signatures
 BUILT_IN = set("u8 u16 u32 u64 u128 usize i8 i16 i32 i64 i128 isize bool mut".split())
@@ -23,11 +24,13 @@ class Library:
 
     def __init__(self, root, kit=False):
         self.crates, self.files, self.sources, self.libraries, self.named = root / "crates", {}, {}, {}, {}
-        home = pathlib.Path(shutil.which("rt") or "/opt/rattle/bin/rt").resolve().parent.parent / "logic"
-        self.kit = home if kit else None
-        if kit and (home / "antt-project.json").exists():
-            project = json.loads((home / "antt-project.json").read_text())
-            self.libraries = {entry["name"]: home / entry["src"] for entry in project["libraries"]}
+        home = pathlib.Path(shutil.which("rt") or "/opt/rattle/bin/rt").resolve().parent.parent / "rattle"
+        self.kit, project = home if kit else None, home / "logic" / "antt-project.json"
+        if kit and project.exists():
+            for name, folder in json.loads(project.read_text())["mounts"].items():
+                of = (project.parent / folder / "antt-project.json").resolve()
+                src = json.loads(of.read_text()).get("src", "src") if of.exists() else "."
+                self.libraries[name] = of.parent / src
 
     def crate(self, name):
         if name not in self.sources:
@@ -44,33 +47,56 @@ class Library:
 
     def load(self, path):
         declared, own = DECLARED.fullmatch(path), OWN.fullmatch(path)
-        if declared:
+        if declared and self.of_kit(path) is None:
             files = self.crate(declared[1]).files
-            if declared[2] not in files:
+            if (declared[2] or "lib") not in files:
                 raise Unreadable(f"{path}, which is no file of src/")
-            return files[declared[2]]
-        if own:
-            return self.spec(*own.groups())
-        library, *rest = path.split(".")
-        if library.startswith("Rattle·"):
+            return files[declared[2] or "lib"]
+        if own and self.of_kit(path) is None:
+            return self.spec(*filter(None, own.groups()))
+        if path.split(".")[0] == "Rattle" and self.of_kit(path) is None:
             raise Unreadable(f"a name of {path}, which is no file of specs/")
-        at = self.libraries.get(library)
-        file = at and rest and at.joinpath(*rest).with_suffix(".antt")
-        return SpecFile(file.read_text(), f"the kit's {path}", lenient=True) if file and file.exists() else None
+        return self.of_libraries(path.split("."))
+
+    def of_kit(self, path):
+        """The kit's crate that a path leads into; None where it leads into one of the repository, or is no crate's."""
+        words = path.split(".")
+        known = words[0] == "Rattle" and len(words) > 2 and words[1] in KIT_CRATES
+        return words[1] if known and not (self.crates / words[1]).is_dir() else None
+
+    def of_libraries(self, path):
+        """The file of a module of the kit, where that is asked for: its own, or that which a module above passes on."""
+        head, rest = path[:1], path[1:]
+        if head == ["Rattle"] and self.kit and len(path) > 2:
+            at, rest = self.kit / path[1] / path[2], path[3:]
+        else:
+            at = self.libraries.get(path[0])
+        if at is None:
+            return None
+        files = [at.joinpath(*rest).with_suffix(".antt")] if rest else []
+        for file in [*files, at.joinpath(*rest, "Lib.antt")]:
+            if file.exists():
+                return SpecFile(file.read_text(), f"the kit's {'.'.join(path)}", lenient=True)
+        above = self.of_libraries(path[:-1]) if rest else None
+        passed = [use.module for use in above.uses if use.alias == path[-1]] if above else []
+        return self.module(passed[0]) if passed else None
 
     def spec(self, crate, name):
-        """A file of specs/ or of specs/Laws, by its name: `Bytes`, `Laws.BytesLaws`."""
-        key = f"Rattle·{crate}.specs.{name}"
+        """A file of specs/, of specs/Laws or of proofs/Laws, by its name: `Bytes`, `Laws.BytesLaws`, with `proofs`
+        before it where it stands there."""
+        top, inner = ("proofs", name.removeprefix("proofs.")) if name.startswith("proofs.") else ("specs", name)
+        key = f"Rattle.{crate}.{top}.{inner}"
         if self.files.get(key) is None:
-            place = f"crates/{crate}/specs/{name.replace('.', '/')}.antt"
+            place = f"crates/{crate}/{top}/{inner.replace('.', '/')}.antt"
             if not self.has(crate, name):
                 raise Unreadable(f"there is no {place}")
-            *folder, last = name.split(".")
-            if folder not in ([], ["Laws"]) or last == "Lib" or (folder and self.has(crate, last)):
+            *folder, last = inner.split(".")
+            named = [each for each in (last, f"Laws.{last}", f"proofs.Laws.{last}") if self.has(crate, each)]
+            if folder not in ([], ["Laws"]) or last == "Lib" or named != [name]:
                 raise Unreadable(f"{place}: a folder that is not read, or a name for two files")
-            self.declared(crate, "Lib", folder[0] if folder else last)
+            self.declared(f"crates/{crate}/{top}/Lib.antt", folder[0] if folder else last)
             if folder:
-                self.declared(crate, folder[0], last)
+                self.declared(f"crates/{crate}/{top}/{folder[0]}.antt", last)
             text = (self.crates.parent / place).read_text()
             if (place, text) not in READ:
                 READ[place, text] = SpecFile(text, place)
@@ -78,7 +104,7 @@ class Library:
         return self.files[key]
 
     def everything(self):
-        """Reads every file of specs/ and of src/: what cannot be read is refused, though no statement reaches it.
+        """Reads every file of specs/, proofs/Laws and src/: what cannot be read is refused, though nothing reaches it.
 
         The crates `restated` and `restated_calls` are written by tests/restated, and no crate rests on them."""
         for folder in sorted(folder for folder in self.crates.iterdir() if not folder.name.startswith("restated")):
@@ -86,23 +112,29 @@ class Library:
                 name = ".".join(path.relative_to(folder / "specs").with_suffix("").parts)
                 if name not in ("Lib", "Laws"):
                     self.spec(folder.name, name)
+            for path in sorted(folder.glob("proofs/Laws/**/*.antt")):
+                self.spec(folder.name, ".".join(["proofs", *path.relative_to(folder / "proofs").with_suffix("").parts]))
             if (folder / "src").is_dir():
                 self.crate(folder.name)
 
     def has(self, crate, name):
-        return (self.crates / crate / "specs" / f"{name.replace('.', '/')}.antt").exists()
+        top, inner = ("proofs", name.removeprefix("proofs.")) if name.startswith("proofs.") else ("specs", name)
+        return (self.crates / crate / top / f"{inner.replace('.', '/')}.antt").exists()
 
     def law(self, crate, file):
-        """The name of a file as modules have it, wherever it stands: in specs/ or in specs/Laws."""
-        return f"Laws.{file}" if self.has(crate, f"Laws.{file}") else file
+        """The name of a file as modules have it, wherever it stands: in specs/, in specs/Laws or in proofs/Laws."""
+        return next((f"{front}{file}" for front in ("Laws.", "proofs.Laws.") if self.has(crate, front + file)), file)
 
-    def declared(self, crate, of, name):
-        """Lib.antt, and Laws.antt for that folder, declare their files and hold nothing else: no path is bent."""
-        place = f"crates/{crate}/specs/{of}.antt"
-        text = (self.crates.parent / place).read_text()
+    def declared(self, place, name):
+        """Lib.antt, and Laws.antt for that folder, declare their files and hold nothing else: no path is bent.
+
+        In proofs/ a file may be declared for its own crate alone."""
+        path = self.crates.parent / place
+        text = path.read_text() if path.exists() else ""
         readable(text, place)
         lines = [line for line in text.splitlines() if not line.startswith("--")]
-        if any(not re.fullmatch(r"(pub mod \w+)?", line) for line in lines) or f"pub mod {name}" not in lines:
+        form = r"((pub )?mod \w+)?" if "/proofs/" in place else r"(pub mod \w+)?"
+        if any(not re.fullmatch(form, line) for line in lines) or f"pub mod {name}" not in lines:
             raise Unreadable(f"{place}: it must hold `pub mod {name}`, and such lines alone")
 
     def found(self, module, name):
@@ -113,10 +145,10 @@ class Library:
         file, declared = self.module(module), DECLARED.fullmatch(module)
         if file is None:
             return []
-        here = file.find(declared[3] if declared else name)
-        if here or (isinstance(file, SpecFile) and file.lenient):
-            return here
+        here = file.find(declared[3] if declared and self.of_kit(module) is None else name)
         passed = file.passes_on(name)
+        if here or (isinstance(file, SpecFile) and file.lenient and passed is None):
+            return here
         if passed is None:
             raise Unreadable(f"{file.place} has no {name}")
         return self.found(*passed)
@@ -125,17 +157,19 @@ class Library:
         """The declarations of a whole path: the longest module that its front names, and the name behind it."""
         for cut in range(len(path) - 1, 0, -1):
             module = ".".join(path[:cut])
-            own = OWN.fullmatch(module)
-            if own and not self.has(own[1], own[2]):
+            own = OWN.fullmatch(module) if self.of_kit(module) is None else None
+            if own and not self.has(*filter(None, own.groups())):
                 continue
-            if own or DECLARED.fullmatch(module) or self.module_exists(module):
+            declared = DECLARED.fullmatch(module) if self.of_kit(module) is None else None
+            if own or declared or self.module_exists(module):
                 return self.found(module, path[cut])
-        if path[0].startswith("Rattle"):
+        if path[0].startswith("Rattle") and self.of_kit(".".join(path)) is None:
             raise Unreadable(f"a path that leads to no file of specs/: {'.'.join(path)}")
         return []
 
     def module_exists(self, module):
-        return not module.startswith("Rattle·") and self.module(module) is not None
+        own = module.split(".")[0] == "Rattle" and self.of_kit(module) is None
+        return not own and self.module(module) is not None
 
 
 class Reach:

@@ -1,6 +1,6 @@
 """How a kept text is restated for the prover: a statement by its theorem, a definition by an equal one beside it.
 
-What is restated has `·kept` behind its name. Of a theorem it is the kept statement, proved by the theorem. Of a
+What is restated has `-kept` behind its name. Of a theorem it is the kept statement, proved by the theorem. Of a
 definition it is the kept text, and that the two are equal is proved by `refl`: each unfolds to the same term. Of a
 record it is what makes one of the kept fields, of a data type each kept constructor, and what takes it apart by these.
 """
@@ -8,7 +8,7 @@ import re
 
 from words import uncommented
 
-LEMMA = "use mathlib.Core.Path.{_≡_ as _is-kept_, refl as by-text}"
+LEMMA = "use mathlib.Core.Path.{◌≡◌ as ◌is-kept◌, refl as by-text}"
 
 
 def bare(lines):
@@ -82,7 +82,7 @@ class Text:
 
     def kept(self, name):
         """The name of what restates one; an operator's parts have the ending each."""
-        return "_".join(part and part + "·kept" for part in name.split("_"))
+        return "◌".join(part and part + "-kept" for part in name.split("◌"))
 
     def signature(self, marks, name):
         """The signature, under another name; of a record or a data type, its type."""
@@ -106,17 +106,17 @@ class Text:
         short = "abbrev" in self.lines[0].split()
         kept, text = self.kept(self.name), "\n".join(self.lines)
         text = re.sub(r"^ *(?:unfoldable |abbrev |pub )*", self.margin + ("abbrev " if short else ""), text)
-        for part in {self.name, *filter(None, self.name.split("_"))}:
+        for part in {self.name, *filter(None, self.name.split("◌"))}:
             text = re.sub(r"(?<![^\s(){};,@])%s(?![^\s(){}.;,@])" % re.escape(part), self.kept(part), text)
         parts = arrows("\n".join(bare(self.one.statement())).partition(":")[2])
         given = [part for part in parts if part.startswith("{")]
         names = [name for part in given for name in bound(part, "{")]
         with_them = "".join(f" {{{name} = {name}}}" for name in names)
-        lemma = f"{self.margin}same·{self.name.replace('_', '')} : " + "".join(part + " → " for part in given)
+        lemma = f"{self.margin}same-{self.name.replace('◌', '')} : " + "".join(part + " → " for part in given)
         lemma += f"{kept}{with_them} is-kept {self.there}{with_them}"
         opened = [] if short else [f"{self.margin}unfolding {kept} page.{self.name}"]
         binds = [f"{self.margin}{self.fixity} {kept}"] if self.fixity else []
-        lemma = [lemma, *opened, f"{self.margin}same·{self.name.replace('_', '')} = by-text"]
+        lemma = [lemma, *opened, f"{self.margin}same-{self.name.replace('◌', '')} = by-text"]
         return "\n".join([*binds, text, "", *lemma])
 
     def record(self):
@@ -138,7 +138,7 @@ class Text:
         for row in rows:
             names, _, of = row.partition(":")
             for name in names.split():
-                kept = f"{self.name}·{name.replace('_', '')}·kept"
+                kept = f"{self.name}-{name.replace('◌', '')}-kept"
                 found.append(f"{self.margin}{kept} : {params + ' → ' if params else ''}{of.strip()}\n"
                              f"{self.margin}{' '.join([kept, *('_' for _ in given)])} = page.{self.name}.{name}")
                 taken = [bound(part) or ["_"] for part in arrows(of)[:-1] if not part.startswith("{")]
@@ -146,7 +146,7 @@ class Text:
         return "\n\n".join([*found, self.apart(params, given, arrows(sort)[:-1], cases)])
 
     def apart(self, params, given, places, cases):
-        name = f"{self.name}·apart"
+        name = f"{self.name}-apart"
         telescope = [params] if params else []
         telescope += [f"(i{at} : {place})" for at, place in enumerate(places)]
         of = " ".join([self.name, *given, *(f"i{at}" for at in range(len(places)))])
@@ -158,7 +158,7 @@ class Text:
 
     def passed_on(self):
         """Of a line that passes names on: each is what the line says."""
-        lemmas = [f"same·{name} : {name} is-kept page.{name}\nsame·{name} = by-text" for name in self.one.names]
+        lemmas = [f"same-{name} : {name} is-kept page.{name}\nsame-{name} = by-text" for name in self.one.names]
         return "\n\n".join(lemmas)
 
     def restated(self):

@@ -10,7 +10,7 @@ from layout import Layout
 from words import Unreadable, Words, readable, uncommented
 
 FIXITY = r" *infix[lr]? \d+ "
-MARKS = {"unfoldable", "abbrev", "axiom", "pub", "data", "record"}
+MARKS = {"pattern", "unfoldable", "abbrev", "axiom", "pub", "data", "record"}
 HEADER = re.compile(r"(?:(?:unfoldable|pub|ghost) )*(?:use|mod)\b")
 
 

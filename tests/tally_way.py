@@ -7,7 +7,7 @@ from reach import Reach
 from specs import Words
 
 # the definitions of a tally: who votes for a digest, whether a mask holds enough; and of one kept vote
-DEFINED = {"voters": ("Deliver", "votersFor"), "quorum": ("View", "quorum"), "vote": ("State", "voteOf")}
+DEFINED = {"voters": ("Deliver", "voters_for"), "quorum": ("View", "quorum"), "vote": ("State", "vote_of")}
 # what functions on the way call besides the way and the tally, by crate: what each is, and the names
 BESIDE = {
     "frames": ("what a frame states, and the digest of its block",
@@ -65,7 +65,7 @@ class Contracts:
             for path in use.opened(words) if use.alias else ():
                 found += self.library.along([*use.module.split("."), *path])
         for path in words.paths:
-            found += self.library.along(path) if path[0].startswith("Rattle·") else []
+            found += self.library.along(path) if path[0] == "Rattle" else []
         return found
 
     def below(self, declaration):

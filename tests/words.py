@@ -2,7 +2,7 @@
 import re
 
 # beyond those of ASCII, the signs that a text may have: another might look like one of these, or not be seen at all
-SIGNS = set("·×Σλσᴰᵢ′″₀₁₂₃₄₅₆₇₈₉₋ₕℓℕ←→↔↦−∙∷≡≢≤⊎⊕⊥¬∀⌜⌝⟦⟧")
+SIGNS = set("×Σλσᴰᵢ₀₁₂₃₄₅₆₇₈₉₋ₕℓℕ←→↔↦−∙∷≡≢≤⊎⊕⊥¬◌")
 # antt's names: any run of characters but these; `a.b` goes through a module or to a field
 PART = r"[^\s(){}.;,@\"«»]+"
 NAME = r"(?:«[^»]*»|%s)" % PART
@@ -43,13 +43,13 @@ class Words:
         self.unsaid()
 
     def unsaid(self):
-        """An operator with a place left open, `(_≤ n)`, is used too; `do` is written for two that it does not name."""
-        for word in [word for word in self.plain if "_" in word]:
-            self.plain.update(piece for piece in word.split("_") if piece)
+        """An operator with a place left open, `(◌≤ n)`, is used too; `do` is written for two that it does not name."""
+        for word in [word for word in self.plain if "◌" in word]:
+            self.plain.update(piece for piece in word.split("◌") if piece)
         if self.plain & {"do", "←"}:
             self.plain.update((">>=", ">>"))
 
     def use(self, name):
-        """An operator is used under its whole name or by its parts: `_≡_` by `≡`."""
-        pieces = [piece for piece in name.split("_") if piece]
-        return name in self.plain or bool("_" in name and pieces and self.plain.issuperset(pieces))
+        """An operator is used under its whole name or by its parts: `◌≡◌` by `≡`."""
+        pieces = [piece for piece in name.split("◌") if piece]
+        return name in self.plain or bool("◌" in name and pieces and self.plain.issuperset(pieces))

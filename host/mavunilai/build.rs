@@ -2,7 +2,7 @@
 
 use std::path::{Path, PathBuf};
 
-/// The names that the library may have: as `rt staticlib` writes it, and as `host/install` does.
+/// The names that the library may have: as `host/library` writes it, and as `host/install` does.
 const LIBRARIES: [&str; 2] = ["replica_c", "mavunilai"];
 
 fn main() {
@@ -23,7 +23,7 @@ fn main() {
     }
     println!(
         "cargo::error=the proved replica is not there: no libreplica_c.a or libmavunilai.a in {} or in its folder \
-         lib. Make it with `rt staticlib replica_c` in the repository's root, or set MAVUNILAI_LIB to the folder that \
+         lib. Make it with `host/library` and the Rattle toolchain, or set MAVUNILAI_LIB to the folder that \
          holds it or to the one that `host/install` was given, or leave out the feature `proved`.",
         folder.display()
     );

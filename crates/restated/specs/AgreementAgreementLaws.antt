@@ -1,13 +1,13 @@
 -- Written by tests/restated --write: what docs/statements has of
--- crates/agreement/specs/Laws/AgreementLaws.antt.
+-- crates/agreement/proofs/Laws/AgreementLaws.antt.
 use package.Rattle.protocol.specs.Bytes.{Bytes}
 use package.Rattle.agreement.specs.Lists.{Agreement}
 use package.Rattle.agreement.specs.ObserverLists.{ObservedAgreement}
-use package.mathlib.Core.Path.{◌≡◌ as ◌is-kept◌, refl as by-text}
+use mathlib.Core.Path.{◌≡◌ as ◌is-kept◌, refl as by-text}
 use package.Rattle.agreement.proofs.Laws.AgreementLaws as page
 
-pub observed-agreement·kept : (digest : Bytes → Bytes) → ObservedAgreement digest
-observed-agreement·kept = page.observed-agreement
+pub observed_agreement-kept : (digest : Bytes → Bytes) → ObservedAgreement digest
+observed_agreement-kept = page.observed_agreement
 
-pub agreement·kept : (digest : Bytes → Bytes) → Agreement digest
-agreement·kept = page.agreement
+pub agreement-kept : (digest : Bytes → Bytes) → Agreement digest
+agreement-kept = page.agreement

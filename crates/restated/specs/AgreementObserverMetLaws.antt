@@ -1,13 +1,13 @@
 -- Written by tests/restated --write: what docs/statements has of
--- crates/agreement/specs/Laws/ObserverMetLaws.antt.
-use package.mathlib.Core.Path.{◌≡◌}
+-- crates/agreement/proofs/Laws/ObserverMetLaws.antt.
+use Rattle.std.specs.Prelude.{◌≡◌}
 use package.Rattle.protocol.specs.Bytes.{Bytes}
 use package.Rattle.agreement.proofs.Laws.MetLaws.{OneBegins}
 use package.Rattle.agreement.specs.ObserverLists.{ObservedAgreement}
 use package.Rattle.agreement.specs.ObserverMet.{ObservedClaim}
-use package.mathlib.Core.Path.{◌≡◌ as ◌is-kept◌, refl as by-text}
+use mathlib.Core.Path.{◌≡◌ as ◌is-kept◌, refl as by-text}
 use package.Rattle.agreement.proofs.Laws.ObserverMetLaws as page
 
 module _ (digest : Bytes → Bytes) where
-  pub claim-is-observed·kept : ◌≡◌ {A = Type 1} (ObservedClaim digest OneBegins) (ObservedAgreement digest)
-  claim-is-observed·kept = page.claim-is-observed digest
+  pub claim_is_observed-kept : ◌≡◌ {A = Type 1} (ObservedClaim digest OneBegins) (ObservedAgreement digest)
+  claim_is_observed-kept = page.claim_is_observed digest

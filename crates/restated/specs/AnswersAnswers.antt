@@ -1,70 +1,70 @@
 -- Written by tests/restated --write: what docs/statements has of
 -- crates/answers/specs/Answers.antt.
-use package.Prim.Native.Nat.{ℕ}
+use Rattle.std.specs.Prelude.{ℕ}
 use package.Rattle.protocol.specs.Answer as protocol
-use package.Rattle.protocol.specs.Answer.{refused, accepted, Done, done, Delivery, known, fresh, Counts, Move, idle, voteDummy}
-use package.Rattle.protocol.specs.Answer.{output, pass, propose, voteBlock, onBlock, onDummy}
+use package.Rattle.protocol.specs.Answer.{refused, accepted, Done, done, Delivery, known, fresh, Counts, Move, idle, vote_dummy}
+use package.Rattle.protocol.specs.Answer.{output, pass, propose, vote_block, on_block, on_dummy}
 use package.Rattle.answers.specs.declared.answer.Answer.{Answer}
 use package.Rattle.answers.specs.declared.answer.Delivered.{Delivered}
 use package.Rattle.answers.specs.declared.answer.Counted.{Counted}
 use package.Rattle.answers.specs.declared.answer.Certificate.{Certificate}
 use package.Rattle.answers.specs.declared.answer.Moved.{Moved}
 use package.Rattle.answers.specs.declared.answer.Size.{Size}
-use package.Rattle.answers.specs.Answers.{certificateOf}
-use package.mathlib.Core.Path.{◌≡◌ as ◌is-kept◌, refl as by-text}
+use package.Rattle.answers.specs.Answers.{certificate_of}
+use mathlib.Core.Path.{◌≡◌ as ◌is-kept◌, refl as by-text}
 use package.Rattle.answers.specs.Answers as page
 
-doneAnswer·kept : Answer → protocol.Answer Done
-doneAnswer·kept Answer.Done = accepted done
-doneAnswer·kept (Answer.Refused number) = refused number
+done_answer-kept : Answer → protocol.Answer Done
+done_answer-kept Answer.Done = accepted done
+done_answer-kept (Answer.Refused number) = refused number
 
-same·doneAnswer : doneAnswer·kept is-kept page.doneAnswer
-unfolding doneAnswer·kept page.doneAnswer
-same·doneAnswer = by-text
+same-done_answer : done_answer-kept is-kept page.done_answer
+unfolding done_answer-kept page.done_answer
+same-done_answer = by-text
 
-deliveredAnswer·kept : Delivered → protocol.Answer Delivery
-deliveredAnswer·kept Delivered.Fresh = accepted fresh
-deliveredAnswer·kept Delivered.Known = accepted known
-deliveredAnswer·kept (Delivered.Refused number) = refused number
+delivered_answer-kept : Delivered → protocol.Answer Delivery
+delivered_answer-kept Delivered.Fresh = accepted fresh
+delivered_answer-kept Delivered.Known = accepted known
+delivered_answer-kept (Delivered.Refused number) = refused number
 
-same·deliveredAnswer : deliveredAnswer·kept is-kept page.deliveredAnswer
-unfolding deliveredAnswer·kept page.deliveredAnswer
-same·deliveredAnswer = by-text
+same-delivered_answer : delivered_answer-kept is-kept page.delivered_answer
+unfolding delivered_answer-kept page.delivered_answer
+same-delivered_answer = by-text
 
-countedAnswer·kept : Counted → protocol.Answer Counts
-countedAnswer·kept (Counted.Frames freshCount knownCount refusedCount) =
-    accepted (record { freshFrames = freshCount; knownFrames = knownCount; refusedFrames = refusedCount })
-countedAnswer·kept (Counted.Refused number) = refused number
+counted_answer-kept : Counted → protocol.Answer Counts
+counted_answer-kept (Counted.Frames freshCount knownCount refusedCount) =
+    accepted (record { fresh_frames = freshCount; known_frames = knownCount; refused_frames = refusedCount })
+counted_answer-kept (Counted.Refused number) = refused number
 
-same·countedAnswer : countedAnswer·kept is-kept page.countedAnswer
-unfolding countedAnswer·kept page.countedAnswer
-same·countedAnswer = by-text
+same-counted_answer : counted_answer-kept is-kept page.counted_answer
+unfolding counted_answer-kept page.counted_answer
+same-counted_answer = by-text
 
-certificateOf·kept : Certificate → protocol.Certificate
-certificateOf·kept Certificate.Page = onBlock
-certificateOf·kept Certificate.Blank = onDummy
+certificate_of-kept : Certificate → protocol.Certificate
+certificate_of-kept Certificate.Page = on_block
+certificate_of-kept Certificate.Blank = on_dummy
 
-same·certificateOf : certificateOf·kept is-kept page.certificateOf
-unfolding certificateOf·kept page.certificateOf
-same·certificateOf = by-text
+same-certificate_of : certificate_of-kept is-kept page.certificate_of
+unfolding certificate_of-kept page.certificate_of
+same-certificate_of = by-text
 
-movedAnswer·kept : Moved → protocol.Answer Move
-movedAnswer·kept Moved.Idle = accepted idle
-movedAnswer·kept (Moved.Dummy h) = accepted (voteDummy h)
-movedAnswer·kept (Moved.Final g) = accepted (output g)
-movedAnswer·kept (Moved.Pass h certificate finalised) = accepted (pass h (certificateOf certificate) finalised)
-movedAnswer·kept (Moved.Offer h) = accepted (propose h)
-movedAnswer·kept (Moved.Vote h) = accepted (voteBlock h)
-movedAnswer·kept (Moved.Refused number) = refused number
+moved_answer-kept : Moved → protocol.Answer Move
+moved_answer-kept Moved.Idle = accepted idle
+moved_answer-kept (Moved.Dummy h) = accepted (vote_dummy h)
+moved_answer-kept (Moved.Final g) = accepted (output g)
+moved_answer-kept (Moved.Pass h certificate finalised) = accepted (pass h (certificate_of certificate) finalised)
+moved_answer-kept (Moved.Offer h) = accepted (propose h)
+moved_answer-kept (Moved.Vote h) = accepted (vote_block h)
+moved_answer-kept (Moved.Refused number) = refused number
 
-same·movedAnswer : movedAnswer·kept is-kept page.movedAnswer
-unfolding movedAnswer·kept page.movedAnswer
-same·movedAnswer = by-text
+same-moved_answer : moved_answer-kept is-kept page.moved_answer
+unfolding moved_answer-kept page.moved_answer
+same-moved_answer = by-text
 
-sizeAnswer·kept : Size → protocol.Answer ℕ
-sizeAnswer·kept (Size.Bytes bytes) = accepted bytes
-sizeAnswer·kept (Size.Refused number) = refused number
+size_answer-kept : Size → protocol.Answer ℕ
+size_answer-kept (Size.Bytes bytes) = accepted bytes
+size_answer-kept (Size.Refused number) = refused number
 
-same·sizeAnswer : sizeAnswer·kept is-kept page.sizeAnswer
-unfolding sizeAnswer·kept page.sizeAnswer
-same·sizeAnswer = by-text
+same-size_answer : size_answer-kept is-kept page.size_answer
+unfolding size_answer-kept page.size_answer
+same-size_answer = by-text

@@ -1,77 +1,77 @@
 -- Written by tests/restated --write: what docs/statements has of
 -- crates/answers/specs/MoveNumbers.antt.
-use package.Prim.Native.Nat.{ℕ}
+use Rattle.std.specs.Prelude.{ℕ}
 use package.Rattle.protocol.specs.Answer as protocol
-use package.Rattle.protocol.specs.Answer.{refused, accepted, certificateKind, finalizeKind, moveNumber, moveHeight}
-use package.Rattle.protocol.specs.Answer.{Move, idle, voteDummy, output, pass, propose, voteBlock}
+use package.Rattle.protocol.specs.Answer.{refused, accepted, certificate_kind, finalize_kind, move_number, move_height}
+use package.Rattle.protocol.specs.Answer.{Move, idle, vote_dummy, output, pass, propose, vote_block}
 use package.Rattle.answers.specs.declared.answer.Moved.{Moved}
-use package.Rattle.answers.specs.Answers.{certificateOf}
-use package.Rattle.answers.specs.MoveNumbers.{MoveNumbers, moveCertificate, moveFinalize}
-use package.mathlib.Core.Path.{◌≡◌ as ◌is-kept◌, refl as by-text}
+use package.Rattle.answers.specs.Answers.{certificate_of}
+use package.Rattle.answers.specs.MoveNumbers.{MoveNumbers, move_certificate, move_finalize}
+use mathlib.Core.Path.{◌≡◌ as ◌is-kept◌, refl as by-text}
 use package.Rattle.answers.specs.MoveNumbers as page
 
-abbrev plainMove : ℕ → ℕ → MoveNumbers
-plainMove number h = record { refusal = 0; move = number; height = h; certificate = 0; finalize = 0 }
+abbrev plain_move : ℕ → ℕ → MoveNumbers
+plain_move number h = record { refusal = 0; move = number; height = h; certificate = 0; finalize = 0 }
 
-MoveNumbers·kept : (refusal : ℕ) (move : ℕ) (height : ℕ) (certificate : ℕ) (finalize : ℕ) →
+MoveNumbers-kept : (refusal : ℕ) (move : ℕ) (height : ℕ) (certificate : ℕ) (finalize : ℕ) →
     MoveNumbers
-MoveNumbers·kept x0 x1 x2 x3 x4 = record { refusal = x0; move = x1; height = x2; certificate = x3; finalize = x4 }
+MoveNumbers-kept x0 x1 x2 x3 x4 = record { refusal = x0; move = x1; height = x2; certificate = x3; finalize = x4 }
 
-movedNumbers·kept : Moved → MoveNumbers
-movedNumbers·kept Moved.Idle = plainMove 0 0
-movedNumbers·kept (Moved.Dummy h) = plainMove 1 h
-movedNumbers·kept (Moved.Final g) = plainMove 2 g
-movedNumbers·kept (Moved.Pass h certificate finalised) = record {
+moved_numbers-kept : Moved → MoveNumbers
+moved_numbers-kept Moved.Idle = plain_move 0 0
+moved_numbers-kept (Moved.Dummy h) = plain_move 1 h
+moved_numbers-kept (Moved.Final g) = plain_move 2 g
+moved_numbers-kept (Moved.Pass h certificate finalised) = record {
   refusal = 0;
   move = 3;
   height = h;
-  certificate = certificateKind (certificateOf certificate);
-  finalize = finalizeKind finalised;
+  certificate = certificate_kind (certificate_of certificate);
+  finalize = finalize_kind finalised;
 }
-movedNumbers·kept (Moved.Offer h) = plainMove 4 h
-movedNumbers·kept (Moved.Vote h) = plainMove 5 h
-movedNumbers·kept (Moved.Refused number) =
+moved_numbers-kept (Moved.Offer h) = plain_move 4 h
+moved_numbers-kept (Moved.Vote h) = plain_move 5 h
+moved_numbers-kept (Moved.Refused number) =
     record { refusal = number; move = 0; height = 0; certificate = 0; finalize = 0 }
 
-same·movedNumbers : movedNumbers·kept is-kept page.movedNumbers
-unfolding movedNumbers·kept page.movedNumbers
-same·movedNumbers = by-text
+same-moved_numbers : moved_numbers-kept is-kept page.moved_numbers
+unfolding moved_numbers-kept page.moved_numbers
+same-moved_numbers = by-text
 
-moveCertificate·kept : Move → ℕ
-moveCertificate·kept idle = 0
-moveCertificate·kept (voteDummy h) = 0
-moveCertificate·kept (output g) = 0
-moveCertificate·kept (pass h certificate finalized) = certificateKind certificate
-moveCertificate·kept (propose h) = 0
-moveCertificate·kept (voteBlock h) = 0
+move_certificate-kept : Move → ℕ
+move_certificate-kept idle = 0
+move_certificate-kept (vote_dummy h) = 0
+move_certificate-kept (output g) = 0
+move_certificate-kept (pass h certificate finalized) = certificate_kind certificate
+move_certificate-kept (propose h) = 0
+move_certificate-kept (vote_block h) = 0
 
-same·moveCertificate : moveCertificate·kept is-kept page.moveCertificate
-unfolding moveCertificate·kept page.moveCertificate
-same·moveCertificate = by-text
+same-move_certificate : move_certificate-kept is-kept page.move_certificate
+unfolding move_certificate-kept page.move_certificate
+same-move_certificate = by-text
 
-moveFinalize·kept : Move → ℕ
-moveFinalize·kept idle = 0
-moveFinalize·kept (voteDummy h) = 0
-moveFinalize·kept (output g) = 0
-moveFinalize·kept (pass h certificate finalized) = finalizeKind finalized
-moveFinalize·kept (propose h) = 0
-moveFinalize·kept (voteBlock h) = 0
+move_finalize-kept : Move → ℕ
+move_finalize-kept idle = 0
+move_finalize-kept (vote_dummy h) = 0
+move_finalize-kept (output g) = 0
+move_finalize-kept (pass h certificate finalized) = finalize_kind finalized
+move_finalize-kept (propose h) = 0
+move_finalize-kept (vote_block h) = 0
 
-same·moveFinalize : moveFinalize·kept is-kept page.moveFinalize
-unfolding moveFinalize·kept page.moveFinalize
-same·moveFinalize = by-text
+same-move_finalize : move_finalize-kept is-kept page.move_finalize
+unfolding move_finalize-kept page.move_finalize
+same-move_finalize = by-text
 
-answerNumbers·kept : protocol.Answer Move → MoveNumbers
-answerNumbers·kept (refused number) =
+answer_numbers-kept : protocol.Answer Move → MoveNumbers
+answer_numbers-kept (refused number) =
     record { refusal = number; move = 0; height = 0; certificate = 0; finalize = 0 }
-answerNumbers·kept (accepted m) = record {
+answer_numbers-kept (accepted m) = record {
   refusal = 0;
-  move = moveNumber m;
-  height = moveHeight m;
-  certificate = moveCertificate m;
-  finalize = moveFinalize m;
+  move = move_number m;
+  height = move_height m;
+  certificate = move_certificate m;
+  finalize = move_finalize m;
 }
 
-same·answerNumbers : answerNumbers·kept is-kept page.answerNumbers
-unfolding answerNumbers·kept page.answerNumbers
-same·answerNumbers = by-text
+same-answer_numbers : answer_numbers-kept is-kept page.answer_numbers
+unfolding answer_numbers-kept page.answer_numbers
+same-answer_numbers = by-text

@@ -1,11 +1,11 @@
 -- Written by tests/restated --write: what docs/statements has of
--- crates/answers/specs/Laws/MoveNumbersLaws.antt.
-use package.mathlib.Core.Path.{◌≡◌}
+-- crates/answers/proofs/Laws/MoveNumbersLaws.antt.
+use Rattle.std.specs.Prelude.{◌≡◌}
 use package.Rattle.answers.specs.declared.answer.Moved.{Moved}
-use package.Rattle.answers.specs.Answers.{movedAnswer}
-use package.Rattle.answers.specs.MoveNumbers.{movedNumbers, answerNumbers}
-use package.mathlib.Core.Path.{◌≡◌ as ◌is-kept◌, refl as by-text}
+use package.Rattle.answers.specs.Answers.{moved_answer}
+use package.Rattle.answers.specs.MoveNumbers.{moved_numbers, answer_numbers}
+use mathlib.Core.Path.{◌≡◌ as ◌is-kept◌, refl as by-text}
 use package.Rattle.answers.proofs.Laws.MoveNumbersLaws as page
 
-pub moved-numbers·kept : (m : Moved) → movedNumbers m ≡ answerNumbers (movedAnswer m)
-moved-numbers·kept = page.moved-numbers
+pub moved_numbers_lem-kept : (m : Moved) → moved_numbers m ≡ answer_numbers (moved_answer m)
+moved_numbers_lem-kept = page.moved_numbers_lem

@@ -1,21 +1,18 @@
 -- Written by tests/restated --write: what docs/statements has of
 -- crates/call_laws/specs/Keeping.antt.
-use package.Prim.Native.Nat.{ℕ}
-use package.mathlib.Core.Path.{◌≡◌}
-use package.mathlib.Core.Logic.{◌⊎◌}
-use package.mathlib.Core.Bool.{true, false}
+use Rattle.std.specs.Prelude.{ℕ, ◌≡◌, ◌⊎◌, true, false}
 use package.Rattle.protocol.specs.Bytes.{Bytes}
-use package.Rattle.protocol.specs.Frame.{signerMask, frameBlock}
-use package.Rattle.protocol.specs.State.{Height, holdsProposal, isNotarized}
+use package.Rattle.protocol.specs.Frame.{signer_mask, frame_block}
+use package.Rattle.protocol.specs.State.{Height, holds_proposal, is_notarized}
 use package.Rattle.protocol.specs.View.{View, quorum}
-use package.Rattle.protocol.specs.Deliver.{votersFor}
+use package.Rattle.protocol.specs.Deliver.{voters_for}
 use package.Rattle.call_laws.specs.Keeping.{NewlyKept, KeepsMasks, KeepsVotes, KeepsProposal}
-use package.mathlib.Core.Path.{◌≡◌ as ◌is-kept◌, refl as by-text}
+use mathlib.Core.Path.{◌≡◌ as ◌is-kept◌, refl as by-text}
 use package.Rattle.call_laws.specs.Keeping as page
 
 module _ (digest : Bytes → Bytes) (v : View) where
-  abbrev heldVoters : Height → ℕ
-  heldVoters = page.heldVoters digest v
+  abbrev held_voters : Height → ℕ
+  held_voters = page.held_voters digest v
 
   abbrev Voted : Height → Type 0
   Voted = page.Voted digest v
@@ -32,37 +29,37 @@ module _ (digest : Bytes → Bytes) (v : View) where
   abbrev KeepsAt : (k : ℕ) (frame : Bytes) (x y : Height) → Type 0
   KeepsAt = page.KeepsAt digest v
 
-  abbrev heldVoters·kept : Height → ℕ
-  heldVoters·kept x = votersFor x (digest x.proposal) v.n
+  abbrev held_voters-kept : Height → ℕ
+  held_voters-kept x = voters_for x (digest x.proposal) v.n
 
-  same·heldVoters : heldVoters·kept is-kept page.heldVoters digest v
-  same·heldVoters = by-text
+  same-held_voters : held_voters-kept is-kept page.held_voters digest v
+  same-held_voters = by-text
 
-  Voted·kept : Height → Type 0
-  Voted·kept x = (holdsProposal x ≡ true) × (quorum v (heldVoters x) ≡ true)
+  Voted-kept : Height → Type 0
+  Voted-kept x = (holds_proposal x ≡ true) × (quorum v (held_voters x) ≡ true)
 
-  same·Voted : Voted·kept is-kept page.Voted digest v
-  unfolding Voted·kept page.Voted
-  same·Voted = by-text
+  same-Voted : Voted-kept is-kept page.Voted digest v
+  unfolding Voted-kept page.Voted
+  same-Voted = by-text
 
-  Tallied·kept : Height → Type 0
-  Tallied·kept x = Voted x → isNotarized x ≡ true
+  Tallied-kept : Height → Type 0
+  Tallied-kept x = Voted x → is_notarized x ≡ true
 
-  same·Tallied : Tallied·kept is-kept page.Tallied digest v
-  unfolding Tallied·kept page.Tallied
-  same·Tallied = by-text
+  same-Tallied : Tallied-kept is-kept page.Tallied digest v
+  unfolding Tallied-kept page.Tallied
+  same-Tallied = by-text
 
-  ByVotes·kept : Height → Type 0
-  ByVotes·kept y = Voted y × (y.notarized ≡ y.proposal) × (y.certificateMask ≡ heldVoters y)
+  ByVotes-kept : Height → Type 0
+  ByVotes-kept y = Voted y × (y.notarized ≡ y.proposal) × (y.certificate_mask ≡ held_voters y)
 
-  same·ByVotes : ByVotes·kept is-kept page.ByVotes digest v
-  unfolding ByVotes·kept page.ByVotes
-  same·ByVotes = by-text
+  same-ByVotes : ByVotes-kept is-kept page.ByVotes digest v
+  unfolding ByVotes-kept page.ByVotes
+  same-ByVotes = by-text
 
-  KeepsBlock·kept : (k : ℕ) (frame : Bytes) (x y : Height) (first_block : isNotarized x ≡ true → (isNotarized y ≡ true) × (y.notarized ≡ x.notarized) × (y.certificateMask ≡ x.certificateMask)) (this-block : k ≡ 5 → (isNotarized y ≡ true) × (y.notarized ≡ frameBlock frame)) (this-certificate : k ≡ 5 → isNotarized x ≡ false → y.certificateMask ≡ signerMask frame) (counted : NewlyKept k frame x → Tallied y) (tallied : Tallied x → Tallied y) (only_so : isNotarized y ≡ true → (isNotarized x ≡ true) ⊎ ((k ≡ 5) ⊎ (NewlyKept k frame x × ByVotes y))) →
+  KeepsBlock-kept : (k : ℕ) (frame : Bytes) (x y : Height) (first_block_lem : is_notarized x ≡ true → (is_notarized y ≡ true) × (y.notarized ≡ x.notarized) × (y.certificate_mask ≡ x.certificate_mask)) (this_block : k ≡ 5 → (is_notarized y ≡ true) × (y.notarized ≡ frame_block frame)) (this_certificate : k ≡ 5 → is_notarized x ≡ false → y.certificate_mask ≡ signer_mask frame) (counted : NewlyKept k frame x → Tallied y) (tallied : Tallied x → Tallied y) (only_so : is_notarized y ≡ true → (is_notarized x ≡ true) ⊎ ((k ≡ 5) ⊎ (NewlyKept k frame x × ByVotes y))) →
       KeepsBlock k frame x y
-  KeepsBlock·kept k frame x y x0 x1 x2 x3 x4 x5 = record { first_block = x0; this-block = x1; this-certificate = x2; counted = x3; tallied = x4; only_so = x5 }
+  KeepsBlock-kept k frame x y x0 x1 x2 x3 x4 x5 = record { first_block_lem = x0; this_block = x1; this_certificate = x2; counted = x3; tallied = x4; only_so = x5 }
 
-  KeepsAt·kept : (k : ℕ) (frame : Bytes) (x y : Height) (leader : y.leader ≡ x.leader) (masks : KeepsMasks v.n k frame x y) (votes : KeepsVotes v.n k frame x y) (proposal : KeepsProposal v.n k frame x y) (block : KeepsBlock k frame x y) →
+  KeepsAt-kept : (k : ℕ) (frame : Bytes) (x y : Height) (leader : y.leader ≡ x.leader) (masks : KeepsMasks v.n k frame x y) (votes : KeepsVotes v.n k frame x y) (proposal : KeepsProposal v.n k frame x y) (block : KeepsBlock k frame x y) →
       KeepsAt k frame x y
-  KeepsAt·kept k frame x y x0 x1 x2 x3 x4 = record { leader = x0; masks = x1; votes = x2; proposal = x3; block = x4 }
+  KeepsAt-kept k frame x y x0 x1 x2 x3 x4 = record { leader = x0; masks = x1; votes = x2; proposal = x3; block = x4 }

@@ -1,5 +1,4 @@
 -- Written by tests/restated --write: what docs/statements has, each text proved to be what the crates have.
-pub mod AgreementAnyDigest
 pub mod AgreementBackingLaws
 pub mod AgreementChainsLaws
 pub mod AgreementMetLaws
@@ -9,6 +8,7 @@ pub mod AgreementStandsForLaws2
 pub mod AgreementStandsForLaws3
 pub mod AgreementViewsLaws
 pub mod AgreementViewsLaws2
+pub mod AgreementAnyDigest
 pub mod AgreementLists
 pub mod AgreementMet
 pub mod AgreementObserverLists
@@ -49,6 +49,17 @@ pub mod PaperRegister
 pub mod PaperSteps
 pub mod PaperSteps2
 pub mod PaperTimer
+pub mod ProtocolBlockLaws
+pub mod ProtocolCodecLaws
+pub mod ProtocolDeliverLaws
+pub mod ProtocolHeadLaws
+pub mod ProtocolMoveLaws
+pub mod ProtocolMoveLaws2
+pub mod ProtocolObserverCodecLaws
+pub mod ProtocolObserverDeliverLaws
+pub mod ProtocolObserverSoundLaws
+pub mod ProtocolObserverSoundLaws2
+pub mod ProtocolObserverStateLaws
 pub mod ProtocolAnswer
 pub mod ProtocolBefore
 pub mod ProtocolBlock
@@ -63,17 +74,6 @@ pub mod ProtocolExamples
 pub mod ProtocolExamples2
 pub mod ProtocolFetch
 pub mod ProtocolFrame
-pub mod ProtocolBlockLaws
-pub mod ProtocolCodecLaws
-pub mod ProtocolDeliverLaws
-pub mod ProtocolHeadLaws
-pub mod ProtocolMoveLaws
-pub mod ProtocolMoveLaws2
-pub mod ProtocolObserverCodecLaws
-pub mod ProtocolObserverDeliverLaws
-pub mod ProtocolObserverSoundLaws
-pub mod ProtocolObserverSoundLaws2
-pub mod ProtocolObserverStateLaws
 pub mod ProtocolLinked
 pub mod ProtocolMask
 pub mod ProtocolMove

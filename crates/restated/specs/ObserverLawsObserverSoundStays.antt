@@ -1,24 +1,22 @@
 -- Written by tests/restated --write: what docs/statements has of
--- crates/observer_laws/specs/Laws/ObserverSoundStays.antt.
-use package.Prim.Native.Nat.{ℕ}
-use package.mathlib.Core.Path.{◌≡◌}
-use package.mathlib.Core.Bool.{true}
+-- crates/observer_laws/proofs/Laws/ObserverSoundStays.antt.
+use Rattle.std.specs.Prelude.{ℕ, ◌≡◌, true}
 use package.Rattle.protocol.specs.Open.{Opening}
 use package.Rattle.protocol.specs.Bytes.{Bytes}
 use package.Rattle.protocol.specs.Answer.{accepted, done}
-use package.Rattle.protocol.specs.ObserverSound.{observerSound}
-use package.Rattle.protocol.specs.ObserverCalls.{observerOpenCall}
+use package.Rattle.protocol.specs.ObserverSound.{observer_sound}
+use package.Rattle.protocol.specs.ObserverCalls.{observer_open_call}
 use package.Rattle.protocol.specs.ObserverCall.{ObserverCall}
 use package.Rattle.protocol.specs.ObserverCall.{observation}
-use package.mathlib.Core.Path.{◌≡◌ as ◌is-kept◌, refl as by-text}
+use mathlib.Core.Path.{◌≡◌ as ◌is-kept◌, refl as by-text}
 use package.Rattle.observer_laws.proofs.Laws.ObserverSoundStays as page
 
 module _ (digest : Bytes → Bytes) where
-  pub observer-sound-stays·kept : (book : Bytes) (call : ObserverCall) → observerSound digest book ≡ true →
-      observerSound digest (observation digest book call).book ≡ true
-  observer-sound-stays·kept = page.observer-sound-stays digest
+  pub observer_sound_stays-kept : (book : Bytes) (call : ObserverCall) → observer_sound digest book ≡ true →
+      observer_sound digest (observation digest book call).book ≡ true
+  observer_sound_stays-kept = page.observer_sound_stays digest
 
-  pub observer-sound-opened·kept : (way : Opening) (book : Bytes) (n heights : ℕ) →
-      (observerOpenCall way book n heights).answer ≡ accepted done →
-      observerSound digest (observerOpenCall way book n heights).book ≡ true
-  observer-sound-opened·kept = page.observer-sound-opened digest
+  pub observer_sound_opened-kept : (way : Opening) (book : Bytes) (n heights : ℕ) →
+      (observer_open_call way book n heights).answer ≡ accepted done →
+      observer_sound digest (observer_open_call way book n heights).book ≡ true
+  observer_sound_opened-kept = page.observer_sound_opened digest

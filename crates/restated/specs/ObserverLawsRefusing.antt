@@ -1,60 +1,58 @@
 -- Written by tests/restated --write: what docs/statements has of
 -- crates/observer_laws/specs/Refusing.antt.
-use package.mathlib.Core.Path.{◌≡◌}
-use package.mathlib.Core.Bool.{true, ◌&&◌}
-use package.mathlib.Core.List.{List, [], ◌∷◌, ◌++◌}
+use Rattle.std.specs.Prelude.{◌≡◌, true, ◌&&◌, List, [], ◌∷◌, ◌++◌}
 use package.Rattle.protocol.specs.Bytes.{Bytes, same}
-use package.Rattle.protocol.specs.Tests.{Row, implies, inRange}
-use package.Rattle.protocol.specs.Mask.{belowBit}
-use package.Rattle.protocol.specs.Frame.{kind, frameHeight, signerMask, frameBlock, frameWellFormed, isCertificate, isStatement}
-use package.Rattle.protocol.specs.Frame.{isBlockCertificate}
-use package.Rattle.protocol.specs.State.{State, Height, at, last, isNotarized}
+use package.Rattle.protocol.specs.Tests.{Row, implies, in_range}
+use package.Rattle.protocol.specs.Mask.{below_bit}
+use package.Rattle.protocol.specs.Frame.{kind, frame_height, signer_mask, frame_block, frame_well_formed, is_certificate, is_statement}
+use package.Rattle.protocol.specs.Frame.{is_block_certificate}
+use package.Rattle.protocol.specs.State.{State, Height, at, last, is_notarized}
 use package.Rattle.protocol.specs.View.{quorum}
 use package.Rattle.protocol.specs.Sound.{view}
 use package.Rattle.protocol.specs.Answer.{refused}
-use package.Rattle.protocol.specs.Observer.{observerState}
-use package.Rattle.protocol.specs.ObserverSound.{observerSound}
-use package.Rattle.protocol.specs.ObserverCalls.{observerDeliverCall}
-use package.Rattle.observer_laws.specs.Refusing.{certificateRows, notarizedRow}
-use package.mathlib.Core.Path.{◌≡◌ as ◌is-kept◌, refl as by-text}
+use package.Rattle.protocol.specs.Observer.{observer_state}
+use package.Rattle.protocol.specs.ObserverSound.{observer_sound}
+use package.Rattle.protocol.specs.ObserverCalls.{observer_deliver_call}
+use package.Rattle.observer_laws.specs.Refusing.{certificate_rows, notarized_row}
+use mathlib.Core.Path.{◌≡◌ as ◌is-kept◌, refl as by-text}
 use package.Rattle.observer_laws.specs.Refusing as page
 
-certificateRows·kept : State → Bytes → List Row
-certificateRows·kept s frame =
-    (4, frameWellFormed frame) ∷
-    (16, isCertificate (kind frame)) ∷
-    (6, inRange 1 (last s) (frameHeight frame)) ∷
-    (5, belowBit s.n (signerMask frame)) ∷
-    (9, quorum (view s) (signerMask frame)) ∷ []
+certificate_rows-kept : State → Bytes → List Row
+certificate_rows-kept s frame =
+    (4, frame_well_formed frame) ∷
+    (16, is_certificate (kind frame)) ∷
+    (6, in_range 1 (last s) (frame_height frame)) ∷
+    (5, below_bit s.n (signer_mask frame)) ∷
+    (9, quorum (view s) (signer_mask frame)) ∷ []
 
-same·certificateRows : certificateRows·kept is-kept page.certificateRows
-unfolding certificateRows·kept page.certificateRows
-same·certificateRows = by-text
+same-certificate_rows : certificate_rows-kept is-kept page.certificate_rows
+unfolding certificate_rows-kept page.certificate_rows
+same-certificate_rows = by-text
 
-notarizedRow·kept : State → Bytes → Row
-notarizedRow·kept s frame =
-    let x : Height = at s (frameHeight frame) in
-    (10, implies (isBlockCertificate (kind frame) && isNotarized x) (same x.notarized (frameBlock frame)))
+notarized_row-kept : State → Bytes → Row
+notarized_row-kept s frame =
+    let x : Height = at s (frame_height frame) in
+    (10, implies (is_block_certificate (kind frame) && is_notarized x) (same x.notarized (frame_block frame)))
 
-same·notarizedRow : notarizedRow·kept is-kept page.notarizedRow
-unfolding notarizedRow·kept page.notarizedRow
-same·notarizedRow = by-text
+same-notarized_row : notarized_row-kept is-kept page.notarized_row
+unfolding notarized_row-kept page.notarized_row
+same-notarized_row = by-text
 
 module _ (digest : Bytes → Bytes) where
-  refusalRows·kept : Bytes → Bytes → List Row
-  refusalRows·kept book frame =
-      let s : State = observerState book in
-      (1, observerSound digest book) ∷ (certificateRows s frame ++ (notarizedRow s frame ∷ []))
+  refusal_rows-kept : Bytes → Bytes → List Row
+  refusal_rows-kept book frame =
+      let s : State = observer_state book in
+      (1, observer_sound digest book) ∷ (certificate_rows s frame ++ (notarized_row s frame ∷ []))
 
-  same·refusalRows : refusalRows·kept is-kept page.refusalRows digest
-  unfolding refusalRows·kept page.refusalRows
-  same·refusalRows = by-text
+  same-refusal_rows : refusal_rows-kept is-kept page.refusal_rows digest
+  unfolding refusal_rows-kept page.refusal_rows
+  same-refusal_rows = by-text
 
-  RefusesStatements·kept : Type 0
-  RefusesStatements·kept = (book frame : Bytes) → observerSound digest book ≡ true → frameWellFormed frame ≡ true →
-      isStatement (kind frame) ≡ true →
-      observerDeliverCall digest book frame ≡ record { answer = refused 16; book = book }
+  RefusesStatements-kept : Type 0
+  RefusesStatements-kept = (book frame : Bytes) → observer_sound digest book ≡ true → frame_well_formed frame ≡ true →
+      is_statement (kind frame) ≡ true →
+      observer_deliver_call digest book frame ≡ record { answer = refused 16; book = book }
 
-  same·RefusesStatements : RefusesStatements·kept is-kept page.RefusesStatements digest
-  unfolding RefusesStatements·kept page.RefusesStatements
-  same·RefusesStatements = by-text
+  same-RefusesStatements : RefusesStatements-kept is-kept page.RefusesStatements digest
+  unfolding RefusesStatements-kept page.RefusesStatements
+  same-RefusesStatements = by-text

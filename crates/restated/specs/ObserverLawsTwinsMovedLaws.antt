@@ -1,9 +1,9 @@
 -- Written by tests/restated --write: what docs/statements has of
--- crates/observer_laws/specs/Laws/TwinsMovedLaws.antt.
+-- crates/observer_laws/proofs/Laws/TwinsMovedLaws.antt.
 use package.Rattle.protocol.specs.Bytes.{Bytes}
 use package.Rattle.observer_laws.specs.Twins.{TwinsMoved}
-use package.mathlib.Core.Path.{◌≡◌ as ◌is-kept◌, refl as by-text}
+use mathlib.Core.Path.{◌≡◌ as ◌is-kept◌, refl as by-text}
 use package.Rattle.observer_laws.proofs.Laws.TwinsMovedLaws as page
 
-pub twins-moved·kept : (digest : Bytes → Bytes) → TwinsMoved digest
-twins-moved·kept = page.twins-moved
+pub twins_moved-kept : (digest : Bytes → Bytes) → TwinsMoved digest
+twins_moved-kept = page.twins_moved

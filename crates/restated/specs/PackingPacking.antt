@@ -1,87 +1,86 @@
 -- Written by tests/restated --write: what docs/statements has of
 -- crates/packing/specs/Packing.antt.
-use package.Prim.Native.Nat.{ℕ, ◌+◌, ◌*◌}
-use package.mathlib.Core.List.{List, [], ◌∷◌}
+use Rattle.std.specs.Prelude.{ℕ, ◌+◌, ◌*◌, List, [], ◌∷◌}
 use package.Rattle.protocol.specs.Answer.{Answer, refused, accepted, Done, Delivery, known, fresh, Counts, Move, idle}
-use package.Rattle.protocol.specs.Answer.{voteDummy, output, pass, propose, voteBlock, certificateKind, finalizeKind}
-use package.Rattle.protocol.specs.Answer.{moveNumber, moveHeight}
-use package.Rattle.packing.specs.Packing.{passKinds}
-use package.mathlib.Core.Path.{◌≡◌ as ◌is-kept◌, refl as by-text}
+use package.Rattle.protocol.specs.Answer.{vote_dummy, output, pass, propose, vote_block, certificate_kind, finalize_kind}
+use package.Rattle.protocol.specs.Answer.{move_number, move_height}
+use package.Rattle.packing.specs.Packing.{pass_kinds}
+use mathlib.Core.Path.{◌≡◌ as ◌is-kept◌, refl as by-text}
 use package.Rattle.packing.specs.Packing as page
 
-packedDone·kept : Answer Done → ℕ
-packedDone·kept (refused number) = number
-packedDone·kept (accepted answer) = 0
+packed_done-kept : Answer Done → ℕ
+packed_done-kept (refused number) = number
+packed_done-kept (accepted answer) = 0
 
-same·packedDone : packedDone·kept is-kept page.packedDone
-unfolding packedDone·kept page.packedDone
-same·packedDone = by-text
+same-packed_done : packed_done-kept is-kept page.packed_done
+unfolding packed_done-kept page.packed_done
+same-packed_done = by-text
 
-packedDelivery·kept : Answer Delivery → ℕ
-packedDelivery·kept (refused number) = number
-packedDelivery·kept (accepted known) = 0
-packedDelivery·kept (accepted fresh) = 256
+packed_delivery-kept : Answer Delivery → ℕ
+packed_delivery-kept (refused number) = number
+packed_delivery-kept (accepted known) = 0
+packed_delivery-kept (accepted fresh) = 256
 
-same·packedDelivery : packedDelivery·kept is-kept page.packedDelivery
-unfolding packedDelivery·kept page.packedDelivery
-same·packedDelivery = by-text
+same-packed_delivery : packed_delivery-kept is-kept page.packed_delivery
+unfolding packed_delivery-kept page.packed_delivery
+same-packed_delivery = by-text
 
-packedPacket·kept : Answer Counts → ℕ
-packedPacket·kept (refused number) = number
-packedPacket·kept (accepted counts) = 0
+packed_packet-kept : Answer Counts → ℕ
+packed_packet-kept (refused number) = number
+packed_packet-kept (accepted counts) = 0
 
-same·packedPacket : packedPacket·kept is-kept page.packedPacket
-unfolding packedPacket·kept page.packedPacket
-same·packedPacket = by-text
+same-packed_packet : packed_packet-kept is-kept page.packed_packet
+unfolding packed_packet-kept page.packed_packet
+same-packed_packet = by-text
 
-countsAfter·kept : Answer Counts → List ℕ → List ℕ
-countsAfter·kept (refused number) before = before
-countsAfter·kept (accepted counts) before = counts.freshFrames ∷ counts.knownFrames ∷ counts.refusedFrames ∷ []
+counts_after-kept : Answer Counts → List ℕ → List ℕ
+counts_after-kept (refused number) before = before
+counts_after-kept (accepted counts) before = counts.fresh_frames ∷ counts.known_frames ∷ counts.refused_frames ∷ []
 
-same·countsAfter : countsAfter·kept is-kept page.countsAfter
-unfolding countsAfter·kept page.countsAfter
-same·countsAfter = by-text
+same-counts_after : counts_after-kept is-kept page.counts_after
+unfolding counts_after-kept page.counts_after
+same-counts_after = by-text
 
-passKinds·kept : Move → ℕ
-passKinds·kept idle = 0
-passKinds·kept (voteDummy h) = 0
-passKinds·kept (output g) = 0
-passKinds·kept (pass h certificate finalized) = certificateKind certificate + 256 * finalizeKind finalized
-passKinds·kept (propose h) = 0
-passKinds·kept (voteBlock h) = 0
+pass_kinds-kept : Move → ℕ
+pass_kinds-kept idle = 0
+pass_kinds-kept (vote_dummy h) = 0
+pass_kinds-kept (output g) = 0
+pass_kinds-kept (pass h certificate finalized) = certificate_kind certificate + 256 * finalize_kind finalized
+pass_kinds-kept (propose h) = 0
+pass_kinds-kept (vote_block h) = 0
 
-same·passKinds : passKinds·kept is-kept page.passKinds
-unfolding passKinds·kept page.passKinds
-same·passKinds = by-text
+same-pass_kinds : pass_kinds-kept is-kept page.pass_kinds
+unfolding pass_kinds-kept page.pass_kinds
+same-pass_kinds = by-text
 
-packedMove·kept : Answer Move → ℕ
-packedMove·kept (refused number) = number
-packedMove·kept (accepted move) = 256 * moveNumber move + 65536 * moveHeight move + 4294967296 * passKinds move
+packed_move-kept : Answer Move → ℕ
+packed_move-kept (refused number) = number
+packed_move-kept (accepted move) = 256 * move_number move + 65536 * move_height move + 4294967296 * pass_kinds move
 
-same·packedMove : packedMove·kept is-kept page.packedMove
-unfolding packedMove·kept page.packedMove
-same·packedMove = by-text
+same-packed_move : packed_move-kept is-kept page.packed_move
+unfolding packed_move-kept page.packed_move
+same-packed_move = by-text
 
-answeredHeight·kept : Answer Move → ℕ
-answeredHeight·kept (refused number) = 0
-answeredHeight·kept (accepted move) = moveHeight move
+answered_height-kept : Answer Move → ℕ
+answered_height-kept (refused number) = 0
+answered_height-kept (accepted move) = move_height move
 
-same·answeredHeight : answeredHeight·kept is-kept page.answeredHeight
-unfolding answeredHeight·kept page.answeredHeight
-same·answeredHeight = by-text
+same-answered_height : answered_height-kept is-kept page.answered_height
+unfolding answered_height-kept page.answered_height
+same-answered_height = by-text
 
-packedSize·kept : Answer ℕ → ℕ
-packedSize·kept (refused number) = number
-packedSize·kept (accepted size) = 256 * size
+packed_size-kept : Answer ℕ → ℕ
+packed_size-kept (refused number) = number
+packed_size-kept (accepted size) = 256 * size
 
-same·packedSize : packedSize·kept is-kept page.packedSize
-unfolding packedSize·kept page.packedSize
-same·packedSize = by-text
+same-packed_size : packed_size-kept is-kept page.packed_size
+unfolding packed_size-kept page.packed_size
+same-packed_size = by-text
 
-answeredSize·kept : Answer ℕ → ℕ
-answeredSize·kept (refused number) = 0
-answeredSize·kept (accepted size) = size
+answered_size-kept : Answer ℕ → ℕ
+answered_size-kept (refused number) = 0
+answered_size-kept (accepted size) = size
 
-same·answeredSize : answeredSize·kept is-kept page.answeredSize
-unfolding answeredSize·kept page.answeredSize
-same·answeredSize = by-text
+same-answered_size : answered_size-kept is-kept page.answered_size
+unfolding answered_size-kept page.answered_size
+same-answered_size = by-text

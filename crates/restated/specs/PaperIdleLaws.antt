@@ -1,14 +1,14 @@
 -- Written by tests/restated --write: what docs/statements has of
--- crates/paper/specs/Laws/IdleLaws.antt.
+-- crates/paper/proofs/Laws/IdleLaws.antt.
 use package.Rattle.protocol.specs.Bytes.{Bytes}
 use package.Rattle.protocol.specs.State.{State}
 use package.Rattle.paper.specs.Idle.{IdleMeansNoMove, MovesEnd}
-use package.mathlib.Core.Path.{◌≡◌ as ◌is-kept◌, refl as by-text}
+use mathlib.Core.Path.{◌≡◌ as ◌is-kept◌, refl as by-text}
 use package.Rattle.paper.proofs.Laws.IdleLaws as page
 
 module _ (digest : Bytes → Bytes) where
-  pub idle-means-no-move·kept : (s : State) → IdleMeansNoMove digest s
-  idle-means-no-move·kept = page.idle-means-no-move digest
+  pub idle_means_no_move-kept : (s : State) → IdleMeansNoMove digest s
+  idle_means_no_move-kept = page.idle_means_no_move digest
 
-  pub moves-end·kept : (s : State) → MovesEnd digest s
-  moves-end·kept = page.moves-end digest
+  pub moves_end-kept : (s : State) → MovesEnd digest s
+  moves_end-kept = page.moves_end digest

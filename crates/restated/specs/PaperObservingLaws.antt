@@ -1,13 +1,12 @@
 -- Written by tests/restated --write: what docs/statements has of
--- crates/paper/specs/Laws/ObservingLaws.antt.
-use package.mathlib.Core.Path.{◌≡◌}
-use package.mathlib.Core.Bool.{true}
+-- crates/paper/proofs/Laws/ObservingLaws.antt.
+use Rattle.std.specs.Prelude.{◌≡◌, true}
 use package.Rattle.protocol.specs.Bytes.{Bytes, AreBytes}
-use package.Rattle.protocol.specs.ObserverSound.{observerSound}
+use package.Rattle.protocol.specs.ObserverSound.{observer_sound}
 use package.Rattle.paper.specs.Observing.{ObserverStep}
-use package.mathlib.Core.Path.{◌≡◌ as ◌is-kept◌, refl as by-text}
+use mathlib.Core.Path.{◌≡◌ as ◌is-kept◌, refl as by-text}
 use package.Rattle.paper.proofs.Laws.ObservingLaws as page
 
-module _ (digest : Bytes → Bytes) (book : Bytes) (ok : observerSound digest book ≡ true) where
-  pub observer-moves·kept : AreBytes book → ObserverStep digest book
-  observer-moves·kept = page.observer-moves digest book ok
+module _ (digest : Bytes → Bytes) (book : Bytes) (ok : observer_sound digest book ≡ true) where
+  pub observer_moves-kept : AreBytes book → ObserverStep digest book
+  observer_moves-kept = page.observer_moves digest book ok

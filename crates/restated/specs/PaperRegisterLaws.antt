@@ -1,21 +1,20 @@
 -- Written by tests/restated --write: what docs/statements has of
--- crates/paper/specs/Laws/RegisterLaws.antt.
-use package.Prim.Native.Nat.{ℕ, ◌≤◌}
-use package.mathlib.Core.Path.{◌≡◌}
-use package.lib.ListN.{length}
+-- crates/paper/proofs/Laws/RegisterLaws.antt.
+use Rattle.std.specs.Prelude.{ℕ, ◌≤◌, ◌≡◌}
+use Rattle.std.proofs.Math.ListN.{length}
 use package.Rattle.protocol.specs.Bytes.{Bytes}
 use package.Rattle.protocol.specs.Answer.{accepted}
-use package.Rattle.protocol.specs.Read.{sizeCall}
-use package.Rattle.protocol.specs.ObserverCalls.{observerSizeCall}
+use package.Rattle.protocol.specs.Read.{size_call}
+use package.Rattle.protocol.specs.ObserverCalls.{observer_size_call}
 use package.Rattle.paper.specs.Register.{ReadsChain, ObserverReadsChain}
-use package.mathlib.Core.Path.{◌≡◌ as ◌is-kept◌, refl as by-text}
+use mathlib.Core.Path.{◌≡◌ as ◌is-kept◌, refl as by-text}
 use package.Rattle.paper.proofs.Laws.RegisterLaws as page
 
 module _ (digest : Bytes → Bytes) (book : Bytes) where
-  pub reads-chain·kept : (buffer : Bytes) (size : ℕ) → sizeCall digest book ≡ accepted size → size ≤ length buffer →
+  pub reads_chain-kept : (buffer : Bytes) (size : ℕ) → size_call digest book ≡ accepted size → size ≤ length buffer →
       ReadsChain digest book buffer size
-  reads-chain·kept = page.reads-chain digest book
+  reads_chain-kept = page.reads_chain digest book
 
-  pub observer-reads-chain·kept : (buffer : Bytes) (size : ℕ) → observerSizeCall digest book ≡ accepted size →
+  pub observer_reads_chain-kept : (buffer : Bytes) (size : ℕ) → observer_size_call digest book ≡ accepted size →
       size ≤ length buffer → ObserverReadsChain digest book buffer size
-  observer-reads-chain·kept = page.observer-reads-chain digest book
+  observer_reads_chain-kept = page.observer_reads_chain digest book

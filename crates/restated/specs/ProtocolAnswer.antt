@@ -1,143 +1,142 @@
 -- Written by tests/restated --write: what docs/statements has of
 -- crates/protocol/specs/Answer.antt.
-use package.Prim.Native.Nat.{ℕ}
-use package.mathlib.Core.Bool.{Bool, true, false}
-use package.mathlib.Core.Option.{Option, some, none}
+use Rattle.std.specs.Prelude.{ℕ, Bool, true, false}
+use Rattle.std.proofs.Math.Option.{Option, some, none}
 use package.Rattle.protocol.specs.Bytes.{Bytes}
-use package.Rattle.protocol.specs.Answer.{Answer, refused, accepted, Done, done, Delivery, known, fresh, Counts, Certificate, onBlock, onDummy, Move, idle, voteDummy, output, pass, propose, voteBlock, Outcome}
-use package.mathlib.Core.Path.{◌≡◌ as ◌is-kept◌, refl as by-text}
+use package.Rattle.protocol.specs.Answer.{Answer, refused, accepted, Done, done, Delivery, known, fresh, Counts, Certificate, on_block, on_dummy, Move, idle, vote_dummy, output, pass, propose, vote_block, Outcome}
+use mathlib.Core.Path.{◌≡◌ as ◌is-kept◌, refl as by-text}
 use package.Rattle.protocol.specs.Answer as page
 
-Answer·refused·kept : (A : Type 0) → ℕ → Answer A
-Answer·refused·kept _ = page.Answer.refused
+Answer-refused-kept : (A : Type 0) → ℕ → Answer A
+Answer-refused-kept _ = page.Answer.refused
 
-Answer·accepted·kept : (A : Type 0) → A → Answer A
-Answer·accepted·kept _ = page.Answer.accepted
+Answer-accepted-kept : (A : Type 0) → A → Answer A
+Answer-accepted-kept _ = page.Answer.accepted
 
-Answer·apart : (A : Type 0) → Answer A → Unit {0}
-Answer·apart _ (page.Answer.refused _) = tt
-Answer·apart _ (page.Answer.accepted _) = tt
+Answer-apart : (A : Type 0) → Answer A → Unit {0}
+Answer-apart _ (page.Answer.refused _) = tt
+Answer-apart _ (page.Answer.accepted _) = tt
 
-isAccepted·kept : {A : Type 0} → Answer A → Bool
-isAccepted·kept (refused number) = false
-isAccepted·kept (accepted a) = true
+is_accepted-kept : {A : Type 0} → Answer A → Bool
+is_accepted-kept (refused number) = false
+is_accepted-kept (accepted a) = true
 
-same·isAccepted : {A : Type 0} → isAccepted·kept {A = A} is-kept page.isAccepted {A = A}
-unfolding isAccepted·kept page.isAccepted
-same·isAccepted = by-text
+same-is_accepted : {A : Type 0} → is_accepted-kept {A = A} is-kept page.is_accepted {A = A}
+unfolding is_accepted-kept page.is_accepted
+same-is_accepted = by-text
 
-Done·done·kept : Done
-Done·done·kept = page.Done.done
+Done-done-kept : Done
+Done-done-kept = page.Done.done
 
-Done·apart : Done → Unit {0}
-Done·apart (page.Done.done) = tt
+Done-apart : Done → Unit {0}
+Done-apart (page.Done.done) = tt
 
-Delivery·known·kept : Delivery
-Delivery·known·kept = page.Delivery.known
+Delivery-known-kept : Delivery
+Delivery-known-kept = page.Delivery.known
 
-Delivery·fresh·kept : Delivery
-Delivery·fresh·kept = page.Delivery.fresh
+Delivery-fresh-kept : Delivery
+Delivery-fresh-kept = page.Delivery.fresh
 
-Delivery·apart : Delivery → Unit {0}
-Delivery·apart (page.Delivery.known) = tt
-Delivery·apart (page.Delivery.fresh) = tt
+Delivery-apart : Delivery → Unit {0}
+Delivery-apart (page.Delivery.known) = tt
+Delivery-apart (page.Delivery.fresh) = tt
 
-Counts·kept : (freshFrames : ℕ) (knownFrames : ℕ) (refusedFrames : ℕ) →
+Counts-kept : (fresh_frames : ℕ) (known_frames : ℕ) (refused_frames : ℕ) →
     Counts
-Counts·kept x0 x1 x2 = record { freshFrames = x0; knownFrames = x1; refusedFrames = x2 }
+Counts-kept x0 x1 x2 = record { fresh_frames = x0; known_frames = x1; refused_frames = x2 }
 
-Certificate·onBlock·kept : Certificate
-Certificate·onBlock·kept = page.Certificate.onBlock
+Certificate-on_block-kept : Certificate
+Certificate-on_block-kept = page.Certificate.on_block
 
-Certificate·onDummy·kept : Certificate
-Certificate·onDummy·kept = page.Certificate.onDummy
+Certificate-on_dummy-kept : Certificate
+Certificate-on_dummy-kept = page.Certificate.on_dummy
 
-Certificate·apart : Certificate → Unit {0}
-Certificate·apart (page.Certificate.onBlock) = tt
-Certificate·apart (page.Certificate.onDummy) = tt
+Certificate-apart : Certificate → Unit {0}
+Certificate-apart (page.Certificate.on_block) = tt
+Certificate-apart (page.Certificate.on_dummy) = tt
 
-Move·idle·kept : Move
-Move·idle·kept = page.Move.idle
+Move-idle-kept : Move
+Move-idle-kept = page.Move.idle
 
-Move·voteDummy·kept : ℕ → Move
-Move·voteDummy·kept = page.Move.voteDummy
+Move-vote_dummy-kept : ℕ → Move
+Move-vote_dummy-kept = page.Move.vote_dummy
 
-Move·output·kept : ℕ → Move
-Move·output·kept = page.Move.output
+Move-output-kept : ℕ → Move
+Move-output-kept = page.Move.output
 
-Move·pass·kept : ℕ → Certificate → Bool → Move
-Move·pass·kept = page.Move.pass
+Move-pass-kept : ℕ → Certificate → Bool → Move
+Move-pass-kept = page.Move.pass
 
-Move·propose·kept : ℕ → Move
-Move·propose·kept = page.Move.propose
+Move-propose-kept : ℕ → Move
+Move-propose-kept = page.Move.propose
 
-Move·voteBlock·kept : ℕ → Move
-Move·voteBlock·kept = page.Move.voteBlock
+Move-vote_block-kept : ℕ → Move
+Move-vote_block-kept = page.Move.vote_block
 
-Move·apart : Move → Unit {0}
-Move·apart (page.Move.idle) = tt
-Move·apart (page.Move.voteDummy _) = tt
-Move·apart (page.Move.output _) = tt
-Move·apart (page.Move.pass _ _ _) = tt
-Move·apart (page.Move.propose _) = tt
-Move·apart (page.Move.voteBlock _) = tt
+Move-apart : Move → Unit {0}
+Move-apart (page.Move.idle) = tt
+Move-apart (page.Move.vote_dummy _) = tt
+Move-apart (page.Move.output _) = tt
+Move-apart (page.Move.pass _ _ _) = tt
+Move-apart (page.Move.propose _) = tt
+Move-apart (page.Move.vote_block _) = tt
 
-Outcome·kept : (A : Type 0) (answer : Answer A) (book : Bytes) →
+Outcome-kept : (A : Type 0) (answer : Answer A) (book : Bytes) →
     Outcome A
-Outcome·kept A x0 x1 = record { answer = x0; book = x1 }
+Outcome-kept A x0 x1 = record { answer = x0; book = x1 }
 
-unlessRefused·kept : {A : Type 0} → Option ℕ → Bytes → Outcome A → Outcome A
-unlessRefused·kept none book outcome = outcome
-unlessRefused·kept (some number) book outcome = record { answer = refused number; book = book }
+unless_refused-kept : {A : Type 0} → Option ℕ → Bytes → Outcome A → Outcome A
+unless_refused-kept none book outcome = outcome
+unless_refused-kept (some number) book outcome = record { answer = refused number; book = book }
 
-same·unlessRefused : {A : Type 0} → unlessRefused·kept {A = A} is-kept page.unlessRefused {A = A}
-unfolding unlessRefused·kept page.unlessRefused
-same·unlessRefused = by-text
+same-unless_refused : {A : Type 0} → unless_refused-kept {A = A} is-kept page.unless_refused {A = A}
+unfolding unless_refused-kept page.unless_refused
+same-unless_refused = by-text
 
-refusalNumber·kept : {A : Type 0} → Answer A → ℕ
-refusalNumber·kept (refused number) = number
-refusalNumber·kept (accepted a) = 0
+refusal_number-kept : {A : Type 0} → Answer A → ℕ
+refusal_number-kept (refused number) = number
+refusal_number-kept (accepted a) = 0
 
-same·refusalNumber : {A : Type 0} → refusalNumber·kept {A = A} is-kept page.refusalNumber {A = A}
-unfolding refusalNumber·kept page.refusalNumber
-same·refusalNumber = by-text
+same-refusal_number : {A : Type 0} → refusal_number-kept {A = A} is-kept page.refusal_number {A = A}
+unfolding refusal_number-kept page.refusal_number
+same-refusal_number = by-text
 
-certificateKind·kept : Certificate → ℕ
-certificateKind·kept onBlock = 5
-certificateKind·kept onDummy = 6
+certificate_kind-kept : Certificate → ℕ
+certificate_kind-kept on_block = 5
+certificate_kind-kept on_dummy = 6
 
-same·certificateKind : certificateKind·kept is-kept page.certificateKind
-unfolding certificateKind·kept page.certificateKind
-same·certificateKind = by-text
+same-certificate_kind : certificate_kind-kept is-kept page.certificate_kind
+unfolding certificate_kind-kept page.certificate_kind
+same-certificate_kind = by-text
 
-finalizeKind·kept : Bool → ℕ
-finalizeKind·kept true = 4
-finalizeKind·kept false = 0
+finalize_kind-kept : Bool → ℕ
+finalize_kind-kept true = 4
+finalize_kind-kept false = 0
 
-same·finalizeKind : finalizeKind·kept is-kept page.finalizeKind
-unfolding finalizeKind·kept page.finalizeKind
-same·finalizeKind = by-text
+same-finalize_kind : finalize_kind-kept is-kept page.finalize_kind
+unfolding finalize_kind-kept page.finalize_kind
+same-finalize_kind = by-text
 
-moveNumber·kept : Move → ℕ
-moveNumber·kept idle = 0
-moveNumber·kept (voteDummy h) = 1
-moveNumber·kept (output g) = 2
-moveNumber·kept (pass h certificate finalized) = 3
-moveNumber·kept (propose h) = 4
-moveNumber·kept (voteBlock h) = 5
+move_number-kept : Move → ℕ
+move_number-kept idle = 0
+move_number-kept (vote_dummy h) = 1
+move_number-kept (output g) = 2
+move_number-kept (pass h certificate finalized) = 3
+move_number-kept (propose h) = 4
+move_number-kept (vote_block h) = 5
 
-same·moveNumber : moveNumber·kept is-kept page.moveNumber
-unfolding moveNumber·kept page.moveNumber
-same·moveNumber = by-text
+same-move_number : move_number-kept is-kept page.move_number
+unfolding move_number-kept page.move_number
+same-move_number = by-text
 
-moveHeight·kept : Move → ℕ
-moveHeight·kept idle = 0
-moveHeight·kept (voteDummy h) = h
-moveHeight·kept (output g) = g
-moveHeight·kept (pass h certificate finalized) = h
-moveHeight·kept (propose h) = h
-moveHeight·kept (voteBlock h) = h
+move_height-kept : Move → ℕ
+move_height-kept idle = 0
+move_height-kept (vote_dummy h) = h
+move_height-kept (output g) = g
+move_height-kept (pass h certificate finalized) = h
+move_height-kept (propose h) = h
+move_height-kept (vote_block h) = h
 
-same·moveHeight : moveHeight·kept is-kept page.moveHeight
-unfolding moveHeight·kept page.moveHeight
-same·moveHeight = by-text
+same-move_height : move_height-kept is-kept page.move_height
+unfolding move_height-kept page.move_height
+same-move_height = by-text

@@ -1,107 +1,103 @@
 -- Written by tests/restated --write: what docs/statements has of
 -- crates/protocol/specs/Before.antt.
-use package.Prim.Native.Nat.{ℕ, ◌+◌, ◌*◌}
-use package.mathlib.Core.Bool.{Bool, ◌&&◌, ◌||◌, cond}
-use package.mathlib.Core.List.{List, [], ◌∷◌}
-use package.lib.ListN.{length, drop}
-use package.lib.Dec.{eqb, leb, ltb}
+use Rattle.std.specs.Prelude.{ℕ, ◌+◌, ◌*◌, Bool, ◌&&◌, ◌||◌, cond, List, [], ◌∷◌, length, drop, eqb, leb, ltb}
 use package.Rattle.protocol.specs.Bytes.{Bytes, byte_at, part, is_zero, pieces}
-use package.Rattle.protocol.specs.Tests.{all_of, implies, inRange, everyHeight}
-use package.Rattle.protocol.specs.Block.{blockWellFormed}
-use package.Rattle.protocol.specs.Frame.{kind, frameHeight, frameBlock, carriesBlock, frameWellFormed}
-use package.Rattle.protocol.specs.State.{State, Height, at, bookSize, bookWeights, bodySize, contentSize, decodeHeights}
-use package.Rattle.protocol.specs.State.{holdsProposal, isNotarized, maximumPending, maximumReplicas, poolSize}
-use package.Rattle.protocol.specs.View.{quorum, isFinalized}
-use package.Rattle.protocol.specs.Sound.{view, weightsFit, masksBelow, contentZeros}
-use package.Rattle.protocol.specs.Before.{blockBefore, decodeBefore, blocksBefore, unusedBefore}
-use package.mathlib.Core.Path.{◌≡◌ as ◌is-kept◌, refl as by-text}
+use package.Rattle.protocol.specs.Tests.{all_of, implies, in_range, every_height}
+use package.Rattle.protocol.specs.Block.{block_well_formed}
+use package.Rattle.protocol.specs.Frame.{kind, frame_height, frame_block, carries_block, frame_well_formed}
+use package.Rattle.protocol.specs.State.{State, Height, at, book_size, book_weights, body_size, content_size, decode_heights}
+use package.Rattle.protocol.specs.State.{holds_proposal, is_notarized, maximum_pending, maximum_replicas, pool_size}
+use package.Rattle.protocol.specs.View.{quorum, is_finalized}
+use package.Rattle.protocol.specs.Sound.{view, weights_fit, masks_below, content_zeros}
+use package.Rattle.protocol.specs.Before.{block_before, decode_before, blocks_before, unused_before}
+use mathlib.Core.Path.{◌≡◌ as ◌is-kept◌, refl as by-text}
 use package.Rattle.protocol.specs.Before as page
 
-blockBefore·kept : ℕ → Bytes → Bool
-blockBefore·kept h block = all_of (blockWellFormed h block ∷ eqb (byte_at block 1) 0 ∷ eqb (byte_at block 3) 0 ∷ [])
+block_before-kept : ℕ → Bytes → Bool
+block_before-kept h block = all_of (block_well_formed h block ∷ eqb (byte_at block 1) 0 ∷ eqb (byte_at block 3) 0 ∷ [])
 
-same·blockBefore : blockBefore·kept is-kept page.blockBefore
-unfolding blockBefore·kept page.blockBefore
-same·blockBefore = by-text
+same-block_before : block_before-kept is-kept page.block_before
+unfolding block_before-kept page.block_before
+same-block_before = by-text
 
-frameBefore·kept : Bytes → Bool
-frameBefore·kept frame = all_of
-    (frameWellFormed frame ∷
+frame_before-kept : Bytes → Bool
+frame_before-kept frame = all_of
+    (frame_well_formed frame ∷
     eqb (byte_at frame 3) 0 ∷
-    implies (carriesBlock (kind frame)) (blockBefore (frameHeight frame) (frameBlock frame)) ∷ [])
+    implies (carries_block (kind frame)) (block_before (frame_height frame) (frame_block frame)) ∷ [])
 
-same·frameBefore : frameBefore·kept is-kept page.frameBefore
-unfolding frameBefore·kept page.frameBefore
-same·frameBefore = by-text
+same-frame_before : frame_before-kept is-kept page.frame_before
+unfolding frame_before-kept page.frame_before
+same-frame_before = by-text
 
-decodeBefore·kept : Bytes → State
-decodeBefore·kept book =
+decode_before-kept : Bytes → State
+decode_before-kept book =
     let heights : ℕ = byte_at book 2 in
     record {
       edition = byte_at book 7;
       n = byte_at book 0;
-      weights = bookWeights book;
+      weights = book_weights book;
       own = byte_at book 1;
       flags = byte_at book 3;
       current = byte_at book 4;
       finalized = byte_at book 5;
-      pendingCount = byte_at book 6;
-      pool = part book 64 poolSize;
-      heights = decodeHeights
-          (pieces contentSize heights (drop 576 book))
-          (pieces bodySize heights (drop (576 + contentSize * heights) book));
+      pending_count = byte_at book 6;
+      pool = part book 64 pool_size;
+      heights = decode_heights
+          (pieces content_size heights (drop 576 book))
+          (pieces body_size heights (drop (576 + content_size * heights) book));
     }
 
-same·decodeBefore : decodeBefore·kept is-kept page.decodeBefore
-unfolding decodeBefore·kept page.decodeBefore
-same·decodeBefore = by-text
+same-decode_before : decode_before-kept is-kept page.decode_before
+unfolding decode_before-kept page.decode_before
+same-decode_before = by-text
 
-blocksBefore·kept : ℕ → Height → Bool
-blocksBefore·kept h x =
-    implies (holdsProposal x) (blockBefore h x.proposal) && implies (isNotarized x) (blockBefore h x.notarized)
+blocks_before-kept : ℕ → Height → Bool
+blocks_before-kept h x =
+    implies (holds_proposal x) (block_before h x.proposal) && implies (is_notarized x) (block_before h x.notarized)
 
-same·blocksBefore : blocksBefore·kept is-kept page.blocksBefore
-unfolding blocksBefore·kept page.blocksBefore
-same·blocksBefore = by-text
+same-blocks_before : blocks_before-kept is-kept page.blocks_before
+unfolding blocks_before-kept page.blocks_before
+same-blocks_before = by-text
 
-unusedBefore·kept : Bytes → Bytes
-unusedBefore·kept book = cond (eqb (byte_at book 7) 1) (part book 8 56) (part book 40 24)
+unused_before-kept : Bytes → Bytes
+unused_before-kept book = cond (eqb (byte_at book 7) 1) (part book 8 56) (part book 40 24)
 
-same·unusedBefore : unusedBefore·kept is-kept page.unusedBefore
-unfolding unusedBefore·kept page.unusedBefore
-same·unusedBefore = by-text
+same-unused_before : unused_before-kept is-kept page.unused_before
+unfolding unused_before-kept page.unused_before
+same-unused_before = by-text
 
 module _ (digest : Bytes → Bytes) where
-  abbrev rowsBefore : (latest : ℕ) → Bytes → State → ℕ → List Bool
-  rowsBefore = page.rowsBefore digest
+  abbrev rows_before : (latest : ℕ) → Bytes → State → ℕ → List Bool
+  rows_before = page.rows_before digest
 
-  rowsBefore·kept : (latest : ℕ) → Bytes → State → ℕ → List Bool
-  rowsBefore·kept latest book s heights =
-      eqb (length book) (bookSize heights) ∷
-      inRange 1 maximumReplicas s.n ∷
+  rows_before-kept : (latest : ℕ) → Bytes → State → ℕ → List Bool
+  rows_before-kept latest book s heights =
+      eqb (length book) (book_size heights) ∷
+      in_range 1 maximum_replicas s.n ∷
       ltb s.own s.n ∷
-      inRange 1 63 heights ∷
-      inRange 1 latest s.edition ∷
-      weightsFit s.n s.weights ∷
-      inRange 1 (heights + 1) s.current ∷
+      in_range 1 63 heights ∷
+      in_range 1 latest s.edition ∷
+      weights_fit s.n s.weights ∷
+      in_range 1 (heights + 1) s.current ∷
       ltb s.flags 16 ∷
-      leb s.pendingCount maximumPending ∷
-      everyHeight (λ h. ltb (at s h).leader s.n) heights ∷
-      everyHeight (λ h. masksBelow s.n (at s h)) heights ∷
-      everyHeight (λ h. leb (at s h).status 3) heights ∷
-      everyHeight (λ h. blocksBefore h (at s h)) heights ∷
-      everyHeight (λ h. implies (isNotarized (at s h)) (quorum (view s) (at s h).certificateMask)) heights ∷
-      is_zero (unusedBefore book) ∷
-      everyHeight (λ h. is_zero (contentZeros book h)) heights ∷
-      (eqb s.finalized 0 || isFinalized digest (view s) s.finalized) ∷ []
+      leb s.pending_count maximum_pending ∷
+      every_height (λ h. ltb (at s h).leader s.n) heights ∷
+      every_height (λ h. masks_below s.n (at s h)) heights ∷
+      every_height (λ h. leb (at s h).status 3) heights ∷
+      every_height (λ h. blocks_before h (at s h)) heights ∷
+      every_height (λ h. implies (is_notarized (at s h)) (quorum (view s) (at s h).certificate_mask)) heights ∷
+      is_zero (unused_before book) ∷
+      every_height (λ h. is_zero (content_zeros book h)) heights ∷
+      (eqb s.finalized 0 || is_finalized digest (view s) s.finalized) ∷ []
 
-  same·rowsBefore : rowsBefore·kept is-kept page.rowsBefore digest
-  unfolding rowsBefore·kept page.rowsBefore
-  same·rowsBefore = by-text
+  same-rows_before : rows_before-kept is-kept page.rows_before digest
+  unfolding rows_before-kept page.rows_before
+  same-rows_before = by-text
 
-  soundBefore·kept : (latest : ℕ) → Bytes → Bool
-  soundBefore·kept latest book = all_of (rowsBefore latest book (decodeBefore book) (byte_at book 2))
+  sound_before-kept : (latest : ℕ) → Bytes → Bool
+  sound_before-kept latest book = all_of (rows_before latest book (decode_before book) (byte_at book 2))
 
-  same·soundBefore : soundBefore·kept is-kept page.soundBefore digest
-  unfolding soundBefore·kept page.soundBefore
-  same·soundBefore = by-text
+  same-sound_before : sound_before-kept is-kept page.sound_before digest
+  unfolding sound_before-kept page.sound_before
+  same-sound_before = by-text

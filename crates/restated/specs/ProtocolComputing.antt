@@ -1,85 +1,88 @@
 -- Written by tests/restated --write: what docs/statements has of
 -- crates/protocol/specs/Computing.antt.
-use package.Rattle.protocol.specs.Bytes.{word16, le16, part, zeros, overFront, all, is_zero, same, pieces, join, holds}
+use package.Rattle.protocol.specs.Bytes.{word16, le16, part, zeros, over_front, all, is_zero, same, pieces, join, holds}
 use package.Rattle.protocol.specs.Bytes.{without, put}
-use package.Rattle.protocol.specs.Distinct.{distinctAfter, distinct, noneTwice}
-use package.Rattle.protocol.specs.Tests.{all_of, implies, inRange, everyHeight, firstRefusal}
-use package.Rattle.protocol.specs.Block.{blockHeight, parentHeight, entryCount, parentDigest, entries, blockWellFormed}
-use package.Rattle.protocol.specs.Block.{newBlock, allEntries}
-use package.Rattle.protocol.specs.Frame.{kind, signer, frameHeight, signerMask, frameDigest, frameBlock, isStatement}
-use package.Rattle.protocol.specs.Frame.{isCertificate, carriesBlock, carriesDigest, frameWellFormed, frame_of, proposal}
-use package.Rattle.protocol.specs.Frame.{blockVote, dummyVote, finalize, blockCertificate, dummyCertificate}
-use package.Rattle.protocol.specs.Frame.{finalizeCertificate}
-use package.Rattle.protocol.specs.Mask.{inMask, mask_of, ones, union, intersection, belowBit, weigh, total}
-use package.Rattle.protocol.specs.State.{bookSize, mostHeights, headNumber, headPut, shortNumber, numberBytes, padded}
-use package.Rattle.protocol.specs.State.{evenly, words, weightBytes, weightsIn, headUnused, headBytes, contentBytes}
-use package.Rattle.protocol.specs.State.{bodyBytes, encode, decodeHeight, decodeHeights, decode, last, noHeight, at}
-use package.Rattle.protocol.specs.State.{holdsProposal, isNotarized, voteOf, withEdition, withHeight, with_head, withPool}
-use package.Rattle.protocol.specs.State.{withTimerFired, flag, pending}
-use package.Rattle.protocol.specs.View.{quorum, isDummy, dummyRun, digestAt, extendsOver, linkedWithin, linked, extends}
-use package.Rattle.protocol.specs.View.{isFinalized, largestFinalized, parent_of, chainWithin, chain, log_at}
-use package.Rattle.protocol.specs.Sound.{view, log, weightsFit, masksBelow, blocksWellFormed, contentZeros, sound}
-use package.Rattle.protocol.specs.Answer.{isAccepted, unlessRefused, refusalNumber, certificateKind, finalizeKind}
-use package.Rattle.protocol.specs.Answer.{moveNumber, moveHeight}
-use package.Rattle.protocol.specs.Open.{newHeight, openedEdition, openedWeights, weightsInRange, newState, openInRange}
-use package.Rattle.protocol.specs.Open.{open_rows, openCall}
-use package.Rattle.protocol.specs.Deliver.{withProposal, withNotarized, withMasks, withVote, votersFor, keepDummyVote}
-use package.Rattle.protocol.specs.Deliver.{keepFinalize, keepBlockCertificate, keepDummyCertificate}
-use package.Rattle.protocol.specs.Deliver.{keepFinalizeCertificate, readRows, secondProposal, leaderEquivocates}
-use package.Rattle.protocol.specs.Deliver.{timerFires, clashRows, notarize, keepProposal, keepBlockVote, keep, kept}
-use package.Rattle.protocol.specs.Deliver.{deliverRows, heard, deliverCall, deliverAll}
-use package.Rattle.protocol.specs.Packet.{packetFrames, noFrames, countedIn, countAll, acceptedOf, packetRows, packetCall}
-use package.Rattle.protocol.specs.Certificates.{certificateFrame}
-use package.Rattle.protocol.specs.Move.{firstStep, is_some, someOr, isRunning, idleStep, dummyVoteApplies, dummyVoteStep}
-use package.Rattle.protocol.specs.Move.{offered, unused, written, moved, unlessMoveRefused, newFinalized, outputApplies}
-use package.Rattle.protocol.specs.Move.{outputStep, passApplies, passStep, proposeApplies, proposedBlock, proposeStep}
-use package.Rattle.protocol.specs.Move.{blockVoteApplies, blockVoteStep, step, afterMoves, moveRows, moveCall}
-use package.Rattle.protocol.specs.Signal.{signalRows, signalCall}
-use package.Rattle.protocol.specs.Submit.{withPending, stillPending, submitRows, submitCall}
-use package.Rattle.protocol.specs.Read.{logSize, sizeCall, readPart, readBuffer}
-use package.Rattle.protocol.specs.Fetch.{hasCertificate, certificateIf, certificatesAt, certificatesTo, everyCertificate}
-use package.Rattle.protocol.specs.Fetch.{unlessFetchRefused, fetchRows, fetchCall}
-use package.Rattle.protocol.specs.Call.{effect, bookAfterAll}
-use package.Rattle.protocol.specs.Observer.{asReplicaHeight, asReplica, observedHeight, observed, observerBookSize}
-use package.Rattle.protocol.specs.Observer.{observedContentBytes, observedBodyBytes, encodeObserver, decodeObservedHeight}
-use package.Rattle.protocol.specs.Observer.{decodeObservedHeights, decodeObserver}
-use package.Rattle.protocol.specs.ObserverSound.{replicaHead, observedZero, observerSound}
-use package.Rattle.protocol.specs.ObserverCalls.{newObservedHeight, newObserver, observerOpenRows, observerOpenCall}
-use package.Rattle.protocol.specs.ObserverCalls.{observerKept, observerLogSize, observerDeliverRows, observerDeliverCall}
-use package.Rattle.protocol.specs.ObserverCalls.{observerStep, observerMoved, observerMoveRows, observerMoveCall}
-use package.Rattle.protocol.specs.ObserverCalls.{observerSizeCall, observerReadPart, observerReadBuffer}
-use package.Rattle.protocol.specs.ObserverCall.{observation, observerBookAfterAll}
-use package.mathlib.Core.Path.{◌≡◌ as ◌is-kept◌, refl as by-text}
+use package.Rattle.protocol.specs.Distinct.{distinct_after, distinct, none_twice}
+use package.Rattle.protocol.specs.Tests.{all_of, implies, in_range, every_height, first_refusal}
+use package.Rattle.protocol.specs.Block.{block_height, parent_height, entry_count, parent_digest, entries, block_well_formed}
+use package.Rattle.protocol.specs.Block.{new_block, all_entries}
+use package.Rattle.protocol.specs.Frame.{kind, signer, frame_height, signer_mask, frame_digest, frame_block, is_statement}
+use package.Rattle.protocol.specs.Frame.{is_certificate, carries_block, carries_digest, frame_well_formed, frame_of, proposal}
+use package.Rattle.protocol.specs.Frame.{block_vote, dummy_vote, finalize, block_certificate, dummy_certificate}
+use package.Rattle.protocol.specs.Frame.{finalize_certificate}
+use package.Rattle.protocol.specs.Mask.{in_mask, mask_of, ones, union, intersection, below_bit, weigh, total}
+use package.Rattle.protocol.specs.State.{book_size, most_heights, head_number, head_put, short_number, number_bytes, padded}
+use package.Rattle.protocol.specs.State.{evenly, words, weight_bytes, weights_in, head_unused, head_bytes, content_bytes}
+use package.Rattle.protocol.specs.State.{body_bytes, encode, decode_height, decode_heights, decode, last, no_height, at}
+use package.Rattle.protocol.specs.State.{holds_proposal, is_notarized, vote_of, with_edition, with_height, with_head, with_pool}
+use package.Rattle.protocol.specs.State.{with_timer_fired, flag, pending}
+use package.Rattle.protocol.specs.View.{quorum, is_dummy, dummy_run, digest_at, extends_over, linked_within, linked, extends}
+use package.Rattle.protocol.specs.View.{is_finalized, largest_finalized, parent_of, chain_within, chain, log_at}
+use package.Rattle.protocol.specs.Sound.{view, log, weights_fit, masks_below, blocks_well_formed, content_zeros, sound}
+use package.Rattle.protocol.specs.Answer.{is_accepted, unless_refused, refusal_number, certificate_kind, finalize_kind}
+use package.Rattle.protocol.specs.Answer.{move_number, move_height}
+use package.Rattle.protocol.specs.Open.{new_height, opened_edition, opened_weights, weights_in_range, new_state, open_in_range}
+use package.Rattle.protocol.specs.Open.{open_rows, open_call}
+use package.Rattle.protocol.specs.Deliver.{with_proposal, with_notarized, with_masks, with_vote, voters_for, keep_dummy_vote}
+use package.Rattle.protocol.specs.Deliver.{keep_finalize, keep_block_certificate, keep_dummy_certificate}
+use package.Rattle.protocol.specs.Deliver.{keep_finalize_certificate, read_rows, second_proposal, leader_equivocates}
+use package.Rattle.protocol.specs.Deliver.{timer_fires, clash_rows, notarize, keep_proposal, keep_block_vote, keep, kept}
+use package.Rattle.protocol.specs.Deliver.{deliver_rows, heard, deliver_call, deliver_all}
+use package.Rattle.protocol.specs.Packet.{packet_frames, no_frames, counted_in, count_all, accepted_of, packet_rows}
+use package.Rattle.protocol.specs.Packet.{packet_call}
+use package.Rattle.protocol.specs.Certificates.{certificate_frame}
+use package.Rattle.protocol.specs.Move.{first_step, is_some, some_or, is_running, idle_step, dummy_vote_applies}
+use package.Rattle.protocol.specs.Move.{dummy_vote_step, offered, unused, written, moved, unless_move_refused, new_finalized}
+use package.Rattle.protocol.specs.Move.{output_applies, output_step, pass_applies, pass_step, propose_applies, proposed_block}
+use package.Rattle.protocol.specs.Move.{propose_step, block_vote_applies, block_vote_step, step, after_moves, move_rows}
+use package.Rattle.protocol.specs.Move.{move_call}
+use package.Rattle.protocol.specs.Signal.{signal_rows, signal_call}
+use package.Rattle.protocol.specs.Submit.{with_pending, still_pending, submit_rows, submit_call}
+use package.Rattle.protocol.specs.Read.{log_size, size_call, read_part, read_buffer}
+use package.Rattle.protocol.specs.Fetch.{has_certificate, certificate_if, certificates_at, certificates_to, every_certificate}
+use package.Rattle.protocol.specs.Fetch.{unless_fetch_refused, fetch_rows, fetch_call}
+use package.Rattle.protocol.specs.Call.{effect, book_after_all}
+use package.Rattle.protocol.specs.Observer.{as_replica_height, as_replica, observed_height, observed, observer_book_size}
+use package.Rattle.protocol.specs.Observer.{observed_content_bytes, observed_body_bytes, encode_observer}
+use package.Rattle.protocol.specs.Observer.{decode_observed_height, decode_observed_heights, decode_observer}
+use package.Rattle.protocol.specs.ObserverSound.{replica_head, observed_zero, observer_sound}
+use package.Rattle.protocol.specs.ObserverCalls.{new_observed_height, new_observer, observer_open_rows, observer_open_call}
+use package.Rattle.protocol.specs.ObserverCalls.{observer_kept, observer_log_size, observer_deliver_rows, observer_deliver_call}
+use package.Rattle.protocol.specs.ObserverCalls.{observer_step, observer_moved, observer_move_rows, observer_move_call}
+use package.Rattle.protocol.specs.ObserverCalls.{observer_size_call, observer_read_part, observer_read_buffer}
+use package.Rattle.protocol.specs.ObserverCall.{observation, observer_book_after_all}
+use mathlib.Core.Path.{◌≡◌ as ◌is-kept◌, refl as by-text}
 use package.Rattle.protocol.specs.Computing as page
 
-everything·kept : Unit {0}
-unfolding word16 le16 part zeros overFront all is_zero same pieces join holds without put distinctAfter distinct
-    noneTwice all_of implies inRange everyHeight firstRefusal blockHeight parentHeight entryCount parentDigest entries
-    blockWellFormed newBlock allEntries kind signer frameHeight signerMask frameDigest frameBlock isStatement
-    isCertificate carriesBlock carriesDigest frameWellFormed frame_of proposal blockVote dummyVote finalize
-    blockCertificate dummyCertificate finalizeCertificate inMask mask_of ones union intersection belowBit weigh total
-    bookSize mostHeights headNumber headPut shortNumber numberBytes padded evenly words weightBytes weightsIn headUnused
-    headBytes contentBytes bodyBytes encode decodeHeight decodeHeights decode last noHeight at holdsProposal isNotarized
-    voteOf withEdition withHeight with_head withPool withTimerFired flag pending quorum isDummy dummyRun digestAt
-    extendsOver linkedWithin linked extends isFinalized largestFinalized parent_of chainWithin chain log_at view log
-    weightsFit masksBelow blocksWellFormed contentZeros sound isAccepted unlessRefused refusalNumber certificateKind
-    finalizeKind moveNumber moveHeight newHeight openedEdition openedWeights weightsInRange newState openInRange
-    open_rows openCall withProposal withNotarized withMasks withVote votersFor keepDummyVote keepFinalize
-    keepBlockCertificate keepDummyCertificate keepFinalizeCertificate readRows secondProposal leaderEquivocates
-    timerFires clashRows notarize keepProposal keepBlockVote keep kept deliverRows heard deliverCall deliverAll
-    packetFrames noFrames countedIn countAll acceptedOf packetRows packetCall certificateFrame firstStep is_some someOr
-    isRunning idleStep dummyVoteApplies dummyVoteStep offered unused written moved unlessMoveRefused newFinalized
-    outputApplies outputStep passApplies passStep proposeApplies proposedBlock proposeStep blockVoteApplies
-    blockVoteStep step afterMoves moveRows moveCall signalRows signalCall withPending stillPending submitRows submitCall
-    logSize sizeCall readPart readBuffer hasCertificate certificateIf certificatesAt certificatesTo everyCertificate
-    unlessFetchRefused fetchRows fetchCall effect bookAfterAll asReplicaHeight asReplica observedHeight observed
-    observerBookSize observedContentBytes observedBodyBytes encodeObserver decodeObservedHeight decodeObservedHeights
-    decodeObserver replicaHead observedZero observerSound newObservedHeight newObserver observerOpenRows
-    observerOpenCall observerKept observerLogSize observerDeliverRows observerDeliverCall observerStep observerMoved
-    observerMoveRows observerMoveCall observerSizeCall observerReadPart observerReadBuffer observation
-    observerBookAfterAll
-everything·kept = tt
+everything-kept : Unit {0}
+unfolding word16 le16 part zeros over_front all is_zero same pieces join holds without put distinct_after distinct
+    none_twice all_of implies in_range every_height first_refusal block_height parent_height entry_count parent_digest
+    entries block_well_formed new_block all_entries kind signer frame_height signer_mask frame_digest frame_block
+    is_statement is_certificate carries_block carries_digest frame_well_formed frame_of proposal block_vote dummy_vote
+    finalize block_certificate dummy_certificate finalize_certificate in_mask mask_of ones union intersection below_bit
+    weigh total book_size most_heights head_number head_put short_number number_bytes padded evenly words weight_bytes
+    weights_in head_unused head_bytes content_bytes body_bytes encode decode_height decode_heights decode last no_height
+    at holds_proposal is_notarized vote_of with_edition with_height with_head with_pool with_timer_fired flag pending
+    quorum is_dummy dummy_run digest_at extends_over linked_within linked extends is_finalized largest_finalized
+    parent_of chain_within chain log_at view log weights_fit masks_below blocks_well_formed content_zeros sound
+    is_accepted unless_refused refusal_number certificate_kind finalize_kind move_number move_height new_height
+    opened_edition opened_weights weights_in_range new_state open_in_range open_rows open_call with_proposal
+    with_notarized with_masks with_vote voters_for keep_dummy_vote keep_finalize keep_block_certificate
+    keep_dummy_certificate keep_finalize_certificate read_rows second_proposal leader_equivocates timer_fires clash_rows
+    notarize keep_proposal keep_block_vote keep kept deliver_rows heard deliver_call deliver_all packet_frames no_frames
+    counted_in count_all accepted_of packet_rows packet_call certificate_frame first_step is_some some_or is_running
+    idle_step dummy_vote_applies dummy_vote_step offered unused written moved unless_move_refused new_finalized
+    output_applies output_step pass_applies pass_step propose_applies proposed_block propose_step block_vote_applies
+    block_vote_step step after_moves move_rows move_call signal_rows signal_call with_pending still_pending submit_rows
+    submit_call log_size size_call read_part read_buffer has_certificate certificate_if certificates_at certificates_to
+    every_certificate unless_fetch_refused fetch_rows fetch_call effect book_after_all as_replica_height as_replica
+    observed_height observed observer_book_size observed_content_bytes observed_body_bytes encode_observer
+    decode_observed_height decode_observed_heights decode_observer replica_head observed_zero observer_sound
+    new_observed_height new_observer observer_open_rows observer_open_call observer_kept observer_log_size
+    observer_deliver_rows observer_deliver_call observer_step observer_moved observer_move_rows observer_move_call
+    observer_size_call observer_read_part observer_read_buffer observation observer_book_after_all
+everything-kept = tt
 
-same·everything : everything·kept is-kept page.everything
-unfolding everything·kept page.everything
-same·everything = by-text
+same-everything : everything-kept is-kept page.everything
+unfolding everything-kept page.everything
+same-everything = by-text

@@ -1,205 +1,201 @@
 -- Written by tests/restated --write: what docs/statements has of
 -- crates/protocol/specs/Deliver.antt.
-use package.Prim.Native.Nat.{ℕ, ◌+◌, ◌*◌, ◌^◌}
-use package.mathlib.Core.Bool.{Bool, ◌&&◌, ◌||◌, not, cond}
-use package.mathlib.Core.List.{List, [], ◌∷◌, ◌++◌}
-use package.mathlib.Core.Option.{Option, some, none}
-use package.lib.ListN.{take, drop}
-use package.lib.Dec.{eqb, ltb}
+use Rattle.std.specs.Prelude.{ℕ, ◌+◌, ◌*◌, ◌^◌, Bool, ◌&&◌, ◌||◌, not, cond, List, [], ◌∷◌, ◌++◌, take, drop, eqb, ltb}
+use Rattle.std.proofs.Math.Option.{Option, some, none}
 use package.Rattle.protocol.specs.Bytes.{Bytes, same}
-use package.Rattle.protocol.specs.Tests.{all_of, implies, inRange, Row, firstRefusal}
-use package.Rattle.protocol.specs.Frame.{kind, signer, frameHeight, signerMask, frameDigest, frameBlock, frameWellFormed}
-use package.Rattle.protocol.specs.Frame.{isStatement, isProposal, isBlockVote, isDummyVote, isFinalize}
-use package.Rattle.protocol.specs.Frame.{isBlockCertificate, isDummyCertificate}
-use package.Rattle.protocol.specs.Mask.{inMask, mask_of, union, belowBit}
-use package.Rattle.protocol.specs.State.{State, Height, at, last, withHeight, encode, decode, holdsProposal, isNotarized}
-use package.Rattle.protocol.specs.State.{voteOf, flag, withTimerFired}
+use package.Rattle.protocol.specs.Tests.{all_of, implies, in_range, Row, first_refusal}
+use package.Rattle.protocol.specs.Frame.{kind, signer, frame_height, signer_mask, frame_digest, frame_block, frame_well_formed}
+use package.Rattle.protocol.specs.Frame.{is_statement, is_proposal, is_block_vote, is_dummy_vote, is_finalize}
+use package.Rattle.protocol.specs.Frame.{is_block_certificate, is_dummy_certificate}
+use package.Rattle.protocol.specs.Mask.{in_mask, mask_of, union, below_bit}
+use package.Rattle.protocol.specs.State.{State, Height, at, last, with_height, encode, decode, holds_proposal, is_notarized}
+use package.Rattle.protocol.specs.State.{vote_of, flag, with_timer_fired}
 use package.Rattle.protocol.specs.View.{View, quorum}
 use package.Rattle.protocol.specs.Sound.{view, sound}
-use package.Rattle.protocol.specs.Answer.{Outcome, Delivery, known, fresh, accepted, unlessRefused}
-use package.Rattle.protocol.specs.Deliver.{withNotarized, withMasks, secondProposal, withProposal, withVote, votersFor, keepDummyVote, keepFinalize, keepBlockCertificate, keepDummyCertificate, keepFinalizeCertificate, readRows, leaderEquivocates, timerFires, clashRows}
-use package.mathlib.Core.Path.{◌≡◌ as ◌is-kept◌, refl as by-text}
+use package.Rattle.protocol.specs.Answer.{Outcome, Delivery, known, fresh, accepted, unless_refused}
+use package.Rattle.protocol.specs.Deliver.{with_notarized, with_masks, second_proposal, with_proposal, with_vote, voters_for, keep_dummy_vote, keep_finalize, keep_block_certificate, keep_dummy_certificate, keep_finalize_certificate, read_rows, leader_equivocates, timer_fires, clash_rows}
+use mathlib.Core.Path.{◌≡◌ as ◌is-kept◌, refl as by-text}
 use package.Rattle.protocol.specs.Deliver as page
 
-withProposal·kept : Height → Bytes → Height
-withProposal·kept x block = record {
+with_proposal-kept : Height → Bytes → Height
+with_proposal-kept x block = record {
   leader = x.leader;
   status = x.status + 1;
-  certificateMask = x.certificateMask;
-  dummyMask = x.dummyMask;
-  finalizeMask = x.finalizeMask;
-  voterMask = x.voterMask;
+  certificate_mask = x.certificate_mask;
+  dummy_mask = x.dummy_mask;
+  finalize_mask = x.finalize_mask;
+  voter_mask = x.voter_mask;
   proposal = block;
   notarized = x.notarized;
-  voteDigests = x.voteDigests;
+  vote_digests = x.vote_digests;
 }
 
-same·withProposal : withProposal·kept is-kept page.withProposal
-unfolding withProposal·kept page.withProposal
-same·withProposal = by-text
+same-with_proposal : with_proposal-kept is-kept page.with_proposal
+unfolding with_proposal-kept page.with_proposal
+same-with_proposal = by-text
 
-withNotarized·kept : Height → ℕ → Bytes → Height
-withNotarized·kept x mask block = record {
+with_notarized-kept : Height → ℕ → Bytes → Height
+with_notarized-kept x mask block = record {
   leader = x.leader;
   status = x.status + 2;
-  certificateMask = mask;
-  dummyMask = x.dummyMask;
-  finalizeMask = x.finalizeMask;
-  voterMask = x.voterMask;
+  certificate_mask = mask;
+  dummy_mask = x.dummy_mask;
+  finalize_mask = x.finalize_mask;
+  voter_mask = x.voter_mask;
   proposal = x.proposal;
   notarized = block;
-  voteDigests = x.voteDigests;
+  vote_digests = x.vote_digests;
 }
 
-same·withNotarized : withNotarized·kept is-kept page.withNotarized
-unfolding withNotarized·kept page.withNotarized
-same·withNotarized = by-text
+same-with_notarized : with_notarized-kept is-kept page.with_notarized
+unfolding with_notarized-kept page.with_notarized
+same-with_notarized = by-text
 
-withMasks·kept : Height → ℕ → ℕ → Height
-withMasks·kept x dummyMask finalizeMask = record {
+with_masks-kept : Height → ℕ → ℕ → Height
+with_masks-kept x dummy_mask finalize_mask = record {
   leader = x.leader;
   status = x.status;
-  certificateMask = x.certificateMask;
-  dummyMask = dummyMask;
-  finalizeMask = finalizeMask;
-  voterMask = x.voterMask;
+  certificate_mask = x.certificate_mask;
+  dummy_mask = dummy_mask;
+  finalize_mask = finalize_mask;
+  voter_mask = x.voter_mask;
   proposal = x.proposal;
   notarized = x.notarized;
-  voteDigests = x.voteDigests;
+  vote_digests = x.vote_digests;
 }
 
-same·withMasks : withMasks·kept is-kept page.withMasks
-unfolding withMasks·kept page.withMasks
-same·withMasks = by-text
+same-with_masks : with_masks-kept is-kept page.with_masks
+unfolding with_masks-kept page.with_masks
+same-with_masks = by-text
 
-withVote·kept : Height → ℕ → Bytes → Height
-withVote·kept x s digest = record {
+with_vote-kept : Height → ℕ → Bytes → Height
+with_vote-kept x s digest = record {
   leader = x.leader;
   status = x.status;
-  certificateMask = x.certificateMask;
-  dummyMask = x.dummyMask;
-  finalizeMask = x.finalizeMask;
-  voterMask = x.voterMask + 2 ^ s;
+  certificate_mask = x.certificate_mask;
+  dummy_mask = x.dummy_mask;
+  finalize_mask = x.finalize_mask;
+  voter_mask = x.voter_mask + 2 ^ s;
   proposal = x.proposal;
   notarized = x.notarized;
-  voteDigests = take (32 * s) x.voteDigests ++ (digest ++ drop (32 * s + 32) x.voteDigests);
+  vote_digests = take (32 * s) x.vote_digests ++ (digest ++ drop (32 * s + 32) x.vote_digests);
 }
 
-same·withVote : withVote·kept is-kept page.withVote
-unfolding withVote·kept page.withVote
-same·withVote = by-text
+same-with_vote : with_vote-kept is-kept page.with_vote
+unfolding with_vote-kept page.with_vote
+same-with_vote = by-text
 
-votersFor·kept : Height → Bytes → ℕ → ℕ
-votersFor·kept x digest n = mask_of (λ s. inMask x.voterMask s && same (voteOf x s) digest) n
+voters_for-kept : Height → Bytes → ℕ → ℕ
+voters_for-kept x digest n = mask_of (λ s. in_mask x.voter_mask s && same (vote_of x s) digest) n
 
-same·votersFor : votersFor·kept is-kept page.votersFor
-unfolding votersFor·kept page.votersFor
-same·votersFor = by-text
+same-voters_for : voters_for-kept is-kept page.voters_for
+unfolding voters_for-kept page.voters_for
+same-voters_for = by-text
 
-keepDummyVote·kept : Height → Bytes → Option Height
-keepDummyVote·kept x frame =
-    cond (inMask x.dummyMask (signer frame)) none
-    (some (withMasks x (x.dummyMask + 2 ^ signer frame) x.finalizeMask))
+keep_dummy_vote-kept : Height → Bytes → Option Height
+keep_dummy_vote-kept x frame =
+    cond (in_mask x.dummy_mask (signer frame)) none
+    (some (with_masks x (x.dummy_mask + 2 ^ signer frame) x.finalize_mask))
 
-same·keepDummyVote : keepDummyVote·kept is-kept page.keepDummyVote
-unfolding keepDummyVote·kept page.keepDummyVote
-same·keepDummyVote = by-text
+same-keep_dummy_vote : keep_dummy_vote-kept is-kept page.keep_dummy_vote
+unfolding keep_dummy_vote-kept page.keep_dummy_vote
+same-keep_dummy_vote = by-text
 
-keepFinalize·kept : Height → Bytes → Option Height
-keepFinalize·kept x frame =
-    cond (inMask x.finalizeMask (signer frame)) none
-    (some (withMasks x x.dummyMask (x.finalizeMask + 2 ^ signer frame)))
+keep_finalize-kept : Height → Bytes → Option Height
+keep_finalize-kept x frame =
+    cond (in_mask x.finalize_mask (signer frame)) none
+    (some (with_masks x x.dummy_mask (x.finalize_mask + 2 ^ signer frame)))
 
-same·keepFinalize : keepFinalize·kept is-kept page.keepFinalize
-unfolding keepFinalize·kept page.keepFinalize
-same·keepFinalize = by-text
+same-keep_finalize : keep_finalize-kept is-kept page.keep_finalize
+unfolding keep_finalize-kept page.keep_finalize
+same-keep_finalize = by-text
 
-keepBlockCertificate·kept : Height → Bytes → Option Height
-keepBlockCertificate·kept x frame =
-    cond (isNotarized x) none (some (withNotarized x (signerMask frame) (frameBlock frame)))
+keep_block_certificate-kept : Height → Bytes → Option Height
+keep_block_certificate-kept x frame =
+    cond (is_notarized x) none (some (with_notarized x (signer_mask frame) (frame_block frame)))
 
-same·keepBlockCertificate : keepBlockCertificate·kept is-kept page.keepBlockCertificate
-unfolding keepBlockCertificate·kept page.keepBlockCertificate
-same·keepBlockCertificate = by-text
+same-keep_block_certificate : keep_block_certificate-kept is-kept page.keep_block_certificate
+unfolding keep_block_certificate-kept page.keep_block_certificate
+same-keep_block_certificate = by-text
 
-keepDummyCertificate·kept : ℕ → Height → Bytes → Option Height
-keepDummyCertificate·kept n x frame =
-    let mask : ℕ = union n x.dummyMask (signerMask frame) in
-    cond (eqb mask x.dummyMask) none (some (withMasks x mask x.finalizeMask))
+keep_dummy_certificate-kept : ℕ → Height → Bytes → Option Height
+keep_dummy_certificate-kept n x frame =
+    let mask : ℕ = union n x.dummy_mask (signer_mask frame) in
+    cond (eqb mask x.dummy_mask) none (some (with_masks x mask x.finalize_mask))
 
-same·keepDummyCertificate : keepDummyCertificate·kept is-kept page.keepDummyCertificate
-unfolding keepDummyCertificate·kept page.keepDummyCertificate
-same·keepDummyCertificate = by-text
+same-keep_dummy_certificate : keep_dummy_certificate-kept is-kept page.keep_dummy_certificate
+unfolding keep_dummy_certificate-kept page.keep_dummy_certificate
+same-keep_dummy_certificate = by-text
 
-keepFinalizeCertificate·kept : ℕ → Height → Bytes → Option Height
-keepFinalizeCertificate·kept n x frame =
-    let mask : ℕ = union n x.finalizeMask (signerMask frame) in
-    cond (eqb mask x.finalizeMask) none (some (withMasks x x.dummyMask mask))
+keep_finalize_certificate-kept : ℕ → Height → Bytes → Option Height
+keep_finalize_certificate-kept n x frame =
+    let mask : ℕ = union n x.finalize_mask (signer_mask frame) in
+    cond (eqb mask x.finalize_mask) none (some (with_masks x x.dummy_mask mask))
 
-same·keepFinalizeCertificate : keepFinalizeCertificate·kept is-kept page.keepFinalizeCertificate
-unfolding keepFinalizeCertificate·kept page.keepFinalizeCertificate
-same·keepFinalizeCertificate = by-text
+same-keep_finalize_certificate : keep_finalize_certificate-kept is-kept page.keep_finalize_certificate
+unfolding keep_finalize_certificate-kept page.keep_finalize_certificate
+same-keep_finalize_certificate = by-text
 
-readRows·kept : State → Bytes → List Row
-readRows·kept s frame =
+read_rows-kept : State → Bytes → List Row
+read_rows-kept s frame =
     let k : ℕ = kind frame in
-    (4, frameWellFormed frame) ∷
-    (6, inRange 1 (last s) (frameHeight frame)) ∷
-    (5, cond (isStatement k) (ltb (signer frame) s.n) (belowBit s.n (signerMask frame))) ∷
-    (7, implies (isProposal k) (eqb (signer frame) (at s (frameHeight frame)).leader)) ∷
-    (9, isStatement k || quorum (view s) (signerMask frame)) ∷ []
+    (4, frame_well_formed frame) ∷
+    (6, in_range 1 (last s) (frame_height frame)) ∷
+    (5, cond (is_statement k) (ltb (signer frame) s.n) (below_bit s.n (signer_mask frame))) ∷
+    (7, implies (is_proposal k) (eqb (signer frame) (at s (frame_height frame)).leader)) ∷
+    (9, is_statement k || quorum (view s) (signer_mask frame)) ∷ []
 
-same·readRows : readRows·kept is-kept page.readRows
-unfolding readRows·kept page.readRows
-same·readRows = by-text
+same-read_rows : read_rows-kept is-kept page.read_rows
+unfolding read_rows-kept page.read_rows
+same-read_rows = by-text
 
-secondProposal·kept : State → Bytes → Bool
-secondProposal·kept s frame =
-    let x : Height = at s (frameHeight frame) in
-    all_of (isProposal (kind frame) ∷ holdsProposal x ∷ not (same x.proposal (frameBlock frame)) ∷ [])
+second_proposal-kept : State → Bytes → Bool
+second_proposal-kept s frame =
+    let x : Height = at s (frame_height frame) in
+    all_of (is_proposal (kind frame) ∷ holds_proposal x ∷ not (same x.proposal (frame_block frame)) ∷ [])
 
-same·secondProposal : secondProposal·kept is-kept page.secondProposal
-unfolding secondProposal·kept page.secondProposal
-same·secondProposal = by-text
+same-second_proposal : second_proposal-kept is-kept page.second_proposal
+unfolding second_proposal-kept page.second_proposal
+same-second_proposal = by-text
 
-leaderEquivocates·kept : State → Bytes → Bool
-leaderEquivocates·kept s frame = secondProposal s frame && eqb (frameHeight frame) s.current
+leader_equivocates-kept : State → Bytes → Bool
+leader_equivocates-kept s frame = second_proposal s frame && eqb (frame_height frame) s.current
 
-same·leaderEquivocates : leaderEquivocates·kept is-kept page.leaderEquivocates
-unfolding leaderEquivocates·kept page.leaderEquivocates
-same·leaderEquivocates = by-text
+same-leader_equivocates : leader_equivocates-kept is-kept page.leader_equivocates
+unfolding leader_equivocates-kept page.leader_equivocates
+same-leader_equivocates = by-text
 
-timerFires·kept : Bytes → Outcome Delivery
-timerFires·kept book =
+timer_fires-kept : Bytes → Outcome Delivery
+timer_fires-kept book =
     cond (flag 1 (decode book)) (record { answer = accepted known; book = book })
-    (record { answer = accepted fresh; book = encode (withTimerFired (decode book)) })
+    (record { answer = accepted fresh; book = encode (with_timer_fired (decode book)) })
 
-same·timerFires : timerFires·kept is-kept page.timerFires
-unfolding timerFires·kept page.timerFires
-same·timerFires = by-text
+same-timer_fires : timer_fires-kept is-kept page.timer_fires
+unfolding timer_fires-kept page.timer_fires
+same-timer_fires = by-text
 
-clashRows·kept : State → Bytes → List Row
-clashRows·kept s frame =
-    let x : Height = at s (frameHeight frame) in
+clash_rows-kept : State → Bytes → List Row
+clash_rows-kept s frame =
+    let x : Height = at s (frame_height frame) in
     let k : ℕ = kind frame in
-    let voted : Bool = inMask x.voterMask (signer frame) in
-    (8, implies (secondProposal s frame) (eqb (frameHeight frame) s.current)) ∷
-    (8, implies (isBlockVote k && voted) (same (voteOf x (signer frame)) (frameDigest frame))) ∷
-    (10, implies (isBlockCertificate k && isNotarized x) (same x.notarized (frameBlock frame))) ∷ []
+    let voted : Bool = in_mask x.voter_mask (signer frame) in
+    (8, implies (second_proposal s frame) (eqb (frame_height frame) s.current)) ∷
+    (8, implies (is_block_vote k && voted) (same (vote_of x (signer frame)) (frame_digest frame))) ∷
+    (10, implies (is_block_certificate k && is_notarized x) (same x.notarized (frame_block frame))) ∷ []
 
-same·clashRows : clashRows·kept is-kept page.clashRows
-unfolding clashRows·kept page.clashRows
-same·clashRows = by-text
+same-clash_rows : clash_rows-kept is-kept page.clash_rows
+unfolding clash_rows-kept page.clash_rows
+same-clash_rows = by-text
 
 module _ (digest : Bytes → Bytes) where
   abbrev notarize : View → Height → Height
   notarize = page.notarize digest
 
-  abbrev keepProposal : View → Height → Bytes → Option Height
-  keepProposal = page.keepProposal digest
+  abbrev keep_proposal : View → Height → Bytes → Option Height
+  keep_proposal = page.keep_proposal digest
 
-  abbrev keepBlockVote : View → Height → Bytes → Option Height
-  keepBlockVote = page.keepBlockVote digest
+  abbrev keep_block_vote : View → Height → Bytes → Option Height
+  keep_block_vote = page.keep_block_vote digest
 
   abbrev keep : State → Bytes → Option Height
   keep = page.keep digest
@@ -207,94 +203,94 @@ module _ (digest : Bytes → Bytes) where
   abbrev kept : Bytes → Bytes → Option Height → Outcome Delivery
   kept = page.kept digest
 
-  abbrev deliverRows : Bytes → Bytes → List Row
-  deliverRows = page.deliverRows digest
+  abbrev deliver_rows : Bytes → Bytes → List Row
+  deliver_rows = page.deliver_rows digest
 
   abbrev heard : Bytes → Bytes → Outcome Delivery
   heard = page.heard digest
 
-  abbrev deliverCall : Bytes → Bytes → Outcome Delivery
-  deliverCall = page.deliverCall digest
+  abbrev deliver_call : Bytes → Bytes → Outcome Delivery
+  deliver_call = page.deliver_call digest
 
-  notarize·kept : View → Height → Height
-  notarize·kept v x =
-      let voters : ℕ = votersFor x (digest x.proposal) v.n in
-      cond (all_of (not (isNotarized x) ∷ holdsProposal x ∷ quorum v voters ∷ []))
-      (withNotarized x voters x.proposal) x
+  notarize-kept : View → Height → Height
+  notarize-kept v x =
+      let voters : ℕ = voters_for x (digest x.proposal) v.n in
+      cond (all_of (not (is_notarized x) ∷ holds_proposal x ∷ quorum v voters ∷ []))
+      (with_notarized x voters x.proposal) x
 
-  same·notarize : notarize·kept is-kept page.notarize digest
-  unfolding notarize·kept page.notarize
-  same·notarize = by-text
+  same-notarize : notarize-kept is-kept page.notarize digest
+  unfolding notarize-kept page.notarize
+  same-notarize = by-text
 
-  keepProposal·kept : View → Height → Bytes → Option Height
-  keepProposal·kept v x frame =
-      cond (holdsProposal x) none (some (notarize v (withProposal x (frameBlock frame))))
+  keep_proposal-kept : View → Height → Bytes → Option Height
+  keep_proposal-kept v x frame =
+      cond (holds_proposal x) none (some (notarize v (with_proposal x (frame_block frame))))
 
-  same·keepProposal : keepProposal·kept is-kept page.keepProposal digest
-  unfolding keepProposal·kept page.keepProposal
-  same·keepProposal = by-text
+  same-keep_proposal : keep_proposal-kept is-kept page.keep_proposal digest
+  unfolding keep_proposal-kept page.keep_proposal
+  same-keep_proposal = by-text
 
-  keepBlockVote·kept : View → Height → Bytes → Option Height
-  keepBlockVote·kept v x frame =
-      cond (inMask x.voterMask (signer frame)) none
-      (some (notarize v (withVote x (signer frame) (frameDigest frame))))
+  keep_block_vote-kept : View → Height → Bytes → Option Height
+  keep_block_vote-kept v x frame =
+      cond (in_mask x.voter_mask (signer frame)) none
+      (some (notarize v (with_vote x (signer frame) (frame_digest frame))))
 
-  same·keepBlockVote : keepBlockVote·kept is-kept page.keepBlockVote digest
-  unfolding keepBlockVote·kept page.keepBlockVote
-  same·keepBlockVote = by-text
+  same-keep_block_vote : keep_block_vote-kept is-kept page.keep_block_vote digest
+  unfolding keep_block_vote-kept page.keep_block_vote
+  same-keep_block_vote = by-text
 
-  keep·kept : State → Bytes → Option Height
-  keep·kept s frame =
-      let x : Height = at s (frameHeight frame) in
+  keep-kept : State → Bytes → Option Height
+  keep-kept s frame =
+      let x : Height = at s (frame_height frame) in
       let k : ℕ = kind frame in
-      cond (isProposal k) (keepProposal (view s) x frame)
-      (cond (isBlockVote k) (keepBlockVote (view s) x frame)
-      (cond (isDummyVote k) (keepDummyVote x frame)
-      (cond (isFinalize k) (keepFinalize x frame)
-      (cond (isBlockCertificate k) (keepBlockCertificate x frame)
-      (cond (isDummyCertificate k) (keepDummyCertificate s.n x frame)
-      (keepFinalizeCertificate s.n x frame))))))
+      cond (is_proposal k) (keep_proposal (view s) x frame)
+      (cond (is_block_vote k) (keep_block_vote (view s) x frame)
+      (cond (is_dummy_vote k) (keep_dummy_vote x frame)
+      (cond (is_finalize k) (keep_finalize x frame)
+      (cond (is_block_certificate k) (keep_block_certificate x frame)
+      (cond (is_dummy_certificate k) (keep_dummy_certificate s.n x frame)
+      (keep_finalize_certificate s.n x frame))))))
 
-  same·keep : keep·kept is-kept page.keep digest
-  unfolding keep·kept page.keep
-  same·keep = by-text
+  same-keep : keep-kept is-kept page.keep digest
+  unfolding keep-kept page.keep
+  same-keep = by-text
 
-  kept·kept : Bytes → Bytes → Option Height → Outcome Delivery
-  kept·kept book frame none = record { answer = accepted known; book = book }
-  kept·kept book frame (some x) =
-      record { answer = accepted fresh; book = encode (withHeight (decode book) (frameHeight frame) x) }
+  kept-kept : Bytes → Bytes → Option Height → Outcome Delivery
+  kept-kept book frame none = record { answer = accepted known; book = book }
+  kept-kept book frame (some x) =
+      record { answer = accepted fresh; book = encode (with_height (decode book) (frame_height frame) x) }
 
-  same·kept : kept·kept is-kept page.kept digest
-  unfolding kept·kept page.kept
-  same·kept = by-text
+  same-kept : kept-kept is-kept page.kept digest
+  unfolding kept-kept page.kept
+  same-kept = by-text
 
-  deliverRows·kept : Bytes → Bytes → List Row
-  deliverRows·kept book frame =
-      (1, sound digest book) ∷ (readRows (decode book) frame ++ clashRows (decode book) frame)
+  deliver_rows-kept : Bytes → Bytes → List Row
+  deliver_rows-kept book frame =
+      (1, sound digest book) ∷ (read_rows (decode book) frame ++ clash_rows (decode book) frame)
 
-  same·deliverRows : deliverRows·kept is-kept page.deliverRows digest
-  unfolding deliverRows·kept page.deliverRows
-  same·deliverRows = by-text
+  same-deliver_rows : deliver_rows-kept is-kept page.deliver_rows digest
+  unfolding deliver_rows-kept page.deliver_rows
+  same-deliver_rows = by-text
 
-  heard·kept : Bytes → Bytes → Outcome Delivery
-  heard·kept book frame =
-      cond (leaderEquivocates (decode book) frame) (timerFires book) (kept book frame (keep (decode book) frame))
+  heard-kept : Bytes → Bytes → Outcome Delivery
+  heard-kept book frame =
+      cond (leader_equivocates (decode book) frame) (timer_fires book) (kept book frame (keep (decode book) frame))
 
-  same·heard : heard·kept is-kept page.heard digest
-  unfolding heard·kept page.heard
-  same·heard = by-text
+  same-heard : heard-kept is-kept page.heard digest
+  unfolding heard-kept page.heard
+  same-heard = by-text
 
-  deliverCall·kept : Bytes → Bytes → Outcome Delivery
-  deliverCall·kept book frame = unlessRefused (firstRefusal (deliverRows book frame)) book (heard book frame)
+  deliver_call-kept : Bytes → Bytes → Outcome Delivery
+  deliver_call-kept book frame = unless_refused (first_refusal (deliver_rows book frame)) book (heard book frame)
 
-  same·deliverCall : deliverCall·kept is-kept page.deliverCall digest
-  unfolding deliverCall·kept page.deliverCall
-  same·deliverCall = by-text
+  same-deliver_call : deliver_call-kept is-kept page.deliver_call digest
+  unfolding deliver_call-kept page.deliver_call
+  same-deliver_call = by-text
 
-  deliverAll·kept : Bytes → List Bytes → Bytes
-  deliverAll·kept book [] = book
-  deliverAll·kept book (frame ∷ frames) = deliverAll·kept (deliverCall book frame).book frames
+  deliver_all-kept : Bytes → List Bytes → Bytes
+  deliver_all-kept book [] = book
+  deliver_all-kept book (frame ∷ frames) = deliver_all-kept (deliver_call book frame).book frames
 
-  same·deliverAll : deliverAll·kept is-kept page.deliverAll digest
-  unfolding deliverAll·kept page.deliverAll
-  same·deliverAll = by-text
+  same-deliver_all : deliver_all-kept is-kept page.deliver_all digest
+  unfolding deliver_all-kept page.deliver_all
+  same-deliver_all = by-text

@@ -1,25 +1,25 @@
 -- Written by tests/restated --write: what docs/statements has of
--- crates/protocol/specs/Laws/LinkedLaws.antt.
-use package.Prim.Native.Nat.{ℕ, suc}
-use package.mathlib.Core.Path.{◌≡◌}
-use package.mathlib.Core.Bool.{true, ◌&&◌}
+-- crates/protocol/proofs/Laws/LinkedLaws.antt.
+use Prim.Native.Nat.{ℕ, suc}
+use Rattle.std.specs.Prelude.{◌≡◌, ◌&&◌}
+use Rattle.std.proofs.Math.Bool.{true}
 use package.Rattle.protocol.specs.Bytes.{Bytes}
 use package.Rattle.protocol.specs.View.{View, linked, extends}
-use package.Rattle.protocol.specs.View.{isFinalized}
+use package.Rattle.protocol.specs.View.{is_finalized}
 use package.Rattle.protocol.specs.Linked.{Linked, Finalized}
-use package.mathlib.Core.Path.{◌≡◌ as ◌is-kept◌, refl as by-text}
+use mathlib.Core.Path.{◌≡◌ as ◌is-kept◌, refl as by-text}
 use package.Rattle.protocol.proofs.Laws.LinkedLaws as page
 
 module _ (digest : Bytes → Bytes) where
-  pub linked-suc·kept : (v : View) (i : ℕ) → linked digest v
-      (suc i) ≡ (v.hasBlock (suc i) && extends digest v (suc i) (v.block (suc i)))
-  linked-suc·kept = page.linked-suc digest
+  pub linked_suc-kept : (v : View) (i : ℕ) → linked digest v
+      (suc i) ≡ (v.has_block (suc i) && extends digest v (suc i) (v.block (suc i)))
+  linked_suc-kept = page.linked_suc digest
 
-  pub linked-sound·kept : (v : View) (h : ℕ) → linked digest v h ≡ true → Linked digest v h
-  linked-sound·kept = page.linked-sound digest
+  pub linked_sound-kept : (v : View) (h : ℕ) → linked digest v h ≡ true → Linked digest v h
+  linked_sound-kept = page.linked_sound digest
 
-  pub linked-complete·kept : (v : View) {h : ℕ} → Linked digest v h → linked digest v h ≡ true
-  linked-complete·kept = page.linked-complete digest
+  pub linked_complete-kept : (v : View) {h : ℕ} → Linked digest v h → linked digest v h ≡ true
+  linked_complete-kept = page.linked_complete digest
 
-  pub finalized-sound·kept : (v : View) (h : ℕ) → isFinalized digest v h ≡ true → Finalized digest v h
-  finalized-sound·kept = page.finalized-sound digest
+  pub finalized_sound-kept : (v : View) (h : ℕ) → is_finalized digest v h ≡ true → Finalized digest v h
+  finalized_sound-kept = page.finalized_sound digest

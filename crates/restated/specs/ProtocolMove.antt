@@ -1,333 +1,329 @@
 -- Written by tests/restated --write: what docs/statements has of
 -- crates/protocol/specs/Move.antt.
-use package.Prim.Native.Nat.{ℕ, zero, suc, ◌+◌, ◌-◌}
-use package.mathlib.Core.Bool.{Bool, true, false, ◌&&◌, ◌||◌, not, cond}
-use package.mathlib.Core.List.{List, [], ◌∷◌, ◌++◌}
-use package.mathlib.Core.Option.{Option, some, none}
-use package.lib.ListN.{length, take}
-use package.lib.Dec.{eqb, leb, ltb}
-use package.Rattle.protocol.specs.Bytes.{Bytes, zeros, join, without, overFront}
-use package.Rattle.protocol.specs.Tests.{all_of, Row, firstRefusal}
-use package.Rattle.protocol.specs.Block.{blockEntries, newBlock}
-use package.Rattle.protocol.specs.Frame.{frameSize, proposal, blockVote, dummyVote, finalize}
-use package.Rattle.protocol.specs.State.{State, at, last, encode, decode, holdsProposal, flag, pending}
-use package.Rattle.protocol.specs.State.{with_head, withFlag}
-use package.Rattle.protocol.specs.View.{View, linked, isDummy, extends, largestFinalized, parent_of, digestAt, log_at}
+use Rattle.std.specs.Prelude.{ℕ, zero, suc, ◌+◌, ◌-◌, Bool, true, false, ◌&&◌, ◌||◌, not, cond, List, [], ◌∷◌, ◌++◌, length, take, eqb, leb, ltb}
+use Rattle.std.proofs.Math.Option.{Option, some, none}
+use package.Rattle.protocol.specs.Bytes.{Bytes, zeros, join, without, over_front}
+use package.Rattle.protocol.specs.Tests.{all_of, Row, first_refusal}
+use package.Rattle.protocol.specs.Block.{block_entries, new_block}
+use package.Rattle.protocol.specs.Frame.{frame_size, proposal, block_vote, dummy_vote, finalize}
+use package.Rattle.protocol.specs.State.{State, at, last, encode, decode, holds_proposal, flag, pending}
+use package.Rattle.protocol.specs.State.{with_head, with_flag}
+use package.Rattle.protocol.specs.View.{View, linked, is_dummy, extends, largest_finalized, parent_of, digest_at, log_at}
 use package.Rattle.protocol.specs.Sound.{view, sound}
-use package.Rattle.protocol.specs.Certificates.{certificateFrame}
-use package.Rattle.protocol.specs.Answer.{Answer, refused, accepted, Move, idle, voteDummy, output, pass, propose}
-use package.Rattle.protocol.specs.Answer.{voteBlock, Certificate, onBlock, onDummy, certificateKind}
-use package.Rattle.protocol.specs.Move.{Step, chosen, isRunning, unused, written, MoveOutcome, moved, firstStep, is_some, someOr, idleStep, dummyVoteApplies, dummyVoteStep, offered, unlessMoveRefused}
-use package.mathlib.Core.Path.{◌≡◌ as ◌is-kept◌, refl as by-text}
+use package.Rattle.protocol.specs.Certificates.{certificate_frame}
+use package.Rattle.protocol.specs.Answer.{Answer, refused, accepted, Move, idle, vote_dummy, output, pass, propose}
+use package.Rattle.protocol.specs.Answer.{vote_block, Certificate, on_block, on_dummy, certificate_kind}
+use package.Rattle.protocol.specs.Move.{Step, chosen, is_running, unused, written, MoveOutcome, moved, first_step, is_some, some_or, idle_step, dummy_vote_applies, dummy_vote_step, offered, unless_move_refused}
+use mathlib.Core.Path.{◌≡◌ as ◌is-kept◌, refl as by-text}
 use package.Rattle.protocol.specs.Move as page
 
-Step·kept : (move : Move) (after : State) (frames : List Bytes) →
+Step-kept : (move : Move) (after : State) (frames : List Bytes) →
     Step
-Step·kept x0 x1 x2 = record { move = x0; after = x1; frames = x2 }
+Step-kept x0 x1 x2 = record { move = x0; after = x1; frames = x2 }
 
-firstStep·kept : List (Bool × Step) → Step → Step
-firstStep·kept [] otherwise = otherwise
-firstStep·kept (row ∷ rows) otherwise = cond row.0 row.1 (firstStep·kept rows otherwise)
+first_step-kept : List (Bool × Step) → Step → Step
+first_step-kept [] otherwise = otherwise
+first_step-kept (row ∷ rows) otherwise = cond row.0 row.1 (first_step-kept rows otherwise)
 
-same·firstStep : firstStep·kept is-kept page.firstStep
-unfolding firstStep·kept page.firstStep
-same·firstStep = by-text
+same-first_step : first_step-kept is-kept page.first_step
+unfolding first_step-kept page.first_step
+same-first_step = by-text
 
-abbrev chosen·kept : List Bytes → List Bytes
-chosen·kept es = take blockEntries es
+abbrev chosen-kept : List Bytes → List Bytes
+chosen-kept es = take block_entries es
 
-same·chosen : chosen·kept is-kept page.chosen
-same·chosen = by-text
+same-chosen : chosen-kept is-kept page.chosen
+same-chosen = by-text
 
-isSome·kept : {A : Type 0} → Option A → Bool
-isSome·kept none = false
-isSome·kept (some x) = true
+is_some-kept : {A : Type 0} → Option A → Bool
+is_some-kept none = false
+is_some-kept (some x) = true
 
-same·isSome : {A : Type 0} → isSome·kept {A = A} is-kept page.is_some {A = A}
-unfolding isSome·kept page.is_some
-same·isSome = by-text
+same-is_some : {A : Type 0} → is_some-kept {A = A} is-kept page.is_some {A = A}
+unfolding is_some-kept page.is_some
+same-is_some = by-text
 
-someOr·kept : {A : Type 0} → A → Option A → A
-someOr·kept otherwise none = otherwise
-someOr·kept otherwise (some x) = x
+some_or-kept : {A : Type 0} → A → Option A → A
+some_or-kept otherwise none = otherwise
+some_or-kept otherwise (some x) = x
 
-same·someOr : {A : Type 0} → someOr·kept {A = A} is-kept page.someOr {A = A}
-unfolding someOr·kept page.someOr
-same·someOr = by-text
+same-some_or : {A : Type 0} → some_or-kept {A = A} is-kept page.some_or {A = A}
+unfolding some_or-kept page.some_or
+same-some_or = by-text
 
-isRunning·kept : State → Bool
-isRunning·kept s = leb s.current (last s)
+is_running-kept : State → Bool
+is_running-kept s = leb s.current (last s)
 
-same·isRunning : isRunning·kept is-kept page.isRunning
-unfolding isRunning·kept page.isRunning
-same·isRunning = by-text
+same-is_running : is_running-kept is-kept page.is_running
+unfolding is_running-kept page.is_running
+same-is_running = by-text
 
-idleStep·kept : State → Step
-idleStep·kept s = record { move = idle; after = s; frames = [] }
+idle_step-kept : State → Step
+idle_step-kept s = record { move = idle; after = s; frames = [] }
 
-same·idleStep : idleStep·kept is-kept page.idleStep
-unfolding idleStep·kept page.idleStep
-same·idleStep = by-text
+same-idle_step : idle_step-kept is-kept page.idle_step
+unfolding idle_step-kept page.idle_step
+same-idle_step = by-text
 
-dummyVoteApplies·kept : State → Bool
-dummyVoteApplies·kept s = all_of (isRunning s ∷ flag 1 s ∷ not (flag 2 s) ∷ [])
+dummy_vote_applies-kept : State → Bool
+dummy_vote_applies-kept s = all_of (is_running s ∷ flag 1 s ∷ not (flag 2 s) ∷ [])
 
-same·dummyVoteApplies : dummyVoteApplies·kept is-kept page.dummyVoteApplies
-unfolding dummyVoteApplies·kept page.dummyVoteApplies
-same·dummyVoteApplies = by-text
+same-dummy_vote_applies : dummy_vote_applies-kept is-kept page.dummy_vote_applies
+unfolding dummy_vote_applies-kept page.dummy_vote_applies
+same-dummy_vote_applies = by-text
 
-dummyVoteStep·kept : State → Step
-dummyVoteStep·kept s = record {
-  move = voteDummy s.current;
-  after = withFlag 2 s;
-  frames = dummyVote s.own s.current ∷ [];
+dummy_vote_step-kept : State → Step
+dummy_vote_step-kept s = record {
+  move = vote_dummy s.current;
+  after = with_flag 2 s;
+  frames = dummy_vote s.own s.current ∷ [];
 }
 
-same·dummyVoteStep : dummyVoteStep·kept is-kept page.dummyVoteStep
-unfolding dummyVoteStep·kept page.dummyVoteStep
-same·dummyVoteStep = by-text
+same-dummy_vote_step : dummy_vote_step-kept is-kept page.dummy_vote_step
+unfolding dummy_vote_step-kept page.dummy_vote_step
+same-dummy_vote_step = by-text
 
-offered·kept : State → ℕ → List Bytes
-offered·kept s j = chosen (without (log_at (view s) j) (pending s))
+offered-kept : State → ℕ → List Bytes
+offered-kept s j = chosen (without (log_at (view s) j) (pending s))
 
-same·offered : offered·kept is-kept page.offered
-unfolding offered·kept page.offered
-same·offered = by-text
+same-offered : offered-kept is-kept page.offered
+unfolding offered-kept page.offered
+same-offered = by-text
 
-unused·kept : Move → ℕ
-unused·kept idle = 0
-unused·kept (voteDummy h) = 0
-unused·kept (output g) = 0
-unused·kept (pass h certificate true) = 0
-unused·kept (pass h certificate false) = frameSize
-unused·kept (propose h) = 0
-unused·kept (voteBlock h) = 0
+unused-kept : Move → ℕ
+unused-kept idle = 0
+unused-kept (vote_dummy h) = 0
+unused-kept (output g) = 0
+unused-kept (pass h certificate true) = 0
+unused-kept (pass h certificate false) = frame_size
+unused-kept (propose h) = 0
+unused-kept (vote_block h) = 0
 
-same·unused : unused·kept is-kept page.unused
-unfolding unused·kept page.unused
-same·unused = by-text
+same-unused : unused-kept is-kept page.unused
+unfolding unused-kept page.unused
+same-unused = by-text
 
-written·kept : Step → Bytes
-written·kept st = join st.frames ++ zeros (unused st.move)
+written-kept : Step → Bytes
+written-kept st = join st.frames ++ zeros (unused st.move)
 
-same·written : written·kept is-kept page.written
-unfolding written·kept page.written
-same·written = by-text
+same-written : written-kept is-kept page.written
+unfolding written-kept page.written
+same-written = by-text
 
-MoveOutcome·kept : (answer : Answer Move) (book : Bytes) (reply : Bytes) (frames : List Bytes) →
+MoveOutcome-kept : (answer : Answer Move) (book : Bytes) (reply : Bytes) (frames : List Bytes) →
     MoveOutcome
-MoveOutcome·kept x0 x1 x2 x3 = record { answer = x0; book = x1; reply = x2; frames = x3 }
+MoveOutcome-kept x0 x1 x2 x3 = record { answer = x0; book = x1; reply = x2; frames = x3 }
 
-moved·kept : Bytes → Step → MoveOutcome
-moved·kept reply st = record {
+moved-kept : Bytes → Step → MoveOutcome
+moved-kept reply st = record {
   answer = accepted st.move;
   book = encode st.after;
-  reply = overFront (written st) reply;
+  reply = over_front (written st) reply;
   frames = st.frames;
 }
 
-same·moved : moved·kept is-kept page.moved
-unfolding moved·kept page.moved
-same·moved = by-text
+same-moved : moved-kept is-kept page.moved
+unfolding moved-kept page.moved
+same-moved = by-text
 
-unlessMoveRefused·kept : Option ℕ → Bytes → Bytes → Step → MoveOutcome
-unlessMoveRefused·kept none book reply st = moved reply st
-unlessMoveRefused·kept (some number) book reply st =
+unless_move_refused-kept : Option ℕ → Bytes → Bytes → Step → MoveOutcome
+unless_move_refused-kept none book reply st = moved reply st
+unless_move_refused-kept (some number) book reply st =
     record { answer = refused number; book = book; reply = reply; frames = [] }
 
-same·unlessMoveRefused : unlessMoveRefused·kept is-kept page.unlessMoveRefused
-unfolding unlessMoveRefused·kept page.unlessMoveRefused
-same·unlessMoveRefused = by-text
+same-unless_move_refused : unless_move_refused-kept is-kept page.unless_move_refused
+unfolding unless_move_refused-kept page.unless_move_refused
+same-unless_move_refused = by-text
 
 module _ (digest : Bytes → Bytes) where
-  abbrev newFinalized : State → ℕ
-  newFinalized = page.newFinalized digest
+  abbrev new_finalized : State → ℕ
+  new_finalized = page.new_finalized digest
 
-  abbrev outputApplies : State → Bool
-  outputApplies = page.outputApplies digest
+  abbrev output_applies : State → Bool
+  output_applies = page.output_applies digest
 
-  abbrev outputStep : State → Step
-  outputStep = page.outputStep digest
+  abbrev output_step : State → Step
+  output_step = page.output_step digest
 
-  abbrev parentBelow : State → Option ℕ
-  parentBelow = page.parentBelow digest
+  abbrev parent_below : State → Option ℕ
+  parent_below = page.parent_below digest
 
-  abbrev passesAt : View → ℕ → Bool
-  passesAt = page.passesAt digest
+  abbrev passes_at : View → ℕ → Bool
+  passes_at = page.passes_at digest
 
-  abbrev passApplies : State → Bool
-  passApplies = page.passApplies digest
+  abbrev pass_applies : State → Bool
+  pass_applies = page.pass_applies digest
 
-  abbrev passesBy : State → Certificate
-  passesBy = page.passesBy digest
+  abbrev passes_by : State → Certificate
+  passes_by = page.passes_by digest
 
-  abbrev passStep : State → Step
-  passStep = page.passStep digest
+  abbrev pass_step : State → Step
+  pass_step = page.pass_step digest
 
-  abbrev proposeApplies : State → Bool
-  proposeApplies = page.proposeApplies digest
+  abbrev propose_applies : State → Bool
+  propose_applies = page.propose_applies digest
 
-  abbrev proposedBlock : State → ℕ → Bytes
-  proposedBlock = page.proposedBlock digest
+  abbrev proposed_block : State → ℕ → Bytes
+  proposed_block = page.proposed_block digest
 
-  abbrev proposeStep : State → Step
-  proposeStep = page.proposeStep digest
+  abbrev propose_step : State → Step
+  propose_step = page.propose_step digest
 
-  abbrev blockVoteApplies : State → Bool
-  blockVoteApplies = page.blockVoteApplies digest
+  abbrev block_vote_applies : State → Bool
+  block_vote_applies = page.block_vote_applies digest
 
-  abbrev blockVoteStep : State → Step
-  blockVoteStep = page.blockVoteStep digest
+  abbrev block_vote_step : State → Step
+  block_vote_step = page.block_vote_step digest
 
   abbrev step : State → Step
   step = page.step digest
 
-  abbrev moveRows : Bytes → Bytes → List Row
-  moveRows = page.moveRows digest
+  abbrev move_rows : Bytes → Bytes → List Row
+  move_rows = page.move_rows digest
 
-  newFinalized·kept : State → ℕ
-  newFinalized·kept s = largestFinalized digest (view s) (last s)
+  new_finalized-kept : State → ℕ
+  new_finalized-kept s = largest_finalized digest (view s) (last s)
 
-  same·newFinalized : newFinalized·kept is-kept page.newFinalized digest
-  unfolding newFinalized·kept page.newFinalized
-  same·newFinalized = by-text
+  same-new_finalized : new_finalized-kept is-kept page.new_finalized digest
+  unfolding new_finalized-kept page.new_finalized
+  same-new_finalized = by-text
 
-  outputApplies·kept : State → Bool
-  outputApplies·kept s = ltb s.finalized (newFinalized s)
+  output_applies-kept : State → Bool
+  output_applies-kept s = ltb s.finalized (new_finalized s)
 
-  same·outputApplies : outputApplies·kept is-kept page.outputApplies digest
-  unfolding outputApplies·kept page.outputApplies
-  same·outputApplies = by-text
+  same-output_applies : output_applies-kept is-kept page.output_applies digest
+  unfolding output_applies-kept page.output_applies
+  same-output_applies = by-text
 
-  outputStep·kept : State → Step
-  outputStep·kept s = record {
-    move = output (newFinalized s);
-    after = with_head s s.flags s.current (newFinalized s);
+  output_step-kept : State → Step
+  output_step-kept s = record {
+    move = output (new_finalized s);
+    after = with_head s s.flags s.current (new_finalized s);
     frames = [];
   }
 
-  same·outputStep : outputStep·kept is-kept page.outputStep digest
-  unfolding outputStep·kept page.outputStep
-  same·outputStep = by-text
+  same-output_step : output_step-kept is-kept page.output_step digest
+  unfolding output_step-kept page.output_step
+  same-output_step = by-text
 
-  abbrev parentBelow·kept : State → Option ℕ
-  parentBelow·kept s = parent_of digest (view s) (s.current - 1)
+  abbrev parent_below-kept : State → Option ℕ
+  parent_below-kept s = parent_of digest (view s) (s.current - 1)
 
-  same·parentBelow : parentBelow·kept is-kept page.parentBelow digest
-  same·parentBelow = by-text
+  same-parent_below : parent_below-kept is-kept page.parent_below digest
+  same-parent_below = by-text
 
-  abbrev passesAt·kept : View → ℕ → Bool
-  passesAt·kept v c = linked digest v c || isDummy v c && is_some (parent_of digest v (c - 1))
+  abbrev passes_at-kept : View → ℕ → Bool
+  passes_at-kept v c = linked digest v c || is_dummy v c && is_some (parent_of digest v (c - 1))
 
-  same·passesAt : passesAt·kept is-kept page.passesAt digest
-  same·passesAt = by-text
+  same-passes_at : passes_at-kept is-kept page.passes_at digest
+  same-passes_at = by-text
 
-  passApplies·kept : State → Bool
-  passApplies·kept s = isRunning s && passesAt (view s) s.current
+  pass_applies-kept : State → Bool
+  pass_applies-kept s = is_running s && passes_at (view s) s.current
 
-  same·passApplies : passApplies·kept is-kept page.passApplies digest
-  unfolding passApplies·kept page.passApplies
-  same·passApplies = by-text
+  same-pass_applies : pass_applies-kept is-kept page.pass_applies digest
+  unfolding pass_applies-kept page.pass_applies
+  same-pass_applies = by-text
 
-  abbrev passesBy·kept : State → Certificate
-  passesBy·kept s = cond (linked digest (view s) s.current) onBlock onDummy
+  abbrev passes_by-kept : State → Certificate
+  passes_by-kept s = cond (linked digest (view s) s.current) on_block on_dummy
 
-  same·passesBy : passesBy·kept is-kept page.passesBy digest
-  same·passesBy = by-text
+  same-passes_by : passes_by-kept is-kept page.passes_by digest
+  same-passes_by = by-text
 
-  passStep·kept : State → Step
-  passStep·kept s =
+  pass_step-kept : State → Step
+  pass_step-kept s =
       let c : ℕ = s.current in
       let inTime : Bool = not (flag 1 s) in
       record {
-        move = pass c (passesBy s) inTime;
+        move = pass c (passes_by s) inTime;
         after = with_head s 0 (c + 1) s.finalized;
-        frames = certificateFrame s (certificateKind (passesBy s)) c ∷ cond inTime (finalize s.own c ∷ []) [];
+        frames = certificate_frame s (certificate_kind (passes_by s)) c ∷ cond inTime (finalize s.own c ∷ []) [];
       }
 
-  same·passStep : passStep·kept is-kept page.passStep digest
-  unfolding passStep·kept page.passStep
-  same·passStep = by-text
+  same-pass_step : pass_step-kept is-kept page.pass_step digest
+  unfolding pass_step-kept page.pass_step
+  same-pass_step = by-text
 
-  proposeApplies·kept : State → Bool
-  proposeApplies·kept s = all_of
-      (isRunning s ∷ eqb (at s s.current).leader s.own ∷ not (flag 8 s) ∷ is_some (parentBelow s) ∷ [])
+  propose_applies-kept : State → Bool
+  propose_applies-kept s = all_of
+      (is_running s ∷ eqb (at s s.current).leader s.own ∷ not (flag 8 s) ∷ is_some (parent_below s) ∷ [])
 
-  same·proposeApplies : proposeApplies·kept is-kept page.proposeApplies digest
-  unfolding proposeApplies·kept page.proposeApplies
-  same·proposeApplies = by-text
+  same-propose_applies : propose_applies-kept is-kept page.propose_applies digest
+  unfolding propose_applies-kept page.propose_applies
+  same-propose_applies = by-text
 
-  proposedBlock·kept : State → ℕ → Bytes
-  proposedBlock·kept s j = newBlock s.current j (digestAt digest (view s) j) (offered s j)
+  proposed_block-kept : State → ℕ → Bytes
+  proposed_block-kept s j = new_block s.current j (digest_at digest (view s) j) (offered s j)
 
-  same·proposedBlock : proposedBlock·kept is-kept page.proposedBlock digest
-  unfolding proposedBlock·kept page.proposedBlock
-  same·proposedBlock = by-text
+  same-proposed_block : proposed_block-kept is-kept page.proposed_block digest
+  unfolding proposed_block-kept page.proposed_block
+  same-proposed_block = by-text
 
-  proposeStep·kept : State → Step
-  proposeStep·kept s = record {
+  propose_step-kept : State → Step
+  propose_step-kept s = record {
     move = propose s.current;
-    after = withFlag 8 s;
-    frames = proposal s.own s.current (proposedBlock s (someOr 0 (parentBelow s))) ∷ [];
+    after = with_flag 8 s;
+    frames = proposal s.own s.current (proposed_block s (some_or 0 (parent_below s))) ∷ [];
   }
 
-  same·proposeStep : proposeStep·kept is-kept page.proposeStep digest
-  unfolding proposeStep·kept page.proposeStep
-  same·proposeStep = by-text
+  same-propose_step : propose_step-kept is-kept page.propose_step digest
+  unfolding propose_step-kept page.propose_step
+  same-propose_step = by-text
 
-  blockVoteApplies·kept : State → Bool
-  blockVoteApplies·kept s =
+  block_vote_applies-kept : State → Bool
+  block_vote_applies-kept s =
       let c : ℕ = s.current in
       all_of
-      (isRunning s ∷ not (flag 4 s) ∷ holdsProposal (at s c) ∷ extends digest (view s) c (at s c).proposal ∷ [])
+      (is_running s ∷ not (flag 4 s) ∷ holds_proposal (at s c) ∷ extends digest (view s) c (at s c).proposal ∷ [])
 
-  same·blockVoteApplies : blockVoteApplies·kept is-kept page.blockVoteApplies digest
-  unfolding blockVoteApplies·kept page.blockVoteApplies
-  same·blockVoteApplies = by-text
+  same-block_vote_applies : block_vote_applies-kept is-kept page.block_vote_applies digest
+  unfolding block_vote_applies-kept page.block_vote_applies
+  same-block_vote_applies = by-text
 
-  blockVoteStep·kept : State → Step
-  blockVoteStep·kept s = record {
-    move = voteBlock s.current;
-    after = withFlag 4 s;
-    frames = blockVote s.own s.current (digest (at s s.current).proposal) ∷ [];
+  block_vote_step-kept : State → Step
+  block_vote_step-kept s = record {
+    move = vote_block s.current;
+    after = with_flag 4 s;
+    frames = block_vote s.own s.current (digest (at s s.current).proposal) ∷ [];
   }
 
-  same·blockVoteStep : blockVoteStep·kept is-kept page.blockVoteStep digest
-  unfolding blockVoteStep·kept page.blockVoteStep
-  same·blockVoteStep = by-text
+  same-block_vote_step : block_vote_step-kept is-kept page.block_vote_step digest
+  unfolding block_vote_step-kept page.block_vote_step
+  same-block_vote_step = by-text
 
-  step·kept : State → Step
-  step·kept s =
-      firstStep
-      ((dummyVoteApplies s, dummyVoteStep s) ∷
-      (outputApplies s, outputStep s) ∷
-      (passApplies s, passStep s) ∷
-      (proposeApplies s, proposeStep s) ∷
-      (blockVoteApplies s, blockVoteStep s) ∷ [])
-      (idleStep s)
+  step-kept : State → Step
+  step-kept s =
+      first_step
+      ((dummy_vote_applies s, dummy_vote_step s) ∷
+      (output_applies s, output_step s) ∷
+      (pass_applies s, pass_step s) ∷
+      (propose_applies s, propose_step s) ∷
+      (block_vote_applies s, block_vote_step s) ∷ [])
+      (idle_step s)
 
-  same·step : step·kept is-kept page.step digest
-  unfolding step·kept page.step
-  same·step = by-text
+  same-step : step-kept is-kept page.step digest
+  unfolding step-kept page.step
+  same-step = by-text
 
-  afterMoves·kept : ℕ → State → State
-  afterMoves·kept zero s = s
-  afterMoves·kept (suc k) s = afterMoves·kept k (step s).after
+  after_moves-kept : ℕ → State → State
+  after_moves-kept zero s = s
+  after_moves-kept (suc k) s = after_moves-kept k (step s).after
 
-  same·afterMoves : afterMoves·kept is-kept page.afterMoves digest
-  unfolding afterMoves·kept page.afterMoves
-  same·afterMoves = by-text
+  same-after_moves : after_moves-kept is-kept page.after_moves digest
+  unfolding after_moves-kept page.after_moves
+  same-after_moves = by-text
 
-  moveRows·kept : Bytes → Bytes → List Row
-  moveRows·kept book reply = (1, sound digest book) ∷ (3, leb 448 (length reply)) ∷ []
+  move_rows-kept : Bytes → Bytes → List Row
+  move_rows-kept book reply = (1, sound digest book) ∷ (3, leb 448 (length reply)) ∷ []
 
-  same·moveRows : moveRows·kept is-kept page.moveRows digest
-  unfolding moveRows·kept page.moveRows
-  same·moveRows = by-text
+  same-move_rows : move_rows-kept is-kept page.move_rows digest
+  unfolding move_rows-kept page.move_rows
+  same-move_rows = by-text
 
-  moveCall·kept : Bytes → Bytes → MoveOutcome
-  moveCall·kept book reply = unlessMoveRefused (firstRefusal (moveRows book reply)) book reply (step (decode book))
+  move_call-kept : Bytes → Bytes → MoveOutcome
+  move_call-kept book reply = unless_move_refused (first_refusal (move_rows book reply)) book reply (step (decode book))
 
-  same·moveCall : moveCall·kept is-kept page.moveCall digest
-  unfolding moveCall·kept page.moveCall
-  same·moveCall = by-text
+  same-move_call : move_call-kept is-kept page.move_call digest
+  unfolding move_call-kept page.move_call
+  same-move_call = by-text

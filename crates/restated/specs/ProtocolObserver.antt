@@ -1,44 +1,42 @@
 -- Written by tests/restated --write: what docs/statements has of
 -- crates/protocol/specs/Observer.antt.
-use package.Prim.Native.Nat.{ℕ, ◌+◌, ◌*◌}
-use package.mathlib.Core.List.{List, [], ◌∷◌, ◌++◌, map}
-use package.lib.ListN.{drop}
+use Rattle.std.specs.Prelude.{ℕ, ◌+◌, ◌*◌, List, [], ◌∷◌, ◌++◌, map, drop}
 use package.Rattle.protocol.specs.Bytes.{Bytes, byte_at, word16, le16, zeros, join, pieces}
-use package.Rattle.protocol.specs.Block.{blockSize}
-use package.Rattle.protocol.specs.State.{State, Height, headBytes, bookHeights, bookFinalized, bookWeights, poolSize}
+use package.Rattle.protocol.specs.Block.{block_size}
+use package.Rattle.protocol.specs.State.{State, Height, head_bytes, book_heights, book_finalized, book_weights, pool_size}
 use package.Rattle.protocol.specs.View.{View}
 use package.Rattle.protocol.specs.Sound.{view}
-use package.Rattle.protocol.specs.Observer.{ObservedHeight, Observer, asReplicaHeight, asReplica, observedHeight, observedContentSize, observedContentBytes, observedBodyBytes, decodeObservedHeight, decodeObservedHeights, decodeObserver}
-use package.mathlib.Core.Path.{◌≡◌ as ◌is-kept◌, refl as by-text}
+use package.Rattle.protocol.specs.Observer.{ObservedHeight, Observer, as_replica_height, as_replica, observed_height, observed_content_size, observed_content_bytes, observed_body_bytes, decode_observed_height, decode_observed_heights, decode_observer}
+use mathlib.Core.Path.{◌≡◌ as ◌is-kept◌, refl as by-text}
 use package.Rattle.protocol.specs.Observer as page
 
-ObservedHeight·kept : (status : ℕ) (certificateMask : ℕ) (dummyMask : ℕ) (finalizeMask : ℕ) (notarized : Bytes) →
+ObservedHeight-kept : (status : ℕ) (certificate_mask : ℕ) (dummy_mask : ℕ) (finalize_mask : ℕ) (notarized : Bytes) →
     ObservedHeight
-ObservedHeight·kept x0 x1 x2 x3 x4 = record { status = x0; certificateMask = x1; dummyMask = x2; finalizeMask = x3; notarized = x4 }
+ObservedHeight-kept x0 x1 x2 x3 x4 = record { status = x0; certificate_mask = x1; dummy_mask = x2; finalize_mask = x3; notarized = x4 }
 
-Observer·kept : (edition : ℕ) (n : ℕ) (weights : List ℕ) (finalized : ℕ) (heights : List ObservedHeight) →
+Observer-kept : (edition : ℕ) (n : ℕ) (weights : List ℕ) (finalized : ℕ) (heights : List ObservedHeight) →
     Observer
-Observer·kept x0 x1 x2 x3 x4 = record { edition = x0; n = x1; weights = x2; finalized = x3; heights = x4 }
+Observer-kept x0 x1 x2 x3 x4 = record { edition = x0; n = x1; weights = x2; finalized = x3; heights = x4 }
 
-asReplicaHeight·kept : ObservedHeight → Height
-asReplicaHeight·kept x = record {
+as_replica_height-kept : ObservedHeight → Height
+as_replica_height-kept x = record {
   leader = 0;
   status = x.status;
-  certificateMask = x.certificateMask;
-  dummyMask = x.dummyMask;
-  finalizeMask = x.finalizeMask;
-  voterMask = 0;
+  certificate_mask = x.certificate_mask;
+  dummy_mask = x.dummy_mask;
+  finalize_mask = x.finalize_mask;
+  voter_mask = 0;
   proposal = zeros 176;
   notarized = x.notarized;
-  voteDigests = zeros 512;
+  vote_digests = zeros 512;
 }
 
-same·asReplicaHeight : asReplicaHeight·kept is-kept page.asReplicaHeight
-unfolding asReplicaHeight·kept page.asReplicaHeight
-same·asReplicaHeight = by-text
+same-as_replica_height : as_replica_height-kept is-kept page.as_replica_height
+unfolding as_replica_height-kept page.as_replica_height
+same-as_replica_height = by-text
 
-asReplica·kept : Observer → State
-asReplica·kept o = record {
+as_replica-kept : Observer → State
+as_replica-kept o = record {
   edition = o.edition;
   n = o.n;
   weights = o.weights;
@@ -46,127 +44,127 @@ asReplica·kept o = record {
   flags = 0;
   current = 0;
   finalized = o.finalized;
-  pendingCount = 0;
-  pool = zeros poolSize;
-  heights = map asReplicaHeight o.heights;
+  pending_count = 0;
+  pool = zeros pool_size;
+  heights = map as_replica_height o.heights;
 }
 
-same·asReplica : asReplica·kept is-kept page.asReplica
-unfolding asReplica·kept page.asReplica
-same·asReplica = by-text
+same-as_replica : as_replica-kept is-kept page.as_replica
+unfolding as_replica-kept page.as_replica
+same-as_replica = by-text
 
-observedHeight·kept : Height → ObservedHeight
-observedHeight·kept x = record {
+observed_height-kept : Height → ObservedHeight
+observed_height-kept x = record {
   status = x.status;
-  certificateMask = x.certificateMask;
-  dummyMask = x.dummyMask;
-  finalizeMask = x.finalizeMask;
+  certificate_mask = x.certificate_mask;
+  dummy_mask = x.dummy_mask;
+  finalize_mask = x.finalize_mask;
   notarized = x.notarized;
 }
 
-same·observedHeight : observedHeight·kept is-kept page.observedHeight
-unfolding observedHeight·kept page.observedHeight
-same·observedHeight = by-text
+same-observed_height : observed_height-kept is-kept page.observed_height
+unfolding observed_height-kept page.observed_height
+same-observed_height = by-text
 
-observed·kept : State → Observer
-observed·kept s = record {
+observed-kept : State → Observer
+observed-kept s = record {
   edition = s.edition;
   n = s.n;
   weights = s.weights;
   finalized = s.finalized;
-  heights = map observedHeight s.heights;
+  heights = map observed_height s.heights;
 }
 
-same·observed : observed·kept is-kept page.observed
-unfolding observed·kept page.observed
-same·observed = by-text
+same-observed : observed-kept is-kept page.observed
+unfolding observed-kept page.observed
+same-observed = by-text
 
-abbrev observerView·kept : Observer → View
-observerView·kept o = view (asReplica o)
+abbrev observer_view-kept : Observer → View
+observer_view-kept o = view (as_replica o)
 
-same·observerView : observerView·kept is-kept page.observerView
-same·observerView = by-text
+same-observer_view : observer_view-kept is-kept page.observer_view
+same-observer_view = by-text
 
-abbrev observedContentSize·kept : ℕ
-observedContentSize·kept = 8
+abbrev observed_content_size-kept : ℕ
+observed_content_size-kept = 8
 
-same·observedContentSize : observedContentSize·kept is-kept page.observedContentSize
-same·observedContentSize = by-text
+same-observed_content_size : observed_content_size-kept is-kept page.observed_content_size
+same-observed_content_size = by-text
 
-observerBookSize·kept : ℕ → ℕ
-observerBookSize·kept heights = 64 + 184 * heights
+observer_book_size-kept : ℕ → ℕ
+observer_book_size-kept heights = 64 + 184 * heights
 
-same·observerBookSize : observerBookSize·kept is-kept page.observerBookSize
-unfolding observerBookSize·kept page.observerBookSize
-same·observerBookSize = by-text
+same-observer_book_size : observer_book_size-kept is-kept page.observer_book_size
+unfolding observer_book_size-kept page.observer_book_size
+same-observer_book_size = by-text
 
-observedContentBytes·kept : ObservedHeight → Bytes
-observedContentBytes·kept x =
-    (x.status ∷ 0 ∷ []) ++ (le16 x.certificateMask ++ (le16 x.dummyMask ++ le16 x.finalizeMask))
+observed_content_bytes-kept : ObservedHeight → Bytes
+observed_content_bytes-kept x =
+    (x.status ∷ 0 ∷ []) ++ (le16 x.certificate_mask ++ (le16 x.dummy_mask ++ le16 x.finalize_mask))
 
-same·observedContentBytes : observedContentBytes·kept is-kept page.observedContentBytes
-unfolding observedContentBytes·kept page.observedContentBytes
-same·observedContentBytes = by-text
+same-observed_content_bytes : observed_content_bytes-kept is-kept page.observed_content_bytes
+unfolding observed_content_bytes-kept page.observed_content_bytes
+same-observed_content_bytes = by-text
 
-observedBodyBytes·kept : ObservedHeight → Bytes
-observedBodyBytes·kept x = x.notarized
+observed_body_bytes-kept : ObservedHeight → Bytes
+observed_body_bytes-kept x = x.notarized
 
-same·observedBodyBytes : observedBodyBytes·kept is-kept page.observedBodyBytes
-unfolding observedBodyBytes·kept page.observedBodyBytes
-same·observedBodyBytes = by-text
+same-observed_body_bytes : observed_body_bytes-kept is-kept page.observed_body_bytes
+unfolding observed_body_bytes-kept page.observed_body_bytes
+same-observed_body_bytes = by-text
 
-encodeObserver·kept : Observer → Bytes
-encodeObserver·kept o =
-    headBytes (asReplica o) ++
-    (join (map observedContentBytes o.heights) ++ join (map observedBodyBytes o.heights))
+encode_observer-kept : Observer → Bytes
+encode_observer-kept o =
+    head_bytes (as_replica o) ++
+    (join (map observed_content_bytes o.heights) ++ join (map observed_body_bytes o.heights))
 
-same·encodeObserver : encodeObserver·kept is-kept page.encodeObserver
-unfolding encodeObserver·kept page.encodeObserver
-same·encodeObserver = by-text
+same-encode_observer : encode_observer-kept is-kept page.encode_observer
+unfolding encode_observer-kept page.encode_observer
+same-encode_observer = by-text
 
-decodeObservedHeight·kept : Bytes → Bytes → ObservedHeight
-decodeObservedHeight·kept content body = record {
+decode_observed_height-kept : Bytes → Bytes → ObservedHeight
+decode_observed_height-kept content body = record {
   status = byte_at content 0;
-  certificateMask = word16 content 2;
-  dummyMask = word16 content 4;
-  finalizeMask = word16 content 6;
+  certificate_mask = word16 content 2;
+  dummy_mask = word16 content 4;
+  finalize_mask = word16 content 6;
   notarized = body;
 }
 
-same·decodeObservedHeight : decodeObservedHeight·kept is-kept page.decodeObservedHeight
-unfolding decodeObservedHeight·kept page.decodeObservedHeight
-same·decodeObservedHeight = by-text
+same-decode_observed_height : decode_observed_height-kept is-kept page.decode_observed_height
+unfolding decode_observed_height-kept page.decode_observed_height
+same-decode_observed_height = by-text
 
-decodeObservedHeights·kept : List Bytes → List Bytes → List ObservedHeight
-decodeObservedHeights·kept [] [] = []
-decodeObservedHeights·kept [] (body ∷ bodies) = []
-decodeObservedHeights·kept (content ∷ contents) [] = []
-decodeObservedHeights·kept (content ∷ contents) (body ∷ bodies) =
-    decodeObservedHeight content body ∷ decodeObservedHeights·kept contents bodies
+decode_observed_heights-kept : List Bytes → List Bytes → List ObservedHeight
+decode_observed_heights-kept [] [] = []
+decode_observed_heights-kept [] (body ∷ bodies) = []
+decode_observed_heights-kept (content ∷ contents) [] = []
+decode_observed_heights-kept (content ∷ contents) (body ∷ bodies) =
+    decode_observed_height content body ∷ decode_observed_heights-kept contents bodies
 
-same·decodeObservedHeights : decodeObservedHeights·kept is-kept page.decodeObservedHeights
-unfolding decodeObservedHeights·kept page.decodeObservedHeights
-same·decodeObservedHeights = by-text
+same-decode_observed_heights : decode_observed_heights-kept is-kept page.decode_observed_heights
+unfolding decode_observed_heights-kept page.decode_observed_heights
+same-decode_observed_heights = by-text
 
-decodeObserver·kept : Bytes → Observer
-decodeObserver·kept book =
-    let heights : ℕ = bookHeights book in
+decode_observer-kept : Bytes → Observer
+decode_observer-kept book =
+    let heights : ℕ = book_heights book in
     record {
       edition = byte_at book 7;
       n = byte_at book 0;
-      weights = bookWeights book;
-      finalized = bookFinalized book;
-      heights = decodeObservedHeights
-          (pieces observedContentSize heights (drop 64 book))
-          (pieces blockSize heights (drop (64 + observedContentSize * heights) book));
+      weights = book_weights book;
+      finalized = book_finalized book;
+      heights = decode_observed_heights
+          (pieces observed_content_size heights (drop 64 book))
+          (pieces block_size heights (drop (64 + observed_content_size * heights) book));
     }
 
-same·decodeObserver : decodeObserver·kept is-kept page.decodeObserver
-unfolding decodeObserver·kept page.decodeObserver
-same·decodeObserver = by-text
+same-decode_observer : decode_observer-kept is-kept page.decode_observer
+unfolding decode_observer-kept page.decode_observer
+same-decode_observer = by-text
 
-abbrev observerState·kept : Bytes → State
-observerState·kept book = asReplica (decodeObserver book)
+abbrev observer_state-kept : Bytes → State
+observer_state-kept book = as_replica (decode_observer book)
 
-same·observerState : observerState·kept is-kept page.observerState
-same·observerState = by-text
+same-observer_state : observer_state-kept is-kept page.observer_state
+same-observer_state = by-text

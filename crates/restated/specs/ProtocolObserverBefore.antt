@@ -1,69 +1,65 @@
 -- Written by tests/restated --write: what docs/statements has of
 -- crates/protocol/specs/ObserverBefore.antt.
-use package.Prim.Native.Nat.{ℕ, ◌+◌, ◌*◌}
-use package.mathlib.Core.Bool.{Bool, ◌||◌}
-use package.mathlib.Core.List.{List, [], ◌∷◌}
-use package.lib.ListN.{length, drop}
-use package.lib.Dec.{eqb}
+use Rattle.std.specs.Prelude.{ℕ, ◌+◌, ◌*◌, Bool, ◌||◌, List, [], ◌∷◌, length, drop, eqb}
 use package.Rattle.protocol.specs.Bytes.{Bytes, byte_at, is_zero, pieces}
-use package.Rattle.protocol.specs.Tests.{all_of, implies, inRange, everyHeight}
-use package.Rattle.protocol.specs.Block.{blockSize}
-use package.Rattle.protocol.specs.State.{State, at, bookWeights, isNotarized, maximumReplicas}
-use package.Rattle.protocol.specs.View.{quorum, isFinalized}
-use package.Rattle.protocol.specs.Sound.{view, masksBelow, weightsFit}
-use package.Rattle.protocol.specs.Observer.{Observer, asReplica, decodeObservedHeights, observerBookSize}
-use package.Rattle.protocol.specs.Observer.{observedContentSize}
-use package.Rattle.protocol.specs.ObserverSound.{observedZero}
-use package.Rattle.protocol.specs.Before.{blockBefore, unusedBefore}
-use package.Rattle.protocol.specs.ObserverBefore.{decodeObserverBefore}
-use package.mathlib.Core.Path.{◌≡◌ as ◌is-kept◌, refl as by-text}
+use package.Rattle.protocol.specs.Tests.{all_of, implies, in_range, every_height}
+use package.Rattle.protocol.specs.Block.{block_size}
+use package.Rattle.protocol.specs.State.{State, at, book_weights, is_notarized, maximum_replicas}
+use package.Rattle.protocol.specs.View.{quorum, is_finalized}
+use package.Rattle.protocol.specs.Sound.{view, masks_below, weights_fit}
+use package.Rattle.protocol.specs.Observer.{Observer, as_replica, decode_observed_heights, observer_book_size}
+use package.Rattle.protocol.specs.Observer.{observed_content_size}
+use package.Rattle.protocol.specs.ObserverSound.{observed_zero}
+use package.Rattle.protocol.specs.Before.{block_before, unused_before}
+use package.Rattle.protocol.specs.ObserverBefore.{decode_observer_before}
+use mathlib.Core.Path.{◌≡◌ as ◌is-kept◌, refl as by-text}
 use package.Rattle.protocol.specs.ObserverBefore as page
 
-decodeObserverBefore·kept : Bytes → Observer
-decodeObserverBefore·kept book =
+decode_observer_before-kept : Bytes → Observer
+decode_observer_before-kept book =
     let heights : ℕ = byte_at book 2 in
     record {
       edition = byte_at book 7;
       n = byte_at book 0;
-      weights = bookWeights book;
+      weights = book_weights book;
       finalized = byte_at book 5;
-      heights = decodeObservedHeights
-          (pieces observedContentSize heights (drop 64 book))
-          (pieces blockSize heights (drop (64 + observedContentSize * heights) book));
+      heights = decode_observed_heights
+          (pieces observed_content_size heights (drop 64 book))
+          (pieces block_size heights (drop (64 + observed_content_size * heights) book));
     }
 
-same·decodeObserverBefore : decodeObserverBefore·kept is-kept page.decodeObserverBefore
-unfolding decodeObserverBefore·kept page.decodeObserverBefore
-same·decodeObserverBefore = by-text
+same-decode_observer_before : decode_observer_before-kept is-kept page.decode_observer_before
+unfolding decode_observer_before-kept page.decode_observer_before
+same-decode_observer_before = by-text
 
 module _ (digest : Bytes → Bytes) where
-  abbrev observerRowsBefore : (latest : ℕ) → Bytes → State → ℕ → List Bool
-  observerRowsBefore = page.observerRowsBefore digest
+  abbrev observer_rows_before : (latest : ℕ) → Bytes → State → ℕ → List Bool
+  observer_rows_before = page.observer_rows_before digest
 
-  observerRowsBefore·kept : (latest : ℕ) → Bytes → State → ℕ → List Bool
-  observerRowsBefore·kept latest book s heights =
-      eqb (length book) (observerBookSize heights) ∷
-      inRange 1 maximumReplicas s.n ∷
-      inRange 1 63 heights ∷
-      inRange 1 latest s.edition ∷
-      weightsFit s.n s.weights ∷
-      everyHeight (λ h. masksBelow s.n (at s h)) heights ∷
-      everyHeight (λ h. eqb (at s h).status 0 || eqb (at s h).status 2) heights ∷
-      everyHeight (λ h. implies (isNotarized (at s h)) (blockBefore h (at s h).notarized)) heights ∷
-      everyHeight (λ h. implies (isNotarized (at s h)) (quorum (view s) (at s h).certificateMask)) heights ∷
+  observer_rows_before-kept : (latest : ℕ) → Bytes → State → ℕ → List Bool
+  observer_rows_before-kept latest book s heights =
+      eqb (length book) (observer_book_size heights) ∷
+      in_range 1 maximum_replicas s.n ∷
+      in_range 1 63 heights ∷
+      in_range 1 latest s.edition ∷
+      weights_fit s.n s.weights ∷
+      every_height (λ h. masks_below s.n (at s h)) heights ∷
+      every_height (λ h. eqb (at s h).status 0 || eqb (at s h).status 2) heights ∷
+      every_height (λ h. implies (is_notarized (at s h)) (block_before h (at s h).notarized)) heights ∷
+      every_height (λ h. implies (is_notarized (at s h)) (quorum (view s) (at s h).certificate_mask)) heights ∷
       is_zero (byte_at book 1 ∷ byte_at book 3 ∷ byte_at book 4 ∷ byte_at book 6 ∷ []) ∷
-      is_zero (unusedBefore book) ∷
-      everyHeight (λ h. eqb (observedZero book h) 0) heights ∷
-      (eqb s.finalized 0 || isFinalized digest (view s) s.finalized) ∷ []
+      is_zero (unused_before book) ∷
+      every_height (λ h. eqb (observed_zero book h) 0) heights ∷
+      (eqb s.finalized 0 || is_finalized digest (view s) s.finalized) ∷ []
 
-  same·observerRowsBefore : observerRowsBefore·kept is-kept page.observerRowsBefore digest
-  unfolding observerRowsBefore·kept page.observerRowsBefore
-  same·observerRowsBefore = by-text
+  same-observer_rows_before : observer_rows_before-kept is-kept page.observer_rows_before digest
+  unfolding observer_rows_before-kept page.observer_rows_before
+  same-observer_rows_before = by-text
 
-  observerSoundBefore·kept : (latest : ℕ) → Bytes → Bool
-  observerSoundBefore·kept latest book =
-      all_of (observerRowsBefore latest book (asReplica (decodeObserverBefore book)) (byte_at book 2))
+  observer_sound_before-kept : (latest : ℕ) → Bytes → Bool
+  observer_sound_before-kept latest book =
+      all_of (observer_rows_before latest book (as_replica (decode_observer_before book)) (byte_at book 2))
 
-  same·observerSoundBefore : observerSoundBefore·kept is-kept page.observerSoundBefore digest
-  unfolding observerSoundBefore·kept page.observerSoundBefore
-  same·observerSoundBefore = by-text
+  same-observer_sound_before : observer_sound_before-kept is-kept page.observer_sound_before digest
+  unfolding observer_sound_before-kept page.observer_sound_before
+  same-observer_sound_before = by-text

@@ -1,82 +1,78 @@
 -- Written by tests/restated --write: what docs/statements has of
 -- crates/protocol/specs/Open.antt.
-use package.Prim.Native.Nat.{ℕ, ◌*◌}
-use package.mathlib.Core.Bool.{Bool, true, ◌&&◌}
-use package.mathlib.Core.List.{List, [], ◌∷◌, map}
-use package.lib.ListN.{length, replicate}
-use package.lib.Dec.{eqb, ltb}
+use Rattle.std.specs.Prelude.{ℕ, ◌*◌, Bool, true, ◌&&◌, List, [], ◌∷◌, map, length, replicate, eqb, ltb}
 use package.Rattle.protocol.specs.Bytes.{Bytes, zeros, all}
-use package.Rattle.protocol.specs.Tests.{all_of, inRange, Row, firstRefusal}
-use package.Rattle.protocol.specs.State.{mostHeights}
-use package.Rattle.protocol.specs.State.{State, Height, encode, bookSize, poolSize, maximumReplicas, maximumWeight}
+use package.Rattle.protocol.specs.Tests.{all_of, in_range, Row, first_refusal}
+use package.Rattle.protocol.specs.State.{most_heights}
+use package.Rattle.protocol.specs.State.{State, Height, encode, book_size, pool_size, maximum_replicas, maximum_weight}
 use package.Rattle.protocol.specs.State.{padded, words}
-use package.Rattle.protocol.specs.Answer.{Outcome, Done, done, accepted, unlessRefused}
-use package.Rattle.protocol.specs.Open.{newHeight, Opening, unweighed, weighed, long, openedEdition, openedWeights, weightsInRange, startState, newState, openInRange, open_rows}
-use package.mathlib.Core.Path.{◌≡◌ as ◌is-kept◌, refl as by-text}
+use package.Rattle.protocol.specs.Answer.{Outcome, Done, done, accepted, unless_refused}
+use package.Rattle.protocol.specs.Open.{new_height, Opening, unweighed, weighed, long, opened_edition, opened_weights, weights_in_range, start_state, new_state, open_in_range, open_rows}
+use mathlib.Core.Path.{◌≡◌ as ◌is-kept◌, refl as by-text}
 use package.Rattle.protocol.specs.Open as page
 
-newHeight·kept : ℕ → Height
-newHeight·kept leader = record {
+new_height-kept : ℕ → Height
+new_height-kept leader = record {
   leader = leader;
   status = 0;
-  certificateMask = 0;
-  dummyMask = 0;
-  finalizeMask = 0;
-  voterMask = 0;
+  certificate_mask = 0;
+  dummy_mask = 0;
+  finalize_mask = 0;
+  voter_mask = 0;
   proposal = zeros 176;
   notarized = zeros 176;
-  voteDigests = zeros 512;
+  vote_digests = zeros 512;
 }
 
-same·newHeight : newHeight·kept is-kept page.newHeight
-unfolding newHeight·kept page.newHeight
-same·newHeight = by-text
+same-new_height : new_height-kept is-kept page.new_height
+unfolding new_height-kept page.new_height
+same-new_height = by-text
 
-Opening·unweighed·kept : Opening
-Opening·unweighed·kept = page.Opening.unweighed
+Opening-unweighed-kept : Opening
+Opening-unweighed-kept = page.Opening.unweighed
 
-Opening·weighed·kept : (weights : Bytes) → Opening
-Opening·weighed·kept = page.Opening.weighed
+Opening-weighed-kept : (weights : Bytes) → Opening
+Opening-weighed-kept = page.Opening.weighed
 
-Opening·long·kept : (weights : Bytes) → Opening
-Opening·long·kept = page.Opening.long
+Opening-long-kept : (weights : Bytes) → Opening
+Opening-long-kept = page.Opening.long
 
-Opening·apart : Opening → Unit {0}
-Opening·apart (page.Opening.unweighed) = tt
-Opening·apart (page.Opening.weighed _) = tt
-Opening·apart (page.Opening.long _) = tt
+Opening-apart : Opening → Unit {0}
+Opening-apart (page.Opening.unweighed) = tt
+Opening-apart (page.Opening.weighed _) = tt
+Opening-apart (page.Opening.long _) = tt
 
-openedEdition·kept : Opening → ℕ
-openedEdition·kept unweighed = 1
-openedEdition·kept (weighed weights) = 2
-openedEdition·kept (long weights) = 3
+opened_edition-kept : Opening → ℕ
+opened_edition-kept unweighed = 1
+opened_edition-kept (weighed weights) = 2
+opened_edition-kept (long weights) = 3
 
-same·openedEdition : openedEdition·kept is-kept page.openedEdition
-unfolding openedEdition·kept page.openedEdition
-same·openedEdition = by-text
+same-opened_edition : opened_edition-kept is-kept page.opened_edition
+unfolding opened_edition-kept page.opened_edition
+same-opened_edition = by-text
 
-openedWeights·kept : ℕ → Opening → List ℕ
-openedWeights·kept n unweighed = replicate n 1
-openedWeights·kept n (weighed weights) = words n weights
-openedWeights·kept n (long weights) = words n weights
+opened_weights-kept : ℕ → Opening → List ℕ
+opened_weights-kept n unweighed = replicate n 1
+opened_weights-kept n (weighed weights) = words n weights
+opened_weights-kept n (long weights) = words n weights
 
-same·openedWeights : openedWeights·kept is-kept page.openedWeights
-unfolding openedWeights·kept page.openedWeights
-same·openedWeights = by-text
+same-opened_weights : opened_weights-kept is-kept page.opened_weights
+unfolding opened_weights-kept page.opened_weights
+same-opened_weights = by-text
 
-weightsInRange·kept : ℕ → Opening → Bool
-weightsInRange·kept n unweighed = true
-weightsInRange·kept n (weighed weights) =
-    eqb (length weights) (2 * n) && all (λ w. inRange 1 maximumWeight w) (words n weights)
-weightsInRange·kept n (long weights) =
-    eqb (length weights) (2 * n) && all (λ w. inRange 1 maximumWeight w) (words n weights)
+weights_in_range-kept : ℕ → Opening → Bool
+weights_in_range-kept n unweighed = true
+weights_in_range-kept n (weighed weights) =
+    eqb (length weights) (2 * n) && all (λ w. in_range 1 maximum_weight w) (words n weights)
+weights_in_range-kept n (long weights) =
+    eqb (length weights) (2 * n) && all (λ w. in_range 1 maximum_weight w) (words n weights)
 
-same·weightsInRange : weightsInRange·kept is-kept page.weightsInRange
-unfolding weightsInRange·kept page.weightsInRange
-same·weightsInRange = by-text
+same-weights_in_range : weights_in_range-kept is-kept page.weights_in_range
+unfolding weights_in_range-kept page.weights_in_range
+same-weights_in_range = by-text
 
-abbrev startState·kept : (edition n : ℕ) (weights : List ℕ) (own flags : ℕ) → List Height → State
-startState·kept edition n weights own flags heights = record {
+abbrev start_state-kept : (edition n : ℕ) (weights : List ℕ) (own flags : ℕ) → List Height → State
+start_state-kept edition n weights own flags heights = record {
   edition = edition;
   n = n;
   weights = padded weights;
@@ -84,48 +80,48 @@ startState·kept edition n weights own flags heights = record {
   flags = flags;
   current = 1;
   finalized = 0;
-  pendingCount = 0;
-  pool = zeros poolSize;
+  pending_count = 0;
+  pool = zeros pool_size;
   heights = heights;
 }
 
-same·startState : startState·kept is-kept page.startState
-same·startState = by-text
+same-start_state : start_state-kept is-kept page.start_state
+same-start_state = by-text
 
-newState·kept : Opening → ℕ → ℕ → Bytes → State
-newState·kept way n own leaders = startState (openedEdition way) n (openedWeights n way) own 0 (map newHeight leaders)
+new_state-kept : Opening → ℕ → ℕ → Bytes → State
+new_state-kept way n own leaders = start_state (opened_edition way) n (opened_weights n way) own 0 (map new_height leaders)
 
-same·newState : newState·kept is-kept page.newState
-unfolding newState·kept page.newState
-same·newState = by-text
+same-new_state : new_state-kept is-kept page.new_state
+unfolding new_state-kept page.new_state
+same-new_state = by-text
 
-openInRange·kept : Opening → ℕ → ℕ → ℕ → Bytes → Bool
-openInRange·kept way n own heights leaders = all_of
-    (inRange 1 maximumReplicas n ∷
+open_in_range-kept : Opening → ℕ → ℕ → ℕ → Bytes → Bool
+open_in_range-kept way n own heights leaders = all_of
+    (in_range 1 maximum_replicas n ∷
     ltb own n ∷
-    inRange 1 (mostHeights (openedEdition way)) heights ∷
+    in_range 1 (most_heights (opened_edition way)) heights ∷
     eqb (length leaders) heights ∷
     all (λ leader. ltb leader n) leaders ∷
-    weightsInRange n way ∷ [])
+    weights_in_range n way ∷ [])
 
-same·openInRange : openInRange·kept is-kept page.openInRange
-unfolding openInRange·kept page.openInRange
-same·openInRange = by-text
+same-open_in_range : open_in_range-kept is-kept page.open_in_range
+unfolding open_in_range-kept page.open_in_range
+same-open_in_range = by-text
 
-openRows·kept : Opening → Bytes → ℕ → ℕ → ℕ → Bytes → List Row
-openRows·kept way book n own heights leaders =
-    (2, openInRange way n own heights leaders) ∷
-    (1, eqb (length book) (bookSize heights)) ∷ []
+open_rows-kept : Opening → Bytes → ℕ → ℕ → ℕ → Bytes → List Row
+open_rows-kept way book n own heights leaders =
+    (2, open_in_range way n own heights leaders) ∷
+    (1, eqb (length book) (book_size heights)) ∷ []
 
-same·openRows : openRows·kept is-kept page.open_rows
-unfolding openRows·kept page.open_rows
-same·openRows = by-text
+same-open_rows : open_rows-kept is-kept page.open_rows
+unfolding open_rows-kept page.open_rows
+same-open_rows = by-text
 
-openCall·kept : Opening → Bytes → ℕ → ℕ → ℕ → Bytes → Outcome Done
-openCall·kept way book n own heights leaders =
-    unlessRefused (firstRefusal (open_rows way book n own heights leaders)) book
-    (record { answer = accepted done; book = encode (newState way n own leaders) })
+open_call-kept : Opening → Bytes → ℕ → ℕ → ℕ → Bytes → Outcome Done
+open_call-kept way book n own heights leaders =
+    unless_refused (first_refusal (open_rows way book n own heights leaders)) book
+    (record { answer = accepted done; book = encode (new_state way n own leaders) })
 
-same·openCall : openCall·kept is-kept page.openCall
-unfolding openCall·kept page.openCall
-same·openCall = by-text
+same-open_call : open_call-kept is-kept page.open_call
+unfolding open_call-kept page.open_call
+same-open_call = by-text

@@ -1,30 +1,30 @@
 -- Written by tests/restated --write: what docs/statements has of
--- crates/protocol/specs/Laws/PacketLaws.antt.
-use package.Prim.Native.Nat.{◌+◌, ◌*◌}
-use package.mathlib.Core.Path.{◌≡◌}
-use package.mathlib.Core.List.{List, map}
-use package.lib.ListN.{length}
+-- crates/protocol/proofs/Laws/PacketLaws.antt.
+use Prim.Native.Nat.{◌+◌, ◌*◌}
+use Rattle.std.specs.Prelude.{◌≡◌}
+use mathlib.Core.List.{List, map}
+use Rattle.std.proofs.Math.ListN.{length}
 use package.Rattle.protocol.specs.Bytes.{Bytes}
-use package.Rattle.protocol.specs.Frame.{frameSize}
+use package.Rattle.protocol.specs.Frame.{frame_size}
 use package.Rattle.protocol.specs.Answer.{Counts, accepted}
-use package.Rattle.protocol.specs.Packet.{packetFrames, counted, countAll, acceptedOf}
-use package.Rattle.protocol.specs.Packet.{packetCall}
-use package.Rattle.protocol.specs.Call.{delivery, bookAfterAll}
-use package.mathlib.Core.Path.{◌≡◌ as ◌is-kept◌, refl as by-text}
+use package.Rattle.protocol.specs.Packet.{packet_frames, counted, count_all, accepted_of}
+use package.Rattle.protocol.specs.Packet.{packet_call}
+use package.Rattle.protocol.specs.Call.{delivery, book_after_all}
+use mathlib.Core.Path.{◌≡◌ as ◌is-kept◌, refl as by-text}
 use package.Rattle.protocol.proofs.Laws.PacketLaws as page
 
 module _ (digest : Bytes → Bytes) where
-  pub accepted-counted·kept : (book : Bytes) (frames : List Bytes) →
-      length (acceptedOf digest book frames) ≡
-      (countAll digest book frames).freshFrames + (countAll digest book frames).knownFrames
-  accepted-counted·kept = page.accepted-counted digest
+  pub accepted_counted-kept : (book : Bytes) (frames : List Bytes) →
+      length (accepted_of digest book frames) ≡
+      (count_all digest book frames).fresh_frames + (count_all digest book frames).known_frames
+  accepted_counted-kept = page.accepted_counted digest
 
 module _ (digest : Bytes → Bytes) where
   module _ (book packet : Bytes) where
-    module _ (counts : Counts) (unrefused : (packetCall digest book packet).answer ≡ accepted counts) where
-      pub packet-sums·kept : frameSize * counted counts ≡ length packet
-      packet-sums·kept = page.packet-sums digest book packet counts unrefused
+    module _ (counts : Counts) (unrefused : (packet_call digest book packet).answer ≡ accepted counts) where
+      pub packet_sums-kept : frame_size * counted counts ≡ length packet
+      packet_sums-kept = page.packet_sums digest book packet counts unrefused
 
-      pub packet-delivered·kept : (packetCall digest book packet).book ≡
-          bookAfterAll digest book (map delivery (packetFrames packet))
-      packet-delivered·kept = page.packet-delivered digest book packet counts unrefused
+      pub packet_delivered-kept : (packet_call digest book packet).book ≡
+          book_after_all digest book (map delivery (packet_frames packet))
+      packet_delivered-kept = page.packet_delivered digest book packet counts unrefused

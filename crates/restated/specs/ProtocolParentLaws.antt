@@ -1,21 +1,21 @@
 -- Written by tests/restated --write: what docs/statements has of
--- crates/protocol/specs/Laws/ParentLaws.antt.
-use package.Prim.Native.Nat.{ℕ, ◌≤◌}
-use package.mathlib.Core.Path.{◌≡◌}
-use package.mathlib.Core.Option.{some, none}
+-- crates/protocol/proofs/Laws/ParentLaws.antt.
+use Prim.Native.Nat.{ℕ, ◌≤◌}
+use Rattle.std.specs.Prelude.{◌≡◌}
+use Rattle.std.proofs.Math.Option.{some, none}
 use package.Rattle.protocol.specs.Bytes.{Bytes}
-use package.Rattle.protocol.specs.View.{View, parent_of, largestFinalized}
+use package.Rattle.protocol.specs.View.{View, parent_of, largest_finalized}
 use package.Rattle.protocol.specs.Linked.{ChainOf, Largest}
-use package.mathlib.Core.Path.{◌≡◌ as ◌is-kept◌, refl as by-text}
+use mathlib.Core.Path.{◌≡◌ as ◌is-kept◌, refl as by-text}
 use package.Rattle.protocol.proofs.Laws.ParentLaws as page
 
 module _ (digest : Bytes → Bytes) (v : View) where
-  pub parent-some·kept : (h j : ℕ) → parent_of digest v h ≡ some j →
+  pub parent_some-kept : (h j : ℕ) → parent_of digest v h ≡ some j →
       ChainOf digest v h j × ((k : ℕ) → ChainOf digest v h k → k ≤ j)
-  parent-some·kept = page.parent-some digest v
+  parent_some-kept = page.parent_some digest v
 
-  pub parent-none·kept : (h : ℕ) → parent_of digest v h ≡ none → (j : ℕ) → ChainOf digest v h j → ⊥
-  parent-none·kept = page.parent-none digest v
+  pub parent_none-kept : (h : ℕ) → parent_of digest v h ≡ none → (j : ℕ) → ChainOf digest v h j → ⊥
+  parent_none-kept = page.parent_none digest v
 
-  pub largestFinalized-is·kept : (h : ℕ) → Largest digest v h (largestFinalized digest v h)
-  largestFinalized-is·kept = page.largestFinalized-is digest v
+  pub largest_finalized-is-kept : (h : ℕ) → Largest digest v h (largest_finalized digest v h)
+  largest_finalized-is-kept = page.largest_finalized-is digest v

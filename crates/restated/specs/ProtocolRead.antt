@@ -1,48 +1,44 @@
 -- Written by tests/restated --write: what docs/statements has of
 -- crates/protocol/specs/Read.antt.
-use package.Prim.Native.Nat.{ℕ, ◌*◌}
-use package.mathlib.Core.Bool.{◌&&◌, cond}
-use package.mathlib.Core.List.{[]}
-use package.lib.ListN.{length}
-use package.lib.Dec.{leb}
-use package.Rattle.protocol.specs.Bytes.{Bytes, join, overFront}
-use package.Rattle.protocol.specs.Block.{entrySize}
+use Rattle.std.specs.Prelude.{ℕ, ◌*◌, ◌&&◌, cond, [], length, leb}
+use package.Rattle.protocol.specs.Bytes.{Bytes, join, over_front}
+use package.Rattle.protocol.specs.Block.{entry_size}
 use package.Rattle.protocol.specs.State.{decode}
 use package.Rattle.protocol.specs.Sound.{sound, log}
 use package.Rattle.protocol.specs.Answer.{Answer, refused, accepted}
-use package.Rattle.protocol.specs.Read.{logSize}
-use package.mathlib.Core.Path.{◌≡◌ as ◌is-kept◌, refl as by-text}
+use package.Rattle.protocol.specs.Read.{log_size}
+use mathlib.Core.Path.{◌≡◌ as ◌is-kept◌, refl as by-text}
 use package.Rattle.protocol.specs.Read as page
 
-logSize·kept : Bytes → ℕ
-logSize·kept book = entrySize * length (log (decode book))
+log_size-kept : Bytes → ℕ
+log_size-kept book = entry_size * length (log (decode book))
 
-same·logSize : logSize·kept is-kept page.logSize
-unfolding logSize·kept page.logSize
-same·logSize = by-text
+same-log_size : log_size-kept is-kept page.log_size
+unfolding log_size-kept page.log_size
+same-log_size = by-text
 
 module _ (digest : Bytes → Bytes) where
-  abbrev readPart : Bytes → Bytes → Bytes
-  readPart = page.readPart digest
+  abbrev read_part : Bytes → Bytes → Bytes
+  read_part = page.read_part digest
 
-  sizeCall·kept : Bytes → Answer ℕ
-  sizeCall·kept book = cond (sound digest book) (accepted (logSize book)) (refused 1)
+  size_call-kept : Bytes → Answer ℕ
+  size_call-kept book = cond (sound digest book) (accepted (log_size book)) (refused 1)
 
-  same·sizeCall : sizeCall·kept is-kept page.sizeCall digest
-  unfolding sizeCall·kept page.sizeCall
-  same·sizeCall = by-text
+  same-size_call : size_call-kept is-kept page.size_call digest
+  unfolding size_call-kept page.size_call
+  same-size_call = by-text
 
-  readPart·kept : Bytes → Bytes → Bytes
-  readPart·kept book buffer =
-      cond (sound digest book && leb (logSize book) (length buffer)) (join (log (decode book))) []
+  read_part-kept : Bytes → Bytes → Bytes
+  read_part-kept book buffer =
+      cond (sound digest book && leb (log_size book) (length buffer)) (join (log (decode book))) []
 
-  same·readPart : readPart·kept is-kept page.readPart digest
-  unfolding readPart·kept page.readPart
-  same·readPart = by-text
+  same-read_part : read_part-kept is-kept page.read_part digest
+  unfolding read_part-kept page.read_part
+  same-read_part = by-text
 
-  readBuffer·kept : Bytes → Bytes → Bytes
-  readBuffer·kept book buffer = overFront (readPart book buffer) buffer
+  read_buffer-kept : Bytes → Bytes → Bytes
+  read_buffer-kept book buffer = over_front (read_part book buffer) buffer
 
-  same·readBuffer : readBuffer·kept is-kept page.readBuffer digest
-  unfolding readBuffer·kept page.readBuffer
-  same·readBuffer = by-text
+  same-read_buffer : read_buffer-kept is-kept page.read_buffer digest
+  unfolding read_buffer-kept page.read_buffer
+  same-read_buffer = by-text

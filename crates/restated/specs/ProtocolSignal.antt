@@ -1,37 +1,34 @@
 -- Written by tests/restated --write: what docs/statements has of
 -- crates/protocol/specs/Signal.antt.
-use package.Prim.Native.Nat.{ℕ}
-use package.mathlib.Core.Bool.{◌&&◌, not}
-use package.mathlib.Core.List.{List, [], ◌∷◌}
-use package.lib.Dec.{eqb}
+use Rattle.std.specs.Prelude.{ℕ, ◌&&◌, not, List, [], ◌∷◌, eqb}
 use package.Rattle.protocol.specs.Bytes.{Bytes}
-use package.Rattle.protocol.specs.Tests.{inRange, Row, firstRefusal}
-use package.Rattle.protocol.specs.State.{State, last, encode, decode, flag, withTimerFired}
+use package.Rattle.protocol.specs.Tests.{in_range, Row, first_refusal}
+use package.Rattle.protocol.specs.State.{State, last, encode, decode, flag, with_timer_fired}
 use package.Rattle.protocol.specs.Sound.{sound}
-use package.Rattle.protocol.specs.Answer.{Outcome, Done, done, accepted, unlessRefused}
-use package.mathlib.Core.Path.{◌≡◌ as ◌is-kept◌, refl as by-text}
+use package.Rattle.protocol.specs.Answer.{Outcome, Done, done, accepted, unless_refused}
+use mathlib.Core.Path.{◌≡◌ as ◌is-kept◌, refl as by-text}
 use package.Rattle.protocol.specs.Signal as page
 
 module _ (digest : Bytes → Bytes) where
-  abbrev signalRows : Bytes → ℕ → List Row
-  signalRows = page.signalRows digest
+  abbrev signal_rows : Bytes → ℕ → List Row
+  signal_rows = page.signal_rows digest
 
-  signalRows·kept : Bytes → ℕ → List Row
-  signalRows·kept book h =
+  signal_rows-kept : Bytes → ℕ → List Row
+  signal_rows-kept book h =
       let s : State = decode book in
       (1, sound digest book) ∷
-      (6, inRange 1 (last s) h) ∷
+      (6, in_range 1 (last s) h) ∷
       (14, eqb h s.current && not (flag 1 s)) ∷ []
 
-  same·signalRows : signalRows·kept is-kept page.signalRows digest
-  unfolding signalRows·kept page.signalRows
-  same·signalRows = by-text
+  same-signal_rows : signal_rows-kept is-kept page.signal_rows digest
+  unfolding signal_rows-kept page.signal_rows
+  same-signal_rows = by-text
 
-  signalCall·kept : Bytes → ℕ → Outcome Done
-  signalCall·kept book h =
-      unlessRefused (firstRefusal (signalRows book h)) book
-      (record { answer = accepted done; book = encode (withTimerFired (decode book)) })
+  signal_call-kept : Bytes → ℕ → Outcome Done
+  signal_call-kept book h =
+      unless_refused (first_refusal (signal_rows book h)) book
+      (record { answer = accepted done; book = encode (with_timer_fired (decode book)) })
 
-  same·signalCall : signalCall·kept is-kept page.signalCall digest
-  unfolding signalCall·kept page.signalCall
-  same·signalCall = by-text
+  same-signal_call : signal_call-kept is-kept page.signal_call digest
+  unfolding signal_call-kept page.signal_call
+  same-signal_call = by-text

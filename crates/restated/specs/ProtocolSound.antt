@@ -1,101 +1,97 @@
 -- Written by tests/restated --write: what docs/statements has of
 -- crates/protocol/specs/Sound.antt.
-use package.Prim.Native.Nat.{ℕ, ◌+◌, ◌-◌, ◌*◌}
-use package.mathlib.Core.Bool.{Bool, ◌&&◌, ◌||◌}
-use package.mathlib.Core.List.{List, [], ◌∷◌}
-use package.lib.ListN.{length, take, drop}
-use package.lib.Dec.{eqb, leb, ltb}
+use Rattle.std.specs.Prelude.{ℕ, ◌+◌, ◌-◌, ◌*◌, Bool, ◌&&◌, ◌||◌, List, [], ◌∷◌, length, take, drop, eqb, leb, ltb}
 use package.Rattle.protocol.specs.Bytes.{Bytes, part, all, is_zero}
-use package.Rattle.protocol.specs.Tests.{all_of, implies, inRange, everyHeight}
-use package.Rattle.protocol.specs.Block.{blockWellFormed}
-use package.Rattle.protocol.specs.Mask.{belowBit}
-use package.Rattle.protocol.specs.State.{State, Height, at, decode, bookSize, holdsProposal, isNotarized, bookHeights}
-use package.Rattle.protocol.specs.State.{maximumReplicas, maximumPending, maximumWeight, mostHeights, headUnused}
-use package.Rattle.protocol.specs.View.{View, quorum, isFinalized, logOf}
-use package.Rattle.protocol.specs.Sound.{view, weightsFit, masksBelow, blocksWellFormed, contentZeros}
-use package.mathlib.Core.Path.{◌≡◌ as ◌is-kept◌, refl as by-text}
+use package.Rattle.protocol.specs.Tests.{all_of, implies, in_range, every_height}
+use package.Rattle.protocol.specs.Block.{block_well_formed}
+use package.Rattle.protocol.specs.Mask.{below_bit}
+use package.Rattle.protocol.specs.State.{State, Height, at, decode, book_size, holds_proposal, is_notarized, book_heights}
+use package.Rattle.protocol.specs.State.{maximum_replicas, maximum_pending, maximum_weight, most_heights, head_unused}
+use package.Rattle.protocol.specs.View.{View, quorum, is_finalized, log_of}
+use package.Rattle.protocol.specs.Sound.{view, weights_fit, masks_below, blocks_well_formed, content_zeros}
+use mathlib.Core.Path.{◌≡◌ as ◌is-kept◌, refl as by-text}
 use package.Rattle.protocol.specs.Sound as page
 
-view·kept : State → View
-view·kept s = record {
+view-kept : State → View
+view-kept s = record {
   n = s.n;
   weights = take s.n s.weights;
-  hasBlock = λ h. isNotarized (at s h);
+  has_block = λ h. is_notarized (at s h);
   block = λ h. (at s h).notarized;
-  certificateMask = λ h. (at s h).certificateMask;
-  dummyMask = λ h. (at s h).dummyMask;
-  finalizeMask = λ h. (at s h).finalizeMask;
+  certificate_mask = λ h. (at s h).certificate_mask;
+  dummy_mask = λ h. (at s h).dummy_mask;
+  finalize_mask = λ h. (at s h).finalize_mask;
 }
 
-same·view : view·kept is-kept page.view
-unfolding view·kept page.view
-same·view = by-text
+same-view : view-kept is-kept page.view
+unfolding view-kept page.view
+same-view = by-text
 
-log·kept : State → List Bytes
-log·kept s = logOf (view s) s.finalized
+log-kept : State → List Bytes
+log-kept s = log_of (view s) s.finalized
 
-same·log : log·kept is-kept page.log
-unfolding log·kept page.log
-same·log = by-text
+same-log : log-kept is-kept page.log
+unfolding log-kept page.log
+same-log = by-text
 
-weightsFit·kept : ℕ → List ℕ → Bool
-weightsFit·kept n weights = all (λ w. inRange 1 maximumWeight w) (take n weights) && is_zero (drop n weights)
+weights_fit-kept : ℕ → List ℕ → Bool
+weights_fit-kept n weights = all (λ w. in_range 1 maximum_weight w) (take n weights) && is_zero (drop n weights)
 
-same·weightsFit : weightsFit·kept is-kept page.weightsFit
-unfolding weightsFit·kept page.weightsFit
-same·weightsFit = by-text
+same-weights_fit : weights_fit-kept is-kept page.weights_fit
+unfolding weights_fit-kept page.weights_fit
+same-weights_fit = by-text
 
-masksBelow·kept : ℕ → Height → Bool
-masksBelow·kept n x = all_of
-    (belowBit n x.certificateMask ∷
-    belowBit n x.dummyMask ∷
-    belowBit n x.finalizeMask ∷
-    belowBit n x.voterMask ∷ [])
+masks_below-kept : ℕ → Height → Bool
+masks_below-kept n x = all_of
+    (below_bit n x.certificate_mask ∷
+    below_bit n x.dummy_mask ∷
+    below_bit n x.finalize_mask ∷
+    below_bit n x.voter_mask ∷ [])
 
-same·masksBelow : masksBelow·kept is-kept page.masksBelow
-unfolding masksBelow·kept page.masksBelow
-same·masksBelow = by-text
+same-masks_below : masks_below-kept is-kept page.masks_below
+unfolding masks_below-kept page.masks_below
+same-masks_below = by-text
 
-blocksWellFormed·kept : ℕ → Height → Bool
-blocksWellFormed·kept h x =
-    implies (holdsProposal x) (blockWellFormed h x.proposal) &&
-    implies (isNotarized x) (blockWellFormed h x.notarized)
+blocks_well_formed-kept : ℕ → Height → Bool
+blocks_well_formed-kept h x =
+    implies (holds_proposal x) (block_well_formed h x.proposal) &&
+    implies (is_notarized x) (block_well_formed h x.notarized)
 
-same·blocksWellFormed : blocksWellFormed·kept is-kept page.blocksWellFormed
-unfolding blocksWellFormed·kept page.blocksWellFormed
-same·blocksWellFormed = by-text
+same-blocks_well_formed : blocks_well_formed-kept is-kept page.blocks_well_formed
+unfolding blocks_well_formed-kept page.blocks_well_formed
+same-blocks_well_formed = by-text
 
-contentZeros·kept : Bytes → ℕ → Bytes
-contentZeros·kept book h = part book (576 + 16 * (h - 1) + 10) 6
+content_zeros-kept : Bytes → ℕ → Bytes
+content_zeros-kept book h = part book (576 + 16 * (h - 1) + 10) 6
 
-same·contentZeros : contentZeros·kept is-kept page.contentZeros
-unfolding contentZeros·kept page.contentZeros
-same·contentZeros = by-text
+same-content_zeros : content_zeros-kept is-kept page.content_zeros
+unfolding content_zeros-kept page.content_zeros
+same-content_zeros = by-text
 
 module _ (digest : Bytes → Bytes) where
-  sound·kept : Bytes → Bool
-  sound·kept book =
+  sound-kept : Bytes → Bool
+  sound-kept book =
       let s : State = decode book in
-      let heights : ℕ = bookHeights book in
+      let heights : ℕ = book_heights book in
       all_of
-      (eqb (length book) (bookSize heights) ∷
-      inRange 1 maximumReplicas s.n ∷
+      (eqb (length book) (book_size heights) ∷
+      in_range 1 maximum_replicas s.n ∷
       ltb s.own s.n ∷
-      inRange 1 (mostHeights s.edition) heights ∷
-      inRange 1 3 s.edition ∷
-      weightsFit s.n s.weights ∷
-      inRange 1 (heights + 1) s.current ∷
+      in_range 1 (most_heights s.edition) heights ∷
+      in_range 1 3 s.edition ∷
+      weights_fit s.n s.weights ∷
+      in_range 1 (heights + 1) s.current ∷
       ltb s.flags 16 ∷
-      leb s.pendingCount maximumPending ∷
-      everyHeight (λ h. ltb (at s h).leader s.n) heights ∷
-      everyHeight (λ h. masksBelow s.n (at s h)) heights ∷
-      everyHeight (λ h. leb (at s h).status 3) heights ∷
-      everyHeight (λ h. blocksWellFormed h (at s h)) heights ∷
-      everyHeight (λ h. implies (isNotarized (at s h)) (quorum (view s) (at s h).certificateMask)) heights ∷
-      is_zero (headUnused book) ∷
-      everyHeight (λ h. is_zero (contentZeros book h)) heights ∷
-      (eqb s.finalized 0 || isFinalized digest (view s) s.finalized) ∷ [])
+      leb s.pending_count maximum_pending ∷
+      every_height (λ h. ltb (at s h).leader s.n) heights ∷
+      every_height (λ h. masks_below s.n (at s h)) heights ∷
+      every_height (λ h. leb (at s h).status 3) heights ∷
+      every_height (λ h. blocks_well_formed h (at s h)) heights ∷
+      every_height (λ h. implies (is_notarized (at s h)) (quorum (view s) (at s h).certificate_mask)) heights ∷
+      is_zero (head_unused book) ∷
+      every_height (λ h. is_zero (content_zeros book h)) heights ∷
+      (eqb s.finalized 0 || is_finalized digest (view s) s.finalized) ∷ [])
 
-  same·sound : sound·kept is-kept page.sound digest
-  unfolding sound·kept page.sound
-  same·sound = by-text
+  same-sound : sound-kept is-kept page.sound digest
+  unfolding sound-kept page.sound
+  same-sound = by-text

@@ -1,309 +1,305 @@
 -- Written by tests/restated --write: what docs/statements has of
 -- crates/protocol/specs/State.antt.
-use package.Prim.Native.Nat.{ℕ, ◌+◌, ◌-◌, ◌*◌, ◌/◌, ◌%◌}
-use package.mathlib.Core.Bool.{Bool, cond}
-use package.mathlib.Core.List.{List, [], ◌∷◌, ◌++◌, map}
-use package.lib.ListN.{length, get_or, set, drop, take, replicate}
-use package.lib.Dec.{eqb, leb}
+use Rattle.std.specs.Prelude.{ℕ, ◌+◌, ◌-◌, ◌*◌, ◌/◌, ◌%◌, Bool, cond, List, [], ◌∷◌, ◌++◌, map, length, get_or, set, drop, take, replicate, eqb, leb}
 use package.Rattle.protocol.specs.Bytes.{Bytes, byte_at, word16, le16, part, zeros, join, pieces, put}
-use package.Rattle.protocol.specs.Block.{entrySize}
-use package.Rattle.protocol.specs.State.{Height, State, maximumReplicas, poolSize, contentSize, bodySize, headNumber, bookHeights, bookCurrent, bookFinalized, shortNumber, numberBytes, padded, evenly, words, weightBytes, weightsIn, bookWeights, headBytes, contentBytes, bodyBytes, decodeHeight, decodeHeights, noHeight, renewedIn, renewed, with_head, withFlag}
-use package.mathlib.Core.Path.{◌≡◌ as ◌is-kept◌, refl as by-text}
+use package.Rattle.protocol.specs.Block.{entry_size}
+use package.Rattle.protocol.specs.State.{Height, State, maximum_replicas, pool_size, content_size, body_size, head_number, book_heights, book_current, book_finalized, short_number, number_bytes, padded, evenly, words, weight_bytes, weights_in, book_weights, head_bytes, content_bytes, body_bytes, decode_height, decode_heights, no_height, renewed_in, renewed, with_head, with_flag}
+use mathlib.Core.Path.{◌≡◌ as ◌is-kept◌, refl as by-text}
 use package.Rattle.protocol.specs.State as page
 
-Height·kept : (leader : ℕ) (status : ℕ) (certificateMask : ℕ) (dummyMask : ℕ) (finalizeMask : ℕ) (voterMask : ℕ) (proposal : Bytes) (notarized : Bytes) (voteDigests : Bytes) →
+Height-kept : (leader : ℕ) (status : ℕ) (certificate_mask : ℕ) (dummy_mask : ℕ) (finalize_mask : ℕ) (voter_mask : ℕ) (proposal : Bytes) (notarized : Bytes) (vote_digests : Bytes) →
     Height
-Height·kept x0 x1 x2 x3 x4 x5 x6 x7 x8 = record { leader = x0; status = x1; certificateMask = x2; dummyMask = x3; finalizeMask = x4; voterMask = x5; proposal = x6; notarized = x7; voteDigests = x8 }
+Height-kept x0 x1 x2 x3 x4 x5 x6 x7 x8 = record { leader = x0; status = x1; certificate_mask = x2; dummy_mask = x3; finalize_mask = x4; voter_mask = x5; proposal = x6; notarized = x7; vote_digests = x8 }
 
-State·kept : (edition : ℕ) (n : ℕ) (weights : List ℕ) (own : ℕ) (flags : ℕ) (current : ℕ) (finalized : ℕ) (pendingCount : ℕ) (pool : Bytes) (heights : List Height) →
+State-kept : (edition : ℕ) (n : ℕ) (weights : List ℕ) (own : ℕ) (flags : ℕ) (current : ℕ) (finalized : ℕ) (pending_count : ℕ) (pool : Bytes) (heights : List Height) →
     State
-State·kept x0 x1 x2 x3 x4 x5 x6 x7 x8 x9 = record { edition = x0; n = x1; weights = x2; own = x3; flags = x4; current = x5; finalized = x6; pendingCount = x7; pool = x8; heights = x9 }
+State-kept x0 x1 x2 x3 x4 x5 x6 x7 x8 x9 = record { edition = x0; n = x1; weights = x2; own = x3; flags = x4; current = x5; finalized = x6; pending_count = x7; pool = x8; heights = x9 }
 
-abbrev maximumReplicas·kept : ℕ
-maximumReplicas·kept = 16
+abbrev maximum_replicas-kept : ℕ
+maximum_replicas-kept = 16
 
-same·maximumReplicas : maximumReplicas·kept is-kept page.maximumReplicas
-same·maximumReplicas = by-text
+same-maximum_replicas : maximum_replicas-kept is-kept page.maximum_replicas
+same-maximum_replicas = by-text
 
-abbrev maximumPending·kept : ℕ
-maximumPending·kept = 32
+abbrev maximum_pending-kept : ℕ
+maximum_pending-kept = 32
 
-same·maximumPending : maximumPending·kept is-kept page.maximumPending
-same·maximumPending = by-text
+same-maximum_pending : maximum_pending-kept is-kept page.maximum_pending
+same-maximum_pending = by-text
 
-abbrev maximumWeight·kept : ℕ
-maximumWeight·kept = 1000
+abbrev maximum_weight-kept : ℕ
+maximum_weight-kept = 1000
 
-same·maximumWeight : maximumWeight·kept is-kept page.maximumWeight
-same·maximumWeight = by-text
+same-maximum_weight : maximum_weight-kept is-kept page.maximum_weight
+same-maximum_weight = by-text
 
-abbrev poolSize·kept : ℕ
-poolSize·kept = 512
+abbrev pool_size-kept : ℕ
+pool_size-kept = 512
 
-same·poolSize : poolSize·kept is-kept page.poolSize
-same·poolSize = by-text
+same-pool_size : pool_size-kept is-kept page.pool_size
+same-pool_size = by-text
 
-abbrev contentSize·kept : ℕ
-contentSize·kept = 16
+abbrev content_size-kept : ℕ
+content_size-kept = 16
 
-same·contentSize : contentSize·kept is-kept page.contentSize
-same·contentSize = by-text
+same-content_size : content_size-kept is-kept page.content_size
+same-content_size = by-text
 
-abbrev bodySize·kept : ℕ
-bodySize·kept = 864
+abbrev body_size-kept : ℕ
+body_size-kept = 864
 
-same·bodySize : bodySize·kept is-kept page.bodySize
-same·bodySize = by-text
+same-body_size : body_size-kept is-kept page.body_size
+same-body_size = by-text
 
-bookSize·kept : ℕ → ℕ
-bookSize·kept heights = 576 + 880 * heights
+book_size-kept : ℕ → ℕ
+book_size-kept heights = 576 + 880 * heights
 
-same·bookSize : bookSize·kept is-kept page.bookSize
-unfolding bookSize·kept page.bookSize
-same·bookSize = by-text
+same-book_size : book_size-kept is-kept page.book_size
+unfolding book_size-kept page.book_size
+same-book_size = by-text
 
-mostHeights·kept : ℕ → ℕ
-mostHeights·kept edition = cond (eqb edition 3) 1000 63
+most_heights-kept : ℕ → ℕ
+most_heights-kept edition = cond (eqb edition 3) 1000 63
 
-same·mostHeights : mostHeights·kept is-kept page.mostHeights
-unfolding mostHeights·kept page.mostHeights
-same·mostHeights = by-text
+same-most_heights : most_heights-kept is-kept page.most_heights
+unfolding most_heights-kept page.most_heights
+same-most_heights = by-text
 
-headNumber·kept : (byte word : ℕ) → Bytes → ℕ
-headNumber·kept byte word book = cond (eqb (byte_at book 7) 3) (word16 book word) (byte_at book byte)
+head_number-kept : (byte word : ℕ) → Bytes → ℕ
+head_number-kept byte word book = cond (eqb (byte_at book 7) 3) (word16 book word) (byte_at book byte)
 
-same·headNumber : headNumber·kept is-kept page.headNumber
-unfolding headNumber·kept page.headNumber
-same·headNumber = by-text
+same-head_number : head_number-kept is-kept page.head_number
+unfolding head_number-kept page.head_number
+same-head_number = by-text
 
-headPut·kept : (byte word : ℕ) → ℕ → Bytes → Bytes
-headPut·kept byte word x book = cond (eqb (byte_at book 7) 3) (put book word (le16 x)) (set book byte x)
+head_put-kept : (byte word : ℕ) → ℕ → Bytes → Bytes
+head_put-kept byte word x book = cond (eqb (byte_at book 7) 3) (put book word (le16 x)) (set book byte x)
 
-same·headPut : headPut·kept is-kept page.headPut
-unfolding headPut·kept page.headPut
-same·headPut = by-text
+same-head_put : head_put-kept is-kept page.head_put
+unfolding head_put-kept page.head_put
+same-head_put = by-text
 
-abbrev bookHeights·kept : Bytes → ℕ
-bookHeights·kept book = headNumber 2 40 book
+abbrev book_heights-kept : Bytes → ℕ
+book_heights-kept book = head_number 2 40 book
 
-same·bookHeights : bookHeights·kept is-kept page.bookHeights
-same·bookHeights = by-text
+same-book_heights : book_heights-kept is-kept page.book_heights
+same-book_heights = by-text
 
-abbrev bookCurrent·kept : Bytes → ℕ
-bookCurrent·kept book = headNumber 4 42 book
+abbrev book_current-kept : Bytes → ℕ
+book_current-kept book = head_number 4 42 book
 
-same·bookCurrent : bookCurrent·kept is-kept page.bookCurrent
-same·bookCurrent = by-text
+same-book_current : book_current-kept is-kept page.book_current
+same-book_current = by-text
 
-abbrev bookFinalized·kept : Bytes → ℕ
-bookFinalized·kept book = headNumber 5 44 book
+abbrev book_finalized-kept : Bytes → ℕ
+book_finalized-kept book = head_number 5 44 book
 
-same·bookFinalized : bookFinalized·kept is-kept page.bookFinalized
-same·bookFinalized = by-text
+same-book_finalized : book_finalized-kept is-kept page.book_finalized
+same-book_finalized = by-text
 
-shortNumber·kept : ℕ → ℕ → ℕ
-shortNumber·kept edition x = cond (eqb edition 3) 0 x
+short_number-kept : ℕ → ℕ → ℕ
+short_number-kept edition x = cond (eqb edition 3) 0 x
 
-same·shortNumber : shortNumber·kept is-kept page.shortNumber
-unfolding shortNumber·kept page.shortNumber
-same·shortNumber = by-text
+same-short_number : short_number-kept is-kept page.short_number
+unfolding short_number-kept page.short_number
+same-short_number = by-text
 
-numberBytes·kept : (edition heights current finalized : ℕ) → Bytes
-numberBytes·kept edition heights current finalized =
+number_bytes-kept : (edition heights current finalized : ℕ) → Bytes
+number_bytes-kept edition heights current finalized =
     cond (eqb edition 3) (le16 heights ++ (le16 current ++ (le16 finalized ++ zeros 18))) (zeros 24)
 
-same·numberBytes : numberBytes·kept is-kept page.numberBytes
-unfolding numberBytes·kept page.numberBytes
-same·numberBytes = by-text
+same-number_bytes : number_bytes-kept is-kept page.number_bytes
+unfolding number_bytes-kept page.number_bytes
+same-number_bytes = by-text
 
-padded·kept : List ℕ → List ℕ
-padded·kept weights = take maximumReplicas (weights ++ replicate maximumReplicas 0)
+padded-kept : List ℕ → List ℕ
+padded-kept weights = take maximum_replicas (weights ++ replicate maximum_replicas 0)
 
-same·padded : padded·kept is-kept page.padded
-unfolding padded·kept page.padded
-same·padded = by-text
+same-padded : padded-kept is-kept page.padded
+unfolding padded-kept page.padded
+same-padded = by-text
 
-evenly·kept : ℕ → List ℕ
-evenly·kept n = padded (replicate n 1)
+evenly-kept : ℕ → List ℕ
+evenly-kept n = padded (replicate n 1)
 
-same·evenly : evenly·kept is-kept page.evenly
-unfolding evenly·kept page.evenly
-same·evenly = by-text
+same-evenly : evenly-kept is-kept page.evenly
+unfolding evenly-kept page.evenly
+same-evenly = by-text
 
-words·kept : ℕ → Bytes → List ℕ
-words·kept count bytes = map (λ (w : Bytes). word16 w 0) (pieces 2 count bytes)
+words-kept : ℕ → Bytes → List ℕ
+words-kept count bytes = map (λ (w : Bytes). word16 w 0) (pieces 2 count bytes)
 
-same·words : words·kept is-kept page.words
-unfolding words·kept page.words
-same·words = by-text
+same-words : words-kept is-kept page.words
+unfolding words-kept page.words
+same-words = by-text
 
-weightBytes·kept : ℕ → List ℕ → Bytes
-weightBytes·kept edition weights = cond (eqb edition 1) (zeros 32) (take 32 (join (map le16 weights) ++ zeros 32))
+weight_bytes-kept : ℕ → List ℕ → Bytes
+weight_bytes-kept edition weights = cond (eqb edition 1) (zeros 32) (take 32 (join (map le16 weights) ++ zeros 32))
 
-same·weightBytes : weightBytes·kept is-kept page.weightBytes
-unfolding weightBytes·kept page.weightBytes
-same·weightBytes = by-text
+same-weight_bytes : weight_bytes-kept is-kept page.weight_bytes
+unfolding weight_bytes-kept page.weight_bytes
+same-weight_bytes = by-text
 
-weightsIn·kept : ℕ → ℕ → Bytes → List ℕ
-weightsIn·kept edition n area = cond (eqb edition 1) (evenly n) (words maximumReplicas area)
+weights_in-kept : ℕ → ℕ → Bytes → List ℕ
+weights_in-kept edition n area = cond (eqb edition 1) (evenly n) (words maximum_replicas area)
 
-same·weightsIn : weightsIn·kept is-kept page.weightsIn
-unfolding weightsIn·kept page.weightsIn
-same·weightsIn = by-text
+same-weights_in : weights_in-kept is-kept page.weights_in
+unfolding weights_in-kept page.weights_in
+same-weights_in = by-text
 
-abbrev bookWeights·kept : Bytes → List ℕ
-bookWeights·kept book = weightsIn (byte_at book 7) (byte_at book 0) (part book 8 32)
+abbrev book_weights-kept : Bytes → List ℕ
+book_weights-kept book = weights_in (byte_at book 7) (byte_at book 0) (part book 8 32)
 
-same·bookWeights : bookWeights·kept is-kept page.bookWeights
-same·bookWeights = by-text
+same-book_weights : book_weights-kept is-kept page.book_weights
+same-book_weights = by-text
 
-headUnused·kept : Bytes → Bytes
-headUnused·kept book =
+head_unused-kept : Bytes → Bytes
+head_unused-kept book =
     cond (eqb (byte_at book 7) 1) (part book 8 56)
     (cond (eqb (byte_at book 7) 3) (byte_at book 2 ∷ byte_at book 4 ∷ byte_at book 5 ∷ part book 46 18) (part book 40 24))
 
-same·headUnused : headUnused·kept is-kept page.headUnused
-unfolding headUnused·kept page.headUnused
-same·headUnused = by-text
+same-head_unused : head_unused-kept is-kept page.head_unused
+unfolding head_unused-kept page.head_unused
+same-head_unused = by-text
 
-headBytes·kept : State → Bytes
-headBytes·kept s =
+head_bytes-kept : State → Bytes
+head_bytes-kept s =
     let e : ℕ = s.edition in
-    s.n ∷ s.own ∷ shortNumber e (length s.heights) ∷ s.flags ∷ shortNumber e s.current ∷
-    shortNumber e s.finalized ∷ s.pendingCount ∷ e ∷
-    (weightBytes e s.weights ++ numberBytes e (length s.heights) s.current s.finalized)
+    s.n ∷ s.own ∷ short_number e (length s.heights) ∷ s.flags ∷ short_number e s.current ∷
+    short_number e s.finalized ∷ s.pending_count ∷ e ∷
+    (weight_bytes e s.weights ++ number_bytes e (length s.heights) s.current s.finalized)
 
-same·headBytes : headBytes·kept is-kept page.headBytes
-unfolding headBytes·kept page.headBytes
-same·headBytes = by-text
+same-head_bytes : head_bytes-kept is-kept page.head_bytes
+unfolding head_bytes-kept page.head_bytes
+same-head_bytes = by-text
 
-contentBytes·kept : Height → Bytes
-contentBytes·kept x =
+content_bytes-kept : Height → Bytes
+content_bytes-kept x =
     (x.leader ∷ x.status ∷ []) ++
-    (le16 x.certificateMask ++ (le16 x.dummyMask ++ (le16 x.finalizeMask ++ (le16 x.voterMask ++ zeros 6))))
+    (le16 x.certificate_mask ++ (le16 x.dummy_mask ++ (le16 x.finalize_mask ++ (le16 x.voter_mask ++ zeros 6))))
 
-same·contentBytes : contentBytes·kept is-kept page.contentBytes
-unfolding contentBytes·kept page.contentBytes
-same·contentBytes = by-text
+same-content_bytes : content_bytes-kept is-kept page.content_bytes
+unfolding content_bytes-kept page.content_bytes
+same-content_bytes = by-text
 
-bodyBytes·kept : Height → Bytes
-bodyBytes·kept x = x.proposal ++ (x.notarized ++ x.voteDigests)
+body_bytes-kept : Height → Bytes
+body_bytes-kept x = x.proposal ++ (x.notarized ++ x.vote_digests)
 
-same·bodyBytes : bodyBytes·kept is-kept page.bodyBytes
-unfolding bodyBytes·kept page.bodyBytes
-same·bodyBytes = by-text
+same-body_bytes : body_bytes-kept is-kept page.body_bytes
+unfolding body_bytes-kept page.body_bytes
+same-body_bytes = by-text
 
-encode·kept : State → Bytes
-encode·kept s =
-    headBytes s ++ (s.pool ++ (join (map contentBytes s.heights) ++ join (map bodyBytes s.heights)))
+encode-kept : State → Bytes
+encode-kept s =
+    head_bytes s ++ (s.pool ++ (join (map content_bytes s.heights) ++ join (map body_bytes s.heights)))
 
-same·encode : encode·kept is-kept page.encode
-unfolding encode·kept page.encode
-same·encode = by-text
+same-encode : encode-kept is-kept page.encode
+unfolding encode-kept page.encode
+same-encode = by-text
 
-decodeHeight·kept : Bytes → Bytes → Height
-decodeHeight·kept content body = record {
+decode_height-kept : Bytes → Bytes → Height
+decode_height-kept content body = record {
   leader = byte_at content 0;
   status = byte_at content 1;
-  certificateMask = word16 content 2;
-  dummyMask = word16 content 4;
-  finalizeMask = word16 content 6;
-  voterMask = word16 content 8;
+  certificate_mask = word16 content 2;
+  dummy_mask = word16 content 4;
+  finalize_mask = word16 content 6;
+  voter_mask = word16 content 8;
   proposal = part body 0 176;
   notarized = part body 176 176;
-  voteDigests = part body 352 512;
+  vote_digests = part body 352 512;
 }
 
-same·decodeHeight : decodeHeight·kept is-kept page.decodeHeight
-unfolding decodeHeight·kept page.decodeHeight
-same·decodeHeight = by-text
+same-decode_height : decode_height-kept is-kept page.decode_height
+unfolding decode_height-kept page.decode_height
+same-decode_height = by-text
 
-decodeHeights·kept : List Bytes → List Bytes → List Height
-decodeHeights·kept [] [] = []
-decodeHeights·kept [] (body ∷ bodies) = []
-decodeHeights·kept (content ∷ contents) [] = []
-decodeHeights·kept (content ∷ contents) (body ∷ bodies) = decodeHeight content body ∷ decodeHeights·kept contents bodies
+decode_heights-kept : List Bytes → List Bytes → List Height
+decode_heights-kept [] [] = []
+decode_heights-kept [] (body ∷ bodies) = []
+decode_heights-kept (content ∷ contents) [] = []
+decode_heights-kept (content ∷ contents) (body ∷ bodies) = decode_height content body ∷ decode_heights-kept contents bodies
 
-same·decodeHeights : decodeHeights·kept is-kept page.decodeHeights
-unfolding decodeHeights·kept page.decodeHeights
-same·decodeHeights = by-text
+same-decode_heights : decode_heights-kept is-kept page.decode_heights
+unfolding decode_heights-kept page.decode_heights
+same-decode_heights = by-text
 
-decode·kept : Bytes → State
-decode·kept book =
-    let heights : ℕ = bookHeights book in
+decode-kept : Bytes → State
+decode-kept book =
+    let heights : ℕ = book_heights book in
     record {
       edition = byte_at book 7;
       n = byte_at book 0;
-      weights = bookWeights book;
+      weights = book_weights book;
       own = byte_at book 1;
       flags = byte_at book 3;
-      current = bookCurrent book;
-      finalized = bookFinalized book;
-      pendingCount = byte_at book 6;
-      pool = part book 64 poolSize;
-      heights = decodeHeights
-          (pieces contentSize heights (drop 576 book))
-          (pieces bodySize heights (drop (576 + contentSize * heights) book));
+      current = book_current book;
+      finalized = book_finalized book;
+      pending_count = byte_at book 6;
+      pool = part book 64 pool_size;
+      heights = decode_heights
+          (pieces content_size heights (drop 576 book))
+          (pieces body_size heights (drop (576 + content_size * heights) book));
     }
 
-same·decode : decode·kept is-kept page.decode
-unfolding decode·kept page.decode
-same·decode = by-text
+same-decode : decode-kept is-kept page.decode
+unfolding decode-kept page.decode
+same-decode = by-text
 
-last·kept : State → ℕ
-last·kept s = length s.heights
+last-kept : State → ℕ
+last-kept s = length s.heights
 
-same·last : last·kept is-kept page.last
-unfolding last·kept page.last
-same·last = by-text
+same-last : last-kept is-kept page.last
+unfolding last-kept page.last
+same-last = by-text
 
-noHeight·kept : Height
-noHeight·kept = record {
+no_height-kept : Height
+no_height-kept = record {
   leader = 0;
   status = 0;
-  certificateMask = 0;
-  dummyMask = 0;
-  finalizeMask = 0;
-  voterMask = 0;
+  certificate_mask = 0;
+  dummy_mask = 0;
+  finalize_mask = 0;
+  voter_mask = 0;
   proposal = [];
   notarized = [];
-  voteDigests = [];
+  vote_digests = [];
 }
 
-same·noHeight : noHeight·kept is-kept page.noHeight
-unfolding noHeight·kept page.noHeight
-same·noHeight = by-text
+same-no_height : no_height-kept is-kept page.no_height
+unfolding no_height-kept page.no_height
+same-no_height = by-text
 
-at·kept : State → ℕ → Height
-at·kept s h = get_or s.heights (h - 1) noHeight
+at-kept : State → ℕ → Height
+at-kept s h = get_or s.heights (h - 1) no_height
 
-same·at : at·kept is-kept page.at
-unfolding at·kept page.at
-same·at = by-text
+same-at : at-kept is-kept page.at
+unfolding at-kept page.at
+same-at = by-text
 
-holdsProposal·kept : Height → Bool
-holdsProposal·kept x = eqb (x.status % 2) 1
+holds_proposal-kept : Height → Bool
+holds_proposal-kept x = eqb (x.status % 2) 1
 
-same·holdsProposal : holdsProposal·kept is-kept page.holdsProposal
-unfolding holdsProposal·kept page.holdsProposal
-same·holdsProposal = by-text
+same-holds_proposal : holds_proposal-kept is-kept page.holds_proposal
+unfolding holds_proposal-kept page.holds_proposal
+same-holds_proposal = by-text
 
-isNotarized·kept : Height → Bool
-isNotarized·kept x = leb 2 x.status
+is_notarized-kept : Height → Bool
+is_notarized-kept x = leb 2 x.status
 
-same·isNotarized : isNotarized·kept is-kept page.isNotarized
-unfolding isNotarized·kept page.isNotarized
-same·isNotarized = by-text
+same-is_notarized : is_notarized-kept is-kept page.is_notarized
+unfolding is_notarized-kept page.is_notarized
+same-is_notarized = by-text
 
-voteOf·kept : Height → ℕ → Bytes
-voteOf·kept x s = part x.voteDigests (32 * s) 32
+vote_of-kept : Height → ℕ → Bytes
+vote_of-kept x s = part x.vote_digests (32 * s) 32
 
-same·voteOf : voteOf·kept is-kept page.voteOf
-unfolding voteOf·kept page.voteOf
-same·voteOf = by-text
+same-vote_of : vote_of-kept is-kept page.vote_of
+unfolding vote_of-kept page.vote_of
+same-vote_of = by-text
 
-abbrev renewedIn·kept : (edition : ℕ) → State → (flags current finalized pendingCount : ℕ) → Bytes → List Height → State
-renewedIn·kept edition s flags current finalized pendingCount pool heights = record {
+abbrev renewed_in-kept : (edition : ℕ) → State → (flags current finalized pending_count : ℕ) → Bytes → List Height → State
+renewed_in-kept edition s flags current finalized pending_count pool heights = record {
   edition = edition;
   n = s.n;
   weights = s.weights;
@@ -311,74 +307,74 @@ renewedIn·kept edition s flags current finalized pendingCount pool heights = re
   flags = flags;
   current = current;
   finalized = finalized;
-  pendingCount = pendingCount;
+  pending_count = pending_count;
   pool = pool;
   heights = heights;
 }
 
-same·renewedIn : renewedIn·kept is-kept page.renewedIn
-same·renewedIn = by-text
+same-renewed_in : renewed_in-kept is-kept page.renewed_in
+same-renewed_in = by-text
 
-abbrev renewed·kept : State → (flags current finalized pendingCount : ℕ) → Bytes → List Height → State
-renewed·kept s flags current finalized pendingCount pool heights =
-    renewedIn s.edition s flags current finalized pendingCount pool heights
+abbrev renewed-kept : State → (flags current finalized pending_count : ℕ) → Bytes → List Height → State
+renewed-kept s flags current finalized pending_count pool heights =
+    renewed_in s.edition s flags current finalized pending_count pool heights
 
-same·renewed : renewed·kept is-kept page.renewed
-same·renewed = by-text
+same-renewed : renewed-kept is-kept page.renewed
+same-renewed = by-text
 
-withEdition·kept : ℕ → State → State
-withEdition·kept edition s =
-    renewedIn edition s s.flags s.current s.finalized s.pendingCount s.pool s.heights
+with_edition-kept : ℕ → State → State
+with_edition-kept edition s =
+    renewed_in edition s s.flags s.current s.finalized s.pending_count s.pool s.heights
 
-same·withEdition : withEdition·kept is-kept page.withEdition
-unfolding withEdition·kept page.withEdition
-same·withEdition = by-text
+same-with_edition : with_edition-kept is-kept page.with_edition
+unfolding with_edition-kept page.with_edition
+same-with_edition = by-text
 
-withHeight·kept : State → ℕ → Height → State
-withHeight·kept s h x =
-    renewed s s.flags s.current s.finalized s.pendingCount s.pool (set s.heights (h - 1) x)
+with_height-kept : State → ℕ → Height → State
+with_height-kept s h x =
+    renewed s s.flags s.current s.finalized s.pending_count s.pool (set s.heights (h - 1) x)
 
-same·withHeight : withHeight·kept is-kept page.withHeight
-unfolding withHeight·kept page.withHeight
-same·withHeight = by-text
+same-with_height : with_height-kept is-kept page.with_height
+unfolding with_height-kept page.with_height
+same-with_height = by-text
 
-withHead·kept : State → ℕ → ℕ → ℕ → State
-withHead·kept s flags current finalized = renewed s flags current finalized s.pendingCount s.pool s.heights
+with_head-kept : State → ℕ → ℕ → ℕ → State
+with_head-kept s flags current finalized = renewed s flags current finalized s.pending_count s.pool s.heights
 
-same·withHead : withHead·kept is-kept page.with_head
-unfolding withHead·kept page.with_head
-same·withHead = by-text
+same-with_head : with_head-kept is-kept page.with_head
+unfolding with_head-kept page.with_head
+same-with_head = by-text
 
-withPool·kept : State → ℕ → Bytes → State
-withPool·kept s count pool = renewed s s.flags s.current s.finalized count pool s.heights
+with_pool-kept : State → ℕ → Bytes → State
+with_pool-kept s count pool = renewed s s.flags s.current s.finalized count pool s.heights
 
-same·withPool : withPool·kept is-kept page.withPool
-unfolding withPool·kept page.withPool
-same·withPool = by-text
+same-with_pool : with_pool-kept is-kept page.with_pool
+unfolding with_pool-kept page.with_pool
+same-with_pool = by-text
 
-abbrev withFlag·kept : ℕ → State → State
-withFlag·kept k s = with_head s (s.flags + k) s.current s.finalized
+abbrev with_flag-kept : ℕ → State → State
+with_flag-kept k s = with_head s (s.flags + k) s.current s.finalized
 
-same·withFlag : withFlag·kept is-kept page.withFlag
-same·withFlag = by-text
+same-with_flag : with_flag-kept is-kept page.with_flag
+same-with_flag = by-text
 
-withTimerFired·kept : State → State
-withTimerFired·kept s = withFlag 1 s
+with_timer_fired-kept : State → State
+with_timer_fired-kept s = with_flag 1 s
 
-same·withTimerFired : withTimerFired·kept is-kept page.withTimerFired
-unfolding withTimerFired·kept page.withTimerFired
-same·withTimerFired = by-text
+same-with_timer_fired : with_timer_fired-kept is-kept page.with_timer_fired
+unfolding with_timer_fired-kept page.with_timer_fired
+same-with_timer_fired = by-text
 
-flag·kept : ℕ → State → Bool
-flag·kept k s = eqb (s.flags / k % 2) 1
+flag-kept : ℕ → State → Bool
+flag-kept k s = eqb (s.flags / k % 2) 1
 
-same·flag : flag·kept is-kept page.flag
-unfolding flag·kept page.flag
-same·flag = by-text
+same-flag : flag-kept is-kept page.flag
+unfolding flag-kept page.flag
+same-flag = by-text
 
-pending·kept : State → List Bytes
-pending·kept s = pieces entrySize s.pendingCount s.pool
+pending-kept : State → List Bytes
+pending-kept s = pieces entry_size s.pending_count s.pool
 
-same·pending : pending·kept is-kept page.pending
-unfolding pending·kept page.pending
-same·pending = by-text
+same-pending : pending-kept is-kept page.pending
+unfolding pending-kept page.pending
+same-pending = by-text

@@ -1,165 +1,162 @@
 -- Written by tests/restated --write: what docs/statements has of
 -- crates/protocol/specs/View.antt.
-use package.Prim.Native.Nat.{ℕ, zero, suc, ◌+◌, ◌-◌, ◌*◌}
-use package.mathlib.Core.Bool.{Bool, true, ◌&&◌, ◌||◌, cond}
-use package.mathlib.Core.List.{List, [], ◌∷◌, ◌++◌}
-use package.mathlib.Core.Option.{Option, some, none}
-use package.lib.Dec.{eqb, leb, ltb}
+use Rattle.std.specs.Prelude.{ℕ, zero, suc, ◌+◌, ◌-◌, ◌*◌, Bool, true, ◌&&◌, ◌||◌, cond, List, [], ◌∷◌, ◌++◌, eqb, leb, ltb}
+use Rattle.std.proofs.Math.Option.{Option, some, none}
 use package.Rattle.protocol.specs.Bytes.{Bytes, zeros, same}
 use package.Rattle.protocol.specs.Distinct.{distinct}
 use package.Rattle.protocol.specs.Tests.{all_of}
-use package.Rattle.protocol.specs.Block.{digestSize, parentHeight, parentDigest, allEntries}
-use package.Rattle.protocol.specs.Mask.{inMask, weigh, total}
-use package.Rattle.protocol.specs.View.{View, maskWeight, totalWeight, quorum, isDummy, chainWithin, chain, log_at, dummyRun}
-use package.mathlib.Core.Path.{◌≡◌ as ◌is-kept◌, refl as by-text}
+use package.Rattle.protocol.specs.Block.{digest_size, parent_height, parent_digest, all_entries}
+use package.Rattle.protocol.specs.Mask.{in_mask, weigh, total}
+use package.Rattle.protocol.specs.View.{View, mask_weight, total_weight, quorum, is_dummy, chain_within, chain, log_at, dummy_run}
+use mathlib.Core.Path.{◌≡◌ as ◌is-kept◌, refl as by-text}
 use package.Rattle.protocol.specs.View as page
 
-View·kept : (n : ℕ) (weights : List ℕ) (hasBlock : ℕ → Bool) (block : ℕ → Bytes) (certificateMask : ℕ → ℕ) (dummyMask : ℕ → ℕ) (finalizeMask : ℕ → ℕ) →
+View-kept : (n : ℕ) (weights : List ℕ) (has_block : ℕ → Bool) (block : ℕ → Bytes) (certificate_mask : ℕ → ℕ) (dummy_mask : ℕ → ℕ) (finalize_mask : ℕ → ℕ) →
     View
-View·kept x0 x1 x2 x3 x4 x5 x6 = record { n = x0; weights = x1; hasBlock = x2; block = x3; certificateMask = x4; dummyMask = x5; finalizeMask = x6 }
+View-kept x0 x1 x2 x3 x4 x5 x6 = record { n = x0; weights = x1; has_block = x2; block = x3; certificate_mask = x4; dummy_mask = x5; finalize_mask = x6 }
 
-abbrev maskWeight·kept : View → ℕ → ℕ
-maskWeight·kept v mask = weigh (λ t. inMask mask t) v.weights
+abbrev mask_weight-kept : View → ℕ → ℕ
+mask_weight-kept v mask = weigh (λ t. in_mask mask t) v.weights
 
-same·maskWeight : maskWeight·kept is-kept page.maskWeight
-same·maskWeight = by-text
+same-mask_weight : mask_weight-kept is-kept page.mask_weight
+same-mask_weight = by-text
 
-abbrev totalWeight·kept : View → ℕ
-totalWeight·kept v = total v.weights
+abbrev total_weight-kept : View → ℕ
+total_weight-kept v = total v.weights
 
-same·totalWeight : totalWeight·kept is-kept page.totalWeight
-same·totalWeight = by-text
+same-total_weight : total_weight-kept is-kept page.total_weight
+same-total_weight = by-text
 
-quorum·kept : View → ℕ → Bool
-quorum·kept v mask = leb (2 * totalWeight v) (3 * maskWeight v mask)
+quorum-kept : View → ℕ → Bool
+quorum-kept v mask = leb (2 * total_weight v) (3 * mask_weight v mask)
 
-same·quorum : quorum·kept is-kept page.quorum
-unfolding quorum·kept page.quorum
-same·quorum = by-text
+same-quorum : quorum-kept is-kept page.quorum
+unfolding quorum-kept page.quorum
+same-quorum = by-text
 
-isDummy·kept : View → ℕ → Bool
-isDummy·kept v h = quorum v (v.dummyMask h)
+is_dummy-kept : View → ℕ → Bool
+is_dummy-kept v h = quorum v (v.dummy_mask h)
 
-same·isDummy : isDummy·kept is-kept page.isDummy
-unfolding isDummy·kept page.isDummy
-same·isDummy = by-text
+same-is_dummy : is_dummy-kept is-kept page.is_dummy
+unfolding is_dummy-kept page.is_dummy
+same-is_dummy = by-text
 
-dummyRun·kept : View → ℕ → ℕ → Bool
-dummyRun·kept v j zero = true
-dummyRun·kept v j (suc count) = dummyRun·kept v j count && isDummy v (j + suc count)
+dummy_run-kept : View → ℕ → ℕ → Bool
+dummy_run-kept v j zero = true
+dummy_run-kept v j (suc count) = dummy_run-kept v j count && is_dummy v (j + suc count)
 
-same·dummyRun : dummyRun·kept is-kept page.dummyRun
-unfolding dummyRun·kept page.dummyRun
-same·dummyRun = by-text
+same-dummy_run : dummy_run-kept is-kept page.dummy_run
+unfolding dummy_run-kept page.dummy_run
+same-dummy_run = by-text
 
-chainWithin·kept : ℕ → View → ℕ → List Bytes
-chainWithin·kept zero v h = []
-chainWithin·kept (suc fuel) v h =
-    cond (eqb h 0) [] (chainWithin·kept fuel v (parentHeight (v.block h)) ++ (v.block h ∷ []))
+chain_within-kept : ℕ → View → ℕ → List Bytes
+chain_within-kept zero v h = []
+chain_within-kept (suc fuel) v h =
+    cond (eqb h 0) [] (chain_within-kept fuel v (parent_height (v.block h)) ++ (v.block h ∷ []))
 
-same·chainWithin : chainWithin·kept is-kept page.chainWithin
-unfolding chainWithin·kept page.chainWithin
-same·chainWithin = by-text
+same-chain_within : chain_within-kept is-kept page.chain_within
+unfolding chain_within-kept page.chain_within
+same-chain_within = by-text
 
-chain·kept : View → ℕ → List Bytes
-chain·kept v h = chainWithin h v h
+chain-kept : View → ℕ → List Bytes
+chain-kept v h = chain_within h v h
 
-same·chain : chain·kept is-kept page.chain
-unfolding chain·kept page.chain
-same·chain = by-text
+same-chain : chain-kept is-kept page.chain
+unfolding chain-kept page.chain
+same-chain = by-text
 
-logAt·kept : View → ℕ → List Bytes
-logAt·kept v h = allEntries (chain v h)
+log_at-kept : View → ℕ → List Bytes
+log_at-kept v h = all_entries (chain v h)
 
-same·logAt : logAt·kept is-kept page.log_at
-unfolding logAt·kept page.log_at
-same·logAt = by-text
+same-log_at : log_at-kept is-kept page.log_at
+unfolding log_at-kept page.log_at
+same-log_at = by-text
 
-abbrev logOf·kept : View → ℕ → List Bytes
-logOf·kept v g = distinct (log_at v g)
+abbrev log_of-kept : View → ℕ → List Bytes
+log_of-kept v g = distinct (log_at v g)
 
-same·logOf : logOf·kept is-kept page.logOf
-same·logOf = by-text
+same-log_of : log_of-kept is-kept page.log_of
+same-log_of = by-text
 
 module _ (digest : Bytes → Bytes) where
-  abbrev digestAt : View → ℕ → Bytes
-  digestAt = page.digestAt digest
+  abbrev digest_at : View → ℕ → Bytes
+  digest_at = page.digest_at digest
 
-  abbrev extendsOver : (ℕ → Bool) → View → ℕ → Bytes → Bool
-  extendsOver = page.extendsOver digest
+  abbrev extends_over : (ℕ → Bool) → View → ℕ → Bytes → Bool
+  extends_over = page.extends_over digest
 
-  abbrev linkedWithin : ℕ → View → ℕ → Bool
-  linkedWithin = page.linkedWithin digest
+  abbrev linked_within : ℕ → View → ℕ → Bool
+  linked_within = page.linked_within digest
 
   abbrev linked : View → ℕ → Bool
   linked = page.linked digest
 
-  abbrev isFinalized : View → ℕ → Bool
-  isFinalized = page.isFinalized digest
+  abbrev is_finalized : View → ℕ → Bool
+  is_finalized = page.is_finalized digest
 
-  digestAt·kept : View → ℕ → Bytes
-  digestAt·kept v zero = zeros digestSize
-  digestAt·kept v (suc j) = digest (v.block (suc j))
+  digest_at-kept : View → ℕ → Bytes
+  digest_at-kept v zero = zeros digest_size
+  digest_at-kept v (suc j) = digest (v.block (suc j))
 
-  same·digestAt : digestAt·kept is-kept page.digestAt digest
-  unfolding digestAt·kept page.digestAt
-  same·digestAt = by-text
+  same-digest_at : digest_at-kept is-kept page.digest_at digest
+  unfolding digest_at-kept page.digest_at
+  same-digest_at = by-text
 
-  extendsOver·kept : (ℕ → Bool) → View → ℕ → Bytes → Bool
-  extendsOver·kept linkedBelow v h block =
-      let j : ℕ = parentHeight block in
+  extends_over-kept : (ℕ → Bool) → View → ℕ → Bytes → Bool
+  extends_over-kept linkedBelow v h block =
+      let j : ℕ = parent_height block in
       all_of
       (ltb j h ∷
       linkedBelow j ∷
-      same (parentDigest block) (digestAt v j) ∷
-      dummyRun v j (h - 1 - j) ∷ [])
+      same (parent_digest block) (digest_at v j) ∷
+      dummy_run v j (h - 1 - j) ∷ [])
 
-  same·extendsOver : extendsOver·kept is-kept page.extendsOver digest
-  unfolding extendsOver·kept page.extendsOver
-  same·extendsOver = by-text
+  same-extends_over : extends_over-kept is-kept page.extends_over digest
+  unfolding extends_over-kept page.extends_over
+  same-extends_over = by-text
 
-  linkedWithin·kept : ℕ → View → ℕ → Bool
-  linkedWithin·kept zero v h = eqb h 0
-  linkedWithin·kept (suc fuel) v h =
-      eqb h 0 || v.hasBlock h && extendsOver (λ j. linkedWithin·kept fuel v j) v h (v.block h)
+  linked_within-kept : ℕ → View → ℕ → Bool
+  linked_within-kept zero v h = eqb h 0
+  linked_within-kept (suc fuel) v h =
+      eqb h 0 || v.has_block h && extends_over (λ j. linked_within-kept fuel v j) v h (v.block h)
 
-  same·linkedWithin : linkedWithin·kept is-kept page.linkedWithin digest
-  unfolding linkedWithin·kept page.linkedWithin
-  same·linkedWithin = by-text
+  same-linked_within : linked_within-kept is-kept page.linked_within digest
+  unfolding linked_within-kept page.linked_within
+  same-linked_within = by-text
 
-  linked·kept : View → ℕ → Bool
-  linked·kept v h = linkedWithin h v h
+  linked-kept : View → ℕ → Bool
+  linked-kept v h = linked_within h v h
 
-  same·linked : linked·kept is-kept page.linked digest
-  unfolding linked·kept page.linked
-  same·linked = by-text
+  same-linked : linked-kept is-kept page.linked digest
+  unfolding linked-kept page.linked
+  same-linked = by-text
 
-  extends·kept : View → ℕ → Bytes → Bool
-  extends·kept v h block = extendsOver (λ j. linked v j) v h block
+  extends-kept : View → ℕ → Bytes → Bool
+  extends-kept v h block = extends_over (λ j. linked v j) v h block
 
-  same·extends : extends·kept is-kept page.extends digest
-  unfolding extends·kept page.extends
-  same·extends = by-text
+  same-extends : extends-kept is-kept page.extends digest
+  unfolding extends-kept page.extends
+  same-extends = by-text
 
-  isFinalized·kept : View → ℕ → Bool
-  isFinalized·kept v h = linked v h && quorum v (v.finalizeMask h)
+  is_finalized-kept : View → ℕ → Bool
+  is_finalized-kept v h = linked v h && quorum v (v.finalize_mask h)
 
-  same·isFinalized : isFinalized·kept is-kept page.isFinalized digest
-  unfolding isFinalized·kept page.isFinalized
-  same·isFinalized = by-text
+  same-is_finalized : is_finalized-kept is-kept page.is_finalized digest
+  unfolding is_finalized-kept page.is_finalized
+  same-is_finalized = by-text
 
-  largestFinalized·kept : View → ℕ → ℕ
-  largestFinalized·kept v zero = 0
-  largestFinalized·kept v (suc h) = cond (isFinalized v (suc h)) (suc h) (largestFinalized·kept v h)
+  largest_finalized-kept : View → ℕ → ℕ
+  largest_finalized-kept v zero = 0
+  largest_finalized-kept v (suc h) = cond (is_finalized v (suc h)) (suc h) (largest_finalized-kept v h)
 
-  same·largestFinalized : largestFinalized·kept is-kept page.largestFinalized digest
-  unfolding largestFinalized·kept page.largestFinalized
-  same·largestFinalized = by-text
+  same-largest_finalized : largest_finalized-kept is-kept page.largest_finalized digest
+  unfolding largest_finalized-kept page.largest_finalized
+  same-largest_finalized = by-text
 
-  parentOf·kept : View → ℕ → Option ℕ
-  parentOf·kept v zero = some 0
-  parentOf·kept v (suc h) = cond (linked v (suc h)) (some (suc h)) (cond (isDummy v (suc h)) (parentOf·kept v h) none)
+  parent_of-kept : View → ℕ → Option ℕ
+  parent_of-kept v zero = some 0
+  parent_of-kept v (suc h) = cond (linked v (suc h)) (some (suc h)) (cond (is_dummy v (suc h)) (parent_of-kept v h) none)
 
-  same·parentOf : parentOf·kept is-kept page.parent_of digest
-  unfolding parentOf·kept page.parent_of
-  same·parentOf = by-text
+  same-parent_of : parent_of-kept is-kept page.parent_of digest
+  unfolding parent_of-kept page.parent_of
+  same-parent_of = by-text

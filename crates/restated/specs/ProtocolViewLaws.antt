@@ -1,12 +1,11 @@
 -- Written by tests/restated --write: what docs/statements has of
--- crates/protocol/specs/Laws/ViewLaws.antt.
-use package.Prim.Native.Nat.{ℕ, ◌+◌, ◌≤◌, ◌<◌}
-use package.mathlib.Core.Path.{◌≡◌}
-use package.mathlib.Core.Bool.{true}
-use package.Rattle.protocol.specs.View.{View, isDummy, dummyRun}
-use package.mathlib.Core.Path.{◌≡◌ as ◌is-kept◌, refl as by-text}
+-- crates/protocol/proofs/Laws/ViewLaws.antt.
+use Prim.Native.Nat.{ℕ, ◌+◌, ◌≤◌, ◌<◌}
+use Rattle.std.specs.Prelude.{◌≡◌, true}
+use package.Rattle.protocol.specs.View.{View, is_dummy, dummy_run}
+use mathlib.Core.Path.{◌≡◌ as ◌is-kept◌, refl as by-text}
 use package.Rattle.protocol.proofs.Laws.ViewLaws as page
 
-pub run-sound·kept : (v : View) (j count : ℕ) → dummyRun v j count ≡ true → (k : ℕ) → j < k → k ≤ j + count →
-    isDummy v k ≡ true
-run-sound·kept = page.run_sound
+pub run_sound-kept : (v : View) (j count : ℕ) → dummy_run v j count ≡ true → (k : ℕ) → j < k → k ≤ j + count →
+    is_dummy v k ≡ true
+run_sound-kept = page.run_sound

@@ -1,30 +1,28 @@
 -- Written by tests/restated --write: what docs/statements has of
 -- crates/sha256/specs/Compression.antt.
-use package.Prim.Native.Nat.{ℕ}
-use package.mathlib.Core.List.{List, [], ◌∷◌}
-use package.lib.ListN.{get_or}
+use Rattle.std.specs.Prelude.{ℕ, List, [], ◌∷◌, slice_index}
 use package.Rattle.sha256_functions.specs.Words.{add}
 use package.Rattle.sha256_schedule.specs.Schedule.{schedule}
 use package.Rattle.sha256_rounds.specs.Rounds.{rounds}
 use package.Rattle.sha256.specs.Bytes.{Bytes}
-use package.Rattle.sha256.specs.Compression.{addWords}
-use package.mathlib.Core.Path.{◌≡◌ as ◌is-kept◌, refl as by-text}
+use package.Rattle.sha256.specs.Compression.{add_words}
+use mathlib.Core.Path.{◌≡◌ as ◌is-kept◌, refl as by-text}
 use package.Rattle.sha256.specs.Compression as page
 
-addWords·kept : List ℕ → List ℕ → List ℕ
-addWords·kept s hash =
-    add (get_or s 0 0) (get_or hash 0 0) ∷ add (get_or s 1 0) (get_or hash 1 0) ∷ add (get_or s 2 0) (get_or hash 2 0) ∷ add
-    (get_or s 3 0) (get_or hash 3 0)
-    ∷ add (get_or s 4 0) (get_or hash 4 0) ∷ add (get_or s 5 0) (get_or hash 5 0) ∷ add (get_or s 6 0) (get_or hash 6 0) ∷ add
-    (get_or s 7 0) (get_or hash 7 0) ∷ []
+add_words-kept : List ℕ → List ℕ → List ℕ
+add_words-kept s hash =
+    add (slice_index s 0) (slice_index hash 0) ∷ add (slice_index s 1) (slice_index hash 1) ∷ add (slice_index s 2) (slice_index hash 2) ∷ add
+    (slice_index s 3) (slice_index hash 3)
+    ∷ add (slice_index s 4) (slice_index hash 4) ∷ add (slice_index s 5) (slice_index hash 5) ∷ add (slice_index s 6) (slice_index hash 6) ∷ add
+    (slice_index s 7) (slice_index hash 7) ∷ []
 
-same·addWords : addWords·kept is-kept page.addWords
-unfolding addWords·kept page.addWords
-same·addWords = by-text
+same-add_words : add_words-kept is-kept page.add_words
+unfolding add_words-kept page.add_words
+same-add_words = by-text
 
-compression·kept : List ℕ → Bytes → List ℕ
-compression·kept hash block = addWords (rounds hash (schedule block) 64) hash
+compression-kept : List ℕ → Bytes → List ℕ
+compression-kept hash block = add_words (rounds hash (schedule block) 64) hash
 
-same·compression : compression·kept is-kept page.compression
-unfolding compression·kept page.compression
-same·compression = by-text
+same-compression : compression-kept is-kept page.compression
+unfolding compression-kept page.compression
+same-compression = by-text

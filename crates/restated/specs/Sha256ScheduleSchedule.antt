@@ -1,52 +1,50 @@
 -- Written by tests/restated --write: what docs/statements has of
 -- crates/sha256_schedule/specs/Schedule.antt.
-use package.Prim.Native.Nat.{ℕ, zero, suc, ◌+◌, ◌-◌, ◌*◌, ◌^◌}
-use package.mathlib.Core.List.{List, [], ◌∷◌, ◌++◌}
-use package.lib.ListN.{get_or}
+use Rattle.std.specs.Prelude.{ℕ, zero, suc, ◌+◌, ◌-◌, ◌*◌, ◌^◌, List, [], ◌∷◌, ◌++◌, slice_index, slice_index_or}
 use package.Rattle.sha256_functions.specs.Bytes.{Bytes}
 use package.Rattle.sha256_functions.specs.Words.{add}
 use package.Rattle.sha256_functions.specs.Functions.{σ0, σ1}
-use package.Rattle.sha256_schedule.specs.Schedule.{messageWord, messageWords, nextWord, scheduleTo}
-use package.mathlib.Core.Path.{◌≡◌ as ◌is-kept◌, refl as by-text}
+use package.Rattle.sha256_schedule.specs.Schedule.{message_word, message_words, next_word, schedule_to}
+use mathlib.Core.Path.{◌≡◌ as ◌is-kept◌, refl as by-text}
 use package.Rattle.sha256_schedule.specs.Schedule as page
 
-messageWord·kept : Bytes → ℕ → ℕ
-messageWord·kept block t =
-    get_or block (4 * t) 0 * 2 ^ 24 + get_or block (4 * t + 1) 0 * 2 ^ 16 + get_or block (4 * t + 2) 0 * 2 ^ 8 + get_or block
+message_word-kept : Bytes → ℕ → ℕ
+message_word-kept block t =
+    slice_index block (4 * t) * 2 ^ 24 + slice_index block (4 * t + 1) * 2 ^ 16 + slice_index block (4 * t + 2) * 2 ^ 8 + slice_index_or block
     (4 * t + 3) 0
 
-same·messageWord : messageWord·kept is-kept page.messageWord
-unfolding messageWord·kept page.messageWord
-same·messageWord = by-text
+same-message_word : message_word-kept is-kept page.message_word
+unfolding message_word-kept page.message_word
+same-message_word = by-text
 
-messageWords·kept : Bytes → ℕ → List ℕ
-messageWords·kept block zero = []
-messageWords·kept block (suc t) = messageWords·kept block t ++ (messageWord block t ∷ [])
+message_words-kept : Bytes → ℕ → List ℕ
+message_words-kept block zero = []
+message_words-kept block (suc t) = message_words-kept block t ++ (message_word block t ∷ [])
 
-same·messageWords : messageWords·kept is-kept page.messageWords
-unfolding messageWords·kept page.messageWords
-same·messageWords = by-text
+same-message_words : message_words-kept is-kept page.message_words
+unfolding message_words-kept page.message_words
+same-message_words = by-text
 
-nextWord·kept : List ℕ → ℕ → ℕ
-nextWord·kept W t = add (add (add (σ1 (get_or W (t - 2) 0)) (get_or W (t - 7) 0)) (σ0 (get_or W (t - 15) 0))) (get_or W (t - 16) 0)
+next_word-kept : List ℕ → ℕ → ℕ
+next_word-kept W t = add (add (add (σ1 (slice_index W (t - 2))) (slice_index W (t - 7))) (σ0 (slice_index W (t - 15)))) (slice_index W (t - 16))
 
-same·nextWord : nextWord·kept is-kept page.nextWord
-unfolding nextWord·kept page.nextWord
-same·nextWord = by-text
+same-next_word : next_word-kept is-kept page.next_word
+unfolding next_word-kept page.next_word
+same-next_word = by-text
 
-scheduleTo·kept : Bytes → ℕ → List ℕ
-scheduleTo·kept block zero = messageWords block 16
-scheduleTo·kept block (suc n) =
-    let W = scheduleTo·kept block n in
-    W ++ (nextWord W (16 + n) ∷ [])
+schedule_to-kept : Bytes → ℕ → List ℕ
+schedule_to-kept block zero = message_words block 16
+schedule_to-kept block (suc n) =
+    let W = schedule_to-kept block n in
+    W ++ (next_word W (16 + n) ∷ [])
 
-same·scheduleTo : scheduleTo·kept is-kept page.scheduleTo
-unfolding scheduleTo·kept page.scheduleTo
-same·scheduleTo = by-text
+same-schedule_to : schedule_to-kept is-kept page.schedule_to
+unfolding schedule_to-kept page.schedule_to
+same-schedule_to = by-text
 
-schedule·kept : Bytes → List ℕ
-schedule·kept block = scheduleTo block 48
+schedule-kept : Bytes → List ℕ
+schedule-kept block = schedule_to block 48
 
-same·schedule : schedule·kept is-kept page.schedule
-unfolding schedule·kept page.schedule
-same·schedule = by-text
+same-schedule : schedule-kept is-kept page.schedule
+unfolding schedule-kept page.schedule
+same-schedule = by-text

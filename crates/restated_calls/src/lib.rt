@@ -1,4 +1,6 @@
 // Written by tests/restated --write: the kept contracts, each of a function that calls the one that has it.
+#![tactic(auto)]
+
 pub mod observer_deliver;
 pub mod observer_make_move;
 pub mod observer_open;

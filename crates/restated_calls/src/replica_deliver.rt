@@ -1,16 +1,16 @@
 // Written by tests/restated --write: what docs/statements has of
 // crates/replica/src/deliver.rt.
-ghost use package.mathlib.Core.Path.{◌≡◌};
+ghost use Rattle.std.specs.Prelude.{◌≡◌};
 ghost use package.Rattle.sha256.specs.Digest.{sha256};
-ghost use package.Rattle.protocol.specs.Deliver.{deliverCall};
-ghost use package.Rattle.answers.specs.Answers.{deliveredAnswer};
+ghost use package.Rattle.protocol.specs.Deliver.{deliver_call};
+ghost use package.Rattle.answers.specs.Answers.{delivered_answer};
 
 use answers::answer::Delivered;
 
 // Reads a frame and keeps what it states, or fires the timer by it; a refused call changes nothing.
 pub fn deliver(book: &mut [u8], frame: &[u8]) -> Delivered
-    ensures answer { deliveredAnswer result ≡ (deliverCall sha256 book.old frame.now).answer }
-    ensures book { book.new ≡ (deliverCall sha256 book.old frame.now).book }
+    ensures answer { delivered_answer result ≡ (deliver_call sha256 book.old frame.now).answer }
+    ensures book { book.new ≡ (deliver_call sha256 book.old frame.now).book }
 {
     replica::deliver::deliver(book, frame)
 }

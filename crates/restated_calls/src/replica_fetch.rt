@@ -1,18 +1,18 @@
 // Written by tests/restated --write: what docs/statements has of
 // crates/replica/src/fetch.rt.
-ghost use package.mathlib.Core.Path.{◌≡◌};
+ghost use Rattle.std.specs.Prelude.{◌≡◌};
 ghost use package.Rattle.sha256.specs.Digest.{sha256 as sha};
-ghost use package.Rattle.protocol.specs.Fetch.{fetchCall};
-ghost use package.Rattle.answers.specs.Answers.{doneAnswer};
+ghost use package.Rattle.protocol.specs.Fetch.{fetch_call};
+ghost use package.Rattle.answers.specs.Answers.{done_answer};
 
 use answers::answer::Answer;
 
 // Writes a certificate that the book has. Reads the book once to see that it is sound, and stores 224 bytes.
 pub fn fetch(book: &[u8], kind: usize, height: usize, reply: &mut [u8]) -> Answer
-    ensures answer { doneAnswer result ≡
-        (fetchCall sha book.now kind height reply.old).answer }
+    ensures answer { done_answer result ≡
+        (fetch_call sha book.now kind height reply.old).answer }
     ensures reply { reply.new ≡
-        (fetchCall sha book.now kind height reply.old).reply }
+        (fetch_call sha book.now kind height reply.old).reply }
 {
     replica::fetch::fetch(book, kind, height, reply)
 }

@@ -1,8 +1,8 @@
 // Written by tests/restated --write: what docs/statements has of
 // crates/replica/src/open.rt.
-ghost use package.mathlib.Core.Path.{◌≡◌};
-ghost use package.Rattle.protocol.specs.Open.{long, openCall};
-ghost use package.Rattle.answers.specs.Answers.{doneAnswer};
+ghost use Rattle.std.specs.Prelude.{◌≡◌};
+ghost use package.Rattle.protocol.specs.Open.{long, open_call};
+ghost use package.Rattle.answers.specs.Answers.{done_answer};
 
 use answers::answer::Answer;
 
@@ -15,10 +15,10 @@ pub fn open(
     weights: &[u8],
     leaders: &[u8],
 ) -> Answer
-    ensures answer { doneAnswer result ≡
-        (openCall (long weights.now) book.old n own heights leaders.now).answer }
+    ensures answer { done_answer result ≡
+        (open_call (long weights.now) book.old n own heights leaders.now).answer }
     ensures book { book.new ≡
-        (openCall (long weights.now) book.old n own heights leaders.now).book }
+        (open_call (long weights.now) book.old n own heights leaders.now).book }
 {
     replica::open::open(book, n, own, heights, weights, leaders)
 }

@@ -1,17 +1,17 @@
 // Written by tests/restated --write: what docs/statements has of
 // crates/replica/src/submit.rt.
-ghost use package.mathlib.Core.Path.{◌≡◌};
+ghost use Rattle.std.specs.Prelude.{◌≡◌};
 ghost use package.Rattle.sha256.specs.Digest.{sha256 as sha};
-ghost use package.Rattle.protocol.specs.Submit.{submitCall};
-ghost use package.Rattle.answers.specs.Answers.{doneAnswer};
+ghost use package.Rattle.protocol.specs.Submit.{submit_call};
+ghost use package.Rattle.answers.specs.Answers.{done_answer};
 
 use answers::answer::Answer;
 
 // One more pending entry. Reads the book once to see that it is sound, and walks the log once for each pending entry,
 // twice where 32 are pending.
 pub fn submit(book: &mut [u8], entry: &[u8]) -> Answer
-    ensures answer { doneAnswer result ≡ (submitCall sha book.old entry.now).answer }
-    ensures book { book.new ≡ (submitCall sha book.old entry.now).book }
+    ensures answer { done_answer result ≡ (submit_call sha book.old entry.now).answer }
+    ensures book { book.new ≡ (submit_call sha book.old entry.now).book }
 {
     replica::submit::submit(book, entry)
 }

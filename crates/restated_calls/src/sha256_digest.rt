@@ -1,6 +1,6 @@
 // Written by tests/restated --write: what docs/statements has of
 // crates/sha256/src/digest.rt.
-ghost use package.mathlib.Core.Path.{◌≡◌};
+ghost use Rattle.std.specs.Prelude.{◌≡◌};
 ghost use package.Rattle.sha256.specs.Digest.{sha256};
 
 // SHA-256 of any message.

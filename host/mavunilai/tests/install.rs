@@ -273,5 +273,5 @@ fn usage_is_told() {
         Command::new(host("install")).arg(fresh("none")).env("MAVUNILAI_LIB", "/nowhere").output();
     let missing = missing.unwrap();
     assert_eq!(missing.status.code(), Some(2));
-    assert!(String::from_utf8(missing.stderr).unwrap().contains("rt staticlib replica_c"));
+    assert!(String::from_utf8(missing.stderr).unwrap().contains("host/library"));
 }
