@@ -1,6 +1,7 @@
 // The archive for programs in C: what `replica_c` offers, under the same names and with the same clauses.
 // host/include/mavunilai.h declares it.
 #![tactic(auto)]
+
 ghost use Rattle.std.specs.Prelude.{◌≡◌, length};
 ghost use Rattle.sha256.specs.Digest.{sha256};
 ghost use Rattle.protocol.specs.Open.{long, open_call};

@@ -22,26 +22,26 @@ extends-returns-then-dummies_after-clause-answer t c =
     let v = view_of c.args.kind c.args.book.now in
     let j = c.parent_height-j.result in
     c.names_parent.ensures.answer ∙ sym (extends_by_digest v c.args.h j c.args.block.now
-        (sym c.parent_height-j.ensures.0) (lt-ltb j c.args.h c.if-j-h.true)
-        (sym c.linked.ensures.answer ∙ c.if-linked.true)
-        (sym c.dummies_after.ensures.answer ∙ c.if-dummies_after.true))
+    (sym c.parent_height-j.ensures.0) (lt-ltb j c.args.h c.if-j-h.true)
+    (sym c.linked.ensures.answer ∙ c.if-linked.true)
+    (sym c.dummies_after.ensures.answer ∙ c.if-dummies_after.true))
 
 pub extends-returns-else-dummies_after-clause-answer :
     goal.extends-returns-else-dummies_after-clause-answer
 extends-returns-else-dummies_after-clause-answer t c =
     sym (extends_not_run (view_of c.args.kind c.args.book.now) c.args.h c.parent_height-j.result c.args.block.now
-        (sym c.parent_height-j.ensures.0) (sym c.dummies_after.ensures.answer ∙ c.if-dummies_after.false))
+    (sym c.parent_height-j.ensures.0) (sym c.dummies_after.ensures.answer ∙ c.if-dummies_after.false))
 
 pub extends-returns-else-linked-clause-answer : goal.extends-returns-else-linked-clause-answer
 extends-returns-else-linked-clause-answer t c =
     sym (extends_not_linked (view_of c.args.kind c.args.book.now) c.args.h c.parent_height-j.result c.args.block.now
-        (sym c.parent_height-j.ensures.0) (sym c.linked.ensures.answer ∙ c.if-linked.false))
+    (sym c.parent_height-j.ensures.0) (sym c.linked.ensures.answer ∙ c.if-linked.false))
 
 pub extends-returns-else-j-h-clause-answer : goal.extends-returns-else-j-h-clause-answer
 extends-returns-else-j-h-clause-answer t c =
     let j = c.parent_height-j.result in
     sym (extends_not_below (view_of c.args.kind c.args.book.now) c.args.h j c.args.block.now
-        (sym c.parent_height-j.ensures.0) (le-ltb j c.args.h (omega arith)))
+    (sym c.parent_height-j.ensures.0) (le-ltb j c.args.h (omega arith)))
 
 -- ---- `linked`
 pub linked-returns-then-h-eq0-clause-answer : goal.linked-returns-then-h-eq0-clause-answer
@@ -91,4 +91,4 @@ pub links_back-returns-else-has_block-clause-answer :
     goal.links_back-returns-else-has_block-clause-answer
 links_back-returns-else-has_block-clause-answer t c =
     sym (not_linked_without (view_of c.args.kind c.args.book.now) c.args.h c.requires.within.low
-        (sym c.has_block.ensures ∙ c.if-has_block.false))
+    (sym c.has_block.ensures ∙ c.if-has_block.false))
