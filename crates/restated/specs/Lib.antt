@@ -2,10 +2,14 @@
 pub mod AgreementBackingLaws
 pub mod AgreementChainsLaws
 pub mod AgreementMetLaws
+pub mod AgreementObserverBookLaws
 pub mod AgreementObserverRunLaws
+pub mod AgreementReplicaLaws
+pub mod AgreementRunLaws
 pub mod AgreementStandsForLaws
 pub mod AgreementStandsForLaws2
 pub mod AgreementStandsForLaws3
+pub mod AgreementStatementsLaws
 pub mod AgreementViewsLaws
 pub mod AgreementViewsLaws2
 pub mod AgreementAnyDigest
