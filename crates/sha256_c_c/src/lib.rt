@@ -3,7 +3,6 @@
 
 ghost use Rattle.std.specs.Prelude.{◌≡◌, leb, length};
 ghost use Rattle.sha256_c.specs.Written.{written};
-ghost use Rattle.sha256_c.specs.DigestCall.{digest_number};
 
 // Writes the digest of the message to the first 32 bytes of `out` and answers true; where `out` is shorter, changes
 // nothing and answers false.
