@@ -1,42 +1,53 @@
 -- The answers of the code, case by case, as the protocol's answers: document 01's numbers and values.
-use Rattle.std.specs.Prelude.{ℕ}
+use Rattle.std.specs.Prelude.{ℕ, ⊤, Result, Ok, Err}
 use Rattle.protocol.specs.Answer as protocol
-use Rattle.protocol.specs.Answer.{refused, accepted, Done, done, Delivery, known, fresh, Counts, Move, idle, vote_dummy}
+use Rattle.protocol.specs.Answer.{refused, accepted, Done, done, Delivery, known, fresh, Move, idle, vote_dummy}
 use Rattle.protocol.specs.Answer.{output, pass, propose, vote_block, on_block, on_dummy}
-use Rattle.answers.specs.declared.answer.Answer.{Answer}
-use Rattle.answers.specs.declared.answer.Delivered.{Delivered}
-use Rattle.answers.specs.declared.answer.Counted.{Counted}
+use Rattle.answers.specs.Refusal.{number_of}
 use Rattle.answers.specs.declared.answer.Certificate.{Certificate}
+use Rattle.answers.specs.declared.answer.Counts.{Counts}
+use Rattle.answers.specs.declared.answer.Delivered.{Delivered}
 use Rattle.answers.specs.declared.answer.Moved.{Moved}
-use Rattle.answers.specs.declared.answer.Size.{Size}
+use Rattle.answers.specs.declared.refusal.Refusal.{Refusal}
 
-unfoldable pub done_answer : Answer → protocol.Answer Done
-done_answer Answer.Done = accepted done
-done_answer (Answer.Refused number) = refused number
+-- an answer with a refusal or without, by what the answer without one means
+abbrev pub answer_by : {A B : Type 0} → (A → B) → Result A Refusal → protocol.Answer B
+answer_by meaning (Ok answer) = accepted (meaning answer)
+answer_by meaning (Err refusal) = refused (number_of refusal)
 
-unfoldable pub delivered_answer : Delivered → protocol.Answer Delivery
-delivered_answer Delivered.Fresh = accepted fresh
-delivered_answer Delivered.Known = accepted known
-delivered_answer (Delivered.Refused number) = refused number
+-- Open, Signal, Submit and Fetch
+abbrev pub done_answer : Result ⊤ Refusal → protocol.Answer Done
+done_answer = answer_by (λ _. done)
 
-unfoldable pub counted_answer : Counted → protocol.Answer Counts
-counted_answer (Counted.Frames freshCount knownCount refusedCount) =
-    accepted (record { fresh_frames = freshCount; known_frames = knownCount; refused_frames = refusedCount })
-counted_answer (Counted.Refused number) = refused number
+abbrev pub delivery_of : Delivered → Delivery
+delivery_of Delivered.Fresh = fresh
+delivery_of Delivered.Known = known
 
-unfoldable pub certificate_of : Certificate → protocol.Certificate
+abbrev pub delivered_answer : Result Delivered Refusal → protocol.Answer Delivery
+delivered_answer = answer_by delivery_of
+
+abbrev pub counts_of : Counts → protocol.Counts
+counts_of counts =
+    record { fresh_frames = counts.fresh; known_frames = counts.known; refused_frames = counts.refused }
+
+abbrev pub counted_answer : Result Counts Refusal → protocol.Answer protocol.Counts
+counted_answer = answer_by counts_of
+
+abbrev pub certificate_of : Certificate → protocol.Certificate
 certificate_of Certificate.Page = on_block
 certificate_of Certificate.Blank = on_dummy
 
-unfoldable pub moved_answer : Moved → protocol.Answer Move
-moved_answer Moved.Idle = accepted idle
-moved_answer (Moved.Dummy h) = accepted (vote_dummy h)
-moved_answer (Moved.Final g) = accepted (output g)
-moved_answer (Moved.Pass h certificate finalised) = accepted (pass h (certificate_of certificate) finalised)
-moved_answer (Moved.Offer h) = accepted (propose h)
-moved_answer (Moved.Vote h) = accepted (vote_block h)
-moved_answer (Moved.Refused number) = refused number
+abbrev pub move_of : Moved → Move
+move_of Moved.Idle = idle
+move_of (Moved.Dummy h) = vote_dummy h
+move_of (Moved.Final g) = output g
+move_of (Moved.Pass h certificate finalised) = pass h (certificate_of certificate) finalised
+move_of (Moved.Offer h) = propose h
+move_of (Moved.Vote h) = vote_block h
 
-unfoldable pub size_answer : Size → protocol.Answer ℕ
-size_answer (Size.Bytes bytes) = accepted bytes
-size_answer (Size.Refused number) = refused number
+abbrev pub moved_answer : Result Moved Refusal → protocol.Answer Move
+moved_answer = answer_by move_of
+
+-- Register size
+abbrev pub size_answer : Result ℕ Refusal → protocol.Answer ℕ
+size_answer = answer_by (λ bytes. bytes)

@@ -1,10 +1,12 @@
 -- Document 01's number and values for each case of Move's answer, of the code's enum and of the protocol's answer.
-use Rattle.std.specs.Prelude.{ℕ}
+use Rattle.std.specs.Prelude.{ℕ, Result, Ok, Err}
 use Rattle.protocol.specs.Answer as protocol
 use Rattle.protocol.specs.Answer.{refused, accepted, certificate_kind, finalize_kind, move_number, move_height}
 use Rattle.protocol.specs.Answer.{Move, idle, vote_dummy, output, pass, propose, vote_block}
 use Rattle.answers.specs.declared.answer.Moved.{Moved}
+use Rattle.answers.specs.declared.refusal.Refusal.{Refusal}
 use Rattle.answers.specs.Answers.{certificate_of}
+use Rattle.answers.specs.Refusal.{number_of}
 
 -- a refusal's number, or the move's number and height, and for a pass the kinds of its two frames; 0 for all else
 pub record MoveNumbers : Type 0 where
@@ -18,21 +20,21 @@ pub record MoveNumbers : Type 0 where
 abbrev plain_move : ℕ → ℕ → MoveNumbers
 plain_move number h = record { refusal = 0; move = number; height = h; certificate = 0; finalize = 0 }
 
-unfoldable pub moved_numbers : Moved → MoveNumbers
-moved_numbers Moved.Idle = plain_move 0 0
-moved_numbers (Moved.Dummy h) = plain_move 1 h
-moved_numbers (Moved.Final g) = plain_move 2 g
-moved_numbers (Moved.Pass h certificate finalised) = record {
+unfoldable pub moved_numbers : Result Moved Refusal → MoveNumbers
+moved_numbers (Ok Moved.Idle) = plain_move 0 0
+moved_numbers (Ok (Moved.Dummy h)) = plain_move 1 h
+moved_numbers (Ok (Moved.Final g)) = plain_move 2 g
+moved_numbers (Ok (Moved.Pass h certificate finalised)) = record {
   refusal = 0;
   move = 3;
   height = h;
   certificate = certificate_kind (certificate_of certificate);
   finalize = finalize_kind finalised;
 }
-moved_numbers (Moved.Offer h) = plain_move 4 h
-moved_numbers (Moved.Vote h) = plain_move 5 h
-moved_numbers (Moved.Refused number) =
-    record { refusal = number; move = 0; height = 0; certificate = 0; finalize = 0 }
+moved_numbers (Ok (Moved.Offer h)) = plain_move 4 h
+moved_numbers (Ok (Moved.Vote h)) = plain_move 5 h
+moved_numbers (Err refusal) =
+    record { refusal = number_of refusal; move = 0; height = 0; certificate = 0; finalize = 0 }
 
 -- the kind of a pass's certificate, and 0 for other moves
 unfoldable pub move_certificate : Move → ℕ

@@ -1,4 +1,5 @@
-// What the calls of a replica answer.
+// What the calls of a replica answer, and why they refuse.
 #![tactic(auto)]
 
 pub mod answer;
+pub mod refusal;
