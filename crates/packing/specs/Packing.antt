@@ -6,29 +6,29 @@ use Rattle.protocol.specs.Answer.{vote_dummy, output, pass, propose, vote_block,
 use Rattle.protocol.specs.Answer.{move_number, move_height}
 
 -- Open, Signal, Submit, Fetch: 0 where the call is done
-unfoldable pub packed_done : Answer Done → ℕ
+abbrev pub packed_done : Answer Done → ℕ
 packed_done (refused number) = number
 packed_done (accepted answer) = 0
 
 -- Deliver: byte 1 is 1 where the book changed
-unfoldable pub packed_delivery : Answer Delivery → ℕ
+abbrev pub packed_delivery : Answer Delivery → ℕ
 packed_delivery (refused number) = number
 packed_delivery (accepted known) = 0
 packed_delivery (accepted fresh) = 256
 
 -- Deliver of a packet: 0 where it is not refused
-unfoldable pub packed_packet : Answer Counts → ℕ
+abbrev pub packed_packet : Answer Counts → ℕ
 packed_packet (refused number) = number
 packed_packet (accepted counts) = 0
 
 -- the three lent numbers afterwards: how many frames were fresh, known and refused, in that order; a refused packet
 -- leaves them as they were
-unfoldable pub counts_after : Answer Counts → List ℕ → List ℕ
+abbrev pub counts_after : Answer Counts → List ℕ → List ℕ
 counts_after (refused number) before = before
 counts_after (accepted counts) before = counts.fresh_frames ∷ counts.known_frames ∷ counts.refused_frames ∷ []
 
 -- the certificate's kind and the finalize's kind of a pass, and 0 for other moves
-unfoldable pub pass_kinds : Move → ℕ
+abbrev pub pass_kinds : Move → ℕ
 pass_kinds idle = 0
 pass_kinds (vote_dummy h) = 0
 pass_kinds (output g) = 0
@@ -38,21 +38,21 @@ pass_kinds (vote_block h) = 0
 
 -- Move: byte 1 is the move's number, bytes 2 and 3 its height (at most 1,000), byte 4 the certificate's kind, byte 5
 -- the finalize's kind
-unfoldable pub packed_move : Answer Move → ℕ
+abbrev pub packed_move : Answer Move → ℕ
 packed_move (refused number) = number
 packed_move (accepted move) = 256 * move_number move + 65536 * move_height move + 4294967296 * pass_kinds move
 
 -- the height that an answer of Move names, and 0 for a refusal; at most 1,000 (PackingLaws)
-unfoldable pub answered_height : Answer Move → ℕ
+abbrev pub answered_height : Answer Move → ℕ
 answered_height (refused number) = 0
 answered_height (accepted move) = move_height move
 
 -- Register size: the bytes above the lowest are the size (at most 128,000)
-unfoldable pub packed_size : Answer ℕ → ℕ
+abbrev pub packed_size : Answer ℕ → ℕ
 packed_size (refused number) = number
 packed_size (accepted size) = 256 * size
 
 -- the size that an answer of Register size names, and 0 for a refusal; at most 128,000 (PackingLaws)
-unfoldable pub answered_size : Answer ℕ → ℕ
+abbrev pub answered_size : Answer ℕ → ℕ
 answered_size (refused number) = 0
 answered_size (accepted size) = size

@@ -3,66 +3,59 @@
 #![tactic(auto)]
 
 ghost use Rattle.std.specs.Prelude.{◌≡◌, ◌+◌, ◌*◌, ◌<◌, ◌≤◌};
-ghost use Rattle.protocol.specs.Answer.{certificate_kind, finalize_kind};
+ghost use Rattle.protocol.specs.Answer.{finalize_kind};
 ghost use Rattle.protocol.specs.Block.{maximum_heights};
-ghost use Rattle.answers.specs.Answers.{done_answer, delivered_answer, counted_answer, certificate_of, moved_answer};
+ghost use Rattle.answers.specs.Answers.{done_answer, delivered_answer, counted_answer, moved_answer};
 ghost use Rattle.answers.specs.Answers.{size_answer};
 ghost use Rattle.packing.specs.Packing.{packed_done, packed_delivery, packed_packet, counts_after, packed_move};
 ghost use Rattle.packing.specs.Packing.{packed_size, answered_height, answered_size};
 
-use answers::answer::{Answer, Certificate, Counted, Delivered, Moved, Size};
+use answers::answer::{Counts, Delivered, Moved};
+use answers::refusal::Refusal;
 
 // The number for an answer that says no more than done or refused.
-pub fn done_number(answer: Answer) -> usize
+pub fn done_number(answer: Result<(), Refusal>) -> usize
     ensures { result ≡ packed_done (done_answer answer) }
 {
-    match answer {
-        Answer::Done => 0,
-        Answer::Refused(number) => number,
-    }
+    answer.map_or_else(usize::from, |()| 0)
 }
 
 // The number for the answer of Deliver.
-pub fn delivered_number(answer: Delivered) -> usize
+pub fn delivered_number(answer: Result<Delivered, Refusal>) -> usize
     ensures { result ≡ packed_delivery (delivered_answer answer) }
 {
     match answer {
-        Delivered::Fresh => 256,
-        Delivered::Known => 0,
-        Delivered::Refused(number) => number,
+        Ok(Delivered::Fresh) => 256,
+        Ok(Delivered::Known) => 0,
+        Err(refusal) => usize::from(refusal),
     }
 }
 
 // The number for the answer of a packet.
-pub fn counted_number(answer: Counted) -> usize
+pub fn counted_number(answer: Result<Counts, Refusal>) -> usize
     ensures { result ≡ packed_packet (counted_answer answer) }
 {
-    match answer {
-        Counted::Frames(_, _, _) => 0,
-        Counted::Refused(number) => number,
-    }
+    answer.map_or_else(usize::from, |_counts| 0)
 }
 
 // Writes the counts of a packet's frames, unless it is refused.
-pub fn write_counts(answer: Counted, counts: &mut [usize; 3])
+pub fn write_counts(answer: Result<Counts, Refusal>, counts: &mut [usize; 3])
     ensures { counts.new ≡ counts_after (counted_answer answer) counts.old }
 {
-    if let Counted::Frames(fresh, known, refused) = answer {
+    if let Ok(
+        Counts {
+            fresh,
+            known,
+            refused,
+        },
+    ) = answer
+    {
         *counts = [fresh, known, refused];
     }
 }
 
-// The kind of a pass's first frame.
-fn certificate_number(certificate: Certificate) -> usize
-    ensures { (result ≡ certificate_kind (certificate_of certificate)) × (result < 8) }
-{
-    match certificate {
-        Certificate::Page => 5,
-        Certificate::Blank => 6,
-    }
-}
-
 // The kind of a pass's second frame, and 0 where the pass finalises nothing.
+#[tactic(auto, unfolding(protocol::specs::Answer::finalize_kind))]
 fn finalized_number(finalised: bool) -> usize
     ensures { (result ≡ finalize_kind finalised) × (result < 8) }
 {
@@ -79,31 +72,35 @@ fn move_number(number: usize, height: usize, kinds: usize) -> usize
 
 // The number for the answer of Move. No answer of Move names a height above 1,000 (`PackingLaws.move-height-low`), so
 // the sum fits.
-pub fn moved_number(answer: Moved) -> usize
+#[tactic(auto, unfolding(protocol::specs::Answer::certificate_kind, protocol::specs::Answer::move_height, protocol::specs::Answer::move_number))]
+pub fn moved_number(answer: Result<Moved, Refusal>) -> usize
     requires { answered_height (moved_answer answer) ≤ maximum_heights }
     ensures { result ≡ packed_move (moved_answer answer) }
 {
     match answer {
-        Moved::Idle => 0,
-        Moved::Dummy(h) => move_number(1, h, 0),
-        Moved::Final(g) => move_number(2, g, 0),
-        Moved::Pass(h, certificate, finalised) => {
-            let kinds = certificate_number(certificate) + 256 * finalized_number(finalised);
+        Ok(Moved::Idle) => 0,
+        Ok(Moved::Dummy(h)) => move_number(1, h, 0),
+        Ok(Moved::Final(g)) => move_number(2, g, 0),
+        Ok(Moved::Pass(h, certificate, finalised)) => {
+            let kinds = usize::from(certificate) + 256 * finalized_number(finalised);
             move_number(3, h, kinds)
         }
-        Moved::Offer(h) => move_number(4, h, 0),
-        Moved::Vote(h) => move_number(5, h, 0),
-        Moved::Refused(number) => number,
+        Ok(Moved::Offer(h)) => move_number(4, h, 0),
+        Ok(Moved::Vote(h)) => move_number(5, h, 0),
+        Err(refusal) => usize::from(refusal),
     }
 }
 
 // The number for the answer of Register size, which is at most 128,000 (`PackingLaws.size_low`), so the product fits.
-pub fn size_number(answer: Size) -> usize
+pub fn size_number(answer: Result<usize, Refusal>) -> usize
     requires { answered_size (size_answer answer) ≤ 128000 }
     ensures { result ≡ packed_size (size_answer answer) }
 {
-    match answer {
-        Size::Bytes(size) => 256 * size,
-        Size::Refused(number) => number,
-    }
+    answer.map_or_else(
+        usize::from,
+        |size: usize| -> usize
+            requires { size ≤ 128000 }
+            ensures { result ≡ 256 * size }
+        { 256 * size },
+    )
 }

@@ -59,7 +59,7 @@ module _ (digest : Bytes → Bytes) (book : Bytes) where
 
   -- ---- Move: it outputs a height of the book, or is idle and names 0
   pub observer_move_low : answered_height (observer_move_call digest book).answer ≤ maximum_heights
-  unfolding answered_height move_height new_finalized
+  unfolding move_height new_finalized
   observer_move_low = observer_move_cases digest book
       (λ (o : Outcome Move). answered_height o.answer ≤ maximum_heights)
       (λ _. omega arith)
@@ -93,7 +93,7 @@ module _ (digest : Bytes → Bytes) (book : Bytes) where
 
   -- ---- Register size: 16 bytes for each of at most 8,000 entries
   pub observer_size_low : answered_size (observer_size_call digest book) ≤ 128000
-  unfolding observer_size_call observer_log_size answered_size
+  unfolding observer_size_call observer_log_size
   observer_size_low =
       cond-elim (λ (a : Answer ℕ). answered_size a ≤ 128000) (observer_sound digest book)
       (λ e. omega (arith, log_few digest (observer_state book) (certified_observer (sound_observer digest book e))))

@@ -55,13 +55,13 @@ module _ (digest : Bytes → Bytes) where
 
       go : (r : Option ℕ) → (r ≡ none → sound digest book ≡ true) →
           answered_height (unless_move_refused r book reply (step digest (decode book))).answer ≤ maximum_heights
-      go none e = unfold unless_move_refused moved answered_height in
+      go none e = unfold unless_move_refused moved in
           omega (arith, step_within (decode book), last_high (sound_decode digest book (e refl)))
-      go (some number) e = unfold unless_move_refused answered_height in omega arith
+      go (some number) e = unfold unless_move_refused in omega arith
 
   -- ---- Register size: 16 bytes for each of at most 8,000 entries
   pub size_low : (book : Bytes) → answered_size (size_call digest book) ≤ 128000
-  unfolding size_call log_size answered_size
+  unfolding size_call log_size
   size_low book =
       cond-elim (λ (a : Answer ℕ). answered_size a ≤ 128000) (sound digest book)
       (λ e. omega (arith, log_few digest (decode book) (certified_state (sound_decode digest book e))))

@@ -11,7 +11,7 @@ use Rattle.protocol.specs.Answer.{Move, idle, vote_dummy, output, pass, propose,
 use Rattle.protocol.specs.Block.{maximum_heights}
 use Rattle.answers.specs.MoveNumbers.{answer_numbers, move_certificate, move_finalize}
 use Rattle.packing.specs.Packing.{packed_done, packed_delivery, packed_packet, packed_move, packed_size}
-use Rattle.packing.specs.Packing.{pass_kinds, answered_height, answered_size}
+use Rattle.packing.specs.Packing.{pass_kinds, answered_height}
 use Rattle.packing.specs.Unpacking.{unpacked_refusal, unpacked_fresh, unpacked_move, unpacked_height}
 use Rattle.packing.specs.Unpacking.{unpacked_certificate, unpacked_finalize, unpacked_size}
 use Rattle.packing.specs.Unpacking.{answered_fresh}
@@ -41,12 +41,12 @@ module _ (number : ℕ) (low : number ≤ last_refusal) where
 
 -- ---- packed and read back
 pub done_read_back : (a : Answer Done) → Numbered a → DoneRead (packed_done a) a
-unfolding packed_done unpacked_refusal refusal_number
+unfolding unpacked_refusal refusal_number
 done_read_back (refused number) ok = record { numbered = ok; refusal = refusal_low number (ok number refl).1 }
 done_read_back (accepted answer) ok = record { numbered = ok; refusal = byte 0 }
 
 pub delivery_read_back : (a : Answer Delivery) → Numbered a → DeliveryRead (packed_delivery a) a
-unfolding packed_delivery unpacked_refusal unpacked_fresh refusal_number answered_fresh
+unfolding unpacked_refusal unpacked_fresh refusal_number answered_fresh
 delivery_read_back (refused number) ok = record {
   numbered = ok;
   refusal = refusal_low number (ok number refl).1;
@@ -56,12 +56,12 @@ delivery_read_back (accepted known) ok = record { numbered = ok; refusal = byte 
 delivery_read_back (accepted fresh) ok = record { numbered = ok; refusal = byte 256; freshness = byte 1 }
 
 pub packet_read_back : (a : Answer Counts) → Numbered a → PacketRead (packed_packet a) a
-unfolding packed_packet unpacked_refusal refusal_number
+unfolding unpacked_refusal refusal_number
 packet_read_back (refused number) ok = record { numbered = ok; refusal = refusal_low number (ok number refl).1 }
 packet_read_back (accepted counts) ok = record { numbered = ok; refusal = byte 0 }
 
 pub size_read_back : (a : Answer ℕ) → Numbered a → SizeRead (packed_size a) a
-unfolding packed_size unpacked_refusal unpacked_size refusal_number answered_size
+unfolding unpacked_refusal unpacked_size refusal_number
 size_read_back (refused number) ok = record {
   numbered = ok;
   refusal = refusal_low number (ok number refl).1;
@@ -94,7 +94,7 @@ finalize_kind_low false = omega arith
 
 kinds : (m : Move) →
     (pass_kinds m ≡ move_certificate m + 256 * move_finalize m) × (move_certificate m < 256) × (move_finalize m < 256)
-unfolding pass_kinds move_certificate move_finalize
+unfolding move_certificate move_finalize
 kinds idle = (refl, omega arith, omega arith)
 kinds (vote_dummy h) = (refl, omega arith, omega arith)
 kinds (output g) = (refl, omega arith, omega arith)
@@ -103,7 +103,7 @@ kinds (propose h) = (refl, omega arith, omega arith)
 kinds (vote_block h) = (refl, omega arith, omega arith)
 
 pub move_read_back : (a : Answer Move) → Numbered a → answered_height a ≤ maximum_heights → MoveRead (packed_move a) a
-unfolding packed_move answered_height answer_numbers
+unfolding answer_numbers
 move_read_back (refused number) ok low =
     unfold unpacked_refusal unpacked_move unpacked_height unpacked_certificate unpacked_finalize in
     let fits : number ≤ last_refusal = (ok number refl).1 in
