@@ -2,28 +2,19 @@
 #![tactic(auto)]
 
 ghost use Rattle.std.specs.Prelude.{◌≡◌, ◌<◌, ◌≤◌, length, take};
-ghost use Rattle.sha256_schedule.specs.Schedule.{message_word, message_words, next_word};
+ghost use Rattle.sha256_schedule.specs.Schedule.{message_words, next_word};
 
 use sha256_functions::{lower_sigma_0, lower_sigma_1};
-
-// The word t of a block.
-#[tactic(auto, unfolding(crate::specs::Schedule::message_word))]
-fn message_word(block: &[u8], t: usize) -> u32
-    requires { (length block.now ≡ 64) × (t < 16) }
-    ensures { result ≡ message_word block.now t }
-{
-    let i = 4 * t;
-    u32::from_be_bytes([block[i], block[i + 1], block[i + 2], block[i + 3]])
-}
 
 // The sixteen words of the block, at the front of the schedule.
 pub fn message_words(block: &[u8]) -> [u32; 64]
     requires { length block.now ≡ 64 }
     ensures { take 16 result ≡ message_words block.now 16 }
 {
+    let (words, _) = block.as_chunks::<4>();
     let mut w = [0u32; 64];
     for t in 0..16 {
-        w[t] = message_word(block, t);
+        w[t] = u32::from_be_bytes(words[t]);
     }
     w
 }
