@@ -7,7 +7,6 @@ ghost use Rattle.sha256_rounds.specs.Constants.{K};
 ghost use Rattle.sha256_rounds.specs.Rounds.{round};
 
 use sha256_functions::{choose, majority, upper_sigma_0, upper_sigma_1};
-use std::num::wrapping_add_u32;
 
 // The constants of section 4.2.2, by round.
 const ROUND_CONSTANTS: [u32; 64] = [
@@ -78,29 +77,32 @@ const ROUND_CONSTANTS: [u32; 64] = [
 ];
 
 // The table of constants, held against the standard's.
+#[tactic(auto, unfolding(crate::specs::Constants::K))]
 pub fn round_constants() -> [u32; 64]
     ensures { result ≡ K }
 {
     ROUND_CONSTANTS
 }
 
-// One round on the eight words s: a is s[0], and h is s[7]. T1 is summed in the order in which its parts are at hand:
-// those of e come last.
+// One round on the eight words a to h. T1 is summed in the order in which its parts are at hand: those of e come last.
 pub fn one_round(s: [u32; 8], constant: u32, word: u32) -> [u32; 8]
     ensures { result ≡ round constant word s }
 {
-    let seed = wrapping_add_u32(wrapping_add_u32(s[7], constant), word);
-    let chosen = wrapping_add_u32(seed, choose(s[4], s[5], s[6]));
-    let first = wrapping_add_u32(chosen, upper_sigma_1(s[4]));
-    let second = wrapping_add_u32(upper_sigma_0(s[0]), majority(s[0], s[1], s[2]));
+    let [a, b, c, d, e, f, g, h] = s;
+    let first = h
+        .wrapping_add(constant)
+        .wrapping_add(word)
+        .wrapping_add(choose(e, f, g))
+        .wrapping_add(upper_sigma_1(e));
+    let second = upper_sigma_0(a).wrapping_add(majority(a, b, c));
     [
-        wrapping_add_u32(first, second),
-        s[0],
-        s[1],
-        s[2],
-        wrapping_add_u32(s[3], first),
-        s[4],
-        s[5],
-        s[6],
+        first.wrapping_add(second),
+        a,
+        b,
+        c,
+        d.wrapping_add(first),
+        e,
+        f,
+        g,
     ]
 }

@@ -1,36 +1,20 @@
 // The message schedule of FIPS 180-4, section 6.2.2, step 1: the words of a block, and the words that follow from them.
 #![tactic(auto)]
 
-ghost use Rattle.std.specs.Prelude.{◌≡◌, ◌+◌, ◌*◌, ◌^◌, ◌<◌, ◌≤◌, length, take};
-ghost use Rattle.sha256_schedule.specs.Schedule.{message_word, message_words, next_word};
+ghost use Rattle.std.specs.Prelude.{◌≡◌, ◌<◌, ◌≤◌, length, take};
+ghost use Rattle.sha256_schedule.specs.Schedule.{message_words, next_word};
 
 use sha256_functions::{lower_sigma_0, lower_sigma_1};
-use std::num::wrapping_add_u32;
-
-// A word of four bytes, the highest first.
-fn word_of(a: u8, b: u8, c: u8, d: u8) -> u32
-    ensures { result ≡ a * 2 ^ 24 + b * 2 ^ 16 + c * 2 ^ 8 + d }
-{
-    ((a as u32) << 24) + ((b as u32) << 16) + ((c as u32) << 8) + (d as u32)
-}
-
-// The word t of a block.
-fn message_word(block: &[u8], t: usize) -> u32
-    requires { (length block.now ≡ 64) × (t < 16) }
-    ensures { result ≡ message_word block.now t }
-{
-    let i = 4 * t;
-    word_of(block[i], block[i + 1], block[i + 2], block[i + 3])
-}
 
 // The sixteen words of the block, at the front of the schedule.
 pub fn message_words(block: &[u8]) -> [u32; 64]
     requires { length block.now ≡ 64 }
     ensures { take 16 result ≡ message_words block.now 16 }
 {
+    let (words, _) = block.as_chunks::<4>();
     let mut w = [0u32; 64];
     for t in 0..16 {
-        w[t] = message_word(block, t);
+        w[t] = u32::from_be_bytes(words[t]);
     }
     w
 }
@@ -40,9 +24,8 @@ pub fn next_word(w: &[u32; 64], t: usize) -> u32
     requires { (16 ≤ t) × (t < 64) }
     ensures { result ≡ next_word w.now t }
 {
-    let recent = wrapping_add_u32(lower_sigma_1(w[t - 2]), w[t - 7]);
-    wrapping_add_u32(
-        wrapping_add_u32(recent, lower_sigma_0(w[t - 15])),
-        w[t - 16],
-    )
+    lower_sigma_1(w[t - 2])
+        .wrapping_add(w[t - 7])
+        .wrapping_add(lower_sigma_0(w[t - 15]))
+        .wrapping_add(w[t - 16])
 }

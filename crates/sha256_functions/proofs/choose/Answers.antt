@@ -1,7 +1,7 @@
 -- `choose` meets its contract, by the law of Ch's shorter form. Assumes nothing.
 use Rattle.sha256_functions.specs.Laws.FunctionsLaws.{ch_is}
 use Rattle.sha256_functions.specs.Words.{◌&◌, ◌⊕◌}
-use native.Mathlib.Omega.{arith}
+use Rattle.std.proofs.Common.{arith}
 use Rattle.sha256_functions.proofs.choose.Goals as goal
 
 pub returns : goal.returns

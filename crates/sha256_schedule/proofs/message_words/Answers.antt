@@ -2,6 +2,7 @@
 use Rattle.std.proofs.Common.{◌≡◌, ℕ, ◌<◌, length, take, refl, ◌∙◌, subst, arith, length-set}
 use Rattle.sha256_schedule.specs.Schedule.{message_words}
 use Rattle.sha256_schedule.specs.Laws.ScheduleLaws.{words_more}
+use Rattle.sha256_schedule.proofs.Chunks.{chunk_word}
 use Rattle.sha256_schedule.proofs.message_words.Goals as goal
 
 pub loop-t-init : goal.loop-t-init
@@ -12,9 +13,9 @@ pub loop-t-preserved : goal.loop-t-preserved
 loop-t-preserved c = let head = c.loop-t in
     let room : head.t < length head.w = omega arith in (
       omega arith,
-      length-set head.w head.t c.message_word.result ∙ head.invariant.1,
-      words_more c.args.block.now head.w head.t c.message_word.result room head.invariant.2
-          c.message_word.ensures,
+      length-set head.w head.t c.from_be_bytes.result ∙ head.invariant.1,
+      words_more c.args.block.now head.w head.t c.from_be_bytes.result room head.invariant.2
+          (rw c.as_chunks.ensures.front at c.from_be_bytes.ensures ∙ chunk_word c.args.block.now _ head.t (omega arith)),
     )
 
 pub returns : goal.returns
