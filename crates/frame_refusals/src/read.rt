@@ -71,7 +71,7 @@ fn member_refusal(book: &[u8], h: usize, frame: &[u8]) -> Result<(), Refusal>
 }
 
 // The first refusal that keeps a frame from being read, if one does.
-#[tactic(auto, using(protocol::proofs::Laws::DeliverLaws::formed_size, crate::specs::Laws::RefusalLaws::read_malformed, crate::specs::Laws::RefusalLaws::read_outside, crate::specs::Laws::RefusalLaws::read_within), unfolding(protocol::specs::Tests::in_range))]
+#[tactic(auto, using(crate::proofs::Reading::reading), unfolding(protocol::specs::Tests::in_range))]
 pub fn read_refusal(book: &[u8], frame: &[u8]) -> Result<(), Refusal>
     requires { Readable book.now }
     ensures { refusal_of result ≡ first_refusal (read_rows (decode book.now) frame.now) }
