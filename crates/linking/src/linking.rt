@@ -12,7 +12,6 @@ ghost use Rattle.book_fields.specs.Book.{Within, Shown, view_of};
 ghost use Rattle.memory.specs.Memo.{MemoAs};
 ghost use Rattle.linking.specs.Parent.{parent_option};
 
-use crate::links::Parent;
 use book_fields::kind::Kind;
 
 // The digest that a block on the block of height `j` names: zeros for height 0. The memory keeps it.
@@ -165,35 +164,30 @@ pub fn largest_finalized(kind: Kind, book: &[u8], top: usize, known: &mut [u8]) 
     ensures within { result ≤ top }
     ensures memo { MemoAs kind book.now known.new }
 {
-    let mut h = top;
-    while 0 < h {
+    for h in (1..=top).rev() {
         if is_finalized(kind, book, h, known) {
             return h;
         }
-        h -= 1;
     }
     0
 }
 
 // The best chain of height `top`, by its last block's height: the largest linked height with dummies after it up to
 // `top`.
-pub fn parent_of(kind: Kind, book: &[u8], top: usize, known: &mut [u8]) -> Parent
+pub fn parent_of(kind: Kind, book: &[u8], top: usize, known: &mut [u8]) -> Option<usize>
     requires shown { Shown kind book.now }
     requires memo_as { MemoAs kind book.now known.old }
     requires top_bound { top ≤ book_heights book.now }
     ensures answer { parent_option result ≡ parent_of sha (view_of kind book.now) top }
     ensures memo { MemoAs kind book.now known.new }
 {
-    let mut h = top;
-    while 0 < h {
+    for h in (1..=top).rev() {
         if linked(kind, book, h, known) {
-            return Parent::At(h);
+            return Some(h);
         }
-        if book_fields::kind::is_dummy(kind, book, h) {
-            h -= 1;
-        } else {
-            return Parent::Nothing;
+        if !book_fields::kind::is_dummy(kind, book, h) {
+            return None;
         }
     }
-    Parent::At(0)
+    Some(0)
 }

@@ -10,13 +10,6 @@ ghost use Rattle.linking.specs.Parent.{parent_option};
 
 use book_fields::kind::Kind;
 
-// The height of a chain's last block, or nothing where there is no chain.
-#[derive(Clone, Copy)]
-pub enum Parent {
-    At(usize),
-    Nothing,
-}
-
 pub fn parent_digest(book: &[u8], j: usize, known: &mut [u8]) -> [u8; 32]
     requires readable { Readable book.now }
     requires memo_2 { Memo book.now known.old }
@@ -69,7 +62,7 @@ pub fn largest_finalized(book: &[u8], top: usize, known: &mut [u8]) -> usize
     crate::linking::largest_finalized(Kind::Replica, book, top, known)
 }
 
-pub fn parent_of(book: &[u8], top: usize, known: &mut [u8]) -> Parent
+pub fn parent_of(book: &[u8], top: usize, known: &mut [u8]) -> Option<usize>
     requires readable { Readable book.now }
     requires memo_2 { Memo book.now known.old }
     requires top_bound { top ≤ book_heights book.now }
