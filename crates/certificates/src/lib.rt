@@ -1,42 +1,55 @@
 // Certificates of a replica's book: whether it has the one of a kind and a height, and writing it as a frame.
 #![tactic(auto)]
 
+mod kind;
+
 ghost use Rattle.std.specs.Prelude.{◌≡◌, ◌≤◌, length};
 ghost use Rattle.protocol.specs.Bytes.{over_front};
 ghost use Rattle.protocol.specs.State.{decode};
 ghost use Rattle.protocol.specs.Fetch.{has_certificate};
 ghost use Rattle.protocol.specs.Certificates.{certificate_frame};
 ghost use Rattle.book_fields.specs.Book.{Within, Readable};
+ghost use Rattle.certificates.specs.Kind.{kind_number};
 
-// Whether the book has the certificate of that kind and height. The masks of kinds 5 to 7 are the first three of a
-// height.
-pub fn has_certificate(book: &[u8], kind: usize, height: usize) -> bool
+use book_fields::height::{certificate_mask, dummy_mask, finalize_mask, is_notarized, notarized};
+use book_fields::quorum::quorum;
+pub use kind::CertificateKind;
+
+// Whether the book has the certificate of that kind and height.
+#[tactic(auto, unfolding(protocol::specs::Fetch::has_certificate))]
+pub fn has_certificate(book: &[u8], kind: CertificateKind, height: usize) -> bool
     requires readable { Readable book.now }
     requires within { Within book.now height }
-    requires le_kind { (5 ≤ kind) × (kind ≤ 7) }
-    ensures { result ≡ has_certificate (decode book.now) kind height }
+    ensures { result ≡ has_certificate (decode book.now) (kind_number kind) height }
 {
-    if kind == 5 {
-        book_fields::height::is_notarized(book, height)
-    } else {
-        book_fields::quorum::quorum(book, book_fields::height::mask_at(book, height, kind - 5))
+    match kind {
+        CertificateKind::Block => is_notarized(book, height),
+        CertificateKind::Dummy => quorum(book, dummy_mask(book, height)),
+        CertificateKind::Finalize => quorum(book, finalize_mask(book, height)),
     }
 }
 
 // Writes the certificate of that kind and height to the front of the reply. Stores 224 bytes.
-pub fn write_certificate(book: &[u8], kind: usize, height: usize, reply: &mut [u8])
+#[tactic(auto, using(book_fields::proofs::Places::notarized_size))]
+pub fn write_certificate(book: &[u8], kind: CertificateKind, height: usize, reply: &mut [u8])
     requires readable { Readable book.now }
     requires within { Within book.now height }
-    requires le_kind { (5 ≤ kind) × (kind ≤ 7) }
     requires in_bounds { 224 ≤ length reply.old }
     ensures { reply.new ≡
-        over_front (certificate_frame (decode book.now) kind height) reply.old }
+        over_front (certificate_frame (decode book.now) (kind_number kind) height) reply.old }
 {
-    let mask = book_fields::height::mask_at(book, height, kind - 5);
-    if kind == 5 {
-        let block = book_fields::height::notarized(book, height);
-        frames::write_block_certificate(reply, height, mask, block);
-    } else {
-        frames::write_plain(reply, kind, 0, height, mask);
+    match kind {
+        CertificateKind::Block => {
+            let mask = certificate_mask(book, height);
+            frames::write_block_certificate(reply, height, mask, notarized(book, height));
+        }
+        CertificateKind::Dummy => {
+            let mask = dummy_mask(book, height);
+            frames::write_plain(reply, 6, 0, height, mask);
+        }
+        CertificateKind::Finalize => {
+            let mask = finalize_mask(book, height);
+            frames::write_plain(reply, 7, 0, height, mask);
+        }
     }
 }

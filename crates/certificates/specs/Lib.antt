@@ -1,0 +1,2 @@
+-- What the contracts of certificates speak of.
+pub mod Kind
