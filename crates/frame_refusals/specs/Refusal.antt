@@ -1,6 +1,5 @@
--- Refusals as numbers, and the rows of reading and of contradiction one by one.
-use Rattle.std.specs.Prelude.{ℕ, zero, suc, Bool, ◌&&◌, ◌||◌, cond, List, [], ◌∷◌, eqb, ltb}
-use Rattle.std.proofs.Math.Option.{Option, some, none}
+-- The rows of reading and of contradiction one by one.
+use Rattle.std.specs.Prelude.{ℕ, Bool, ◌&&◌, ◌||◌, cond, List, [], ◌∷◌, eqb, ltb}
 use Rattle.protocol.specs.Bytes.{Bytes, same}
 use Rattle.protocol.specs.Tests.{implies, Row}
 use Rattle.protocol.specs.Frame.{kind, signer, signer_mask, frame_digest, is_statement, is_proposal, is_block_vote}
@@ -8,11 +7,6 @@ use Rattle.protocol.specs.Mask.{in_mask, below_bit}
 use Rattle.protocol.specs.State.{State, Height, at, vote_of}
 use Rattle.protocol.specs.View.{quorum}
 use Rattle.protocol.specs.Sound.{view}
-
--- 0 stands for no refusal
-unfoldable pub refusal_of : ℕ → Option ℕ
-refusal_of zero = none
-refusal_of (suc number) = some (suc number)
 
 -- three rows, each a number and a test
 abbrev pub three_rows : ℕ → ℕ → ℕ → Bool → Bool → Bool → List Row

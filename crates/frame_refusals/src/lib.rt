@@ -1,10 +1,6 @@
-// The refusals that keep a frame from being read, and what the others are made of too.
+// The refusals that keep a frame from being read.
 #![tactic(auto)]
 
-mod carried;
-mod first;
 mod read;
 
-pub use carried::agrees;
-pub use first::first_refusal;
 pub use read::read_refusal;

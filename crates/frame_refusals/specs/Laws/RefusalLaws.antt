@@ -1,31 +1,15 @@
--- Refusals: numbers and options, three rows in a row, and the rows of reading and of contradiction.
-use Rattle.std.specs.Prelude.{ℕ, zero, suc, ◌≤◌, ◌≡◌, refl, Bool, true, false, ◌&&◌, not, [], ◌∷◌, eqb}
-use Rattle.std.proofs.Common.{arith, sym, ap, ◌∙◌}
-use Rattle.std.proofs.Math.Option.{Option, some, none}
+-- Three rows in a row, and the rows of reading and of contradiction.
+use Rattle.std.specs.Prelude.{ℕ, ◌≤◌, ◌≡◌, refl, Bool, true, false, ◌&&◌, not, [], ◌∷◌, eqb}
+use Rattle.std.proofs.Common.{sym, ap, ◌∙◌}
+use Rattle.std.proofs.Math.Option.{some, none}
 use Rattle.protocol.specs.Bytes.{Bytes, same}
 use Rattle.protocol.specs.Tests.{all_of, implies, in_range, first_refusal}
 use Rattle.protocol.specs.Frame.{kind, frame_height, frame_block, frame_well_formed, is_proposal, is_block_certificate}
 use Rattle.protocol.specs.State.{State, at, last, holds_proposal, is_notarized}
-use Rattle.protocol.proofs.Laws.RowLaws.{pass_row, refuse_row}
+use Rattle.protocol.proofs.Laws.RowLaws.{pass_row, refuse_row, range_in}
 use Rattle.protocol.specs.Deliver.{read_rows, clash_rows, second_proposal}
-use Rattle.frame_refusals.specs.Refusal.{refusal_of, three_rows, members_fit, leader_signed, signers_enough}
+use Rattle.frame_refusals.specs.Refusal.{three_rows, members_fit, leader_signed, signers_enough}
 use Rattle.frame_refusals.specs.Refusal.{member_rows, vote_agrees}
-
--- ---- numbers
-pub number_refuses : (number : ℕ) (o : Option ℕ) → refusal_of number ≡ o → (number ≡ 0 → ⊥) → o ≡ some number
-unfolding refusal_of
-number_refuses zero o e f = absurd (f refl)
-number_refuses (suc number) o e f = sym e
-
-pub zero_passes : (number : ℕ) (o : Option ℕ) → refusal_of number ≡ o → number ≡ 0 → o ≡ none
-unfolding refusal_of
-zero_passes zero o e z = sym e
-zero_passes (suc number) o e z = absurd (omega arith)
-
-pub refusal_some : (number : ℕ) → 1 ≤ number → refusal_of number ≡ some number
-unfolding refusal_of
-refusal_some zero l = absurd (omega arith)
-refusal_some (suc number) l = refl
 
 -- ---- three rows
 module _ (a b c : ℕ) (p q r : Bool) where
@@ -69,6 +53,10 @@ module _ (s : State) (frame : Bytes) where
       ap first_refusal (read_rows_lem s frame) ∙ pass_row (4, frame_well_formed frame) _ e
       ∙ pass_row (6, in_range 1 (last s) (frame_height frame)) _ f
       ∙ ap (λ (k : ℕ). first_refusal (member_rows s k frame)) (sym same)
+
+  pub read_within : frame_well_formed frame ≡ true → (h : ℕ) → h ≡ frame_height frame → 1 ≤ h → h ≤ last s →
+      first_refusal (read_rows s frame) ≡ first_refusal (member_rows s h frame)
+  read_within e h same low high = read_inside e (rw (sym same) (range_in 1 (last s) h low high)) h same
 
 -- ---- the rows of contradiction
 -- a proposal is compared with the held one at every height but the current one
