@@ -1,20 +1,13 @@
--- `leaders_below` meets its contract: after `i` turns the first `i` leaders are below `n`.
-use native.Mathlib.Omega.{arith}
-use borrow.Author.Count.{below_more}
-use Rattle.field_calls.proofs.Numbers.{all_below, not_below}
+-- `leaders_below` meets its contract: the iterator gives every leader.
+use Rattle.std.proofs.Common.{rules, tests, ◌∙◌}
+use Rattle.std.proofs.lemmas.Iterator.{YieldsList-from_slice}
+use Rattle.std.proofs.lemmas.Iterator.Search.{all_from_yields_List}
+use Rattle.std.proofs.Math.Dec.{ltb}
+use Rattle.field_calls.proofs.Numbers.{every_byte}
 use Rattle.field_calls.proofs.open.leaders_below.Goals as goal
 
-pub loop-i-init : goal.loop-i-init
-loop-i-init c = (omega arith, λ k h. absurd (omega arith))
-
-pub overflow_cast-leader : goal.overflow_cast-leader
-overflow_cast-leader c = omega (arith, c.type_inv.leaders c.loop-i.i)
-
-pub loop-i-preserved : goal.loop-i-preserved
-loop-i-preserved c = (omega arith, below_more _ _ c.loop-i.invariant.1 c.if-leader-n.true)
-
-pub returns-else-leader-n : goal.returns-else-leader-n
-returns-else-leader-n c = not_below c.args.n c.args.leaders.now c.loop-i.i (omega arith) c.if-leader-n.false
-
 pub returns : goal.returns
-returns c = all_below c.args.n c.args.leaders.now c.loop-i.i (omega arith) c.loop-i.invariant.1
+returns c =
+    all_from_yields_List (λ leader. ltb leader c.args.n) _ _ _ c.all.ensures.ran
+    (YieldsList-from_slice c.args.leaders.now cc) (λ x b q k. search (rules, tests))
+    ∙ every_byte (λ leader. ltb leader c.args.n) c.args.leaders.now
