@@ -1,73 +1,45 @@
-// What a call answered, in the words of an exchange list.
-use crate::print::{text, word};
-use answers::answer::{Answer, Certificate, Counted, Delivered, Moved, Size};
-use std::io;
+// What a call answered, in the words of an exchange list, by what prints so: `Delivered`, `Counts`, `Moved`, `Refusal`.
+ghost use Rattle.std.specs.Prelude.{◌++◌, Some, codes};
+ghost use Rattle.std.specs.Fmt.{decimal};
+
+use crate::print::word;
+use answers::refusal::Refusal;
 use std::io::Write;
+use std::{fmt, io};
 
-pub fn done(out: &mut impl Write, answer: Answer) -> io::Result<()> {
-    match answer {
-        Answer::Done => text(out, b"done"),
-        Answer::Refused(refusal) => word(out, b"deny", refusal),
+// Open, Signal, Submit and Fetch, where they are not refused.
+#[derive(Clone, Copy, Debug, PartialEq, Eq)]
+pub struct Done;
+
+// Register size, in bytes.
+#[derive(Clone, Copy, Debug, PartialEq, Eq)]
+pub struct Size(pub usize);
+
+impl fmt::Display for Done {
+    ghost output = { λ _. Some (codes "done") };
+
+    fn fmt<W: fmt::Write>(&self, f: &mut fmt::Formatter<W>) -> fmt::Result {
+        f.write_str("done")
     }
 }
 
-pub fn delivered(out: &mut impl Write, answer: Delivered) -> io::Result<()> {
-    match answer {
-        Delivered::Fresh => text(out, b"fresh"),
-        Delivered::Known => text(out, b"known"),
-        Delivered::Refused(refusal) => word(out, b"deny", refusal),
+impl fmt::Display for Size {
+    ghost output = { λ size. Some (codes "size " ++ decimal size.0) };
+
+    fn fmt<W: fmt::Write>(&self, f: &mut fmt::Formatter<W>) -> fmt::Result {
+        let bytes = self.0;
+        write!(f, "size {bytes}")
     }
 }
 
-// A packet's frames: how many were fresh, known and refused.
-fn counts(out: &mut impl Write, fresh: usize, known: usize, refused: usize) -> io::Result<()> {
-    word(out, b"counts", fresh)?;
-    word(out, b"", known)?;
-    word(out, b"", refused)
-}
-
-pub fn counted(out: &mut impl Write, answer: Counted) -> io::Result<()> {
-    match answer {
-        Counted::Frames(fresh, known, refused) => counts(out, fresh, known, refused),
-        Counted::Refused(refusal) => word(out, b"deny", refusal),
-    }
-}
-
-fn certificate_kind(certificate: Certificate) -> usize {
-    match certificate {
-        Certificate::Page => 5,
-        Certificate::Blank => 6,
-    }
-}
-
-// A pass: its height, the kind of its certificate, and 4 if it finalised.
-fn pass(
+// What a call answered, or why it is refused.
+pub fn answered<T: fmt::Display + Drop>(
     out: &mut impl Write,
-    h: usize,
-    certificate: Certificate,
-    finalised: bool,
+    answer: Result<T, Refusal>,
 ) -> io::Result<()> {
-    word(out, b"pass", h)?;
-    word(out, b"", certificate_kind(certificate))?;
-    word(out, b"", if finalised { 4 } else { 0 })
-}
-
-pub fn moved(out: &mut impl Write, answer: Moved) -> io::Result<()> {
     match answer {
-        Moved::Idle => text(out, b"idle"),
-        Moved::Dummy(h) => word(out, b"dummy", h),
-        Moved::Final(g) => word(out, b"final", g),
-        Moved::Pass(h, certificate, finalised) => pass(out, h, certificate, finalised),
-        Moved::Offer(h) => word(out, b"offer", h),
-        Moved::Vote(h) => word(out, b"vote", h),
-        Moved::Refused(refusal) => word(out, b"deny", refusal),
-    }
-}
-
-pub fn size(out: &mut impl Write, answer: Size) -> io::Result<()> {
-    match answer {
-        Size::Bytes(count) => word(out, b"size", count),
-        Size::Refused(refusal) => word(out, b"deny", refusal),
+        Ok(answer) => write!(out, "{answer}"),
+        Err(refusal) => write!(out, "{refusal}"),
     }
 }
 

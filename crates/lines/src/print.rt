@@ -20,10 +20,8 @@ pub fn word(out: &mut impl Write, name: &[u8], n: usize) -> io::Result<()> {
 
 // Bytes, two hexadecimal digits each.
 pub fn hex(out: &mut impl Write, bytes: &[u8]) -> io::Result<()> {
-    let mut i = 0;
-    while i < bytes.len() {
-        write!(out, "{:02x}", bytes[i])?;
-        i += 1;
+    for byte in bytes {
+        write!(out, "{byte:02x}")?;
     }
     Ok(())
 }

@@ -18,39 +18,22 @@ fn named(out: &mut impl Write, name: &[u8], message: &[u8]) -> io::Result<()> {
     end_line(out, message)
 }
 
-// The first `size` of the bytes.
-fn counted(out: &mut impl Write, bytes: &[u8], size: usize) -> io::Result<()> {
-    if size <= bytes.len() {
+// Messages that end before, at and behind each place where the padding changes: the first so many of the bytes.
+fn lengths(out: &mut impl Write, bytes: &[u8; 1000]) -> io::Result<()> {
+    for size in [0, 1, 55, 56, 63, 64, 65, 119, 120, 127, 128, 176, 1000] {
         number(out, size)?;
-        end_line(out, &bytes[0..size])?;
+        end_line(out, &bytes[..size])?;
     }
     Ok(())
 }
 
 // Byte i is i modulo 251.
 fn pattern() -> [u8; 1000] {
-    let mut bytes = [0u8; 1000];
-    let mut i = 0;
-    while i < 1000 {
-        bytes[i] = (i % 251) as u8;
-        i += 1;
+    let mut bytes = [0; 1000];
+    for (i, byte) in bytes.iter_mut().enumerate() {
+        *byte = (i % 251) as u8;
     }
     bytes
-}
-
-// Messages that end before, at and behind each place where the padding changes.
-fn lengths(out: &mut impl Write, bytes: &[u8]) -> io::Result<()> {
-    let sizes: [usize; 13] = [0, 1, 55, 56, 63, 64, 65, 119, 120, 127, 128, 176, 1000];
-    let mut i = 0;
-    while i < 13 {
-        counted(out, bytes, sizes[i])?;
-        i += 1;
-    }
-    Ok(())
-}
-
-fn million() -> [u8; 1000000] {
-    [b'a'; 1000000]
 }
 
 fn main(rt: HostRuntime) -> io::Result<()> {
@@ -66,8 +49,7 @@ fn main(rt: HostRuntime) -> io::Result<()> {
         b"896bits",
         b"abcdefghbcdefghicdefghijdefghijkefghijklfghijklmghijklmnhijklmnoijklmnopjklmnopqklmnopqrlmnopqrsmnopqrstnopqrstu",
     )?;
-    let bytes = pattern();
-    lengths(&mut out, &bytes)?;
-    let letters = million();
+    lengths(&mut out, &pattern())?;
+    let letters = vec![in rt.alloc(); b'a'; 1_000_000]?;
     named(&mut out, b"million", &letters)
 }
