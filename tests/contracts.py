@@ -1,7 +1,9 @@
 """The public functions of a crate with their contracts, and the types of its src/, read from its files.
 
-What is not read here is refused (`Unreadable`): a file of src/ is imports, modules, functions and types, and nothing is
-left over.
+What is not read here is refused (`Unreadable`): a file of src/ is imports, modules, functions, types, and blocks of
+methods (`impl`, `trait`), and nothing is left over. A block's functions and ghost members are read as any other; an
+`impl Model` changes what clauses see of its type, and so belongs to the type. Where others can call them, there are no
+methods.
 """
 import re
 
@@ -22,7 +24,7 @@ def public(root):
 ITEM = re.compile(
     r"^[ ]*(?P<pub>pub )?(?P<extern>extern \"C\" )?(?P<sort>fn|enum|struct|type|const) (?P<name>\w+)", re.M)
 # what may stand above an item; a hint for the prover says nothing of what is promised
-HINT = r"[ ]*#\[(?:tactic|cycle)\b[^\[\]]*\]\n"
+HINT = r"[ ]*#\[(?:tactic|cycle|inline)\b[^\[\]]*\]\n"
 ATTRIBUTE = rf"{HINT}|[ ]*#\[(?:unsafe\(no_mangle\)|derive\([\w, ]*\)|test)\]\n"
 HEAD = re.compile(rf"(?:^(?:[ ]*//.*\n|{ATTRIBUTE}))*\Z", re.M)
 CLAUSE = re.compile(r"(?:^|\s)(requires|ensures|ghost|measure|decreases)(\*?)(?:\s+\w+:?)?\s*$")
@@ -30,6 +32,12 @@ IMPORT = re.compile(r"^(pub )?use ([\w:]+?)(?:::\{([^{}]*)\})?(?: as (\w+))?;$")
 NAMED = re.compile(r"(\w+(?:::\w+)*)(?: as (\w+))?")
 OUTER = re.compile(r"^(?:(?:pub )?use [\w:]+::\{[^{};]*\};$|(?:ghost use|(?:pub )?use|(?:pub )?mod) .*"
                    r"|#!\[tactic\([^\[\]]*\)\]$)", re.M)
+# methods: of a type, of a trait for a type, of a trait
+BLOCK = re.compile(r"^(?P<pub>pub )?(?P<sort>impl|trait)\b(?P<head>[^{;]*)\{", re.M)
+MODEL = re.compile(r"(?:<[^<>]*>)?\s*Model for (\w+)")
+# what a block has beside functions: an associated type or constant, and ghost members with a value, a type or both
+MEMBER = re.compile(r"^[ ]*(?:type \w+(?: = [^;{}]*)?|const \w+: [^;{}]*|(?P<ghost>ghost \w+(?:: \{|(?= = \{)| = \{)))", re.M)
+GHOST_FIELD = re.compile(r"^[ ]*(?:pub )?ghost \w+: \{", re.M)
 MODULE = re.compile(r"(pub )?mod (\w+);")
 LITERAL = re.compile(r"//.*|b?\"(?:\\.|[^\"\\\n])*\"|b?'(?:\\[^\n]|[^'\\\n])'")
 # in a signature: each word but a lifetime, a number, and the name of a parameter or a field
@@ -95,13 +103,22 @@ class Item:
         raise Unreadable(f"{self.file.place}: a contract of {self.name} that is not read: {what.strip()}")
 
     def type_of(self, text, at):
-        """The types of fields, of what a variant carries, of a constant."""
+        """The types of fields, of what a variant carries, of a constant; a ghost field's fact is a clause."""
         end = re.compile(r"[{;](?![^\[\n]*\])").search(text, at).start()
         end = closing(text, end) if text[end] == "{" else end + 1
+        text = text[:at] + self.without_facts(text[at:end]) + text[end:]
         variants = r"\w+(?=\s*(?:[,}(]|\{))" if self.sort == "enum" else r"(?!)"
         inner = re.sub(r"\([^()]*\)", lambda m: m[0].replace(",", ";").replace(")", ";"), text[at:end])
         self.types.update(TYPE.findall(re.sub(variants, "", inner).partition("=")[0]))
         return end
+
+    def without_facts(self, text):
+        """The text of a type with its ghost fields blanked, which are kept as clauses."""
+        for m in reversed([*GHOST_FIELD.finditer(text)]):
+            end = closing(text, m.end() - 1)
+            self.clauses.append(("ghost", text[m.end() : end - 1].strip()))
+            text = text[: m.start()] + " " * (end - m.start()) + text[end:].replace(",", " ", 1)
+        return text
 
     def text(self, whole=True):
         return self.whole
@@ -114,8 +131,39 @@ class Item:
         return [body for sort, body in self.clauses if sort == "requires"]
 
 
+class Block:
+    """Methods: of a type, of a trait for a type, or a trait's own."""
+
+    def __init__(self, file, text, bare, m):
+        self.file, self.sort, self.head, self.public = file, m["sort"], " ".join(m["head"].split()), bool(m["pub"])
+        self.end = closing(bare, m.end() - 1)
+        self.start = HEAD.search(text, 0, m.start()).start()
+        self.whole = re.sub(rf"^{HINT}", "", text[self.start : self.end], flags=re.M).rstrip()
+        model = MODEL.fullmatch(self.head) if self.sort == "impl" else None
+        self.model, self.first, inside = model and model[1], m.start(), bare[m.end() : self.end - 1]
+        cut = bare[: self.end - 1]
+        self.items = [Item(file, text, cut, one) for one in ITEM.finditer(cut, m.end()) if one["sort"] == "fn"]
+        self.facts = []
+        self.covered(m.end(), inside)
+
+    def covered(self, at, inside):
+        """Functions, associated types and ghost members are the whole block."""
+        for item in reversed(self.items):
+            inside = inside[: item.start - at] + inside[item.end - at :]
+        for m in reversed([*MEMBER.finditer(inside)]):
+            end = m.end()
+            while m["ghost"] and re.match(r"\s*(?:= )?\{", inside[end - 1 :] if inside[end - 1] == "{" else inside[end:]):
+                brace = inside.index("{", end - 1)
+                end = closing(inside, brace)
+                self.facts.append(inside[brace + 1 : end - 1].strip())
+            inside = inside[: m.start()] + inside[end:]
+        left = inside.replace(";", " ").split()
+        if left:
+            raise Unreadable(f"{self.file.place}: what is no member of a block: {' '.join(left[:8])}")
+
+
 class SourceFile:
-    """A file of src/: its imports, the modules that it names, its functions and types."""
+    """A file of src/: its imports, the modules that it names, its functions and types, and blocks of methods."""
 
     def __init__(self, text, place):
         self.place, self.uses, self.imports, self.modules = place, [], [], {}
@@ -123,22 +171,39 @@ class SourceFile:
         bare = blanked(text)
         for line in OUTER.findall(bare):
             self.takes(line.rstrip())
-        if re.search(r"^[ ]*(?:pub |unsafe )*(?:impl|trait)\b", bare, re.M):
-            raise Unreadable(f"{place}: methods, or a trait")
-        self.items = [Item(self, text, bare, m) for m in ITEM.finditer(bare)]
+        if re.search(r"^(?:unsafe|[ ]+(?:pub |unsafe )*)(?:impl|trait)\b", bare, re.M):
+            raise Unreadable(f"{place}: methods, or a trait, in another form")
+        self.blocks = [Block(self, text, bare, m) for m in BLOCK.finditer(bare)]
+        self.items = [Item(self, text, bare, m) for m in ITEM.finditer(bare) if not self.in_block(m.start())]
         self.covered(bare)
+        for block in self.blocks:
+            self.seen_otherwise(block)
         brought = [*(short for *_, short in self.imports), *self.modules, *(item.name for item in self.items)]
         twice = [name for name in brought if brought.count(name) > 1]
         if twice:
             raise Unreadable(f"{place}: two things of one name: {twice[0]}")
+        if {"Option", "Result"} & set(brought):
+            raise Unreadable(f"{place}: a type of its own with the name of the language's Option or Result")
         unbent(self.uses, [], place)
         for line, _, path, _ in self.imports:
             if path[0] in brought and path[0] not in self.modules:
                 raise Unreadable(f"{place}: a name that is the first word of a path, which it would bend: {path[0]}")
 
+    def in_block(self, at):
+        return any(block.first <= at < block.end for block in self.blocks)
+
+    def seen_otherwise(self, block):
+        """An `impl Model` stands beside its type, whose text it joins."""
+        of = [item for item in self.items if item.name == block.model]
+        if block.model and len(of) != 1:
+            raise Unreadable(f"{self.place}: a model of a type that is not in this file: {block.model}")
+        for item in of:
+            item.whole += "\n\n" + block.whole
+            item.used = Words(" ".join([*(body for _, body in item.clauses), *block.facts]))
+
     def covered(self, bare):
-        """Imports, modules, functions and types are the whole file."""
-        for item in reversed(self.items):
+        """Imports, modules, functions, types and blocks are the whole file."""
+        for item in sorted([*self.items, *self.blocks], key=lambda one: one.start, reverse=True):
             bare = bare[: item.start] + bare[item.end :]
         left = OUTER.sub("", bare).split()
         if left:
@@ -201,6 +266,8 @@ class Crate:
         if root is None:
             raise Unreadable(f"crates/{self.name}: no src/lib.rt")
         for stem, file in self.files.items():
+            if file.blocks:
+                raise Unreadable(f"{file.place}: methods, or a trait, in a crate whose calls others make")
             path = [self.name] if stem == "lib" else [self.name, stem]
             open_to_all = stem == "lib" or root.modules.get(stem, False)
             here = [(item.name, item) for item in file.items

@@ -14,7 +14,7 @@ OWN = re.compile(r"Rattle\.(\w+)\.specs\.((?:Laws\.)?(?!Laws\b|declared\b)\w+)|R
 DECLARED = re.compile(r"Rattle\.(\w+)\.specs\.declared\.(?:([a-z]\w*)\.)?([A-Z]\w*)(?:\.TheVariants)?")
 
 # the types that the language has, and words of its signatures
-BUILT_IN = set("u8 u16 u32 u64 u128 usize i8 i16 i32 i64 i128 isize bool mut".split())
+BUILT_IN = set("u8 u16 u32 u64 u128 usize i8 i16 i32 i64 i128 isize bool mut Option Result".split())
 # each file of specs/ that was read, by its place and its text: a trial changes few of them
 READ = {}
 

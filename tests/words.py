@@ -2,7 +2,7 @@
 import re
 
 # beyond those of ASCII, the signs that a text may have: another might look like one of these, or not be seen at all
-SIGNS = set("×Σλσᴰᵢ₀₁₂₃₄₅₆₇₈₉₋ₕℓℕ←→↔↦−∙∷≡≢≤⊎⊕⊥¬◌")
+SIGNS = set("×Σλσᴰᵢ₀₁₂₃₄₅₆₇₈₉₋ₕℓℕ←→↔↦−∙∷≡≢≤⊎⊕⊥¬◌⊤")
 # antt's names: any run of characters but these; `a.b` goes through a module or to a field
 PART = r"[^\s(){}.;,@\"«»]+"
 NAME = r"(?:«[^»]*»|%s)" % PART
