@@ -4,18 +4,16 @@ ghost use Rattle.sha256.specs.Digest.{sha256 as sha};
 ghost use Rattle.protocol.specs.Read.{size_call, read_part, read_buffer};
 ghost use Rattle.answers.specs.Answers.{size_answer};
 
-use answers::answer::Size;
+use answers::refusal::Refusal;
 
 // The length of the log in bytes. Reads the book once to see that it is sound.
-pub fn size(book: &[u8]) -> Size
+pub fn size(book: &[u8]) -> Result<usize, Refusal>
     ensures { size_answer result ≡ size_call sha book.now }
 {
-    if soundness::is_sound(book) {
-        let count = log_calls::read::log_count(book);
-        Size::Bytes(16 * count)
-    } else {
-        Size::Refused(1)
+    if !soundness::is_sound(book) {
+        return Err(Refusal::Unsound);
     }
+    Ok(16 * log_calls::read::log_count(book))
 }
 
 // Copies the log to the front of the buffer and says how many bytes it wrote: none where the book is not sound or the

@@ -4,17 +4,16 @@ ghost use Rattle.sha256.specs.Digest.{sha256 as sha};
 ghost use Rattle.protocol.specs.Submit.{submit_call};
 ghost use Rattle.answers.specs.Answers.{done_answer};
 
-use answers::answer::Answer;
+use answers::refusal::Refusal;
 
 // One more pending entry. Reads the book once to see that it is sound, and walks the log once for each pending entry,
 // twice where 32 are pending.
-pub fn submit(book: &mut [u8], entry: &[u8]) -> Answer
+pub fn submit(book: &mut [u8], entry: &[u8]) -> Result<(), Refusal>
     ensures answer { done_answer result ≡ (submit_call sha book.old entry.now).answer }
     ensures book { book.new ≡ (submit_call sha book.old entry.now).book }
 {
-    if soundness::is_sound(book) {
-        log_calls::submit::submit_sound(book, entry)
-    } else {
-        Answer::Refused(1)
+    if !soundness::is_sound(book) {
+        return Err(Refusal::Unsound);
     }
+    log_calls::submit::submit_sound(book, entry)
 }
