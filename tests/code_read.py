@@ -11,15 +11,21 @@ class Found(Exception):
     """A form that is refused."""
 
 
+def chosen(tokens):
+    """The tokens without the types that a call chooses, as in `f::<K>(x)`: names and nothing else."""
+    text, kept = " ".join(tokens), []
+    return re.sub(r":: < \w+(?: , \w+)* > (?=\()", "", text).split(" ") if tokens else kept
+
+
 class Function:
     """A function of the crates: its path, its parameters, and its code as tokens."""
 
     def __init__(self, path, item):
-        self.path, self.item, self.tokens = path, item, TOKEN.findall(item.body)
+        self.path, self.item, self.tokens = path, item, chosen(TOKEN.findall(item.body))
 
     @functools.cached_property
     def types(self):
-        names = re.match(r"\s*\(([^()]*)\)", self.item.signature)
+        names = re.match(r"\s*(?:<[^<>]*>)?\s*\(([^()]*)\)", self.item.signature)
         if not names:
             raise Unreadable(f"{self.item.file.place}: {self.item.name} has a head of another form")
         return dict(re.findall(r"(\w+)\s*:(?!:)\s*([^,]+)", names[1]))
