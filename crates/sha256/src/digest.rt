@@ -1,7 +1,8 @@
 // The digest of a byte slice, FIPS 180-4, section 6.2.2: the whole blocks where they lie, then the rest with the
 // padding.
-ghost use Rattle.std.specs.Prelude.{◌≡◌, ◌%◌, ◌++◌, length};
+ghost use Rattle.std.specs.Prelude.{◌≡◌, ◌%◌, ◌++◌, fold, length};
 ghost use Rattle.sha256.specs.Digest.{initial_hash, hash_all, words_bytes, sha256};
+ghost use Rattle.sha256.specs.Compression.{compression};
 ghost use Rattle.sha256_padding.specs.Padding.{padding};
 
 use crate::compression::compress;
@@ -13,23 +14,21 @@ const INITIAL_HASH: [u32; 8] = [
 ];
 
 // The table of the initial hash value, held against the standard's.
+#[tactic(auto, unfolding(crate::specs::Digest::initial_hash))]
 fn initial_hash() -> [u32; 8]
     ensures { result ≡ initial_hash }
 {
     INITIAL_HASH
 }
 
-// The hash value after the whole blocks of `bytes`, each read where it lies; `start` is the hash value before them.
-fn hash_blocks(start: [u32; 8], bytes: &[u8]) -> [u32; 8]
-    ensures { result ≡ hash_all start bytes.now }
+// The hash value after the blocks, each read where it lies; `start` is the hash value before them.
+fn hash_blocks(start: [u32; 8], blocks: &[[u8; 64]]) -> [u32; 8]
+    ensures { result ≡ fold compression start blocks.now }
 {
     let mut hash = start;
-    let mut at = 0;
-    while bytes.len() - at >= 64 {
-        let end = at + 64;
-        let next = compress(hash, &bytes[at..end]);
+    for block in blocks {
+        let next = compress(hash, block);
         hash = next;
-        at = end;
     }
     hash
 }
@@ -43,13 +42,12 @@ fn hash_rest(hash: [u32; 8], rest: &[u8], size: usize) -> [u32; 8]
     begin(&mut block, rest);
     if rest.len() < 56 {
         put_length(&mut block, size);
-        hash_blocks(hash, &block)
-    } else {
-        let next = hash_blocks(hash, &block);
-        let mut last = [0u8; 64];
-        put_length(&mut last, size);
-        hash_blocks(next, &last)
+        return compress(hash, &block);
     }
+    let next = compress(hash, &block);
+    let mut last = [0u8; 64];
+    put_length(&mut last, size);
+    compress(next, &last)
 }
 
 // The words of a hash value as bytes, the most significant of each first.
@@ -57,14 +55,8 @@ fn to_bytes(hash: [u32; 8]) -> [u8; 32]
     ensures { result ≡ words_bytes hash }
 {
     let mut bytes = [0u8; 32];
-    let mut i = 0;
-    while i < 8 {
-        let word = hash[i];
-        bytes[4 * i] = (word / 0x100_0000 % 256) as u8;
-        bytes[4 * i + 1] = (word / 0x1_0000 % 256) as u8;
-        bytes[4 * i + 2] = (word / 0x100 % 256) as u8;
-        bytes[4 * i + 3] = (word % 256) as u8;
-        i += 1;
+    for i in 0..8 {
+        bytes[4 * i..4 * i + 4].copy_from_slice(&hash[i].to_be_bytes());
     }
     bytes
 }
@@ -73,7 +65,6 @@ fn to_bytes(hash: [u32; 8]) -> [u8; 32]
 pub fn sha256(message: &[u8]) -> [u8; 32]
     ensures { result ≡ sha256 message.now }
 {
-    let size = message.len();
-    let at = size - size % 64;
-    to_bytes(hash_rest(hash_blocks(initial_hash(), message), &message[at..], size))
+    let (blocks, rest) = message.as_chunks::<64>();
+    to_bytes(hash_rest(hash_blocks(initial_hash(), blocks), rest, message.len()))
 }

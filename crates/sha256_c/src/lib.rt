@@ -14,12 +14,7 @@ pub fn sha256_into(message: &[u8], out: &mut [u8]) -> bool
     if out.len() < 32 {
         return false;
     }
-    let digest = sha256::sha256(message);
-    let mut i = 0;
-    while i < 32 {
-        out[i] = digest[i];
-        i += 1;
-    }
+    out[..32].copy_from_slice(&sha256::sha256(message));
     true
 }
 

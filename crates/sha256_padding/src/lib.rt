@@ -12,12 +12,8 @@ pub fn begin(block: &mut [u8; 64], rest: &[u8])
     ensures block_after { block.new ≡ opened rest.now }
     ensures block_len { length block.new ≡ 64 }
 {
-    let mut i = 0;
-    while i < rest.len() {
-        block[i] = rest[i];
-        i += 1;
-    }
-    block[i] = 0x80;
+    block[..rest.len()].copy_from_slice(rest);
+    block[rest.len()] = 0x80;
 }
 
 // Writes the number of bits of `size` bytes to the last 8 bytes of a block, the most significant first.
@@ -28,13 +24,6 @@ pub fn put_length(block: &mut [u8; 64], size: usize)
     ensures block_after { block.new ≡ take 56 block.old ++ big_endian 8 (8 * size) }
     ensures block_len { length block.new ≡ 64 }
 {
-    let bits = size % 0x2000_0000_0000_0000 * 8;
-    block[56] = (bits / 0x100_0000_0000_0000 % 256) as u8;
-    block[57] = (bits / 0x1_0000_0000_0000 % 256) as u8;
-    block[58] = (bits / 0x100_0000_0000 % 256) as u8;
-    block[59] = (bits / 0x1_0000_0000 % 256) as u8;
-    block[60] = (bits / 0x100_0000 % 256) as u8;
-    block[61] = (bits / 0x1_0000 % 256) as u8;
-    block[62] = (bits / 0x100 % 256) as u8;
-    block[63] = (bits % 256) as u8;
+    let bits = (size as u64).wrapping_mul(8);
+    block[56..].copy_from_slice(&bits.to_be_bytes());
 }

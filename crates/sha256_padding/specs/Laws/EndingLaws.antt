@@ -1,8 +1,7 @@
 -- The last bytes of a message and its padding are one block or two. Assumes nothing.
 use Rattle.std.specs.Prelude.{ℕ, ◌+◌, ◌-◌, ◌*◌, ◌%◌, ◌<◌, ◌≤◌, ◌≡◌, ◌∷◌, ◌++◌}
 use Rattle.std.proofs.Math.Path.{sym, ap}
-use Rattle.std.proofs.Common.{◌∙◌, append_assoc, length-append, take_at}
-use native.Mathlib.Omega.{arith}
+use Rattle.std.proofs.Common.{◌∙◌, append_assoc, arith, length-append, take_at}
 use Rattle.std.proofs.Math.ListN.{length, take}
 use Rattle.sha256_functions.specs.Bytes.{Bytes}
 use Rattle.sha256_padding.specs.Laws.PaddingLaws.{zeros_length, zeros_add}

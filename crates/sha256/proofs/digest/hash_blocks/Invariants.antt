@@ -1,11 +1,7 @@
--- digest::hash_blocks meets its contract. The invariant: the hash is that of the blocks passed.
--- Assumes nothing.
-use Rattle.std.proofs.Common.{◌≡◌, ◌-◌, ◌/◌, ◌%◌, ◌≤◌, length}
-use Rattle.sha256.specs.Digest.{hash_blocks}
+-- `hash_blocks` meets its contract. The invariant: the hash is that of the blocks passed. Assumes nothing.
+use Rattle.std.proofs.Common.{◌≡◌, take, fold}
+use Rattle.sha256.specs.Compression.{compression}
 use Rattle.sha256.proofs.digest.hash_blocks.Given as goal
 
-abbrev pub invariant-loop-at : goal.invariant-loop-at
-invariant-loop-at l = (l.at ≤ length l.bytes) × (l.at % 64 ≡ 0) × (l.hash ≡ hash_blocks l.initial.hash l.bytes (l.at / 64))
-
-abbrev pub decreases-loop-at : goal.decreases-loop-at
-decreases-loop-at l = length l.bytes - l.at
+abbrev pub invariant-loop-block : goal.invariant-loop-block
+invariant-loop-block l = l.hash ≡ fold compression l.initial.hash (take l.block-index l.blocks)

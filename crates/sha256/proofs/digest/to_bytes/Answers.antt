@@ -1,20 +1,24 @@
--- digest::to_bytes meets its contract. The invariant: the words passed stand as bytes in front of zeros.
--- Assumes nothing.
-use Rattle.std.proofs.Common.{◌≡◌, length, refl, ◌∙◌, arith, rules}
-use Rattle.sha256_padding.specs.Padding.{zeros}
+-- `to_bytes` meets its contract. The invariant: the words passed stand as bytes at the front. Assumes nothing.
+use Rattle.std.proofs.Common.{rules, ◌≡◌, ◌+◌, ◌-◌, ◌*◌, length, refl, sym, ap, ◌∙◌, arith, take_all}
+use Rattle.std.proofs.lemmas.Slice.{overwrites}
 use Rattle.sha256.specs.Digest.{words_bytes}
-use Rattle.sha256.proofs.WordStores.{worded, wrote}
-use borrow.Author.Rules.{rules}
+use Rattle.sha256.proofs.WordStores.{worded}
 use Rattle.sha256.proofs.digest.to_bytes.Goals as goal
 
 pub loop-i-init : goal.loop-i-init
-unfolding zeros words_bytes
-loop-i-init c = (search rules, refl)
+unfolding words_bytes
+loop-i-init c = (refl, refl)
 
 pub loop-i-preserved : goal.loop-i-preserved
-loop-i-preserved c = let i = c.loop-i.i in
-    (search rules, rw c.loop-i.invariant.1 (worded c.args.hash i (search rules) (search rules)))
+loop-i-preserved c = let whole : length c.args.hash ≡ 8 = search rules in
+    let i = c.loop-i.i in (
+      search (rules, overwrites),
+      worded c.args.hash c.loop-i.bytes _ i (4 * i + 4 - 4 * i) (omega arith) whole c.loop-i.invariant.0 (omega arith)
+          (c.copy_from_slice.ensures.after ∙ c.to_be_bytes.ensures) c.loop-i.invariant.1,
+    )
 
 pub returns : goal.returns
 returns c = let whole : length c.args.hash ≡ 8 = search rules in
-    c.loop-i.invariant.1 ∙ wrote c.args.hash c.loop-i.i whole (omega arith)
+    let done : c.loop-i.i ≡ 8 = omega arith in
+    sym (take_all 32 c.loop-i.bytes (omega arith)) ∙ rw done at c.loop-i.invariant.1
+    ∙ ap words_bytes (take_all 8 c.args.hash (omega arith))

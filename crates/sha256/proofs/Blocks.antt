@@ -1,0 +1,31 @@
+-- The blocks of a message as they are cut from it, hashed one after the other. Assumes nothing.
+use Rattle.std.specs.Simd.{first_chunks}
+use Rattle.std.proofs.Common.{◌≡◌, ℕ, zero, suc, ◌*◌, ◌/◌, ◌-◌, ◌%◌, List, ◌++◌, length, take, drop, fold, refl, sym, ap, ◌∙◌, arith, one-add, take_all}
+use Rattle.sha256.specs.Bytes.{Bytes}
+use Rattle.sha256.specs.Compression.{compression}
+use Rattle.sha256.specs.Digest.{initial_hash, hash_blocks, hash_all, words_bytes, sha256}
+use Rattle.sha256.specs.Laws.DigestLaws.{hash_blocks-add, hash_all-rest}
+use Rattle.sha256_padding.specs.Padding.{block, padded, padding}
+
+pub folded : (hash : List ℕ) (bytes : Bytes) (count : ℕ)
+    → fold compression hash (first_chunks 64 count bytes) ≡ hash_blocks hash bytes count
+unfolding hash_blocks block
+folded hash bytes zero = refl
+folded hash bytes (suc count) =
+    folded (compression hash (take 64 bytes)) (drop 64 bytes) count
+    ∙ sym (ap (hash_blocks hash bytes) (sym (one-add count)) ∙ hash_blocks-add hash bytes 1 count)
+
+pub one_block : (hash : List ℕ) (bytes : Bytes) → length bytes ≡ 64 → hash_all hash bytes ≡ compression hash bytes
+unfolding hash_all hash_blocks block
+one_block hash bytes whole = rw (whole, take_all 64 bytes (omega arith))
+
+-- the digest by parts: the blocks that are cut from the message, then the rest with the padding
+pub parts : (message rest : Bytes) (blocks : List Bytes) → blocks ≡ first_chunks 64 (length message / 64) message
+    → rest ≡ drop (length message / 64 * 64) message
+    → words_bytes (hash_all (fold compression initial_hash blocks) (rest ++ padding (length message))) ≡ sha256 message
+unfolding sha256 padded
+parts message rest blocks cut left =
+    let start : length message / 64 * 64 ≡ length message - length message % 64 = omega arith in
+    let whole : fold compression initial_hash blocks ≡ hash_all initial_hash message =
+    ap (fold compression initial_hash) cut ∙ unfold hash_all in folded initial_hash message (length message / 64) in
+    rw (whole, left, hash_all-rest initial_hash message (padding (length message)) (length message / 64 * 64) start)
