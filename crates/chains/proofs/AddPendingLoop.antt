@@ -1,9 +1,5 @@
 -- The loop of `add_pending`: after `k` places the pool begins with those of them that stay, and what follows from it.
-use Prim.Native.Nat.{ℕ, ◌+◌, ◌*◌, ◌≤◌, ◌<◌}
-use native.Mathlib.Omega.{arith}
-use mathlib.Core.Path.{◌≡◌, ◌∙◌}
-use mathlib.Core.Bool.{Bool, true, false}
-use mathlib.Core.List.{[], ◌∷◌, ◌++◌}
+use Rattle.std.proofs.Common.{ℕ, ◌+◌, ◌*◌, ◌≤◌, ◌<◌, arith, ◌≡◌, ◌∙◌, Bool, true, false, [], ◌∷◌, ◌++◌}
 use Rattle.protocol.specs.Bytes.{Bytes, part, holds}
 use Rattle.protocol.specs.State.{decode, encode, maximum_pending}
 use Rattle.protocol.specs.Sound.{view, log}

@@ -1,14 +1,8 @@
 -- One step of the walk back through a chain: what a linked height's block says, of its parent and of the chain's
 -- entries.
-use Prim.Native.Nat.{ℕ, zero, suc, ◌+◌, ◌-◌, ◌*◌, ◌≤◌, ◌<◌}
-use native.Mathlib.Omega.{arith}
-use native.Mathlib.Numerals.{add-one}
-use mathlib.Core.Path.{◌≡◌, sym, ap, subst, ◌∙◌}
-use mathlib.Core.Bool.{Bool, true, false}
-use mathlib.Core.List.{◌∷◌, ◌++◌}
-use lib.ListN.{length, take, drop, length-append}
-use lib.Seq.{drop-drop}
-use Rattle.protocol.specs.Bytes.{Bytes, part, same, holds}
+use Rattle.std.proofs.Common.{ℕ, zero, suc, ◌+◌, ◌≤◌, ◌<◌, arith, ◌≡◌, sym, ap, subst, ◌∙◌, true, false, ◌++◌}
+use Rattle.std.proofs.Common.{length, length-append}
+use Rattle.protocol.specs.Bytes.{Bytes, holds}
 use Rattle.protocol.specs.Block.{parent_height, entry_count, entries}
 use Rattle.protocol.specs.State.{maximum_entries}
 use Rattle.protocol.specs.Sound.{view}
@@ -16,13 +10,11 @@ use Rattle.protocol.specs.View.{log_at}
 use Rattle.protocol.proofs.Laws.FormedLaws.{Formed, formed}
 use Rattle.protocol.proofs.Laws.LinkedLaws.{linked_parent}
 use Rattle.protocol.proofs.Laws.ChainLaws.{log_suc, log_bound}
-use Rattle.protocol.proofs.Laws.PiecesLaws.{pieces_next, pieces_done}
-use Rattle.book_fields.proofs.Places.{cut_part}
 use Rattle.sha256.specs.Digest.{sha256}
 use Rattle.chains.specs.Walkable.{WalkableAs}
 use Rattle.book_fields.specs.Book.{view_of}
 use Rattle.book_fields.specs.declared.kind.Kind.{Kind}
-use Rattle.protocol.proofs.Laws.EntriesLaws.{entries_length, holds_first, holds_next, holds_none, holds_back}
+use Rattle.protocol.proofs.Laws.EntriesLaws.{entries_length, holds_back}
 use Rattle.protocol.proofs.Laws.EntriesLaws.{holds_front}
 use Rattle.chains.specs.Entries.{first_entries}
 
@@ -70,26 +62,6 @@ pub walk_count : {kind : Kind} {book : Bytes} {h j k : ℕ} {block : Bytes} → 
 walk_count {block = block} s p q = rw (p, q) (ap length s.log ∙ rw (length-append, entries_length block))
 
 -- ---- whether the chain has an entry
-module _ (x block : Bytes) (count k : ℕ) where
-  module _ (inside : k < count) where
-    -- place `k` of a block, and those after it
-    next : drop k (first_entries count block) ≡ part block (48 + 16 * k) 16 ∷ drop (suc k) (first_entries count block)
-    next = pieces_next 16 count (drop 48 block) k inside ∙ unfold part in rw drop-drop
-
-    module _ {r : Bool} (test : r ≡ same x (take (48 + 16 * k + 16 - (48 + 16 * k)) (drop (48 + 16 * k) block))) where
-      tested : r ≡ same x (part block (48 + 16 * k) 16)
-      tested = test ∙ ap (same x) (cut_part block (48 + 16 * k) 16)
-
-      pub entry_found : r ≡ true → holds x (drop k (first_entries count block)) ≡ true
-      entry_found e = ap (holds x) next ∙ holds_first x _ _ (sym tested ∙ e)
-
-      pub entry_differs : r ≡ false →
-          holds x (drop k (first_entries count block)) ≡ holds x (drop (k + 1) (first_entries count block))
-      entry_differs e = rw (add-one k) (ap (holds x) next ∙ holds_next x _ _ (sym tested ∙ e))
-
-  pub entries_over : count ≤ k → holds x (drop k (first_entries count block)) ≡ false
-  entries_over h = ap (holds x) (pieces_done 16 count (drop 48 block) k h) ∙ holds_none x
-
 -- all places of a block
 pub all_entries_lem : (block : Bytes) (count : ℕ) → count ≡ entry_count block →
     first_entries count block ≡ entries block

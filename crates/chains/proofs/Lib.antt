@@ -3,3 +3,4 @@ pub mod Pending
 pub mod Closing
 pub mod OfferLoop
 pub mod AddPendingLoop
+pub mod Looked

@@ -1,9 +1,5 @@
 -- The loop of `offer`: after `k` places the block has those of them that the chain lacks, and what follows from that.
-use Prim.Native.Nat.{ℕ, ◌*◌, ◌≤◌, ◌<◌}
-use native.Mathlib.Omega.{arith}
-use mathlib.Core.Path.{◌≡◌, ◌∙◌}
-use mathlib.Core.List.{List, []}
-use lib.ListN.{length, take}
+use Rattle.std.proofs.Common.{ℕ, ◌*◌, ◌≤◌, ◌<◌, arith, ◌≡◌, ◌∙◌, List, [], length, take}
 use Rattle.protocol.specs.Every.{Every, none}
 use Rattle.protocol.specs.Bytes.{Bytes, part, over_front, without, Sized}
 use Rattle.protocol.specs.Block.{new_block}

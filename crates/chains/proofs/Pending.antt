@@ -1,24 +1,13 @@
 -- Turns of the loops over pending entries: one looked for, those that a chain lacks counted, and a block filled with
 -- them.
-use Prim.Native.Nat.{ℕ, suc, ◌+◌, ◌*◌, ◌≤◌, ◌<◌}
-use native.Mathlib.Omega.{arith}
-use native.Mathlib.Numerals.{add-one}
-use mathlib.Core.Path.{◌≡◌, refl, sym, ap, subst, ◌∙◌}
-use mathlib.Core.Bool.{Bool, true, false}
-use mathlib.Core.List.{List, [], ◌∷◌, ◌++◌}
-use lib.ListN.{length, take, drop, length-append, length-drop}
+use Rattle.std.proofs.Common.{ℕ, ◌+◌, ◌*◌, ◌≤◌, ◌<◌, arith, ◌≡◌, refl, sym, ap, subst, ◌∙◌, List, [], ◌∷◌, ◌++◌}
+use Rattle.std.proofs.Common.{length, length-append, length-drop}
 use Rattle.protocol.specs.Every.{Every, none}
-use Rattle.protocol.specs.Bytes.{Bytes, part, same, holds, over_front, without, put, Sized}
+use Rattle.protocol.specs.Bytes.{Bytes, part, over_front, put, Sized}
 use Rattle.protocol.proofs.Laws.BytesLaws.{length_part}
 use Rattle.protocol.specs.Block.{new_block}
-use Rattle.protocol.specs.State.{State, decode, pending, maximum_pending}
-use Rattle.protocol.specs.Sound.{view}
-use Rattle.protocol.specs.View.{log_at}
-use Rattle.protocol.specs.Submit.{still_pending}
+use Rattle.protocol.specs.State.{decode, maximum_pending}
 use Rattle.protocol.proofs.Laws.CodecLaws.{decode_shaped}
-use Rattle.protocol.proofs.Laws.EntriesLaws.{pending_next, pending_done, pending_all, holds_first, holds_next}
-use Rattle.protocol.proofs.Laws.EntriesLaws.{holds_none}
-use Rattle.protocol.proofs.Laws.LogLaws.{log_lacks}
 use Rattle.protocol.proofs.Laws.BlockLaws.{new_block_size}
 use Rattle.protocol.proofs.Laws.BuildLaws.{block_more}
 use Rattle.protocol.proofs.Laws.FrontLaws.{front_again}
@@ -35,34 +24,10 @@ pub place_length : (pool : Bytes) (k : ℕ) {entry : Bytes} → length pool ≡ 
     entry ≡ part pool (16 * k) 16 → length entry ≡ 16
 place_length pool k size few e = ap length e ∙ length_part pool (16 * k) 16 (omega arith)
 
--- ---- one looked for
-module _ (s : State) (x : Bytes) (k : ℕ) where
-  module _ (inside : k < s.pending_count) {entry : Bytes} {r : Bool} (read : entry ≡ part s.pool (16 * k) 16)
-      (test : r ≡ same x entry) where
-    tested : r ≡ same x (part s.pool (16 * k) 16)
-    tested = test ∙ ap (same x) read
-
-    pub pending_found : r ≡ true → holds x (drop k (pending s)) ≡ true
-    pending_found e = ap (holds x) (pending_next s k inside)
-        ∙ holds_first x (part s.pool (16 * k) 16) (drop (suc k) (pending s)) (sym tested ∙ e)
-
-    pub pending_differs : r ≡ false → holds x (drop k (pending s)) ≡ holds x (drop (k + 1) (pending s))
-    pending_differs e =
-        rw (add-one k) (ap (holds x) (pending_next s k inside)
-        ∙ holds_next x (part s.pool (16 * k) 16) (drop (suc k) (pending s)) (sym tested ∙ e))
-
-  pub pending_over : s.pending_count ≤ k → holds x (drop k (pending s)) ≡ false
-  pending_over h = ap (holds x) (pending_done s k h) ∙ holds_none x
-
 -- ---- those that stay
 pub one_more : (es : List Bytes) (entry : Bytes) {more : List Bytes} {left : ℕ} → left ≡ length es →
     more ≡ es ++ (entry ∷ []) → left + 1 ≡ length more
 one_more es entry p q = rw p (sym (ap length q ∙ length-append es (entry ∷ [])))
-
-pub all_stay : (s : State) (finalized k : ℕ) → finalized ≡ s.finalized → s.pending_count ≤ k →
-    without (log_at (view s) finalized) (take k (pending s)) ≡ still_pending s
-unfolding still_pending
-all_stay s finalized k p h = rw (p, pending_all s k h) (sym (log_lacks s (pending s)))
 
 -- ---- a block that is filled
 pub begun_again : (new buffer : Bytes) {after : Bytes} → after ≡ over_front new buffer → after ≡ over_front new after

@@ -1,3 +1,4 @@
 -- What the contracts of chains and entries speak of.
 pub mod Walkable
 pub mod Entries
+pub mod Back

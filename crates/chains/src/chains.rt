@@ -1,14 +1,43 @@
 // The entries of a chain of any kind of book, with their repeats: counting them, and looking for one. Each walks back
 // through parent heights once and computes no digest.
 ghost use Rattle.std.specs.Prelude.{◌≡◌, ◌≤◌, length};
+ghost use Rattle.std.specs.Iterator.{at_most};
 ghost use Rattle.protocol.specs.Bytes.{holds};
 ghost use Rattle.protocol.specs.View.{log_at};
 ghost use Rattle.protocol.specs.State.{maximum_entries};
 ghost use Rattle.book_fields.specs.Book.{view_of};
 ghost use Rattle.chains.specs.Walkable.{WalkableAs};
+ghost use Rattle.chains.specs.Back.{StepsBack};
 ghost use Rattle.chains.specs.Entries.{first_entries};
 
 use book_fields::kind::Kind;
+
+// The blocks of the chain that ends in height `at`, newest first.
+#[derive(Drop)]
+struct Chain<'a> {
+    kind: Kind,
+    book: &'a [u8],
+    at: usize,
+}
+
+impl<'a> Iterator for Chain<'a> {
+    type Item = &'a [u8];
+
+    ghost can_next = { λ chain. WalkableAs chain.kind chain.book.now chain.at };
+
+    ghost next_gives = { StepsBack };
+
+    ghost remaining = { λ chain. at_most chain.at };
+
+    fn next(&mut self) -> Option<&'a [u8]> {
+        if self.at == 0 {
+            return None;
+        }
+        let block = book_fields::kind::block(self.kind, self.book, self.at);
+        self.at = wire::block::parent_height(block);
+        Some(block)
+    }
+}
 
 // How many entries the chain that ends in height `h` has. Reads three bytes of each of its blocks, 1,000 at most.
 pub fn chain_entries(kind: Kind, book: &[u8], h: usize) -> usize
@@ -16,11 +45,8 @@ pub fn chain_entries(kind: Kind, book: &[u8], h: usize) -> usize
     ensures { (result ≡ length (log_at (view_of kind book.now) h)) × (result ≤ maximum_entries) }
 {
     let mut sum = 0;
-    let mut at = h;
-    while 0 < at {
-        let block = book_fields::kind::block(kind, book, at);
+    for block in (Chain { kind, book, at: h }) {
         sum += wire::block::entry_count(block);
-        at = wire::block::parent_height(block);
     }
     sum
 }
@@ -30,16 +56,9 @@ pub fn block_holds(block: &[u8], count: usize, entry: &[u8]) -> bool
     requires { (length block.now ≡ 176) × (count ≤ 8) }
     ensures { result ≡ holds entry.now (first_entries count block.now) }
 {
-    let mut k = 0;
-    while k < count {
-        let from = 48 + 16 * k;
-        if wire::bytes::same_bytes(entry, &block[from..from + 16]) {
-            return true;
-        } else {
-            k += 1;
-        }
-    }
-    false
+    block[48..48 + 16 * count]
+        .chunks_exact(16)
+        .any(|place| wire::bytes::same_bytes(entry, place))
 }
 
 // Whether the chain that ends in height `h` has this entry. Looks at each of its blocks, 1,000 at most, newest first.
@@ -47,13 +66,9 @@ pub fn chain_holds(kind: Kind, book: &[u8], h: usize, entry: &[u8]) -> bool
     requires { WalkableAs kind book.now h }
     ensures { result ≡ holds entry.now (log_at (view_of kind book.now) h) }
 {
-    let mut at = h;
-    while 0 < at {
-        let block = book_fields::kind::block(kind, book, at);
+    for block in (Chain { kind, book, at: h }) {
         if block_holds(block, wire::block::entry_count(block), entry) {
             return true;
-        } else {
-            at = wire::block::parent_height(block);
         }
     }
     false

@@ -29,20 +29,17 @@ pub fn offer(book: &[u8], c: usize, j: usize, digest: &[u8], block: &mut [u8])
         over_front (new_block c j digest.now (offered (decode book.now) j)) block.old }
 {
     wire::block::start_block(block, c, j, digest);
-    let count = book_fields::head::pending_count(book);
     let mut taken = 0;
-    let mut k = 0;
-    while k < count {
-        let entry = book_fields::pool::pending_entry(book, k);
+    for k in 0..book_fields::head::pending_count(book) {
         if taken == 8 {
             return;
-        } else if chain_holds(book, j, entry) {
-            k += 1;
-        } else {
-            wire::block::add_entry(block, taken, entry);
-            taken += 1;
-            k += 1;
         }
+        let entry = book_fields::pool::pending_entry(book, k);
+        if chain_holds(book, j, entry) {
+            continue;
+        }
+        wire::block::add_entry(block, taken, entry);
+        taken += 1;
     }
 }
 
@@ -54,17 +51,9 @@ pub fn unlogged_count(book: &[u8]) -> usize
 {
     let finalized = book_fields::head::finalized(book);
     let count = book_fields::head::pending_count(book);
-    let mut left = 0;
-    let mut k = 0;
-    while k < count {
-        if chain_holds(book, finalized, book_fields::pool::pending_entry(book, k)) {
-            k += 1;
-        } else {
-            left += 1;
-            k += 1;
-        }
-    }
-    left
+    (0..count)
+        .filter(|k| !chain_holds(book, finalized, book_fields::pool::pending_entry(book, *k)))
+        .count()
 }
 
 // Whether this entry is pending. Compares at most 32 entries.
@@ -74,15 +63,7 @@ pub fn is_pending(book: &[u8], entry: &[u8]) -> bool
     ensures { result ≡ holds entry.now (pending (decode book.now)) }
 {
     let count = book_fields::head::pending_count(book);
-    let mut k = 0;
-    while k < count {
-        if wire::bytes::same_bytes(entry, book_fields::pool::pending_entry(book, k)) {
-            return true;
-        } else {
-            k += 1;
-        }
-    }
-    false
+    (0..count).any(|k| wire::bytes::same_bytes(entry, book_fields::pool::pending_entry(book, k)))
 }
 
 // Makes the pending entries that the log does not hold, and `entry` after them, all that is pending. Closes the pool up
@@ -97,17 +78,13 @@ pub fn add_pending(book: &mut [u8], entry: &[u8])
         with_pending s (still_pending s ++ (entry.now ∷ []))) }
 {
     let log_height = book_fields::head::finalized(book);
-    let count = book_fields::head::pending_count(book);
     let mut left = 0;
-    let mut k = 0;
-    while k < count {
+    for k in 0..book_fields::head::pending_count(book) {
         if chain_holds(book, log_height, book_fields::pool::pending_entry(book, k)) {
-            k += 1;
-        } else {
-            book_changes::pool::move_entry(book, k, left);
-            left += 1;
-            k += 1;
+            continue;
         }
+        book_changes::pool::move_entry(book, k, left);
+        left += 1;
     }
     book_changes::pool::finish_pool(book, left, entry);
 }

@@ -1,25 +1,14 @@
--- `block_holds` meets its contract: the entries before `k` are not the one looked for.
-use native.Mathlib.Omega.{arith}
-use mathlib.Core.Path.{refl, sym, ◌∙◌}
-use Rattle.chains.proofs.ChainWalk.{entry_found, entry_differs, entries_over}
+-- `block_holds` meets its contract: the chunks that it goes through are the entries.
+use Rattle.std.proofs.Common.{◌+◌, ◌-◌, ◌*◌, ◌∙◌, drop, length-drop, rules, tests, arith}
+use Rattle.std.proofs.lemmas.Iterator.Search.{any_from_yields_List}
+use Rattle.protocol.specs.Bytes.{same}
+use Rattle.chains.specs.Entries.{first_entries}
+use Rattle.chains.proofs.Looked.{holds_any, chunks_yield}
 use Rattle.chains.proofs.chains.block_holds.Goals as goal
 
-pub loop-k-init : goal.loop-k-init
-loop-k-init c = (omega arith, refl)
-
-pub returns-then-same_bytes : goal.returns-then-same_bytes
-returns-then-same_bytes c = let args = c.args in
-    sym (c.loop-k.invariant.1 ∙ entry_found args.entry.now args.block.now args.count c.loop-k.k
-    c.loop-k-test.true c.same_bytes.ensures c.if-same_bytes.true)
-
-pub loop-k-preserved : goal.loop-k-preserved
-loop-k-preserved c = let args = c.args in (
-  omega arith,
-  c.loop-k.invariant.1 ∙ entry_differs args.entry.now args.block.now args.count c.loop-k.k
-      c.loop-k-test.true c.same_bytes.ensures c.if-same_bytes.false,
-)
-
 pub returns : goal.returns
-returns c = let args = c.args in
-    sym (c.loop-k.invariant.1 ∙ entries_over args.entry.now args.block.now args.count
-    c.loop-k.k c.loop-k-test.false)
+returns c =
+    any_from_yields_List (same c.args.entry.now) _ _ c.any.result c.any.ensures.ran
+    (chunks_yield c.chunks_exact.result (drop 48 c.args.block.now) c.args.count (48 + 16 * c.args.count - 48)
+    c.chunks_exact.ensures.size c.chunks_exact.ensures.rest (omega arith) (rw length-drop (omega arith)))
+    (λ x b q k. search (rules, tests)) ∙ holds_any c.args.entry.now (first_entries c.args.count c.args.block.now)

@@ -1,52 +1,35 @@
 -- `chain_entries` meets its contract: what is counted and the log that is left make the whole log.
-use native.Mathlib.Omega.{arith}
-use mathlib.Core.Path.{ap}
-use lib.ListN.{length}
+use Rattle.std.proofs.Common.{ap, length, arith}
+use Rattle.protocol.specs.View.{View, log_at}
 use Rattle.book_fields.specs.Book.{view_of}
 use Rattle.protocol.proofs.Laws.EntriesLaws.{log_start}
-use Rattle.chains.proofs.ChainWalk.{walk_step, walk_few, walk_parent, walk_count}
+use Rattle.chains.proofs.ChainWalk.{walk_step, walk_few, walk_count}
 use Rattle.chains.proofs.chains.chain_entries.Goals as goal
 
-pub loop-at-init : goal.loop-at-init
-loop-at-init c = (c.requires, omega arith)
-
-pub block-block-requires : goal.block-block-requires
-block-block-requires c = let w = c.loop-at.invariant.0 in
-    let high = w.high in
-    record {
-      shown = w.shown;
-      within = record { low = omega arith; high = high };
-    }
+pub loop-block-init : goal.loop-block-init
+loop-block-init c = rw c.into_iter-block-iterator.ensures.into_iter_gives (c.requires, tt, omega arith)
 
 pub entry_count-sum-requires : goal.entry_count-sum-requires
 entry_count-sum-requires c =
-    let step = walk_step c.loop-at.invariant.0 c.loop-at-test.true c.block-block.ensures.block in
-    step.size
+    (walk_step c.loop-block.invariant.0 c.in-Some.ensures.steps.0 c.in-Some.ensures.steps.1).size
 
 pub overflow_add-sum : goal.overflow_add-sum
-overflow_add-sum c = let step = walk_step c.loop-at.invariant.0 c.loop-at-test.true c.block-block.ensures.block in
+overflow_add-sum c =
+    let step = walk_step c.loop-block.invariant.0 c.in-Some.ensures.steps.0 c.in-Some.ensures.steps.1 in
     let few = walk_few c.requires in
-    omega arith
+    omega (arith, c.loop-block.invariant.2)
 
-pub parent_height-at-requires : goal.parent_height-at-requires
-parent_height-at-requires c = let step = walk_step c.loop-at.invariant.0 c.loop-at-test.true
-    c.block-block.ensures.block in
-    step.size
-
-pub loop-at-smaller : goal.loop-at-smaller
-loop-at-smaller c = let step = walk_step c.loop-at.invariant.0 c.loop-at-test.true
-    c.block-block.ensures.block in
-    omega arith
-
-pub loop-at-preserved : goal.loop-at-preserved
-loop-at-preserved c = let step = walk_step c.loop-at.invariant.0 c.loop-at-test.true
-    c.block-block.ensures.block in
-    let count = walk_count step c.parent_height-at.ensures.0 c.entry_count-sum.ensures.0 in
-    (walk_parent step c.parent_height-at.ensures.0, omega arith)
+pub loop-block-preserved : goal.loop-block-preserved
+loop-block-preserved c =
+    let step = walk_step c.loop-block.invariant.0 c.in-Some.ensures.steps.0 c.in-Some.ensures.steps.1 in
+    let count = walk_count step c.in-Some.ensures.steps.2 c.entry_count-sum.ensures.0 in
+    let rest = ap (λ (v : View). length (log_at v c.next.new.self.at)) c.in-Some.ensures.steps.3 in
+    (c.in-Some.ensures.goes.keeps, tt, omega (arith, c.loop-block.invariant.2))
 
 pub returns : goal.returns
-returns c = let kind = c.args.kind in
-    let book = c.args.book.now in
-    let none = ap length (log_start (view_of kind book) c.loop-at.at c.loop-at-test.false) in
+returns c =
+    let left = c.loop-block.block-iterator in
+    let none = ap length (log_start (view_of left.kind left.book.now) left.at
+    (omega (arith, c.in-None.ensures.steps))) in
     let few = walk_few c.requires in
-    omega arith
+    omega (arith, c.loop-block.invariant.2)

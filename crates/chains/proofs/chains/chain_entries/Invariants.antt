@@ -1,15 +1,11 @@
 -- `chain_entries` meets its contract: what is counted and the log that is left make the whole log.
-use Prim.Native.Nat.{◌+◌}
-use mathlib.Core.Path.{◌≡◌}
-use lib.ListN.{length}
+use Rattle.std.proofs.Common.{◌≡◌, ◌+◌, length}
 use Rattle.protocol.specs.View.{log_at}
-use Rattle.chains.specs.Walkable.{WalkableAs}
 use Rattle.book_fields.specs.Book.{view_of}
 use Rattle.chains.proofs.chains.chain_entries.Given as goal
 
-abbrev pub invariant-loop-at : goal.invariant-loop-at
-invariant-loop-at l = WalkableAs l.kind l.book
-    l.at × (l.sum + length (log_at (view_of l.kind l.book) l.at) ≡ length (log_at (view_of l.kind l.book) l.h))
-
-abbrev pub decreases-loop-at : goal.decreases-loop-at
-decreases-loop-at l = l.at
+abbrev pub invariant-loop-block : goal.invariant-loop-block
+invariant-loop-block l =
+    let left = l.block-iterator in
+    (goal.iterator-loop-block).can_next left × (goal.iterator-loop-block).is_finite left ×
+    (l.sum + length (log_at (view_of left.kind left.book.now) left.at) ≡ length (log_at (view_of l.fn.kind l.book) l.h))

@@ -1,65 +1,49 @@
 -- `chain_holds` meets its contract: the blocks passed do not have the entry, so that the whole log has it if the rest
 -- has it.
-use native.Mathlib.Omega.{arith}
-use mathlib.Core.Path.{refl, sym, ap, ◌∙◌}
+use Rattle.std.proofs.Common.{refl, sym, ap, ◌∙◌, arith}
 use Rattle.protocol.specs.Bytes.{holds}
+use Rattle.protocol.specs.View.{View, log_at}
 use Rattle.book_fields.specs.Book.{view_of}
 use Rattle.protocol.proofs.Laws.EntriesLaws.{log_start, holds_none}
-use Rattle.chains.proofs.ChainWalk.{walk_step, walk_parent, walk_found, walk_on, all_entries_lem}
+use Rattle.chains.proofs.ChainWalk.{walk_step, walk_found, walk_on, all_entries_lem}
 use Rattle.chains.proofs.chains.chain_holds.Goals as goal
 
-pub loop-at-init : goal.loop-at-init
-loop-at-init c = (c.requires, refl)
-
-pub block-block-requires : goal.block-block-requires
-block-block-requires c = let w = c.loop-at.invariant.0 in
-    let high = w.high in
-    record {
-      shown = w.shown;
-      within = record { low = omega arith; high = high };
-    }
+pub loop-block-init : goal.loop-block-init
+loop-block-init c = rw c.into_iter-block-iterator.ensures.into_iter_gives (c.requires, tt, refl)
 
 pub entry_count-requires : goal.entry_count-requires
-entry_count-requires c = let step = walk_step c.loop-at.invariant.0 c.loop-at-test.true c.block-block.ensures.block in
-    step.size
+entry_count-requires c =
+    (walk_step c.loop-block.invariant.0 c.in-Some.ensures.steps.0 c.in-Some.ensures.steps.1).size
 
 pub block_holds-requires : goal.block_holds-requires
-block_holds-requires c = let step = walk_step c.loop-at.invariant.0 c.loop-at-test.true
-    c.block-block.ensures.block in
+block_holds-requires c =
+    let step = walk_step c.loop-block.invariant.0 c.in-Some.ensures.steps.0 c.in-Some.ensures.steps.1 in
     (step.size, omega arith)
 
 pub returns-then-block_holds : goal.returns-then-block_holds
-returns-then-block_holds c = let loop = c.loop-at in
+returns-then-block_holds c =
     let entry = c.args.entry.now in
-    let step = walk_step loop.invariant.0 c.loop-at-test.true c.block-block.ensures.block in
-    let all = all_entries_lem c.block-block.result.now _ c.entry_count.ensures.0 in
-    sym (loop.invariant.1 ∙ walk_found entry step
+    let step = walk_step c.loop-block.invariant.0 c.in-Some.ensures.steps.0 c.in-Some.ensures.steps.1 in
+    let all = all_entries_lem c.in-Some.block.now _ c.entry_count.ensures.0 in
+    sym (c.loop-block.invariant.2 ∙ walk_found entry step
     (ap (holds entry) (sym all) ∙ sym c.block_holds.ensures ∙ c.if-block_holds.true))
 
-pub parent_height-at-requires : goal.parent_height-at-requires
-parent_height-at-requires c = let step = walk_step c.loop-at.invariant.0 c.loop-at-test.true
-    c.block-block.ensures.block in
-    step.size
-
-pub loop-at-smaller : goal.loop-at-smaller
-loop-at-smaller c = let step = walk_step c.loop-at.invariant.0 c.loop-at-test.true
-    c.block-block.ensures.block in
-    omega arith
-
-pub loop-at-preserved : goal.loop-at-preserved
-loop-at-preserved c = let all = all_entries_lem c.block-block.result.now _ c.entry_count.ensures.0 in
-    let loop = c.loop-at in
+pub loop-block-preserved : goal.loop-block-preserved
+loop-block-preserved c =
     let entry = c.args.entry.now in
-    let step = walk_step loop.invariant.0 c.loop-at-test.true c.block-block.ensures.block in (
-      walk_parent step c.parent_height-at.ensures.0,
-      loop.invariant.1
-          ∙ walk_on entry step c.parent_height-at.ensures.0
-          (ap (holds entry) (sym all) ∙ sym c.block_holds.ensures ∙ c.if-block_holds.false),
+    let step = walk_step c.loop-block.invariant.0 c.in-Some.ensures.steps.0 c.in-Some.ensures.steps.1 in
+    let all = all_entries_lem c.in-Some.block.now _ c.entry_count.ensures.0 in (
+      c.in-Some.ensures.goes.keeps,
+      tt,
+      c.loop-block.invariant.2
+          ∙ walk_on entry step c.in-Some.ensures.steps.2
+          (ap (holds entry) (sym all) ∙ sym c.block_holds.ensures ∙ c.if-block_holds.false)
+          ∙ ap (λ (v : View). holds entry (log_at v c.next.new.self.at)) (sym c.in-Some.ensures.steps.3),
     )
 
 pub returns : goal.returns
-returns c = let kind = c.args.kind in
-    let book = c.args.book.now in
+returns c =
     let entry = c.args.entry.now in
-    sym (c.loop-at.invariant.1 ∙ ap (holds entry)
-    (log_start (view_of kind book) c.loop-at.at c.loop-at-test.false) ∙ holds_none entry)
+    let left = c.loop-block.block-iterator in
+    sym (c.loop-block.invariant.2 ∙ ap (holds entry)
+    (log_start (view_of left.kind left.book.now) left.at (omega (arith, c.in-None.ensures.steps))) ∙ holds_none entry)

@@ -1,8 +1,6 @@
 -- `add_pending` meets its contract: after `k` places, those of their entries that the log lacks are in front of the
 -- pool.
-use Prim.Native.Nat.{◌≤◌, ◌-◌}
-use mathlib.Core.Path.{◌≡◌}
-use lib.ListN.{length}
+use Rattle.std.proofs.Common.{◌≡◌, length}
 use Rattle.protocol.specs.State.{decode, encode}
 use Rattle.protocol.proofs.Laws.PoolLaws.{moved}
 use Rattle.chains.proofs.Closing.{staying}
@@ -10,8 +8,5 @@ use Rattle.chains.proofs.entries.add_pending.Given as goal
 
 abbrev pub invariant-loop-k : goal.invariant-loop-k
 invariant-loop-k l =
-    (l.k ≤ l.count) × (l.left ≡ length (staying (decode l.initial.book) l.k)) ×
+    (l.left ≡ length (staying (decode l.initial.book) l.k)) ×
     (l.book ≡ encode (moved (decode l.initial.book) (staying (decode l.initial.book) l.k)))
-
-abbrev pub decreases-loop-k : goal.decreases-loop-k
-decreases-loop-k l = l.count - l.k

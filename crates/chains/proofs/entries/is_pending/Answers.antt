@@ -1,41 +1,16 @@
--- `is_pending` meets its contract: the places before `k` do not have the entry.
-use Prim.Native.Nat.{◌≤◌, ◌<◌}
-use native.Mathlib.Omega.{arith}
-use mathlib.Core.Path.{refl, sym, ◌∙◌}
+-- `is_pending` meets its contract: the places that it goes through are those of the pending entries.
+use Rattle.std.proofs.Common.{◌∙◌, ◌*◌, refl, rules, tests, arith}
+use Rattle.std.proofs.lemmas.Iterator.{YieldsList-from_range}
+use Rattle.std.proofs.lemmas.Iterator.Search.{any_from_yields_List}
+use Rattle.protocol.specs.Bytes.{part, same}
 use Rattle.protocol.specs.State.{decode}
-use Rattle.chains.proofs.Pending.{pending_found, pending_differs, pending_over}
+use Rattle.chains.proofs.Looked.{any_pending}
 use Rattle.chains.proofs.entries.is_pending.Goals as goal
 
-pub pending_count-count-requires : goal.pending_count-count-requires
-pending_count-count-requires c = c.requires.readable
-
-pub loop-k-init : goal.loop-k-init
-loop-k-init c = (omega arith, refl)
-
-pub pending_entry-requires : goal.pending_entry-requires
-pending_entry-requires c = record {
-  readable = c.requires.readable;
-  k_lt_maximum_pending = omega arith;
-}
-
-pub returns-then-same_bytes : goal.returns-then-same_bytes
-returns-then-same_bytes c = let loop = c.loop-k in
-    let args = c.args in
-    let inside : loop.k < (decode args.book.now).pending_count = omega arith in
-    sym (loop.invariant.1 ∙ pending_found (decode args.book.now) args.entry.now loop.k inside
-    c.pending_entry.ensures c.same_bytes.ensures c.if-same_bytes.true)
-
-pub loop-k-preserved : goal.loop-k-preserved
-loop-k-preserved c = let loop = c.loop-k in
-    let args = c.args in
-    let inside : loop.k < (decode args.book.now).pending_count = omega arith in (
-      omega arith,
-      loop.invariant.1 ∙ pending_differs (decode args.book.now) args.entry.now loop.k inside
-          c.pending_entry.ensures c.same_bytes.ensures c.if-same_bytes.false,
-    )
-
 pub returns : goal.returns
-returns c = let loop = c.loop-k in
-    let args = c.args in
-    let over : (decode args.book.now).pending_count ≤ loop.k = omega arith in
-    sym (loop.invariant.1 ∙ pending_over (decode args.book.now) args.entry.now loop.k over)
+returns c =
+    let s = decode c.args.book.now in
+    let count = c.pending_count-count.result in
+    any_from_yields_List (λ k. same c.args.entry.now (part s.pool (16 * k) 16)) _ _ c.any.result c.any.ensures.ran
+    (YieldsList-from_range 0 count count refl (omega arith)) (λ x b q k. search (rules, tests))
+    ∙ any_pending s c.args.entry.now count c.pending_count-count.ensures.0

@@ -1,9 +1,5 @@
 -- `offer` meets its contract: after `k` places the block has those of them that the chain lacks, eight at most.
-use Prim.Native.Nat.{◌≤◌, ◌<◌}
-use native.Mathlib.Omega.{arith}
-use mathlib.Core.Path.{◌≡◌, refl, sym, ap, ◌∙◌}
-use mathlib.Core.List.{List, []}
-use lib.ListN.{length}
+use Rattle.std.proofs.Common.{◌≤◌, ◌<◌, arith, ◌≡◌, refl, sym, ap, ◌∙◌, List, [], length}
 use Rattle.protocol.specs.Bytes.{Bytes, over_front, without}
 use Rattle.protocol.specs.Block.{new_block}
 use Rattle.protocol.specs.State.{decode, pending}
@@ -20,7 +16,6 @@ pub loop-k-init : goal.loop-k-init
 unfolding without
 loop-k-init c =
     let args = c.args in (
-      omega arith,
       refl,
       omega arith,
       begun_again (new_block args.c args.j args.digest.now []) args.block.now c.start_block.ensures,
@@ -35,7 +30,7 @@ returns-then-taken-eq8 c =
     let size : length (lacked args.book.now args.j c.loop-k.k) ≡ 8 = omega arith in
     all_over args.book.now args.j c.requires.walkable c.requires.book_bound c.loop-k.k args.c args.digest.now
     args.block.now c.start_block.new.block c.loop-k.block c.requires.c_bound.1 c.start_block.ensures (omega arith)
-    c.loop-k.invariant.3 (eight_taken log (pending s) c.loop-k.k size)
+    c.loop-k.invariant.2 (eight_taken log (pending s) c.loop-k.k size)
 
 pub loop-k-preserved-then-chain_holds : goal.loop-k-preserved-then-chain_holds
 loop-k-preserved-then-chain_holds c =
@@ -45,10 +40,9 @@ loop-k-preserved-then-chain_holds c =
     let inside : c.loop-k.k < s.pending_count = omega arith in
     let leaves = place_leaves s log c.loop-k.k inside c.pending_entry-entry.ensures c.chain_holds.ensures
     c.if-chain_holds.true in (
-      omega arith,
-      c.loop-k.invariant.1 ∙ ap length (sym leaves),
-      c.loop-k.invariant.2,
-      c.loop-k.invariant.3 ∙ ap (λ (l : List Bytes). over_front (new_block args.c args.j args.digest.now l)
+      c.loop-k.invariant.0 ∙ ap length (sym leaves),
+      c.loop-k.invariant.1,
+      c.loop-k.invariant.2 ∙ ap (λ (l : List Bytes). over_front (new_block args.c args.j args.digest.now l)
           c.start_block.new.block) (sym leaves),
     )
 
@@ -71,13 +65,12 @@ loop-k-preserved c =
     let stays = place_stays s log c.loop-k.k inside c.pending_entry-entry.ensures c.chain_holds.ensures
     c.if-chain_holds.false in
     let more : c.loop-k.taken < 8 = omega (arith, c.if-taken-eq8.false) in (
-      omega arith,
-      one_more es entry c.loop-k.invariant.1 stays,
+      one_more es entry c.loop-k.invariant.0 stays,
       omega arith,
       filled_more args.c args.j args.digest.now c.requires.c_bound.1 c.start_block.new.block es entry
-          (sized args.book.now args.j c.requires.walkable c.requires.book_bound c.loop-k.k) c.loop-k.invariant.1 more
+          (sized args.book.now args.j c.requires.walkable c.requires.book_bound c.loop-k.k) c.loop-k.invariant.0 more
           (entry_size args.book.now args.j c.requires.walkable c.requires.book_bound c.loop-k.k inside
-          c.pending_entry-entry.ensures) stays c.loop-k.invariant.3 c.add_entry.ensures,
+          c.pending_entry-entry.ensures) stays c.loop-k.invariant.2 c.add_entry.ensures,
     )
 
 pub returns : goal.returns
@@ -90,4 +83,4 @@ returns c =
     let few : length (lacked args.book.now args.j c.loop-k.k) ≤ 8 = omega arith in
     all_over args.book.now args.j c.requires.walkable c.requires.book_bound c.loop-k.k args.c args.digest.now
     args.block.now c.start_block.new.block c.loop-k.block c.requires.c_bound.1 c.start_block.ensures few
-    c.loop-k.invariant.3 (few_taken log (pending s) c.loop-k.k few (pending_all s c.loop-k.k over))
+    c.loop-k.invariant.2 (few_taken log (pending s) c.loop-k.k few (pending_all s c.loop-k.k over))

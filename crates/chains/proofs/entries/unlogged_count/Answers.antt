@@ -1,61 +1,25 @@
--- `unlogged_count` meets its contract: after `k` places, those of them that the log lacks are counted.
-use Prim.Native.Nat.{◌≤◌, ◌<◌}
-use native.Mathlib.Omega.{arith}
-use mathlib.Core.Path.{refl, sym, ap, ◌∙◌}
-use lib.ListN.{length, take}
-use Rattle.protocol.specs.State.{decode, pending}
+-- `unlogged_count` meets its contract: of the places that it goes through, those whose entries the log lacks are
+-- counted.
+use Rattle.std.proofs.Common.{◌∙◌, ◌*◌, not, rules, tests, arith}
+use Rattle.std.proofs.lemmas.Iterator.{YieldsList-from_range}
+use Rattle.std.proofs.lemmas.Iterator.Consumers.{YieldsList-from_filter, count_from_yields_List}
+use Rattle.protocol.specs.Bytes.{part, holds}
+use Rattle.protocol.specs.State.{decode}
 use Rattle.protocol.specs.Sound.{view}
 use Rattle.protocol.specs.View.{log_at}
-use Rattle.protocol.specs.Bytes.{without}
-use Rattle.protocol.proofs.Laws.EntriesLaws.{place_leaves, place_stays}
-use Rattle.chains.proofs.Pending.{walk_at, one_more, all_stay}
+use Rattle.chains.proofs.Looked.{stays_counted, stay_few}
 use Rattle.chains.proofs.entries.unlogged_count.Goals as goal
 
-pub finalized-finalized-requires : goal.finalized-finalized-requires
-finalized-finalized-requires c = c.requires.walkable.shown
-
-pub pending_count-count-requires : goal.pending_count-count-requires
-pending_count-count-requires c = c.requires.walkable.shown
-
-pub loop-k-init : goal.loop-k-init
-unfolding without
-loop-k-init c = (omega arith, refl, omega arith)
-
-pub pending_entry-requires : goal.pending_entry-requires
-pending_entry-requires c = record {
-  readable = c.requires.walkable.shown;
-  k_lt_maximum_pending = omega arith;
-}
-
-pub chain_holds-requires : goal.chain_holds-requires
-chain_holds-requires c = walk_at c.requires.walkable c.finalized-finalized.ensures.0
-
-pub loop-k-preserved-then-chain_holds : goal.loop-k-preserved-then-chain_holds
-loop-k-preserved-then-chain_holds c = let loop = c.loop-k in
-    let s = decode c.args.book.now in
-    let log = log_at (view s) c.finalized-finalized.result in
-    let inside : loop.k < s.pending_count = omega arith in
-    let leaves = place_leaves s log loop.k inside c.pending_entry.ensures
-    c.chain_holds.ensures c.if-chain_holds.true in
-    (omega arith, loop.invariant.1 ∙ ap length (sym leaves), omega arith)
-
-pub loop-k-preserved : goal.loop-k-preserved
-loop-k-preserved c = let loop = c.loop-k in
-    let s = decode c.args.book.now in
-    let log = log_at (view s) c.finalized-finalized.result in
-    let inside : loop.k < s.pending_count = omega arith in
-    let stays = place_stays s log loop.k inside c.pending_entry.ensures
-    c.chain_holds.ensures c.if-chain_holds.false in (
-      omega arith,
-      one_more (without log (take loop.k (pending s))) c.pending_entry.result.now
-          loop.invariant.1 stays,
-      omega arith,
-    )
-
 pub returns : goal.returns
-returns c = let s = decode c.args.book.now in
-    let over : s.pending_count ≤ c.loop-k.k = omega arith in (
-      c.loop-k.invariant.1 ∙ ap length (all_stay s c.finalized-finalized.result c.loop-k.k
-          c.finalized-finalized.ensures.0 over),
-      omega arith,
-    )
+returns c =
+    let s = decode c.args.book.now in
+    let count = c.pending_count-count.result in
+    let log = log_at (view s) c.finalized-finalized.result in
+    let counted = count_from_yields_List c.filter.result c.count.result c.count.ensures.ran
+    (YieldsList-from_filter _ (λ k. not (holds (part s.pool (16 * k) 16) log))
+    (YieldsList-from_range 0 count count c.filter.ensures.source (omega arith))
+    c.filter.ensures.closure (λ x b q k. search (rules, tests))) in
+    let stay = stays_counted s c.finalized-finalized.result count c.finalized-finalized.ensures.0
+    c.pending_count-count.ensures.0 in
+    let few = stay_few s in
+    (counted ∙ stay, omega (arith, counted ∙ stay))
