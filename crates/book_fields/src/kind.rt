@@ -7,7 +7,9 @@ ghost use Rattle.protocol.specs.Block.{maximum_heights};
 ghost use Rattle.protocol.specs.State.{book_heights, maximum_replicas};
 ghost use Rattle.book_fields.specs.Book.{Within, Shown, view_of};
 
-#[derive(Clone, Copy)]
+use crate::names::MaskKind;
+
+#[derive(Clone, Copy, Debug, PartialEq, Eq)]
 pub enum Kind {
     Replica,
     Observer,
@@ -44,8 +46,8 @@ pub fn dummy_mask(kind: Kind, book: &[u8], h: usize) -> usize
     ensures { (result ≡ (view_of kind book.now).dummy_mask h) × (result < mask_limit) }
 {
     match kind {
-        Kind::Replica => crate::height::dummy_mask(book, h),
-        Kind::Observer => crate::observed::mask_at(book, h, 1),
+        Kind::Replica => crate::height::mask_at(book, h, MaskKind::Dummy),
+        Kind::Observer => crate::observed::mask_at(book, h, MaskKind::Dummy),
     }
 }
 
@@ -55,8 +57,8 @@ pub fn finalize_mask(kind: Kind, book: &[u8], h: usize) -> usize
     ensures { (result ≡ (view_of kind book.now).finalize_mask h) × (result < mask_limit) }
 {
     match kind {
-        Kind::Replica => crate::height::finalize_mask(book, h),
-        Kind::Observer => crate::observed::mask_at(book, h, 2),
+        Kind::Replica => crate::height::mask_at(book, h, MaskKind::Finalize),
+        Kind::Observer => crate::observed::mask_at(book, h, MaskKind::Finalize),
     }
 }
 
@@ -93,9 +95,5 @@ pub fn is_dummy(kind: Kind, book: &[u8], h: usize) -> bool
     ensures { result ≡ is_dummy (view_of kind book.now) h }
 {
     let mask = dummy_mask(kind, book, h);
-    if mask == 0 {
-        false
-    } else {
-        quorum(kind, book, mask)
-    }
+    mask != 0 && quorum(kind, book, mask)
 }

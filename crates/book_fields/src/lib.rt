@@ -5,6 +5,7 @@ pub mod bounds;
 pub mod head;
 pub mod height;
 pub mod kind;
+pub mod names;
 pub mod observed;
 pub mod pool;
 pub mod quorum;

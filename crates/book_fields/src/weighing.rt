@@ -9,7 +9,7 @@ ghost use Rattle.book_fields.specs.Book.{Shown, view_of};
 use crate::kind::Kind;
 
 // The weight of all replicas, and of those that a mask holds.
-#[derive(Clone, Copy)]
+#[derive(Clone, Copy, Debug, PartialEq, Eq)]
 pub struct Weighing {
     pub all: usize,
     pub held: usize,
@@ -44,17 +44,12 @@ fn weigh_first(kind: Kind, book: &[u8], mask: usize, some: usize) -> Weighing
 {
     let mut all = 0;
     let mut held = 0;
-    let mut s = 0;
-    while s < some {
+    for s in 0..some {
         let weight = weight(kind, book, s);
         all += weight;
         held += weight_in(weight, mask, s);
-        s += 1;
     }
-    Weighing {
-        all: all,
-        held: held,
-    }
+    Weighing { all, held }
 }
 
 // How many of the replicas below `n` are in a mask: one pass over its bits.
@@ -63,12 +58,10 @@ fn count(n: usize, mask: usize) -> usize
     ensures { (result ≡ ones mask n) × (result ≤ n) }
 {
     let mut rest = mask;
-    let mut s = 0;
     let mut sum = 0;
-    while s < n {
+    for s in 0..n {
         sum += rest % 2;
-        rest = rest / 2;
-        s += 1;
+        rest /= 2;
     }
     sum
 }
@@ -96,8 +89,5 @@ pub fn weigh(kind: Kind, book: &[u8], mask: usize) -> Weighing
     let given = weigh_first(kind, book, mask, n - counted);
     let held = count(counted, mask) + given.held;
     let all = counted + given.all;
-    Weighing {
-        all: all,
-        held: held,
-    }
+    Weighing { all, held }
 }
