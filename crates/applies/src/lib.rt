@@ -2,8 +2,6 @@
 // so that the step need not look for it again.
 #![tactic(auto)]
 
-pub mod found;
-
 ghost use Rattle.std.specs.Prelude.{◌≡◌, ◌≤◌};
 ghost use Rattle.sha256.specs.Digest.{sha256 as sha};
 ghost use Rattle.protocol.specs.State.{decode, book_heights};
@@ -14,39 +12,33 @@ ghost use Rattle.linking.specs.Parent.{parent_option};
 ghost use Rattle.applies.specs.Held.{held_extends};
 ghost use Rattle.applies.specs.Found.{PassFound, ProposeFound};
 
-use crate::found::Passing;
 use answers::answer::Certificate;
-use book_fields::head::{current, flag, heights, is_running};
-use linking::links::Parent;
+use book_fields::head::{current, flag, heights, is_running, own};
+use book_fields::height::{holds_proposal, leader, proposal};
+use book_fields::quorum::is_dummy;
+use linking::links::{extends, largest_finalized, linked, parent_of};
 
 // The best chain of the height below the current one. The memory keeps each height from a second digest.
-fn chain_below(book: &[u8], known: &mut [u8]) -> Parent
+fn chain_below(book: &[u8], known: &mut [u8]) -> Option<usize>
     requires sound_book { SoundBook sha book.now }
     requires memo_2 { Memo book.now known.old }
     ensures answer { parent_option result ≡ parent_below sha (decode book.now) }
     ensures memo { Memo book.now known.new }
 {
-    let c = current(book);
-    linking::links::parent_of(book, c - 1, known)
+    parent_of(book, current(book) - 1, known)
 }
 
 // Move 1: the timer fired, and no dummy vote was cast.
+#[tactic(auto, using(crate::proofs::Rows::dummy_rows))]
 pub fn dummy_vote_applies(book: &[u8]) -> bool
     requires { Readable book.now }
     ensures { result ≡ dummy_vote_applies (decode book.now) }
 {
-    if is_running(book) {
-        if flag(book, 1) {
-            if flag(book, 2) { false } else { true }
-        } else {
-            false
-        }
-    } else {
-        false
-    }
+    is_running(book) && flag(book, 1) && !flag(book, 2)
 }
 
 // Move 2 looks for the largest finalized height of the whole book.
+#[tactic(auto, using(crate::specs::Laws::AppliesLaws::newest_is))]
 pub fn new_finalized(book: &[u8], known: &mut [u8]) -> usize
     requires sound_book { SoundBook sha book.now }
     requires memo_2 { Memo book.now known.old }
@@ -54,77 +46,61 @@ pub fn new_finalized(book: &[u8], known: &mut [u8]) -> usize
     ensures within { result ≤ book_heights book.now }
     ensures memo { Memo book.now known.new }
 {
-    let top = heights(book);
-    linking::links::largest_finalized(book, top, known)
+    largest_finalized(book, heights(book), known)
 }
 
 // Move 3: by the block's certificate where the current height is linked, and by the dummy block's where that is
 // notarized and a chain ends below.
-pub fn pass_applies(book: &[u8], known: &mut [u8]) -> Passing
+#[tactic(auto, using(crate::proofs::Rows::pass_rows))]
+pub fn pass_applies(book: &[u8], known: &mut [u8]) -> Option<Certificate>
     requires sound_book { SoundBook sha book.now }
     requires memo_2 { Memo book.now known.old }
     ensures answer { PassFound sha (decode book.now) result }
     ensures memo { Memo book.now known.new }
 {
-    if is_running(book) {
-        let c = current(book);
-        if linking::links::linked(book, c, known) {
-            Passing::By(Certificate::Page)
-        } else if book_fields::quorum::is_dummy(book, c) {
-            match chain_below(book, known) {
-                Parent::At(_) => Passing::By(Certificate::Blank),
-                Parent::Nothing => Passing::Not,
-            }
-        } else {
-            Passing::Not
-        }
-    } else {
-        Passing::Not
+    if !is_running(book) {
+        return None;
     }
+    let c = current(book);
+    if linked(book, c, known) {
+        return Some(Certificate::Page);
+    }
+    if !is_dummy(book, c) {
+        return None;
+    }
+    chain_below(book, known)?;
+    Some(Certificate::Blank)
 }
 
 // Move 4: the replica leads the current height and has not proposed, and a chain ends below, whose last block is the
 // parent.
-pub fn propose_applies(book: &[u8], known: &mut [u8]) -> Parent
+#[tactic(auto, using(crate::proofs::Rows::propose_rows))]
+pub fn propose_applies(book: &[u8], known: &mut [u8]) -> Option<usize>
     requires sound_book { SoundBook sha book.now }
     requires memo_2 { Memo book.now known.old }
     ensures answer { ProposeFound sha (decode book.now) result }
     ensures memo { Memo book.now known.new }
 {
-    if is_running(book) {
-        if book_fields::height::leader(book, current(book)) == book_fields::head::own(book) {
-            if flag(book, 8) {
-                Parent::Nothing
-            } else {
-                chain_below(book, known)
-            }
-        } else {
-            Parent::Nothing
-        }
+    if is_running(book) && leader(book, current(book)) == own(book) && !flag(book, 8) {
+        chain_below(book, known)
     } else {
-        Parent::Nothing
+        None
     }
 }
 
 // Move 5: no block vote was cast, and the held proposal extends a linked height.
+#[tactic(auto, using(crate::proofs::Rows::vote_rows))]
 pub fn block_vote_applies(book: &[u8], known: &mut [u8]) -> bool
     requires sound_book { SoundBook sha book.now }
     requires memo_2 { Memo book.now known.old }
     ensures answer { result ≡ block_vote_applies sha (decode book.now) }
     ensures memo { Memo book.now known.new }
 {
-    if is_running(book) {
-        if flag(book, 4) {
-            false
-        } else {
-            proposal_extends(book, known)
-        }
-    } else {
-        false
-    }
+    is_running(book) && !flag(book, 4) && proposal_extends(book, known)
 }
 
 // Whether a proposal of the current height is held that extends a linked height.
+#[tactic(auto, using(crate::proofs::Rows::held_rows))]
 fn proposal_extends(book: &[u8], known: &mut [u8]) -> bool
     requires sound_book { SoundBook sha book.now }
     requires memo_2 { Memo book.now known.old }
@@ -133,9 +109,5 @@ fn proposal_extends(book: &[u8], known: &mut [u8]) -> bool
     ensures memo { Memo book.now known.new }
 {
     let c = current(book);
-    if book_fields::height::holds_proposal(book, c) {
-        linking::links::extends(book, c, book_fields::height::proposal(book, c), known)
-    } else {
-        false
-    }
+    holds_proposal(book, c) && extends(book, c, proposal(book, c), known)
 }

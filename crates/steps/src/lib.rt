@@ -6,12 +6,11 @@ ghost use Rattle.std.proofs.Math.Option.{some};
 ghost use Rattle.sha256.specs.Digest.{sha256 as sha};
 ghost use Rattle.protocol.specs.Bytes.{over_front};
 ghost use Rattle.protocol.specs.State.{decode, encode, book_heights};
-ghost use Rattle.protocol.specs.Answer.{accepted};
 ghost use Rattle.protocol.specs.Move.{dummy_vote_step, output_step, propose_step, block_vote_step, new_finalized};
 ghost use Rattle.protocol.specs.Move.{parent_below};
 ghost use Rattle.memory.specs.Memo.{Memo};
 ghost use Rattle.chains.specs.Walkable.{Walkable};
-ghost use Rattle.answers.specs.Answers.{moved_answer};
+ghost use Rattle.answers.specs.Answers.{move_of};
 ghost use Rattle.applies.specs.Took.{Took};
 ghost use Rattle.steps.specs.Proposal.{proposal_on};
 ghost use Rattle.book_fields.specs.Book.{SoundBook};
@@ -33,11 +32,12 @@ pub fn cast_dummy_vote(book: &mut [u8], reply: &mut [u8]) -> Moved
 }
 
 // Move 2: makes `g` the finalized height. It writes no frame. Costs one store.
+#[tactic(auto, unfolding(protocol::specs::Move::output_step))]
 pub fn output(book: &mut [u8], g: usize) -> Moved
     requires sound_book { SoundBook sha book.old }
     requires g_value { g ≡ new_finalized sha (decode book.old) }
     requires g_bound { g ≤ book_heights book.old }
-    ensures answer { moved_answer result ≡ accepted (output_step sha (decode book.old)).move }
+    ensures answer { move_of result ≡ (output_step sha (decode book.old)).move }
     ensures book { book.new ≡ encode (output_step sha (decode book.old)).after }
 {
     book_fields::head::set_finalized(book, g);

@@ -1,5 +1,5 @@
 -- The tests of the moves, row by row as the code makes them: the first row that fails decides.
-use Rattle.std.specs.Prelude.{ℕ, ◌-◌, ◌≡◌, ◌≢◌, Bool, ◌&&◌, eqb}
+use Rattle.std.specs.Prelude.{ℕ, ◌-◌, ◌≡◌, ◌≢◌, Bool, ◌&&◌, eqb, Option, Some, None}
 use Rattle.std.proofs.Math.Path.{sym}
 use Rattle.std.proofs.Common.{ap, ◌∙◌, eq-eqb, ne_eqb}
 use Rattle.std.proofs.Math.Bool.{true, false, and-true}
@@ -11,20 +11,16 @@ use Rattle.protocol.specs.View.{linked, is_dummy, extends, largest_finalized, pa
 use Rattle.protocol.specs.Sound.{view}
 use Rattle.protocol.specs.Move.{is_running, is_some, dummy_vote_applies, new_finalized, parent_below, pass_applies}
 use Rattle.protocol.specs.Move.{propose_applies, block_vote_applies}
+use Rattle.answers.specs.declared.answer.Certificate.{Certificate}
 use Rattle.answers.specs.declared.answer.Certificate.TheVariants.{Page, Blank}
-use Rattle.answers.specs.Answers.{certificate_of}
-use Rattle.linking.specs.declared.links.Parent.{Parent}
-use Rattle.linking.specs.declared.links.Parent.TheVariants.{At, Nothing}
 use Rattle.linking.specs.Parent.{parent_option}
-use Rattle.applies.specs.declared.found.Passing.{Passing}
-use Rattle.applies.specs.declared.found.Passing.TheVariants.{By, Not}
 use Rattle.applies.specs.Held.{held_extends}
 use Rattle.applies.specs.Found.{PassFound, ProposeFound}
 
 -- a pass on the dummy block, where a chain ends below
-abbrev pub on_chain : Parent → Passing
-on_chain (At j) = By Blank
-on_chain Nothing = Not
+abbrev pub on_chain : Option ℕ → Option Certificate
+on_chain (Some j) = Some Blank
+on_chain None = None
 
 -- ---- move 1
 module _ (s : State) where
@@ -56,20 +52,20 @@ module _ (digest : Bytes → Bytes) where
     below_is = rw is
 
     -- ---- move 3
-    pub pass_page : is_running s ≡ true → linked digest (view s) c ≡ true → PassFound digest s (By Page)
-    unfolding pass_applies certificate_of
+    pub pass_page : is_running s ≡ true → linked digest (view s) c ≡ true → PassFound digest s (Some Page)
+    unfolding pass_applies
     pass_page e f =
         let l : linked digest (view s) s.current ≡ true = rw is at f in
         (rw (e, l), rw l)
 
     pub pass_chain : is_running s ≡ true → linked digest (view s) c ≡ false → is_dummy (view s) c ≡ true →
-        (p : Parent) → parent_option p ≡ parent_below digest s → PassFound digest s (on_chain p)
-    unfolding pass_applies certificate_of parent_option is_some
-    pass_chain e f g (At j) p =
+        (p : Option ℕ) → parent_option p ≡ parent_below digest s → PassFound digest s (on_chain p)
+    unfolding pass_applies is_some
+    pass_chain e f g (Some j) p =
         let l : linked digest (view s) s.current ≡ false = rw is at f in
         let d : is_dummy (view s) s.current ≡ true = rw is at g in
         (rw (e, l, d, ← p), rw l)
-    pass_chain e f g Nothing p =
+    pass_chain e f g None p =
         let l : linked digest (view s) s.current ≡ false = rw is at f in
         let d : is_dummy (view s) s.current ≡ true = rw is at g in
         rw (e, l, d, ← p)
@@ -125,10 +121,10 @@ module _ (digest : Bytes → Bytes) where
     propose_done e f g = rw (e, f, g)
 
     pub propose_chain : is_running s ≡ true → eqb (at s s.current).leader s.own ≡ true → flag 8 s ≡ false →
-        (p : Parent) → parent_option p ≡ parent_below digest s → ProposeFound digest s p
-    unfolding propose_applies all_of parent_option is_some
-    propose_chain e f g (At j) p = (rw (e, f, g, ← p), sym p)
-    propose_chain e f g Nothing p = rw (e, f, g, ← p)
+        (p : Option ℕ) → parent_option p ≡ parent_below digest s → ProposeFound digest s p
+    unfolding propose_applies all_of is_some
+    propose_chain e f g (Some j) p = (rw (e, f, g, ← p), sym p)
+    propose_chain e f g None p = rw (e, f, g, ← p)
 
     -- ---- move 5
     pub vote_stopped : is_running s ≡ false → block_vote_applies digest s ≡ false

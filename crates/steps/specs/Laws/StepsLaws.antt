@@ -6,11 +6,10 @@ use Rattle.sha256.specs.Digest.{sha256}
 use Rattle.protocol.specs.Bytes.{Bytes, zeros, join, over_front}
 use Rattle.protocol.specs.Frame.{proposal, dummy_vote, block_vote}
 use Rattle.protocol.specs.State.{State, at, encode, with_head, with_flag}
-use Rattle.protocol.specs.Answer.{accepted}
 use Rattle.protocol.specs.Move.{unused, written, dummy_vote_step, output_step, new_finalized, some_or, parent_below}
 use Rattle.protocol.specs.Move.{proposed_block, propose_step, block_vote_step}
 use Rattle.answers.specs.declared.answer.Moved.TheVariants as Moved
-use Rattle.answers.specs.Answers.{moved_answer}
+use Rattle.answers.specs.Answers.{move_of}
 use Rattle.applies.specs.Took.{Took}
 
 -- ---- what is written
@@ -23,7 +22,7 @@ module _ (s : State) (reply book_after replyAfter : Bytes) (c : ℕ) (c-is : c �
   pub took_dummy_vote : (own : ℕ) → own ≡ s.own → book_after ≡ encode (with_flag 2 s) →
       replyAfter ≡ over_front (dummy_vote own c) reply →
       Took (dummy_vote_step s) reply (Moved.Dummy c) book_after replyAfter
-  unfolding dummy_vote_step written unused moved_answer
+  unfolding dummy_vote_step written unused
   took_dummy_vote own own_is b r = record {
     answer = rw c-is;
     book = b;
@@ -34,7 +33,7 @@ module _ (s : State) (reply book_after replyAfter : Bytes) (c : ℕ) (c-is : c �
       block ≡ (at s c).proposal → book_after ≡ encode (with_flag 4 s) →
       replyAfter ≡ over_front (block_vote own c digest) reply →
       Took (block_vote_step sha256 s) reply (Moved.Vote c) book_after replyAfter
-  unfolding block_vote_step written unused moved_answer
+  unfolding block_vote_step written unused
   took_block_vote own digest block own_is d p b r = record {
     answer = rw c-is;
     book = b;
@@ -51,7 +50,7 @@ module _ (s : State) (reply book_after replyAfter : Bytes) (c : ℕ) (c-is : c �
   pub took_propose : (j : ℕ) → parent_below sha256 s ≡ some j → book_after ≡ encode (with_flag 8 s) →
       replyAfter ≡ over_front (proposal s.own s.current (proposed_block sha256 s j)) reply →
       Took (propose_step sha256 s) reply (Moved.Offer c) book_after replyAfter
-  unfolding propose_step written unused moved_answer some_or
+  unfolding propose_step written unused some_or
   took_propose j j-is b r = record {
     answer = rw c-is;
     book = b;
@@ -60,8 +59,8 @@ module _ (s : State) (reply book_after replyAfter : Bytes) (c : ℕ) (c-is : c �
 
 -- ---- the step that writes none
 module _ (s : State) (g : ℕ) (g-is : g ≡ new_finalized sha256 s) where
-  pub settled_answer : moved_answer (Moved.Final g) ≡ accepted (output_step sha256 s).move
-  unfolding output_step moved_answer
+  pub settled_answer : move_of (Moved.Final g) ≡ (output_step sha256 s).move
+  unfolding output_step
   settled_answer = rw g-is
 
   pub settled_book : (book_after : Bytes) → book_after ≡ encode (with_head s s.flags s.current g) →
