@@ -8,27 +8,23 @@ ghost use Rattle.contradictions.specs.Accepted.{accepted_book};
 
 use book_fields::head::{current, flag, set_flag};
 use book_fields::height::{holds_proposal, proposal};
-use frame_refusals::agrees;
 use frames::{frame_block, frame_kind};
+use wire::bytes::same_bytes;
 
 // Whether a frame that is read is a second proposal for the current height. Frames of other kinds cost one test.
+#[tactic(auto, unfolding(protocol::specs::Deliver::leader_equivocates, protocol::specs::Deliver::second_proposal, protocol::specs::Tests::all_of))]
 pub fn leader_equivocates(book: &[u8], h: usize, frame: &[u8]) -> bool
     requires { Read book.now h frame.now }
     ensures { result ≡ leader_equivocates (decode book.now) frame.now }
 {
-    if frame_kind(frame) == 1 {
-        let here = h == current(book);
-        !agrees(
-            here & holds_proposal(book, h),
-            proposal(book, h),
-            frame_block(frame),
-        )
-    } else {
-        false
-    }
+    frame_kind(frame) == 1
+        && h == current(book)
+        && holds_proposal(book, h)
+        && !same_bytes(proposal(book, h), frame_block(frame))
 }
 
 // Sets the timer's flag where it is not set, and answers whether that changed the book.
+#[tactic(auto, using(crate::proofs::Contradicts::timer_rows))]
 pub fn fire_timer(book: &mut [u8]) -> bool
     requires ready { Ready book.old }
     requires book_bound { (decode book.old).flags < 16 }

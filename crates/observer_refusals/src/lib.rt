@@ -1,21 +1,40 @@
 // The refusals of a frame that an observer is given: 4, 16, 6, 5, 9 and 10, in this order.
 #![tactic(auto)]
 
-ghost use Rattle.std.specs.Prelude.{◌≡◌, length};
-ghost use Rattle.protocol.specs.Tests.{first_refusal};
+ghost use Rattle.std.specs.Prelude.{◌≡◌, ◌&&◌, length};
+ghost use Rattle.protocol.specs.Bytes.{same};
+ghost use Rattle.protocol.specs.Frame.{kind, frame_block, is_block_certificate};
+ghost use Rattle.protocol.specs.Tests.{implies, first_refusal};
+ghost use Rattle.protocol.specs.State.{is_notarized};
 ghost use Rattle.protocol.specs.Observer.{observer_state};
-ghost use Rattle.book_fields.specs.Book.{Within, ObserverReadable};
-ghost use Rattle.frame_refusals.specs.Refusal.{refusal_of};
+ghost use Rattle.answers.specs.Refusal.{refusal_of};
+ghost use Rattle.book_fields.specs.Book.{Within, ObserverReadable, observed_in};
 ghost use Rattle.observer_refusals.specs.Rows.{certificate_rows, frame_rows};
 
-use book_fields::kind::{Kind, quorum, replicas};
+use answers::refusal::Refusal;
+use book_fields::kind::{Kind, heights, quorum, replicas};
 use book_fields::observed::{is_notarized, notarized};
-use frame_refusals::{agrees, first_refusal};
 use frames::{frame_block, frame_height, frame_kind, frame_mask, frame_well_formed};
+use wire::bytes::same_bytes;
 use wire::mask::below;
 
-// The first of refusals 5, 9 and 10 that stands against a certificate of height `h`, and 0 where none does.
-fn certificate_refusal(book: &[u8], h: usize, frame: &[u8]) -> usize
+// Whether a certified block is the height's notarized one, if there is one. Other kinds pass.
+#[tactic(auto, unfolding(protocol::specs::Tests::implies))]
+fn certificate_agrees(book: &[u8], h: usize, frame: &[u8]) -> bool
+    requires observer_readable { ObserverReadable book.now }
+    requires within { Within book.now h }
+    requires frame_len { length frame.now ≡ 224 }
+    ensures { result ≡ implies (is_block_certificate (kind frame.now) && is_notarized (observed_in book.now h))
+        (same (observed_in book.now h).notarized (frame_block frame.now)) }
+{
+    frame_kind(frame) != 5
+        || !is_notarized(book, h)
+        || same_bytes(notarized(book, h), frame_block(frame))
+}
+
+// The first of refusals 5, 9 and 10 that stands against a certificate of height `h`, if one does.
+#[tactic(auto, unfolding(crate::specs::Rows::certificate_rows, protocol::specs::Sound::view, protocol::specs::Tests::first_refusal))]
+fn certificate_refusal(book: &[u8], h: usize, frame: &[u8]) -> Result<(), Refusal>
     requires observer_readable { ObserverReadable book.now }
     requires within { Within book.now h }
     requires frame_len { length frame.now ≡ 224 }
@@ -23,34 +42,33 @@ fn certificate_refusal(book: &[u8], h: usize, frame: &[u8]) -> usize
         first_refusal (certificate_rows (observer_state book.now) h frame.now) }
 {
     let mask = frame_mask(frame);
-    let members = below(replicas(Kind::Observer, book), mask);
-    let enough = quorum(Kind::Observer, book, mask);
-    let certified = (frame_kind(frame) == 5) & is_notarized(book, h);
-    let agreed = agrees(certified, notarized(book, h), frame_block(frame));
-    first_refusal(5, members, 9, enough, 10, agreed)
+    if !below(replicas(Kind::Observer, book), mask) {
+        return Err(Refusal::NoSuchSigner);
+    }
+    if !quorum(Kind::Observer, book, mask) {
+        return Err(Refusal::NoQuorum);
+    }
+    if !certificate_agrees(book, h, frame) {
+        return Err(Refusal::OtherNotarized);
+    }
+    Ok(())
 }
 
-// The first refusal that stands against a frame, and 0 where none does.
-pub fn frame_refusal(book: &[u8], frame: &[u8]) -> usize
+// The first refusal that stands against a frame, if one does.
+#[tactic(auto, using(crate::proofs::Reading::reading), unfolding(protocol::specs::Tests::in_range, protocol::specs::Frame::is_certificate))]
+pub fn frame_refusal(book: &[u8], frame: &[u8]) -> Result<(), Refusal>
     requires { ObserverReadable book.now }
     ensures { refusal_of result ≡ first_refusal (frame_rows (observer_state book.now) frame.now) }
 {
-    if frame_well_formed(frame) {
-        let kind = frame_kind(frame);
-        let certificate = (5 <= kind) & (kind <= 7);
-        let h = frame_height(frame);
-        let top = book_fields::kind::heights(Kind::Observer, book);
-        let inside = (1 <= h) & (h <= top);
-        if certificate {
-            if inside {
-                certificate_refusal(book, h, frame)
-            } else {
-                6
-            }
-        } else {
-            16
-        }
-    } else {
-        4
+    if !frame_well_formed(frame) {
+        return Err(Refusal::Malformed);
     }
+    if !(5..=7).contains(&frame_kind(frame)) {
+        return Err(Refusal::NotACertificate);
+    }
+    let h = frame_height(frame);
+    if !(1..=heights(Kind::Observer, book)).contains(&h) {
+        return Err(Refusal::NoSuchHeight);
+    }
+    certificate_refusal(book, h, frame)
 }

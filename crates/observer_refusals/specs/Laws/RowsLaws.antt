@@ -12,7 +12,7 @@ use Rattle.protocol.specs.State.{State, at, last, is_notarized}
 use Rattle.protocol.specs.View.{quorum}
 use Rattle.protocol.specs.Sound.{view}
 use Rattle.protocol.specs.Deliver.{read_rows, clash_rows, second_proposal}
-use Rattle.protocol.proofs.Laws.RowLaws.{pass_row, refuse_row}
+use Rattle.protocol.proofs.Laws.RowLaws.{pass_row, refuse_row, range_in}
 use Rattle.protocol.proofs.Laws.DeliverLaws.{certificate_kind_lem}
 use Rattle.protocol.proofs.Laws.ObserverDeliverLaws.{certificate_high}
 use Rattle.frame_refusals.specs.Refusal.{three_rows}
@@ -51,6 +51,10 @@ module _ (s : State) (frame : Bytes) where
     frame_inside e h is =
         certificate_rows_lem ∙ pass_row (6, in_range 1 (last s) (frame_height frame)) _ e
         ∙ ap (λ (j : ℕ). first_refusal (certificate_rows s j frame)) (sym is)
+
+    pub frame_within : (h : ℕ) → h ≡ frame_height frame → 1 ≤ h → h ≤ last s →
+        first_refusal (frame_rows s frame) ≡ first_refusal (certificate_rows s h frame)
+    frame_within h is low high = frame_inside (rw (sym is) (range_in 1 (last s) h low high)) h is
 
 -- the code's three tests are the rows of a certificate
 pub certificate_tests : (s : State) (h : ℕ) (frame : Bytes) (members enough agreed : Bool) →
