@@ -13,7 +13,7 @@ fn leaders_below(leaders: &[u8], n: usize) -> bool
 }
 
 // Whether the numbers are in their ranges, and weights and leaders too, as many as there are replicas and heights.
-#[tactic(auto, unfolding(protocol::specs::Open::open_in_range, protocol::specs::Open::opened_edition, protocol::specs::State::most_heights, protocol::specs::Tests::all_of, protocol::specs::Tests::in_range))]
+#[tactic(auto, unfolding(protocol::specs::Open::open_in_range, protocol::specs::Open::opened_edition, protocol::specs::State::most_heights, protocol::specs::Tests::all_of, protocol::specs::Tests::in_range,))]
 pub fn numbers_fit(n: usize, own: usize, heights: usize, weights: &[u8], leaders: &[u8]) -> bool
     ensures { result ≡ open_in_range (long weights.now) n own heights leaders.now }
 {

@@ -19,7 +19,7 @@ fn timer_runs(book: &[u8], height: usize) -> bool
 }
 
 // The signal to a sound book.
-#[tactic(auto, unfolding(protocol::specs::Signal::signal_call, protocol::specs::Signal::signal_rows, protocol::specs::State::with_timer_fired, protocol::specs::Tests::first_refusal, protocol::specs::Answer::unless_refused))]
+#[tactic(auto, unfolding(protocol::specs::Signal::signal_call, protocol::specs::Signal::signal_rows, protocol::specs::State::with_timer_fired, protocol::specs::Tests::first_refusal, protocol::specs::Answer::unless_refused,))]
 pub fn signal_sound(book: &mut [u8], height: usize) -> Result<(), Refusal>
     requires { SoundBook sha book.old }
     ensures answer { done_answer result ≡ (signal_call sha book.old height).answer }

@@ -3,7 +3,7 @@ use Rattle.std.proofs.Common.{rules, tests, ◌∙◌}
 use Rattle.std.proofs.lemmas.Iterator.{YieldsList-from_slice}
 use Rattle.std.proofs.lemmas.Iterator.Search.{all_from_yields_List}
 use Rattle.std.proofs.Math.Dec.{ltb}
-use Rattle.field_calls.proofs.Numbers.{every_byte}
+use Rattle.field_calls.proofs.Tests.{every_byte}
 use Rattle.field_calls.proofs.open.leaders_below.Goals as goal
 
 pub returns : goal.returns
