@@ -34,7 +34,8 @@ fn four_steps(s: [u32; 8], k: &[u32; 64], w: &mut [u32; 64], t: usize) -> [u32; 
     step(three, k, w, t + 3)
 }
 
-// Four rounds, from round t on, whose words are all there.
+// Four rounds, from round t on, whose words are all there. One function with `four_steps` would take a closure that is
+// lent `w`: no plainer than four calls.
 fn four_rounds(s: [u32; 8], k: &[u32; 64], w: &[u32; 64], t: usize) -> [u32; 8]
     requires { t < 61 }
     ensures { result ≡ rounds_from k.now w.now s t 4 }
@@ -67,6 +68,7 @@ pub fn compress(hash: [u32; 8], block: &[u8; 64]) -> [u32; 8]
 {
     let mut w = message_words(block);
     let k = round_constants();
+    // `turned` comes first: the borrow checker covers no call that lays its result in an array.
     let mut s = hash;
     for i in 0..12 {
         let turned = four_steps(s, &k, &mut w, 4 * i);

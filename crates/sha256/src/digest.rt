@@ -25,12 +25,7 @@ fn initial_hash() -> [u32; 8]
 fn hash_blocks(start: [u32; 8], blocks: &[[u8; 64]]) -> [u32; 8]
     ensures { result ≡ fold compression start blocks.now }
 {
-    let mut hash = start;
-    for block in blocks {
-        let next = compress(hash, block);
-        hash = next;
-    }
-    hash
+    blocks.iter().fold(start, compress)
 }
 
 // The hash value after the last bytes of a message of `size` bytes, fewer than a block, and the padding.
