@@ -23,12 +23,8 @@ fn stands_before(kind: Kind, book: &[u8], h: usize, k: usize) -> bool
     let block = book_fields::kind::block(kind, book, h);
     let from = 48 + 16 * k;
     let entry = &block[from..from + 16];
-    if chains::chains::block_holds(block, k, entry) {
-        true
-    } else {
-        let parent = wire::block::parent_height(block);
-        chains::chains::chain_holds(kind, book, parent, entry)
-    }
+    chains::chains::block_holds(block, k, entry)
+        || chains::chains::chain_holds(kind, book, wire::block::parent_height(block), entry)
 }
 
 // The same, where the filter knows those before it: it answers for most, and then knows this one too.
@@ -41,11 +37,7 @@ fn is_repeat(kind: Kind, book: &[u8], h: usize, k: usize, filter: &mut [u8]) -> 
 {
     let block = book_fields::kind::block(kind, book, h);
     let from = 48 + 16 * k;
-    if filter::mark(filter, &block[from..from + 16]) {
-        stands_before(kind, book, h, k)
-    } else {
-        false
-    }
+    filter::mark(filter, &block[from..from + 16]) && stands_before(kind, book, h, k)
 }
 
 // Puts the entry at place `k` of a block behind the `count` entries at the front of the buffer, where there is room.
@@ -79,17 +71,13 @@ fn take_block(
         Taken (log_at (view_of kind book.now) h) before filter.new buffer.new result }
 {
     let block = book_fields::kind::block(kind, book, h);
-    let size = wire::block::entry_count(block);
     let mut taken = count;
-    let mut k = 0;
-    while k < size {
+    for k in 0..wire::block::entry_count(block) {
         if is_repeat(kind, book, h, k, filter) {
-            k += 1;
-        } else {
-            put_entry(block, k, taken, buffer);
-            taken += 1;
-            k += 1;
+            continue;
         }
+        put_entry(block, k, taken, buffer);
+        taken += 1;
     }
     taken
 }
@@ -111,44 +99,31 @@ fn take_chain(kind: Kind, book: &[u8], h: usize, filter: &mut [u8], buffer: &mut
     take_block(kind, book, h, count, filter, buffer)
 }
 
-// The same, with a filter of any bytes whose key is the parent digest of the chain's newest block: it was not known to
-// those who chose the entries of the blocks below, and costs no digest.
-fn take_keyed(kind: Kind, book: &[u8], h: usize, filter: &mut [u8], buffer: &mut [u8]) -> usize
+// The same with a filter of its own of `N` bytes, which has 64 places for each entry that the chain can have. Its key
+// is the parent digest of the chain's newest block: it was not known to those who chose the entries of the blocks
+// below, and costs no digest. Never inlined, so that a chain that a small filter serves pays for no large one.
+#[inline(never)]
+fn take_in<const N: usize>(kind: Kind, book: &[u8], h: usize, buffer: &mut [u8]) -> usize
     requires walkable_as { WalkableAs kind book.now h × (0 < h) }
-    requires in_bounds { 32 < length filter.old }
+    requires places { (32 + 64 * h ≤ N) × (N ≤ LARGE) }
     ensures { Told (log_at (view_of kind book.now) h) buffer.old buffer.new result }
 {
     let block = book_fields::kind::block(kind, book, h);
-    wire::bytes::copy_to(filter, 0, &block[16..48]);
-    take_chain(kind, book, h, filter, buffer)
+    let mut filter = [0u8; N];
+    wire::bytes::copy_to(&mut filter, 0, &block[16..48]);
+    take_chain(kind, book, h, &mut filter, buffer)
 }
 
-// The same with the filter that is lent, or with a larger one where it has less than 64 places an entry.
-// It calls itself: a compiler does not put such a function's frame, with the large filter, into those of its callers.
-fn take_long(kind: Kind, book: &[u8], h: usize, filter: &mut [u8], buffer: &mut [u8]) -> usize
-    requires walkable_as { WalkableAs kind book.now h × (0 < h) }
-    requires in_bounds { 32 < length filter.old }
-    ensures { Told (log_at (view_of kind book.now) h) buffer.old buffer.new result }
-{
-    if 32 + 64 * h <= filter.len() {
-        take_keyed(kind, book, h, filter, buffer)
-    } else {
-        let mut large = [0u8; LARGE];
-        take_long(kind, book, h, &mut large, buffer)
-    }
-}
-
-// The same with a filter of its own, of a size that goes by the height. Goes through the chain once, and looks back
-// where the filter says perhaps, once an entry at most.
+// The same with a filter of a size that goes by the height. Goes through the chain once, and looks back where the
+// filter says perhaps, once an entry at most.
 fn take_distinct(kind: Kind, book: &[u8], h: usize, buffer: &mut [u8]) -> usize
     requires { WalkableAs kind book.now h × (0 < h) }
     ensures { Told (log_at (view_of kind book.now) h) buffer.old buffer.new result }
 {
-    let mut filter = [0u8; SMALL];
     if 32 + 64 * h <= SMALL {
-        take_keyed(kind, book, h, &mut filter, buffer)
+        take_in::<SMALL>(kind, book, h, buffer)
     } else {
-        take_long(kind, book, h, &mut filter, buffer)
+        take_in::<LARGE>(kind, book, h, buffer)
     }
 }
 
@@ -160,8 +135,7 @@ pub fn count_distinct(kind: Kind, book: &[u8], h: usize) -> usize
     if h == 0 {
         return 0;
     }
-    let mut no_room = [0u8; 1];
-    take_distinct(kind, book, h, &mut no_room)
+    take_distinct(kind, book, h, &mut [])
 }
 
 // Whether the distinct entries of the chain that ends in height `h` fit into `room` bytes. Counts them only where all
@@ -171,11 +145,7 @@ fn fits_into(kind: Kind, book: &[u8], h: usize, room: usize) -> bool
     ensures { result ≡ leb (16 * length (log_of (view_of kind book.now) h)) room }
 {
     let all = chains::chains::chain_entries(kind, book, h);
-    if 16 * all <= room {
-        true
-    } else {
-        16 * count_distinct(kind, book, h) <= room
-    }
+    16 * all <= room || 16 * count_distinct(kind, book, h) <= room
 }
 
 // Copies the distinct entries of the chain that ends in height `h` to the front of the buffer, where they fit, and says

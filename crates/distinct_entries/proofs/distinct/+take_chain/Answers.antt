@@ -1,9 +1,6 @@
 -- `take_chain` meets its contract: the blocks below are gone through first, then the block of this height. The measure
 -- is the height.
-use Prim.Native.Nat.{ℕ, ◌<◌}
-use native.Mathlib.Omega.{arith}
-use mathlib.Core.Path.{◌≡◌, sym, ap, subst, ◌∙◌}
-use mathlib.Core.List.{List}
+use Rattle.std.proofs.Common.{ℕ, ◌<◌, arith, ◌≡◌, sym, ap, subst, ◌∙◌, List}
 use Rattle.protocol.specs.Bytes.{Bytes}
 use Rattle.protocol.specs.Block.{parent_height}
 use Rattle.protocol.specs.View.{View, log_at}

@@ -1,9 +1,5 @@
 -- `copy_distinct` meets its contract: there is room for all that is taken.
-use Prim.Native.Nat.{ℕ, ◌*◌, ◌≤◌}
-use native.Mathlib.Omega.{arith}
-use mathlib.Core.Path.{sym, ap, subst, ◌∙◌}
-use mathlib.Core.List.{List}
-use lib.ListN.{length}
+use Rattle.std.proofs.Common.{ℕ, ◌*◌, ◌≤◌, arith, sym, ap, subst, ◌∙◌, List, length}
 use Rattle.protocol.specs.Bytes.{Bytes, join, over_front}
 use Rattle.protocol.specs.State.{maximum_entries}
 use Rattle.protocol.proofs.Laws.FrontLaws.{front_none}

@@ -1,8 +1,5 @@
 -- `count_distinct` meets its contract: what is taken is counted, with room or without.
-use Prim.Native.Nat.{ℕ, ◌≤◌}
-use native.Mathlib.Omega.{arith}
-use mathlib.Core.Path.{sym, ap, subst}
-use lib.ListN.{length}
+use Rattle.std.proofs.Common.{ℕ, ◌≤◌, arith, sym, ap, subst, length}
 use Rattle.protocol.specs.State.{maximum_entries}
 use Rattle.book_fields.specs.Book.{view_of}
 use Rattle.distinct_entries.proofs.Chain.{distinct_none, distinct_few}

@@ -1,10 +1,5 @@
 -- `fits_into` meets its contract: where all entries fit, the distinct ones do.
-use Prim.Native.Nat.{ℕ, ◌*◌}
-use native.Mathlib.Omega.{arith}
-use borrow.Author.Tests.{le-leb}
-use mathlib.Core.Path.{sym, ap}
-use lib.Dec.{leb}
-use lib.ListN.{length}
+use Rattle.std.proofs.Common.{◌∙◌, ◌*◌, arith, le-leb, sym, length}
 use Rattle.protocol.specs.View.{log_at, log_of}
 use Rattle.protocol.proofs.Laws.DistinctLaws.{distinct_short}
 use Rattle.book_fields.specs.Book.{view_of}
@@ -14,7 +9,5 @@ pub returns-then-all-room : goal.returns-then-all-room
 returns-then-all-room c = let v = view_of c.args.kind c.args.book.now in
     let short = distinct_short (log_at v c.args.h) in
     let all = c.chain_entries-all.ensures.0 in
-    sym (le-leb (16 * length (log_of v c.args.h)) c.args.room (omega arith))
-
-pub returns-else-all-room : goal.returns-else-all-room
-returns-else-all-room c = ap (λ (k : ℕ). leb (16 * k) c.args.room) c.count_distinct.ensures.0
+    le-leb (16 * c.chain_entries-all.result) c.args.room (omega arith)
+    ∙ sym (le-leb (16 * length (log_of v c.args.h)) c.args.room (omega arith))

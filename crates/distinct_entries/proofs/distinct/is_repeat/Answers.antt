@@ -1,6 +1,5 @@
 -- `is_repeat` meets its contract: the filter says that nothing before is equal, or one has looked back.
-use mathlib.Core.Path.{◌≡◌, sym, subst}
-use mathlib.Core.Bool.{false}
+use Rattle.std.proofs.Common.{◌∙◌, ◌≡◌, sym, subst, false}
 use Rattle.protocol.specs.Bytes.{Bytes, holds}
 use Rattle.book_fields.specs.Book.{view_of}
 use Rattle.distinct_entries.specs.Taking.{up_to}
@@ -16,7 +15,7 @@ returns-then-mark c = record {
 pub returns-else-mark : goal.returns-else-mark
 returns-else-mark c = let before = up_to (view_of c.args.kind c.args.book.now) c.args.h c.args.k in
     let cut = cut_entry c.requires.inside c.block-block.ensures.block in record {
-      answer = sym (subst (λ (x : Bytes). holds x before ≡ false) cut
+      answer = c.if-mark.false ∙ sym (subst (λ (x : Bytes). holds x before ≡ false) cut
           (c.mark.ensures.unset _ c.requires.marked_2 c.if-mark.false));
       marked = marked_next c.requires.inside c.block-block.ensures.block (c.mark.ensures.marked _ c.requires.marked_2);
     }

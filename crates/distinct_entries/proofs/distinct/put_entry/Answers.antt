@@ -1,8 +1,5 @@
 -- `put_entry` meets its contract: the entry is copied where it fits.
-use Prim.Native.Nat.{◌+◌, ◌-◌, ◌*◌}
-use native.Mathlib.Omega.{arith}
-use mathlib.Core.Path.{◌≡◌, refl, ap, ◌∙◌}
-use lib.ListN.{length, take, drop}
+use Rattle.std.proofs.Common.{◌+◌, ◌-◌, ◌*◌, arith, ◌≡◌, refl, ap, ◌∙◌, length, take, drop}
 use Rattle.protocol.specs.Bytes.{put}
 use Rattle.protocol.proofs.Laws.BytesLaws.{length_part, length_put}
 use Rattle.book_fields.proofs.Places.{cut_part}

@@ -1,8 +1,5 @@
 -- `read_distinct` meets its contract: all distinct entries are copied, or nothing.
-use Prim.Native.Nat.{ℕ, ◌*◌}
-use borrow.Author.Tests.{leb-true}
-use mathlib.Core.Path.{sym, ap, ◌∙◌}
-use lib.ListN.{length}
+use Rattle.std.proofs.Common.{ℕ, ◌*◌, leb-true, sym, ap, ◌∙◌, length}
 use Rattle.protocol.specs.Bytes.{Bytes, over_front}
 use Rattle.protocol.proofs.Laws.FrontLaws.{front_none}
 use Rattle.protocol.proofs.Laws.ChainLaws.{distinct_length}

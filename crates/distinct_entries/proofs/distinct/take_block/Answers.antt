@@ -1,10 +1,5 @@
 -- `take_block` meets its contract: each entry is a repeat of one that stands before it, or is put behind the others.
-use Prim.Native.Nat.{ℕ, ◌+◌, ◌*◌, ◌≤◌}
-use native.Mathlib.Omega.{arith}
-use native.Mathlib.Nat.{le_of_lt}
-use mathlib.Core.Path.{◌≡◌, refl, sym, ap, subst, ◌∙◌}
-use mathlib.Core.List.{List}
-use lib.ListN.{length}
+use Rattle.std.proofs.Common.{ℕ, ◌+◌, ◌*◌, ◌≤◌, arith, le_of_lt, ◌≡◌, refl, sym, ap, subst, ◌∙◌, List, length}
 use Rattle.protocol.specs.Bytes.{Bytes, part, put}
 use Rattle.protocol.specs.Block.{entry_count}
 use Rattle.protocol.specs.Distinct.{distinct}
@@ -25,7 +20,6 @@ few {k = k} inside counted =
 
 pub loop-k-init : goal.loop-k-init
 loop-k-init c = (
-  omega arith,
   record { marked = c.requires.marked; counted = c.requires.count_value; same_length = refl; goes = λ before t. t },
   refl,
 )
@@ -33,33 +27,32 @@ loop-k-init c = (
 pub is_repeat-requires-clause-inside : goal.is_repeat-requires-clause-inside
 is_repeat-requires-clause-inside c =
     inside_at c.requires.walkable_as.0 c.requires.walkable_as.1 c.block-block.ensures.block
-    c.entry_count-size.ensures.0 c.loop-k-test.true
+    c.entry_count-k-end.ensures.0 c.loop-k-test.true
 
 pub is_repeat-requires-clause-marked_2 : goal.is_repeat-requires-clause-marked_2
-is_repeat-requires-clause-marked_2 c = c.loop-k.invariant.1.marked
+is_repeat-requires-clause-marked_2 c = c.loop-k.invariant.0.marked
 
 pub loop-k-preserved-then-is_repeat : goal.loop-k-preserved-then-is_repeat
 loop-k-preserved-then-is_repeat c =
     let v = view_of c.args.kind c.args.book.now in
     let h = c.args.h in
     let k = c.loop-k.k in (
-      omega arith,
-      repeat_goes c.loop-k.invariant.1 (entry_of v h k) (before_next v h k) c.is_repeat.ensures.marked
+      repeat_goes c.loop-k.invariant.0 (entry_of v h k) (before_next v h k) c.is_repeat.ensures.marked
           (sym c.if-is_repeat.true ∙ c.is_repeat.ensures.answer),
-      c.is_repeat.auto.filter ∙ c.loop-k.invariant.2,
+      c.is_repeat.auto.filter ∙ c.loop-k.invariant.1,
     )
 
 pub put_entry-requires : goal.put_entry-requires
 put_entry-requires c =
     let inside = inside_at c.requires.walkable_as.0 c.requires.walkable_as.1 c.block-block.ensures.block
-    c.entry_count-size.ensures.0 c.loop-k-test.true in
-    (c.block-block.ensures.whole, inside.few, few inside c.loop-k.invariant.1.counted)
+    c.entry_count-k-end.ensures.0 c.loop-k-test.true in
+    (c.block-block.ensures.whole, inside.few, few inside c.loop-k.invariant.0.counted)
 
 pub overflow_add-taken : goal.overflow_add-taken
 overflow_add-taken c =
     let inside = inside_at c.requires.walkable_as.0 c.requires.walkable_as.1 c.block-block.ensures.block
-    c.entry_count-size.ensures.0 c.loop-k-test.true in
-    let most = few inside c.loop-k.invariant.1.counted in
+    c.entry_count-k-end.ensures.0 c.loop-k-test.true in
+    let most = few inside c.loop-k.invariant.0.counted in
     omega arith
 
 pub loop-k-preserved : goal.loop-k-preserved
@@ -68,21 +61,20 @@ loop-k-preserved c =
     let h = c.args.h in
     let k = c.loop-k.k in
     let inside = inside_at c.requires.walkable_as.0 c.requires.walkable_as.1 c.block-block.ensures.block
-    c.entry_count-size.ensures.0 c.loop-k-test.true in
+    c.entry_count-k-end.ensures.0 c.loop-k-test.true in
     let place = ap (λ (b : Bytes). part b (48 + 16 * k) 16) c.block-block.ensures.block in (
-      omega arith,
-      new_goes c.loop-k.invariant.1 (entry_of v h k) (before_next v h k) c.is_repeat.ensures.marked
+      new_goes c.loop-k.invariant.0 (entry_of v h k) (before_next v h k) c.is_repeat.ensures.marked
           (before_sized c.requires.walkable_as.0 c.requires.walkable_as.1 k (le_of_lt inside.inside))
           (sym c.if-is_repeat.false ∙ c.is_repeat.ensures.answer) c.put_entry.ensures.size
           (λ fits. c.put_entry.ensures.put fits ∙ ap (put c.loop-k.buffer (16 * c.loop-k.taken)) place),
-      c.is_repeat.auto.filter ∙ c.loop-k.invariant.2,
+      c.is_repeat.auto.filter ∙ c.loop-k.invariant.1,
     )
 
 pub returns : goal.returns
 returns c before t =
-    let over : c.loop-k.k ≡ c.entry_count-size.result = omega arith in
+    let over : c.loop-k.k ≡ c.entry_count-k-end.result = omega arith in
     let count : c.loop-k.k ≡ entry_count ((view_of c.args.kind c.args.book.now).block c.args.h) =
-    over ∙ c.entry_count-size.ensures.0 ∙ ap entry_count c.block-block.ensures.block in
+    over ∙ c.entry_count-k-end.ensures.0 ∙ ap entry_count c.block-block.ensures.block in
     subst (λ (es : List Bytes). Taken es before c.loop-k.filter c.loop-k.buffer c.loop-k.taken)
     (before_end c.loop-k.k c.requires.walkable_as.0 c.requires.walkable_as.1 count)
-    (c.loop-k.invariant.1.goes before t)
+    (c.loop-k.invariant.0.goes before t)

@@ -1,7 +1,5 @@
 -- `take_block` meets its contract: each entry is a repeat of one that stands before it, or is put behind the others.
-use Prim.Native.Nat.{◌-◌, ◌≤◌}
-use mathlib.Core.Path.{◌≡◌}
-use lib.ListN.{length}
+use Rattle.std.proofs.Common.{◌≡◌, length}
 use Rattle.book_fields.specs.Book.{view_of}
 use Rattle.distinct_entries.specs.Taking.{up_to}
 use Rattle.distinct_entries.proofs.Takes.{Going}
@@ -9,8 +7,5 @@ use Rattle.distinct_entries.proofs.distinct.take_block.Given as goal
 
 abbrev pub invariant-loop-k : goal.invariant-loop-k
 invariant-loop-k l =
-    (l.k ≤ l.size) × Going (up_to (view_of l.kind l.book) l.h 0) (up_to (view_of l.kind l.book) l.h l.k)
+    Going (up_to (view_of l.kind l.book) l.h 0) (up_to (view_of l.kind l.book) l.h l.k)
     l.initial.filter l.initial.buffer l.count l.filter l.buffer l.taken × (length l.filter ≡ length l.initial.filter)
-
-abbrev pub decreases-loop-k : goal.decreases-loop-k
-decreases-loop-k l = l.size - l.k
