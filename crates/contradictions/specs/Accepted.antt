@@ -1,9 +1,9 @@
 -- What a frame that passes all rows leaves.
-use Rattle.std.specs.Prelude.{Bool, true, false}
 use Rattle.protocol.specs.Bytes.{Bytes}
-use Rattle.protocol.specs.Answer.{Outcome, Delivery, known, fresh, accepted}
+use Rattle.protocol.specs.Answer.{Outcome, Delivery, accepted}
+use Rattle.answers.specs.Answers.{delivery_of}
+use Rattle.answers.specs.declared.answer.Delivered.{Delivered}
 
--- the outcome of a frame that passes all rows and left this book: fresh where it changed the book
-unfoldable pub accepted_book : Bool → Bytes → Outcome Delivery
-accepted_book true book = record { answer = accepted fresh; book = book }
-accepted_book false book = record { answer = accepted known; book = book }
+-- the outcome of a frame that passes all rows, by what is answered and the book that is left
+abbrev pub accepted_book : Delivered → Bytes → Outcome Delivery
+accepted_book answer book = record { answer = accepted (delivery_of answer); book = book }

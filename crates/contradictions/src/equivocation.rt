@@ -6,6 +6,7 @@ ghost use Rattle.book_fields.specs.Book.{Ready};
 ghost use Rattle.frame_refusals.specs.Given.{Read};
 ghost use Rattle.contradictions.specs.Accepted.{accepted_book};
 
+use answers::answer::Delivered;
 use book_fields::head::{current, flag, set_flag};
 use book_fields::height::{holds_proposal, proposal};
 use frames::{frame_block, frame_kind};
@@ -23,16 +24,16 @@ pub fn leader_equivocates(book: &[u8], h: usize, frame: &[u8]) -> bool
         && !same_bytes(proposal(book, h), frame_block(frame))
 }
 
-// Sets the timer's flag where it is not set, and answers whether that changed the book.
-#[tactic(auto, using(crate::proofs::Contradicts::timer_rows))]
-pub fn fire_timer(book: &mut [u8]) -> bool
+// Sets the timer's flag where it is not set: fresh if that changed the book.
+#[tactic(auto, unfolding(protocol::specs::Deliver::timer_fires, protocol::specs::State::with_timer_fired))]
+pub fn fire_timer(book: &mut [u8]) -> Delivered
     requires ready { Ready book.old }
     requires book_bound { (decode book.old).flags < 16 }
     ensures { accepted_book result book.new ≡ timer_fires book.old }
 {
     if flag(book, 1) {
-        return false;
+        return Delivered::Known;
     }
     set_flag(book, 1);
-    true
+    Delivered::Fresh
 }

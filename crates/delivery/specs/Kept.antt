@@ -1,11 +1,11 @@
--- What a kept frame leaves: the height with signers that joined, the book after it, and Deliver's outcome.
-use Rattle.std.specs.Prelude.{ℕ, Bool, true, false, cond, eqb}
+-- What a kept frame leaves: the height with signers that joined, what is left by it, and Deliver's outcome.
+use Rattle.std.specs.Prelude.{ℕ, cond, eqb}
 use Rattle.std.proofs.Math.Option.{Option, some, none}
 use Rattle.std.specs.Int.Bits.{bit_or}
 use Rattle.protocol.specs.Bytes.{Bytes}
 use Rattle.protocol.specs.Tests.{first_refusal}
 use Rattle.protocol.specs.State.{Height, with_height, encode, decode}
-use Rattle.protocol.specs.Answer.{Outcome, Delivery, unless_refused}
+use Rattle.protocol.specs.Answer.{Outcome, Delivery, accepted, known, fresh, unless_refused}
 use Rattle.protocol.specs.Deliver.{clash_rows, heard}
 use Rattle.book_fields.specs.Numbered.{mask_at, with_mask_at}
 
@@ -15,15 +15,10 @@ join_signers k x signers =
     let mask : ℕ = bit_or (mask_at x k) signers in
     cond (eqb mask (mask_at x k)) none (some (with_mask_at x k mask))
 
--- whether a frame changes its height
-unfoldable pub is_kept : Option Height → Bool
-is_kept none = false
-is_kept (some x) = true
-
--- the book after a frame of height `h`
-unfoldable pub kept_book : Bytes → ℕ → Option Height → Bytes
-kept_book book h none = book
-kept_book book h (some x) = encode (with_height (decode book) h x)
+-- what a frame of height `h` leaves, by what is kept of it
+unfoldable pub kept_at : Bytes → ℕ → Option Height → Outcome Delivery
+kept_at book h none = record { answer = accepted known; book = book }
+kept_at book h (some x) = record { answer = accepted fresh; book = encode (with_height (decode book) h x) }
 
 -- Deliver's outcome for a sound book and a frame that is read
 unfoldable pub read_outcome : (Bytes → Bytes) → Bytes → Bytes → Outcome Delivery

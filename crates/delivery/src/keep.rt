@@ -1,16 +1,18 @@
-// What each kind of frame changes at its height. Each function answers whether the book changed.
+// What each kind of frame changes at its height. What changes the book is fresh.
 ghost use Rattle.std.specs.Prelude.{◌≡◌, ◌<◌, ◌≤◌};
 ghost use Rattle.sha256.specs.Digest.{sha256 as sha};
 ghost use Rattle.protocol.specs.Frame.{signer};
 ghost use Rattle.protocol.specs.State.{decode, at};
 ghost use Rattle.protocol.specs.Deliver.{keep_proposal, keep_block_vote, keep_block_certificate, keep as keeps};
 ghost use Rattle.protocol.specs.Mask.{mask_limit};
-ghost use Rattle.delivery.specs.Kept.{is_kept, kept_book, join_signers};
+ghost use Rattle.contradictions.specs.Accepted.{accepted_book};
+ghost use Rattle.delivery.specs.Kept.{kept_at, join_signers};
 ghost use Rattle.frame_refusals.specs.Given.{Spot, Read};
 ghost use Rattle.book_fields.specs.Book.{height_in, book_view};
 
 use crate::notarize::{notarize, notarize_with};
-use book_changes::height::{set_mask, set_notarized, set_vote};
+use answers::answer::Delivered;
+use book_changes::height::{set_mask, set_notarized, set_proposal, set_vote};
 use book_fields::height::{holds_proposal, is_notarized, mask_at, voter_mask};
 use frames::{
     frame_block, frame_block_digest, frame_digest, frame_kind, frame_mask, frame_signer,
@@ -19,82 +21,72 @@ use frames::{
 use wire::mask::in_mask;
 
 // Keeps a proposal where none is held, and notarizes it if its votes are a quorum.
-fn keep_proposal(book: &mut [u8], h: usize, frame: &[u8]) -> bool
+fn keep_proposal(book: &mut [u8], h: usize, frame: &[u8]) -> Delivered
     requires { Read book.old h frame.now }
-    ensures answer { result ≡ is_kept
-        (keep_proposal sha (book_view book.old) (height_in book.old h) frame.now) }
-    ensures book { book.new ≡ kept_book book.old h
+    ensures { accepted_book result book.new ≡ kept_at book.old h
         (keep_proposal sha (book_view book.old) (height_in book.old h) frame.now) }
 {
     if holds_proposal(book, h) {
-        false
-    } else {
-        let digest = frame_block_digest(frame);
-        book_changes::height::set_proposal(book, h, frame_block(frame));
-        notarize_with(book, h, &digest);
-        true
+        return Delivered::Known;
     }
+    let digest = frame_block_digest(frame);
+    set_proposal(book, h, frame_block(frame));
+    notarize_with(book, h, &digest);
+    Delivered::Fresh
 }
 
 // Keeps a replica's first vote for a block, and notarizes the held proposal if its votes are now a quorum.
-fn keep_block_vote(book: &mut [u8], h: usize, frame: &[u8]) -> bool
+fn keep_block_vote(book: &mut [u8], h: usize, frame: &[u8]) -> Delivered
     requires read { Read book.old h frame.now }
     requires frame_bound { signer frame.now < (decode book.old).n }
-    ensures answer { result ≡ is_kept
-        (keep_block_vote sha (book_view book.old) (height_in book.old h) frame.now) }
-    ensures book { book.new ≡ kept_book book.old h
+    ensures { accepted_book result book.new ≡ kept_at book.old h
         (keep_block_vote sha (book_view book.old) (height_in book.old h) frame.now) }
 {
     let s = frame_signer(frame);
     if in_mask(voter_mask(book, h), s) {
-        false
-    } else {
-        set_vote(book, h, s, frame_digest(frame));
-        notarize(book, h);
-        true
+        return Delivered::Known;
     }
+    set_vote(book, h, s, frame_digest(frame));
+    notarize(book, h);
+    Delivered::Fresh
 }
 
 // Keeps a certified block with its signers where none is notarized.
-fn keep_block_certificate(book: &mut [u8], h: usize, frame: &[u8]) -> bool
+#[tactic(auto, unfolding(protocol::specs::Deliver::keep_block_certificate, crate::specs::Kept::kept_at))]
+fn keep_block_certificate(book: &mut [u8], h: usize, frame: &[u8]) -> Delivered
     requires { Read book.old h frame.now }
-    ensures answer { result ≡ is_kept (keep_block_certificate (height_in book.old h) frame.now) }
-    ensures book { book.new ≡ kept_book book.old h
+    ensures { accepted_book result book.new ≡ kept_at book.old h
         (keep_block_certificate (height_in book.old h) frame.now) }
 {
     if is_notarized(book, h) {
-        false
-    } else {
-        set_notarized(book, h, frame_mask(frame), frame_block(frame));
-        true
+        return Delivered::Known;
     }
+    set_notarized(book, h, frame_mask(frame), frame_block(frame));
+    Delivered::Fresh
 }
 
 // Joins signers to mask `k` of height `h`: 1 of the dummy votes, or 2 of the finalize statements.
-fn join_signers(book: &mut [u8], h: usize, k: usize, signers: usize) -> bool
+#[tactic(auto, unfolding(crate::specs::Kept::join_signers, crate::specs::Kept::kept_at))]
+fn join_signers(book: &mut [u8], h: usize, k: usize, signers: usize) -> Delivered
     requires spot { Spot book.old h }
     requires le_k { (1 ≤ k) × (k ≤ 2) }
     requires signers_lt_mask_limit { signers < mask_limit }
-    ensures answer { result ≡ is_kept (join_signers k (height_in book.old h) signers) }
-    ensures book { book.new ≡ kept_book book.old h
+    ensures { accepted_book result book.new ≡ kept_at book.old h
         (join_signers k (height_in book.old h) signers) }
 {
     let held = mask_at(book, h, k);
     let joined = held | signers;
     if joined == held {
-        false
-    } else {
-        set_mask(book, h, k, joined);
-        true
+        return Delivered::Known;
     }
+    set_mask(book, h, k, joined);
+    Delivered::Fresh
 }
 
 // Keeps what a frame that is read states, by its kind.
-pub fn keep(book: &mut [u8], h: usize, frame: &[u8]) -> bool
+pub fn keep(book: &mut [u8], h: usize, frame: &[u8]) -> Delivered
     requires { Read book.old h frame.now }
-    ensures answer { result ≡ is_kept (keeps sha (decode book.old) frame.now) }
-    ensures book { book.new ≡ kept_book book.old h
-        (keeps sha (decode book.old) frame.now) }
+    ensures { accepted_book result book.new ≡ kept_at book.old h (keeps sha (decode book.old) frame.now) }
 {
     let kind = frame_kind(frame);
     if kind == 1 {

@@ -17,11 +17,7 @@ fn awaits_votes(book: &[u8], h: usize) -> bool
     ensures { result ≡
         (not (is_notarized (height_in book.now h)) && holds_proposal (height_in book.now h)) }
 {
-    if is_notarized(book, h) {
-        false
-    } else {
-        holds_proposal(book, h)
-    }
+    !is_notarized(book, h) && holds_proposal(book, h)
 }
 
 // Notarizes the held proposal of height `h`, whose digest this is, if it awaits votes and has a quorum of them.
@@ -30,11 +26,12 @@ pub fn notarize_with(book: &mut [u8], h: usize, digest: &[u8])
     requires digest_value { digest.now ≡ sha (height_in book.old h).proposal }
     ensures { book.new ≡ changed book.old h (notarized sha (book_view book.old)) }
 {
-    if awaits_votes(book, h) {
-        let voters = voters_for(book, h, digest);
-        if quorum(book, voters) {
-            notarize_held(book, h, voters);
-        }
+    if !awaits_votes(book, h) {
+        return;
+    }
+    let voters = voters_for(book, h, digest);
+    if quorum(book, voters) {
+        notarize_held(book, h, voters);
     }
 }
 

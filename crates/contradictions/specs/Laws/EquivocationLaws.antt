@@ -5,6 +5,7 @@ use Rattle.protocol.specs.Tests.{all_of, implies}
 use Rattle.protocol.specs.Frame.{kind, frame_height, frame_block}
 use Rattle.protocol.specs.State.{State, at, decode, encode, holds_proposal, flag, with_flag, with_timer_fired}
 use Rattle.protocol.specs.Deliver.{second_proposal, leader_equivocates, timer_fires}
+use Rattle.answers.specs.declared.answer.Delivered.TheVariants.{Fresh, Known}
 use Rattle.contradictions.specs.Accepted.{accepted_book}
 
 -- ---- the test
@@ -28,11 +29,11 @@ proposal_equivocates s h frame e one =
 
 -- ---- the timer
 module _ (book : Bytes) where
-  pub timer_fired : flag 1 (decode book) ≡ true → accepted_book false book ≡ timer_fires book
-  unfolding accepted_book timer_fires
+  pub timer_fired : flag 1 (decode book) ≡ true → accepted_book Known book ≡ timer_fires book
+  unfolding timer_fires
   timer_fired e = rw e
 
   pub timer_runs : flag 1 (decode book) ≡ false →
-      accepted_book true (encode (with_flag 1 (decode book))) ≡ timer_fires book
-  unfolding accepted_book timer_fires with_timer_fired
+      accepted_book Fresh (encode (with_flag 1 (decode book))) ≡ timer_fires book
+  unfolding timer_fires with_timer_fired
   timer_runs e = rw e

@@ -16,25 +16,27 @@ use Rattle.protocol.proofs.Laws.PlaceLaws.{with_with, at_with, shaped_at, shaped
 use Rattle.protocol.proofs.Laws.ChangeLaws.{named_height}
 use Rattle.protocol.specs.Deliver.{with_proposal, with_vote, notarize}
 use Rattle.book_fields.specs.Laws.BookLaws.{ready_state, ready_height, same_heights, last_with_height}
-use Rattle.delivery.specs.Kept.{is_kept, kept_book}
+use Rattle.answers.specs.declared.answer.Delivered.{Delivered}
+use Rattle.answers.specs.declared.answer.Delivered.TheVariants.{Fresh, Known}
+use Rattle.contradictions.specs.Accepted.{accepted_book}
+use Rattle.delivery.specs.Kept.{kept_at}
 use Rattle.frame_refusals.specs.Given.{Spot}
 
 -- ---- known and new
 module _ (book : Bytes) (h : ℕ) where
   pub known_frame : (b : Bool) (y : Height) → b ≡ true →
-      (false ≡ is_kept (cond b none (some y))) × (book ≡ kept_book book h (cond b none (some y)))
-  unfolding is_kept kept_book
-  known_frame b y e = (rw e, rw e)
+      accepted_book Known book ≡ kept_at book h (cond b none (some y))
+  unfolding kept_at
+  known_frame b y e = rw e
 
   pub new_frame : (b : Bool) (y : Height) (after : Bytes) → b ≡ false → after ≡ encode (with_height (decode book) h y) →
-      (true ≡ is_kept (cond b none (some y))) × (after ≡ kept_book book h (cond b none (some y)))
-  unfolding is_kept kept_book
-  new_frame b y after e f = (rw e, rw e f)
+      accepted_book Fresh after ≡ kept_at book h (cond b none (some y))
+  unfolding kept_at
+  new_frame b y after e f = rw (e, f)
 
-  pub same_kept : (o other : Option Height) (answer : Bool) (after : Bytes) → o ≡ other →
-      (answer ≡ is_kept other) × (after ≡ kept_book book h other) →
-      (answer ≡ is_kept o) × (after ≡ kept_book book h o)
-  same_kept o other answer after e both = rw e both
+  pub same_kept : (o other : Option Height) (answer : Delivered) (after : Bytes) → o ≡ other →
+      accepted_book answer after ≡ kept_at book h other → accepted_book answer after ≡ kept_at book h o
+  same_kept o other answer after e kept = rw e kept
 
 -- ---- masks
 -- a replica that is missing has room in a mask of 16 bits

@@ -1,6 +1,6 @@
 -- Deliver's outcome by the row that fails, and what it is where none does.
-use Rattle.std.specs.Prelude.{ℕ, ◌≡◌, Bool, true, false}
-use Rattle.std.proofs.Math.Path.{ap}
+use Rattle.std.specs.Prelude.{ℕ, ◌≡◌, true, false}
+use Rattle.std.proofs.Math.Path.{ap, refl}
 use Rattle.std.proofs.Common.{◌∙◌}
 use Rattle.std.proofs.Math.Option.{Option, some, none}
 use Rattle.protocol.specs.Bytes.{Bytes}
@@ -11,8 +11,9 @@ use Rattle.protocol.specs.Sound.{sound}
 use Rattle.protocol.specs.Answer.{Outcome, Delivery, refused, unless_refused}
 use Rattle.protocol.proofs.Laws.RowLaws.{pass_row, refuse_row, pass_rows, refuse_rows}
 use Rattle.protocol.specs.Deliver.{read_rows, clash_rows, deliver_rows, kept, heard, deliver_call}
+use Rattle.answers.specs.declared.answer.Delivered.{Delivered}
 use Rattle.contradictions.specs.Accepted.{accepted_book}
-use Rattle.delivery.specs.Kept.{is_kept, kept_book, read_outcome}
+use Rattle.delivery.specs.Kept.{kept_at, read_outcome}
 
 abbrev refused_by : ℕ → Bytes → Outcome Delivery
 refused_by number book = record { answer = refused number; book = book }
@@ -23,11 +24,10 @@ module _ (digest : Bytes → Bytes) (book frame : Bytes) where
   unfolding read_outcome unless_refused
   read_refused number e = rw e
 
-  pub read_heard : first_refusal (clash_rows (decode book) frame) ≡ none → (changes is : Bool) (after : Bytes) →
-      accepted_book changes after ≡ heard digest book frame → changes ≡ is →
-      read_outcome digest book frame ≡ accepted_book is after
+  pub read_heard : first_refusal (clash_rows (decode book) frame) ≡ none → (answer : Delivered) (after : Bytes) →
+      accepted_book answer after ≡ heard digest book frame → read_outcome digest book frame ≡ accepted_book answer after
   unfolding read_outcome unless_refused
-  read_heard e changes is after hears same = rw (e, ← hears, same)
+  read_heard e answer after hears = rw (e, ← hears)
 
   pub call_unsound : sound digest book ≡ false → deliver_call digest book frame ≡ refused_by 1 book
   unfolding deliver_call deliver_rows unless_refused
@@ -50,8 +50,7 @@ module _ (digest : Bytes → Bytes) (book frame : Bytes) where
       (pass_row (1, sound digest book) _ e ∙ pass_rows (read_rows (decode book) frame) (clash_rows (decode book) frame) f)
 
   -- ---- what is kept
-  pub kept_accepted : (h : ℕ) → h ≡ frame_height frame → (o : Option Height) (changes : Bool) (after : Bytes) →
-      (changes ≡ is_kept o) × (after ≡ kept_book book h o) → accepted_book changes after ≡ kept digest book frame o
-  unfolding accepted_book is_kept kept_book kept
-  kept_accepted h is none changes after (e, f) = rw (e, f)
-  kept_accepted h is (some x) changes after (e, f) = rw (e, f, is)
+  pub kept_accepted : (h : ℕ) → h ≡ frame_height frame → (o : Option Height) → kept_at book h o ≡ kept digest book frame o
+  unfolding kept_at kept
+  kept_accepted h is none = refl
+  kept_accepted h is (some x) = rw is
