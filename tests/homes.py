@@ -54,7 +54,7 @@ def dear(root):
 
 # ---- the edits of a public contract
 ROW = re.compile(r"^\| `([\w:]+)` \| ((?:`[^`]+`(?:, )?)+) \|$", re.M)
-CALL = re.compile(r"\b((?:\w+::)*\w+)\(")
+CALL = re.compile(r"\b((?:\w+::)*\w+)(?:::<[^<>()]*>)?\(")
 
 
 class Code:
