@@ -1,77 +1,79 @@
-// The buffers of a list. Each has one of sixteen places: its name stands there in the table, its size sixteen further
-// on, and its bytes, 65536 at most, in the memory.
-ghost use Rattle.std.specs.Prelude.{◌≤◌};
+// The buffers of a list, sixteen at most.
+ghost use Rattle.std.specs.Prelude.{◌≡◌, ◌≤◌, IfOk, IfSome, length};
+ghost use Rattle.std.specs.BTreeMap.{btree_map_len};
 
 use crate::words::name;
+use std::alloc::{AllocError, Global};
+use std::collections::BTreeMap;
 
-// The place of a name, or 16. A free place has the name 0.
-fn found(table: &[usize; 32], name: usize) -> usize
-    ensures { result ≤ 16 }
-{
-    let mut k = 0;
-    while k < 16 && table[k] != name {
-        k += 1;
-    }
-    k
+// The bytes of each buffer by its name, and, until all places are taken, by the name of no letters those of the place
+// that the next new name gets. (A word of nothing but letters 0 names it too.)
+#[derive(Drop)]
+pub struct Buffers {
+    held: BTreeMap<Vec<u8>, Vec<u8>>,
+    alloc: Global,
+    ghost few: { btree_map_len held ≤ 16 },
 }
 
-// The place of the buffer that a word names, or 16.
-pub fn place(table: &[usize; 32], word: &[u8]) -> usize
-    ensures { result ≤ 16 }
-{
-    if word.len() == 0 || 8 < word.len() {
-        return 16;
+impl Buffers {
+    // No buffers, and the first free place.
+    pub fn new(alloc: Global) -> Result<Buffers, AllocError>
+        ensures { IfOk result (λ buffers. btree_map_len buffers.held ≡ 1) }
+    {
+        let mut held = BTreeMap::new(alloc);
+        held.insert(Vec::new(alloc), Vec::new(alloc))?;
+        Ok(Buffers { held, alloc })
     }
-    found(table, name(word))
-}
 
-// Takes a free place for a name that has none.
-pub fn enter(table: &mut [usize; 32], word: &[u8]) {
-    let name = name(word);
-    if found(table, name) < 16 {
-        return;
+    // Takes the free place for a name that has none.
+    pub fn enter(&mut self, name: &[u8]) -> Result<(), AllocError> {
+        if self.held.contains_key(name) {
+            return Ok(());
+        }
+        let name = name.to_vec(self.alloc)?;
+        let Some(bytes) = self.held.remove(b"".as_slice()) else {
+            return Ok(());
+        };
+        self.held.insert(name, bytes)?;
+        if self.held.len() < 16 {
+            self.held
+                .insert(Vec::new(self.alloc), Vec::new(self.alloc))?;
+        }
+        Ok(())
     }
-    let k = found(table, 0);
-    if k < 16 {
-        table[k] = name;
-    }
-}
 
-// How many bytes the buffer at a place has, or `usize::MAX` where there is none.
-pub fn size_at(table: &[usize; 32], k: usize) -> usize {
-    if k < 16 { table[16 + k] } else { usize::MAX }
-}
-
-// The bytes of the buffer that a word names; none where there is no such buffer.
-pub fn buffer<'a>(memory: &'a mut [u8], table: &[usize; 32], word: &[u8]) -> &'a mut [u8] {
-    let k = place(table, word);
-    let size = size_at(table, k);
-    if k < memory.len() / 65536 {
-        if size <= 65536 {
-            let from = 65536 * k;
-            let to = from + size;
-            return &mut memory[from..to];
+    // The name by which the buffer that a word names is held, if there is one.
+    pub fn place<'a>(&self, word: &'a [u8]) -> Option<&'a [u8]>
+        ensures { IfSome result (λ name. length name.now ≤ 8) }
+    {
+        let name = name(word);
+        if (1..=8).contains(&word.len()) && self.held.contains_key(name) {
+            Some(name)
+        } else {
+            None
         }
     }
-    &mut memory[0..0]
-}
 
-// Copies the bytes of the buffer that a word names, if there is room for them.
-pub fn load(word: &[u8], memory: &mut [u8], table: &[usize; 32], out: &mut [u8]) {
-    let held = buffer(memory, table, word);
-    if held.len() <= out.len() {
-        out[..held.len()].copy_from_slice(held);
+    // The bytes of the buffer of this name; none where there is no such buffer.
+    pub fn buffer(&mut self, name: &[u8]) -> &mut [u8] {
+        match self.held.get_mut(name) {
+            Some(bytes) => bytes,
+            None => &mut [],
+        }
     }
-}
 
-// Lets the buffer that a word names hold these bytes from now on.
-pub fn keep(word: &[u8], bytes: &[u8], memory: &mut [u8], table: &mut [usize; 32]) {
-    let k = place(table, word);
-    if k < 16 {
-        table[16 + k] = bytes.len();
+    // A copy of the bytes of the buffer of this name.
+    pub fn load(&self, name: &[u8]) -> Result<Vec<u8>, AllocError> {
+        match self.held.get(name) {
+            Some(bytes) => bytes.clone(),
+            None => Ok(Vec::new(self.alloc)),
+        }
     }
-    let held = buffer(memory, table, word);
-    if bytes.len() <= held.len() {
-        held[..bytes.len()].copy_from_slice(bytes);
+
+    // Lets the buffer of this name hold these bytes from now on.
+    pub fn keep(&mut self, name: &[u8], bytes: Vec<u8>) {
+        if let Some(held) = self.held.get_mut(name) {
+            *held = bytes;
+        }
     }
 }

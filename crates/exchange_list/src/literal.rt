@@ -1,77 +1,90 @@
-// Bytes as words of a list: pieces joined by `+`, each pairs of hexadecimal digits, or one pair, `*` and how often. A
-// word that stands for no bytes, or for more than find room, answers `usize::MAX`.
-ghost use Rattle.std.specs.Prelude.{◌≤◌, length};
+// Bytes as words of a list: pieces joined by `+`, each pairs of hexadecimal digits, or one pair, `*` and how often.
+ghost use Rattle.std.specs.Prelude.{◌≡◌, ◌≤◌, IfOk, OnOk, vec_len};
+ghost use Rattle.exchange_list.specs.declared.literal.LiteralError.TheVariants.{OutOfMemory};
 
-use crate::words::{amount, digit, find};
+use crate::words::{digit, number};
+use std::alloc::{AllocError, Global};
 
-// The byte of the two digits at `at`, or 256 and more where there are none.
-fn pair(digits: &[u8], at: usize) -> usize {
-    if digits.len() <= at {
-        return 256;
-    }
-    let high = digit(digits, at);
-    let low = digit(digits, at + 1);
-    if 16 <= low { 256 } else { 16 * high + low }
+// How many bytes a literal stands for at most, and so a buffer has.
+const ROOM: usize = 65536;
+
+// Why a word stands for no bytes: it has another form or is of more than find room, or there is no memory for them.
+#[derive(Clone, Copy, Debug, PartialEq, Eq)]
+pub enum LiteralError {
+    Malformed,
+    OutOfMemory,
 }
 
-// How far it is from one pair of a piece to the next: 0 where one pair stands for all.
-fn step(piece: &[u8]) -> usize
-    ensures { result ≤ 2 }
+impl From<AllocError> for LiteralError {
+    ghost from_gives = { λ _ error. error ≡ OutOfMemory };
+
+    fn from(_error: AllocError) -> LiteralError {
+        LiteralError::OutOfMemory
+    }
+}
+
+// The byte of two digits.
+fn pair(high: u8, low: u8) -> Result<u8, LiteralError> {
+    match (digit(high), digit(low)) {
+        (Some(high), Some(low)) => Ok(16 * high + low),
+        _ => Err(LiteralError::Malformed),
+    }
+}
+
+// Puts the byte of one pair so often behind those before it. (Where that is never, the pair may be any two letters.)
+fn repeated(bytes: &mut Vec<u8>, high: u8, low: u8, count: usize) -> Result<(), LiteralError>
+    requires { vec_len bytes.old ≤ 65536 }
+    ensures { OnOk result (vec_len bytes.new ≤ 65536) }
 {
-    if piece.len() < 3 {
-        return 0;
+    if ROOM - bytes.len() < count {
+        return Err(LiteralError::Malformed);
     }
-    if piece[2] == b'*' { 0 } else { 2 }
+    if 0 < count {
+        bytes.resize(bytes.len() + count, pair(high, low)?)?;
+    }
+    Ok(())
 }
 
-// How many bytes a piece stands for. (Of an odd number of digits the last has no pair.)
-fn count(piece: &[u8]) -> usize {
-    if piece.len() < 3 {
-        return if piece.len() == 2 { 1 } else { usize::MAX };
-    }
-    if piece[2] == b'*' {
-        return amount(&piece[3..]);
-    }
-    (piece.len() + 1) / 2
-}
-
-// Puts the bytes of one piece at `size`. Answers the place behind them.
-fn piece(piece: &[u8], size: usize, out: &mut [u8]) -> usize
-    requires { size ≤ length out.old }
+// Puts the bytes of one piece behind those before it.
+fn piece(bytes: &mut Vec<u8>, piece: &[u8]) -> Result<(), LiteralError>
+    requires { vec_len bytes.old ≤ 65536 }
+    ensures { OnOk result (vec_len bytes.new ≤ 65536) }
 {
-    let count = count(piece);
-    if out.len() - size < count {
-        return usize::MAX;
-    }
-    let step = step(piece);
-    let mut i = 0;
-    let mut at = 0;
-    while i < count {
-        let byte = pair(piece, at);
-        if 256 <= byte {
-            return usize::MAX;
+    match piece {
+        [] => Err(LiteralError::Malformed),
+        [high, low, b'*', digits @ ..] => {
+            let count = number(digits).ok_or(LiteralError::Malformed)?;
+            repeated(bytes, *high, *low, count)
         }
-        out[size + i] = byte as u8;
-        i += 1;
-        at += step;
+        _ => {
+            for digits in piece.chunks(2) {
+                let [high, low] = digits else {
+                    return Err(LiteralError::Malformed);
+                };
+                repeated(bytes, *high, *low, 1)?;
+            }
+            Ok(())
+        }
     }
-    size + count
 }
 
-// Puts the bytes that a word stands for at the front of `out`. Answers how many.
-pub fn literal(word: &[u8], out: &mut [u8]) -> usize {
-    if check::same(word, b"-") {
-        return 0;
+// The bytes that a word stands for. (A `+` at its end joins nothing.)
+pub fn literal(alloc: Global, word: &[u8]) -> Result<Vec<u8>, LiteralError>
+    ensures { IfOk result (λ bytes. vec_len bytes ≤ 65536) }
+{
+    let mut bytes = Vec::new(alloc);
+    if matches!(word, b"-") {
+        return Ok(bytes);
     }
-    let mut at = 0;
-    let mut size = 0;
-    while at < word.len() {
-        let end = find(word, at, b'+');
-        size = piece(&word[at..end], size, out);
-        if out.len() < size {
-            return usize::MAX;
-        }
-        at = end + 1;
+    for part in word
+        .strip_suffix(b"+")
+        .unwrap_or(word)
+        .split(|letter| *letter == b'+')
+    {
+        piece(&mut bytes, part)?;
     }
-    if size == 0 { usize::MAX } else { size }
+    if bytes.is_empty() {
+        return Err(LiteralError::Malformed);
+    }
+    Ok(bytes)
 }

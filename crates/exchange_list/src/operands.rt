@@ -1,11 +1,13 @@
 // The calls by name, and what the words behind the name must be.
-ghost use Rattle.std.specs.Prelude.{◌≤◌, length};
+ghost use Rattle.std.specs.Prelude.{◌≡◌, ◌+◌, ◌<◌, OnOk};
+ghost use Rattle.exchange_list.specs.declared.operands.Misread.TheVariants.{OutOfMemory};
 
-use crate::buffers::{enter, place, size_at};
-use crate::literal::literal;
-use crate::words::{is_number, name, word};
+use crate::buffers::Buffers;
+use crate::literal::{LiteralError, literal};
+use crate::words::{name, number, word};
+use std::alloc::{AllocError, Global};
 
-#[derive(Clone, Copy)]
+#[derive(Clone, Copy, Debug, PartialEq, Eq)]
 pub enum Call {
     Give,
     Open,
@@ -22,130 +24,218 @@ pub enum Call {
     ObserverMove,
     ObserverSize,
     ObserverRead,
-    Unknown,
 }
 
-// The call of a replica, by its name, whose letters are the bytes of the number (`words::name`).
-fn replica_call(word: &[u8]) -> Call {
+// A call with what it is given besides its book: numbers, bytes, and the name of a buffer that is lent to it.
+#[derive(Debug, Drop)]
+pub enum Request<'a> {
+    Give(Vec<u8>),
+    Open {
+        n: usize,
+        own: usize,
+        heights: usize,
+        weights: Vec<u8>,
+        roll: Vec<u8>,
+    },
+    Deliver(Vec<u8>),
+    Packet(Vec<u8>),
+    Move(&'a [u8]),
+    Signal(usize),
+    Submit(Vec<u8>),
+    Size,
+    Read(&'a [u8]),
+    Fetch {
+        kind: usize,
+        height: usize,
+        reply: &'a [u8],
+    },
+    ObserverOpen {
+        n: usize,
+        heights: usize,
+        weights: Vec<u8>,
+    },
+    ObserverDeliver(Vec<u8>),
+    ObserverMove,
+    ObserverSize,
+    ObserverRead(&'a [u8]),
+}
+
+// Why a line makes no call: the word of this number does not fit, counted from 1; or there is no memory for its bytes.
+#[derive(Clone, Copy, Debug, PartialEq, Eq)]
+pub enum Misread {
+    Misfit(usize),
+    OutOfMemory,
+}
+
+impl From<AllocError> for Misread {
+    ghost from_gives = { λ _ error. error ≡ OutOfMemory };
+
+    fn from(_error: AllocError) -> Misread {
+        Misread::OutOfMemory
+    }
+}
+
+// The call of a replica, by its name.
+fn replica_call(word: &[u8]) -> Option<Call> {
     match name(word) {
-        // give, open, deliver
-        0x6769_7665 => Call::Give,
-        0x6f70_656e => Call::Open,
-        0x64_656c_6976_6572 => Call::Deliver,
-        // packet, move, signal
-        0x7061_636b_6574 => Call::Packet,
-        0x6d6f_7665 => Call::Move,
-        0x7369_676e_616c => Call::Signal,
-        // submit, size, read, fetch
-        0x7375_626d_6974 => Call::Submit,
-        0x7369_7a65 => Call::Size,
-        0x7265_6164 => Call::Read,
-        0x66_6574_6368 => Call::Fetch,
-        _ => Call::Unknown,
+        b"give" => Some(Call::Give),
+        b"open" => Some(Call::Open),
+        b"deliver" => Some(Call::Deliver),
+        b"packet" => Some(Call::Packet),
+        b"move" => Some(Call::Move),
+        b"signal" => Some(Call::Signal),
+        b"submit" => Some(Call::Submit),
+        b"size" => Some(Call::Size),
+        b"read" => Some(Call::Read),
+        b"fetch" => Some(Call::Fetch),
+        _ => None,
     }
 }
 
 // The call of an observer, by what stands behind `observer-`.
-fn observer_call(word: &[u8]) -> Call {
+fn observer_call(word: &[u8]) -> Option<Call> {
     match name(word) {
-        // open, deliver, move, size, read
-        0x6f70_656e => Call::ObserverOpen,
-        0x64_656c_6976_6572 => Call::ObserverDeliver,
-        0x6d6f_7665 => Call::ObserverMove,
-        0x7369_7a65 => Call::ObserverSize,
-        0x7265_6164 => Call::ObserverRead,
-        _ => Call::Unknown,
+        b"open" => Some(Call::ObserverOpen),
+        b"deliver" => Some(Call::ObserverDeliver),
+        b"move" => Some(Call::ObserverMove),
+        b"size" => Some(Call::ObserverSize),
+        b"read" => Some(Call::ObserverRead),
+        _ => None,
     }
-}
-
-// Whether a word begins with `observer-`.
-fn is_observer(word: &[u8]) -> bool
-    requires { 9 ≤ length word.now }
-{
-    name(&word[0..8]) == 0x6f62_7365_7276_6572 && word[8] == b'-'
 }
 
 // The call of a line, by its name.
-pub fn named(line: &[u8]) -> Call {
+pub fn named(line: &[u8]) -> Option<Call> {
     let first = word(line, 0);
-    if 9 <= first.len() {
-        if is_observer(first) {
-            return observer_call(&first[9..first.len()]);
+    match first.strip_prefix(b"observer-") {
+        Some(rest) => observer_call(rest),
+        None => replica_call(first),
+    }
+}
+
+// The words of a line behind its name, read one by one.
+#[derive(Drop)]
+struct Operands<'a> {
+    line: &'a [u8],
+    read: usize,
+    alloc: Global,
+}
+
+impl<'a> Operands<'a> {
+    fn word(&mut self) -> &'a [u8]
+        requires { self.old.read < 8 }
+        ensures { self.new.read ≡ self.old.read + 1 }
+    {
+        self.read += 1;
+        word(self.line, self.read)
+    }
+
+    // That the word read last does not fit.
+    fn misfit(&self) -> Misread
+        requires { self.now.read < 9 }
+    {
+        Misread::Misfit(self.read + 1)
+    }
+
+    fn buffer(&mut self, buffers: &Buffers) -> Result<&'a [u8], Misread>
+        requires { self.old.read < 8 }
+        ensures { self.new.read ≡ self.old.read + 1 }
+    {
+        let word = self.word();
+        buffers.place(word).ok_or(self.misfit())
+    }
+
+    fn number(&mut self) -> Result<usize, Misread>
+        requires { self.old.read < 8 }
+        ensures { self.new.read ≡ self.old.read + 1 }
+    {
+        let word = self.word();
+        number(word).ok_or(self.misfit())
+    }
+
+    fn bytes(&mut self) -> Result<Vec<u8>, Misread>
+        requires { self.old.read < 8 }
+        ensures { self.new.read ≡ self.old.read + 1 }
+    {
+        let word = self.word();
+        match literal(self.alloc, word) {
+            Ok(bytes) => Ok(bytes),
+            Err(LiteralError::Malformed) => Err(self.misfit()),
+            Err(LiteralError::OutOfMemory) => Err(Misread::OutOfMemory),
         }
     }
-    replica_call(first)
-}
 
-// The words behind the name, a digit each, from the last digit on: 1 a buffer, 2 a number, 3 bytes. What a call is lent
-// besides its book is the last word; Open is lent the bytes of the word before it too.
-fn shape(call: Call) -> usize {
-    match call {
-        Call::Open => 332221,
-        Call::Give | Call::Deliver | Call::Packet | Call::Submit | Call::ObserverDeliver => 31,
-        Call::Move | Call::Read | Call::ObserverRead => 11,
-        Call::Signal => 21,
-        Call::Size | Call::ObserverMove | Call::ObserverSize => 1,
-        Call::Fetch => 1221,
-        Call::ObserverOpen => 3221,
-        Call::Unknown => 0,
-    }
-}
-
-// The word whose buffer holds what was lent from then on, or 0: that of a gift is the book.
-pub fn kept(line: &[u8]) -> usize {
-    match named(line) {
-        Call::Give => 1,
-        Call::Move | Call::Read | Call::ObserverRead => 2,
-        Call::Fetch => 4,
-        _ => 0,
-    }
-}
-
-// What one word adds to what is lent: how many bytes, those of a literal at the front of `out`; or `usize::MAX` where
-// the word is not what it must be.
-fn operand(kind: usize, word: &[u8], table: &[usize; 32], out: &mut [u8]) -> usize {
-    match kind {
-        1 => size_at(table, place(table, word)),
-        2 => if is_number(word) { 0 } else { usize::MAX },
-        _ => literal(word, out),
-    }
-}
-
-// What the words of a line come to: how many bytes its call is lent besides the book, or the number of the first word
-// that does not fit, counted from 1.
-#[derive(Clone, Copy)]
-pub enum Operands {
-    Fit(usize),
-    Wrong(usize),
-}
-
-// Reads the words of a line, and puts the bytes of its last literal at the front of `out`.
-fn read_words(line: &[u8], table: &[usize; 32], out: &mut [u8]) -> Operands {
-    let mut left = shape(named(line));
-    let mut size = 0;
-    let mut k = 1;
-    if left == 0 {
-        return Operands::Wrong(1);
-    }
-    while k < 7 && left > 0 {
-        size = operand(left % 10, word(line, k), table, out);
-        if out.len() < size {
-            return Operands::Wrong(k + 1);
+    // That there is no further word.
+    fn end(&mut self) -> Result<(), Misread>
+        requires { self.old.read < 8 }
+    {
+        if self.word().is_empty() {
+            Ok(())
+        } else {
+            Err(self.misfit())
         }
-        left = left / 10;
-        k += 1;
-    }
-    if word(line, k).len() == 0 {
-        Operands::Fit(size)
-    } else {
-        Operands::Wrong(k + 1)
     }
 }
 
-// The same, once a name that is given has its place.
-pub fn read(line: &[u8], table: &mut [usize; 32], out: &mut [u8]) -> Operands {
-    if kept(line) == 1 {
-        enter(table, word(line, 1));
+// What a call is given behind its book.
+fn asked_for<'a>(
+    call: Call,
+    operands: &mut Operands<'a>,
+    buffers: &Buffers,
+) -> Result<Request<'a>, Misread>
+    requires { operands.old.read ≡ 1 }
+    ensures { OnOk result (operands.new.read < 8) }
+{
+    Ok(match call {
+        Call::Give => Request::Give(operands.bytes()?),
+        Call::Open => Request::Open {
+            n: operands.number()?,
+            own: operands.number()?,
+            heights: operands.number()?,
+            weights: operands.bytes()?,
+            roll: operands.bytes()?,
+        },
+        Call::Deliver => Request::Deliver(operands.bytes()?),
+        Call::Packet => Request::Packet(operands.bytes()?),
+        Call::Move => Request::Move(operands.buffer(buffers)?),
+        Call::Signal => Request::Signal(operands.number()?),
+        Call::Submit => Request::Submit(operands.bytes()?),
+        Call::Size => Request::Size,
+        Call::Read => Request::Read(operands.buffer(buffers)?),
+        Call::Fetch => Request::Fetch {
+            kind: operands.number()?,
+            height: operands.number()?,
+            reply: operands.buffer(buffers)?,
+        },
+        Call::ObserverOpen => Request::ObserverOpen {
+            n: operands.number()?,
+            heights: operands.number()?,
+            weights: operands.bytes()?,
+        },
+        Call::ObserverDeliver => Request::ObserverDeliver(operands.bytes()?),
+        Call::ObserverMove => Request::ObserverMove,
+        Call::ObserverSize => Request::ObserverSize,
+        Call::ObserverRead => Request::ObserverRead(operands.buffer(buffers)?),
+    })
+}
+
+// Reads a line: the name of the call's book, and the call. A name that is given has its place from then on.
+pub fn read<'a>(
+    alloc: Global,
+    line: &'a [u8],
+    buffers: &mut Buffers,
+) -> Result<(&'a [u8], Request<'a>), Misread> {
+    let call = named(line).ok_or(Misread::Misfit(1))?;
+    if call == Call::Give {
+        buffers.enter(name(word(line, 1)))?;
     }
-    read_words(line, table, out)
+    let mut operands = Operands {
+        line,
+        read: 0,
+        alloc,
+    };
+    let book = operands.buffer(buffers)?;
+    let request = asked_for(call, &mut operands, buffers)?;
+    operands.end()?;
+    Ok((book, request))
 }

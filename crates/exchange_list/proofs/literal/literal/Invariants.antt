@@ -1,10 +1,8 @@
--- `literal` stays within the word, and ends: each piece takes it further. The buffer keeps its length.
-use Rattle.std.proofs.Common.{◌≡◌, ◌+◌, ◌-◌, ◌≤◌, length}
+-- `literal` puts no more bytes behind one another than find room.
+use Rattle.std.proofs.Common.{◌≤◌, vec_len}
 use Rattle.exchange_list.proofs.literal.literal.Given as goal
 
-abbrev pub invariant-loop-at : goal.invariant-loop-at
-invariant-loop-at l =
-    (l.at ≤ length l.word + 1) × ((l.size ≤ length l.out) × (length l.out ≡ length l.initial.out))
-
-abbrev pub decreases-loop-at : goal.decreases-loop-at
-decreases-loop-at l = (length l.word + 1) - l.at
+abbrev pub invariant-loop-part : goal.invariant-loop-part
+invariant-loop-part l =
+    (goal.iterator-loop-part).can_next l.part-iterator
+    × ((goal.iterator-loop-part).is_finite l.part-iterator × (vec_len l.bytes ≤ 65536))

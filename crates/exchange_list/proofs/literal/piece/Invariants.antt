@@ -1,11 +1,8 @@
--- `piece` is safe and ends, and the buffer keeps its length: `i` counts up to `count`, for which there is room.
-use Rattle.std.proofs.Common.{◌≡◌, ◌+◌, ◌-◌, ◌*◌, ◌≤◌, length}
+-- `piece` puts no more bytes behind one another than find room.
+use Rattle.std.proofs.Common.{◌≤◌, vec_len}
 use Rattle.exchange_list.proofs.literal.piece.Given as goal
 
-abbrev pub invariant-loop-i : goal.invariant-loop-i
-invariant-loop-i l =
-    (l.i ≤ l.count)
-    × ((l.at ≤ 2 * l.i) × ((l.size + l.count ≤ length l.out) × (length l.out ≡ length l.initial.out)))
-
-abbrev pub decreases-loop-i : goal.decreases-loop-i
-decreases-loop-i l = l.count - l.i
+abbrev pub invariant-loop-digits : goal.invariant-loop-digits
+invariant-loop-digits l =
+    (goal.iterator-loop-digits).can_next l.digits-iterator
+    × ((goal.iterator-loop-digits).is_finite l.digits-iterator × (vec_len l.bytes ≤ 65536))
