@@ -22,7 +22,7 @@ def public(root):
 
 
 ITEM = re.compile(
-    r"^[ ]*(?P<pub>pub )?(?P<extern>extern \"C\" )?(?P<sort>fn|enum|struct|type|const) (?P<name>\w+)", re.M)
+    r"^[ ]*(?:(?P<pub>pub )|pub\((?:crate|super)\) )?(?P<extern>extern \"C\" )?(?P<sort>fn|enum|struct|type|const) (?P<name>\w+)", re.M)
 # what may stand above an item; a hint for the prover says nothing of what is promised
 HINT = r"[ ]*#\[(?:tactic|cycle|inline)\b[^\[\]]*\]\n"
 ATTRIBUTE = rf"{HINT}|[ ]*#\[(?:unsafe\(no_mangle\)|derive\([\w, ]*\)|test)\]\n"
@@ -108,7 +108,8 @@ class Item:
         end = closing(text, end) if text[end] == "{" else end + 1
         text = text[:at] + self.without_facts(text[at:end]) + text[end:]
         variants = r"\w+(?=\s*(?:[,}(]|\{))" if self.sort == "enum" else r"(?!)"
-        inner = re.sub(r"\([^()]*\)", lambda m: m[0].replace(",", ";").replace(")", ";"), text[at:end])
+        inner = re.sub(r"\bpub\b(?:\(\w+\))?", "", text[at:end])
+        inner = re.sub(r"\([^()]*\)", lambda m: m[0].replace(",", ";").replace(")", ";"), inner)
         self.types.update(TYPE.findall(re.sub(variants, "", inner).partition("=")[0]))
         return end
 

@@ -15,6 +15,7 @@ ghost use Rattle.applies.specs.Found.{PassFound, ProposeFound};
 use answers::answer::Certificate;
 use book_fields::head::{current, flag, heights, is_running, own};
 use book_fields::height::{holds_proposal, leader, proposal};
+use book_fields::names::Flag;
 use book_fields::quorum::is_dummy;
 use linking::links::{extends, largest_finalized, linked, parent_of};
 
@@ -34,7 +35,7 @@ pub fn dummy_vote_applies(book: &[u8]) -> bool
     requires { Readable book.now }
     ensures { result ≡ dummy_vote_applies (decode book.now) }
 {
-    is_running(book) && flag(book, 1) && !flag(book, 2)
+    is_running(book) && flag(book, Flag::TimerFired) && !flag(book, Flag::DummyVoted)
 }
 
 // Move 2 looks for the largest finalized height of the whole book.
@@ -81,7 +82,7 @@ pub fn propose_applies(book: &[u8], known: &mut [u8]) -> Option<usize>
     ensures answer { ProposeFound sha (decode book.now) result }
     ensures memo { Memo book.now known.new }
 {
-    if is_running(book) && leader(book, current(book)) == own(book) && !flag(book, 8) {
+    if is_running(book) && leader(book, current(book)) == own(book) && !flag(book, Flag::Proposed) {
         chain_below(book, known)
     } else {
         None
@@ -96,7 +97,7 @@ pub fn block_vote_applies(book: &[u8], known: &mut [u8]) -> bool
     ensures answer { result ≡ block_vote_applies sha (decode book.now) }
     ensures memo { Memo book.now known.new }
 {
-    is_running(book) && !flag(book, 4) && proposal_extends(book, known)
+    is_running(book) && !flag(book, Flag::BlockVoted) && proposal_extends(book, known)
 }
 
 // Whether a proposal of the current height is held that extends a linked height.

@@ -1,106 +1,91 @@
-// A list, line by line. The memory and the table are those of `exchange_list::buffers`.
-use crate::made::made;
-use exchange_list::buffers::{buffer, keep, load};
+// A list, line by line.
+use crate::made::{digest, lent, made};
+use exchange_list::buffers::Buffers;
 use exchange_list::line::{call_text, is_remark, is_unweighed, misfit, unweighed};
-use exchange_list::operands::{Operands, kept, read};
-use exchange_list::words::{find, word};
+use exchange_list::operands::{Misread, Request, read};
 use lines::print::text;
+use std::alloc::{AllocError, Global};
 use std::io;
 use std::io::Write;
 
-// Makes the call of a line, unless the line only gives, on the book and on what else it is lent: the bytes that the
-// line has, or a second buffer.
-fn lend(
-    out: &mut impl Write,
-    line: &[u8],
-    lent: &mut [u8],
-    memory: &mut [u8],
-    table: &mut [usize; 32],
-) -> io::Result<()> {
-    let k = kept(line);
-    if k == 1 {
-        keep(word(line, k), lent, memory, table);
-        return Ok(());
-    }
-    if k == 0 {
-        return made(out, line, buffer(memory, table, word(line, 1)), lent);
-    }
-    load(word(line, k), memory, table, lent);
-    made(out, line, buffer(memory, table, word(line, 1)), lent)?;
-    keep(word(line, k), lent, memory, table);
-    Ok(())
+// Who plays a list: where what comes of it is printed, and the buffers as the lines before left them.
+#[derive(Drop)]
+pub struct Player<W: Write + Drop> {
+    out: W,
+    buffers: Buffers,
+    alloc: Global,
 }
 
-// The same, where `size` bytes are lent.
-fn lend_front(
-    out: &mut impl Write,
-    line: &[u8],
-    size: usize,
-    room: &mut [u8],
-    memory: &mut [u8],
-    table: &mut [usize; 32],
-) -> io::Result<()> {
-    if size <= room.len() {
-        lend(out, line, &mut room[0..size], memory, table)?;
+impl<W: Write + Drop> Player<W> {
+    pub fn new(out: W, alloc: Global) -> Result<Player<W>, AllocError> {
+        let buffers = Buffers::new(alloc)?;
+        Ok(Player {
+            out,
+            buffers,
+            alloc,
+        })
     }
-    Ok(())
-}
 
-// Does what a line says. Answers the number of the first word that does not fit, counted from 1, or 0.
-fn make(
-    out: &mut impl Write,
-    line: &[u8],
-    memory: &mut [u8],
-    table: &mut [usize; 32],
-) -> io::Result<usize> {
-    let mut room = [0u8; 65536];
-    let size = match read(line, table, &mut room) {
-        Operands::Wrong(k) => return Ok(k),
-        Operands::Fit(size) => size,
-    };
-    lend_front(out, line, size, &mut room, memory, table)?;
-    Ok(0)
-}
+    // Makes a call on its book, and on a copy of the buffer that it is lent besides, which holds the copy afterwards.
+    fn make(&mut self, book: &[u8], request: Request) -> io::Result<()> {
+        let request = match request {
+            Request::Give(bytes) => {
+                self.buffers.keep(book, bytes);
+                return Ok(());
+            }
+            request => request,
+        };
+        let Some(name) = lent(&request) else {
+            return made(&mut self.out, &request, self.buffers.buffer(book), &mut []);
+        };
+        let mut bytes = self.buffers.load(name)?;
+        made(
+            &mut self.out,
+            &request,
+            self.buffers.buffer(book),
+            &mut bytes,
+        )?;
+        digest(&mut self.out, &bytes)?;
+        self.buffers.keep(name, bytes);
+        Ok(())
+    }
 
-// Prints a line, makes its call, and prints what comes of it.
-fn play_line(
-    out: &mut impl Write,
-    line: &[u8],
-    number: usize,
-    memory: &mut [u8],
-    table: &mut [usize; 32],
-) -> io::Result<()> {
-    if is_remark(line) {
-        return text(out, line);
+    // Prints a line, makes its call, and prints what comes of it.
+    fn play_line(&mut self, line: &[u8], number: usize) -> io::Result<()> {
+        if is_remark(line) {
+            return text(&mut self.out, line);
+        }
+        if is_unweighed(line) {
+            text(&mut self.out, line)?;
+            return unweighed(&mut self.out);
+        }
+        let call = call_text(line);
+        text(&mut self.out, call)?;
+        match read(self.alloc, call, &mut self.buffers) {
+            Ok((book, request)) => self.make(book, request),
+            Err(Misread::Misfit(word)) => misfit(&mut self.out, number, word),
+            Err(Misread::OutOfMemory) => Err(io::ErrorKind::OutOfMemory.into()),
+        }
     }
-    if is_unweighed(line) {
-        text(out, line)?;
-        return unweighed(out);
-    }
-    let call = call_text(line);
-    text(out, call)?;
-    let wrong = make(out, call, memory, table)?;
-    if 0 < wrong {
-        misfit(out, number, wrong)?;
-    }
-    Ok(())
-}
 
-// Plays the whole list.
-pub fn play(
-    out: &mut impl Write,
-    list: &[u8],
-    memory: &mut [u8],
-    table: &mut [usize; 32],
-) -> io::Result<()> {
-    let mut at = 0;
-    let mut number = 1;
-    while at < list.len() {
-        let end = find(list, at, b'\n');
-        play_line(out, &list[at..end], number, memory, table)?;
-        text(out, b"\n")?;
-        at = end + 1;
-        number += 1;
+    // Plays the whole list. (A line's end at its end begins no further line.)
+    pub fn play(&mut self, list: &[u8]) -> io::Result<()> {
+        if list.is_empty() {
+            return Ok(());
+        }
+        let lines = list.strip_suffix(b"\n").unwrap_or(list);
+        for (at, line) in lines.split(|letter| *letter == b'\n').enumerate() {
+            self.play_line(line, at + 1)?;
+            text(&mut self.out, b"\n")?;
+        }
+        Ok(())
     }
-    Ok(())
+
+    // Says that the list was longer than there is room for it.
+    pub fn cut(&mut self) -> io::Result<()> {
+        text(
+            &mut self.out,
+            b"the list has 1048576 bytes or more, and was read no further\n",
+        )
+    }
 }

@@ -6,25 +6,20 @@
 mod list;
 mod made;
 
+use crate::list::Player;
+use lines::input::read_full;
 use std::io;
 
-// Room for sixteen buffers, or for a list.
-fn memory() -> [u8; 1048576] {
-    [0; 1048576]
-}
+// How much of a list is read.
+const ROOM: usize = 1048576;
 
 fn main(rt: HostRuntime) -> io::Result<()> {
-    let mut out = rt.stdout();
-    let mut text = memory();
-    let size = lines::input::read_full(&mut rt.stdin(), &mut text)?;
-    let mut buffers = memory();
-    let mut table = [0usize; 32];
-    list::play(&mut out, &text[..size], &mut buffers, &mut table)?;
-    if 1048576 <= size {
-        lines::print::text(
-            &mut out,
-            b"the list has 1048576 bytes or more, and was read no further\n",
-        )?;
+    let mut list = vec![in rt.alloc(); 0; ROOM]?;
+    let size = read_full(&mut rt.stdin(), &mut list)?;
+    let mut player = Player::new(rt.stdout(), rt.alloc())?;
+    player.play(&list[..size])?;
+    if size == ROOM {
+        player.cut()?;
     }
     Ok(())
 }

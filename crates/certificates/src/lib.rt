@@ -11,7 +11,8 @@ ghost use Rattle.protocol.specs.Certificates.{certificate_frame};
 ghost use Rattle.book_fields.specs.Book.{Within, Readable};
 ghost use Rattle.certificates.specs.Kind.{kind_number};
 
-use book_fields::height::{certificate_mask, dummy_mask, finalize_mask, is_notarized, notarized};
+use book_fields::height::{is_notarized, mask_at, notarized};
+use book_fields::names::MaskKind;
 use book_fields::quorum::quorum;
 pub use kind::CertificateKind;
 
@@ -24,8 +25,8 @@ pub fn has_certificate(book: &[u8], kind: CertificateKind, height: usize) -> boo
 {
     match kind {
         CertificateKind::Block => is_notarized(book, height),
-        CertificateKind::Dummy => quorum(book, dummy_mask(book, height)),
-        CertificateKind::Finalize => quorum(book, finalize_mask(book, height)),
+        CertificateKind::Dummy => quorum(book, mask_at(book, height, MaskKind::Dummy)),
+        CertificateKind::Finalize => quorum(book, mask_at(book, height, MaskKind::Finalize)),
     }
 }
 
@@ -40,15 +41,15 @@ pub fn write_certificate(book: &[u8], kind: CertificateKind, height: usize, repl
 {
     match kind {
         CertificateKind::Block => {
-            let mask = certificate_mask(book, height);
+            let mask = mask_at(book, height, MaskKind::Certificate);
             frames::write_block_certificate(reply, height, mask, notarized(book, height));
         }
         CertificateKind::Dummy => {
-            let mask = dummy_mask(book, height);
+            let mask = mask_at(book, height, MaskKind::Dummy);
             frames::write_plain(reply, 6, 0, height, mask);
         }
         CertificateKind::Finalize => {
-            let mask = finalize_mask(book, height);
+            let mask = mask_at(book, height, MaskKind::Finalize);
             frames::write_plain(reply, 7, 0, height, mask);
         }
     }

@@ -44,6 +44,7 @@ fn deliver_read(book: &mut [u8], h: usize, frame: &[u8]) -> Result<Delivered, Re
 }
 
 // Delivers a frame to a sound book.
+#[tactic(auto, using(crate::specs::Laws::FrameReadLaws::sound_readable, crate::specs::Laws::FrameReadLaws::sound_flags, crate::specs::Laws::FrameReadLaws::frame_read, crate::specs::Laws::FrameReadLaws::frame_size_lem, crate::specs::Laws::OutcomeLaws::call_refused, crate::specs::Laws::OutcomeLaws::call_read))]
 pub fn deliver_sound(book: &mut [u8], frame: &[u8]) -> Result<Delivered, Refusal>
     requires { sound sha256 book.old ≡ true }
     ensures answer { delivered_answer result ≡ (deliver_call sha256 book.old frame.now).answer }

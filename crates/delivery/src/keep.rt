@@ -84,6 +84,7 @@ fn join_signers(book: &mut [u8], h: usize, k: usize, signers: usize) -> Delivere
 }
 
 // Keeps what a frame that is read states, by its kind.
+#[tactic(auto, using(crate::specs::Laws::KindLaws::kind_one, crate::specs::Laws::KindLaws::kind_two, crate::specs::Laws::KindLaws::kind_five, crate::specs::Laws::KindLaws::dummy_joins, crate::specs::Laws::KindLaws::finalize_joins))]
 pub fn keep(book: &mut [u8], h: usize, frame: &[u8]) -> Delivered
     requires { Read book.old h frame.now }
     ensures { accepted_book result book.new ≡ kept_at book.old h (keeps sha (decode book.old) frame.now) }

@@ -21,6 +21,7 @@ fn awaits_votes(book: &[u8], h: usize) -> bool
 }
 
 // Notarizes the held proposal of height `h`, whose digest this is, if it awaits votes and has a quorum of them.
+#[tactic(auto, using(crate::specs::Laws::KeepLaws::same_book, crate::specs::Laws::NotarizeLaws::awaits_none, crate::specs::Laws::NotarizeLaws::notarizes, crate::specs::Laws::NotarizeLaws::too_few_lem))]
 pub fn notarize_with(book: &mut [u8], h: usize, digest: &[u8])
     requires spot { Spot book.old h }
     requires digest_value { digest.now ≡ sha (height_in book.old h).proposal }
@@ -36,6 +37,7 @@ pub fn notarize_with(book: &mut [u8], h: usize, digest: &[u8])
 }
 
 // The same for a proposal that the book holds already: its digest is taken where it lies, and only if it awaits votes.
+#[tactic(auto, using(crate::specs::Laws::KeepLaws::same_book, crate::specs::Laws::NotarizeLaws::awaits_none))]
 pub fn notarize(book: &mut [u8], h: usize)
     requires { Spot book.old h }
     ensures { book.new ≡ changed book.old h (notarized sha (book_view book.old)) }

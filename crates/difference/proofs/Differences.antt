@@ -1,29 +1,19 @@
 -- The difference of two byte strings: it is 0 where they are equal, and stays below 256.
-use Prim.Native.Nat.{ℕ, zero, suc, ◌+◌, ◌*◌, ◌/◌, ◌≤◌, ◌<◌}
-use native.Mathlib.Omega.{arith}
-use native.Mathlib.Nat.{one-mul, div-eq_of_lt}
-use native.Mathlib.Numerals.{add-one}
-use mathlib.Core.Path.{◌≡◌, refl, sym, ap, ap₂, ◌∙◌}
-use mathlib.Core.Bool.{Bool, true, false, ◌&&◌, cond, false≢true, and_assoc, and-true}
-use mathlib.Core.List.{[], ◌∷◌}
-use lib.Bits.{bit_and, bit_or, bit_xor, and_zero_l, or_zero_l, or_lt, or_add_and, xor_lt, xor_self, xor_add_and}
-use lib.Bits.{and_le_l, and_le_r}
-use lib.Dec.{eqb}
+use Rattle.std.specs.Prelude.{ℕ, zero, suc, ◌+◌, ◌*◌, ◌/◌, ◌≤◌, ◌<◌, ◌≡◌, refl, Bool, true, false, ◌&&◌, cond, [], ◌∷◌, bit_and, bit_or, bit_xor, eqb, length, take}
+use Rattle.std.proofs.Common.{arith, length-take, get_or-take, one-mul, add-one, sym, ap, ap₂, ◌∙◌, take_all, eq-eqb, ne_eqb, eqb-true}
+use Rattle.std.proofs.Math.Bool.{and_assoc, and-true}
+use Rattle.std.proofs.Math.Nat.{div-eq_of_lt}
+use Rattle.std.proofs.lemmas.Bool.{false≢true, eqb-false}
+use Rattle.std.specs.Int.Bits.{and_zero_l, or_zero_l, xor_self, xor_add_and}
+use Rattle.std.proofs.lemmas.Nat.{le_or_l, le_or_r, and_le_l, and_le_r}
 use mir.Val.{bool_byte}
-use lib.ListN.{length, take}
-use lib.Seq.{take_all}
-use borrow.Author.Tests.{eq-eqb, ne_eqb, eqb-true, eqb-false}
 use Rattle.protocol.specs.Bytes.{Bytes, byte_at, same}
 use Rattle.protocol.proofs.Laws.TestsLaws.{and_both, both_ways_lem}
 use Rattle.protocol.proofs.Laws.RowLaws.{not_passed, true_and}
 use Rattle.difference.specs.Difference.{difference}
 
 or_zero : (a b : ℕ) → bit_or a b ≡ 0 → (a ≡ 0) × (b ≡ 0)
-or_zero a b e =
-    let s = or_add_and a b in
-    let l = and_le_l a b in
-    let r = and_le_r a b in
-    omega arith
+or_zero a b e = omega (arith, le_or_l a b, le_or_r a b)
 
 -- no bit of an or is set where none is set in either
 pub or_is_zero : (a b : ℕ) → eqb (bit_or a b) 0 ≡ (eqb a 0 && eqb b 0)
@@ -34,11 +24,7 @@ or_is_zero a b = both_ways_lem (eqb (bit_or a b) 0) (eqb a 0 && eqb b 0)
     eq-eqb (bit_or a b) 0 (rw (eqb-true a 0 t.0, eqb-true b 0 t.1) (or_zero_l 0)))
 
 xor_zero : (a b : ℕ) → bit_xor a b ≡ 0 → a ≡ b
-xor_zero a b e =
-    let s = xor_add_and a b in
-    let l = and_le_l a b in
-    let r = and_le_r a b in
-    omega arith
+xor_zero a b e = omega (arith, xor_add_and a b, and_le_l a b, and_le_r a b)
 
 -- no bit differs where the numbers are equal
 xor_is_zero : (a b : ℕ) → eqb (bit_xor a b) 0 ≡ eqb a b
@@ -65,14 +51,13 @@ none_differs a b (suc i) h k =
     rw (or_is_zero, none_differs a b i (omega arith) (omega arith), xor_is_zero)
     (sym (same_more a b i (omega arith) (omega arith)))
 
--- one byte more, and what is gathered is a byte again
-pub gathered_next : (a b : Bytes) (seen i : ℕ) → seen ≡ difference a b i →
-    bit_or seen (bit_xor (byte_at a i) (byte_at b i)) ≡ difference a b (i + 1)
+-- one byte more of the first `count`
+pub gathered_next : (a b : Bytes) (count seen i x y : ℕ) → i < length (take count a) → seen ≡ difference a b i →
+    x ≡ byte_at (take count a) i → y ≡ byte_at (take count b) i → bit_or seen (bit_xor x y) ≡ difference a b (i + 1)
 unfolding difference
-gathered_next a b seen i e = rw (add-one i, e)
-
-pub gathered_small : (seen x y : ℕ) → seen < 256 → x < 256 → y < 256 → bit_or seen (bit_xor x y) < 256
-gathered_small seen x y s h k = or_lt 8 seen (bit_xor x y) s (xor_lt 8 x y h k)
+gathered_next a b count seen i x y h e p q =
+    let low : i < count = omega (arith, simp length-take at h) in
+    rw (e, p, q, add-one i, get_or-take count a i 0, get_or-take count b i 0)
 
 -- ---- whole strings
 -- byte strings of different lengths differ

@@ -13,12 +13,10 @@ pub fn difference(a: &[u8], b: &[u8], count: usize) -> usize
     ensures { (result ≡ difference_of a.now b.now count) × (result < 256) }
 {
     let mut seen: u8 = 0;
-    let mut i = 0;
-    while i < count {
-        seen = seen | (a[i] ^ b[i]);
-        i += 1;
+    for (x, y) in a[..count].iter().zip(&b[..count]) {
+        seen |= x ^ y;
     }
-    seen as usize
+    usize::from(seen)
 }
 
 // 1 if two byte strings are equal and 0 if not: 1 over a number above 1 is 0. Costs one pass over strings of one

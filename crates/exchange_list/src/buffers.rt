@@ -1,5 +1,5 @@
 // The buffers of a list, sixteen at most.
-ghost use Rattle.std.specs.Prelude.{◌≤◌, IfSome, length};
+ghost use Rattle.std.specs.Prelude.{◌≡◌, ◌≤◌, IfOk, IfSome, length};
 ghost use Rattle.std.specs.BTreeMap.{btree_map_len};
 
 use crate::words::name;
@@ -17,7 +17,9 @@ pub struct Buffers {
 
 impl Buffers {
     // No buffers, and the first free place.
-    pub fn new(alloc: Global) -> Result<Buffers, AllocError> {
+    pub fn new(alloc: Global) -> Result<Buffers, AllocError>
+        ensures { IfOk result (λ buffers. btree_map_len buffers.held ≡ 1) }
+    {
         let mut held = BTreeMap::new(alloc);
         held.insert(Vec::new(alloc), Vec::new(alloc))?;
         Ok(Buffers { held, alloc })
@@ -34,7 +36,8 @@ impl Buffers {
         };
         self.held.insert(name, bytes)?;
         if self.held.len() < 16 {
-            self.held.insert(Vec::new(self.alloc), Vec::new(self.alloc))?;
+            self.held
+                .insert(Vec::new(self.alloc), Vec::new(self.alloc))?;
         }
         Ok(())
     }

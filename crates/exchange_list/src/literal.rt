@@ -1,5 +1,6 @@
 // Bytes as words of a list: pieces joined by `+`, each pairs of hexadecimal digits, or one pair, `*` and how often.
-ghost use Rattle.std.specs.Prelude.{◌≤◌, IfOk, OnOk, vec_len};
+ghost use Rattle.std.specs.Prelude.{◌≡◌, ◌≤◌, IfOk, OnOk, vec_len};
+ghost use Rattle.exchange_list.specs.declared.literal.LiteralError.TheVariants.{OutOfMemory};
 
 use crate::words::{digit, number};
 use std::alloc::{AllocError, Global};
@@ -15,6 +16,8 @@ pub enum LiteralError {
 }
 
 impl From<AllocError> for LiteralError {
+    ghost from_gives = { λ _ error. error ≡ OutOfMemory };
+
     fn from(_error: AllocError) -> LiteralError {
         LiteralError::OutOfMemory
     }
@@ -73,7 +76,11 @@ pub fn literal(alloc: Global, word: &[u8]) -> Result<Vec<u8>, LiteralError>
     if matches!(word, b"-") {
         return Ok(bytes);
     }
-    for part in word.strip_suffix(b"+").unwrap_or(word).split(|letter| *letter == b'+') {
+    for part in word
+        .strip_suffix(b"+")
+        .unwrap_or(word)
+        .split(|letter| *letter == b'+')
+    {
         piece(&mut bytes, part)?;
     }
     if bytes.is_empty() {

@@ -1,5 +1,6 @@
 // The calls by name, and what the words behind the name must be.
 ghost use Rattle.std.specs.Prelude.{◌≡◌, ◌+◌, ◌<◌, OnOk};
+ghost use Rattle.exchange_list.specs.declared.operands.Misread.TheVariants.{OutOfMemory};
 
 use crate::buffers::Buffers;
 use crate::literal::{LiteralError, literal};
@@ -67,6 +68,8 @@ pub enum Misread {
 }
 
 impl From<AllocError> for Misread {
+    ghost from_gives = { λ _ error. error ≡ OutOfMemory };
+
     fn from(_error: AllocError) -> Misread {
         Misread::OutOfMemory
     }

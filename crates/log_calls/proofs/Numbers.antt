@@ -1,11 +1,5 @@
 -- Tests of numbers as the code makes them, against the tests of the protocol.
-use Prim.Native.Nat.{ℕ, ◌<◌}
-use native.Mathlib.Omega.{arith}
-use mathlib.Core.Path.{◌≡◌, sym}
-use mathlib.Core.Bool.{Bool, true, false, ◌||◌}
-use lib.ListN.{length}
-use lib.Dec.{ltb}
-use borrow.Author.Tests.{lt-ltb}
+use Rattle.std.proofs.Common.{ℕ, ◌<◌, arith, ◌≡◌, sym, Bool, true, false, ◌||◌, length, ltb, lt-ltb}
 use Rattle.protocol.specs.State.{State, pending, maximum_pending}
 use Rattle.protocol.specs.Sound.{log}
 use Rattle.protocol.specs.Submit.{still_pending}

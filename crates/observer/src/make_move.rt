@@ -1,12 +1,12 @@
 // Move: of the five moves the second alone, which outputs.
-ghost use Rattle.std.specs.Prelude.{◌≡◌, true, length};
+ghost use Rattle.std.specs.Prelude.{◌≡◌, ◌+◌, ◌*◌, ◌≤◌, true};
 ghost use Rattle.sha256.specs.Digest.{sha256 as sha};
-ghost use Rattle.protocol.specs.Bytes.{zeros};
+ghost use Rattle.protocol.specs.State.{book_heights};
 ghost use Rattle.protocol.specs.Tests.{all_of};
 ghost use Rattle.protocol.specs.Answer.{accepted};
 ghost use Rattle.protocol.specs.Observer.{observer_state};
 ghost use Rattle.protocol.specs.ObserverCalls.{observer_step, observer_moved, observer_move_call};
-ghost use Rattle.answers.specs.Answers.{moved_answer};
+ghost use Rattle.answers.specs.Answers.{moved_answer, move_of};
 ghost use Rattle.answers.specs.MoveNumbers.{moved_numbers, answer_numbers};
 ghost use Rattle.book_fields.specs.Book.{ObserverReadable, SoundObserverBook};
 ghost use Rattle.book_fields.specs.declared.kind.Kind.TheVariants.{Observer};
@@ -14,6 +14,7 @@ ghost use Rattle.memory.specs.Memo.{MemoAs};
 ghost use Rattle.observer_soundness.specs.ObserverRows.{book_rows};
 
 use answers::answer::Moved;
+use answers::refusal::Refusal;
 use book_fields::kind::Kind;
 use memory::{LARGE, SMALL, has_room};
 
@@ -21,70 +22,51 @@ use memory::{LARGE, SMALL, has_room};
 fn step(book: &mut [u8], known: &mut [u8]) -> Moved
     requires sound_observer_book { SoundObserverBook sha book.old }
     requires memo_as { MemoAs Observer book.old known.old }
-    ensures answer { moved_answer result ≡
+    ensures answer { accepted (move_of result) ≡
         (observer_moved sha (observer_step sha (observer_state book.old))).answer }
     ensures book { book.new ≡
         (observer_moved sha (observer_step sha (observer_state book.old))).book }
 {
     let top = book_fields::kind::heights(Kind::Observer, book);
     let g = linking::linking::largest_finalized(Kind::Observer, book, top, known);
-    if book_fields::observed::finalized(book) < g {
-        observer_book::set_finalized(book, g);
-        Moved::Final(g)
-    } else {
-        Moved::Idle
+    if g <= book_fields::observed::finalized(book) {
+        return Moved::Idle;
     }
+    observer_book::set_finalized(book, g);
+    Moved::Final(g)
 }
 
-// The call on a book that is sound but for its finalized height, with a memory of it.
-fn move_with(book: &mut [u8], known: &mut [u8]) -> Moved
+// The call on a book that is sound but for its finalized height, with a memory of zeros of its own of `N` bytes, which
+// has room for the book's heights. Never inlined, so that a book of few heights does not pay for a longer one's memory.
+#[inline(never)]
+fn move_in<const N: usize>(book: &mut [u8]) -> Result<Moved, Refusal>
     requires book_value { all_of (book_rows book.old) ≡ true }
     requires observer_readable { ObserverReadable book.old }
-    requires memo_as { MemoAs Observer book.old known.old }
+    requires room { (36 * (book_heights book.old + 1) ≤ N) × (N ≤ LARGE) }
     ensures answer { moved_answer result ≡ (observer_move_call sha book.old).answer }
     ensures book { book.new ≡ (observer_move_call sha book.old).book }
     ensures numbers { moved_numbers result ≡ answer_numbers (observer_move_call sha book.old).answer }
 {
-    if observer_soundness::finalized_sound(book, known) {
-        step(book, known)
-    } else {
-        Moved::Refused(1)
+    let mut known = [0u8; N];
+    if !observer_soundness::finalized_sound(book, &mut known) {
+        return Err(Refusal::Unsound);
     }
-}
-
-// The same with the memory of zeros that is lent, or with a larger one where it has no room for the book's heights.
-// It calls itself: a compiler does not put such a function's frame, with the large memory, into those of its callers.
-fn move_long(book: &mut [u8], known: &mut [u8]) -> Moved
-    requires book_value { all_of (book_rows book.old) ≡ true }
-    requires observer_readable { ObserverReadable book.old }
-    requires known_value { known.old ≡ zeros (length known.old) }
-    ensures answer { moved_answer result ≡ (observer_move_call sha book.old).answer }
-    ensures book { book.new ≡ (observer_move_call sha book.old).book }
-    ensures numbers { moved_numbers result ≡ answer_numbers (observer_move_call sha book.old).answer }
-{
-    if has_room(Kind::Observer, book, known.len()) {
-        move_with(book, known)
-    } else {
-        let mut large = [0u8; LARGE];
-        move_long(book, &mut large)
-    }
+    Ok(step(book, &mut known))
 }
 
 // Makes move 2, if it applies; a refused call changes nothing. Costs one pass over the book, and at most one digest for
 // each height. A book of few heights does not pay for the memory of a longer one.
-pub fn make_move(book: &mut [u8]) -> Moved
+pub fn make_move(book: &mut [u8]) -> Result<Moved, Refusal>
     ensures answer { moved_answer result ≡ (observer_move_call sha book.old).answer }
     ensures book { book.new ≡ (observer_move_call sha book.old).book }
     ensures numbers { moved_numbers result ≡ answer_numbers (observer_move_call sha book.old).answer }
 {
-    if observer_soundness::rows_sound(book) {
-        let mut known = [0u8; SMALL];
-        if has_room(Kind::Observer, book, SMALL) {
-            move_with(book, &mut known)
-        } else {
-            move_long(book, &mut known)
-        }
+    if !observer_soundness::rows_sound(book) {
+        return Err(Refusal::Unsound);
+    }
+    if has_room(Kind::Observer, book, SMALL) {
+        move_in::<SMALL>(book)
     } else {
-        Moved::Refused(1)
+        move_in::<LARGE>(book)
     }
 }

@@ -4,18 +4,16 @@ ghost use Rattle.sha256.specs.Digest.{sha256 as sha};
 ghost use Rattle.protocol.specs.ObserverCalls.{observer_size_call, observer_read_part, observer_read_buffer};
 ghost use Rattle.answers.specs.Answers.{size_answer};
 
-use answers::answer::Size;
+use answers::refusal::Refusal;
 
 // The length of the log in bytes. Reads the book once to see that it is sound.
-pub fn size(book: &[u8]) -> Size
+pub fn size(book: &[u8]) -> Result<usize, Refusal>
     ensures { size_answer result ≡ observer_size_call sha book.now }
 {
-    if observer_soundness::is_sound(book) {
-        let count = crate::log::log_count(book);
-        Size::Bytes(16 * count)
-    } else {
-        Size::Refused(1)
+    if !observer_soundness::is_sound(book) {
+        return Err(Refusal::Unsound);
     }
+    Ok(16 * crate::log::log_count(book))
 }
 
 // Copies the log to the front of the buffer and says how many bytes it wrote: none where the book is not sound or the
@@ -24,11 +22,10 @@ pub fn read_into(book: &[u8], buffer: &mut [u8]) -> usize
     ensures length { result ≡ length (observer_read_part sha book.now buffer.old) }
     ensures buffer { buffer.new ≡ observer_read_buffer sha book.now buffer.old }
 {
-    if observer_soundness::is_sound(book) {
-        crate::log::read_sound(book, buffer)
-    } else {
-        0
+    if !observer_soundness::is_sound(book) {
+        return 0;
     }
+    crate::log::read_sound(book, buffer)
 }
 
 // The log in the front part of the lent buffer, or an empty part where the book is not sound or the buffer is too

@@ -7,37 +7,31 @@ ghost use Rattle.book_fields.specs.Book.{SoundObserverBook};
 
 use crate::keep::keep;
 use answers::answer::Delivered;
+use answers::refusal::Refusal;
 use frames::frame_height;
 use observer_refusals::frame_refusal;
 
 // Delivers a frame to a sound book.
-fn deliver_sound(book: &mut [u8], frame: &[u8]) -> Delivered
+#[tactic(auto, using(crate::specs::Laws::KeptLaws::deliver_refused))]
+fn deliver_sound(book: &mut [u8], frame: &[u8]) -> Result<Delivered, Refusal>
     requires { SoundObserverBook sha book.old }
     ensures answer { delivered_answer result ≡
         (observer_deliver_call sha book.old frame.now).answer }
     ensures book { book.new ≡ (observer_deliver_call sha book.old frame.now).book }
 {
-    let number = frame_refusal(book, frame);
-    if number == 0 {
-        if keep(book, frame_height(frame), frame) {
-            Delivered::Fresh
-        } else {
-            Delivered::Known
-        }
-    } else {
-        Delivered::Refused(number)
-    }
+    frame_refusal(book, frame)?;
+    Ok(keep(book, frame_height(frame), frame))
 }
 
 // Reads a certificate and keeps what it states. The book is first tested for soundness; a refused call changes nothing.
-pub fn deliver(book: &mut [u8], frame: &[u8]) -> Delivered
+#[tactic(auto, using(book_fields::specs::Laws::ObserverBookLaws::sound_observer_book, crate::specs::Laws::KeptLaws::deliver_unsound))]
+pub fn deliver(book: &mut [u8], frame: &[u8]) -> Result<Delivered, Refusal>
     ensures answer { delivered_answer result ≡
         (observer_deliver_call sha book.old frame.now).answer }
     ensures book { book.new ≡ (observer_deliver_call sha book.old frame.now).book }
 {
-    if observer_soundness::is_sound(book) {
-        deliver_sound(book, frame)
-    } else {
-        Delivered::Refused(1)
+    if !observer_soundness::is_sound(book) {
+        return Err(Refusal::Unsound);
     }
+    deliver_sound(book, frame)
 }

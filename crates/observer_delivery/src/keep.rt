@@ -1,4 +1,4 @@
-// What each kind of certificate changes at its height. Each function answers whether the book changed.
+// What each kind of certificate changes at its height. What changes the book is fresh.
 ghost use Rattle.std.specs.Prelude.{◌≡◌, ◌<◌, ◌≤◌};
 ghost use Rattle.sha256.specs.Digest.{sha256 as sha};
 ghost use Rattle.protocol.specs.Mask.{mask_limit};
@@ -9,26 +9,28 @@ ghost use Rattle.contradictions.specs.Accepted.{accepted_book};
 ghost use Rattle.delivery.specs.Kept.{join_signers};
 ghost use Rattle.observer_delivery.specs.Certificate.{kept_at, CertificateRead};
 
+use answers::answer::Delivered;
 use book_fields::observed::{is_notarized, mask_at};
 use frames::{frame_block, frame_kind, frame_mask};
 use observer_book::{set_mask, set_notarized};
 
 // Keeps a certified block with its signers where none is notarized.
-fn keep_block(book: &mut [u8], h: usize, frame: &[u8]) -> bool
+#[tactic(auto, unfolding(protocol::specs::Deliver::keep_block_certificate, crate::specs::Certificate::kept_at))]
+fn keep_block(book: &mut [u8], h: usize, frame: &[u8]) -> Delivered
     requires { CertificateRead book.old h frame.now }
     ensures { accepted_book result book.new ≡
         kept_at book.old h (keep_block_certificate (observed_in book.old h) frame.now) }
 {
     if is_notarized(book, h) {
-        false
-    } else {
-        set_notarized(book, h, frame_mask(frame), frame_block(frame));
-        true
+        return Delivered::Known;
     }
+    set_notarized(book, h, frame_mask(frame), frame_block(frame));
+    Delivered::Fresh
 }
 
 // Joins signers to mask `k` of height `h`: 1 of the dummy votes, or 2 of the finalize statements.
-fn join_signers(book: &mut [u8], h: usize, k: usize, signers: usize) -> bool
+#[tactic(auto, unfolding(delivery::specs::Kept::join_signers, crate::specs::Certificate::kept_at))]
+fn join_signers(book: &mut [u8], h: usize, k: usize, signers: usize) -> Delivered
     requires observer_ready { ObserverReady book.old }
     requires within { Within book.old h }
     requires le_k { (1 ≤ k) × (k ≤ 2) }
@@ -39,15 +41,15 @@ fn join_signers(book: &mut [u8], h: usize, k: usize, signers: usize) -> bool
     let held = mask_at(book, h, k);
     let joined = held | signers;
     if joined == held {
-        false
-    } else {
-        set_mask(book, h, k, joined);
-        true
+        return Delivered::Known;
     }
+    set_mask(book, h, k, joined);
+    Delivered::Fresh
 }
 
 // Keeps what a certificate that is read states, by its kind.
-pub fn keep(book: &mut [u8], h: usize, frame: &[u8]) -> bool
+#[tactic(auto, using(crate::specs::Laws::KeptLaws::keeps_block, crate::specs::Laws::KeptLaws::dummies_join, crate::specs::Laws::KeptLaws::finalizations_join))]
+pub fn keep(book: &mut [u8], h: usize, frame: &[u8]) -> Delivered
     requires { CertificateRead book.old h frame.now }
     ensures { accepted_book result book.new ≡
         kept_at book.old h (keeps sha (observer_state book.old) frame.now) }

@@ -5,15 +5,18 @@
 
 mod printed;
 
+use answers::answer::Moved;
 use lines::input::read_full;
 use std::io;
 use std::io::{Read, Write};
 
 // Moves until idle and prints a line for each move. A season of three heights has no more than six moves in a row.
 fn move_until_idle(out: &mut impl Write, book: &mut [u8], reply: &mut [u8]) -> io::Result<()> {
-    let mut turns: u64 = 1000;
-    while turns > 0 && printed::moved(out, replica::make_move::make_move(book, reply))? {
-        turns -= 1;
+    for _ in 0..1000 {
+        match replica::make_move::make_move(book, reply) {
+            Ok(Moved::Idle) | Err(_) => break,
+            Ok(moved) => writeln!(out, "{moved}")?,
+        }
     }
     Ok(())
 }
@@ -25,7 +28,7 @@ fn next_frame(
     book: &mut [u8],
     reply: &mut [u8],
 ) -> io::Result<bool> {
-    let mut frame = [0u8; 224];
+    let mut frame = [0; 224];
     let got = read_full(input, &mut frame)?;
     if got == 0 {
         return Ok(false);
@@ -38,12 +41,16 @@ fn next_frame(
 fn main(rt: HostRuntime) -> io::Result<()> {
     let mut input = rt.stdin();
     let mut out = rt.stdout();
-    let mut book = [0u8; 3216];
-    let mut reply = [0u8; 448];
-    replica::open::open(&mut book, 4, 2, 3, &[1, 0, 1, 0, 1, 0, 1, 0], &[0, 1, 2]);
-    let mut turns = u64::MAX;
-    while turns > 0 && next_frame(&mut input, &mut out, &mut book, &mut reply)? {
-        turns -= 1;
+    let mut book = [0; 3216];
+    let mut reply = [0; 448];
+    let opened = replica::open::open(&mut book, 4, 2, 3, &[1, 0, 1, 0, 1, 0, 1, 0], &[0, 1, 2]);
+    if let Err(refusal) = opened {
+        return writeln!(out, "{refusal}");
+    }
+    for _ in 0..u64::MAX {
+        if !next_frame(&mut input, &mut out, &mut book, &mut reply)? {
+            break;
+        }
     }
     Ok(())
 }

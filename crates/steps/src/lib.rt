@@ -17,6 +17,7 @@ ghost use Rattle.book_fields.specs.Book.{SoundBook};
 
 use answers::answer::Moved;
 use book_fields::head::{current, own, set_flag};
+use book_fields::names::Flag;
 
 // Move 1: casts the dummy vote. Costs 224 stores to the reply and one to the book.
 pub fn cast_dummy_vote(book: &mut [u8], reply: &mut [u8]) -> Moved
@@ -27,7 +28,7 @@ pub fn cast_dummy_vote(book: &mut [u8], reply: &mut [u8]) -> Moved
 {
     let c = current(book);
     frames::write_dummy_vote(reply, own(book), c);
-    set_flag(book, 2);
+    set_flag(book, Flag::DummyVoted);
     Moved::Dummy(c)
 }
 
@@ -74,7 +75,7 @@ pub fn propose(book: &mut [u8], reply: &mut [u8], j: usize, known: &mut [u8]) ->
 {
     let c = current(book);
     write_proposal(book, reply, j, known);
-    set_flag(book, 8);
+    set_flag(book, Flag::Proposed);
     Moved::Offer(c)
 }
 
@@ -90,6 +91,6 @@ pub fn cast_block_vote(book: &mut [u8], reply: &mut [u8]) -> Moved
     let signer = own(book);
     let digest = sha256::sha256(book_fields::height::proposal(book, c));
     frames::write_block_vote(reply, signer, c, &digest);
-    set_flag(book, 4);
+    set_flag(book, Flag::BlockVoted);
     Moved::Vote(c)
 }

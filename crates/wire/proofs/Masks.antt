@@ -1,10 +1,8 @@
 -- The bit of a replica, and a replica's place in a mask that code has found.
-use Prim.Native.Nat.{ℕ, ◌*◌, ◌/◌, ◌%◌, ◌^◌, ◌≤◌}
-use native.Mathlib.Omega.{arith}
-use native.Mathlib.Nat.{mod-eq_of_lt, mod-lt, one-mul, pow-le-pow_right}
-use mathlib.Core.Path.{◌≡◌, sym, ap₂, ◌∙◌}
-use mathlib.Core.Bool.{Bool, cond}
-use lib.Pow.{pow-lt}
+use Rattle.std.specs.Prelude.{ℕ, ◌*◌, ◌/◌, ◌%◌, ◌^◌, ◌≤◌, ◌≡◌, Bool, cond}
+use Rattle.std.proofs.Common.{arith, mod-eq_of_lt, mod-lt, one-mul, sym, ap₂, ◌∙◌}
+use Rattle.std.proofs.Math.Nat.{pow-le-pow_right}
+use Rattle.std.proofs.Math.Pow.{pow-lt}
 use Rattle.protocol.specs.Mask.{in_mask}
 use Rattle.protocol.proofs.Laws.QuorumLaws.{bit_weight}
 

@@ -1,10 +1,6 @@
 -- A test that code makes in stages, and the part of a byte string to its end.
-use Prim.Native.Nat.{ℕ, ◌-◌}
-use native.Mathlib.Nat.{le_refl}
-use mathlib.Core.Path.{◌≡◌, ◌∙◌}
-use mathlib.Core.Bool.{Bool, true, false, ◌&&◌}
-use lib.ListN.{length, take, drop, length-drop}
-use lib.Seq.{take_all}
+use Rattle.std.specs.Prelude.{ℕ, ◌-◌, ◌≡◌, Bool, true, false, ◌&&◌, length, take, drop}
+use Rattle.std.proofs.Common.{le_refl, ◌∙◌, length-drop, take_all}
 use Rattle.protocol.specs.Bytes.{Bytes}
 
 -- ---- a test in stages: the first that fails decides

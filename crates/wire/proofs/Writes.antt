@@ -1,12 +1,18 @@
--- Pieces written one after the other make a block.
-use Prim.Native.Nat.{ℕ}
-use native.Mathlib.Omega.{arith}
-use mathlib.Core.Path.{◌≡◌, refl}
-use mathlib.Core.List.{[], ◌++◌}
-use lib.ListN.{length, length-append}
+-- What is written to a part of a slice, and pieces written one after the other that make a block.
+use Rattle.std.specs.Prelude.{ℕ, ◌≡◌, ◌+◌, ◌-◌, [], ◌++◌, length}
+use Rattle.std.proofs.Common.{arith, refl, length-append, drop-drop}
+use borrow.Rule.Slice.PartMut.{put_mid}
 use Rattle.protocol.specs.Bytes.{Bytes, le16, zeros, join, over_front, put}
 use Rattle.protocol.proofs.Laws.FrontLaws.{starts, goes_on}
 use Rattle.protocol.specs.Block.{new_block}
+
+-- the bytes from `i` on, as many as are written
+pub part_put : (bytes new : Bytes) (i count : ℕ) {part : Bytes} → part ≡ new → length new ≡ count →
+    put_mid i (i + count - i) bytes part ≡ put bytes i new
+unfolding put
+part_put bytes new i count e size =
+    let k : i + count - i ≡ length new = omega arith in
+    rw (e, k, drop-drop)
 
 -- the five pieces of a block with no entries
 pub block_starts : (block digest a b c d e : Bytes) (h parent : ℕ) → length digest ≡ 32

@@ -1,6 +1,6 @@
 -- The tests of a block in the groups in which the code makes them.
 use Rattle.std.specs.Prelude.{ℕ, ◌+◌, ◌*◌, Bool, [], ◌∷◌, drop, eqb, leb, ltb}
-use Rattle.protocol.specs.Bytes.{Bytes, byte_at, part, is_zero}
+use Rattle.protocol.specs.Bytes.{Bytes, part, is_zero}
 use Rattle.protocol.specs.Tests.{all_of, implies}
 use Rattle.protocol.specs.Block.{block_entries, entry_size, block_height, parent_height, entry_count, parent_digest}
 

@@ -32,56 +32,41 @@ pub fn entry_count(block: &[u8]) -> usize
 
 // Whether a block is as it must be at height `h`. Reads no byte more than three times, the fields first, and copies
 // none.
+#[tactic(auto, using(crate::proofs::BlockRows::block_is, crate::proofs::BlockRows::few_entries))]
 pub fn block_well_formed(block: &[u8], h: usize) -> bool
     ensures { result ≡ block_well_formed h block.now }
 {
-    if block.len() == 176 {
-        if fields_fit(block, h) {
-            rest_fits(block)
-        } else {
-            false
-        }
-    } else {
-        false
-    }
+    block.len() == 176 && fields_fit(block, h) && rest_fits(block)
 }
 
 // Whether the first five bytes fit height `h`. Costs five reads.
+#[tactic(auto, unfolding(crate::specs::Parts::block_fields, protocol::specs::Tests::all_of))]
 fn fields_fit(block: &[u8], h: usize) -> bool
     requires { length block.now ≡ 176 }
     ensures { result ≡ block_fields h block.now }
 {
-    let height = block_height(block) == h;
-    let parent = parent_height(block) < h;
-    let count = entry_count(block) <= 8;
-    height & (parent & count)
+    block_height(block) == h && parent_height(block) < h && entry_count(block) <= 8
 }
 
 // Whether a block with no parent has no digest either. Costs two reads, or a pass over 32 bytes.
+#[tactic(auto, unfolding(crate::specs::Parts::block_parent, protocol::specs::Tests::implies, protocol::specs::Block::parent_digest, protocol::specs::Bytes::part))]
 fn parent_fits(block: &[u8]) -> bool
     requires { length block.now ≡ 176 }
     ensures { result ≡ block_parent block.now }
 {
-    let parent = parent_height(block);
-    if parent == 0 {
-        is_zero(&block[16..48])
-    } else {
-        true
-    }
+    parent_height(block) != 0 || is_zero(&block[16..48])
 }
 
 // Whether the bytes that the fields leave unused are zero, those past the entries too. Costs a pass over each unused
 // byte.
+#[tactic(auto, using(crate::proofs::Rows::part_from), unfolding(crate::specs::Parts::block_rest, protocol::specs::Tests::all_of, protocol::specs::Bytes::part))]
 fn rest_fits(block: &[u8]) -> bool
     requires block_len { length block.now ≡ 176 }
     requires block_bound { entry_count block.now ≤ 8 }
     ensures { result ≡ block_rest block.now }
 {
-    let reserved = is_zero(&block[5..16]);
-    let parent = parent_fits(block);
     let used = 48 + 16 * entry_count(block);
-    let unused = is_zero(&block[used..]);
-    reserved & (parent & unused)
+    is_zero(&block[5..16]) && parent_fits(block) && is_zero(&block[used..])
 }
 
 // Makes the first 176 bytes the block of height `h` on a parent, with no entries. Costs one store for each of them.

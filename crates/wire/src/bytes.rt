@@ -6,24 +6,14 @@ ghost use Rattle.protocol.specs.Bytes.{byte_at, word16, le16, zeros, is_zero, sa
 pub fn is_zero(bytes: &[u8]) -> bool
     ensures { result ≡ is_zero bytes.now }
 {
-    let mut seen: u8 = 0;
-    let mut i = 0;
-    while i < bytes.len() {
-        seen = seen | bytes[i];
-        i += 1;
-    }
-    seen == 0
+    bytes.iter().fold(0, |seen, byte| seen | byte) == 0
 }
 
 // Whether two byte strings are equal. Costs one pass over strings of one length, and nothing for others.
 pub fn same_bytes(a: &[u8], b: &[u8]) -> bool
     ensures { result ≡ same a.now b.now }
 {
-    if a.len() == b.len() {
-        difference::difference(a, b, a.len()) == 0
-    } else {
-        false
-    }
+    a.len() == b.len() && difference::difference(a, b, a.len()) == 0
 }
 
 // The byte at `at`, as a wide number. Costs one read.
@@ -31,7 +21,7 @@ pub fn byte(bytes: &[u8], at: usize) -> usize
     requires { at < length bytes.now }
     ensures { (result ≡ byte_at bytes.now at) × (result < 256) }
 {
-    bytes[at] as usize
+    usize::from(bytes[at])
 }
 
 // Writes a byte at `at`. Costs one store.
@@ -48,9 +38,7 @@ pub fn word(bytes: &[u8], at: usize) -> usize
     requires { at + 1 < length bytes.now }
     ensures { (result ≡ word16 bytes.now at) × (result < 65536) }
 {
-    let low = bytes[at] as usize;
-    let high = bytes[at + 1] as usize;
-    low + 256 * high
+    usize::from(u16::from_le_bytes([bytes[at], bytes[at + 1]]))
 }
 
 // Writes a 16-bit number to the two bytes at `at`, its low byte first. Costs two stores.
@@ -59,8 +47,7 @@ pub fn put_word(bytes: &mut [u8], at: usize, value: usize)
     requires value_bound { value < 65536 }
     ensures { bytes.new ≡ put bytes.old at (le16 value) }
 {
-    bytes[at] = (value % 256) as u8;
-    bytes[at + 1] = (value / 256) as u8;
+    bytes[at..at + 2].copy_from_slice(&(value as u16).to_le_bytes());
 }
 
 // Copies `source` into `target`, from `at` on. Costs a read and a store for each byte of the source.
@@ -68,11 +55,7 @@ pub fn copy_to(target: &mut [u8], at: usize, source: &[u8])
     requires { at + length source.now ≤ length target.old }
     ensures { target.new ≡ put target.old at source.now }
 {
-    let mut i = 0;
-    while i < source.len() {
-        target[at + i] = source[i];
-        i += 1;
-    }
+    target[at..at + source.len()].copy_from_slice(source);
 }
 
 // Makes `count` bytes zero, from `at` on. Costs a store for each.
@@ -80,9 +63,5 @@ pub fn clear(target: &mut [u8], at: usize, count: usize)
     requires { at + count ≤ length target.old }
     ensures { target.new ≡ put target.old at (zeros count) }
 {
-    let mut i = 0;
-    while i < count {
-        target[at + i] = 0;
-        i += 1;
-    }
+    target[at..at + count].fill(0);
 }

@@ -1,10 +1,7 @@
--- After `i` turns the bits are gathered in which the first `i` bytes differ.
-use Rattle.std.proofs.Common.{◌≡◌, ◌<◌, ◌≤◌, ◌-◌}
+-- After some turns the bits are gathered in which as many first bytes differ.
+use Rattle.std.proofs.Common.{◌≡◌, length}
 use Rattle.difference.specs.Difference.{difference}
 use Rattle.difference.proofs.difference.Given as goal
 
-abbrev pub invariant-loop-i : goal.invariant-loop-i
-invariant-loop-i l = (l.seen ≡ difference l.a l.b l.i) × (l.i ≤ l.count) × (l.seen < 256)
-
-abbrev pub decreases-loop-i : goal.decreases-loop-i
-decreases-loop-i l = l.count - l.i
+abbrev pub invariant-loop-x : goal.invariant-loop-x
+invariant-loop-x l = l.seen ≡ difference l.a l.b (length l.yielded)

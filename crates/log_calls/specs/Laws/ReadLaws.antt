@@ -1,5 +1,5 @@
 -- What Register size and Read answer, and the chain that they walk.
-use Rattle.std.specs.Prelude.{ℕ, ◌*◌, ◌≡◌, Bool, true, false, ◌&&◌, cond, List, [], take, drop, leb}
+use Rattle.std.specs.Prelude.{ℕ, ◌*◌, ◌≡◌, Bool, true, false, ◌&&◌, cond, List, [], take, drop, leb, Ok, Err}
 use Rattle.std.proofs.Math.Path.{sym, ap}
 use Rattle.std.proofs.Common.{◌∙◌}
 use Rattle.std.proofs.Math.ListN.{length}
@@ -14,7 +14,7 @@ use Rattle.protocol.proofs.Laws.LogLaws.{view_formed, finalized_linked}
 use Rattle.protocol.specs.Read.{log_size, size_call, read_part, read_buffer}
 use Rattle.chains.specs.Walkable.{Walkable}
 use Rattle.distinct_entries.specs.Taking.{part_read}
-use Rattle.answers.specs.declared.answer.Size.TheVariants as Size
+use Rattle.answers.specs.declared.refusal.Refusal.{Refusal}
 use Rattle.answers.specs.Answers.{size_answer}
 use Rattle.book_fields.specs.Book.{SoundBook}
 
@@ -34,13 +34,13 @@ log_at_lem s g e = ap (λ (h : ℕ). log_of (view s) h) e
 
 -- ---- Register size
 module _ (book : Bytes) where
-  pub size_unsound : sound sha256 book ≡ false → size_answer (Size.Refused 1) ≡ size_call sha256 book
-  unfolding size_answer size_call
+  pub size_unsound : sound sha256 book ≡ false → size_answer (Err Refusal.Unsound) ≡ size_call sha256 book
+  unfolding size_call
   size_unsound e = rw e
 
   pub size_sound : (count : ℕ) → sound sha256 book ≡ true → count ≡ length (log (decode book)) →
-      size_answer (Size.Bytes (16 * count)) ≡ size_call sha256 book
-  unfolding size_answer size_call log_size
+      size_answer (Ok (16 * count)) ≡ size_call sha256 book
+  unfolding size_call log_size
   size_sound count e f = rw (e, f)
 
 -- ---- Read, of a book of either kind: whether it is sound, and what it says

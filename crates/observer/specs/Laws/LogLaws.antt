@@ -1,16 +1,17 @@
 -- What Register size and Read of an observer answer, and the chain that they walk.
-use Rattle.std.specs.Prelude.{ℕ, ◌*◌, ◌≡◌, true, false, length, take}
+use Rattle.std.specs.Prelude.{ℕ, ◌*◌, ◌≡◌, true, false, length, take, Ok, Err}
 use Rattle.sha256.specs.Digest.{sha256}
 use Rattle.protocol.specs.Bytes.{Bytes, over_front}
 use Rattle.protocol.specs.Sound.{view, log}
 use Rattle.protocol.specs.Observer.{observer_state}
 use Rattle.protocol.specs.ObserverSound.{observer_sound}
-use Rattle.protocol.specs.ObserverCalls.{observer_log_size, observer_size_call, observer_read_part, observer_read_buffer}
+use Rattle.protocol.specs.ObserverCalls.{observer_log_size, observer_size_call, observer_read_part}
+use Rattle.protocol.specs.ObserverCalls.{observer_read_buffer}
 use Rattle.protocol.proofs.Laws.ObserverSoundLaws.{certified_observer}
 use Rattle.protocol.proofs.Laws.LogLaws.{view_formed, finalized_linked}
 use Rattle.chains.specs.Walkable.{WalkableAs}
 use Rattle.distinct_entries.specs.Taking.{part_read}
-use Rattle.answers.specs.declared.answer.Size.TheVariants as Size
+use Rattle.answers.specs.declared.refusal.Refusal.{Refusal}
 use Rattle.answers.specs.Answers.{size_answer}
 use Rattle.book_fields.specs.Book.{SoundObserverBook}
 use Rattle.book_fields.specs.declared.kind.Kind.TheVariants.{Observer}
@@ -30,14 +31,14 @@ observer_walkable book g s e =
 -- ---- Register size
 module _ (book : Bytes) where
   pub observer_size_unsound : observer_sound sha256 book ≡ false →
-      size_answer (Size.Refused 1) ≡ observer_size_call sha256 book
-  unfolding size_answer observer_size_call
+      size_answer (Err Refusal.Unsound) ≡ observer_size_call sha256 book
+  unfolding observer_size_call
   observer_size_unsound e = rw e
 
   pub observer_size_sound : (count : ℕ) → observer_sound sha256 book ≡ true →
       count ≡ length (log (observer_state book)) →
-      size_answer (Size.Bytes (16 * count)) ≡ observer_size_call sha256 book
-  unfolding size_answer observer_size_call observer_log_size
+      size_answer (Ok (16 * count)) ≡ observer_size_call sha256 book
+  unfolding observer_size_call observer_log_size
   observer_size_sound count e f = rw (e, f)
 
 -- ---- Read

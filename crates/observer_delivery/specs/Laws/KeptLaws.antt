@@ -1,5 +1,5 @@
 -- What a certificate keeps, by its kind, and what an observer's delivery leaves.
-use Rattle.std.specs.Prelude.{ℕ, ◌^◌, ◌<◌, ◌≡◌, ◌⊎◌, ◌≢◌, Bool, true, false, cond, eqb}
+use Rattle.std.specs.Prelude.{ℕ, ◌^◌, ◌<◌, ◌≡◌, ◌⊎◌, ◌≢◌, true, false, Bool, cond, eqb}
 use Rattle.std.proofs.Common.{arith, ◌∙◌, inl, inr, true≢false}
 use Rattle.std.proofs.Math.Path.{refl, sym, ap}
 use Rattle.std.proofs.Math.Option.{Option, some, none}
@@ -20,6 +20,8 @@ use Rattle.protocol.proofs.Laws.ObserverCodecLaws.{last_observed, count_observed
 use Rattle.protocol.proofs.Laws.ObserverDeliverLaws.{ObserverAccepts, observer_accepts}
 use Rattle.book_fields.specs.Book.{SoundObserverBook}
 use Rattle.book_fields.specs.Numbered.{mask_at, with_mask_at}
+use Rattle.answers.specs.declared.answer.Delivered.{Delivered}
+use Rattle.answers.specs.declared.answer.Delivered.TheVariants.{Fresh, Known}
 use Rattle.contradictions.specs.Accepted.{accepted_book}
 use Rattle.delivery.specs.Kept.{join_signers}
 use Rattle.delivery.specs.Laws.JoinLaws.{signers_join}
@@ -29,14 +31,14 @@ use Rattle.observer_delivery.specs.Certificate.{CertificateRead, kept_at}
 -- ---- known and new
 module _ (book : Bytes) (h : ℕ) where
   pub known_certificate : (b : Bool) (y : Height) → b ≡ true →
-      accepted_book false book ≡ kept_at book h (cond b none (some y))
-  unfolding accepted_book kept_at
+      accepted_book Known book ≡ kept_at book h (cond b none (some y))
+  unfolding kept_at
   known_certificate b y e = rw e
 
   pub new_certificate : (b : Bool) (y : Height) (after : Bytes) → b ≡ false →
       after ≡ encode_observer (observed (with_height (observer_state book) h y)) →
-      accepted_book true after ≡ kept_at book h (cond b none (some y))
-  unfolding accepted_book kept_at
+      accepted_book Fresh after ≡ kept_at book h (cond b none (some y))
+  unfolding kept_at
   new_certificate b y after e f = rw (e, f)
 
 -- ---- the kind of a certificate decides what it keeps
@@ -100,13 +102,12 @@ module _ (digest : Bytes → Bytes) (book frame : Bytes) where
 
     module _ (passes : first_refusal (frame_rows (observer_state book) frame) ≡ none) (h : ℕ)
         (height : h ≡ frame_height frame) where
-      pub deliver_kept : (changes is-fresh : Bool) (after : Bytes) →
-          accepted_book changes after ≡ kept_at book h (keep digest (observer_state book) frame) → changes ≡ is-fresh →
-          observer_deliver_call digest book frame ≡ accepted_book is-fresh after
+      pub deliver_kept : (answer : Delivered) (after : Bytes) →
+          accepted_book answer after ≡ kept_at book h (keep digest (observer_state book) frame) →
+          observer_deliver_call digest book frame ≡ accepted_book answer after
       unfolding observer_deliver_call unless_refused
-      deliver_kept changes is-fresh after keeps same =
-          rw (rows_are, passes) (at_height_lem (keep digest (observer_state book) frame) ∙ sym keeps
-          ∙ ap (λ (b : Bool). accepted_book b after) same)
+      deliver_kept answer after keeps =
+          rw (rows_are, passes) (at_height_lem (keep digest (observer_state book) frame) ∙ sym keeps)
         where
           at_height_lem : (y : Option Height) → observer_kept book frame y ≡ kept_at book h y
           at_height_lem none = unfold observer_kept kept_at in refl

@@ -1,6 +1,5 @@
 -- `leaves_room` meets its contract: with fewer than 32 pending, fewer than 32 stay pending.
-use mathlib.Core.Path.{refl, ap}
-use lib.Dec.{ltb}
+use Rattle.std.proofs.Common.{◌∙◌, lt-ltb, refl, ap, ltb}
 use Rattle.protocol.specs.State.{decode}
 use Rattle.log_calls.specs.Laws.ReadLaws.{walkable}
 use Rattle.log_calls.proofs.Numbers.{few_stay}
@@ -13,7 +12,9 @@ unlogged_count-requires c = record {
 }
 
 pub returns-then-count-lt-MAXIMUM_PENDING : goal.returns-then-count-lt-MAXIMUM_PENDING
-returns-then-count-lt-MAXIMUM_PENDING c = few_stay (decode c.args.book.now)
+returns-then-count-lt-MAXIMUM_PENDING c =
+    lt-ltb c.pending_count-count.result 32 c.if-count-lt-MAXIMUM_PENDING.true
+    ∙ few_stay (decode c.args.book.now)
     c.pending_count-count.result c.pending_count-count.ensures.0 c.if-count-lt-MAXIMUM_PENDING.true
 
 pub returns-else-count-lt-MAXIMUM_PENDING : goal.returns-else-count-lt-MAXIMUM_PENDING

@@ -1,6 +1,5 @@
 -- `log_count` meets its contract: the log ends at the finalized height.
-use mathlib.Core.Path.{ap, ◌∙◌}
-use lib.ListN.{length}
+use Rattle.std.proofs.Common.{ap, ◌∙◌, length}
 use Rattle.protocol.specs.Observer.{observer_state}
 use Rattle.log_calls.specs.Laws.ReadLaws.{log_at_lem}
 use Rattle.observer.specs.Laws.LogLaws.{observer_walkable}

@@ -1,5 +1,5 @@
 -- `add_entry` meets its contract: its two writes are the two pieces put.
-use mathlib.Core.Path.{◌∙◌}
+use Rattle.std.proofs.Common.{◌∙◌}
 use Rattle.wire.proofs.block.add_entry.Goals as goal
 
 pub returns : goal.returns

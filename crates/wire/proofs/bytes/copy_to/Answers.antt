@@ -1,30 +1,7 @@
--- `copy_to` meets its contract: after `i` turns the first `i` bytes of the source stand in the target.
-use Prim.Native.Nat.{◌≤◌, ◌-◌}
-use native.Mathlib.Omega.{arith}
-use native.Mathlib.Numerals.{add-one}
-use mathlib.Core.Path.{◌≡◌, refl, ◌∙◌}
-use lib.ListN.{length, length-set}
-use lib.Seq.{paste, paste-zero, paste-suc}
-use Rattle.protocol.proofs.Laws.BytesLaws.{put_paste}
+-- `copy_to` meets its contract: the part that is written is as long as the source.
+use Rattle.std.proofs.Common.{refl}
+use Rattle.wire.proofs.Writes.{part_put}
 use Rattle.wire.proofs.bytes.copy_to.Goals as goal
 
-pub loop-i-init : goal.loop-i-init
-loop-i-init c = (omega arith, paste-zero c.args.target.now c.args.at c.args.source.now, refl)
-
-pub loop-i-preserved : goal.loop-i-preserved
-loop-i-preserved c = let at = c.loop-i in
-    let args = c.args in (
-      omega arith,
-      rw (at.invariant.1, add-one) (paste-suc args.target.now args.at args.source.now at.i 0 (omega arith)
-          (omega arith)),
-      rw length-set at.invariant.2,
-    )
-
-pub shape_of-target : goal.shape_of-target
-shape_of-target c = c.loop-i.invariant.2
-
 pub returns : goal.returns
-returns c = let at = c.loop-i in
-    let args = c.args in
-    let end : at.i ≡ length args.source.now = omega arith in
-    at.invariant.1 ∙ rw end (put_paste args.target.now args.source.now args.at)
+returns c = part_put c.args.target.now c.args.source.now c.args.at _ c.copy_from_slice.ensures.after refl

@@ -1,5 +1,5 @@
 -- `put_byte` meets its contract: one store is one byte put.
-use mathlib.Core.Path.{sym}
+use Rattle.std.proofs.Common.{sym}
 use Rattle.protocol.proofs.Laws.BytesLaws.{put_byte}
 use Rattle.wire.proofs.bytes.put_byte.Goals as goal
 

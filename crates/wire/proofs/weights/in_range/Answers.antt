@@ -1,12 +1,7 @@
 -- `in_range` meets its contract: what it found good, and the weights that are left, say what all of them say.
-use Prim.Native.Nat.{ℕ, suc, ◌+◌, ◌-◌, ◌*◌, ◌≤◌, ◌<◌}
-use native.Mathlib.Omega.{arith}
-use native.Mathlib.Numerals.{add-one}
-use mathlib.Core.Path.{◌≡◌, refl, sym, ap, subst, ◌∙◌}
-use mathlib.Core.Bool.{Bool, true, ◌&&◌, and-true, and_assoc}
-use mathlib.Core.List.{List, [], ◌∷◌}
-use lib.ListN.{length, drop, get_or, drop_of_length-le}
-use lib.Seq.{drop-cons}
+use Rattle.std.specs.Prelude.{ℕ, suc, ◌≡◌, ◌+◌, ◌<◌, Bool, ◌&&◌, List, [], ◌∷◌, length, get_or, drop}
+use Rattle.std.proofs.Common.{rules, arith, add-one, refl, sym, subst, ◌∙◌, drop_of_length-le, drop-cons}
+use Rattle.std.proofs.Math.Bool.{and-true, and_assoc}
 use Rattle.protocol.specs.Bytes.{all}
 use Rattle.protocol.specs.Tests.{in_range}
 use Rattle.protocol.specs.State.{words, maximum_weight}
@@ -25,19 +20,16 @@ more p ws s w good low e before =
     split = drop-cons ws s 0 low ∙ rw e
 
 pub loop-s-init : goal.loop-s-init
-loop-s-init c = (omega arith, refl)
+loop-s-init c = refl
 
 pub loop-s-preserved : goal.loop-s-preserved
 unfolding in_range
 loop-s-preserved c = let weights = c.args.weights.now in
     let n = c.args.n in
     let at = c.loop-s in
-    let low : at.s < n = omega arith in
-    let each = words_count n weights in (
-      omega arith,
-      more (λ w. in_range 1 maximum_weight w) (words n weights) at.s _ at.good (omega (arith, each, low))
-          (c.word-weight.ensures.0 ∙ sym (word_at n weights at.s low)) at.invariant.1,
-    )
+    let test : c.contains-good.result ≡ in_range 1 maximum_weight c.word.result = search rules in
+    rw test (more (λ w. in_range 1 maximum_weight w) (words n weights) at.s _ at.good (omega (arith, words_count n weights))
+    (c.word.ensures.0 ∙ sym (word_at n weights at.s (omega arith))) at.invariant)
 
 pub returns : goal.returns
 unfolding all
@@ -46,7 +38,4 @@ returns c = let weights = c.args.weights.now in
     let at = c.loop-s in
     let none : drop at.s (words n weights) ≡ [] =
     drop_of_length-le (words n weights) {i = at.s} (omega (arith, words_count n weights)) in
-    let whole : (at.good && all (λ w. in_range 1 maximum_weight w) []) ≡
-    all (λ w. in_range 1 maximum_weight w) (words n weights) =
-    rw none at at.invariant.1 in
-    sym (and-true at.good) ∙ whole
+    sym (and-true at.good) ∙ (rw none at at.invariant)
