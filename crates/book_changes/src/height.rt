@@ -8,7 +8,8 @@ ghost use Rattle.book_fields.specs.Book.{Ready, Within, height_in, changed};
 ghost use Rattle.book_fields.specs.Numbered.{with_mask_at};
 
 use crate::inside::copy_inside;
-use book_fields::height::{body_at, content_at, status, voter_mask};
+use book_fields::height::{body_at, content_at, mask_at, status};
+use book_fields::names::MaskKind;
 use wire::bytes::{copy_to, put_word};
 use wire::mask::bit;
 
@@ -94,7 +95,7 @@ pub fn set_vote(book: &mut [u8], h: usize, s: usize, digest: &[u8])
 {
     let content = content_at(h);
     let body = body_at(book, h);
-    let mask = voter_mask(book, h);
+    let mask = mask_at(book, h, MaskKind::Voters);
     put_word(book, content + 8, mask + bit(s));
     copy_to(book, body + (352 + 32 * s), digest);
 }

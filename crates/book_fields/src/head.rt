@@ -7,6 +7,9 @@ ghost use Rattle.protocol.specs.State.{head_number, head_put, most_heights};
 ghost use Rattle.protocol.specs.Move.{is_running};
 ghost use Rattle.protocol.specs.Block.{maximum_heights};
 ghost use Rattle.book_fields.specs.Book.{Readable, Ready, recoded};
+ghost use Rattle.book_fields.specs.Numbered.{bit_of};
+
+use crate::names::Flag;
 
 // A number of any head: in a byte, and in edition 3 in two bytes elsewhere. Costs two or three reads.
 pub fn number(book: &[u8], short: usize, long: usize) -> usize
@@ -118,22 +121,22 @@ pub fn is_running(book: &[u8]) -> bool
     current(book) <= heights(book)
 }
 
-// Whether flag `k` of the current height is set: 1 timer fired, 2 dummy vote cast, 4 block vote cast, 8 proposed.
-pub fn flag(book: &[u8], k: usize) -> bool
-    requires readable { Readable book.now }
-    requires le_k { 1 ≤ k }
-    ensures { result ≡ is_flagged k (decode book.now) }
+// Whether a flag of the current height is set.
+pub fn flag(book: &[u8], which: Flag) -> bool
+    requires { Readable book.now }
+    ensures { result ≡ is_flagged (bit_of which) (decode book.now) }
 {
-    flags(book) / k % 2 == 1
+    let bit = usize::from(which);
+    flags(book) / bit % 2 == 1
 }
 
-// Sets flag `k` of the current height, which is not set. Costs one store.
-pub fn set_flag(book: &mut [u8], k: usize)
+// Sets a flag of the current height, which is not set. Costs one store.
+pub fn set_flag(book: &mut [u8], which: Flag)
     requires ready { Ready book.old }
-    requires book_bound { ((decode book.old).flags < 16) × (k ≤ 8) }
-    ensures { book.new ≡ recoded book.old (with_flag k) }
+    requires book_bound { (decode book.old).flags < 16 }
+    ensures { book.new ≡ recoded book.old (with_flag (bit_of which)) }
 {
-    let set = flags(book) + k;
+    let set = flags(book) + usize::from(which);
     book[3] = set as u8;
 }
 

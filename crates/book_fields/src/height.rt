@@ -4,7 +4,9 @@ ghost use Rattle.protocol.specs.State.{holds_proposal, is_notarized, vote_of, bo
 ghost use Rattle.protocol.specs.Block.{maximum_heights};
 ghost use Rattle.protocol.specs.Mask.{mask_limit};
 ghost use Rattle.book_fields.specs.Book.{Readable, Within, height_in};
-ghost use Rattle.book_fields.specs.Numbered.{mask_at, block_at};
+ghost use Rattle.book_fields.specs.Numbered.{mask_at, place_of, block_at};
+
+use crate::names::MaskKind;
 
 // Where the contents of height `h` start.
 pub fn content_at(h: usize) -> usize
@@ -58,48 +60,15 @@ pub fn is_notarized(book: &[u8], h: usize) -> bool
     2 <= status(book, h)
 }
 
-// Mask `k` of height `h`, of the four in its contents: 0 of its certificate, 1 of the dummy votes, 2 of the finalize
-// statements, 3 of the voters.
-pub fn mask_at(book: &[u8], h: usize, k: usize) -> usize
+// A mask of height `h`.
+pub fn mask_at(book: &[u8], h: usize, which: MaskKind) -> usize
     requires readable { Readable book.now }
     requires within { Within book.now h }
-    requires k_bound { k < 4 }
-    ensures { (result ≡ mask_at (height_in book.now h) k) × (result < mask_limit) }
+    ensures { (result ≡ mask_at (height_in book.now h) (place_of which)) × (result < mask_limit) }
 {
     let from = content_at(h);
+    let k = usize::from(which);
     wire::bytes::word(book, from + (2 + 2 * k))
-}
-
-pub fn certificate_mask(book: &[u8], h: usize) -> usize
-    requires readable { Readable book.now }
-    requires within { Within book.now h }
-    ensures { (result ≡ (height_in book.now h).certificate_mask) × (result < mask_limit) }
-{
-    mask_at(book, h, 0)
-}
-
-pub fn dummy_mask(book: &[u8], h: usize) -> usize
-    requires readable { Readable book.now }
-    requires within { Within book.now h }
-    ensures { (result ≡ (height_in book.now h).dummy_mask) × (result < mask_limit) }
-{
-    mask_at(book, h, 1)
-}
-
-pub fn finalize_mask(book: &[u8], h: usize) -> usize
-    requires readable { Readable book.now }
-    requires within { Within book.now h }
-    ensures { (result ≡ (height_in book.now h).finalize_mask) × (result < mask_limit) }
-{
-    mask_at(book, h, 2)
-}
-
-pub fn voter_mask(book: &[u8], h: usize) -> usize
-    requires readable { Readable book.now }
-    requires within { Within book.now h }
-    ensures { (result ≡ (height_in book.now h).voter_mask) × (result < mask_limit) }
-{
-    mask_at(book, h, 3)
 }
 
 // Block `k` of height `h`: 0 the held proposal's place, 1 the notarized block's, 176 bytes each.

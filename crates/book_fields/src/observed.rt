@@ -5,9 +5,9 @@ ghost use Rattle.protocol.specs.Observer.{observer_state};
 ghost use Rattle.protocol.specs.Block.{maximum_heights};
 ghost use Rattle.protocol.specs.Mask.{mask_limit};
 ghost use Rattle.book_fields.specs.Book.{ObserverReadable, Within, observed_in};
-ghost use Rattle.book_fields.specs.Numbered.{mask_at};
+ghost use Rattle.book_fields.specs.Numbered.{mask_at, place_of};
 
-use crate::kind::Kind;
+use crate::names::MaskKind;
 
 // The finalized height.
 pub fn finalized(book: &[u8]) -> usize
@@ -31,7 +31,7 @@ pub fn block_at(book: &[u8], h: usize) -> usize
     requires within { Within book.now h }
     ensures { result ≡ 64 + 8 * book_heights book.now + 176 * (h - 1) }
 {
-    let heights = crate::kind::heights(Kind::Observer, book);
+    let heights = crate::head::good_number(book, 2, 40);
     64 + 8 * heights + 176 * (h - 1)
 }
 
@@ -52,15 +52,15 @@ pub fn is_notarized(book: &[u8], h: usize) -> bool
     2 <= status(book, h)
 }
 
-// Mask `k` of height `h`, of the three in its contents: 0 of its certificate, 1 of the dummy votes, 2 of the finalize
-// statements.
-pub fn mask_at(book: &[u8], h: usize, k: usize) -> usize
+// A mask of height `h`; there is none of voters.
+pub fn mask_at(book: &[u8], h: usize, which: MaskKind) -> usize
     requires observer_readable { ObserverReadable book.now }
     requires within { Within book.now h }
-    requires k_bound { k < 3 }
-    ensures { (result ≡ mask_at (observed_in book.now h) k) × (result < mask_limit) }
+    requires no_voters { place_of which < 3 }
+    ensures { (result ≡ mask_at (observed_in book.now h) (place_of which)) × (result < mask_limit) }
 {
     let from = content_at(h);
+    let k = usize::from(which);
     wire::bytes::word(book, from + (2 + 2 * k))
 }
 

@@ -1,9 +1,8 @@
--- The answer of `parent_of` as the protocol's option.
-use Rattle.std.specs.Prelude.{ℕ}
-use Rattle.std.proofs.Math.Option.{Option, some, none}
-use Rattle.linking.specs.declared.links.Parent.{Parent}
-use Rattle.linking.specs.declared.links.Parent.TheVariants.{At, Nothing}
+-- The answer of `parent_of` as the protocol's option, which is an older one than the language's own.
+use Rattle.std.specs.Prelude.{ℕ, Option, Some, None}
+use Rattle.std.proofs.Math.Option.{some, none}
+use Rattle.std.proofs.Math.Option as math
 
-unfoldable pub parent_option : Parent → Option ℕ
-parent_option (At j) = some j
-parent_option Nothing = none
+abbrev pub parent_option : Option ℕ → math.Option ℕ
+parent_option (Some j) = some j
+parent_option None = none

@@ -10,5 +10,5 @@ returns c = let small = c.requires.s_lt_maximum_replicas in
     vote_set c.args.book.now c.requires.ready c.args.h c.requires.within _
     c.content_at-content.ensures _ c.body_at-body.ensures
     c.args.s c.args.digest.now small c.requires.digest_len _
-    (omega (arith, c.voter_mask-mask.ensures.0, c.bit.ensures.0)) _
+    (omega (arith, c.mask_at-mask.ensures.0, c.bit.ensures.0)) _
     c.put_word.ensures

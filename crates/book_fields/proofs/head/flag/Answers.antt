@@ -4,4 +4,4 @@ use Rattle.book_fields.proofs.head.flag.Goals as goal
 
 pub returns : goal.returns
 unfolding flag
-returns c = rw c.flags.ensures.0
+returns c = rw (c.flags.ensures.0, c.from-bit.ensures)

@@ -1,11 +1,11 @@
--- `mask_at_lem` meets its contract: the 16-bit number that it reads stands at the place of that mask.
-use mathlib.Core.Path.{◌∙◌}
+-- `mask_at` meets its contract: the 16-bit number that it reads stands at the place of that mask.
+use Rattle.std.proofs.Common.{◌∙◌}
 use Rattle.book_fields.proofs.Places.{mask_at_lem}
 use Rattle.book_fields.proofs.height.mask_at.Goals as goal
 
 pub returns : goal.returns
 returns c = (
-  c.word.ensures.0 ∙ mask_at_lem c.args.book.now c.args.h c.requires.within _
-      c.content_at-from.ensures c.args.k c.requires.k_bound,
+  rw c.from-k.ensures at c.word.ensures.0 ∙ mask_at_lem c.args.book.now c.args.h c.requires.within _
+      c.content_at-from.ensures c.args.which,
   c.word.ensures.1,
 )

@@ -1,12 +1,11 @@
--- `count` meets its contract: after `s` turns the sum is that of the bits below `s`, and the rest has those from `s`
--- on.
-use Prim.Native.Nat.{◌/◌, ◌^◌, ◌≤◌, ◌-◌}
-use mathlib.Core.Path.{◌≡◌}
+-- After `s` turns the sum is that of the bits below `s`, and the rest has those from `s` on.
+use Rattle.std.proofs.Common.{◌≡◌, ◌/◌, ◌^◌, ◌≤◌}
 use Rattle.protocol.specs.Mask.{ones}
 use Rattle.book_fields.proofs.weighing.count.Given as goal
 
 abbrev pub invariant-loop-s : goal.invariant-loop-s
-invariant-loop-s l = (l.s ≤ l.n) × (l.rest ≡ l.mask / 2 ^ l.s) × (l.sum ≡ ones l.mask l.s) × (l.sum ≤ l.s)
-
-abbrev pub decreases-loop-s : goal.decreases-loop-s
-decreases-loop-s l = l.n - l.s
+invariant-loop-s l = record {
+  bits_left : l.rest ≡ l.mask / 2 ^ l.s;
+  bits_counted : l.sum ≡ ones l.mask l.s;
+  few : l.sum ≤ l.s;
+}

@@ -1,8 +1,5 @@
--- `parent_of` meets its contract: the best chain up to the height reached is the best up to the top, since each height
--- passed is a dummy and not linked.
-use Prim.Native.Nat.{◌≤◌}
-use mathlib.Core.Path.{◌≡◌}
-use lib.ListN.{length}
+-- The best chain up to the height reached is the best up to the top, since each height passed is a dummy and not linked.
+use Rattle.std.proofs.Common.{◌≡◌}
 use Rattle.sha256.specs.Digest.{sha256}
 use Rattle.book_fields.specs.Book.{view_of}
 use Rattle.protocol.specs.View.{parent_of}
@@ -10,8 +7,7 @@ use Rattle.memory.specs.Memo.{MemoAs}
 use Rattle.linking.proofs.linking.parent_of.Given as goal
 
 abbrev pub invariant-loop-h : goal.invariant-loop-h
-invariant-loop-h l = (l.h ≤ l.top) × (parent_of sha256 (view_of l.kind l.book) l.h ≡ parent_of sha256 (view_of l.kind l.book) l.top) × MemoAs l.kind l.book
-    l.known × (length l.known ≡ length l.initial.known)
-
-abbrev pub decreases-loop-h : goal.decreases-loop-h
-decreases-loop-h l = l.h
+invariant-loop-h g l = record {
+  same_parent : parent_of sha256 (view_of g.K.Kind.kind l.book) l.h ≡ parent_of sha256 (view_of g.K.Kind.kind l.book) l.top;
+  memo : MemoAs g.K.Kind.kind l.book l.known;
+}
