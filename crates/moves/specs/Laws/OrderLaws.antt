@@ -1,7 +1,7 @@
 -- The order of the moves: which step is taken, by the tests that failed before it, and what the call then answers.
 use Rattle.std.specs.Prelude.{ℕ, ◌≤◌, ◌<◌, ◌≡◌, refl, true, false, length, leb, Result, Ok, Err}
 use Rattle.std.proofs.Common.{arith, ap, sym, subst}
-use borrow.Author.Tests.{lt-ltb, le-ltb}
+use Rattle.std.proofs.lemmas.Bool.{lt-ltb, le-ltb}
 use Rattle.sha256.specs.Digest.{sha256}
 use Rattle.protocol.specs.Bytes.{Bytes, zeros, join, over_front}
 use Rattle.protocol.specs.Tests.{first_refusal}

@@ -2,7 +2,7 @@
 use Rattle.std.specs.Prelude.{ℕ, ◌+◌, ◌≡◌, Bool, true, false, not, cond, length}
 use Rattle.std.proofs.Common.{arith, ◌∙◌}
 use Rattle.std.proofs.Math.Path.{ap}
-use mathlib.Core.List.{[], ◌∷◌, ◌++◌, append-nil}
+use Rattle.std.proofs.Common.{[], ◌∷◌, ◌++◌, append-nil}
 use Rattle.sha256.specs.Digest.{sha256}
 use Rattle.protocol.specs.Bytes.{Bytes, zeros, join, over_front, put}
 use Rattle.protocol.proofs.Laws.BytesLaws.{length_zeros}

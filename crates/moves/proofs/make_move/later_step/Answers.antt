@@ -1,5 +1,5 @@
 -- `later_step` meets its contract: the first of the last three moves whose test passes, by what its test has found.
-use mathlib.Core.Path.{sym, subst, ◌∙◌}
+use Rattle.std.proofs.Common.{sym, subst, ◌∙◌}
 use Rattle.sha256.specs.Digest.{sha256}
 use Rattle.protocol.specs.State.{decode}
 use Rattle.protocol.proofs.Laws.MoveLaws.{propose_rows, block_vote_rows}
