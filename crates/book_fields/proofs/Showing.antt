@@ -2,34 +2,24 @@
 -- all kinds have alike.
 use Prim.Native.Nat.{◌≤◌}
 use native.Mathlib.Omega.{arith}
-use mathlib.Core.Path.{◌≡◌, refl, sym, ap, subst}
+use mathlib.Core.Path.{◌≡◌, refl}
 use mathlib.Core.Bool.{Bool, true, false, cond}
 use mir.Val.{bool_byte}
 use lib.ListN.{length}
 use Rattle.protocol.specs.Bytes.{Bytes, byte_at}
 use Rattle.protocol.specs.Sound.{view}
-use Rattle.protocol.specs.View.{View}
 use Rattle.book_fields.specs.Book.{Shown, view_of}
-use Rattle.book_fields.specs.declared.kind.Kind.{Kind}
-use Rattle.book_fields.specs.declared.kind.Kind.TheVariants.{Replica, Observer}
-
--- ---- of the kind that an arm has found
-pub shown_as : (kind known : Kind) (book : Bytes) → kind ≡ known → Shown kind book → Shown known book
-shown_as kind known book e shown = subst (λ (k : Kind). Shown k book) e shown
-
-pub seen_as : (kind known : Kind) (book : Bytes) {A : Type 0} (field : View → A) → kind ≡ known →
-    field (view_of known book) ≡ field (view_of kind book)
-seen_as kind known book field e = ap (λ (k : Kind). field (view_of k book)) (sym e)
+use Rattle.book_fields.specs.Kinds.{BookKind, ReplicaBook, ObserverBook}
 
 -- ---- the head of any kind
-pub head_room : (kind : Kind) (book : Bytes) → Shown kind book → 64 ≤ length book
-head_room Replica book shown = omega (arith, shown.sized.size)
-head_room Observer book shown = omega (arith, shown.sized.size)
+pub head_room : (kind : BookKind) (book : Bytes) → Shown kind book → 64 ≤ length book
+head_room ReplicaBook book shown = omega (arith, shown.sized.size)
+head_room ObserverBook book shown = omega (arith, shown.sized.size)
 
-pub replicas_at : (kind : Kind) (book : Bytes) → Shown kind book → byte_at book 0 ≡ (view_of kind book).n
+pub replicas_at : (kind : BookKind) (book : Bytes) → Shown kind book → byte_at book 0 ≡ (view_of kind book).n
 unfolding view
-replicas_at Replica book shown = shown.sized.n_byte
-replicas_at Observer book shown = shown.sized.n_byte
+replicas_at ReplicaBook book shown = shown.sized.n_byte
+replicas_at ObserverBook book shown = shown.sized.n_byte
 
 -- ---- a test as a number
 pub byte_number : (t : Bool) → bool_byte t ≡ cond t 1 0

@@ -10,8 +10,7 @@ use Rattle.protocol.specs.Sound.{view, sound}
 use Rattle.protocol.specs.Observer.{observer_state, decode_observer, encode_observer, observed}
 use Rattle.protocol.specs.ObserverSound.{observer_sound}
 use Rattle.protocol.specs.SoundObserver.{SoundObserver}
-use Rattle.book_fields.specs.declared.kind.Kind.{Kind}
-use Rattle.book_fields.specs.declared.kind.Kind.TheVariants.{Replica, Observer}
+use Rattle.book_fields.specs.Kinds.{BookKind, ReplicaBook, ObserverBook}
 
 -- ---- short names for what contracts speak of
 -- what a book keeps of height `h`
@@ -45,9 +44,9 @@ observer_changed book h change =
 
 -- ---- the kinds of books
 -- the view that a book of this kind gives
-abbrev pub view_of : Kind → Bytes → View
-view_of Replica book = book_view book
-view_of Observer book = view (observer_state book)
+abbrev pub view_of : BookKind → Bytes → View
+view_of ReplicaBook book = book_view book
+view_of ObserverBook book = view (observer_state book)
 
 -- the length is that of the H heights that the head says: of a replica's book
 pub record Sized (book : Bytes) : Type 0 where
@@ -70,12 +69,12 @@ pub record SizedObserver (book : Bytes) : Type 0 where
   pub finalized_number : book_finalized book ≡ (observer_state book).finalized
 
 -- the same of each kind
-abbrev pub SizedAs : Kind → Bytes → Type 0
-SizedAs Replica book = Sized book
-SizedAs Observer book = SizedObserver book
+abbrev pub SizedAs : BookKind → Bytes → Type 0
+SizedAs ReplicaBook book = Sized book
+SizedAs ObserverBook book = SizedObserver book
 
 -- ---- the first rung: all that reading asks
-pub record Shown (kind : Kind) (book : Bytes) : Type 0 where
+pub record Shown (kind : BookKind) (book : Bytes) : Type 0 where
   pub sized : SizedAs kind book
   pub replicas : byte_at book 0 ≤ maximum_replicas
   pub heights : book_heights book ≤ maximum_heights
@@ -92,11 +91,11 @@ pub record Shown (kind : Kind) (book : Bytes) : Type 0 where
 
 -- of a replica's book
 abbrev pub Readable : Bytes → Type 0
-Readable book = Shown Replica book
+Readable book = Shown ReplicaBook book
 
 -- of an observer's book
 abbrev pub ObserverReadable : Bytes → Type 0
-ObserverReadable book = Shown Observer book
+ObserverReadable book = Shown ObserverBook book
 
 -- ---- the second rung: the bytes are those of the state that they say, which writing asks besides
 pub record Ready (book : Bytes) : Type 0 where

@@ -7,7 +7,6 @@ ghost use Rattle.protocol.specs.Mask.{mask_limit};
 ghost use Rattle.book_fields.specs.Book.{ObserverReadable, Within, observed_in};
 ghost use Rattle.book_fields.specs.Numbered.{mask_at, place_of};
 
-use crate::kind::Kind;
 use crate::names::MaskKind;
 
 // The finalized height.
@@ -32,7 +31,7 @@ pub fn block_at(book: &[u8], h: usize) -> usize
     requires within { Within book.now h }
     ensures { result ≡ 64 + 8 * book_heights book.now + 176 * (h - 1) }
 {
-    let heights = crate::kind::heights(Kind::Observer, book);
+    let heights = crate::head::good_number(book, 2, 40);
     64 + 8 * heights + 176 * (h - 1)
 }
 

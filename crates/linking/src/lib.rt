@@ -3,4 +3,3 @@
 
 pub mod alone;
 pub mod linking;
-pub mod links;

@@ -5,7 +5,7 @@ use Rattle.protocol.specs.State.{decode, book_heights}
 use Rattle.protocol.specs.View.{View, linked, is_dummy}
 use Rattle.protocol.specs.Sound.{view}
 use Rattle.book_fields.specs.Book.{view_of}
-use Rattle.book_fields.specs.declared.kind.Kind.{Kind}
+use Rattle.book_fields.specs.Kinds.{BookKind}
 use Rattle.sha256.specs.Digest.{sha256}
 
 -- the height below the run of dummies that ends at `h`: the dummy blocks of the heights after it up to `h` are
@@ -33,5 +33,5 @@ abbrev pub Memo : Bytes → Bytes → Type 0
 Memo book known = Known (book_heights book) (view (decode book)) known
 
 -- a memory of a book of any kind
-abbrev pub MemoAs : Kind → Bytes → Bytes → Type 0
+abbrev pub MemoAs : BookKind → Bytes → Bytes → Type 0
 MemoAs kind book known = Known (book_heights book) (view_of kind book) known

@@ -20,40 +20,40 @@ pub const SMALL: usize = 2304;
 pub const LARGE: usize = 36036;
 
 // Whether a memory of `size` bytes has room for the heights of a book.
-pub fn has_room(kind: Kind, book: &[u8], size: usize) -> bool
-    requires { Shown kind book.now }
+pub fn has_room<K: Kind>(book: &[u8], size: usize) -> bool
+    requires { Shown K.kind book.now }
     ensures { result ≡ leb (36 * (book_heights book.now + 1)) size }
 {
-    36 * (book_fields::kind::heights(kind, book) + 1) <= size
+    36 * (book_fields::kind::heights::<K>(book) + 1) <= size
 }
 
 // Remembers the digest of the notarized block of height `j`. Costs one digest the first time, and one read after that.
-pub fn remember_digest(kind: Kind, book: &[u8], j: usize, known: &mut [u8])
-    requires shown { Shown kind book.now }
-    requires memo_as { MemoAs kind book.now known.old }
+pub fn remember_digest<K: Kind>(book: &[u8], j: usize, known: &mut [u8])
+    requires shown { Shown K.kind book.now }
+    requires memo_as { MemoAs K.kind book.now known.old }
     requires within { Within book.now j }
     ensures digest { part known.new (36 * j + 4) 32 ≡
-        sha ((view_of kind book.now).block j) }
-    ensures memo { MemoAs kind book.now known.new }
+        sha ((view_of K.kind book.now).block j) }
+    ensures memo { MemoAs K.kind book.now known.new }
 {
     let seen = known[36 * j + 1];
     if seen == 1 {
         return;
     }
-    let digest = sha256::sha256(book_fields::kind::block(kind, book, j));
+    let digest = sha256::sha256(K::block(book, j));
     wire::bytes::copy_to(known, 36 * j + 4, &digest);
     known[36 * j + 1] = 1;
 }
 
 // The height below the run of dummy blocks that ends at height `h`: `h` itself where its dummy block is not notarized.
 // Each call goes to a lower height.
-fn run_start(kind: Kind, book: &[u8], h: usize, known: &mut [u8]) -> usize
-    requires shown { Shown kind book.now }
-    requires memo_as { MemoAs kind book.now known.old }
+fn run_start<K: Kind>(book: &[u8], h: usize, known: &mut [u8]) -> usize
+    requires shown { Shown K.kind book.now }
+    requires memo_as { MemoAs K.kind book.now known.old }
     requires h_bound { h ≤ book_heights book.now }
-    ensures answer { result ≡ run_start (view_of kind book.now) h }
+    ensures answer { result ≡ run_start (view_of K.kind book.now) h }
     ensures within { result ≤ h }
-    ensures memo { MemoAs kind book.now known.new }
+    ensures memo { MemoAs K.kind book.now known.new }
 {
     if h == 0 {
         return 0;
@@ -62,8 +62,8 @@ fn run_start(kind: Kind, book: &[u8], h: usize, known: &mut [u8]) -> usize
     if 0 < seen {
         return seen - 1;
     }
-    if book_fields::kind::is_dummy(kind, book, h) {
-        let start = run_start(kind, book, h - 1, known);
+    if book_fields::kind::is_dummy::<K>(book, h) {
+        let start = run_start::<K>(book, h - 1, known);
         wire::bytes::put_word(known, 36 * h + 2, start + 1);
         start
     } else {
@@ -74,15 +74,15 @@ fn run_start(kind: Kind, book: &[u8], h: usize, known: &mut [u8]) -> usize
 
 // Whether the dummy blocks of the heights after `j` up to `top` are notarized. Where there are none, nothing is
 // counted.
-pub fn dummies_after(kind: Kind, book: &[u8], j: usize, top: usize, known: &mut [u8]) -> bool
-    requires shown { Shown kind book.now }
-    requires memo_as { MemoAs kind book.now known.old }
+pub fn dummies_after<K: Kind>(book: &[u8], j: usize, top: usize, known: &mut [u8]) -> bool
+    requires shown { Shown K.kind book.now }
+    requires memo_as { MemoAs K.kind book.now known.old }
     requires j_le_top { (j ≤ top) × (top ≤ book_heights book.now) }
-    ensures answer { result ≡ dummy_run (view_of kind book.now) j (top - j) }
-    ensures memo { MemoAs kind book.now known.new }
+    ensures answer { result ≡ dummy_run (view_of K.kind book.now) j (top - j) }
+    ensures memo { MemoAs K.kind book.now known.new }
 {
     if j == top {
         return true;
     }
-    run_start(kind, book, top, known) <= j
+    run_start::<K>(book, top, known) <= j
 }

@@ -10,23 +10,23 @@ use Prim.Native.Nat.{◌+◌, ◌*◌}
 use Rattle.memory.proofs.+run_start.Goals as goal
 
 pub returns-then-h-eq0 : goal.returns-then-h-eq0
-returns-then-h-eq0 t c = record {
-  answer = start_zero (view_of c.args.kind c.args.book.now) c.args.h c.if-h-eq0.true;
+returns-then-h-eq0 g t c = record {
+  answer = start_zero (view_of g.K.Kind.kind c.args.book.now) c.args.h c.if-h-eq0.true;
   within = omega arith;
   memo = c.requires.memo_as;
 }
 
 pub overflow_mul-h : goal.overflow_mul-h
-overflow_mul-h t c = omega (arith, c.requires.h_bound, c.requires.shown.heights)
+overflow_mul-h g t c = omega (arith, c.requires.h_bound, c.requires.shown.heights)
 
 pub overflow_add-h : goal.overflow_add-h
-overflow_add-h t c = omega (arith, c.requires.h_bound, c.requires.shown.heights)
+overflow_add-h g t c = omega (arith, c.requires.h_bound, c.requires.shown.heights)
 
 pub word-seen-requires : goal.word-seen-requires
-word-seen-requires t c = omega (arith, c.requires.h_bound, c.requires.shown.heights, c.requires.memo_as.room)
+word-seen-requires g t c = omega (arith, c.requires.h_bound, c.requires.shown.heights, c.requires.memo_as.room)
 
 pub returns-then-seen-gt0 : goal.returns-then-seen-gt0
-returns-then-seen-gt0 t c = let v = view_of c.args.kind c.args.book.now in
+returns-then-seen-gt0 g t c = let v = view_of g.K.Kind.kind c.args.book.now in
     let read : c.word-seen.result ≡ word16 c.args.known.now (36 * c.args.h + 2) =
     c.word-seen.ensures.0 in
     let run = (c.requires.memo_as.each c.args.h c.requires.h_bound).run (omega (arith, read, c.if-seen-gt0.true)) in
@@ -38,19 +38,19 @@ returns-then-seen-gt0 t c = let v = view_of c.args.kind c.args.book.now in
     }
 
 pub is_dummy-requires : goal.is_dummy-requires
-is_dummy-requires t c = record {
+is_dummy-requires g t c = record {
   shown = c.requires.shown;
   within = record { low = omega arith; high = c.requires.h_bound };
 }
 
 pub overflow_mul-h-then-is_dummy : goal.overflow_mul-h-then-is_dummy
-overflow_mul-h-then-is_dummy t c = omega (arith, c.requires.h_bound, c.requires.shown.heights)
+overflow_mul-h-then-is_dummy g t c = omega (arith, c.requires.h_bound, c.requires.shown.heights)
 
 pub overflow_add-h-then-is_dummy : goal.overflow_add-h-then-is_dummy
-overflow_add-h-then-is_dummy t c = omega (arith, c.requires.h_bound, c.requires.shown.heights)
+overflow_add-h-then-is_dummy g t c = omega (arith, c.requires.h_bound, c.requires.shown.heights)
 
 pub overflow_add-start : goal.overflow_add-start
-overflow_add-start t c = omega (
+overflow_add-start g t c = omega (
   arith,
   c.run_start-start.ensures.within,
   c.requires.h_bound,
@@ -58,31 +58,31 @@ overflow_add-start t c = omega (
 )
 
 pub put_word-requires : goal.put_word-requires
-put_word-requires t c = let below = c.run_start-start in
+put_word-requires g t c = let below = c.run_start-start in
     record {
       at_in_bounds = omega (arith, below.ensures.memo.room, c.requires.h_bound, c.requires.shown.heights);
       value_bound = omega (arith, below.ensures.within, c.requires.h_bound, c.requires.shown.heights);
     }
 
 pub overflow_mul-h-else-is_dummy : goal.overflow_mul-h-else-is_dummy
-overflow_mul-h-else-is_dummy t c = omega (arith, c.requires.h_bound, c.requires.shown.heights)
+overflow_mul-h-else-is_dummy g t c = omega (arith, c.requires.h_bound, c.requires.shown.heights)
 
 pub overflow_add-h-else-is_dummy : goal.overflow_add-h-else-is_dummy
-overflow_add-h-else-is_dummy t c = omega (arith, c.requires.h_bound, c.requires.shown.heights)
+overflow_add-h-else-is_dummy g t c = omega (arith, c.requires.h_bound, c.requires.shown.heights)
 
 pub overflow_add-h-else-is_dummy-2 : goal.overflow_add-h-else-is_dummy-2
-overflow_add-h-else-is_dummy-2 t c = omega (arith, c.requires.h_bound, c.requires.shown.heights)
+overflow_add-h-else-is_dummy-2 g t c = omega (arith, c.requires.h_bound, c.requires.shown.heights)
 
 pub put_word-requires-else-is_dummy : goal.put_word-requires-else-is_dummy
-put_word-requires-else-is_dummy t c = record {
+put_word-requires-else-is_dummy g t c = record {
   at_in_bounds = omega (arith, c.requires.memo_as.room, c.requires.h_bound, c.requires.shown.heights);
   value_bound = omega (arith, c.requires.h_bound, c.requires.shown.heights);
 }
 
 pub returns-then-is_dummy : goal.returns-then-is_dummy
-returns-then-is_dummy t c = let wrote = c.put_word in
+returns-then-is_dummy g t c = let wrote = c.put_word in
     let below = c.run_start-start in
-    let v = view_of c.args.kind c.args.book.now in
+    let v = view_of g.K.Kind.kind c.args.book.now in
     let answer = below.ensures.answer ∙ start_back v c.args.h (omega arith)
     (sym c.is_dummy.ensures ∙ c.if-is_dummy.true) in record {
       answer = answer;
@@ -92,8 +92,8 @@ returns-then-is_dummy t c = let wrote = c.put_word in
     }
 
 pub returns-else-is_dummy : goal.returns-else-is_dummy
-returns-else-is_dummy t c = let wrote = c.put_word-else-is_dummy in
-    let v = view_of c.args.kind c.args.book.now in
+returns-else-is_dummy g t c = let wrote = c.put_word-else-is_dummy in
+    let v = view_of g.K.Kind.kind c.args.book.now in
     let answer = start_here v c.args.h (omega arith)
     (sym c.is_dummy.ensures ∙ c.if-is_dummy.false) in record {
       answer = answer;

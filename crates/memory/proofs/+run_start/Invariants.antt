@@ -4,4 +4,4 @@ use Rattle.memory.proofs.+run_start.Given as goal
 
 -- `run_start` calls itself: the height falls, and what is asked of its callees.
 abbrev pub decreases-run_start : goal.decreases-run_start
-decreases-run_start l = l.h
+decreases-run_start g l = l.h

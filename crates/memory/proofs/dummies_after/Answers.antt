@@ -8,21 +8,21 @@ use Rattle.memory.proofs.Runs.{run_none, run_is}
 use Rattle.memory.proofs.dummies_after.Goals as goal
 
 pub returns-then-j-top : goal.returns-then-j-top
-returns-then-j-top c = record {
-  answer = run_none (view_of c.args.kind c.args.book.now) c.args.j c.args.top c.if-j-top.true;
+returns-then-j-top g c = record {
+  answer = run_none (view_of g.K.Kind.kind c.args.book.now) c.args.j c.args.top c.if-j-top.true;
   memo = c.requires.memo_as;
 }
 
 pub run_start-requires : goal.run_start-requires
-run_start-requires c = record {
+run_start-requires g c = record {
   shown = c.requires.shown;
   memo_as = c.requires.memo_as;
   h_bound = c.requires.j_le_top.1;
 }
 
 pub returns : goal.returns
-returns c = let start = c.run_start in record {
+returns g c = let start = c.run_start in record {
   answer = ap (λ (s : ℕ). leb s c.args.j) start.ensures.answer
-      ∙ run_is (view_of c.args.kind c.args.book.now) c.args.j c.args.top c.requires.j_le_top.0;
+      ∙ run_is (view_of g.K.Kind.kind c.args.book.now) c.args.j c.args.top c.requires.j_le_top.0;
   memo = start.ensures.memo;
 }

@@ -5,4 +5,4 @@ use lib.Dec.{leb}
 use Rattle.memory.proofs.has_room.Goals as goal
 
 pub returns : goal.returns
-returns c = ap (λ (h : ℕ). leb (36 * (h + 1)) c.args.size) c.heights.ensures.0
+returns g c = ap (λ (h : ℕ). leb (36 * (h + 1)) c.args.size) c.heights.ensures.0

@@ -4,7 +4,7 @@ use Rattle.book_fields.proofs.Showing.{head_room}
 use Rattle.book_fields.proofs.kind.heights.Goals as goal
 
 pub good_number-requires : goal.good_number-requires
-good_number-requires c = record {
-  in_bounds = head_room c.args.kind c.args.book.now c.requires;
+good_number-requires g c = record {
+  in_bounds = head_room g.K.Kind.kind c.args.book.now c.requires;
   short_bound = (omega arith, omega arith);
 }

@@ -4,4 +4,4 @@ use Rattle.book_fields.proofs.kind.quorum.Goals as goal
 
 pub returns : goal.returns
 unfolding quorum
-returns c = rw (c.weigh-weight.ensures.all, c.weigh-weight.ensures.held)
+returns g c = rw (c.weigh-weight.ensures.all, c.weigh-weight.ensures.held)

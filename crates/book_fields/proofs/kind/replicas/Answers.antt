@@ -5,10 +5,10 @@ use Rattle.book_fields.proofs.Showing.{head_room, replicas_at}
 use Rattle.book_fields.proofs.kind.replicas.Goals as goal
 
 pub byte-requires : goal.byte-requires
-byte-requires c = omega (arith, head_room c.args.kind c.args.book.now c.requires)
+byte-requires g c = omega (arith, head_room g.K.Kind.kind c.args.book.now c.requires)
 
 pub returns : goal.returns
-returns c = (
-  c.byte.ensures.0 ∙ replicas_at c.args.kind c.args.book.now c.requires,
+returns g c = (
+  c.byte.ensures.0 ∙ replicas_at g.K.Kind.kind c.args.book.now c.requires,
   omega (arith, c.byte.ensures.0, c.requires.replicas),
 )

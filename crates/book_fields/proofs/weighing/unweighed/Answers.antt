@@ -18,20 +18,20 @@ times-at-most true n = omega arith
 times-at-most false n = omega arith
 
 pub byte-requires : goal.byte-requires
-byte-requires c = omega (arith, head_room c.args.kind c.args.book.now c.requires)
+byte-requires g c = omega (arith, head_room g.K.Kind.kind c.args.book.now c.requires)
 
 pub overflow_mul-result : goal.overflow_mul-result
-overflow_mul-result c = omega (
+overflow_mul-result g c = omega (
   arith,
   times-at-most (eqb c.byte.result 1) c.replicas-n.result,
   c.replicas-n.ensures.1,
 )
 
 pub returns : goal.returns
-returns c = let n = c.replicas-n.result in
+returns g c = let n = c.replicas-n.result in
     let t = eqb c.byte.result 1 in
     let here : n ≡ byte_at c.args.book.now 0 =
-    c.replicas-n.ensures.0 ∙ sym (replicas_at c.args.kind c.args.book.now c.requires) in
+    c.replicas-n.ensures.0 ∙ sym (replicas_at g.K.Kind.kind c.args.book.now c.requires) in
     let most = times-at-most t n in record {
       many = times_test t n ∙ ap₂ (λ (x m : ℕ). cond (eqb x 1) m 0) c.byte.ensures.0 here;
       few = omega (arith, most, here);

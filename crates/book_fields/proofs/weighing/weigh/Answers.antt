@@ -36,14 +36,14 @@ module _ (mask : ℕ) (ws : List ℕ) where
       rw (whole, take_all n ws (omega arith)) (zero-add (weigh (λ s. in_mask mask s) ws))
 
 pub overflow_sub-n : goal.overflow_sub-n
-overflow_sub-n c = let n = replicas_at c.args.kind c.args.book.now c.requires in
+overflow_sub-n g c = let n = replicas_at g.K.Kind.kind c.args.book.now c.requires in
     omega (arith, c.unweighed-counted.ensures.few, c.replicas-n.ensures.0, n)
 
 pub count-requires : goal.count-requires
-count-requires c = omega (arith, c.unweighed-counted.ensures.few, c.requires.replicas)
+count-requires g c = omega (arith, c.unweighed-counted.ensures.few, c.requires.replicas)
 
 pub overflow_add-all : goal.overflow_add-all
-overflow_add-all c = omega (
+overflow_add-all g c = omega (
   arith,
   c.requires.replicas,
   c.unweighed-counted.ensures.few,
@@ -52,13 +52,13 @@ overflow_add-all c = omega (
 )
 
 pub returns : goal.returns
-returns c = let replicas = c.replicas-n.ensures in
+returns g c = let replicas = c.replicas-n.ensures in
     let count = c.count.ensures in
     let mask = c.args.mask in
     let book = c.args.book.now in
-    let ws = (view_of c.args.kind book).weights in
+    let ws = (view_of g.K.Kind.kind book).weights in
     let shown = c.requires in
-    let here = replicas.0 ∙ sym (replicas_at c.args.kind book shown) in record {
+    let here = replicas.0 ∙ sym (replicas_at g.K.Kind.kind book shown) in record {
       all = ap₂ ◌+◌ c.unweighed-counted.ensures.many (c.weigh_first-given.ensures.all ∙ ap₂ (λ (m x : ℕ). total (take (m - x) ws)) here c.unweighed-counted.ensures.many)
           ∙ all-weighed mask ws (eqb (byte_at book 7) 1) (byte_at book 0) shown.weight_each shown.even_weights;
       held = ap₂ ◌+◌ (count.0 ∙ ap (λ (x : ℕ). ones mask x) c.unweighed-counted.ensures.many)

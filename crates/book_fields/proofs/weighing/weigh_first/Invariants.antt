@@ -5,9 +5,9 @@ use Rattle.book_fields.specs.Book.{view_of}
 use Rattle.book_fields.proofs.weighing.weigh_first.Given as goal
 
 abbrev pub invariant-loop-s : goal.invariant-loop-s
-invariant-loop-s l = record {
-  all_weighed : l.all ≡ total (take l.s (view_of l.kind l.book).weights);
-  held_weighed : l.held ≡ weigh (λ t. in_mask l.mask t) (take l.s (view_of l.kind l.book).weights);
+invariant-loop-s g l = record {
+  all_weighed : l.all ≡ total (take l.s (view_of g.K.Kind.kind l.book).weights);
+  held_weighed : l.held ≡ weigh (λ t. in_mask l.mask t) (take l.s (view_of g.K.Kind.kind l.book).weights);
   small : l.all ≤ 65536 * l.s;
   part : l.held ≤ l.all;
 }

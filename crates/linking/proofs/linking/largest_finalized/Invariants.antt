@@ -7,8 +7,8 @@ use Rattle.memory.specs.Memo.{MemoAs}
 use Rattle.linking.proofs.linking.largest_finalized.Given as goal
 
 abbrev pub invariant-loop-h : goal.invariant-loop-h
-invariant-loop-h l = record {
-  same_height : largest_finalized sha256 (view_of l.kind l.book) l.h ≡
-      largest_finalized sha256 (view_of l.kind l.book) l.top;
-  memo : MemoAs l.kind l.book l.known;
+invariant-loop-h g l = record {
+  same_height : largest_finalized sha256 (view_of g.K.Kind.kind l.book) l.h ≡
+      largest_finalized sha256 (view_of g.K.Kind.kind l.book) l.top;
+  memo : MemoAs g.K.Kind.kind l.book l.known;
 }

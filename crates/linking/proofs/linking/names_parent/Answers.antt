@@ -6,14 +6,14 @@ use Rattle.linking.proofs.Walk.{names_digest}
 use Rattle.linking.proofs.linking.names_parent.Goals as goal
 
 pub parent_digest-digest-requires : goal.parent_digest-digest-requires
-parent_digest-digest-requires c = record {
+parent_digest-digest-requires g c = record {
   shown = c.requires.shown;
   memo_as = c.requires.memo_as;
   j_bound = c.requires.j_bound;
 }
 
 pub returns : goal.returns
-returns c = let named = c.parent_digest-digest in
+returns g c = let named = c.parent_digest-digest in
     let block = c.args.block.now in record {
       answer = c.same_bytes.ensures ∙ names_digest block named.result
           ∙ ap (λ (d : Bytes). same (parent_digest block) d) named.ensures.answer;

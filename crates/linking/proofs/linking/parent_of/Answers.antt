@@ -5,19 +5,19 @@ use Rattle.linking.proofs.Walk.{parent_here, parent_below_lem, parent_stops, par
 use Rattle.linking.proofs.linking.parent_of.Goals as goal
 
 pub returns-then-linked-clause-answer : goal.returns-then-linked-clause-answer
-returns-then-linked-clause-answer c = parent_here (view_of c.args.kind c.args.book.now) c.loop-h.h (omega arith)
+returns-then-linked-clause-answer g c = parent_here (view_of g.K.Kind.kind c.args.book.now) c.loop-h.h (omega arith)
     (sym c.linked.ensures.answer ∙ c.if-linked.true)
     ∙ c.loop-h.invariant.same_parent
 
 pub returns-then-not-is_dummy-clause-answer : goal.returns-then-not-is_dummy-clause-answer
-returns-then-not-is_dummy-clause-answer c = parent_stops (view_of c.args.kind c.args.book.now) c.loop-h.h (omega arith)
+returns-then-not-is_dummy-clause-answer g c = parent_stops (view_of g.K.Kind.kind c.args.book.now) c.loop-h.h (omega arith)
     (sym c.linked.ensures.answer ∙ c.if-linked.false)
     (sym c.is_dummy.ensures ∙ c.if-not-is_dummy.true)
     ∙ c.loop-h.invariant.same_parent
 
 pub loop-h-preserved : goal.loop-h-preserved
-loop-h-preserved c = record {
-  same_parent = parent_below_lem (view_of c.args.kind c.args.book.now) c.loop-h.h (omega arith)
+loop-h-preserved g c = record {
+  same_parent = parent_below_lem (view_of g.K.Kind.kind c.args.book.now) c.loop-h.h (omega arith)
       (sym c.linked.ensures.answer ∙ c.if-linked.false)
       (sym c.is_dummy.ensures ∙ c.if-not-is_dummy.false)
       ∙ c.loop-h.invariant.same_parent;
@@ -25,5 +25,5 @@ loop-h-preserved c = record {
 }
 
 pub returns-clause-answer : goal.returns-clause-answer
-returns-clause-answer c =
-    parent_start (view_of c.args.kind c.args.book.now) c.loop-h.h (omega arith) ∙ c.loop-h.invariant.same_parent
+returns-clause-answer g c =
+    parent_start (view_of g.K.Kind.kind c.args.book.now) c.loop-h.h (omega arith) ∙ c.loop-h.invariant.same_parent

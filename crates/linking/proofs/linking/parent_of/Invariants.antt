@@ -7,7 +7,7 @@ use Rattle.memory.specs.Memo.{MemoAs}
 use Rattle.linking.proofs.linking.parent_of.Given as goal
 
 abbrev pub invariant-loop-h : goal.invariant-loop-h
-invariant-loop-h l = record {
-  same_parent : parent_of sha256 (view_of l.kind l.book) l.h ≡ parent_of sha256 (view_of l.kind l.book) l.top;
-  memo : MemoAs l.kind l.book l.known;
+invariant-loop-h g l = record {
+  same_parent : parent_of sha256 (view_of g.K.Kind.kind l.book) l.h ≡ parent_of sha256 (view_of g.K.Kind.kind l.book) l.top;
+  memo : MemoAs g.K.Kind.kind l.book l.known;
 }
