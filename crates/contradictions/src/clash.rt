@@ -15,7 +15,7 @@ use book_fields::head::current;
 use book_fields::height::{
     holds_proposal, is_notarized, notarized, proposal, vote_digest, voter_mask,
 };
-use frames::{frame_block, frame_digest, frame_kind, frame_signer};
+use frames::{FrameKind, frame_block, frame_digest, frame_kind, frame_signer};
 use wire::bytes::same_bytes;
 use wire::mask::in_mask;
 
@@ -25,9 +25,9 @@ fn vote_agrees(book: &[u8], h: usize, frame: &[u8]) -> bool
     requires { Read book.now h frame.now }
     ensures { result ≡ vote_agrees (height_in book.now h) frame.now }
 {
-    if frame_kind(frame) != 2 {
+    let Some(FrameKind::BlockVote) = frame_kind(frame) else {
         return true;
-    }
+    };
     let s = frame_signer(frame);
     !in_mask(voter_mask(book, h), s) || same_bytes(vote_digest(book, h, s), frame_digest(frame))
 }
@@ -39,9 +39,9 @@ fn proposal_agrees(book: &[u8], h: usize, frame: &[u8]) -> bool
     requires { Read book.now h frame.now }
     ensures { result ≡ implies (second_proposal (decode book.now) frame.now) (eqb h (decode book.now).current) }
 {
-    if frame_kind(frame) != 1 {
+    let Some(FrameKind::Proposal) = frame_kind(frame) else {
         return true;
-    }
+    };
     let here = h == current(book);
     here || !holds_proposal(book, h) || same_bytes(proposal(book, h), frame_block(frame))
 }
@@ -53,7 +53,7 @@ fn certificate_agrees(book: &[u8], h: usize, frame: &[u8]) -> bool
     ensures { result ≡ implies (is_block_certificate (kind frame.now) && is_notarized (height_in book.now h))
         (same (height_in book.now h).notarized (frame_block frame.now)) }
 {
-    frame_kind(frame) != 5
+    !matches!(frame_kind(frame), Some(FrameKind::BlockCertificate))
         || !is_notarized(book, h)
         || same_bytes(notarized(book, h), frame_block(frame))
 }

@@ -11,7 +11,9 @@ use answers::refusal::Refusal;
 use book_fields::head::{heights, replicas};
 use book_fields::height::leader;
 use book_fields::quorum::quorum;
-use frames::{frame_height, frame_kind, frame_mask, frame_signer, frame_well_formed, is_statement};
+use frames::{
+    FrameKind, frame_height, frame_kind, frame_mask, frame_signer, frame_well_formed, is_statement,
+};
 use wire::mask::below;
 
 // Whether the signer, or each signer of a certificate, is one of the book's replicas.
@@ -37,7 +39,8 @@ fn leader_signed(book: &[u8], h: usize, frame: &[u8]) -> bool
     requires frame_len { length frame.now ≡ 224 }
     ensures { result ≡ leader_signed (decode book.now) h frame.now }
 {
-    frame_kind(frame) != 1 || frame_signer(frame) == leader(book, h)
+    !matches!(frame_kind(frame), Some(FrameKind::Proposal))
+        || frame_signer(frame) == leader(book, h)
 }
 
 // Whether the signers of a certificate are a quorum. Statements pass.

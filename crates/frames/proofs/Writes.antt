@@ -1,9 +1,8 @@
 -- Pieces written one after the other make a frame.
-use Prim.Native.Nat.{ℕ}
-use mathlib.Core.Path.{◌≡◌, refl}
-use mathlib.Core.List.{[], ◌∷◌, ◌++◌}
-use lib.ListN.{length, length-append}
+use Rattle.std.specs.Prelude.{ℕ, ◌≡◌, refl, [], ◌∷◌, ◌++◌, length}
+use Rattle.std.proofs.Common.{length-append}
 use Rattle.protocol.specs.Bytes.{Bytes, le16, zeros, over_front, put}
+use Rattle.protocol.proofs.Laws.BytesLaws.{length_zeros}
 use Rattle.protocol.proofs.Laws.FrontLaws.{starts, goes_on}
 use Rattle.protocol.specs.Frame.{frame_of}
 use Rattle.frames.specs.Parts.{frame_head}
@@ -41,3 +40,16 @@ pub plain_follows : (out a b : Bytes) (k s h mask : ℕ) → a ≡ over_front (f
     → b ≡ over_front (frame_of k s h mask (zeros 32) (zeros 176)) out
 unfolding frame_of frame_head le16 zeros
 plain_follows out a b k s h mask p q = goes_on (frame_head k s h mask) out a (zeros 208) b 16 p (head_size k s h mask) q
+
+-- a head, no digest and a block
+pub block_follows : (out a b c block : Bytes) (k s h mask : ℕ) → a ≡ over_front (frame_head k s h mask) out →
+    b ≡ put a 16 (zeros 32) → c ≡ put b 48 block → c ≡ over_front (frame_of k s h mask (zeros 32) block) out
+block_follows out a b c block k s h mask p q r =
+    frame_follows out a b c (zeros 32) block k s h mask (length_zeros 32) p q r
+
+-- a head, a digest and no block
+pub digest_follows : (out a b c digest : Bytes) (k s h mask : ℕ) → length digest ≡ 32 →
+    a ≡ over_front (frame_head k s h mask) out → b ≡ put a 16 digest → c ≡ put b 48 (zeros 176) →
+    c ≡ over_front (frame_of k s h mask digest (zeros 176)) out
+digest_follows out a b c digest k s h mask size p q r =
+    frame_follows out a b c digest (zeros 176) k s h mask size p q r

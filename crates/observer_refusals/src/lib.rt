@@ -14,7 +14,9 @@ ghost use Rattle.observer_refusals.specs.Rows.{certificate_rows, frame_rows};
 use answers::refusal::Refusal;
 use book_fields::kind::{Kind, heights, quorum, replicas};
 use book_fields::observed::{is_notarized, notarized};
-use frames::{frame_block, frame_height, frame_kind, frame_mask, frame_well_formed};
+use frames::{
+    FrameKind, frame_block, frame_height, frame_kind, frame_mask, frame_well_formed, is_certificate,
+};
 use wire::bytes::same_bytes;
 use wire::mask::below;
 
@@ -27,7 +29,7 @@ fn certificate_agrees(book: &[u8], h: usize, frame: &[u8]) -> bool
     ensures { result ≡ implies (is_block_certificate (kind frame.now) && is_notarized (observed_in book.now h))
         (same (observed_in book.now h).notarized (frame_block frame.now)) }
 {
-    frame_kind(frame) != 5
+    !matches!(frame_kind(frame), Some(FrameKind::BlockCertificate))
         || !is_notarized(book, h)
         || same_bytes(notarized(book, h), frame_block(frame))
 }
@@ -55,7 +57,7 @@ fn certificate_refusal(book: &[u8], h: usize, frame: &[u8]) -> Result<(), Refusa
 }
 
 // The first refusal that stands against a frame, if one does.
-#[tactic(auto, using(crate::proofs::Reading::reading), unfolding(protocol::specs::Tests::in_range, protocol::specs::Frame::is_certificate))]
+#[tactic(auto, using(crate::proofs::Reading::reading), unfolding(protocol::specs::Tests::in_range))]
 pub fn frame_refusal(book: &[u8], frame: &[u8]) -> Result<(), Refusal>
     requires { ObserverReadable book.now }
     ensures { refusal_of result ≡ first_refusal (frame_rows (observer_state book.now) frame.now) }
@@ -63,7 +65,7 @@ pub fn frame_refusal(book: &[u8], frame: &[u8]) -> Result<(), Refusal>
     if !frame_well_formed(frame) {
         return Err(Refusal::Malformed);
     }
-    if !(5..=7).contains(&frame_kind(frame)) {
+    if !is_certificate(frame) {
         return Err(Refusal::NotACertificate);
     }
     let h = frame_height(frame);
