@@ -10,14 +10,14 @@ use std::io::Write;
 
 // Who plays a list: where what comes of it is printed, and the buffers as the lines before left them.
 #[derive(Drop)]
-pub struct Player<W: Write + Drop> {
+pub(crate) struct Player<W: Write + Drop> {
     out: W,
     buffers: Buffers,
     alloc: Global,
 }
 
 impl<W: Write + Drop> Player<W> {
-    pub fn new(out: W, alloc: Global) -> Result<Player<W>, AllocError> {
+    pub(crate) fn new(out: W, alloc: Global) -> Result<Player<W>, AllocError> {
         let buffers = Buffers::new(alloc)?;
         Ok(Player {
             out,
@@ -69,7 +69,7 @@ impl<W: Write + Drop> Player<W> {
     }
 
     // Plays the whole list. (A line's end at its end begins no further line.)
-    pub fn play(&mut self, list: &[u8]) -> io::Result<()> {
+    pub(crate) fn play(&mut self, list: &[u8]) -> io::Result<()> {
         if list.is_empty() {
             return Ok(());
         }
@@ -82,7 +82,7 @@ impl<W: Write + Drop> Player<W> {
     }
 
     // Says that the list was longer than there is room for it.
-    pub fn cut(&mut self) -> io::Result<()> {
+    pub(crate) fn cut(&mut self) -> io::Result<()> {
         text(
             &mut self.out,
             b"the list has 1048576 bytes or more, and was read no further\n",

@@ -5,13 +5,13 @@ use lines::print::{hex, text};
 use std::io;
 use std::io::Write;
 
-pub fn digest(out: &mut impl Write, buffer: &[u8]) -> io::Result<()> {
+pub(crate) fn digest(out: &mut impl Write, buffer: &[u8]) -> io::Result<()> {
     text(out, b" ")?;
     hex(out, &sha256::sha256(buffer))
 }
 
 // The name of the buffer that a call is lent besides its book.
-pub fn lent<'a>(request: &Request<'a>) -> Option<&'a [u8]> {
+pub(crate) fn lent<'a>(request: &Request<'a>) -> Option<&'a [u8]> {
     match request {
         Request::Move(name) | Request::Read(name) | Request::ObserverRead(name) => Some(*name),
         Request::Fetch { reply, .. } => Some(*reply),
@@ -83,7 +83,7 @@ fn answer(
 }
 
 // The call and what stands behind it in a recorded list, but for the digest of the buffer.
-pub fn made(
+pub(crate) fn made(
     out: &mut impl Write,
     request: &Request,
     book: &mut [u8],

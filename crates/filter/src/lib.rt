@@ -20,9 +20,7 @@ fn long_word(bytes: &[u8], at: usize) -> usize
     requires { at + 3 < length bytes.now }
     ensures { (result ≡ word32 bytes.now at) × (result < 4294967296) }
 {
-    let low = word(bytes, at);
-    let high = word(bytes, at + 2);
-    low + 65536 * high
+    u32::from_le_bytes([bytes[at], bytes[at + 1], bytes[at + 2], bytes[at + 3]]) as usize
 }
 
 // The place of an entry in a filter with this key. Costs 48 reads, eight products and a division by a prime.
@@ -32,10 +30,8 @@ fn place(filter: &[u8], entry: &[u8]) -> usize
     ensures { result ≡ place_of filter.now entry.now }
 {
     let mut sum = 0;
-    let mut i = 0;
-    while i < 8 {
+    for i in 0..8 {
         sum += long_word(filter, 4 * i) * word(entry, 2 * i);
-        i += 1;
     }
     sum % 4294967291
 }
@@ -46,10 +42,9 @@ fn byte_of(size: usize, place: usize) -> usize
     ensures { (result ≡ byte_of size place) × (result < size) }
 {
     if size == SMALL {
-        32 + place / 8 % 4096
-    } else {
-        32 + place / 8 % (size - 32)
+        return 32 + place / 8 % 4096;
     }
+    32 + place / 8 % (size - 32)
 }
 
 // Sets the bit of an entry, and says whether it was set before: if not, no entry that was gone through equals it.
@@ -66,9 +61,8 @@ pub fn mark(filter: &mut [u8], entry: &[u8]) -> bool
     let bit = place % 8;
     let before = byte(filter, at);
     if wire::mask::in_mask(before, bit) {
-        true
-    } else {
-        filter[at] = (before + wire::mask::bit(bit)) as u8;
-        false
+        return true;
     }
+    filter[at] = (before + wire::mask::bit(bit)) as u8;
+    false
 }

@@ -10,6 +10,7 @@ pub fn read_full(input: &mut impl Read, buf: &mut [u8]) -> io::Result<usize>
     ensures { IfOk result (λ n. n ≤ length buf.new) }
 {
     let mut done = 0;
+    // A count by hand: the library reads all that comes, which may be endless, or just as many bytes as find room.
     while done < buf.len() {
         let n = input.read(&mut buf[done..])?;
         if n == 0 {

@@ -1,10 +1,7 @@
 -- The turns of the tally: a bit for each replica whose kept vote is for the digest.
-use Prim.Native.Nat.{ℕ, ◌+◌, ◌*◌, ◌^◌, ◌≤◌, ◌<◌}
-use native.Mathlib.Omega.{arith}
-use native.Mathlib.Nat.{pow-le-pow_right}
-use native.Mathlib.Numerals.{add-one}
-use mathlib.Core.Path.{◌≡◌, ap, ap₂, ◌∙◌}
-use mathlib.Core.Bool.{Bool, ◌&&◌, cond}
+use Rattle.std.specs.Prelude.{ℕ, ◌+◌, ◌*◌, ◌^◌, ◌≤◌, ◌<◌, ◌≡◌, Bool, ◌&&◌, cond}
+use Rattle.std.proofs.Common.{arith, add-one, ap, ap₂, ◌∙◌}
+use Rattle.std.proofs.Math.Nat.{pow-le-pow_right}
 use Rattle.protocol.specs.Bytes.{Bytes, same}
 use Rattle.protocol.specs.Mask.{in_mask, mask_of}
 use Rattle.protocol.specs.State.{Height, vote_of}

@@ -35,10 +35,8 @@ pub fn voters_for(book: &[u8], h: usize, digest: &[u8]) -> usize
     let n = book_fields::head::replicas(book);
     let voters = book_fields::height::voter_mask(book, h);
     let mut mask = 0;
-    let mut s = 0;
-    while s < n {
+    for s in 0..n {
         mask += wire::mask::bit(s) * votes_for(book, h, s, voters, digest);
-        s += 1;
     }
     mask
 }

@@ -1,8 +1,6 @@
 -- `byte_of` meets its contract: what is left by a division is below the divisor.
-use Prim.Native.Nat.{ℕ, ◌+◌, ◌-◌, ◌/◌, ◌%◌, ◌<◌}
-use native.Mathlib.Omega.{arith}
-use native.Mathlib.Nat.{mod-lt}
-use mathlib.Core.Path.{◌≡◌, refl}
+use Rattle.std.specs.Prelude.{ℕ, ◌+◌, ◌-◌, ◌/◌, ◌%◌, ◌<◌, ◌≡◌, refl}
+use Rattle.std.proofs.Common.{arith, mod-lt}
 use Rattle.filter.specs.Filter.{byte_of}
 use Rattle.filter.proofs.byte_of.Goals as goal
 
@@ -18,12 +16,12 @@ unfolding byte_of
 any size place some =
     (refl, let low : place / 8 % (size - 32) < size - 32 = mod-lt (place / 8) (omega arith) in omega arith)
 
-pub overflow_add-result-else-size-eq-SMALL : goal.overflow_add-result-else-size-eq-SMALL
-overflow_add-result-else-size-eq-SMALL c = let low = (any c.args.size c.args.place c.requires).1 in
+pub overflow_add-result-2 : goal.overflow_add-result-2
+overflow_add-result-2 c = let low = (any c.args.size c.args.place c.requires).1 in
     omega (arith, low)
 
 pub returns-then-size-eq-SMALL : goal.returns-then-size-eq-SMALL
 returns-then-size-eq-SMALL c = small c.args.size c.args.place c.if-size-eq-SMALL.true
 
-pub returns-else-size-eq-SMALL : goal.returns-else-size-eq-SMALL
-returns-else-size-eq-SMALL c = any c.args.size c.args.place c.requires
+pub returns : goal.returns
+returns c = any c.args.size c.args.place c.requires

@@ -1,9 +1,7 @@
 -- `mark` meets its contract: where the bit was not set, no entry that the filter knows equals this one.
-use Prim.Native.Nat.{◌%◌, ◌<◌}
-use native.Mathlib.Omega.{arith}
-use native.Mathlib.Nat.{mod-lt}
-use mathlib.Core.Path.{sym, ◌∙◌}
-use mathlib.Core.Bool.{false≢true}
+use Rattle.std.specs.Prelude.{◌%◌, ◌<◌}
+use Rattle.std.proofs.Common.{arith, mod-lt, sym, ◌∙◌}
+use Rattle.std.proofs.lemmas.Bool.{false≢true}
 use Rattle.protocol.proofs.Laws.MaskLaws.{add_below}
 use Rattle.filter.proofs.Filtering.{seen_is, not_marked, marked_again, marked_more}
 use Rattle.filter.proofs.mark.Goals as goal
@@ -24,8 +22,8 @@ returns-then-in_mask c = let args = c.args in
           (sym is ∙ sym c.in_mask.ensures ∙ c.if-in_mask.true);
     }
 
-pub returns-else-in_mask : goal.returns-else-in_mask
-returns-else-in_mask c = let args = c.args in
+pub returns : goal.returns
+returns c = let args = c.args in
     let unset = sym c.in_mask.ensures ∙ c.if-in_mask.false in
     let is = seen_is args.filter.now args.entry.now c.place-place.ensures c.byte_of-at.ensures.0
     c.byte-before.ensures.0 in record {

@@ -1,9 +1,6 @@
 -- `place` meets its contract: words below 2^16 times numbers below 2^32, so that no sum wraps.
-use Prim.Native.Nat.{ℕ, ◌+◌, ◌*◌, ◌%◌, ◌≤◌, ◌<◌}
-use native.Mathlib.Omega.{arith}
-use native.Mathlib.Nat.{mul-le-mul_left}
-use native.Mathlib.Numerals.{add-one}
-use mathlib.Core.Path.{◌≡◌, refl, ap, ◌∙◌}
+use Rattle.std.specs.Prelude.{ℕ, ◌+◌, ◌*◌, ◌%◌, ◌≤◌, ◌<◌, ◌≡◌, refl}
+use Rattle.std.proofs.Common.{arith, mul-le-mul_left, add-one, ap, ◌∙◌}
 use Rattle.protocol.specs.Bytes.{Bytes, word16}
 use Rattle.filter.specs.Filter.{word32, mixed, place_of}
 use Rattle.filter.proofs.place.Goals as goal
@@ -24,7 +21,7 @@ unfolding mixed
 mixed-more filter e i sum a b s p q = rw (s, p, q, add-one i) refl
 
 pub loop-i-init : goal.loop-i-init
-loop-i-init c = (omega arith, (mixed-none _ _, omega arith))
+loop-i-init c = (mixed-none _ _, omega arith)
 
 pub overflow_mul-sum : goal.overflow_mul-sum
 overflow_mul-sum c = let key = c.long_word in
@@ -35,22 +32,18 @@ pub overflow_add-sum : goal.overflow_add-sum
 overflow_add-sum c = let key = c.long_word in
     let most = product key.result c.word.result key.ensures.1 c.word.ensures.1 in
     let so_far = c.loop-i.invariant in
-    omega (arith, most, so_far.0, so_far.1.1)
+    omega (arith, most, so_far.1)
 
 pub loop-i-preserved : goal.loop-i-preserved
 loop-i-preserved c = let key = c.long_word in
     let most = product key.result c.word.result key.ensures.1 c.word.ensures.1 in
     let so_far = c.loop-i.invariant in (
-      omega arith,
-      (
-        mixed-more _ _ c.loop-i.i c.loop-i.sum key.result c.word.result so_far.1.0
-            key.ensures.0 c.word.ensures.0,
-        omega (arith, most, so_far.1.1),
-      ),
+      mixed-more _ _ c.loop-i.i c.loop-i.sum key.result c.word.result so_far.0 key.ensures.0 c.word.ensures.0,
+      omega (arith, most, so_far.1),
     )
 
 pub returns : goal.returns
 unfolding place_of
 returns c = let all : c.loop-i.i ≡ 8 = omega arith in
     ap (λ (n : ℕ). n % 4294967291)
-    (c.loop-i.invariant.1.0 ∙ ap (mixed c.args.filter.now c.args.entry.now) all)
+    (c.loop-i.invariant.0 ∙ ap (mixed c.args.filter.now c.args.entry.now) all)

@@ -1,11 +1,7 @@
 -- `place` meets its contract: words below 2^16 times numbers below 2^32, so that no sum wraps.
-use Prim.Native.Nat.{◌-◌, ◌*◌, ◌≤◌}
-use mathlib.Core.Path.{◌≡◌}
+use Rattle.std.proofs.Common.{◌≡◌, ◌*◌, ◌≤◌}
 use Rattle.filter.specs.Filter.{mixed}
 use Rattle.filter.proofs.place.Given as goal
 
 abbrev pub invariant-loop-i : goal.invariant-loop-i
-invariant-loop-i l = (l.i ≤ 8) × ((l.sum ≡ mixed l.filter l.entry l.i) × (l.sum ≤ l.i * 281474976710656))
-
-abbrev pub decreases-loop-i : goal.decreases-loop-i
-decreases-loop-i l = 8 - l.i
+invariant-loop-i l = (l.sum ≡ mixed l.filter l.entry l.i) × (l.sum ≤ l.i * 281474976710656)

@@ -1,5 +1,5 @@
 -- `votes_for` meets its contract: the 1 or 0 of a bit of the voters, times that of the vote that is kept for it.
-use native.Mathlib.Omega.{arith}
+use Rattle.std.proofs.Common.{arith}
 use Rattle.protocol.proofs.Laws.OneOrZeroLaws.{times_small}
 use Rattle.book_fields.specs.Book.{height_in}
 use Rattle.tally.proofs.Votes.{vote_number}
