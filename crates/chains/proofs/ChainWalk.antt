@@ -13,19 +13,19 @@ use Rattle.protocol.proofs.Laws.ChainLaws.{log_suc, log_bound}
 use Rattle.sha256.specs.Digest.{sha256}
 use Rattle.chains.specs.Walkable.{WalkableAs}
 use Rattle.book_fields.specs.Book.{view_of}
-use Rattle.book_fields.specs.declared.kind.Kind.{Kind}
+use Rattle.book_fields.specs.Kinds.{BookKind}
 use Rattle.protocol.proofs.Laws.EntriesLaws.{entries_length, holds_back}
 use Rattle.protocol.proofs.Laws.EntriesLaws.{holds_front}
 use Rattle.chains.specs.Entries.{first_entries}
 
-pub record Step (kind : Kind) (book : Bytes) (h : ℕ) (block : Bytes) : Type 0 where
+pub record Step (kind : BookKind) (book : Bytes) (h : ℕ) (block : Bytes) : Type 0 where
   pub parent : WalkableAs kind book (parent_height block)
   pub below : parent_height block < h
   pub size : length block ≡ 176
   pub few : entry_count block ≤ 8
   pub log : log_at (view_of kind book) h ≡ log_at (view_of kind book) (parent_height block) ++ entries block
 
-pub walk_step : {kind : Kind} {book : Bytes} {h : ℕ} {block : Bytes} → WalkableAs kind book h → 0 < h →
+pub walk_step : {kind : BookKind} {book : Bytes} {h : ℕ} {block : Bytes} → WalkableAs kind book h → 0 < h →
     block ≡ (view_of kind book).block h → Step kind book h block
 unfolding view
 walk_step {h = zero} w low e = absurd (omega arith)
@@ -44,7 +44,7 @@ walk_step {kind} {book} {h = suc i} w low e =
       log = log_suc sha256 (view_of kind book) i w.is_linked_lem;
     })
 
-pub walk_few : {kind : Kind} {book : Bytes} {h : ℕ} → WalkableAs kind book h →
+pub walk_few : {kind : BookKind} {book : Bytes} {h : ℕ} → WalkableAs kind book h →
     length (log_at (view_of kind book) h) ≤ maximum_entries
 walk_few {kind} {book} {h} w =
     let bound = log_bound sha256 (view_of kind book) w.formed h w.is_linked_lem in
@@ -52,11 +52,11 @@ walk_few {kind} {book} {h} w =
     let heights = w.shown.heights in
     omega arith
 
-pub walk_parent : {kind : Kind} {book : Bytes} {h j : ℕ} {block : Bytes} → Step kind book h block →
+pub walk_parent : {kind : BookKind} {book : Bytes} {h j : ℕ} {block : Bytes} → Step kind book h block →
     j ≡ parent_height block → WalkableAs kind book j
 walk_parent {kind} {book} s e = subst (λ (k : ℕ). WalkableAs kind book k) (sym e) s.parent
 
-pub walk_count : {kind : Kind} {book : Bytes} {h j k : ℕ} {block : Bytes} → Step kind book h block →
+pub walk_count : {kind : BookKind} {book : Bytes} {h j k : ℕ} {block : Bytes} → Step kind book h block →
     j ≡ parent_height block → k ≡ entry_count block →
     length (log_at (view_of kind book) h) ≡ length (log_at (view_of kind book) j) + k
 walk_count {block = block} s p q = rw (p, q) (ap length s.log ∙ rw (length-append, entries_length block))
@@ -68,12 +68,12 @@ pub all_entries_lem : (block : Bytes) (count : ℕ) → count ≡ entry_count bl
 unfolding entries
 all_entries_lem block count e = ap (λ (k : ℕ). first_entries k block) e
 
-pub walk_found : {kind : Kind} {book : Bytes} {h : ℕ} {block : Bytes} (x : Bytes) → Step kind book h block →
+pub walk_found : {kind : BookKind} {book : Bytes} {h : ℕ} {block : Bytes} (x : Bytes) → Step kind book h block →
     holds x (entries block) ≡ true → holds x (log_at (view_of kind book) h) ≡ true
 walk_found {kind} {book} {block = block} x s e = ap (holds x) s.log
     ∙ holds_back x (log_at (view_of kind book) (parent_height block)) (entries block) e
 
-pub walk_on : {kind : Kind} {book : Bytes} {h j : ℕ} {block : Bytes} (x : Bytes) → Step kind book h block →
+pub walk_on : {kind : BookKind} {book : Bytes} {h j : ℕ} {block : Bytes} (x : Bytes) → Step kind book h block →
     j ≡ parent_height block → holds x (entries block) ≡ false →
     holds x (log_at (view_of kind book) h) ≡ holds x (log_at (view_of kind book) j)
 walk_on {kind} {book} {block = block} x s p e =

@@ -5,12 +5,12 @@ use Rattle.protocol.specs.Block.{block_well_formed}
 use Rattle.protocol.specs.State.{book_heights}
 use Rattle.protocol.specs.View.{linked}
 use Rattle.book_fields.specs.Book.{Shown, view_of}
-use Rattle.book_fields.specs.declared.kind.Kind.{Kind}
-use Rattle.book_fields.specs.declared.kind.Kind.TheVariants.{Replica}
+use Rattle.book_fields.specs.Kinds.{BookKind}
+use Rattle.book_fields.specs.Kinds.{ReplicaBook}
 use Rattle.sha256.specs.Digest.{sha256}
 
 -- a linked height of a book whose notarized blocks are all well formed
-pub record WalkableAs (kind : Kind) (book : Bytes) (h : ℕ) : Type 0 where
+pub record WalkableAs (kind : BookKind) (book : Bytes) (h : ℕ) : Type 0 where
   pub shown : Shown kind book
   pub high : h ≤ book_heights book
   pub is_linked_lem : linked sha256 (view_of kind book) h ≡ true
@@ -19,4 +19,4 @@ pub record WalkableAs (kind : Kind) (book : Bytes) (h : ℕ) : Type 0 where
 
 -- of a replica's book
 abbrev pub Walkable : Bytes → ℕ → Type 0
-Walkable book h = WalkableAs Replica book h
+Walkable book h = WalkableAs ReplicaBook book h

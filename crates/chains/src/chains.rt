@@ -11,21 +11,22 @@ ghost use Rattle.chains.specs.Back.{StepsBack};
 ghost use Rattle.chains.specs.Entries.{first_entries};
 
 use book_fields::kind::Kind;
+use std::marker::PhantomData;
 
 // The blocks of the chain that ends in height `at`, newest first.
 #[derive(Drop)]
-struct Chain<'a> {
-    kind: Kind,
+struct Chain<'a, K> {
     book: &'a [u8],
     at: usize,
+    kind: PhantomData<K>,
 }
 
-impl<'a> Iterator for Chain<'a> {
+impl<'a, K: Kind> Iterator for Chain<'a, K> {
     type Item = &'a [u8];
 
-    ghost can_next = { λ chain. WalkableAs chain.kind chain.book.now chain.at };
+    ghost can_next = { λ chain. WalkableAs K.kind chain.book.now chain.at };
 
-    ghost next_gives = { StepsBack };
+    ghost next_gives = { λ chain block rest. StepsBack K.kind chain.book.now chain.at block rest.book.now rest.at };
 
     ghost remaining = { λ chain. at_most chain.at };
 
@@ -33,19 +34,31 @@ impl<'a> Iterator for Chain<'a> {
         if self.at == 0 {
             return None;
         }
-        let block = book_fields::kind::block(self.kind, self.book, self.at);
+        let block = K::block(self.book, self.at);
         self.at = wire::block::parent_height(block);
         Some(block)
     }
 }
 
+// The chain that ends in height `h`.
+fn chain_of<K: Kind>(book: &[u8], h: usize) -> Chain<'_, K>
+    ensures book { result.book.now ≡ book.now }
+    ensures height { result.at ≡ h }
+{
+    Chain {
+        book,
+        at: h,
+        kind: PhantomData,
+    }
+}
+
 // How many entries the chain that ends in height `h` has. Reads three bytes of each of its blocks, 1,000 at most.
-pub fn chain_entries(kind: Kind, book: &[u8], h: usize) -> usize
-    requires { WalkableAs kind book.now h }
-    ensures { (result ≡ length (log_at (view_of kind book.now) h)) × (result ≤ maximum_entries) }
+pub fn chain_entries<K: Kind>(book: &[u8], h: usize) -> usize
+    requires { WalkableAs K.kind book.now h }
+    ensures { (result ≡ length (log_at (view_of K.kind book.now) h)) × (result ≤ maximum_entries) }
 {
     let mut sum = 0;
-    for block in (Chain { kind, book, at: h }) {
+    for block in chain_of::<K>(book, h) {
         sum += wire::block::entry_count(block);
     }
     sum
@@ -62,11 +75,11 @@ pub fn block_holds(block: &[u8], count: usize, entry: &[u8]) -> bool
 }
 
 // Whether the chain that ends in height `h` has this entry. Looks at each of its blocks, 1,000 at most, newest first.
-pub fn chain_holds(kind: Kind, book: &[u8], h: usize, entry: &[u8]) -> bool
-    requires { WalkableAs kind book.now h }
-    ensures { result ≡ holds entry.now (log_at (view_of kind book.now) h) }
+pub fn chain_holds<K: Kind>(book: &[u8], h: usize, entry: &[u8]) -> bool
+    requires { WalkableAs K.kind book.now h }
+    ensures { result ≡ holds entry.now (log_at (view_of K.kind book.now) h) }
 {
-    for block in (Chain { kind, book, at: h }) {
+    for block in chain_of::<K>(book, h) {
         if block_holds(block, wire::block::entry_count(block), entry) {
             return true;
         }

@@ -9,15 +9,8 @@ ghost use Rattle.protocol.specs.Submit.{still_pending, with_pending};
 ghost use Rattle.book_fields.specs.Book.{Readable, Ready, book_view, recoded};
 ghost use Rattle.chains.specs.Walkable.{Walkable};
 
-use book_fields::kind::Kind;
-
-// Whether the chain that ends in height `h` has this entry.
-pub fn chain_holds(book: &[u8], h: usize, entry: &[u8]) -> bool
-    requires { Walkable book.now h }
-    ensures { result ≡ holds entry.now (log_at (book_view book.now) h) }
-{
-    crate::chains::chain_holds(Kind::Replica, book, h, entry)
-}
+use crate::chains::chain_holds;
+use book_fields::kind::Replica;
 
 // Makes the block of height `c` on the block of height `j`, with the first eight pending entries that the chain ending
 // in height `j` lacks, at the front of `block`. Walks that chain once for each pending entry, 32 times at most.
@@ -35,7 +28,7 @@ pub fn offer(book: &[u8], c: usize, j: usize, digest: &[u8], block: &mut [u8])
             return;
         }
         let entry = book_fields::pool::pending_entry(book, k);
-        if chain_holds(book, j, entry) {
+        if chain_holds::<Replica>(book, j, entry) {
             continue;
         }
         wire::block::add_entry(block, taken, entry);
@@ -52,7 +45,11 @@ pub fn unlogged_count(book: &[u8]) -> usize
     let finalized = book_fields::head::finalized(book);
     let count = book_fields::head::pending_count(book);
     (0..count)
-        .filter(|k| !chain_holds(book, finalized, book_fields::pool::pending_entry(book, *k)))
+        .filter(|k| !chain_holds::<Replica>(
+            book,
+            finalized,
+            book_fields::pool::pending_entry(book, *k),
+        ))
         .count()
 }
 
@@ -80,7 +77,7 @@ pub fn add_pending(book: &mut [u8], entry: &[u8])
     let log_height = book_fields::head::finalized(book);
     let mut left = 0;
     for k in 0..book_fields::head::pending_count(book) {
-        if chain_holds(book, log_height, book_fields::pool::pending_entry(book, k)) {
+        if chain_holds::<Replica>(book, log_height, book_fields::pool::pending_entry(book, k)) {
             continue;
         }
         book_changes::pool::move_entry(book, k, left);

@@ -14,7 +14,7 @@ use Rattle.protocol.proofs.Laws.DistinctLaws.{distinct_short}
 use Rattle.protocol.proofs.Laws.PiecesLaws.{pieces_more, pieces_sized, length_pieces}
 use Rattle.protocol.proofs.Laws.EntriesLaws.{holds_back, holds_front, log_start}
 use Rattle.book_fields.specs.Book.{view_of}
-use Rattle.book_fields.specs.declared.kind.Kind.{Kind}
+use Rattle.book_fields.specs.Kinds.{BookKind}
 use Rattle.book_fields.proofs.Places.{cut_part}
 use Rattle.chains.specs.Walkable.{WalkableAs}
 use Rattle.chains.specs.Entries.{first_entries}
@@ -37,7 +37,7 @@ before_next v h k =
     ap (λ (x : Bytes). parent ++ (first_entries k block ++ (x ∷ []))) place ∙
     sym (append_assoc parent (first_entries k block) (entry_of v h k ∷ []))
 
-pub before_end : {kind : Kind} {book : Bytes} {h : ℕ} (count : ℕ) → WalkableAs kind book h → 0 < h →
+pub before_end : {kind : BookKind} {book : Bytes} {h : ℕ} (count : ℕ) → WalkableAs kind book h → 0 < h →
     count ≡ entry_count ((view_of kind book).block h) → up_to (view_of kind book) h count ≡ log_at (view_of kind book) h
 before_end {kind} {book} {h} count w low e =
     let v = view_of kind book in
@@ -45,7 +45,7 @@ before_end {kind} {book} {h} count w low e =
     ∙ sym (walk_step w low refl).log
 
 -- ---- looking back from a place
-module _ {kind : Kind} {book : Bytes} {h k : ℕ} (p : Inside kind book h k) {block : Bytes}
+module _ {kind : BookKind} {book : Bytes} {h k : ℕ} (p : Inside kind book h k) {block : Bytes}
     (is : block ≡ (view_of kind book).block h) where
   pub place_step : Step kind book h block
   place_step = walk_step p.walk p.low is
@@ -73,7 +73,7 @@ module _ {kind : Kind} {book : Bytes} {h k : ℕ} (p : Inside kind book h k) {bl
         (first_entries k (v.block h)) (sym in_block ∙ e)))
 
 -- a place of the block that the walk has come to
-pub inside_at : {kind : Kind} {book : Bytes} {h k size : ℕ} {block : Bytes} → WalkableAs kind book h → 0 < h →
+pub inside_at : {kind : BookKind} {book : Bytes} {h k size : ℕ} {block : Bytes} → WalkableAs kind book h → 0 < h →
     block ≡ (view_of kind book).block h → size ≡ entry_count block → k < size → Inside kind book h k
 inside_at {kind} {book} {h} {k} {size} {block} w low is count taken =
     let few = (walk_step w low is).few in
@@ -81,7 +81,7 @@ inside_at {kind} {book} {h} {k} {size} {block} w low is count taken =
     record { walk = w; low = low; inside = rw is at inside; few = omega arith }
 
 -- the filter knows what stands before the next place
-pub marked_next : {kind : Kind} {book : Bytes} {h k : ℕ} (p : Inside kind book h k) {block filter : Bytes} →
+pub marked_next : {kind : BookKind} {book : Bytes} {h k : ℕ} (p : Inside kind book h k) {block filter : Bytes} →
     block ≡ (view_of kind book).block h →
     Marked filter (up_to (view_of kind book) h k ++
     (take (48 + 16 * k + 16 - (48 + 16 * k)) (drop (48 + 16 * k) block) ∷ [])) →
@@ -91,7 +91,7 @@ marked_next {kind} {book} {h} {k} p {filter = filter} is m =
     (subst (λ (x : Bytes). Marked filter (up_to (view_of kind book) h k ++ (x ∷ []))) (cut_entry p is) m)
 
 -- ---- sizes
-module _ {kind : Kind} {book : Bytes} {h : ℕ} (w : WalkableAs kind book h) (low : 0 < h) (k : ℕ)
+module _ {kind : BookKind} {book : Bytes} {h : ℕ} (w : WalkableAs kind book h) (low : 0 < h) (k : ℕ)
     (within : k ≤ entry_count ((view_of kind book).block h)) where
   abbrev shown : View
   shown = view_of kind book
@@ -123,7 +123,7 @@ pub distinct_none : (v : View) (h : ℕ) → h ≤ 0 → log_of v h ≡ []
 unfolding distinct distinct_after
 distinct_none v h low = ap distinct (log_start v h low)
 
-pub distinct_few : {kind : Kind} {book : Bytes} {h : ℕ} → WalkableAs kind book h →
+pub distinct_few : {kind : BookKind} {book : Bytes} {h : ℕ} → WalkableAs kind book h →
     length (log_of (view_of kind book) h) ≤ maximum_entries
 distinct_few {kind} {book} {h} w =
     let short = distinct_short (log_at (view_of kind book) h) in

@@ -5,7 +5,7 @@ use Rattle.protocol.specs.Block.{parent_height, entry_count}
 use Rattle.protocol.specs.Distinct.{distinct}
 use Rattle.protocol.specs.View.{View, log_at, log_of}
 use Rattle.book_fields.specs.Book.{view_of}
-use Rattle.book_fields.specs.declared.kind.Kind.{Kind}
+use Rattle.book_fields.specs.Kinds.{BookKind}
 use Rattle.chains.specs.Walkable.{WalkableAs}
 use Rattle.chains.specs.Entries.{first_entries}
 use Rattle.filter.specs.Filter.{Marked}
@@ -19,7 +19,7 @@ abbrev pub up_to : View → ℕ → ℕ → List Bytes
 up_to v h k = log_at v (parent_height (v.block h)) ++ first_entries k (v.block h)
 
 -- a place of the last block of a chain
-pub record Inside (kind : Kind) (book : Bytes) (h k : ℕ) : Type 0 where
+pub record Inside (kind : BookKind) (book : Bytes) (h k : ℕ) : Type 0 where
   pub walk : WalkableAs kind book h
   pub low : 0 < h
   pub inside : k < entry_count ((view_of kind book).block h)

@@ -15,29 +15,29 @@ use filter::{LARGE, SMALL};
 
 // Whether the entry at place `k` of the block of height `h` equals one before it in the chain. Looks into the block
 // first, then walks back through those below.
-fn stands_before(kind: Kind, book: &[u8], h: usize, k: usize) -> bool
-    requires { Inside kind book.now h k }
+fn stands_before<K: Kind>(book: &[u8], h: usize, k: usize) -> bool
+    requires { Inside K.kind book.now h k }
     ensures { result ≡
-        holds (entry_of (view_of kind book.now) h k) (up_to (view_of kind book.now) h k) }
+        holds (entry_of (view_of K.kind book.now) h k) (up_to (view_of K.kind book.now) h k) }
 {
-    let block = book_fields::kind::block(kind, book, h);
+    let block = K::block(book, h);
     let from = 48 + 16 * k;
     let entry = &block[from..from + 16];
     chains::chains::block_holds(block, k, entry)
-        || chains::chains::chain_holds(kind, book, wire::block::parent_height(block), entry)
+        || chains::chains::chain_holds::<K>(book, wire::block::parent_height(block), entry)
 }
 
 // The same, where the filter knows those before it: it answers for most, and then knows this one too.
-fn is_repeat(kind: Kind, book: &[u8], h: usize, k: usize, filter: &mut [u8]) -> bool
-    requires inside { Inside kind book.now h k }
-    requires marked_2 { Marked filter.old (up_to (view_of kind book.now) h k) }
+fn is_repeat<K: Kind>(book: &[u8], h: usize, k: usize, filter: &mut [u8]) -> bool
+    requires inside { Inside K.kind book.now h k }
+    requires marked_2 { Marked filter.old (up_to (view_of K.kind book.now) h k) }
     ensures answer { result ≡
-        holds (entry_of (view_of kind book.now) h k) (up_to (view_of kind book.now) h k) }
-    ensures marked { Marked filter.new (up_to (view_of kind book.now) h (k + 1)) }
+        holds (entry_of (view_of K.kind book.now) h k) (up_to (view_of K.kind book.now) h k) }
+    ensures marked { Marked filter.new (up_to (view_of K.kind book.now) h (k + 1)) }
 {
-    let block = book_fields::kind::block(kind, book, h);
+    let block = K::block(book, h);
     let from = 48 + 16 * k;
-    filter::mark(filter, &block[from..from + 16]) && stands_before(kind, book, h, k)
+    filter::mark(filter, &block[from..from + 16]) && stands_before::<K>(book, h, k)
 }
 
 // Puts the entry at place `k` of a block behind the `count` entries at the front of the buffer, where there is room.
@@ -55,25 +55,24 @@ fn put_entry(block: &[u8], k: usize, count: usize, buffer: &mut [u8])
 
 // Goes through the entries of the block of height `h`, after those of the chain below, of which `count` were distinct.
 // Puts each that is no repeat behind those in the buffer, where there is room, and says how many there are then.
-fn take_block(
-    kind: Kind,
+fn take_block<K: Kind>(
     book: &[u8],
     h: usize,
     count: usize,
     filter: &mut [u8],
     buffer: &mut [u8],
 ) -> usize
-    requires walkable_as { WalkableAs kind book.now h × (0 < h) }
-    requires marked { Marked filter.old (up_to (view_of kind book.now) h 0) }
-    requires count_value { count ≡ length (distinct (up_to (view_of kind book.now) h 0)) }
+    requires walkable_as { WalkableAs K.kind book.now h × (0 < h) }
+    requires marked { Marked filter.old (up_to (view_of K.kind book.now) h 0) }
+    requires count_value { count ≡ length (distinct (up_to (view_of K.kind book.now) h 0)) }
     ensures { (before : Bytes) →
-        Taken (up_to (view_of kind book.now) h 0) before filter.old buffer.old count →
-        Taken (log_at (view_of kind book.now) h) before filter.new buffer.new result }
+        Taken (up_to (view_of K.kind book.now) h 0) before filter.old buffer.old count →
+        Taken (log_at (view_of K.kind book.now) h) before filter.new buffer.new result }
 {
-    let block = book_fields::kind::block(kind, book, h);
+    let block = K::block(book, h);
     let mut taken = count;
     for k in 0..wire::block::entry_count(block) {
-        if is_repeat(kind, book, h, k, filter) {
+        if is_repeat::<K>(book, h, k, filter) {
             continue;
         }
         put_entry(block, k, taken, buffer);
@@ -84,96 +83,96 @@ fn take_block(
 
 // Goes through the entries of the chain that ends in height `h`, oldest first, and puts those that are no repeats to
 // the front of the buffer, where there is room. Says how many they are. Each call goes to a lower height.
-fn take_chain(kind: Kind, book: &[u8], h: usize, filter: &mut [u8], buffer: &mut [u8]) -> usize
-    requires walkable_as { WalkableAs kind book.now h }
+fn take_chain<K: Kind>(book: &[u8], h: usize, filter: &mut [u8], buffer: &mut [u8]) -> usize
+    requires walkable_as { WalkableAs K.kind book.now h }
     requires in_bounds { 32 < length filter.old }
-    ensures { Taken (log_at (view_of kind book.now) h) buffer.old filter.new
+    ensures { Taken (log_at (view_of K.kind book.now) h) buffer.old filter.new
         buffer.new result }
 {
     if h == 0 {
         return 0;
     }
-    let block = book_fields::kind::block(kind, book, h);
+    let block = K::block(book, h);
     let parent = wire::block::parent_height(block);
-    let count = take_chain(kind, book, parent, filter, buffer);
-    take_block(kind, book, h, count, filter, buffer)
+    let count = take_chain::<K>(book, parent, filter, buffer);
+    take_block::<K>(book, h, count, filter, buffer)
 }
 
 // The same with a filter of its own of `N` bytes, which has 64 places for each entry that the chain can have. Its key
 // is the parent digest of the chain's newest block: it was not known to those who chose the entries of the blocks
 // below, and costs no digest. Never inlined, so that a chain that a small filter serves pays for no large one.
 #[inline(never)]
-fn take_in<const N: usize>(kind: Kind, book: &[u8], h: usize, buffer: &mut [u8]) -> usize
-    requires walkable_as { WalkableAs kind book.now h × (0 < h) }
+fn take_in<K: Kind, const N: usize>(book: &[u8], h: usize, buffer: &mut [u8]) -> usize
+    requires walkable_as { WalkableAs K.kind book.now h × (0 < h) }
     requires places { (32 + 64 * h ≤ N) × (N ≤ LARGE) }
-    ensures { Told (log_at (view_of kind book.now) h) buffer.old buffer.new result }
+    ensures { Told (log_at (view_of K.kind book.now) h) buffer.old buffer.new result }
 {
-    let block = book_fields::kind::block(kind, book, h);
+    let block = K::block(book, h);
     let mut filter = [0u8; N];
     wire::bytes::copy_to(&mut filter, 0, &block[16..48]);
-    take_chain(kind, book, h, &mut filter, buffer)
+    take_chain::<K>(book, h, &mut filter, buffer)
 }
 
 // The same with a filter of a size that goes by the height. Goes through the chain once, and looks back where the
 // filter says perhaps, once an entry at most.
-fn take_distinct(kind: Kind, book: &[u8], h: usize, buffer: &mut [u8]) -> usize
-    requires { WalkableAs kind book.now h × (0 < h) }
-    ensures { Told (log_at (view_of kind book.now) h) buffer.old buffer.new result }
+fn take_distinct<K: Kind>(book: &[u8], h: usize, buffer: &mut [u8]) -> usize
+    requires { WalkableAs K.kind book.now h × (0 < h) }
+    ensures { Told (log_at (view_of K.kind book.now) h) buffer.old buffer.new result }
 {
     if 32 + 64 * h <= SMALL {
-        take_in::<SMALL>(kind, book, h, buffer)
+        take_in::<K, SMALL>(book, h, buffer)
     } else {
-        take_in::<LARGE>(kind, book, h, buffer)
+        take_in::<K, LARGE>(book, h, buffer)
     }
 }
 
 // How many distinct entries the chain that ends in height `h` has.
-pub fn count_distinct(kind: Kind, book: &[u8], h: usize) -> usize
-    requires { WalkableAs kind book.now h }
-    ensures { (result ≡ length (log_of (view_of kind book.now) h)) × (result ≤ maximum_entries) }
+pub fn count_distinct<K: Kind>(book: &[u8], h: usize) -> usize
+    requires { WalkableAs K.kind book.now h }
+    ensures { (result ≡ length (log_of (view_of K.kind book.now) h)) × (result ≤ maximum_entries) }
 {
     if h == 0 {
         return 0;
     }
-    take_distinct(kind, book, h, &mut [])
+    take_distinct::<K>(book, h, &mut [])
 }
 
 // Whether the distinct entries of the chain that ends in height `h` fit into `room` bytes. Counts them only where all
 // the chain's entries would not fit.
-fn fits_into(kind: Kind, book: &[u8], h: usize, room: usize) -> bool
-    requires { WalkableAs kind book.now h }
-    ensures { result ≡ leb (16 * length (log_of (view_of kind book.now) h)) room }
+fn fits_into<K: Kind>(book: &[u8], h: usize, room: usize) -> bool
+    requires { WalkableAs K.kind book.now h }
+    ensures { result ≡ leb (16 * length (log_of (view_of K.kind book.now) h)) room }
 {
-    let all = chains::chains::chain_entries(kind, book, h);
-    16 * all <= room || 16 * count_distinct(kind, book, h) <= room
+    let all = chains::chains::chain_entries::<K>(book, h);
+    16 * all <= room || 16 * count_distinct::<K>(book, h) <= room
 }
 
 // Copies the distinct entries of the chain that ends in height `h` to the front of the buffer, where they fit, and says
 // how many they are.
-fn copy_distinct(kind: Kind, book: &[u8], h: usize, buffer: &mut [u8]) -> usize
-    requires walkable_as { WalkableAs kind book.now h }
-    requires h_in_bounds { 16 * length (log_of (view_of kind book.now) h) ≤ length buffer.old }
-    ensures count { (result ≡ length (log_of (view_of kind book.now) h)) × (result ≤ maximum_entries) }
+fn copy_distinct<K: Kind>(book: &[u8], h: usize, buffer: &mut [u8]) -> usize
+    requires walkable_as { WalkableAs K.kind book.now h }
+    requires h_in_bounds { 16 * length (log_of (view_of K.kind book.now) h) ≤ length buffer.old }
+    ensures count { (result ≡ length (log_of (view_of K.kind book.now) h)) × (result ≤ maximum_entries) }
     ensures buffer { buffer.new ≡
-        over_front (join (log_of (view_of kind book.now) h)) buffer.old }
+        over_front (join (log_of (view_of K.kind book.now) h)) buffer.old }
 {
     if h == 0 {
         return 0;
     }
-    take_distinct(kind, book, h, buffer)
+    take_distinct::<K>(book, h, buffer)
 }
 
 // Copies the distinct entries of the chain that ends in height `h` to the front of the buffer, or nothing where they do
 // not fit, and says how many bytes it wrote. Goes through the chain up to three times: for all its entries' number, then
 // for that of the distinct ones where all would not fit, and to copy them.
-pub fn read_distinct(kind: Kind, book: &[u8], h: usize, buffer: &mut [u8]) -> usize
-    requires { WalkableAs kind book.now h }
-    ensures length { result ≡ length (part_read (view_of kind book.now) h buffer.old) }
+pub fn read_distinct<K: Kind>(book: &[u8], h: usize, buffer: &mut [u8]) -> usize
+    requires { WalkableAs K.kind book.now h }
+    ensures length { result ≡ length (part_read (view_of K.kind book.now) h buffer.old) }
     ensures buffer { buffer.new ≡
-        over_front (part_read (view_of kind book.now) h buffer.old) buffer.old }
+        over_front (part_read (view_of K.kind book.now) h buffer.old) buffer.old }
 {
-    if fits_into(kind, book, h, buffer.len()) {
-        16 * copy_distinct(kind, book, h, buffer)
+    if fits_into::<K>(book, h, buffer.len()) {
+        16 * copy_distinct::<K>(book, h, buffer)
     } else {
         0
     }

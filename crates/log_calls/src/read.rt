@@ -6,7 +6,7 @@ ghost use Rattle.protocol.specs.Sound.{log};
 ghost use Rattle.protocol.specs.Read.{read_part, read_buffer};
 ghost use Rattle.book_fields.specs.Book.{SoundBook};
 
-use book_fields::kind::Kind;
+use book_fields::kind::Replica;
 
 // How many entries the log of a sound book has. Goes through the entries of its chain once, and looks back at those
 // before an entry for which the filter says perhaps, 8,000 times at most.
@@ -15,7 +15,7 @@ pub fn log_count(book: &[u8]) -> usize
     ensures { (result ≡ length (log (decode book.now))) × (result ≤ maximum_entries) }
 {
     let finalized = book_fields::head::finalized(book);
-    distinct_entries::distinct::count_distinct(Kind::Replica, book, finalized)
+    distinct_entries::distinct::count_distinct::<Replica>(book, finalized)
 }
 
 // Copies the log of a sound book to the front of the buffer, if the buffer is long enough, and says how many bytes it
@@ -26,5 +26,5 @@ pub fn read_sound(book: &[u8], buffer: &mut [u8]) -> usize
     ensures buffer { buffer.new ≡ read_buffer sha book.now buffer.old }
 {
     let finalized = book_fields::head::finalized(book);
-    distinct_entries::distinct::read_distinct(Kind::Replica, book, finalized, buffer)
+    distinct_entries::distinct::read_distinct::<Replica>(book, finalized, buffer)
 }

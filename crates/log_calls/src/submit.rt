@@ -9,6 +9,7 @@ ghost use Rattle.book_fields.specs.Book.{SoundBook};
 
 use answers::refusal::Refusal;
 use book_fields::bounds::MAXIMUM_PENDING;
+use book_fields::kind::Replica;
 
 // Whether an entry is pending or in the log. Compares it with those pending, 32 at most, and with the log.
 fn is_known(book: &[u8], entry: &[u8]) -> bool
@@ -16,7 +17,7 @@ fn is_known(book: &[u8], entry: &[u8]) -> bool
     ensures { result ≡ is_entry_known (decode book.now) entry.now }
 {
     chains::entries::is_pending(book, entry)
-        || chains::entries::chain_holds(book, book_fields::head::finalized(book), entry)
+        || chains::chains::chain_holds::<Replica>(book, book_fields::head::finalized(book), entry)
 }
 
 // Whether a place is left once the entries that the log holds are dropped. Walks the log for each of them only where

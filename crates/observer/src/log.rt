@@ -7,7 +7,7 @@ ghost use Rattle.protocol.specs.Observer.{observer_state};
 ghost use Rattle.protocol.specs.ObserverCalls.{observer_read_part, observer_read_buffer};
 ghost use Rattle.book_fields.specs.Book.{SoundObserverBook};
 
-use book_fields::kind::Kind;
+use book_fields::kind::Observer;
 use book_fields::observed::finalized;
 
 // How many entries the log of a sound book has. Goes through the entries of its chain once, and looks back at those
@@ -17,7 +17,7 @@ pub fn log_count(book: &[u8]) -> usize
     ensures { (result ≡ length (log (observer_state book.now))) × (result ≤ maximum_entries) }
 {
     let g = finalized(book);
-    distinct_entries::distinct::count_distinct(Kind::Observer, book, g)
+    distinct_entries::distinct::count_distinct::<Observer>(book, g)
 }
 
 // Copies the log of a sound book to the front of the buffer, if the buffer is long enough, and says how many bytes it
@@ -28,5 +28,5 @@ pub fn read_sound(book: &[u8], buffer: &mut [u8]) -> usize
     ensures buffer { buffer.new ≡ observer_read_buffer sha book.now buffer.old }
 {
     let g = finalized(book);
-    distinct_entries::distinct::read_distinct(Kind::Observer, book, g, buffer)
+    distinct_entries::distinct::read_distinct::<Observer>(book, g, buffer)
 }

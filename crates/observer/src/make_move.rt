@@ -9,26 +9,26 @@ ghost use Rattle.protocol.specs.ObserverCalls.{observer_step, observer_moved, ob
 ghost use Rattle.answers.specs.Answers.{moved_answer, move_of};
 ghost use Rattle.answers.specs.MoveNumbers.{moved_numbers, answer_numbers};
 ghost use Rattle.book_fields.specs.Book.{ObserverReadable, SoundObserverBook};
-ghost use Rattle.book_fields.specs.declared.kind.Kind.TheVariants.{Observer};
+ghost use Rattle.book_fields.specs.Kinds.{ObserverBook};
 ghost use Rattle.memory.specs.Memo.{MemoAs};
 ghost use Rattle.observer_soundness.specs.ObserverRows.{book_rows};
 
 use answers::answer::Moved;
 use answers::refusal::Refusal;
-use book_fields::kind::Kind;
+use book_fields::kind::Observer;
 use memory::{LARGE, SMALL, has_room};
 
 // Makes the largest finalized height the finalized one, where it is larger. Costs one store.
 fn step(book: &mut [u8], known: &mut [u8]) -> Moved
     requires sound_observer_book { SoundObserverBook sha book.old }
-    requires memo_as { MemoAs Observer book.old known.old }
+    requires memo_as { MemoAs ObserverBook book.old known.old }
     ensures answer { accepted (move_of result) ≡
         (observer_moved sha (observer_step sha (observer_state book.old))).answer }
     ensures book { book.new ≡
         (observer_moved sha (observer_step sha (observer_state book.old))).book }
 {
-    let top = book_fields::kind::heights(Kind::Observer, book);
-    let g = linking::linking::largest_finalized(Kind::Observer, book, top, known);
+    let top = book_fields::kind::heights::<Observer>(book);
+    let g = linking::linking::largest_finalized::<Observer>(book, top, known);
     if g <= book_fields::observed::finalized(book) {
         return Moved::Idle;
     }
@@ -64,7 +64,7 @@ pub fn make_move(book: &mut [u8]) -> Result<Moved, Refusal>
     if !observer_soundness::rows_sound(book) {
         return Err(Refusal::Unsound);
     }
-    if has_room(Kind::Observer, book, SMALL) {
+    if has_room::<Observer>(book, SMALL) {
         move_in::<SMALL>(book)
     } else {
         move_in::<LARGE>(book)

@@ -2,5 +2,4 @@
 #![tactic(auto)]
 
 pub mod deliver;
-mod progress;
 pub mod reader;

@@ -1,6 +1,8 @@
 // A reader of packets: it borrows the packet and keeps the number of the next frame.
 ghost use Rattle.std.specs.Prelude.{◌≡◌, ◌+◌, ◌*◌, ◌≤◌, length};
+ghost use Rattle.std.specs.Iterator.{YieldsFirstRef, item_count};
 ghost use Rattle.packets.specs.Frames.{frame_at};
+ghost use Rattle.packets.specs.Left.{frames_left};
 
 // A packet that is read, and the number of its next frame.
 #[derive(Drop)]
@@ -31,7 +33,7 @@ pub fn next<'s, 'a>(reader: &'s mut Packet<'a>) -> &'a [u8]
 }
 
 // The frame at a number, by a reader that stands there and reads on; the number becomes the one that the reader keeps.
-// Its parameters are plain, so that the proofs of its callers need not go by hand.
+// For callers who keep the number and no reader.
 pub fn read_on<'a, 'n>(packet: &'a [u8], number: &'n mut usize) -> &'a [u8]
     requires { 224 * number.old + 224 ≤ length packet.now }
     ensures { (result.now ≡ frame_at packet.now number.old)
@@ -44,4 +46,20 @@ pub fn read_on<'a, 'n>(packet: &'a [u8], number: &'n mut usize) -> &'a [u8]
     let frame = next(&mut reader);
     *number = reader.next;
     frame
+}
+
+// The frames from the next one on, in order; bytes past the last whole frame are in none.
+impl<'a> Iterator for Packet<'a> {
+    type Item = &'a [u8];
+
+    ghost next_gives = { YieldsFirstRef frames_left };
+
+    ghost remaining = { item_count frames_left };
+
+    fn next(&mut self) -> Option<&'a [u8]> {
+        if self.frames.len() / 224 <= self.next {
+            return None;
+        }
+        Some(next(self))
+    }
 }

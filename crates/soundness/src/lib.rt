@@ -15,8 +15,9 @@ ghost use Rattle.soundness.specs.SoundRows.{number_rows, head_rows, certificate_
 
 use book_fields::bounds::MAXIMUM_PENDING;
 use book_fields::head::good_number;
-use book_fields::height::{holds_proposal, is_notarized, notarized, proposal};
+use book_fields::height::{holds_proposal, is_notarized, mask_at, notarized, proposal};
 use book_fields::kind::Kind;
+use book_fields::names::MaskKind;
 use wire::bytes::{byte, is_zero};
 use wire::mask::below;
 
@@ -60,10 +61,10 @@ fn masks_sound(book: &[u8], h: usize) -> bool
     ensures { result ≡ masks_below (decode book.now).n (height_in book.now h) }
 {
     let n = book_fields::head::replicas(book);
-    let certificate = below(n, book_fields::height::certificate_mask(book, h));
-    let dummy = below(n, book_fields::height::dummy_mask(book, h));
-    let finalize = below(n, book_fields::height::finalize_mask(book, h));
-    let voters = below(n, book_fields::height::voter_mask(book, h));
+    let certificate = below(n, mask_at(book, h, MaskKind::Certificate));
+    let dummy = below(n, mask_at(book, h, MaskKind::Dummy));
+    let finalize = below(n, mask_at(book, h, MaskKind::Finalize));
+    let voters = below(n, mask_at(book, h, MaskKind::Voters));
     certificate & (dummy & (finalize & voters))
 }
 
@@ -85,7 +86,7 @@ fn certificate_sound(book: &[u8], h: usize) -> bool
     ensures { result ≡ certificate_row book.now h }
 {
     if is_notarized(book, h) {
-        book_fields::quorum::quorum(book, book_fields::height::certificate_mask(book, h))
+        book_fields::quorum::quorum(book, mask_at(book, h, MaskKind::Certificate))
     } else {
         true
     }

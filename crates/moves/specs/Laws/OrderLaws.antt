@@ -1,7 +1,7 @@
 -- The order of the moves: which step is taken, by the tests that failed before it, and what the call then answers.
-use Rattle.std.specs.Prelude.{ℕ, ◌≤◌, ◌<◌, ◌≡◌, refl, true, false, length, leb}
-use Rattle.std.proofs.Common.{arith, sym, subst}
-use borrow.Author.Tests.{lt-ltb, le-ltb}
+use Rattle.std.specs.Prelude.{ℕ, ◌≤◌, ◌<◌, ◌≡◌, refl, true, false, length, leb, Result, Ok, Err}
+use Rattle.std.proofs.Common.{arith, ap, sym, subst}
+use Rattle.std.proofs.lemmas.Bool.{lt-ltb, le-ltb}
 use Rattle.sha256.specs.Digest.{sha256}
 use Rattle.protocol.specs.Bytes.{Bytes, zeros, join, over_front}
 use Rattle.protocol.specs.Tests.{first_refusal}
@@ -14,7 +14,8 @@ use Rattle.protocol.specs.Move.{is_running, new_finalized, dummy_vote_applies, d
 use Rattle.protocol.specs.Move.{output_applies, output_step, pass_applies, pass_step, propose_applies, propose_step}
 use Rattle.protocol.specs.Move.{block_vote_applies, block_vote_step, idle_step}
 use Rattle.answers.specs.declared.answer.Moved.{Moved}
-use Rattle.answers.specs.Answers.{moved_answer}
+use Rattle.answers.specs.declared.refusal.Refusal.{Refusal}
+use Rattle.answers.specs.Answers.{move_of, moved_answer}
 use Rattle.applies.specs.Took.{Took}
 use Rattle.moves.specs.Later.{later_step}
 
@@ -71,18 +72,18 @@ took_as {reply = reply} {r = r} {book_after = book_after} {replyAfter = replyAft
     subst (λ (st : Step). Took st reply r book_after replyAfter) (sym e) t
 
 pub took_output : (s : State) (reply book_after : Bytes) (r : Moved) →
-    moved_answer r ≡ accepted (output_step sha256 s).move → book_after ≡ encode (output_step sha256 s).after →
+    move_of r ≡ (output_step sha256 s).move → book_after ≡ encode (output_step sha256 s).after →
     Took (output_step sha256 s) reply r book_after reply
 unfolding output_step written unused join zeros over_front
 took_output s reply book_after r a b = record { answer = a; book = b; reply_is = refl }
 
 pub took_idle : (book reply : Bytes) → encode (decode book) ≡ book →
     Took (idle_step (decode book)) reply Moved.Idle book reply
-unfolding idle_step written unused join zeros over_front moved_answer
+unfolding idle_step written unused join zeros over_front
 took_idle book reply whole = record { answer = refl; book = sym whole; reply_is = refl }
 
 -- ---- the call
-abbrev pub Called : Bytes → Bytes → Moved → Bytes → Bytes → Type 0
+abbrev pub Called : Bytes → Bytes → Result Moved Refusal → Bytes → Bytes → Type 0
 Called book reply r book_after replyAfter =
     (moved_answer r ≡ (move_call sha256 book reply).answer) ×
     ((book_after ≡ (move_call sha256 book reply).book) ×
@@ -90,15 +91,15 @@ Called book reply r book_after replyAfter =
 
 module _ (book reply : Bytes) where
   pub called : sound sha256 book ≡ true → leb 448 (length reply) ≡ true → (r : Moved) (book_after replyAfter : Bytes) →
-      Took (step sha256 (decode book)) reply r book_after replyAfter → Called book reply r book_after replyAfter
+      Took (step sha256 (decode book)) reply r book_after replyAfter → Called book reply (Ok r) book_after replyAfter
   unfolding move_call move_rows first_refusal unless_move_refused moved
-  called e f r book_after replyAfter t = rw (e, f) (t.answer, (t.book, t.reply_is))
+  called e f r book_after replyAfter t = rw (e, f) (ap accepted t.answer, (t.book, t.reply_is))
 
   pub called_short : sound sha256 book ≡ true → leb 448 (length reply) ≡ false →
-      Called book reply (Moved.Refused 3) book reply
-  unfolding move_call move_rows first_refusal unless_move_refused moved_answer
+      Called book reply (Err Refusal.ShortReply) book reply
+  unfolding move_call move_rows first_refusal unless_move_refused
   called_short e f = rw (e, f) (refl, (refl, refl))
 
-  pub called_unsound : sound sha256 book ≡ false → Called book reply (Moved.Refused 1) book reply
-  unfolding move_call move_rows first_refusal unless_move_refused moved_answer
+  pub called_unsound : sound sha256 book ≡ false → Called book reply (Err Refusal.Unsound) book reply
+  unfolding move_call move_rows first_refusal unless_move_refused
   called_unsound e = rw e (refl, (refl, refl))

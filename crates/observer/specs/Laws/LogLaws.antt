@@ -14,12 +14,12 @@ use Rattle.distinct_entries.specs.Taking.{part_read}
 use Rattle.answers.specs.declared.refusal.Refusal.{Refusal}
 use Rattle.answers.specs.Answers.{size_answer}
 use Rattle.book_fields.specs.Book.{SoundObserverBook}
-use Rattle.book_fields.specs.declared.kind.Kind.TheVariants.{Observer}
+use Rattle.book_fields.specs.Kinds.{ObserverBook}
 use Rattle.log_calls.specs.Laws.ReadLaws.{unsound_reads, sound_reads, part_front, part_length}
 
 -- the log's chain
 pub observer_walkable : (book : Bytes) (g : ℕ) → SoundObserverBook sha256 book → g ≡ (observer_state book).finalized →
-    WalkableAs Observer book g
+    WalkableAs ObserverBook book g
 observer_walkable book g s e =
     rw e (record {
       shown = s.ready.readable;

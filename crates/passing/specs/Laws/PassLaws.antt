@@ -2,7 +2,7 @@
 use Rattle.std.specs.Prelude.{ℕ, ◌+◌, ◌≡◌, Bool, true, false, not, cond, length}
 use Rattle.std.proofs.Common.{arith, ◌∙◌}
 use Rattle.std.proofs.Math.Path.{ap}
-use mathlib.Core.List.{[], ◌∷◌, ◌++◌, append-nil}
+use Rattle.std.proofs.Common.{[], ◌∷◌, ◌++◌, append-nil}
 use Rattle.sha256.specs.Digest.{sha256}
 use Rattle.protocol.specs.Bytes.{Bytes, zeros, join, over_front, put}
 use Rattle.protocol.proofs.Laws.BytesLaws.{length_zeros}
@@ -18,7 +18,7 @@ use Rattle.protocol.specs.Certificates.{certificate_frame}
 use Rattle.protocol.specs.Move.{unused, written, passes_by, pass_step}
 use Rattle.answers.specs.declared.answer.Moved.TheVariants as Moved
 use Rattle.answers.specs.declared.answer.Certificate as code
-use Rattle.answers.specs.Answers.{moved_answer, certificate_of}
+use Rattle.answers.specs.Answers.{certificate_of}
 use Rattle.applies.specs.Took.{Took}
 use Rattle.passing.specs.Second.{finalize_on}
 
@@ -75,7 +75,7 @@ module _ (s : State) (size : length (at s s.current).notarized ≡ 176) where
       replyAfter ≡ put middle 224 (finalize_on inTime s) →
       book_after ≡ encode (with_head s 0 (c + 1) s.finalized) →
       Took (pass_step sha256 s) reply (Moved.Pass c by inTime) book_after replyAfter
-  unfolding pass_step moved_answer
+  unfolding pass_step
   took_pass reply book_after middle replyAfter c kind by inTime c-is kind-is by-is in-time-is first second b = record {
     answer = rw (by-is, c-is, in-time-is);
     book = b ∙ rw c-is;

@@ -9,7 +9,7 @@ use Rattle.soundness.proofs.certificate_sound.Goals as goal
 
 pub returns-then-is_notarized : goal.returns-then-is_notarized
 returns-then-is_notarized c = c.quorum.ensures ∙ ap (λ (m : ℕ). quorum (view (decode c.args.book.now)) m)
-    c.certificate_mask.ensures.0
+    c.mask_at.ensures.0
     ∙ sym (where_held _ _ (sym c.is_notarized.ensures ∙ c.if-is_notarized.true))
 
 pub returns-else-is_notarized : goal.returns-else-is_notarized

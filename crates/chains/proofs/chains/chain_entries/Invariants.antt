@@ -5,7 +5,8 @@ use Rattle.book_fields.specs.Book.{view_of}
 use Rattle.chains.proofs.chains.chain_entries.Given as goal
 
 abbrev pub invariant-loop-block : goal.invariant-loop-block
-invariant-loop-block l =
+invariant-loop-block g l =
     let left = l.block-iterator in
-    (goal.iterator-loop-block).can_next left × (goal.iterator-loop-block).is_finite left ×
-    (l.sum + length (log_at (view_of left.kind left.book.now) left.at) ≡ length (log_at (view_of l.fn.kind l.book) l.h))
+    (goal.iterator-loop-block g).can_next left × (goal.iterator-loop-block g).is_finite left ×
+    (l.sum + length (log_at (view_of g.K.Kind.kind left.book.now) left.at) ≡
+    length (log_at (view_of g.K.Kind.kind l.book) l.h))

@@ -7,8 +7,8 @@ use Rattle.book_fields.specs.Book.{view_of}
 use Rattle.chains.proofs.chains.chain_holds.Given as goal
 
 abbrev pub invariant-loop-block : goal.invariant-loop-block
-invariant-loop-block l =
+invariant-loop-block g l =
     let left = l.block-iterator in
-    (goal.iterator-loop-block).can_next left × (goal.iterator-loop-block).is_finite left ×
-    (holds l.entry (log_at (view_of l.fn.kind l.book) l.h) ≡
-    holds l.entry (log_at (view_of left.kind left.book.now) left.at))
+    (goal.iterator-loop-block g).can_next left × (goal.iterator-loop-block g).is_finite left ×
+    (holds l.entry (log_at (view_of g.K.Kind.kind l.book) l.h) ≡
+    holds l.entry (log_at (view_of g.K.Kind.kind left.book.now) left.at))

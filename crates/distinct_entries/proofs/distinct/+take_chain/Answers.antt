@@ -21,8 +21,8 @@ below_taken v h {before = before} {filter = filter} {buffer = buffer} {count = c
     subst (λ (es : List Bytes). Taken es before filter buffer count) (ap (log_at v) j ∙ sym (before_first v h)) taken
 
 pub returns-then-h-eq0 : goal.returns-then-h-eq0
-returns-then-h-eq0 t c =
-    let v = view_of c.args.kind c.args.book.now in
+returns-then-h-eq0 g t c =
+    let v = view_of g.K.Kind.kind c.args.book.now in
     let nothing = log_start v c.args.h (omega arith) in
     let filter = c.args.filter.now in
     let buffer = c.args.buffer.now in
@@ -30,16 +30,16 @@ returns-then-h-eq0 t c =
     (none_taken buffer filter c.requires.in_bounds)
 
 pub take_chain-count-requires : goal.take_chain-count-requires
-take_chain-count-requires t c =
+take_chain-count-requires g t c =
     let low : 0 < c.args.h = omega arith in
     let step = walk_step c.requires.walkable_as low c.block-block.ensures.block in
     let below = step.below in
     let is = c.parent_height-parent.ensures.0 in
-    (omega arith, (walk_parent step is, c.requires.in_bounds))
+    λ κs lives. (omega arith, (lives, (walk_parent step is, c.requires.in_bounds)))
 
 pub take_block-requires : goal.take_block-requires
-take_block-requires t c =
-    let taken = below_taken (view_of c.args.kind c.args.book.now) c.args.h c.block-block.ensures.block
+take_block-requires g t c =
+    let taken = below_taken (view_of g.K.Kind.kind c.args.book.now) c.args.h c.block-block.ensures.block
     c.parent_height-parent.ensures.0 c.take_chain-count.ensures in
     record {
       walkable_as = (c.requires.walkable_as, omega arith);
@@ -48,7 +48,7 @@ take_block-requires t c =
     }
 
 pub returns : goal.returns
-returns t c =
-    let taken = below_taken (view_of c.args.kind c.args.book.now) c.args.h c.block-block.ensures.block
+returns g t c =
+    let taken = below_taken (view_of g.K.Kind.kind c.args.book.now) c.args.h c.block-block.ensures.block
     c.parent_height-parent.ensures.0 c.take_chain-count.ensures in
     c.take_block.ensures _ taken

@@ -2,4 +2,4 @@
 use Rattle.distinct_entries.proofs.distinct.+take_chain.Given as goal
 
 abbrev pub decreases-take_chain : goal.decreases-take_chain
-decreases-take_chain l = l.h
+decreases-take_chain g l = l.h

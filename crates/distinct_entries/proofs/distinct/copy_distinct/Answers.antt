@@ -9,13 +9,14 @@ use Rattle.distinct_entries.proofs.distinct.copy_distinct.Goals as goal
 
 pub returns-then-h-eq0 : goal.returns-then-h-eq0
 unfolding join
-returns-then-h-eq0 c = let none = distinct_none (view_of c.args.kind c.args.book.now) c.args.h (omega arith) in record {
-  count = (sym (ap length none), omega arith);
-  buffer = sym (ap (λ (l : List Bytes). over_front (join l) c.args.buffer.now) none ∙ front_none c.args.buffer.now);
-}
+returns-then-h-eq0 g c =
+    let none = distinct_none (view_of g.K.Kind.kind c.args.book.now) c.args.h (omega arith) in record {
+      count = (sym (ap length none), omega arith);
+      buffer = sym (ap (λ (l : List Bytes). over_front (join l) c.args.buffer.now) none ∙ front_none c.args.buffer.now);
+    }
 
 pub returns : goal.returns
-returns c = let taken = c.take_distinct.ensures in
+returns g c = let taken = c.take_distinct.ensures in
     let counted = taken.counted in
     let few = distinct_few c.requires.walkable_as in
     let room = c.requires.h_in_bounds in record {

@@ -6,10 +6,10 @@ use Rattle.distinct_entries.proofs.Chain.{distinct_none, distinct_few}
 use Rattle.distinct_entries.proofs.distinct.count_distinct.Goals as goal
 
 pub returns-then-h-eq0 : goal.returns-then-h-eq0
-returns-then-h-eq0 c = let none = distinct_none (view_of c.args.kind c.args.book.now) c.args.h (omega arith) in
+returns-then-h-eq0 g c = let none = distinct_none (view_of g.K.Kind.kind c.args.book.now) c.args.h (omega arith) in
     (sym (ap length none), omega arith)
 
 pub returns : goal.returns
-returns c = let counted = c.take_distinct.ensures.counted in
+returns g c = let counted = c.take_distinct.ensures.counted in
     let few = distinct_few c.requires in
     (counted, subst (λ (k : ℕ). k ≤ maximum_entries) (sym counted) few)

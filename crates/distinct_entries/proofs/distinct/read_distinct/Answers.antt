@@ -9,13 +9,13 @@ use Rattle.distinct_entries.proofs.Chain.{read_whole, read_none}
 use Rattle.distinct_entries.proofs.distinct.read_distinct.Goals as goal
 
 pub copy_distinct-requires : goal.copy_distinct-requires
-copy_distinct-requires c = record {
+copy_distinct-requires g c = record {
   walkable_as = c.requires;
   h_in_bounds = leb-true _ _ (sym c.fits_into.ensures ∙ c.if-fits_into.true);
 }
 
 pub returns-then-fits_into : goal.returns-then-fits_into
-returns-then-fits_into c = let v = view_of c.args.kind c.args.book.now in
+returns-then-fits_into g c = let v = view_of g.K.Kind.kind c.args.book.now in
     let buffer = c.args.buffer.now in
     let bytes = distinct_length sha256 v c.requires.formed c.args.h c.requires.is_linked_lem in
     let whole = read_whole v c.args.h buffer (sym c.if-fits_into.true ∙ c.fits_into.ensures) in record {
@@ -24,7 +24,7 @@ returns-then-fits_into c = let v = view_of c.args.kind c.args.book.now in
     }
 
 pub returns-else-fits_into : goal.returns-else-fits_into
-returns-else-fits_into c = let v = view_of c.args.kind c.args.book.now in
+returns-else-fits_into g c = let v = view_of g.K.Kind.kind c.args.book.now in
     let buffer = c.args.buffer.now in
     let none = read_none v c.args.h buffer (sym c.if-fits_into.false ∙ c.fits_into.ensures) in
     record {

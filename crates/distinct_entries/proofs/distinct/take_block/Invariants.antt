@@ -6,6 +6,6 @@ use Rattle.distinct_entries.proofs.Takes.{Going}
 use Rattle.distinct_entries.proofs.distinct.take_block.Given as goal
 
 abbrev pub invariant-loop-k : goal.invariant-loop-k
-invariant-loop-k l =
-    Going (up_to (view_of l.kind l.book) l.h 0) (up_to (view_of l.kind l.book) l.h l.k)
+invariant-loop-k g l =
+    Going (up_to (view_of g.K.Kind.kind l.book) l.h 0) (up_to (view_of g.K.Kind.kind l.book) l.h l.k)
     l.initial.filter l.initial.buffer l.count l.filter l.buffer l.taken × (length l.filter ≡ length l.initial.filter)

@@ -1,5 +1,5 @@
 -- `later_step` meets its contract: the first of the last three moves whose test passes, by what its test has found.
-use mathlib.Core.Path.{sym, subst, ◌∙◌}
+use Rattle.std.proofs.Common.{sym, subst, ◌∙◌}
 use Rattle.sha256.specs.Digest.{sha256}
 use Rattle.protocol.specs.State.{decode}
 use Rattle.protocol.proofs.Laws.MoveLaws.{propose_rows, block_vote_rows}
@@ -11,7 +11,7 @@ use Rattle.moves.proofs.make_move.later_step.Goals as goal
 
 pub pass-requires : goal.pass-requires
 pass-requires c = let book = c.args.book.now in
-    let found = subst (PassFound sha256 (decode book)) c.in-By.is
+    let found = subst (PassFound sha256 (decode book)) c.in-Some.is
     c.pass_applies.ensures.answer in record {
       sound_book = c.requires.sound_book;
       book_bound = running_high book (pass_running (decode book) found.0);
@@ -19,14 +19,14 @@ pass-requires c = let book = c.args.book.now in
       in_bounds = c.requires.in_bounds;
     }
 
-pub returns-in-By : goal.returns-in-By
-returns-in-By c = let s = decode c.args.book.now in
-    let found = subst (PassFound sha256 s) c.in-By.is c.pass_applies.ensures.answer in
+pub returns-in-Some : goal.returns-in-Some
+returns-in-Some c = let s = decode c.args.book.now in
+    let found = subst (PassFound sha256 s) c.in-Some.is c.pass_applies.ensures.answer in
     took_as (later_pass s found.0) c.pass.ensures
 
 pub propose-requires : goal.propose-requires
 propose-requires c = let book = c.args.book.now in
-    let found = subst (ProposeFound sha256 (decode book)) c.in-At.is
+    let found = subst (ProposeFound sha256 (decode book)) c.in-Some-propose_applies.is
     c.propose_applies.ensures.answer in record {
       sound_book = c.requires.sound_book;
       memo = c.propose_applies.ensures.memo;
@@ -35,11 +35,11 @@ propose-requires c = let book = c.args.book.now in
       in_bounds = c.requires.in_bounds;
     }
 
-pub returns-in-At : goal.returns-in-At
-returns-in-At c = let s = decode c.args.book.now in
+pub returns-in-Some-propose_applies : goal.returns-in-Some-propose_applies
+returns-in-Some-propose_applies c = let s = decode c.args.book.now in
     let no_pass = subst (PassFound sha256 s) c.in_default.is
     c.pass_applies.ensures.answer in
-    let found = subst (ProposeFound sha256 s) c.in-At.is c.propose_applies.ensures.answer in
+    let found = subst (ProposeFound sha256 s) c.in-Some-propose_applies.is c.propose_applies.ensures.answer in
     took_as (later_propose s no_pass found.0) c.propose.ensures
 
 pub cast_block_vote-requires : goal.cast_block_vote-requires

@@ -1,5 +1,5 @@
 -- `step` meets its contract: the first of the five moves whose test passes.
-use mathlib.Core.Path.{sym, ◌∙◌}
+use Rattle.std.proofs.Common.{sym, ◌∙◌}
 use Rattle.protocol.specs.State.{decode}
 use Rattle.moves.specs.Laws.OrderLaws.{step_dummy, step_output, step_later, outputs, outputs_not, took_as}
 use Rattle.moves.specs.Laws.OrderLaws.{took_output}

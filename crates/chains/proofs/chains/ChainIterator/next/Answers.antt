@@ -4,7 +4,7 @@ use Rattle.chains.proofs.ChainWalk.{walk_step, walk_parent}
 use Rattle.chains.proofs.chains.ChainIterator.next.Goals as goal
 
 pub returns-clause-goes : goal.returns-clause-goes
-returns-clause-goes c =
+returns-clause-goes g c =
     let low : 0 < c.args.self.now.at = omega (arith, c.if-self-eq0.false) in
     let step = walk_step c.requires low c.block-block.ensures.block in
     let parent = walk_parent step c.parent_height-self.ensures.0 in
