@@ -13,8 +13,9 @@ ghost use Rattle.book_fields.specs.Book.{height_in};
 use answers::refusal::Refusal;
 use book_fields::head::current;
 use book_fields::height::{
-    holds_proposal, is_notarized, notarized, proposal, vote_digest, voter_mask,
+    holds_proposal, is_notarized, mask_at, notarized, proposal, vote_digest,
 };
+use book_fields::names::MaskKind;
 use frames::{FrameKind, frame_block, frame_digest, frame_kind, frame_signer};
 use wire::bytes::same_bytes;
 use wire::mask::in_mask;
@@ -29,7 +30,8 @@ fn vote_agrees(book: &[u8], h: usize, frame: &[u8]) -> bool
         return true;
     };
     let s = frame_signer(frame);
-    !in_mask(voter_mask(book, h), s) || same_bytes(vote_digest(book, h, s), frame_digest(frame))
+    !in_mask(mask_at(book, h, MaskKind::Voters), s)
+        || same_bytes(vote_digest(book, h, s), frame_digest(frame))
 }
 
 // Whether a proposal is the height's held one, if there is one. At the current height a second proposal passes, so there

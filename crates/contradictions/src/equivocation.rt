@@ -9,6 +9,7 @@ ghost use Rattle.contradictions.specs.Accepted.{accepted_book};
 use answers::answer::Delivered;
 use book_fields::head::{current, flag, set_flag};
 use book_fields::height::{holds_proposal, proposal};
+use book_fields::names::Flag;
 use frames::{FrameKind, frame_block, frame_kind};
 use wire::bytes::same_bytes;
 
@@ -31,9 +32,9 @@ pub fn fire_timer(book: &mut [u8]) -> Delivered
     requires book_bound { (decode book.old).flags < 16 }
     ensures { accepted_book result book.new ≡ timer_fires book.old }
 {
-    if flag(book, 1) {
+    if flag(book, Flag::TimerFired) {
         return Delivered::Known;
     }
-    set_flag(book, 1);
+    set_flag(book, Flag::TimerFired);
     Delivered::Fresh
 }

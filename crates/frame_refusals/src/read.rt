@@ -10,7 +10,7 @@ ghost use Rattle.frame_refusals.specs.Refusal.{members_fit, leader_signed, signe
 use answers::refusal::Refusal;
 use book_fields::head::{heights, replicas};
 use book_fields::height::leader;
-use book_fields::quorum::quorum;
+use book_fields::kind::{Replica, quorum};
 use frames::{
     FrameKind, frame_height, frame_kind, frame_mask, frame_signer, frame_well_formed, is_statement,
 };
@@ -50,7 +50,7 @@ fn signers_enough(book: &[u8], frame: &[u8]) -> bool
     requires frame_len { length frame.now ≡ 224 }
     ensures { result ≡ signers_enough (decode book.now) frame.now }
 {
-    is_statement(frame) || quorum(book, frame_mask(frame))
+    is_statement(frame) || quorum::<Replica>(book, frame_mask(frame))
 }
 
 // The first of refusals 5, 7 and 9 that stands against a frame of height `h`, if one does.

@@ -12,7 +12,7 @@ ghost use Rattle.book_fields.specs.Book.{Within, ObserverReadable, observed_in};
 ghost use Rattle.observer_refusals.specs.Rows.{certificate_rows, frame_rows};
 
 use answers::refusal::Refusal;
-use book_fields::kind::{Kind, heights, quorum, replicas};
+use book_fields::kind::{Observer, heights, quorum, replicas};
 use book_fields::observed::{is_notarized, notarized};
 use frames::{
     FrameKind, frame_block, frame_height, frame_kind, frame_mask, frame_well_formed, is_certificate,
@@ -44,10 +44,10 @@ fn certificate_refusal(book: &[u8], h: usize, frame: &[u8]) -> Result<(), Refusa
         first_refusal (certificate_rows (observer_state book.now) h frame.now) }
 {
     let mask = frame_mask(frame);
-    if !below(replicas(Kind::Observer, book), mask) {
+    if !below(replicas::<Observer>(book), mask) {
         return Err(Refusal::NoSuchSigner);
     }
-    if !quorum(Kind::Observer, book, mask) {
+    if !quorum::<Observer>(book, mask) {
         return Err(Refusal::NoQuorum);
     }
     if !certificate_agrees(book, h, frame) {
@@ -69,7 +69,7 @@ pub fn frame_refusal(book: &[u8], frame: &[u8]) -> Result<(), Refusal>
         return Err(Refusal::NotACertificate);
     }
     let h = frame_height(frame);
-    if !(1..=heights(Kind::Observer, book)).contains(&h) {
+    if !(1..=heights::<Observer>(book)).contains(&h) {
         return Err(Refusal::NoSuchHeight);
     }
     certificate_refusal(book, h, frame)
