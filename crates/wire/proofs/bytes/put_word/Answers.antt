@@ -8,4 +8,5 @@ pub returns : goal.returns
 unfolding le16
 returns c = let args = c.args in
     let high : args.value / 256 % 256 ≡ args.value / 256 = omega arith in
-    part_put args.bytes.now (le16 args.value) args.at 2 (c.copy_from_slice.ensures.after ∙ c.to_le_bytes.ensures ∙ rw high) refl
+    part_put args.bytes.now (le16 args.value) args.at 2
+    (c.copy_from_slice.ensures.after ∙ c.to_le_bytes.ensures ∙ rw high) refl

@@ -28,7 +28,8 @@ loop-s-preserved c = let weights = c.args.weights.now in
     let n = c.args.n in
     let at = c.loop-s in
     let test : c.contains-good.result ≡ in_range 1 maximum_weight c.word.result = search rules in
-    rw test (more (λ w. in_range 1 maximum_weight w) (words n weights) at.s _ at.good (omega (arith, words_count n weights))
+    rw test (more (λ w. in_range 1 maximum_weight w) (words n weights) at.s _ at.good
+    (omega (arith, words_count n weights))
     (c.word.ensures.0 ∙ sym (word_at n weights at.s (omega arith))) at.invariant)
 
 pub returns : goal.returns
