@@ -15,7 +15,7 @@ use answers::answer::Delivered;
 use book_changes::height::{set_mask, set_notarized, set_proposal, set_vote};
 use book_fields::height::{holds_proposal, is_notarized, mask_at, voter_mask};
 use frames::{
-    frame_block, frame_block_digest, frame_digest, frame_kind, frame_mask, frame_signer,
+    FrameKind, frame_block, frame_block_digest, frame_digest, frame_kind, frame_mask, frame_signer,
     frame_signers,
 };
 use wire::mask::in_mask;
@@ -89,19 +89,16 @@ pub fn keep(book: &mut [u8], h: usize, frame: &[u8]) -> Delivered
     requires { Read book.old h frame.now }
     ensures { accepted_book result book.new ≡ kept_at book.old h (keeps sha (decode book.old) frame.now) }
 {
-    let kind = frame_kind(frame);
-    if kind == 1 {
-        return keep_proposal(book, h, frame);
+    match frame_kind(frame) {
+        Some(FrameKind::Proposal) => keep_proposal(book, h, frame),
+        Some(FrameKind::BlockVote) => keep_block_vote(book, h, frame),
+        Some(FrameKind::BlockCertificate) => keep_block_certificate(book, h, frame),
+        Some(FrameKind::DummyVote | FrameKind::DummyCertificate) => {
+            join_signers(book, h, 1, frame_signers(frame))
+        }
+        Some(FrameKind::Finalize | FrameKind::FinalizeCertificate) => {
+            join_signers(book, h, 2, frame_signers(frame))
+        }
+        None => unreachable!(),
     }
-    if kind == 2 {
-        return keep_block_vote(book, h, frame);
-    }
-    if kind == 5 {
-        return keep_block_certificate(book, h, frame);
-    }
-    let signers = frame_signers(frame);
-    if (kind == 3) | (kind == 6) {
-        return join_signers(book, h, 1, signers);
-    }
-    join_signers(book, h, 2, signers)
 }

@@ -11,7 +11,7 @@ ghost use Rattle.observer_delivery.specs.Certificate.{kept_at, CertificateRead};
 
 use answers::answer::Delivered;
 use book_fields::observed::{is_notarized, mask_at};
-use frames::{frame_block, frame_kind, frame_mask};
+use frames::{FrameKind, frame_block, frame_kind, frame_mask};
 use observer_book::{set_mask, set_notarized};
 
 // Keeps a certified block with its signers where none is notarized.
@@ -54,13 +54,10 @@ pub fn keep(book: &mut [u8], h: usize, frame: &[u8]) -> Delivered
     ensures { accepted_book result book.new ≡
         kept_at book.old h (keeps sha (observer_state book.old) frame.now) }
 {
-    let kind = frame_kind(frame);
-    if kind == 5 {
-        return keep_block(book, h, frame);
+    match frame_kind(frame) {
+        Some(FrameKind::BlockCertificate) => keep_block(book, h, frame),
+        Some(FrameKind::DummyCertificate) => join_signers(book, h, 1, frame_mask(frame)),
+        Some(FrameKind::FinalizeCertificate) => join_signers(book, h, 2, frame_mask(frame)),
+        _ => unreachable!(),
     }
-    let signers = frame_mask(frame);
-    if kind == 6 {
-        return join_signers(book, h, 1, signers);
-    }
-    join_signers(book, h, 2, signers)
 }
