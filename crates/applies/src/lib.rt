@@ -15,9 +15,9 @@ ghost use Rattle.applies.specs.Found.{PassFound, ProposeFound};
 use answers::answer::Certificate;
 use book_fields::head::{current, flag, heights, is_running, own};
 use book_fields::height::{holds_proposal, leader, proposal};
+use book_fields::kind::{Replica, is_dummy};
 use book_fields::names::Flag;
-use book_fields::quorum::is_dummy;
-use linking::links::{extends, largest_finalized, linked, parent_of};
+use linking::linking::{extends, largest_finalized, linked, parent_of};
 
 // The best chain of the height below the current one. The memory keeps each height from a second digest.
 fn chain_below(book: &[u8], known: &mut [u8]) -> Option<usize>
@@ -26,7 +26,7 @@ fn chain_below(book: &[u8], known: &mut [u8]) -> Option<usize>
     ensures answer { parent_option result ≡ parent_below sha (decode book.now) }
     ensures memo { Memo book.now known.new }
 {
-    parent_of(book, current(book) - 1, known)
+    parent_of::<Replica>(book, current(book) - 1, known)
 }
 
 // Move 1: the timer fired, and no dummy vote was cast.
@@ -47,7 +47,7 @@ pub fn new_finalized(book: &[u8], known: &mut [u8]) -> usize
     ensures within { result ≤ book_heights book.now }
     ensures memo { Memo book.now known.new }
 {
-    largest_finalized(book, heights(book), known)
+    largest_finalized::<Replica>(book, heights(book), known)
 }
 
 // Move 3: by the block's certificate where the current height is linked, and by the dummy block's where that is
@@ -63,10 +63,10 @@ pub fn pass_applies(book: &[u8], known: &mut [u8]) -> Option<Certificate>
         return None;
     }
     let c = current(book);
-    if linked(book, c, known) {
+    if linked::<Replica>(book, c, known) {
         return Some(Certificate::Page);
     }
-    if !is_dummy(book, c) {
+    if !is_dummy::<Replica>(book, c) {
         return None;
     }
     chain_below(book, known)?;
@@ -110,5 +110,5 @@ fn proposal_extends(book: &[u8], known: &mut [u8]) -> bool
     ensures memo { Memo book.now known.new }
 {
     let c = current(book);
-    holds_proposal(book, c) && extends(book, c, proposal(book, c), known)
+    holds_proposal(book, c) && extends::<Replica>(book, c, proposal(book, c), known)
 }

@@ -1,11 +1,10 @@
 -- The bytes of a new book: all zero but for the head, and then one leader more with each turn.
-use Prim.Native.Nat.{ℕ, ◌+◌, ◌*◌, ◌<◌, ◌≤◌}
-use native.Mathlib.Omega.{arith}
-use native.Mathlib.Nat.{zero-add}
-use native.Mathlib.Numerals.{add-one}
-use mathlib.Core.Path.{◌≡◌, sym, ap, ◌∙◌}
-use lib.ListN.{length, set}
-use lib.Seq.{paste, paste-suc, paste-zero, length-paste}
+use Rattle.std.specs.Prelude.{ℕ, ◌+◌, ◌*◌, ◌<◌, ◌≤◌, ◌≡◌, length, set}
+use Rattle.std.proofs.Common.{arith, zero-add, add-one, sym, ap, ◌∙◌}
+use Rattle.std.proofs.Math.Seq.{paste}
+use Rattle.std.proofs.Math.Seq.{paste-suc}
+use Rattle.std.proofs.Math.Seq.{paste-zero}
+use Rattle.std.proofs.Math.Seq.{length-paste}
 use Rattle.protocol.specs.Bytes.{Bytes, byte_at, le16, zeros, put, AreBytes}
 use Rattle.protocol.specs.State.{encode}
 use Rattle.protocol.specs.Open.{Opening, long, new_state}
@@ -14,11 +13,11 @@ use Rattle.protocol.proofs.Laws.NewStateLaws.{new_from_zeros, new_leader}
 
 pub head_made : (n own heights : ℕ) (weights book cleared : Bytes) → length book ≡ 576 + 880 * heights →
     AreBytes weights → length weights ≡ 2 * n → n ≤ 16 →
-    cleared ≡ put book 0 (zeros (length book)) →
+    cleared ≡ zeros (length book) →
     put (put (put (set (set (set cleared 0 n) 1 own) 7 3) 8 weights) 40 (le16 heights)) 42 (le16 1) ≡
     encode (new_state (long weights) n own (zeros heights))
 head_made n own heights weights book cleared size small given high clear =
-    rw (clear ∙ put_all book (zeros (length book)) (sym (length_zeros (length book))) ∙ ap zeros size)
+    rw (clear ∙ ap zeros size)
     (new_from_zeros n own heights weights small given high)
 
 -- the leaders after `i` turns, and zeros after them

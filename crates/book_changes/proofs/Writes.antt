@@ -1,9 +1,6 @@
 -- What the writes of a function make of a whole book, in the order in which the code makes them.
-use Prim.Native.Nat.{ℕ, zero, suc, ◌+◌, ◌-◌, ◌*◌, ◌^◌, ◌≤◌, ◌<◌}
-use native.Mathlib.Omega.{arith}
-use mathlib.Core.Path.{◌≡◌, refl, ap, subst, ◌∙◌}
-use mathlib.Core.List.{[], ◌∷◌, ◌++◌}
-use lib.ListN.{length, set}
+use Rattle.std.specs.Prelude.{ℕ, zero, suc, ◌+◌, ◌-◌, ◌*◌, ◌^◌, ◌≤◌, ◌<◌, ◌≡◌, refl, [], ◌∷◌, ◌++◌, length, set}
+use Rattle.std.proofs.Common.{arith, ap, subst, ◌∙◌}
 use Rattle.protocol.specs.SoundState.{ShapedHeight, Shaped}
 use Rattle.protocol.specs.Bytes.{Bytes, le16, part, zeros, pieces, put}
 use Rattle.protocol.specs.State.{State, Height, encode, decode, at, last, with_height, with_pool}

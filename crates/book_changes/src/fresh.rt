@@ -5,7 +5,7 @@ ghost use Rattle.protocol.specs.State.{encode};
 ghost use Rattle.protocol.specs.Open.{new_state, long};
 ghost use Rattle.protocol.specs.Block.{maximum_heights};
 
-use wire::bytes::{clear, copy_to, put_word};
+use wire::bytes::{copy_to, put_word};
 
 // Writes the book of `n` replicas of these weights and the replica's own number, with replica 0 as the leader of every
 // height.
@@ -15,8 +15,7 @@ fn led_by_zero(book: &mut [u8], n: usize, own: usize, heights: usize, weights: &
     requires weights_len { length weights.now ≡ 2 * n }
     ensures { book.new ≡ encode (new_state (long weights.now) n own (zeros heights)) }
 {
-    let size = book.len();
-    clear(book, 0, size);
+    book.fill(0);
     book[0] = n as u8;
     book[1] = own as u8;
     book[7] = 3;
@@ -35,9 +34,7 @@ pub fn new_book(book: &mut [u8], n: usize, own: usize, weights: &[u8], leaders: 
         encode (new_state (long weights.now) n own leaders.now) }
 {
     led_by_zero(book, n, own, leaders.len(), weights);
-    let mut i = 0;
-    while i < leaders.len() {
-        book[576 + 16 * i] = leaders[i];
-        i += 1;
+    for (i, leader) in leaders.iter().enumerate() {
+        book[576 + 16 * i] = *leader;
     }
 }

@@ -7,7 +7,6 @@ ghost use Rattle.protocol.specs.Mask.{mask_limit};
 ghost use Rattle.book_fields.specs.Book.{Ready, Within, height_in, changed};
 ghost use Rattle.book_fields.specs.Numbered.{with_mask_at};
 
-use crate::inside::copy_inside;
 use book_fields::height::{body_at, content_at, mask_at, status};
 use book_fields::names::MaskKind;
 use wire::bytes::{copy_to, put_word};
@@ -68,7 +67,7 @@ pub fn notarize_held(book: &mut [u8], h: usize, mask: usize)
     let content = content_at(h);
     let body = body_at(book, h);
     let held = status(book, h);
-    copy_inside(book, body, body + 176, 176);
+    book.copy_within(body..body + 176, body + 176);
     mark_notarized(book, content, held, mask);
 }
 

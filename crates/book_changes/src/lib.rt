@@ -3,5 +3,4 @@
 
 pub mod fresh;
 pub mod height;
-mod inside;
 pub mod pool;

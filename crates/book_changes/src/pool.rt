@@ -5,7 +5,6 @@ ghost use Rattle.protocol.specs.State.{with_pool, maximum_pending};
 ghost use Rattle.protocol.specs.Submit.{with_pending};
 ghost use Rattle.book_fields.specs.Book.{Ready, recoded};
 
-use crate::inside::copy_inside;
 use wire::bytes::{clear, copy_to};
 
 // Copies place `from` of the pool to a place that is not after it.
@@ -15,7 +14,8 @@ pub fn move_entry(book: &mut [u8], from: usize, to: usize)
     ensures { book.new ≡ recoded book.old (λ s.
         with_pool s s.pending_count (put s.pool (16 * to) (part s.pool (16 * from) 16))) }
 {
-    copy_inside(book, 64 + 16 * from, 64 + 16 * to, 16);
+    let at = 64 + 16 * from;
+    book.copy_within(at..at + 16, 64 + 16 * to);
 }
 
 // Makes the pool's first `count` places and one new entry all that is pending.

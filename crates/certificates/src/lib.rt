@@ -12,8 +12,8 @@ ghost use Rattle.book_fields.specs.Book.{Within, Readable};
 ghost use Rattle.certificates.specs.Kind.{kind_number};
 
 use book_fields::height::{is_notarized, mask_at, notarized};
+use book_fields::kind::{Replica, quorum};
 use book_fields::names::MaskKind;
-use book_fields::quorum::quorum;
 pub use kind::CertificateKind;
 
 // Whether the book has the certificate of that kind and height.
@@ -25,8 +25,11 @@ pub fn has_certificate(book: &[u8], kind: CertificateKind, height: usize) -> boo
 {
     match kind {
         CertificateKind::Block => is_notarized(book, height),
-        CertificateKind::Dummy => quorum(book, mask_at(book, height, MaskKind::Dummy)),
-        CertificateKind::Finalize => quorum(book, mask_at(book, height, MaskKind::Finalize)),
+        CertificateKind::Dummy => quorum::<Replica>(book, mask_at(book, height, MaskKind::Dummy)),
+        CertificateKind::Finalize => quorum::<Replica>(
+            book,
+            mask_at(book, height, MaskKind::Finalize),
+        ),
     }
 }
 

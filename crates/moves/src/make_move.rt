@@ -16,7 +16,7 @@ use answers::refusal::Refusal;
 use applies::{
     block_vote_applies, dummy_vote_applies, new_finalized, pass_applies, propose_applies,
 };
-use book_fields::kind::Kind;
+use book_fields::kind::Replica;
 use memory::{LARGE, SMALL, has_room};
 use passing::pass;
 use steps::{cast_block_vote, cast_dummy_vote, output, propose};
@@ -92,7 +92,7 @@ pub fn make_move(book: &mut [u8], reply: &mut [u8]) -> Result<Moved, Refusal>
     if !soundness::rows_sound(book) {
         return Err(Refusal::Unsound);
     }
-    if has_room(Kind::Replica, book, SMALL) {
+    if has_room::<Replica>(book, SMALL) {
         move_in::<SMALL>(book, reply)
     } else {
         move_in::<LARGE>(book, reply)

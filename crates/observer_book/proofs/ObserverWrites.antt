@@ -1,15 +1,12 @@
 -- What the writes of a function make of a whole book of an observer, in the order in which the code makes them.
-use Prim.Native.Nat.{ℕ, zero, suc, ◌+◌, ◌-◌, ◌*◌, ◌≤◌, ◌<◌}
-use native.Mathlib.Omega.{arith}
-use mathlib.Core.Path.{◌≡◌, sym, ap, subst, ◌∙◌}
-use lib.ListN.{length, set}
+use Rattle.std.specs.Prelude.{ℕ, zero, suc, ◌+◌, ◌-◌, ◌*◌, ◌≤◌, ◌<◌, ◌≡◌, length, set}
+use Rattle.std.proofs.Common.{arith, ap, subst, ◌∙◌}
 use Rattle.protocol.specs.Bytes.{Bytes, le16, zeros, put, AreBytes}
 use Rattle.protocol.specs.State.{book_heights}
 use Rattle.protocol.specs.Deliver.{with_notarized}
 use Rattle.protocol.specs.Observer.{encode_observer}
 use Rattle.protocol.specs.Open.{long}
 use Rattle.protocol.specs.ObserverCalls.{new_observer}
-use Rattle.protocol.proofs.Laws.BytesLaws.{put_all, length_zeros}
 use Rattle.protocol.proofs.Laws.PlaceLaws.{suc_pred}
 use Rattle.protocol.proofs.Laws.ObserverPlaceLaws.{book_observed_dummy, book_observed_finalize, book_observed_notarized}
 use Rattle.protocol.proofs.Laws.ObserverPlaceLaws.{new_observer_from_zeros}
@@ -17,11 +14,11 @@ use Rattle.book_fields.specs.Book.{ObserverReady, Within, observed_in, observer_
 use Rattle.book_fields.specs.Numbered.{with_mask_at}
 
 pub observer_made : (n heights : ℕ) (weights book cleared : Bytes) → length book ≡ 64 + 184 * heights →
-    AreBytes weights → length weights ≡ 2 * n → n ≤ 16 → cleared ≡ put book 0 (zeros (length book)) →
+    AreBytes weights → length weights ≡ 2 * n → n ≤ 16 → cleared ≡ zeros (length book) →
     put (put (put (set (set cleared 0 n) 7 3) 8 weights) 40 (le16 heights)) 42 (le16 0) ≡
     encode_observer (new_observer (long weights) n heights)
 observer_made n heights weights book cleared size small given high clear =
-    rw (clear ∙ put_all book (zeros (length book)) (sym (length_zeros (length book))) ∙ ap zeros size)
+    rw (clear ∙ ap zeros size)
     (new_observer_from_zeros n heights weights small given high)
 
 -- ---- height `h`, where the code has computed its places

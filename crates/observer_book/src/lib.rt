@@ -13,7 +13,7 @@ ghost use Rattle.book_fields.specs.Book.{ObserverReady, Within, observed_in, obs
 ghost use Rattle.book_fields.specs.Numbered.{with_mask_at};
 
 use book_fields::observed::{block_at, content_at};
-use wire::bytes::{clear, copy_to, put_word};
+use wire::bytes::{copy_to, put_word};
 
 // Writes the book of an observer of `n` replicas of these weights, who has heard nothing. Costs a store for each byte.
 pub fn new_book(book: &mut [u8], n: usize, heights: usize, weights: &[u8])
@@ -22,8 +22,7 @@ pub fn new_book(book: &mut [u8], n: usize, heights: usize, weights: &[u8])
     requires weights_len { length weights.now ≡ 2 * n }
     ensures { book.new ≡ encode_observer (new_observer (long weights.now) n heights) }
 {
-    let size = book.len();
-    clear(book, 0, size);
+    book.fill(0);
     book[0] = n as u8;
     book[7] = 3;
     copy_to(book, 8, weights);

@@ -17,6 +17,7 @@ ghost use Rattle.book_fields.specs.Book.{SoundBook};
 
 use answers::answer::Moved;
 use book_fields::head::{current, own, set_flag};
+use book_fields::kind::Replica;
 use book_fields::names::Flag;
 
 // Move 1: casts the dummy vote. Costs 224 stores to the reply and one to the book.
@@ -58,7 +59,7 @@ fn write_proposal(book: &[u8], reply: &mut [u8], j: usize, known: &mut [u8])
 {
     let c = current(book);
     let signer = own(book);
-    let digest = linking::links::parent_digest(book, j, known);
+    let digest = linking::linking::parent_digest::<Replica>(book, j, known);
     frames::write_plain(reply, 1, signer, c, 0);
     chains::entries::offer(book, c, j, &digest, &mut reply[48..224]);
 }

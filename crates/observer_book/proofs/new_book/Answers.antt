@@ -1,8 +1,6 @@
 -- `new_book` meets its contract: the book is cleared, two bytes of its head are set, and weights and H written.
-use native.Mathlib.Omega.{arith}
-use mathlib.Core.Path.{◌∙◌, ap}
-use lib.ListN.{length-set}
-use Rattle.protocol.specs.Bytes.{Bytes, AreBytes, put, le16}
+use Rattle.std.proofs.Common.{arith, ◌∙◌, ap, length-set}
+use Rattle.protocol.specs.Bytes.{Bytes, AreBytes, put, le16, zeros}
 use Rattle.observer_book.proofs.ObserverWrites.{observer_made}
 use Rattle.observer_book.proofs.new_book.Goals as goal
 
@@ -14,7 +12,7 @@ copy_to-requires c = simp length-set (omega arith)
 
 pub put_word-requires : goal.put_word-requires
 put_word-requires c = let size = simp length-set at c.copy_to.auto.target in
-    let whole = c.clear.auto.target in
+    let whole = c.fill.ensures.len in
     record {
       at_in_bounds = omega arith;
       value_bound = omega arith;
@@ -22,7 +20,7 @@ put_word-requires c = let size = simp length-set at c.copy_to.auto.target in
 
 pub put_word-requires-2 : goal.put_word-requires-2
 put_word-requires-2 c = let size = c.put_word.auto.bytes ∙ (simp length-set at c.copy_to.auto.target) in
-    let whole = c.clear.auto.target in
+    let whole = c.fill.ensures.len in
     record {
       at_in_bounds = omega arith;
       value_bound = omega arith;
@@ -30,9 +28,10 @@ put_word-requires-2 c = let size = c.put_word.auto.bytes ∙ (simp length-set at
 
 pub shape_of-book : goal.shape_of-book
 shape_of-book c = c.put_word-2.auto.bytes ∙ c.put_word.auto.bytes ∙ c.copy_to.auto.target
-    ∙ simp length-set c.clear.auto.target
+    ∙ simp length-set c.fill.ensures.len
 
 pub returns : goal.returns
+unfolding zeros
 returns c = let args = c.args in
     let weights = args.weights.now in
     let small : AreBytes weights = λ i. omega (arith, c.type_inv.weights i) in
@@ -41,4 +40,4 @@ returns c = let args = c.args in
     ap (λ (b : Bytes). put b 40 (le16 args.heights)) c.copy_to.ensures)
     ∙ observer_made args.n args.heights weights args.book.now _ c.requires.book_len small c.requires.weights_len
     c.requires.n_bound.0
-    c.clear.ensures
+    (c.fill.ensures.after (λ y e. e))

@@ -1,6 +1,5 @@
 -- `set_finalized` meets its contract: one number of the head changes and nothing else.
-use native.Mathlib.Omega.{arith}
-use mathlib.Core.Path.{◌∙◌}
+use Rattle.std.proofs.Common.{arith, ◌∙◌}
 use Rattle.protocol.specs.Bytes.{byte_at}
 use Rattle.protocol.proofs.Laws.ObserverPlaceLaws.{book_observed_finalized}
 use Rattle.book_fields.specs.Laws.HeadLaws.{short_heights}

@@ -1,5 +1,5 @@
 -- `set_mask` meets its contract: two bytes are written at the place of that mask.
-use mathlib.Core.Path.{◌∙◌}
+use Rattle.std.proofs.Common.{◌∙◌}
 use Rattle.observer_book.proofs.ObserverWrites.{observed_mask_set}
 use Rattle.observer_book.proofs.set_mask.Goals as goal
 

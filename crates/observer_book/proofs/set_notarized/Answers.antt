@@ -1,9 +1,6 @@
 -- `set_notarized` meets its contract: the block is copied to its place, and status and mask are written.
-use native.Mathlib.Omega.{arith}
-use mathlib.Core.Path.{◌∙◌}
-use lib.ListN.{length-set}
+use Rattle.std.proofs.Common.{arith, ◌∙◌, length-set, rules}
 use Rattle.observer_book.proofs.ObserverWrites.{observed_notarized_set}
-use borrow.Author.Rules.{rules}
 use Rattle.observer_book.proofs.set_notarized.Goals as goal
 
 pub put_word-requires : goal.put_word-requires

@@ -1,9 +1,7 @@
 -- `led_by_zero` meets its contract: the book is cleared, three bytes of its head are set, and weights, H and the current
 -- height written.
-use native.Mathlib.Omega.{arith}
-use mathlib.Core.Path.{◌∙◌, ap}
-use lib.ListN.{length-set}
-use Rattle.protocol.specs.Bytes.{Bytes, AreBytes, put, le16}
+use Rattle.std.proofs.Common.{arith, ◌∙◌, ap, length-set}
+use Rattle.protocol.specs.Bytes.{Bytes, AreBytes, put, le16, zeros}
 use Rattle.book_changes.proofs.Leaders.{head_made}
 use Rattle.book_changes.proofs.fresh.led_by_zero.Goals as goal
 
@@ -18,7 +16,7 @@ copy_to-requires c = simp length-set (omega arith)
 
 pub put_word-requires : goal.put_word-requires
 put_word-requires c = let size = simp length-set at c.copy_to.auto.target in
-    let whole = c.clear.auto.target in
+    let whole = c.fill.ensures.len in
     record {
       at_in_bounds = omega arith;
       value_bound = omega arith;
@@ -26,7 +24,7 @@ put_word-requires c = let size = simp length-set at c.copy_to.auto.target in
 
 pub put_word-requires-2 : goal.put_word-requires-2
 put_word-requires-2 c = let size = c.put_word.auto.bytes ∙ (simp length-set at c.copy_to.auto.target) in
-    let whole = c.clear.auto.target in
+    let whole = c.fill.ensures.len in
     record {
       at_in_bounds = omega arith;
       value_bound = omega arith;
@@ -34,9 +32,10 @@ put_word-requires-2 c = let size = c.put_word.auto.bytes ∙ (simp length-set at
 
 pub shape_of-book : goal.shape_of-book
 shape_of-book c = c.put_word-2.auto.bytes ∙ c.put_word.auto.bytes ∙ c.copy_to.auto.target
-    ∙ simp length-set c.clear.auto.target
+    ∙ simp length-set c.fill.ensures.len
 
 pub returns : goal.returns
+unfolding zeros
 returns c = let args = c.args in
     let weights = args.weights.now in
     let small : AreBytes weights = λ i. omega (arith, c.type_inv.weights i) in
@@ -45,4 +44,4 @@ returns c = let args = c.args in
     ap (λ (b : Bytes). put b 40 (le16 args.heights)) c.copy_to.ensures)
     ∙ head_made args.n args.own args.heights weights args.book.now _ c.requires.book_len small
     c.requires.weights_len c.requires.n_bound.0
-    c.clear.ensures
+    (c.fill.ensures.after (λ y e. e))

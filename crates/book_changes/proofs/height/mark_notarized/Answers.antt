@@ -1,8 +1,5 @@
 -- `mark_notarized` meets its contract: a byte and a 16-bit number are written.
-use native.Mathlib.Omega.{arith}
-use mathlib.Core.Path.{◌∙◌}
-use lib.ListN.{length-set}
-use borrow.Author.Rules.{rules}
+use Rattle.std.proofs.Common.{arith, ◌∙◌, length-set, rules}
 use Rattle.book_changes.proofs.height.mark_notarized.Goals as goal
 
 pub put_word-requires : goal.put_word-requires

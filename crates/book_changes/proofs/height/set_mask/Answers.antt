@@ -1,5 +1,5 @@
 -- `set_mask` meets its contract: two bytes are written at the place of that mask.
-use mathlib.Core.Path.{◌∙◌}
+use Rattle.std.proofs.Common.{◌∙◌}
 use Rattle.book_changes.proofs.Writes.{mask_set}
 use Rattle.book_changes.proofs.height.set_mask.Goals as goal
 

@@ -1,7 +1,5 @@
 -- `set_proposal` meets its contract: the status gains 1, and the block is copied to the proposal's place.
-use native.Mathlib.Omega.{arith}
-use mathlib.Core.Path.{◌∙◌}
-use lib.ListN.{length-set}
+use Rattle.std.proofs.Common.{arith, ◌∙◌, length-set}
 use Rattle.book_changes.proofs.Writes.{proposal_set}
 use Rattle.book_changes.proofs.height.set_proposal.Goals as goal
 

@@ -1,6 +1,5 @@
 -- `set_vote` meets its contract: the voter mask gains the replica's bit, and the digest is copied to its place.
-use native.Mathlib.Omega.{arith}
-use mathlib.Core.Path.{◌∙◌}
+use Rattle.std.proofs.Common.{arith, ◌∙◌}
 use Rattle.book_changes.proofs.Writes.{vote_set}
 use Rattle.book_changes.proofs.height.set_vote.Goals as goal
 

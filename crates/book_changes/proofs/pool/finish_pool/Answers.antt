@@ -1,7 +1,6 @@
 -- `finish_pool` meets its contract: the entry is copied to its place, the places after it are cleared, and the count is
 -- set.
-use mathlib.Core.Path.{◌∙◌}
-use lib.ListN.{length-set}
+use Rattle.std.proofs.Common.{◌∙◌, length-set}
 use Rattle.book_changes.proofs.Writes.{finished_pool}
 use Rattle.book_changes.proofs.pool.finish_pool.Goals as goal
 
