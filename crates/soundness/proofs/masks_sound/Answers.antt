@@ -6,13 +6,13 @@ use Rattle.soundness.proofs.masks_sound.Goals as goal
 pub returns : goal.returns
 returns c = rw (
   c.below-voters.ensures,
-  c.voter_mask.ensures.0,
+  c.mask_at-4.ensures.0,
   c.below-finalize.ensures,
-  c.finalize_mask.ensures.0,
+  c.mask_at-3.ensures.0,
   c.below-dummy.ensures,
-  c.dummy_mask.ensures.0,
+  c.mask_at-2.ensures.0,
   c.below-certificate.ensures,
-  c.certificate_mask.ensures.0,
+  c.mask_at.ensures.0,
   c.replicas-n.ensures.0,
 )
     (masks_are (decode c.args.book.now).n (at (decode c.args.book.now) c.args.h))
