@@ -1,14 +1,9 @@
--- What the readers of any kind of book need of it: the fact of one arm carried over to that kind, and the head, which
--- all kinds have alike.
-use Prim.Native.Nat.{◌≤◌}
-use native.Mathlib.Omega.{arith}
-use mathlib.Core.Path.{◌≡◌, refl}
-use mathlib.Core.Bool.{Bool, true, false, cond}
+-- What the readers of any kind of book need of it: the head, which all kinds have alike.
+use Rattle.std.proofs.Common.{◌+◌, ◌≤◌, ◌≡◌, refl, ◌∙◌, arith, Bool, true, false, cond, length}
 use mir.Val.{bool_byte}
-use lib.ListN.{length}
-use Rattle.protocol.specs.Bytes.{Bytes, byte_at}
+use Rattle.protocol.specs.Bytes.{Bytes, byte_at, word16}
 use Rattle.protocol.specs.Sound.{view}
-use Rattle.book_fields.specs.Book.{Shown, view_of}
+use Rattle.book_fields.specs.Book.{Shown, state_of, view_of}
 use Rattle.book_fields.specs.Kinds.{BookKind, ReplicaBook, ObserverBook}
 
 -- ---- the head of any kind
@@ -20,6 +15,11 @@ pub replicas_at : (kind : BookKind) (book : Bytes) → Shown kind book → byte_
 unfolding view
 replicas_at ReplicaBook book shown = shown.sized.n_byte
 replicas_at ObserverBook book shown = shown.sized.n_byte
+
+pub finalized_at : (kind : BookKind) (book : Bytes) → Shown kind book →
+    byte_at book 5 + word16 book 44 ≡ (state_of kind book).finalized
+finalized_at ReplicaBook book shown = shown.finalized_sum ∙ shown.sized.finalized_number
+finalized_at ObserverBook book shown = shown.finalized_sum ∙ shown.sized.finalized_number
 
 -- ---- a test as a number
 pub byte_number : (t : Bool) → bool_byte t ≡ cond t 1 0

@@ -43,6 +43,11 @@ observer_changed book h change =
     encode_observer (observed (with_height (observer_state book) h (change (observed_in book h))))
 
 -- ---- the kinds of books
+-- the state that a book of this kind says
+abbrev pub state_of : BookKind → Bytes → State
+state_of ReplicaBook book = decode book
+state_of ObserverBook book = observer_state book
+
 -- the view that a book of this kind gives
 abbrev pub view_of : BookKind → Bytes → View
 view_of ReplicaBook book = book_view book

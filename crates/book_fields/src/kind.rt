@@ -6,7 +6,7 @@ ghost use Rattle.protocol.specs.Mask.{mask_limit};
 ghost use Rattle.protocol.specs.Block.{maximum_heights};
 ghost use Rattle.protocol.specs.State.{book_heights, maximum_replicas};
 ghost use Rattle.book_fields.specs.Kinds.{BookKind, ReplicaBook, ObserverBook};
-ghost use Rattle.book_fields.specs.Book.{Within, Shown, view_of};
+ghost use Rattle.book_fields.specs.Book.{Within, Shown, state_of, view_of};
 
 use crate::names::MaskKind;
 
@@ -108,6 +108,14 @@ pub fn heights<K: Kind>(book: &[u8]) -> usize
     ensures { (result ≡ book_heights book.now) × (result ≤ maximum_heights) }
 {
     crate::head::good_number(book, 2, 40)
+}
+
+// The finalized height.
+pub fn finalized<K: Kind>(book: &[u8]) -> usize
+    requires { Shown K.kind book.now }
+    ensures { (result ≡ (state_of K.kind book.now).finalized) × (result < 65792) }
+{
+    crate::head::good_number(book, 5, 44)
 }
 
 // Whether a mask holds two thirds of the weight of the book's replicas. No branch goes by its bits: the tally asks it.

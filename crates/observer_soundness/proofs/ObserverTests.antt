@@ -17,7 +17,7 @@ use Rattle.protocol.specs.View.{quorum}
 use Rattle.protocol.specs.Sound.{view, masks_below}
 use Rattle.protocol.specs.Observer.{as_replica_height, observer_state, observer_book_size}
 use Rattle.protocol.specs.ObserverSound.{observer_sound, replica_head, observed_zero}
-use Rattle.protocol.proofs.Laws.RowLaws.{where_held, where_none, heads_pass, heads_fail, last_decides, rows_decide}
+use Rattle.protocol.proofs.Laws.RowLaws.{where_held, where_none, last_decides, rows_decide}
 use Rattle.protocol.proofs.Laws.PlaceLaws.{suc_pred}
 use Rattle.protocol.proofs.Laws.ObserverCodecLaws.{at_observed}
 use Rattle.book_fields.specs.Book.{Within, observed_in}
@@ -108,14 +108,6 @@ module _ (book : Bytes) (h : ℕ) where
 module _ (digest : Bytes → Bytes) (book : Bytes) where
   abbrev every : Bool
   every = every_height (λ h. all_of (height_rows book h)) (book_heights book)
-
-  pub rows_by_heights : all_of (head_rows book) ≡ true → every ≡ all_of (book_rows book)
-  unfolding book_rows
-  rows_by_heights head = heads_pass (all_of (head_rows book)) every head
-
-  pub rows_not_head : all_of (head_rows book) ≡ false → false ≡ all_of (book_rows book)
-  unfolding book_rows
-  rows_not_head head = heads_fail (all_of (head_rows book)) every head
 
   pub sound_final : all_of (book_rows book) ≡ true → final_row digest book ≡ observer_sound digest book
   unfolding book_rows

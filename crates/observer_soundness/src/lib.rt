@@ -3,21 +3,22 @@
 
 ghost use Rattle.std.specs.Prelude.{◌≡◌, true, ◌&&◌, ◌≤◌, length};
 ghost use Rattle.sha256.specs.Digest.{sha256 as sha};
-ghost use Rattle.protocol.specs.Bytes.{is_zero, AreBytes};
-ghost use Rattle.protocol.specs.Tests.{all_of, every_height};
-ghost use Rattle.protocol.specs.State.{book_heights, head_unused};
+ghost use Rattle.protocol.specs.Bytes.{is_zero};
+ghost use Rattle.protocol.specs.Tests.{all_of};
+ghost use Rattle.protocol.specs.State.{head_unused};
 ghost use Rattle.protocol.specs.Sound.{masks_below};
 ghost use Rattle.protocol.specs.Observer.{observer_state};
 ghost use Rattle.protocol.specs.ObserverSound.{observer_sound, replica_head};
 ghost use Rattle.book_fields.specs.Book.{Within, ObserverReadable, observed_in};
-ghost use Rattle.book_fields.specs.declared.kind.Kind.TheVariants.{Observer};
-ghost use Rattle.memory.specs.Memo.{MemoAs};
 ghost use Rattle.observer_soundness.specs.ObserverRows.{head_rows, block_row, certificate_row};
 ghost use Rattle.observer_soundness.specs.ObserverRows.{height_rows, book_rows, final_row};
+ghost use Rattle.observer_soundness.specs.Laws.ObserverRowsLaws.{rows_by_groups, final_as, sound_by_rows};
 
 use book_fields::head::good_number;
-use book_fields::kind::Kind;
+use book_fields::kind::Observer;
+use book_fields::names::MaskKind;
 use book_fields::observed::{content_at, is_notarized, mask_at};
+use soundness::sound::Rows;
 use wire::bytes::byte;
 use wire::mask::below;
 
@@ -35,33 +36,16 @@ fn replica_zero(book: &[u8]) -> bool
     (own == 0) & ((flags == 0) & ((current == 0) & (pending == 0)))
 }
 
-// Whether the length is that of the heights, and the head as it must be.
-fn head_sound(book: &[u8]) -> bool
-    ensures { result ≡ all_of (head_rows book.now) }
-{
-    if 64 <= book.len() {
-        if book_fields::setting::setting_sound(book) {
-            let size = book.len() == 64 + 184 * good_number(book, 2, 40);
-            let replica = replica_zero(book);
-            size & replica
-        } else {
-            false
-        }
-    } else {
-        false
-    }
-}
-
 // Whether the three masks of height `h` hold none but the book's replicas.
 fn masks_sound(book: &[u8], h: usize) -> bool
     requires observer_readable { ObserverReadable book.now }
     requires within { Within book.now h }
     ensures { result ≡ masks_below (observer_state book.now).n (observed_in book.now h) }
 {
-    let n = book_fields::kind::replicas(Kind::Observer, book);
-    let certificate = below(n, mask_at(book, h, 0));
-    let dummy = below(n, mask_at(book, h, 1));
-    let finalize = below(n, mask_at(book, h, 2));
+    let n = book_fields::kind::replicas::<Observer>(book);
+    let certificate = below(n, mask_at(book, h, MaskKind::Certificate));
+    let dummy = below(n, mask_at(book, h, MaskKind::Dummy));
+    let finalize = below(n, mask_at(book, h, MaskKind::Finalize));
     certificate & (dummy & finalize)
 }
 
@@ -71,89 +55,56 @@ fn block_sound(book: &[u8], h: usize) -> bool
     requires within { Within book.now h }
     ensures { result ≡ (block_row book.now h && certificate_row book.now h) }
 {
-    if is_notarized(book, h) {
-        let formed = wire::block::block_well_formed(book_fields::observed::notarized(book, h), h);
-        let certified = book_fields::kind::quorum(Kind::Observer, book, mask_at(book, h, 0));
-        formed & certified
-    } else {
-        true
+    if !is_notarized(book, h) {
+        return true;
     }
+    let formed = wire::block::block_well_formed(book_fields::observed::notarized(book, h), h);
+    let signers = mask_at(book, h, MaskKind::Certificate);
+    let certified = book_fields::kind::quorum::<Observer>(book, signers);
+    formed & certified
 }
 
-// Whether height `h` is as it must be.
-fn height_sound(book: &[u8], h: usize) -> bool
-    requires observer_readable { ObserverReadable book.now }
-    requires within { Within book.now h }
-    ensures { result ≡ all_of (height_rows book.now h) }
-{
-    let masks = masks_sound(book, h);
-    let held = book_fields::observed::status(book, h);
-    let status = (held == 0) | (held == 2);
-    let block = block_sound(book, h);
-    let unused = byte(book, content_at(h) + 1) == 0;
-    masks & (status & (block & unused))
-}
+// The rows of an observer's book.
+#[derive(Clone, Copy, Debug, PartialEq, Eq)]
+pub struct OfObserver;
 
-// Whether every height is as it must be. Looks at each once, and ends at the first that is not.
-fn heights_sound(book: &[u8]) -> bool
-    requires { ObserverReadable book.now }
-    ensures { result ≡
-        every_height (λ h. all_of (height_rows book.now h)) (book_heights book.now) }
-{
-    let last = book_fields::kind::heights(Kind::Observer, book);
-    let mut h = 0;
-    while h < last {
-        if height_sound(book, h + 1) {
-            h += 1;
-        } else {
+impl Rows for OfObserver {
+    type Book = Observer;
+
+    ghost head = { λ book. all_of (head_rows book) };
+
+    ghost height = { λ book h. all_of (height_rows book h) };
+
+    ghost rows = { λ book. all_of (book_rows book) };
+
+    ghost final_row = { final_row sha };
+
+    ghost sound = { observer_sound sha };
+
+    fn head_sound(book: &[u8]) -> bool {
+        if book.len() < 64 {
             return false;
         }
+        if !book_fields::setting::setting_sound(book) {
+            return false;
+        }
+        let size = book.len() == 64 + 184 * good_number(book, 2, 40);
+        let replica = replica_zero(book);
+        size & replica
     }
-    true
-}
 
-// Whether the finalized height is 0, or finalized. One digest for each block of its chain.
-pub fn finalized_sound(book: &[u8], known: &mut [u8]) -> bool
-    requires observer_readable { ObserverReadable book.now }
-    requires memo_as { MemoAs Observer book.now known.old }
-    ensures answer { result ≡ final_row sha book.now }
-    ensures memo { MemoAs Observer book.now known.new }
-{
-    let g = book_fields::observed::finalized(book);
-    linking::linking::zero_or_finalized(Kind::Observer, book, g, known)
-}
-
-// The same with a memory of its own.
-fn finalized_alone(book: &[u8]) -> bool
-    requires { ObserverReadable book.now }
-    ensures { result ≡ final_row sha book.now }
-{
-    let g = book_fields::observed::finalized(book);
-    linking::alone::finalized_alone(Kind::Observer, book, g)
-}
-
-// Whether a book is sound but for its finalized height. Reads it once. A call that walks the book further asks this
-// first, and then `finalized_sound` with a memory that has room for the heights.
-pub fn rows_sound(book: &[u8]) -> bool
-    ensures answer { result ≡ all_of (book_rows book.now) }
-    ensures readable { result ≡ true → ObserverReadable book.now }
-{
-    if head_sound(book) {
-        heights_sound(book)
-    } else {
-        false
+    fn height_sound(book: &[u8], h: usize) -> bool {
+        let masks = masks_sound(book, h);
+        let held = book_fields::observed::status(book, h);
+        let status = (held == 0) | (held == 2);
+        let block = block_sound(book, h);
+        let unused = byte(book, content_at(h) + 1) == 0;
+        masks & (status & (block & unused))
     }
-}
 
-// Whether an observer's book is sound, for a call that asks for no linked height afterwards. Reads it once, and
-// computes one digest for each block of the finalized chain. The book's bytes are below 256, as those of any slice.
-pub fn is_sound(book: &[u8]) -> bool
-    ensures answer { result ≡ observer_sound sha book.now }
-    ensures bytes { AreBytes book.now }
-{
-    if rows_sound(book) {
-        finalized_alone(book)
-    } else {
-        false
-    }
+    ghost rows_are = { rows_by_groups };
+
+    ghost final_is = { final_as };
+
+    ghost sound_is = { sound_by_rows };
 }

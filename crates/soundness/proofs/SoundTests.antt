@@ -15,7 +15,7 @@ use Rattle.protocol.specs.State.{head_unused}
 use Rattle.protocol.proofs.Laws.HeadLaws.{heights_sum, current_sum}
 use Rattle.protocol.specs.View.{quorum}
 use Rattle.protocol.specs.Sound.{view, masks_below, blocks_well_formed, content_zeros, sound}
-use Rattle.protocol.proofs.Laws.RowLaws.{heads_pass, heads_fail, last_decides, rows_decide}
+use Rattle.protocol.proofs.Laws.RowLaws.{last_decides, rows_decide}
 use Rattle.book_fields.specs.Setting.{setting_rows}
 use Rattle.book_fields.specs.Laws.SettingRowsLaws.{setting_passes}
 use Rattle.soundness.specs.SoundRows.{number_rows, head_rows, height_rows, book_rows, final_row}
@@ -87,14 +87,6 @@ module _ (book : Bytes) (h : ℕ) where
 module _ (digest : Bytes → Bytes) (book : Bytes) where
   abbrev every : Bool
   every = every_height (λ h. all_of (height_rows book h)) (book_heights book)
-
-  pub rows_by_heights : all_of (head_rows book) ≡ true → every ≡ all_of (book_rows book)
-  unfolding book_rows
-  rows_by_heights head = heads_pass (all_of (head_rows book)) every head
-
-  pub rows_not_head : all_of (head_rows book) ≡ false → false ≡ all_of (book_rows book)
-  unfolding book_rows
-  rows_not_head head = heads_fail (all_of (head_rows book)) every head
 
   pub sound_final : all_of (book_rows book) ≡ true → final_row digest book ≡ sound digest book
   unfolding book_rows

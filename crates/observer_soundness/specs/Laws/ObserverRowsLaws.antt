@@ -1,6 +1,10 @@
 -- The groups of rows make an observer's soundness; a sound head can be read.
-use Rattle.std.specs.Prelude.{ℕ, ◌+◌, ◌*◌, ◌≤◌, ◌≡◌, Bool, true, ◌&&◌, ◌||◌, length, eqb}
-use Rattle.std.proofs.Common.{le_trans, eqb-true}
+use Rattle.std.specs.Prelude.{ℕ, ◌+◌, ◌*◌, ◌≤◌, ◌≡◌, refl, Bool, true, ◌&&◌, ◌||◌, length, eqb}
+use Rattle.std.proofs.Common.{le_trans, eqb-true, sym, ◌∙◌}
+use mathlib.Core.Bool.{and-true, and_assoc}
+use Rattle.sha256.specs.Digest.{sha256}
+use Rattle.book_fields.specs.Kinds.{ObserverBook}
+use Rattle.soundness.specs.Rows.{final_row_as}
 use Rattle.protocol.specs.Every.{none, one}
 use Rattle.protocol.specs.Bytes.{Bytes, is_zero}
 use Rattle.protocol.specs.Tests.{all_of, every_height}
@@ -15,7 +19,7 @@ use Rattle.book_fields.specs.Laws.ObserverBookLaws.{observer_readable}
 use Rattle.book_fields.specs.Laws.SettingRowsLaws.{SettingPasses, setting_passes, setting_pass, setting_weighs}
 use Rattle.book_fields.specs.Book.{ObserverReadable, observed_in}
 use Rattle.observer_soundness.specs.ObserverRows.{head_rows, height_rows, block_row, certificate_row}
-use Rattle.observer_soundness.specs.ObserverRows.{final_row}
+use Rattle.observer_soundness.specs.ObserverRows.{book_rows, final_row}
 
 -- ---- the rows of each group by name
 module _ (book : Bytes) where
@@ -119,3 +123,18 @@ head_readable book e =
     observer_readable book size (in_range_lem _ _ _ is.setting.replicas).1
     (le_trans (in_range_lem _ _ _ is.setting.heights).1 (most_heights_lem _)) is.setting.unused
     (unfold view in setting_weighs book is.setting)
+
+-- ---- what the groups are to soundness of a book of any kind
+pub rows_by_groups : (book : Bytes) → all_of (book_rows book) ≡
+    (all_of (head_rows book) && every_height (λ h. all_of (height_rows book h)) (book_heights book))
+unfolding book_rows all_of
+rows_by_groups book = simp and-true
+
+pub final_as : (book : Bytes) → final_row sha256 book ≡ final_row_as ObserverBook book
+unfolding final_row
+final_as book = refl
+
+pub sound_by_rows : (book : Bytes) → observer_sound sha256 book ≡ (all_of (book_rows book) && final_row sha256 book)
+sound_by_rows book = rw rows_by_groups (observer_sound_is sha256 book
+    ∙ sym (and_assoc (all_of (head_rows book)) (every_height (λ h. all_of (height_rows book h)) (book_heights book))
+    (final_row sha256 book)))

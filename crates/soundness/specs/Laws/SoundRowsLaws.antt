@@ -1,6 +1,10 @@
 -- The groups of rows make soundness; a sound head can be read.
-use Rattle.std.specs.Prelude.{ℕ, ◌+◌, ◌*◌, ◌≤◌, ◌≡◌, Bool, true, ◌&&◌, length, eqb, leb, ltb}
-use Rattle.std.proofs.Common.{le_trans, eqb-true}
+use Rattle.std.specs.Prelude.{ℕ, ◌+◌, ◌*◌, ◌≤◌, ◌≡◌, refl, Bool, true, ◌&&◌, length, eqb, leb, ltb}
+use Rattle.std.proofs.Common.{le_trans, eqb-true, sym, ◌∙◌}
+use mathlib.Core.Bool.{and-true, and_assoc}
+use Rattle.sha256.specs.Digest.{sha256}
+use Rattle.book_fields.specs.Kinds.{ReplicaBook}
+use Rattle.soundness.specs.Rows.{final_row_as}
 use Rattle.protocol.specs.Every.{none, one}
 use Rattle.protocol.specs.Bytes.{Bytes, is_zero}
 use Rattle.protocol.specs.Tests.{all_of, in_range, every_height}
@@ -12,7 +16,7 @@ use Rattle.protocol.proofs.Laws.RowLaws.{row, by_rows, all_of_lem, true_and, eve
 use Rattle.book_fields.specs.Laws.BookLaws.{readable as make_readable}
 use Rattle.book_fields.specs.Book.{Readable, height_in}
 use Rattle.book_fields.specs.Laws.SettingRowsLaws.{SettingPasses, setting_passes, setting_pass, setting_weighs}
-use Rattle.soundness.specs.SoundRows.{number_rows, head_rows, height_rows, certificate_row, final_row}
+use Rattle.soundness.specs.SoundRows.{number_rows, head_rows, height_rows, certificate_row, book_rows, final_row}
 use Rattle.protocol.proofs.Laws.SoundRowNames.{length_row, replicas_row, own_row, heights_row, edition_row, weights_row}
 use Rattle.protocol.proofs.Laws.SoundRowNames.{current_row, flags_row, pending_row, leaders_row, masks_row, status_row}
 use Rattle.protocol.proofs.Laws.SoundRowNames.{blocks_row}
@@ -146,3 +150,18 @@ readable book e =
     make_readable book size (in_range_lem _ _ _ is.setting.replicas).1
     (le_trans (in_range_lem _ _ _ is.setting.heights).1 (most_heights_lem _)) is.setting.unused
     (unfold view in setting_weighs book is.setting)
+
+-- ---- what the groups are to soundness of a book of any kind
+pub rows_by_groups : (book : Bytes) → all_of (book_rows book) ≡
+    (all_of (head_rows book) && every_height (λ h. all_of (height_rows book h)) (book_heights book))
+unfolding book_rows all_of
+rows_by_groups book = simp and-true
+
+pub final_as : (book : Bytes) → final_row sha256 book ≡ final_row_as ReplicaBook book
+unfolding final_row decode
+final_as book = refl
+
+pub sound_by_rows : (book : Bytes) → sound sha256 book ≡ (all_of (book_rows book) && final_row sha256 book)
+sound_by_rows book = rw rows_by_groups (sound_is sha256 book
+    ∙ sym (and_assoc (all_of (head_rows book)) (every_height (λ h. all_of (height_rows book h)) (book_heights book))
+    (final_row sha256 book)))

@@ -1,6 +1,6 @@
 -- `height_sound` meets its contract: its tests are the rows of a height.
 use Rattle.soundness.proofs.SoundTests.{height_are}
-use Rattle.soundness.proofs.height_sound.Goals as goal
+use Rattle.soundness.proofs.OfReplicaRows.height_sound.Goals as goal
 
 pub returns : goal.returns
 returns c = rw (

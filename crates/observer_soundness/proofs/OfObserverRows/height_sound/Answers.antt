@@ -1,6 +1,6 @@
 -- `height_sound` meets its contract: its tests are the rows of a height.
 use Rattle.observer_soundness.proofs.ObserverTests.{height_are}
-use Rattle.observer_soundness.proofs.height_sound.Goals as goal
+use Rattle.observer_soundness.proofs.OfObserverRows.height_sound.Goals as goal
 
 pub returns : goal.returns
 returns c = rw (
