@@ -5,7 +5,7 @@ ghost use Rattle.protocol.specs.State.{maximum_replicas};
 ghost use Rattle.protocol.specs.Deliver.{with_proposal, with_notarized, with_vote};
 ghost use Rattle.protocol.specs.Mask.{mask_limit};
 ghost use Rattle.book_fields.specs.Book.{Ready, Within, height_in, changed};
-ghost use Rattle.book_fields.specs.Numbered.{with_mask_at};
+ghost use Rattle.book_fields.specs.Numbered.{place_of, with_mask_at};
 
 use book_fields::height::{body_at, content_at, mask_at, status};
 use book_fields::names::MaskKind;
@@ -71,16 +71,16 @@ pub fn notarize_held(book: &mut [u8], h: usize, mask: usize)
     mark_notarized(book, content, held, mask);
 }
 
-// Sets mask `k` of height `h`: 1 of the dummy votes, or 2 of the finalize statements.
-pub fn set_mask(book: &mut [u8], h: usize, k: usize, mask: usize)
+// Sets a mask of height `h`, that of the dummy votes or that of the finalize statements.
+pub fn set_mask(book: &mut [u8], h: usize, which: MaskKind, mask: usize)
     requires ready { Ready book.old }
     requires within { Within book.old h }
-    requires le_k { (1 ≤ k) × (k ≤ 2) }
+    requires le_k { (1 ≤ place_of which) × (place_of which ≤ 2) }
     requires mask_lt_mask_limit { mask < mask_limit }
-    ensures { book.new ≡ changed book.old h (λ x. with_mask_at x k mask) }
+    ensures { book.new ≡ changed book.old h (λ x. with_mask_at x (place_of which) mask) }
 {
     let content = content_at(h);
-    put_word(book, content + (2 + 2 * k), mask);
+    put_word(book, content + (2 + 2 * usize::from(which)), mask);
 }
 
 // Keeps the digest that replica `s` voted for, which had no vote yet.

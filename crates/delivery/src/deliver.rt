@@ -16,6 +16,7 @@ use answers::refusal::Refusal;
 use contradictions::{clash_refusal, fire_timer, leader_equivocates};
 use frame_refusals::read_refusal;
 use frames::frame_height;
+use soundness::OfReplica;
 
 // Fires the timer where the leader of the current height equivocates by a frame that passes all rows, and else keeps
 // what the frame states.
@@ -61,7 +62,7 @@ pub fn deliver(book: &mut [u8], frame: &[u8]) -> Result<Delivered, Refusal>
     ensures answer { delivered_answer result ≡ (deliver_call sha256 book.old frame.now).answer }
     ensures book { book.new ≡ (deliver_call sha256 book.old frame.now).book }
 {
-    if !soundness::is_sound(book) {
+    if !soundness::is_sound::<OfReplica>(book) {
         return Err(Refusal::Unsound);
     }
     deliver_sound(book, frame)

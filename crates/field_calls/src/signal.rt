@@ -8,6 +8,7 @@ ghost use Rattle.answers.specs.Answers.{done_answer};
 
 use answers::refusal::Refusal;
 use book_fields::head::{current, flag, in_book, set_flag};
+use book_fields::names::Flag;
 
 // Whether the height is the current one and its timer has not fired yet.
 fn timer_runs(book: &[u8], height: usize) -> bool
@@ -15,7 +16,7 @@ fn timer_runs(book: &[u8], height: usize) -> bool
     ensures { result ≡
         (eqb height (decode book.now).current && not (is_flagged 1 (decode book.now))) }
 {
-    height == current(book) && !flag(book, 1)
+    height == current(book) && !flag(book, Flag::TimerFired)
 }
 
 // The signal to a sound book.
@@ -31,6 +32,6 @@ pub fn signal_sound(book: &mut [u8], height: usize) -> Result<(), Refusal>
     if !timer_runs(book, height) {
         return Err(Refusal::NotDue);
     }
-    set_flag(book, 1);
+    set_flag(book, Flag::TimerFired);
     Ok(())
 }

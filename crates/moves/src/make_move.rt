@@ -19,6 +19,7 @@ use applies::{
 use book_fields::kind::Replica;
 use memory::{LARGE, SMALL, has_room};
 use passing::pass;
+use soundness::OfReplica;
 use steps::{cast_block_vote, cast_dummy_vote, output, propose};
 
 // Moves 3, 4 and 5: the first that applies, and else none.
@@ -71,7 +72,7 @@ fn move_in<const N: usize>(book: &mut [u8], reply: &mut [u8]) -> Result<Moved, R
     ensures reply { reply.new ≡ (move_call sha book.old reply.old).reply }
 {
     let mut known = [0u8; N];
-    if !soundness::finalized_sound(book, &mut known) {
+    if !soundness::finalized_sound::<OfReplica>(book, &mut known) {
         return Err(Refusal::Unsound);
     }
     if reply.len() < 448 {
@@ -89,7 +90,7 @@ pub fn make_move(book: &mut [u8], reply: &mut [u8]) -> Result<Moved, Refusal>
     ensures book { book.new ≡ (move_call sha book.old reply.old).book }
     ensures reply { reply.new ≡ (move_call sha book.old reply.old).reply }
 {
-    if !soundness::rows_sound(book) {
+    if !soundness::rows_sound::<OfReplica>(book) {
         return Err(Refusal::Unsound);
     }
     if has_room::<Replica>(book, SMALL) {

@@ -17,6 +17,7 @@ use answers::answer::Moved;
 use answers::refusal::Refusal;
 use book_fields::kind::Observer;
 use memory::{LARGE, SMALL, has_room};
+use observer_soundness::OfObserver;
 
 // Makes the largest finalized height the finalized one, where it is larger. Costs one store.
 fn step(book: &mut [u8], known: &mut [u8]) -> Moved
@@ -48,7 +49,7 @@ fn move_in<const N: usize>(book: &mut [u8]) -> Result<Moved, Refusal>
     ensures numbers { moved_numbers result ≡ answer_numbers (observer_move_call sha book.old).answer }
 {
     let mut known = [0u8; N];
-    if !observer_soundness::finalized_sound(book, &mut known) {
+    if !soundness::finalized_sound::<OfObserver>(book, &mut known) {
         return Err(Refusal::Unsound);
     }
     Ok(step(book, &mut known))
@@ -61,7 +62,7 @@ pub fn make_move(book: &mut [u8]) -> Result<Moved, Refusal>
     ensures book { book.new ≡ (observer_move_call sha book.old).book }
     ensures numbers { moved_numbers result ≡ answer_numbers (observer_move_call sha book.old).answer }
 {
-    if !observer_soundness::rows_sound(book) {
+    if !soundness::rows_sound::<OfObserver>(book) {
         return Err(Refusal::Unsound);
     }
     if has_room::<Observer>(book, SMALL) {

@@ -5,12 +5,13 @@ ghost use Rattle.protocol.specs.ObserverCalls.{observer_size_call, observer_read
 ghost use Rattle.answers.specs.Answers.{size_answer};
 
 use answers::refusal::Refusal;
+use observer_soundness::OfObserver;
 
 // The length of the log in bytes. Reads the book once to see that it is sound.
 pub fn size(book: &[u8]) -> Result<usize, Refusal>
     ensures { size_answer result ≡ observer_size_call sha book.now }
 {
-    if !observer_soundness::is_sound(book) {
+    if !soundness::is_sound::<OfObserver>(book) {
         return Err(Refusal::Unsound);
     }
     Ok(16 * crate::log::log_count(book))
@@ -22,7 +23,7 @@ pub fn read_into(book: &[u8], buffer: &mut [u8]) -> usize
     ensures length { result ≡ length (observer_read_part sha book.now buffer.old) }
     ensures buffer { buffer.new ≡ observer_read_buffer sha book.now buffer.old }
 {
-    if !observer_soundness::is_sound(book) {
+    if !soundness::is_sound::<OfObserver>(book) {
         return 0;
     }
     crate::log::read_sound(book, buffer)

@@ -10,8 +10,9 @@ ghost use Rattle.protocol.specs.Observer.{encode_observer};
 ghost use Rattle.protocol.specs.Open.{long};
 ghost use Rattle.protocol.specs.ObserverCalls.{new_observer};
 ghost use Rattle.book_fields.specs.Book.{ObserverReady, Within, observed_in, observer_changed, observer_recoded};
-ghost use Rattle.book_fields.specs.Numbered.{with_mask_at};
+ghost use Rattle.book_fields.specs.Numbered.{place_of, with_mask_at};
 
+use book_fields::names::MaskKind;
 use book_fields::observed::{block_at, content_at};
 use wire::bytes::{copy_to, put_word};
 
@@ -47,16 +48,16 @@ pub fn set_notarized(book: &mut [u8], h: usize, mask: usize, block: &[u8])
     put_word(book, content + 2, mask);
 }
 
-// Sets mask `k` of height `h`: 1 of the dummy votes, or 2 of the finalize statements. Costs two stores.
-pub fn set_mask(book: &mut [u8], h: usize, k: usize, mask: usize)
+// Sets a mask of height `h`, that of the dummy votes or that of the finalize statements. Costs two stores.
+pub fn set_mask(book: &mut [u8], h: usize, which: MaskKind, mask: usize)
     requires observer_ready { ObserverReady book.old }
     requires within { Within book.old h }
-    requires le_k { (1 ≤ k) × (k ≤ 2) }
+    requires le_k { (1 ≤ place_of which) × (place_of which ≤ 2) }
     requires mask_lt_mask_limit { mask < mask_limit }
-    ensures { book.new ≡ observer_changed book.old h (λ x. with_mask_at x k mask) }
+    ensures { book.new ≡ observer_changed book.old h (λ x. with_mask_at x (place_of which) mask) }
 {
     let content = content_at(h);
-    put_word(book, content + (2 + 2 * k), mask);
+    put_word(book, content + (2 + 2 * usize::from(which)), mask);
 }
 
 // Makes `g` the finalized height. Costs one store.

@@ -10,6 +10,7 @@ use answers::answer::Delivered;
 use answers::refusal::Refusal;
 use frames::frame_height;
 use observer_refusals::frame_refusal;
+use observer_soundness::OfObserver;
 
 // Delivers a frame to a sound book.
 #[tactic(auto, using(crate::specs::Laws::KeptLaws::deliver_refused))]
@@ -30,7 +31,7 @@ pub fn deliver(book: &mut [u8], frame: &[u8]) -> Result<Delivered, Refusal>
         (observer_deliver_call sha book.old frame.now).answer }
     ensures book { book.new ≡ (observer_deliver_call sha book.old frame.now).book }
 {
-    if !observer_soundness::is_sound(book) {
+    if !soundness::is_sound::<OfObserver>(book) {
         return Err(Refusal::Unsound);
     }
     deliver_sound(book, frame)

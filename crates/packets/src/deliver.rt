@@ -10,6 +10,7 @@ use crate::reader::Packet;
 use answers::answer::{Counts, Delivered};
 use answers::refusal::Refusal;
 use delivery::deliver::deliver_sound;
+use soundness::OfReplica;
 
 // One frame more, by what its delivery answered.
 #[tactic(auto, unfolding(protocol::specs::Packet::counted_in))]
@@ -63,7 +64,7 @@ pub fn deliver_packet(book: &mut [u8], packet: &[u8]) -> Result<Counts, Refusal>
     ensures answer { counted_answer result ≡ (packet_call sha256 book.old packet.now).answer }
     ensures book { book.new ≡ (packet_call sha256 book.old packet.now).book }
 {
-    if !soundness::is_sound(book) {
+    if !soundness::is_sound::<OfReplica>(book) {
         return Err(Refusal::Unsound);
     }
     if packet.len() % 224 != 0 {

@@ -5,6 +5,7 @@ ghost use Rattle.protocol.specs.Fetch.{fetch_call};
 ghost use Rattle.answers.specs.Answers.{done_answer};
 
 use answers::refusal::Refusal;
+use soundness::OfReplica;
 
 // Writes a certificate that the book has. Reads the book once to see that it is sound, and stores 224 bytes.
 pub fn fetch(book: &[u8], kind: usize, height: usize, reply: &mut [u8]) -> Result<(), Refusal>
@@ -13,7 +14,7 @@ pub fn fetch(book: &[u8], kind: usize, height: usize, reply: &mut [u8]) -> Resul
     ensures reply { reply.new ≡
         (fetch_call sha book.now kind height reply.old).reply }
 {
-    if !soundness::is_sound(book) {
+    if !soundness::is_sound::<OfReplica>(book) {
         return Err(Refusal::Unsound);
     }
     field_calls::fetch::fetch_sound(book, kind, height, reply)

@@ -5,12 +5,13 @@ ghost use Rattle.protocol.specs.Read.{size_call, read_part, read_buffer};
 ghost use Rattle.answers.specs.Answers.{size_answer};
 
 use answers::refusal::Refusal;
+use soundness::OfReplica;
 
 // The length of the log in bytes. Reads the book once to see that it is sound.
 pub fn size(book: &[u8]) -> Result<usize, Refusal>
     ensures { size_answer result ≡ size_call sha book.now }
 {
-    if !soundness::is_sound(book) {
+    if !soundness::is_sound::<OfReplica>(book) {
         return Err(Refusal::Unsound);
     }
     Ok(16 * log_calls::read::log_count(book))
@@ -22,7 +23,7 @@ pub fn read_into(book: &[u8], buffer: &mut [u8]) -> usize
     ensures length { result ≡ length (read_part sha book.now buffer.old) }
     ensures buffer { buffer.new ≡ read_buffer sha book.now buffer.old }
 {
-    if soundness::is_sound(book) {
+    if soundness::is_sound::<OfReplica>(book) {
         log_calls::read::read_sound(book, buffer)
     } else {
         0

@@ -1,10 +1,10 @@
 -- `set_mask` meets its contract: two bytes are written at the place of that mask.
-use Rattle.std.proofs.Common.{◌∙◌}
+use Rattle.std.proofs.Common.{sym, ◌∙◌}
 use Rattle.book_changes.proofs.Writes.{mask_set}
 use Rattle.book_changes.proofs.height.set_mask.Goals as goal
 
 pub returns : goal.returns
 returns c = let k-range = c.requires.le_k in
-    c.put_word.ensures ∙
-    mask_set c.args.book.now c.requires.ready c.args.h c.requires.within _
-    c.content_at-content.ensures c.args.k k-range.0 k-range.1 c.args.mask
+    rw (sym c.from.ensures) (c.put_word.ensures ∙
+    mask_set c.args.book.now c.requires.ready c.args.h c.requires.within _ c.content_at-content.ensures
+    c.from.result (rw c.from.ensures k-range.0) (rw c.from.ensures k-range.1) c.args.mask)
