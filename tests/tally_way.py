@@ -25,7 +25,6 @@ BESIDE = {
     "observer_delivery": ("what certificates do", "keep_block join_signers"),
     "observer_refusals": ("an observer's refusals", "frame_refusal"),
     "soundness": ("refusal 1", "is_sound"),
-    "observer_soundness": ("refusal 1", "is_sound"),
     "frame_refusals": ("the other refusals", "read_refusal"),
     "packets": ("how many frames of a packet were fresh, known and refused", "counted"),
     "packing": ("an answer as a number for C", "delivered_number counted_number write_counts"),
