@@ -14,6 +14,7 @@ ghost use Rattle.certificates.specs.Kind.{kind_number};
 use book_fields::height::{is_notarized, mask_at, notarized};
 use book_fields::kind::{Replica, quorum};
 use book_fields::names::MaskKind;
+use frames::FrameKind;
 pub use kind::CertificateKind;
 
 // Whether the book has the certificate of that kind and height.
@@ -49,11 +50,11 @@ pub fn write_certificate(book: &[u8], kind: CertificateKind, height: usize, repl
         }
         CertificateKind::Dummy => {
             let mask = mask_at(book, height, MaskKind::Dummy);
-            frames::write_plain(reply, 6, 0, height, mask);
+            frames::write_plain(reply, FrameKind::DummyCertificate, 0, height, mask);
         }
         CertificateKind::Finalize => {
             let mask = mask_at(book, height, MaskKind::Finalize);
-            frames::write_plain(reply, 7, 0, height, mask);
+            frames::write_plain(reply, FrameKind::FinalizeCertificate, 0, height, mask);
         }
     }
 }

@@ -19,6 +19,7 @@ use answers::answer::Moved;
 use book_fields::head::{current, own, set_flag};
 use book_fields::kind::Replica;
 use book_fields::names::Flag;
+use frames::FrameKind;
 
 // Move 1: casts the dummy vote. Costs 224 stores to the reply and one to the book.
 pub fn cast_dummy_vote(book: &mut [u8], reply: &mut [u8]) -> Moved
@@ -28,7 +29,7 @@ pub fn cast_dummy_vote(book: &mut [u8], reply: &mut [u8]) -> Moved
         reply.old result book.new reply.new }
 {
     let c = current(book);
-    frames::write_dummy_vote(reply, own(book), c);
+    frames::write_plain(reply, FrameKind::DummyVote, own(book), c, 0);
     set_flag(book, Flag::DummyVoted);
     Moved::Dummy(c)
 }
@@ -60,7 +61,7 @@ fn write_proposal(book: &[u8], reply: &mut [u8], j: usize, known: &mut [u8])
     let c = current(book);
     let signer = own(book);
     let digest = linking::linking::parent_digest::<Replica>(book, j, known);
-    frames::write_plain(reply, 1, signer, c, 0);
+    frames::write_plain(reply, FrameKind::Proposal, signer, c, 0);
     chains::entries::offer(book, c, j, &digest, &mut reply[48..224]);
 }
 
