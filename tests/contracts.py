@@ -36,7 +36,7 @@ OUTER = re.compile(r"^(?:(?:pub )?use [\w:]+::\{[^{};]*\};$|(?:ghost use|(?:pub 
 BLOCK = re.compile(r"^(?P<pub>pub )?(?P<sort>impl|trait)\b(?P<head>[^{;]*)\{", re.M)
 MODEL = re.compile(r"(?:<[^<>]*>)?\s*Model for (\w+)")
 # what a block has beside functions: an associated type or constant, and ghost members with a value, a type or both
-MEMBER = re.compile(r"^[ ]*(?:type \w+(?: = [^;{}]*)?|const \w+: [^;{}]*|(?P<ghost>ghost \w+(?:: \{|(?= = \{)| = \{)))", re.M)
+MEMBER = re.compile(r"^[ ]*(?:type \w+(?:(?: =|:) [^;{}]*)?|const \w+: [^;{}]*|(?P<ghost>ghost \w+(?:: \{|(?= = \{)| = \{)))", re.M)
 GHOST_FIELD = re.compile(r"^[ ]*(?:pub )?ghost \w+: \{", re.M)
 MODULE = re.compile(r"(pub )?mod (\w+);")
 LITERAL = re.compile(r"//.*|b?\"(?:\\.|[^\"\\\n])*\"|b?'(?:\\[^\n]|[^'\\\n])'")

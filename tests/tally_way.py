@@ -15,7 +15,7 @@ BESIDE = {
                "frame_block_digest"),
     "sha256": ("the digest of the held proposal", "sha256"),
     "book_fields": ("whether there is a proposal, and it; which replicas have voted, for whatever digest",
-                    "holds_proposal proposal voter_mask"),
+                    "holds_proposal proposal mask_at"),
     "wire": ("whether a replica has voted, for whatever digest", "in_mask"),
     "book_changes": ("what is written: a proposal, one vote, the block that is notarized",
                      "set_proposal set_vote notarize_held"),
@@ -25,9 +25,8 @@ BESIDE = {
     "observer_delivery": ("what certificates do", "keep_block join_signers"),
     "observer_refusals": ("an observer's refusals", "frame_refusal"),
     "soundness": ("refusal 1", "is_sound"),
-    "observer_soundness": ("refusal 1", "is_sound"),
     "frame_refusals": ("the other refusals", "read_refusal"),
-    "packets": ("the frames of a packet, and how many were fresh, known and refused", "read_on reached counted"),
+    "packets": ("how many frames of a packet were fresh, known and refused", "counted"),
     "packing": ("an answer as a number for C", "delivered_number counted_number write_counts"),
 }
 LISTED = {(crate, name) for crate, (_, names) in BESIDE.items() for name in names.split()}
@@ -154,7 +153,8 @@ class Decider:
                 refuse(self.function, f"a loop, `{token}`, on the way to the tally")
             if token == "[" and re.match(r"[\w)\]]", before):
                 refuse(self.function, "a byte or a part of a slice read on the way to the tally")
-            if (token in (")", "]", ">") and after == "(") or (re.match(r"\w", before) and token == "!"):
+            named = re.match(r"\w", before) and before not in ("if", "return", "in", "match", "unreachable")
+            if (token in (")", "]", ">") and after == "(") or (named and token == "!"):
                 refuse(self.function, "a call of what is no function")
             if token == "::" and after == "<":
                 refuse(self.function, "a call of what is no function")
