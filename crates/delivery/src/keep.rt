@@ -9,11 +9,13 @@ ghost use Rattle.contradictions.specs.Accepted.{accepted_book};
 ghost use Rattle.delivery.specs.Kept.{kept_at, join_signers};
 ghost use Rattle.frame_refusals.specs.Given.{Spot, Read};
 ghost use Rattle.book_fields.specs.Book.{height_in, book_view};
+ghost use Rattle.book_fields.specs.Numbered.{place_of};
 
 use crate::notarize::{notarize, notarize_with};
 use answers::answer::Delivered;
 use book_changes::height::{set_mask, set_notarized, set_proposal, set_vote};
-use book_fields::height::{holds_proposal, is_notarized, mask_at, voter_mask};
+use book_fields::height::{holds_proposal, is_notarized, mask_at};
+use book_fields::names::MaskKind;
 use frames::{
     FrameKind, frame_block, frame_block_digest, frame_digest, frame_kind, frame_mask, frame_signer,
     frame_signers,
@@ -43,7 +45,7 @@ fn keep_block_vote(book: &mut [u8], h: usize, frame: &[u8]) -> Delivered
         (keep_block_vote sha (book_view book.old) (height_in book.old h) frame.now) }
 {
     let s = frame_signer(frame);
-    if in_mask(voter_mask(book, h), s) {
+    if in_mask(mask_at(book, h, MaskKind::Voters), s) {
         return Delivered::Known;
     }
     set_vote(book, h, s, frame_digest(frame));
@@ -65,21 +67,21 @@ fn keep_block_certificate(book: &mut [u8], h: usize, frame: &[u8]) -> Delivered
     Delivered::Fresh
 }
 
-// Joins signers to mask `k` of height `h`: 1 of the dummy votes, or 2 of the finalize statements.
+// Joins signers to a mask of height `h`, that of the dummy votes or that of the finalize statements.
 #[tactic(auto, unfolding(crate::specs::Kept::join_signers, crate::specs::Kept::kept_at))]
-fn join_signers(book: &mut [u8], h: usize, k: usize, signers: usize) -> Delivered
+fn join_signers(book: &mut [u8], h: usize, which: MaskKind, signers: usize) -> Delivered
     requires spot { Spot book.old h }
-    requires le_k { (1 ≤ k) × (k ≤ 2) }
+    requires le_k { (1 ≤ place_of which) × (place_of which ≤ 2) }
     requires signers_lt_mask_limit { signers < mask_limit }
     ensures { accepted_book result book.new ≡ kept_at book.old h
-        (join_signers k (height_in book.old h) signers) }
+        (join_signers (place_of which) (height_in book.old h) signers) }
 {
-    let held = mask_at(book, h, k);
+    let held = mask_at(book, h, which);
     let joined = held | signers;
     if joined == held {
         return Delivered::Known;
     }
-    set_mask(book, h, k, joined);
+    set_mask(book, h, which, joined);
     Delivered::Fresh
 }
 
@@ -94,10 +96,10 @@ pub fn keep(book: &mut [u8], h: usize, frame: &[u8]) -> Delivered
         Some(FrameKind::BlockVote) => keep_block_vote(book, h, frame),
         Some(FrameKind::BlockCertificate) => keep_block_certificate(book, h, frame),
         Some(FrameKind::DummyVote | FrameKind::DummyCertificate) => {
-            join_signers(book, h, 1, frame_signers(frame))
+            join_signers(book, h, MaskKind::Dummy, frame_signers(frame))
         }
         Some(FrameKind::Finalize | FrameKind::FinalizeCertificate) => {
-            join_signers(book, h, 2, frame_signers(frame))
+            join_signers(book, h, MaskKind::Finalize, frame_signers(frame))
         }
         None => unreachable!(),
     }

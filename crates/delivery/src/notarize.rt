@@ -8,7 +8,7 @@ ghost use Rattle.book_fields.specs.Book.{height_in, book_view, changed};
 
 use book_changes::height::notarize_held;
 use book_fields::height::{holds_proposal, is_notarized, proposal};
-use book_fields::quorum::quorum;
+use book_fields::kind::{Replica, quorum};
 use tally::voters_for;
 
 // Whether height `h` holds a proposal and has no notarized block yet.
@@ -31,7 +31,7 @@ pub fn notarize_with(book: &mut [u8], h: usize, digest: &[u8])
         return;
     }
     let voters = voters_for(book, h, digest);
-    if quorum(book, voters) {
+    if quorum::<Replica>(book, voters) {
         notarize_held(book, h, voters);
     }
 }

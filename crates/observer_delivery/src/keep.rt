@@ -5,11 +5,13 @@ ghost use Rattle.protocol.specs.Mask.{mask_limit};
 ghost use Rattle.protocol.specs.Deliver.{keep_block_certificate, keep as keeps};
 ghost use Rattle.protocol.specs.Observer.{observer_state};
 ghost use Rattle.book_fields.specs.Book.{ObserverReady, Within, observed_in};
+ghost use Rattle.book_fields.specs.Numbered.{place_of};
 ghost use Rattle.contradictions.specs.Accepted.{accepted_book};
 ghost use Rattle.delivery.specs.Kept.{join_signers};
 ghost use Rattle.observer_delivery.specs.Certificate.{kept_at, CertificateRead};
 
 use answers::answer::Delivered;
+use book_fields::names::MaskKind;
 use book_fields::observed::{is_notarized, mask_at};
 use frames::{FrameKind, frame_block, frame_kind, frame_mask};
 use observer_book::{set_mask, set_notarized};
@@ -28,22 +30,22 @@ fn keep_block(book: &mut [u8], h: usize, frame: &[u8]) -> Delivered
     Delivered::Fresh
 }
 
-// Joins signers to mask `k` of height `h`: 1 of the dummy votes, or 2 of the finalize statements.
+// Joins signers to a mask of height `h`, that of the dummy votes or that of the finalize statements.
 #[tactic(auto, unfolding(delivery::specs::Kept::join_signers, crate::specs::Certificate::kept_at))]
-fn join_signers(book: &mut [u8], h: usize, k: usize, signers: usize) -> Delivered
+fn join_signers(book: &mut [u8], h: usize, which: MaskKind, signers: usize) -> Delivered
     requires observer_ready { ObserverReady book.old }
     requires within { Within book.old h }
-    requires le_k { (1 ≤ k) × (k ≤ 2) }
+    requires le_k { (1 ≤ place_of which) × (place_of which ≤ 2) }
     requires signers_lt_mask_limit { signers < mask_limit }
     ensures { accepted_book result book.new ≡
-        kept_at book.old h (join_signers k (observed_in book.old h) signers) }
+        kept_at book.old h (join_signers (place_of which) (observed_in book.old h) signers) }
 {
-    let held = mask_at(book, h, k);
+    let held = mask_at(book, h, which);
     let joined = held | signers;
     if joined == held {
         return Delivered::Known;
     }
-    set_mask(book, h, k, joined);
+    set_mask(book, h, which, joined);
     Delivered::Fresh
 }
 
@@ -56,8 +58,18 @@ pub fn keep(book: &mut [u8], h: usize, frame: &[u8]) -> Delivered
 {
     match frame_kind(frame) {
         Some(FrameKind::BlockCertificate) => keep_block(book, h, frame),
-        Some(FrameKind::DummyCertificate) => join_signers(book, h, 1, frame_mask(frame)),
-        Some(FrameKind::FinalizeCertificate) => join_signers(book, h, 2, frame_mask(frame)),
+        Some(FrameKind::DummyCertificate) => join_signers(
+            book,
+            h,
+            MaskKind::Dummy,
+            frame_mask(frame),
+        ),
+        Some(FrameKind::FinalizeCertificate) => join_signers(
+            book,
+            h,
+            MaskKind::Finalize,
+            frame_mask(frame),
+        ),
         _ => unreachable!(),
     }
 }
