@@ -11,9 +11,9 @@ use Rattle.memory.specs.Laws.FreshLaws.{zero_known}
 use Rattle.moves.specs.Laws.OrderLaws.{called, called_short, called_unsound}
 use Rattle.moves.proofs.make_move.move_in.Goals as goal
 
-pub finalized_sound-requires-clause-memo_2 : goal.finalized_sound-requires-clause-memo_2
+pub finalized_sound-requires-clause-memo_as : goal.finalized_sound-requires-clause-memo_as
 unfolding zeros
-finalized_sound-requires-clause-memo_2 g c =
+finalized_sound-requires-clause-memo_as g c =
     let size : length (replicate {A = ℕ} g.row.N 0) ≡ g.row.N = length-replicate {A = ℕ} g.row.N 0 in
     zero_known _ _ _ (rw size c.requires.room.0) (rw size)
 

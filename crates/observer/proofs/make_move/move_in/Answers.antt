@@ -15,7 +15,7 @@ use Rattle.observer.proofs.make_move.move_in.Goals as goal
 pub finalized_sound-requires : goal.finalized_sound-requires
 unfolding zeros
 finalized_sound-requires g c = record {
-  observer_readable = c.requires.observer_readable;
+  shown = c.requires.observer_readable;
   memo_as = zero_known _ _ _ (rw length-replicate c.requires.room.0) (rw length-replicate refl);
 }
 
