@@ -1,11 +1,13 @@
 -- Written by tests/restated --write: what docs/statements has of
 -- crates/answers/specs/MoveNumbers.antt.
-use Rattle.std.specs.Prelude.{ℕ}
+use Rattle.std.specs.Prelude.{ℕ, Result, Ok, Err}
 use package.Rattle.protocol.specs.Answer as protocol
 use package.Rattle.protocol.specs.Answer.{refused, accepted, certificate_kind, finalize_kind, move_number, move_height}
 use package.Rattle.protocol.specs.Answer.{Move, idle, vote_dummy, output, pass, propose, vote_block}
 use package.Rattle.answers.specs.declared.answer.Moved.{Moved}
+use package.Rattle.answers.specs.declared.refusal.Refusal.{Refusal}
 use package.Rattle.answers.specs.Answers.{certificate_of}
+use package.Rattle.answers.specs.Refusal.{number_of}
 use package.Rattle.answers.specs.MoveNumbers.{MoveNumbers, move_certificate, move_finalize}
 use mathlib.Core.Path.{◌≡◌ as ◌is-kept◌, refl as by-text}
 use package.Rattle.answers.specs.MoveNumbers as page
@@ -17,21 +19,21 @@ MoveNumbers-kept : (refusal : ℕ) (move : ℕ) (height : ℕ) (certificate : �
     MoveNumbers
 MoveNumbers-kept x0 x1 x2 x3 x4 = record { refusal = x0; move = x1; height = x2; certificate = x3; finalize = x4 }
 
-moved_numbers-kept : Moved → MoveNumbers
-moved_numbers-kept Moved.Idle = plain_move 0 0
-moved_numbers-kept (Moved.Dummy h) = plain_move 1 h
-moved_numbers-kept (Moved.Final g) = plain_move 2 g
-moved_numbers-kept (Moved.Pass h certificate finalised) = record {
+moved_numbers-kept : Result Moved Refusal → MoveNumbers
+moved_numbers-kept (Ok Moved.Idle) = plain_move 0 0
+moved_numbers-kept (Ok (Moved.Dummy h)) = plain_move 1 h
+moved_numbers-kept (Ok (Moved.Final g)) = plain_move 2 g
+moved_numbers-kept (Ok (Moved.Pass h certificate finalised)) = record {
   refusal = 0;
   move = 3;
   height = h;
   certificate = certificate_kind (certificate_of certificate);
   finalize = finalize_kind finalised;
 }
-moved_numbers-kept (Moved.Offer h) = plain_move 4 h
-moved_numbers-kept (Moved.Vote h) = plain_move 5 h
-moved_numbers-kept (Moved.Refused number) =
-    record { refusal = number; move = 0; height = 0; certificate = 0; finalize = 0 }
+moved_numbers-kept (Ok (Moved.Offer h)) = plain_move 4 h
+moved_numbers-kept (Ok (Moved.Vote h)) = plain_move 5 h
+moved_numbers-kept (Err refusal) =
+    record { refusal = number_of refusal; move = 0; height = 0; certificate = 0; finalize = 0 }
 
 same-moved_numbers : moved_numbers-kept is-kept page.moved_numbers
 unfolding moved_numbers-kept page.moved_numbers

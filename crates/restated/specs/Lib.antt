@@ -23,6 +23,7 @@ pub mod AgreementTurns
 pub mod AgreementUnpacked
 pub mod AnswersAnswers
 pub mod AnswersMoveNumbers
+pub mod AnswersRefusal
 pub mod CallLawsBookBytes
 pub mod CallLawsEquivocating
 pub mod CallLawsFields

@@ -8,40 +8,36 @@ use package.Rattle.packing.specs.Packing.{pass_kinds}
 use mathlib.Core.Path.{◌≡◌ as ◌is-kept◌, refl as by-text}
 use package.Rattle.packing.specs.Packing as page
 
-packed_done-kept : Answer Done → ℕ
+abbrev packed_done-kept : Answer Done → ℕ
 packed_done-kept (refused number) = number
 packed_done-kept (accepted answer) = 0
 
 same-packed_done : packed_done-kept is-kept page.packed_done
-unfolding packed_done-kept page.packed_done
 same-packed_done = by-text
 
-packed_delivery-kept : Answer Delivery → ℕ
+abbrev packed_delivery-kept : Answer Delivery → ℕ
 packed_delivery-kept (refused number) = number
 packed_delivery-kept (accepted known) = 0
 packed_delivery-kept (accepted fresh) = 256
 
 same-packed_delivery : packed_delivery-kept is-kept page.packed_delivery
-unfolding packed_delivery-kept page.packed_delivery
 same-packed_delivery = by-text
 
-packed_packet-kept : Answer Counts → ℕ
+abbrev packed_packet-kept : Answer Counts → ℕ
 packed_packet-kept (refused number) = number
 packed_packet-kept (accepted counts) = 0
 
 same-packed_packet : packed_packet-kept is-kept page.packed_packet
-unfolding packed_packet-kept page.packed_packet
 same-packed_packet = by-text
 
-counts_after-kept : Answer Counts → List ℕ → List ℕ
+abbrev counts_after-kept : Answer Counts → List ℕ → List ℕ
 counts_after-kept (refused number) before = before
 counts_after-kept (accepted counts) before = counts.fresh_frames ∷ counts.known_frames ∷ counts.refused_frames ∷ []
 
 same-counts_after : counts_after-kept is-kept page.counts_after
-unfolding counts_after-kept page.counts_after
 same-counts_after = by-text
 
-pass_kinds-kept : Move → ℕ
+abbrev pass_kinds-kept : Move → ℕ
 pass_kinds-kept idle = 0
 pass_kinds-kept (vote_dummy h) = 0
 pass_kinds-kept (output g) = 0
@@ -50,37 +46,32 @@ pass_kinds-kept (propose h) = 0
 pass_kinds-kept (vote_block h) = 0
 
 same-pass_kinds : pass_kinds-kept is-kept page.pass_kinds
-unfolding pass_kinds-kept page.pass_kinds
 same-pass_kinds = by-text
 
-packed_move-kept : Answer Move → ℕ
+abbrev packed_move-kept : Answer Move → ℕ
 packed_move-kept (refused number) = number
 packed_move-kept (accepted move) = 256 * move_number move + 65536 * move_height move + 4294967296 * pass_kinds move
 
 same-packed_move : packed_move-kept is-kept page.packed_move
-unfolding packed_move-kept page.packed_move
 same-packed_move = by-text
 
-answered_height-kept : Answer Move → ℕ
+abbrev answered_height-kept : Answer Move → ℕ
 answered_height-kept (refused number) = 0
 answered_height-kept (accepted move) = move_height move
 
 same-answered_height : answered_height-kept is-kept page.answered_height
-unfolding answered_height-kept page.answered_height
 same-answered_height = by-text
 
-packed_size-kept : Answer ℕ → ℕ
+abbrev packed_size-kept : Answer ℕ → ℕ
 packed_size-kept (refused number) = number
 packed_size-kept (accepted size) = 256 * size
 
 same-packed_size : packed_size-kept is-kept page.packed_size
-unfolding packed_size-kept page.packed_size
 same-packed_size = by-text
 
-answered_size-kept : Answer ℕ → ℕ
+abbrev answered_size-kept : Answer ℕ → ℕ
 answered_size-kept (refused number) = 0
 answered_size-kept (accepted size) = size
 
 same-answered_size : answered_size-kept is-kept page.answered_size
-unfolding answered_size-kept page.answered_size
 same-answered_size = by-text

@@ -6,9 +6,10 @@ ghost use package.Rattle.protocol.specs.Deliver.{deliver_call};
 ghost use package.Rattle.answers.specs.Answers.{delivered_answer};
 
 use answers::answer::Delivered;
+use answers::refusal::Refusal;
 
 // Reads a frame and keeps what it states, or fires the timer by it; a refused call changes nothing.
-pub fn deliver(book: &mut [u8], frame: &[u8]) -> Delivered
+pub fn deliver(book: &mut [u8], frame: &[u8]) -> Result<Delivered, Refusal>
     ensures answer { delivered_answer result ≡ (deliver_call sha256 book.old frame.now).answer }
     ensures book { book.new ≡ (deliver_call sha256 book.old frame.now).book }
 {

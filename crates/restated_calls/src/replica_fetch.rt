@@ -5,10 +5,10 @@ ghost use package.Rattle.sha256.specs.Digest.{sha256 as sha};
 ghost use package.Rattle.protocol.specs.Fetch.{fetch_call};
 ghost use package.Rattle.answers.specs.Answers.{done_answer};
 
-use answers::answer::Answer;
+use answers::refusal::Refusal;
 
 // Writes a certificate that the book has. Reads the book once to see that it is sound, and stores 224 bytes.
-pub fn fetch(book: &[u8], kind: usize, height: usize, reply: &mut [u8]) -> Answer
+pub fn fetch(book: &[u8], kind: usize, height: usize, reply: &mut [u8]) -> Result<(), Refusal>
     ensures answer { done_answer result ≡
         (fetch_call sha book.now kind height reply.old).answer }
     ensures reply { reply.new ≡

@@ -7,9 +7,10 @@ ghost use package.Rattle.answers.specs.Answers.{moved_answer};
 ghost use package.Rattle.answers.specs.MoveNumbers.{moved_numbers, answer_numbers};
 
 use answers::answer::Moved;
+use answers::refusal::Refusal;
 
 // Makes the first move that applies and writes its frames to the front of the reply; a refused call changes nothing.
-pub fn make_move(book: &mut [u8], reply: &mut [u8]) -> Moved
+pub fn make_move(book: &mut [u8], reply: &mut [u8]) -> Result<Moved, Refusal>
     ensures answer { moved_answer result ≡ (move_call sha256 book.old reply.old).answer }
     ensures book { book.new ≡ (move_call sha256 book.old reply.old).book }
     ensures reply { reply.new ≡ (move_call sha256 book.old reply.old).reply }

@@ -4,7 +4,7 @@ ghost use Rattle.std.specs.Prelude.{◌≡◌};
 ghost use package.Rattle.protocol.specs.Open.{long, open_call};
 ghost use package.Rattle.answers.specs.Answers.{done_answer};
 
-use answers::answer::Answer;
+use answers::refusal::Refusal;
 
 // Writes a new book. Looks at weights and leaders once and stores each byte of the book once, and a leader's twice.
 pub fn open(
@@ -14,7 +14,7 @@ pub fn open(
     heights: usize,
     weights: &[u8],
     leaders: &[u8],
-) -> Answer
+) -> Result<(), Refusal>
     ensures answer { done_answer result ≡
         (open_call (long weights.now) book.old n own heights leaders.now).answer }
     ensures book { book.new ≡

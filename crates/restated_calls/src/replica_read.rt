@@ -5,10 +5,10 @@ ghost use package.Rattle.sha256.specs.Digest.{sha256 as sha};
 ghost use package.Rattle.protocol.specs.Read.{size_call, read_part, read_buffer};
 ghost use package.Rattle.answers.specs.Answers.{size_answer};
 
-use answers::answer::Size;
+use answers::refusal::Refusal;
 
 // The length of the log in bytes. Reads the book once to see that it is sound.
-pub fn size(book: &[u8]) -> Size
+pub fn size(book: &[u8]) -> Result<usize, Refusal>
     ensures { size_answer result ≡ size_call sha book.now }
 {
     replica::read::size(book)

@@ -13,7 +13,7 @@ pub fn sha256_into(message: &[u8], out: &mut [u8]) -> bool
     sha256_c::sha256_into(message, out)
 }
 
-// The same, with the answer as a call's number: 0, or refusal 3 where `out` is shorter.
+// The same, with the answer as a call's number, which C gets as it is: 0, or refusal 3 where `out` is shorter.
 pub fn digest_into(message: &[u8], out: &mut [u8]) -> usize
     ensures answer { result ≡ digest_number out.old }
     ensures after { out.new ≡ written message.now out.old }

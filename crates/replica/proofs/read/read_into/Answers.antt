@@ -1,6 +1,5 @@
 -- `read_into` meets its contract: of a book that is not sound nothing is read.
-use mathlib.Core.Path.{◌≡◌, sym, ◌∙◌}
-use mathlib.Core.Bool.{false}
+use Rattle.std.proofs.Common.{◌≡◌, sym, ◌∙◌, false}
 use Rattle.sha256.specs.Digest.{sha256}
 use Rattle.protocol.specs.Sound.{sound}
 use Rattle.book_fields.specs.Laws.BookLaws.{sound_book}

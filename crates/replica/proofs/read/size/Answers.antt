@@ -1,20 +1,17 @@
 -- `size` meets its contract: a book that is not sound is refused, and each entry of the log has 16 bytes.
-use mathlib.Core.Path.{◌≡◌, sym, ◌∙◌}
-use mathlib.Core.Bool.{true, false}
+use Rattle.std.proofs.Common.{sym, ◌∙◌}
 use Rattle.sha256.specs.Digest.{sha256}
-use Rattle.protocol.specs.Sound.{sound}
 use Rattle.book_fields.specs.Laws.BookLaws.{sound_book}
 use Rattle.log_calls.specs.Laws.ReadLaws.{size_unsound, size_sound}
 use Rattle.replica.proofs.read.size.Goals as goal
 
-pub log_count-count-requires : goal.log_count-count-requires
-log_count-count-requires c = sound_book sha256 _ c.is_sound.ensures.bytes
-    (sym c.is_sound.ensures.answer ∙ c.if-is_sound.true)
+pub log_count-requires : goal.log_count-requires
+log_count-requires c = sound_book sha256 _ c.is_sound.ensures.bytes
+    (sym c.is_sound.ensures.answer ∙ c.if-not-is_sound.false)
 
-pub returns-then-is_sound : goal.returns-then-is_sound
-returns-then-is_sound c = let e : sound sha256 c.args.book.now ≡ true = cc in
-    size_sound c.args.book.now c.log_count-count.result e c.log_count-count.ensures.0
+pub returns-then-not-is_sound : goal.returns-then-not-is_sound
+returns-then-not-is_sound c = size_unsound c.args.book.now (sym c.is_sound.ensures.answer ∙ c.if-not-is_sound.true)
 
-pub returns-else-is_sound : goal.returns-else-is_sound
-returns-else-is_sound c = let e : sound sha256 c.args.book.now ≡ false = cc in
-    size_unsound c.args.book.now e
+pub returns : goal.returns
+returns c = size_sound c.args.book.now c.log_count.result (sym c.is_sound.ensures.answer ∙ c.if-not-is_sound.false)
+    c.log_count.ensures.0

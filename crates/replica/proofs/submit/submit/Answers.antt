@@ -1,18 +1,18 @@
 -- `submit` meets its contract: a book that is not sound is refused first.
-use mathlib.Core.Path.{◌≡◌, sym, ◌∙◌}
-use mathlib.Core.Bool.{false}
+use Rattle.std.proofs.Common.{sym, ◌∙◌}
 use Rattle.sha256.specs.Digest.{sha256}
-use Rattle.protocol.specs.Sound.{sound}
 use Rattle.book_fields.specs.Laws.BookLaws.{sound_book}
+use Rattle.answers.specs.declared.refusal.Refusal.{Refusal}
 use Rattle.answers.proofs.Laws.AnswerLaws.{outcome_refused}
 use Rattle.log_calls.specs.Laws.SubmitLaws.{submit_unsound}
 use Rattle.replica.proofs.submit.submit.Goals as goal
 
 pub submit_sound-requires : goal.submit_sound-requires
 submit_sound-requires c = sound_book sha256 _ c.is_sound.ensures.bytes
-    (sym c.is_sound.ensures.answer ∙ c.if-is_sound.true)
+    (sym c.is_sound.ensures.answer ∙ c.if-not-is_sound.false)
 
-pub returns-else-is_sound : goal.returns-else-is_sound
-returns-else-is_sound c =
-    let e : sound sha256 c.args.book.now ≡ false = cc in let all = outcome_refused (submit_unsound c.args.book.now c.args.entry.now e) in
+pub returns-then-not-is_sound : goal.returns-then-not-is_sound
+returns-then-not-is_sound c =
+    let all = outcome_refused Refusal.Unsound
+    (submit_unsound c.args.book.now c.args.entry.now (sym c.is_sound.ensures.answer ∙ c.if-not-is_sound.true)) in
     record { answer = all.0; book = all.1 }
