@@ -1,15 +1,30 @@
--- Three rows in a row, and the rows of reading and of contradiction.
-use Rattle.std.specs.Prelude.{ℕ, ◌≤◌, ◌≡◌, refl, Bool, true, false, ◌&&◌, not, [], ◌∷◌, eqb}
+-- Refusals by name and options, three rows in a row, and the rows of reading and of contradiction.
+use Rattle.std.specs.Prelude.{ℕ, ◌≤◌, ◌≡◌, refl, Bool, true, false, ◌&&◌, not, [], ◌∷◌, eqb, Result, Ok, Err}
 use Rattle.std.proofs.Common.{sym, ap, ◌∙◌}
-use Rattle.std.proofs.Math.Option.{some, none}
+use Rattle.std.proofs.Math.Option.{Option, some, none}
 use Rattle.protocol.specs.Bytes.{Bytes, same}
 use Rattle.protocol.specs.Tests.{all_of, implies, in_range, first_refusal}
 use Rattle.protocol.specs.Frame.{kind, frame_height, frame_block, frame_well_formed, is_proposal, is_block_certificate}
 use Rattle.protocol.specs.State.{State, at, last, holds_proposal, is_notarized}
 use Rattle.protocol.proofs.Laws.RowLaws.{pass_row, refuse_row, range_in}
 use Rattle.protocol.specs.Deliver.{read_rows, clash_rows, second_proposal}
+use Rattle.answers.specs.declared.refusal.Refusal.{Refusal}
+use Rattle.answers.specs.Refusal.{number_of, refusal_of}
 use Rattle.frame_refusals.specs.Refusal.{three_rows, members_fit, leader_signed, signers_enough}
 use Rattle.frame_refusals.specs.Refusal.{member_rows, vote_agrees}
+
+-- ---- refusals
+module _ {A : Type 0} where
+  pub number_refuses : (result : Result A Refusal) (o : Option ℕ) (refusal : Refusal) → refusal_of result ≡ o →
+      result ≡ Err refusal → o ≡ some (number_of refusal)
+  number_refuses result o refusal e f = sym e ∙ ap (λ (r : Result A Refusal). refusal_of r) f
+
+  pub zero_passes : (result : Result A Refusal) (o : Option ℕ) (answer : A) → refusal_of result ≡ o →
+      result ≡ Ok answer → o ≡ none
+  zero_passes result o answer e f = sym e ∙ ap (λ (r : Result A Refusal). refusal_of r) f
+
+pub refusal_some : (A : Type 0) (refusal : Refusal) → refusal_of {A = A} (Err refusal) ≡ some (number_of refusal)
+refusal_some A refusal = refl
 
 -- ---- three rows
 module _ (a b c : ℕ) (p q r : Bool) where

@@ -6,7 +6,7 @@ use Rattle.protocol.specs.Bytes.{Bytes}
 use Rattle.protocol.specs.Sound.{sound}
 use Rattle.protocol.specs.Answer.{Answer, Delivery}
 use Rattle.protocol.specs.Deliver.{deliver_call, deliver_all}
-use Rattle.protocol.specs.Packet.{no_frames, counted, counted_in, count_all}
+use Rattle.protocol.specs.Packet.{no_frames, counted, counted_in, count_all, packet_frames}
 use Rattle.protocol.proofs.Laws.PacketLaws.{counts_sum, deliver_more, count_more}
 use Rattle.call_laws.proofs.Laws.SoundStaysLaws.{deliver_stays}
 use Rattle.answers.specs.Answers.{counts_of}
@@ -38,3 +38,9 @@ module _ (before : Bytes) where
               counted
               ∙ rw (count_more sha256 before frames frame, ← so_far.left, ← so_far.counted, told);
         }
+
+    -- the last frame
+    pub reached_all : (packet : Bytes) → frames ≡ packet_frames packet →
+        (counts_of counts ≡ count_all sha256 before (packet_frames packet)) ×
+        (book ≡ deliver_all sha256 before (packet_frames packet))
+    reached_all packet all = (so_far.counted ∙ rw all, so_far.left ∙ rw all)
