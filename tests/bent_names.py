@@ -137,10 +137,10 @@ CODE = [
     ("a contract with a comment, in which a brace would count", "a contract of signal that is not read",
      [(SIGNAL, r"(ensures answer \{ )(done_answer)", r"\1-- }\n    \2")]),
     ("a type that another file passes on", "has a type that is not read",
-     [("answers/src/lib.rt", r"\Z", "\npub use answer::Answer;\n"),
-      (SIGNAL, r"use answers::answer::Answer;", "use answers::Answer;")]),
-    ("a function of another crate passed on", "+==== crates/soundness/src/",
-     [("replica/src/lib.rt", r"\Z", "\npub use soundness::is_sound;\n")]),
+     [("answers/src/lib.rt", r"\Z", "\npub use refusal::Refusal;\n"),
+      (SIGNAL, r"use answers::refusal::Refusal;", "use answers::Refusal;")]),
+    ("a function of another crate passed on", "+==== crates/tally/src/",
+     [("replica/src/lib.rt", r"\Z", "\npub use tally::voters_for;\n")]),
 ]
 
 TRIALS = IMPORTS + LAYOUT + CODE
