@@ -48,8 +48,8 @@ fn heights_sound<R: Rows>(book: &[u8]) -> bool
     requires { Shown R.Book.kind book.now }
     ensures { result ≡ every_height (R.height book.now) (book_heights book.now) }
 {
-    for h in 1..=book_fields::kind::heights::<R::Book>(book) {
-        if !R::height_sound(book, h) {
+    for h in 0..book_fields::kind::heights::<R::Book>(book) {
+        if !R::height_sound(book, h + 1) {
             return false;
         }
     }
