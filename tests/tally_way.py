@@ -94,6 +94,10 @@ class Way:
     def __init__(self, code, known):
         self.code, self.contracts = code, Contracts(code.library, known)
         self.tallies, self.way, self.of_votes = {}, {}, {}
+        for path, item in self.methods():
+            named, reached = self.contracts.sorts(item)
+            if named & {"voters", "quorum"} or "voters" in reached:
+                raise Found(f"{path} is a method whose contract speaks of the tally, and methods are not read")
         for path, item in self.every():
             named, reached = self.contracts.sorts(item)
             where = self.tallies if named & {"voters", "quorum"} else self.way if "voters" in reached else None
@@ -113,6 +117,14 @@ class Way:
                 for item in file.items:
                     if item.sort == "fn":
                         yield "::".join([*front, item.name]), item
+
+    def methods(self):
+        """Each function of a block of methods, with its file's path."""
+        written = ("restated", "restated_calls")
+        for folder in sorted(f for f in self.code.library.crates.glob("*/src") if f.parent.name not in written):
+            for stem, file in self.code.crate(folder.parent.name).files.items():
+                for block in file.blocks:
+                    yield from (("::".join([folder.parent.name, stem, item.name]), item) for item in block.items)
 
     def read(self):
         """Reads the functions on the way; raises what is refused in them."""
