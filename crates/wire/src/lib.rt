@@ -4,4 +4,5 @@
 pub mod block;
 pub mod bytes;
 pub mod mask;
+pub mod numbered;
 pub mod weights;
