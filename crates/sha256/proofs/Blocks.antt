@@ -15,6 +15,12 @@ folded hash bytes (suc count) =
     folded (compression hash (take 64 bytes)) (drop 64 bytes) count
     ∙ sym (ap (hash_blocks hash bytes) (sym (one-add count)) ∙ hash_blocks-add hash bytes 1 count)
 
+-- all blocks that are cut from a byte string
+pub all_blocks : (hash : List ℕ) (bytes : Bytes)
+    → fold compression hash (first_chunks 64 (length bytes / 64) bytes) ≡ hash_all hash bytes
+unfolding hash_all
+all_blocks hash bytes = folded hash bytes (length bytes / 64)
+
 pub one_block : (hash : List ℕ) (bytes : Bytes) → length bytes ≡ 64 → hash_all hash bytes ≡ compression hash bytes
 unfolding hash_all hash_blocks block
 one_block hash bytes whole = rw (whole, take_all 64 bytes (omega arith))
@@ -27,5 +33,5 @@ unfolding sha256 padded
 parts message rest blocks cut left =
     let start : length message / 64 * 64 ≡ length message - length message % 64 = omega arith in
     let whole : fold compression initial_hash blocks ≡ hash_all initial_hash message =
-    ap (fold compression initial_hash) cut ∙ unfold hash_all in folded initial_hash message (length message / 64) in
+    ap (fold compression initial_hash) cut ∙ all_blocks initial_hash message in
     rw (whole, left, hash_all-rest initial_hash message (padding (length message)) (length message / 64 * 64) start)

@@ -1,8 +1,7 @@
 // The digest of a byte slice, FIPS 180-4, section 6.2.2: the whole blocks where they lie, then the rest with the
 // padding.
-ghost use Rattle.std.specs.Prelude.{◌≡◌, ◌%◌, ◌++◌, fold, length};
+ghost use Rattle.std.specs.Prelude.{◌≡◌, ◌%◌, ◌++◌, length};
 ghost use Rattle.sha256.specs.Digest.{initial_hash, hash_all, words_bytes, sha256};
-ghost use Rattle.sha256.specs.Compression.{compression};
 ghost use Rattle.sha256_padding.specs.Padding.{padding};
 
 use crate::compression::compress;
@@ -21,10 +20,11 @@ fn initial_hash() -> [u32; 8]
     INITIAL_HASH
 }
 
-// The hash value after the blocks, each read where it lies; `start` is the hash value before them.
-fn hash_blocks(start: [u32; 8], blocks: &[[u8; 64]]) -> [u32; 8]
-    ensures { result ≡ fold compression start blocks.now }
+// The hash value after the whole blocks of `bytes`, each read where it lies; `start` is the hash value before them.
+fn hash_blocks(start: [u32; 8], bytes: &[u8]) -> [u32; 8]
+    ensures { result ≡ hash_all start bytes.now }
 {
+    let (blocks, _) = bytes.as_chunks::<64>();
     blocks.iter().fold(start, compress)
 }
 
@@ -60,6 +60,6 @@ fn to_bytes(hash: [u32; 8]) -> [u8; 32]
 pub fn sha256(message: &[u8]) -> [u8; 32]
     ensures { result ≡ sha256 message.now }
 {
-    let (blocks, rest) = message.as_chunks::<64>();
-    to_bytes(hash_rest(hash_blocks(initial_hash(), blocks), rest, message.len()))
+    let (_, rest) = message.as_chunks::<64>();
+    to_bytes(hash_rest(hash_blocks(initial_hash(), message), rest, message.len()))
 }

@@ -1,5 +1,7 @@
--- `to_bytes` meets its contract. The invariant: the words passed stand as bytes at the front. Assumes nothing.
-use Rattle.std.proofs.Common.{rules, ◌≡◌, ◌+◌, ◌-◌, ◌*◌, length, refl, sym, ap, ◌∙◌, arith, take_all}
+-- `to_bytes` meets its contract. The invariant: the words passed stand as bytes at the front; what a turn writes is the
+-- next word. Assumes nothing.
+use Rattle.std.specs.Int.{to_be_bytes}
+use Rattle.std.proofs.Common.{rules, ◌≡◌, ◌+◌, ◌-◌, ◌*◌, length, refl, sym, ap, ◌∙◌, arith, take_all, w32}
 use Rattle.std.proofs.lemmas.Slice.{overwrites}
 use Rattle.sha256.specs.Digest.{words_bytes}
 use Rattle.sha256.proofs.WordStores.{worded}
@@ -14,7 +16,8 @@ loop-i-preserved c = let whole : length c.args.hash ≡ 8 = search rules in
     let i = c.loop-i.i in (
       search (rules, overwrites),
       worded c.args.hash c.loop-i.bytes _ i (4 * i + 4 - 4 * i) (omega arith) whole c.loop-i.invariant.0 (omega arith)
-          (c.copy_from_slice.ensures.after ∙ c.to_be_bytes.ensures) c.loop-i.invariant.1,
+          (c.copy_from_slice.ensures.after ∙ c.to_be_bytes.ensures ∙ ap (to_be_bytes w32) (omega arith))
+          c.loop-i.invariant.1,
     )
 
 pub returns : goal.returns
