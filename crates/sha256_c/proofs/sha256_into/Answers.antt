@@ -1,5 +1,5 @@
--- `sha256_into` meets its contract. Assumes nothing.
-use Rattle.std.proofs.Common.{◌≡◌, true, leb, length, sym, ◌∙◌, arith, rules, length-take-le, le-leb}
+-- `sha256_into` meets its contract: the bytes that are copied are the digest's. Assumes nothing.
+use Rattle.std.proofs.Common.{◌≡◌, true, leb, ◌++◌, length, drop, sym, ap, arith, rules, length-take, le-leb}
 use Rattle.std.proofs.lemmas.Bool.{lt-leb}
 use Rattle.sha256_c.specs.Written.{written}
 use Rattle.sha256_c.proofs.sha256_into.Goals as goal
@@ -13,12 +13,13 @@ returns-then-out-lt32 c = record {
 
 pub copy_from_slice-requires : goal.copy_from_slice-requires
 copy_from_slice-requires c = let whole : length c.sha256.result ≡ 32 = search rules in
-    length-take-le _ c.args.out.now (omega arith) ∙ sym whole
+    simp length-take (omega arith)
 
 pub returns : goal.returns
 unfolding written
-returns c = let room : leb 32 (length c.args.out.now) ≡ true = le-leb 32 (length c.args.out.now) c.if-out-lt32.false in
+returns c = let out = c.args.out.now in
+    let room : leb 32 (length out) ≡ true = le-leb 32 (length out) c.if-out-lt32.false in
     record {
       answer = sym room;
-      after = rw (room, ← c.sha256.ensures, c.copy_from_slice.ensures.after);
+      after = rw (room, ← c.sha256.ensures) (ap (λ front. front ++ drop 32 out) c.copy_from_slice.ensures.after);
     }
