@@ -1,6 +1,6 @@
 -- The difference of two byte strings: it is 0 where they are equal, and stays below 256.
 use Rattle.std.specs.Prelude.{ℕ, zero, suc, ◌+◌, ◌*◌, ◌/◌, ◌≤◌, ◌<◌, ◌≡◌, refl, Bool, true, false, ◌&&◌, cond, [], ◌∷◌, bit_and, bit_or, bit_xor, eqb, length, take}
-use Rattle.std.proofs.Common.{arith, length-take, get_or-take, one-mul, add-one, sym, ap, ap₂, ◌∙◌, take_all, eq-eqb, ne_eqb, eqb-true}
+use Rattle.std.proofs.Common.{arith, one-mul, add-one, sym, ap, ap₂, ◌∙◌, take_all, eq-eqb, ne_eqb, eqb-true}
 use Rattle.std.proofs.Math.Bool.{and_assoc, and-true}
 use Rattle.std.proofs.Math.Nat.{div-eq_of_lt}
 use Rattle.std.proofs.lemmas.Bool.{false≢true, eqb-false}
@@ -51,13 +51,11 @@ none_differs a b (suc i) h k =
     rw (or_is_zero, none_differs a b i (omega arith) (omega arith), xor_is_zero)
     (sym (same_more a b i (omega arith) (omega arith)))
 
--- one byte more of the first `count`
-pub gathered_next : (a b : Bytes) (count seen i x y : ℕ) → i < length (take count a) → seen ≡ difference a b i →
-    x ≡ byte_at (take count a) i → y ≡ byte_at (take count b) i → bit_or seen (bit_xor x y) ≡ difference a b (i + 1)
+-- one byte more
+pub gathered_next : (a b : Bytes) (seen i : ℕ) → seen ≡ difference a b i →
+    bit_or seen (bit_xor (byte_at a i) (byte_at b i)) ≡ difference a b (i + 1)
 unfolding difference
-gathered_next a b count seen i x y h e p q =
-    let low : i < count = omega (arith, simp length-take at h) in
-    rw (e, p, q, add-one i, get_or-take count a i 0, get_or-take count b i 0)
+gathered_next a b seen i e = rw (add-one i, e)
 
 -- ---- whole strings
 -- byte strings of different lengths differ

@@ -13,8 +13,8 @@ pub fn difference(a: &[u8], b: &[u8], count: usize) -> usize
     ensures { (result ≡ difference_of a.now b.now count) × (result < 256) }
 {
     let mut seen: u8 = 0;
-    for (x, y) in a[..count].iter().zip(&b[..count]) {
-        seen |= x ^ y;
+    for i in 0..count {
+        seen |= a[i] ^ b[i];
     }
     usize::from(seen)
 }
