@@ -118,13 +118,17 @@ class Way:
                     if item.sort == "fn":
                         yield "::".join([*front, item.name]), item
 
-    def methods(self):
-        """Each function of a block of methods, with its file's path."""
+    def blocks(self):
+        """Each block of methods, with its file's path."""
         written = ("restated", "restated_calls")
         for folder in sorted(f for f in self.code.library.crates.glob("*/src") if f.parent.name not in written):
             for stem, file in self.code.crate(folder.parent.name).files.items():
-                for block in file.blocks:
-                    yield from (("::".join([folder.parent.name, stem, item.name]), item) for item in block.items)
+                yield from (("::".join([folder.parent.name, stem]), block) for block in file.blocks)
+
+    def methods(self):
+        """Each function of a block of methods, with its file's path."""
+        for path, block in self.blocks():
+            yield from ((f"{path}::{item.name}", item) for item in block.items)
 
     def read(self):
         """Reads the functions on the way; raises what is refused in them."""
