@@ -134,7 +134,8 @@ pub fn count_distinct<K: Kind>(book: &[u8], h: usize) -> usize
     if h == 0 {
         return 0;
     }
-    take_distinct::<K>(book, h, &mut [])
+    let mut no_room = [0u8; 1];
+    take_distinct::<K>(book, h, &mut no_room)
 }
 
 // Whether the distinct entries of the chain that ends in height `h` fit into `room` bytes. Counts them only where all

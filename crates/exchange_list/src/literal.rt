@@ -24,7 +24,7 @@ impl From<AllocError> for LiteralError {
 }
 
 // The byte of two digits.
-fn pair(high: u8, low: u8) -> Result<u8, LiteralError> {
+pub(crate) fn pair(high: u8, low: u8) -> Result<u8, LiteralError> {
     match (digit(high), digit(low)) {
         (Some(high), Some(low)) => Ok(16 * high + low),
         _ => Err(LiteralError::Malformed),
