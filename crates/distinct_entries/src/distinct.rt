@@ -54,7 +54,9 @@ fn put_entry(block: &[u8], k: usize, count: usize, buffer: &mut [u8])
 }
 
 // Goes through the entries of the block of height `h`, after those of the chain below, of which `count` were distinct.
-// Puts each that is no repeat behind those in the buffer, where there is room, and says how many there are then.
+// Puts each that is no repeat behind those in the buffer, where there is room, and says how many there are then. Never
+// inlined: what calls it calls itself for each block below, and would hold on the stack what this needs.
+#[inline(never)]
 fn take_block<K: Kind>(
     book: &[u8],
     h: usize,
