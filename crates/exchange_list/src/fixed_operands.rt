@@ -1,8 +1,8 @@
-// What the words behind a call's name must be, and how many bytes the call is lent.
+// What the words behind a call's name must be, and how many bytes the call is lent, where the buffers' memory is lent.
 ghost use Rattle.std.specs.Prelude.{◌≤◌, length};
 
-use crate::fixed::buffers::{enter, place, size_at};
-use crate::fixed::literal::literal;
+use crate::fixed_buffers::{enter, place, size_at};
+use crate::fixed_literal::literal;
 use crate::operands::{Call, named};
 use crate::words::{number, word};
 

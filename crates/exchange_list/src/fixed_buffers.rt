@@ -1,5 +1,5 @@
-// The buffers of a list. Each has one of sixteen places: its name stands there in the table, its size sixteen further
-// on, and its bytes, 65536 at most, in the memory.
+// The buffers of a list in memory that is lent and of a fixed size, where no call can fail. Each has one of sixteen
+// places: its name stands there in the table, its size sixteen further on, and its bytes, 65536 at most, in the memory.
 ghost use Rattle.std.specs.Prelude.{◌≡◌, ◌+◌, ◌<◌, ◌≤◌, length, slice_index};
 
 // The last eight letters of a word as one number.

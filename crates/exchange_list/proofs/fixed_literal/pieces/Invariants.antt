@@ -1,6 +1,6 @@
 -- `pieces` fills no more than the room that it is lent.
 use Rattle.std.proofs.Common.{◌≤◌, length}
-use Rattle.exchange_list.proofs.fixed.literal.pieces.Given as goal
+use Rattle.exchange_list.proofs.fixed_literal.pieces.Given as goal
 
 abbrev pub invariant-loop-part : goal.invariant-loop-part
 invariant-loop-part l =
