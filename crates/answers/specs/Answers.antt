@@ -10,10 +10,14 @@ use Rattle.answers.specs.declared.answer.Delivered.{Delivered}
 use Rattle.answers.specs.declared.answer.Moved.{Moved}
 use Rattle.answers.specs.declared.refusal.Refusal.{Refusal}
 
--- an answer with a refusal or without, by what the answer without one means
+-- an answer with a refusal or without, by what gives a refusal its number and what the answer without one means
+abbrev pub answer_with : {A B R : Type 0} → (R → ℕ) → (A → B) → Result A R → protocol.Answer B
+answer_with number meaning (Ok answer) = accepted (meaning answer)
+answer_with number meaning (Err refusal) = refused (number refusal)
+
+-- the same where the refusal has its name
 abbrev pub answer_by : {A B : Type 0} → (A → B) → Result A Refusal → protocol.Answer B
-answer_by meaning (Ok answer) = accepted (meaning answer)
-answer_by meaning (Err refusal) = refused (number_of refusal)
+answer_by = answer_with number_of
 
 -- Open, Signal, Submit and Fetch
 abbrev pub done_answer : Result ⊤ Refusal → protocol.Answer Done

@@ -20,21 +20,26 @@ pub record MoveNumbers : Type 0 where
 abbrev plain_move : ℕ → ℕ → MoveNumbers
 plain_move number h = record { refusal = 0; move = number; height = h; certificate = 0; finalize = 0 }
 
-unfoldable pub moved_numbers : Result Moved Refusal → MoveNumbers
-moved_numbers (Ok Moved.Idle) = plain_move 0 0
-moved_numbers (Ok (Moved.Dummy h)) = plain_move 1 h
-moved_numbers (Ok (Moved.Final g)) = plain_move 2 g
-moved_numbers (Ok (Moved.Pass h certificate finalised)) = record {
+-- whatever gives a refusal its number
+unfoldable pub moved_numbers_with : {R : Type 0} → (R → ℕ) → Result Moved R → MoveNumbers
+moved_numbers_with number (Ok Moved.Idle) = plain_move 0 0
+moved_numbers_with number (Ok (Moved.Dummy h)) = plain_move 1 h
+moved_numbers_with number (Ok (Moved.Final g)) = plain_move 2 g
+moved_numbers_with number (Ok (Moved.Pass h certificate finalised)) = record {
   refusal = 0;
   move = 3;
   height = h;
   certificate = certificate_kind (certificate_of certificate);
   finalize = finalize_kind finalised;
 }
-moved_numbers (Ok (Moved.Offer h)) = plain_move 4 h
-moved_numbers (Ok (Moved.Vote h)) = plain_move 5 h
-moved_numbers (Err refusal) =
-    record { refusal = number_of refusal; move = 0; height = 0; certificate = 0; finalize = 0 }
+moved_numbers_with number (Ok (Moved.Offer h)) = plain_move 4 h
+moved_numbers_with number (Ok (Moved.Vote h)) = plain_move 5 h
+moved_numbers_with number (Err refusal) =
+    record { refusal = number refusal; move = 0; height = 0; certificate = 0; finalize = 0 }
+
+-- the same where the refusal has its name
+unfoldable pub moved_numbers : Result Moved Refusal → MoveNumbers
+moved_numbers = moved_numbers_with number_of
 
 -- the kind of a pass's certificate, and 0 for other moves
 unfoldable pub move_certificate : Move → ℕ

@@ -4,6 +4,7 @@ ghost use Rattle.answers.specs.Refusal.{number_of};
 
 use std::error::Error;
 use std::fmt;
+use wire::numbered::Numbered;
 
 // The refusals of documents 01 and 02, in the order of their numbers, from 1 up.
 #[derive(Clone, Copy, Debug, PartialEq, Eq)]
@@ -64,6 +65,14 @@ impl From<Refusal> for usize {
             Refusal::UnevenPacket => 15,
             Refusal::NotACertificate => 16,
         }
+    }
+}
+
+impl Numbered for Refusal {
+    ghost number = { number_of };
+
+    fn number(self) -> usize {
+        usize::from(self)
     }
 }
 

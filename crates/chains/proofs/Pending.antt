@@ -1,13 +1,18 @@
 -- Turns of the loops over pending entries: one looked for, those that a chain lacks counted, and a block filled with
 -- them.
 use Rattle.std.proofs.Common.{ℕ, ◌+◌, ◌*◌, ◌≤◌, ◌<◌, arith, ◌≡◌, refl, sym, ap, subst, ◌∙◌, List, [], ◌∷◌, ◌++◌}
-use Rattle.std.proofs.Common.{length, length-append, length-drop}
+use Rattle.std.proofs.Common.{length, take, length-append, length-drop}
 use Rattle.protocol.specs.Every.{Every, none}
-use Rattle.protocol.specs.Bytes.{Bytes, part, over_front, put, Sized}
+use Rattle.protocol.specs.Bytes.{Bytes, part, over_front, without, put, Sized}
 use Rattle.protocol.proofs.Laws.BytesLaws.{length_part}
 use Rattle.protocol.specs.Block.{new_block}
-use Rattle.protocol.specs.State.{decode, maximum_pending}
+use Rattle.protocol.specs.State.{State, decode, pending, maximum_pending}
+use Rattle.protocol.specs.Sound.{view}
+use Rattle.protocol.specs.View.{log_at}
+use Rattle.protocol.specs.Submit.{still_pending}
 use Rattle.protocol.proofs.Laws.CodecLaws.{decode_shaped}
+use Rattle.protocol.proofs.Laws.EntriesLaws.{pending_all}
+use Rattle.protocol.proofs.Laws.LogLaws.{log_lacks}
 use Rattle.protocol.proofs.Laws.BlockLaws.{new_block_size}
 use Rattle.protocol.proofs.Laws.BuildLaws.{block_more}
 use Rattle.protocol.proofs.Laws.FrontLaws.{front_again}
@@ -28,6 +33,11 @@ place_length pool k size few e = ap length e ∙ length_part pool (16 * k) 16 (o
 pub one_more : (es : List Bytes) (entry : Bytes) {more : List Bytes} {left : ℕ} → left ≡ length es →
     more ≡ es ++ (entry ∷ []) → left + 1 ≡ length more
 one_more es entry p q = rw p (sym (ap length q ∙ length-append es (entry ∷ [])))
+
+pub all_stay : (s : State) (finalized k : ℕ) → finalized ≡ s.finalized → s.pending_count ≤ k →
+    without (log_at (view s) finalized) (take k (pending s)) ≡ still_pending s
+unfolding still_pending
+all_stay s finalized k p h = rw (p, pending_all s k h) (sym (log_lacks s (pending s)))
 
 -- ---- a block that is filled
 pub begun_again : (new buffer : Bytes) {after : Bytes} → after ≡ over_front new buffer → after ≡ over_front new after

@@ -10,13 +10,19 @@ use package.Rattle.answers.specs.declared.answer.Counts.{Counts}
 use package.Rattle.answers.specs.declared.answer.Delivered.{Delivered}
 use package.Rattle.answers.specs.declared.answer.Moved.{Moved}
 use package.Rattle.answers.specs.declared.refusal.Refusal.{Refusal}
-use package.Rattle.answers.specs.Answers.{answer_by, delivery_of, counts_of, certificate_of, move_of}
+use package.Rattle.answers.specs.Answers.{answer_with, answer_by, delivery_of, counts_of, certificate_of, move_of}
 use mathlib.Core.Path.{◌≡◌ as ◌is-kept◌, refl as by-text}
 use package.Rattle.answers.specs.Answers as page
 
+abbrev answer_with-kept : {A B R : Type 0} → (R → ℕ) → (A → B) → Result A R → protocol.Answer B
+answer_with-kept number meaning (Ok answer) = accepted (meaning answer)
+answer_with-kept number meaning (Err refusal) = refused (number refusal)
+
+same-answer_with : {A B R : Type 0} → answer_with-kept {A = A} {B = B} {R = R} is-kept page.answer_with {A = A} {B = B} {R = R}
+same-answer_with = by-text
+
 abbrev answer_by-kept : {A B : Type 0} → (A → B) → Result A Refusal → protocol.Answer B
-answer_by-kept meaning (Ok answer) = accepted (meaning answer)
-answer_by-kept meaning (Err refusal) = refused (number_of refusal)
+answer_by-kept = answer_with number_of
 
 same-answer_by : {A B : Type 0} → answer_by-kept {A = A} {B = B} is-kept page.answer_by {A = A} {B = B}
 same-answer_by = by-text

@@ -8,7 +8,7 @@ use package.Rattle.answers.specs.declared.answer.Moved.{Moved}
 use package.Rattle.answers.specs.declared.refusal.Refusal.{Refusal}
 use package.Rattle.answers.specs.Answers.{certificate_of}
 use package.Rattle.answers.specs.Refusal.{number_of}
-use package.Rattle.answers.specs.MoveNumbers.{MoveNumbers, move_certificate, move_finalize}
+use package.Rattle.answers.specs.MoveNumbers.{MoveNumbers, moved_numbers_with, move_certificate, move_finalize}
 use mathlib.Core.Path.{◌≡◌ as ◌is-kept◌, refl as by-text}
 use package.Rattle.answers.specs.MoveNumbers as page
 
@@ -19,21 +19,28 @@ MoveNumbers-kept : (refusal : ℕ) (move : ℕ) (height : ℕ) (certificate : �
     MoveNumbers
 MoveNumbers-kept x0 x1 x2 x3 x4 = record { refusal = x0; move = x1; height = x2; certificate = x3; finalize = x4 }
 
-moved_numbers-kept : Result Moved Refusal → MoveNumbers
-moved_numbers-kept (Ok Moved.Idle) = plain_move 0 0
-moved_numbers-kept (Ok (Moved.Dummy h)) = plain_move 1 h
-moved_numbers-kept (Ok (Moved.Final g)) = plain_move 2 g
-moved_numbers-kept (Ok (Moved.Pass h certificate finalised)) = record {
+moved_numbers_with-kept : {R : Type 0} → (R → ℕ) → Result Moved R → MoveNumbers
+moved_numbers_with-kept number (Ok Moved.Idle) = plain_move 0 0
+moved_numbers_with-kept number (Ok (Moved.Dummy h)) = plain_move 1 h
+moved_numbers_with-kept number (Ok (Moved.Final g)) = plain_move 2 g
+moved_numbers_with-kept number (Ok (Moved.Pass h certificate finalised)) = record {
   refusal = 0;
   move = 3;
   height = h;
   certificate = certificate_kind (certificate_of certificate);
   finalize = finalize_kind finalised;
 }
-moved_numbers-kept (Ok (Moved.Offer h)) = plain_move 4 h
-moved_numbers-kept (Ok (Moved.Vote h)) = plain_move 5 h
-moved_numbers-kept (Err refusal) =
-    record { refusal = number_of refusal; move = 0; height = 0; certificate = 0; finalize = 0 }
+moved_numbers_with-kept number (Ok (Moved.Offer h)) = plain_move 4 h
+moved_numbers_with-kept number (Ok (Moved.Vote h)) = plain_move 5 h
+moved_numbers_with-kept number (Err refusal) =
+    record { refusal = number refusal; move = 0; height = 0; certificate = 0; finalize = 0 }
+
+same-moved_numbers_with : {R : Type 0} → moved_numbers_with-kept {R = R} is-kept page.moved_numbers_with {R = R}
+unfolding moved_numbers_with-kept page.moved_numbers_with
+same-moved_numbers_with = by-text
+
+moved_numbers-kept : Result Moved Refusal → MoveNumbers
+moved_numbers-kept = moved_numbers_with number_of
 
 same-moved_numbers : moved_numbers-kept is-kept page.moved_numbers
 unfolding moved_numbers-kept page.moved_numbers

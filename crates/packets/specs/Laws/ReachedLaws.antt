@@ -1,5 +1,5 @@
 -- A packet is delivered as far as no frame, then one frame more at a time.
-use Rattle.std.specs.Prelude.{ℕ, ◌+◌, ◌/◌, ◌≤◌, ◌≡◌, refl, true, List, [], ◌∷◌, ◌++◌, length}
+use Rattle.std.specs.Prelude.{ℕ, ◌+◌, ◌/◌, ◌<◌, ◌≤◌, ◌≡◌, refl, true, List, [], ◌∷◌, ◌++◌, length}
 use Rattle.std.proofs.Common.{arith, sym, ap, ◌∙◌, add-one}
 use Rattle.sha256.specs.Digest.{sha256}
 use Rattle.protocol.specs.Bytes.{Bytes, pieces}
@@ -49,6 +49,12 @@ module _ (before : Bytes) where
     reached_all packet all = (so_far.counted ∙ rw all, so_far.left ∙ rw all)
 
   -- ---- the same where the frames are those of a packet before a number
+  -- before the first frame
+  pub numbered_none : (packet : Bytes) → sound sha256 before ≡ true → (counts : Counts) → counts_of counts ≡ no_frames →
+      (0 ≤ length packet / frame_size) × Reached before before (pieces frame_size 0 packet) counts
+  unfolding pieces
+  numbered_none packet ok counts none = (omega arith, reached_none ok counts none)
+
   module _ (packet book : Bytes) (number : ℕ) (counts : Counts)
       (so_far : Reached before book (pieces frame_size number packet) counts) where
     pub numbered_sum : counts.fresh + counts.known + counts.refused ≡ number
@@ -72,3 +78,8 @@ module _ (before : Bytes) where
     numbered_all inside end =
         let all : number ≡ length packet / frame_size = omega (arith, inside, end) in
         (so_far.counted ∙ rw all, so_far.left ∙ rw all)
+
+-- the number behind that of a frame of a packet is at most how many frames the packet has
+pub numbered_within : (packet : Bytes) (number next : ℕ) → number < length packet / frame_size → next ≡ number + 1 →
+    next ≤ length packet / frame_size
+numbered_within packet number next more on = rw on (omega arith)
