@@ -11,11 +11,11 @@ DEFINED = {"voters": ("Deliver", "voters_for"), "quorum": ("View", "quorum"), "v
 # what functions on the way call besides the way and the tally, by crate: what each is, and the names
 BESIDE = {
     "frames": ("what a frame states, and the digest of its block",
-               "frame_kind frame_height frame_signer frame_signers frame_mask frame_digest frame_block "
+               "named_kind frame_height frame_signer frame_signers frame_mask frame_digest frame_block "
                "frame_block_digest"),
     "sha256": ("the digest of the held proposal", "sha256"),
     "book_fields": ("whether there is a proposal, and it; which replicas have voted, for whatever digest",
-                    "holds_proposal proposal mask_at"),
+                    "holds_proposal proposal voter_mask"),
     "wire": ("whether a replica has voted, for whatever digest", "in_mask"),
     "book_changes": ("what is written: a proposal, one vote, the block that is notarized",
                      "set_proposal set_vote notarize_held"),

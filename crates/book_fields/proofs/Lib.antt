@@ -3,3 +3,4 @@ pub mod ObservedPlaces
 pub mod Showing
 pub mod SettingTests
 pub mod Counts
+pub mod FlagBits

@@ -15,6 +15,13 @@ use Rattle.book_fields.specs.Book.{Within}
 use Rattle.book_fields.specs.Numbered.{mask_at, place_of, block_at}
 use Rattle.book_fields.specs.declared.names.MaskKind.{MaskKind}
 
+-- each mask has one of the four places
+pub place_small : (which : MaskKind) → place_of which < 4
+place_small MaskKind.Certificate = omega arith
+place_small MaskKind.Dummy = omega arith
+place_small MaskKind.Finalize = omega arith
+place_small MaskKind.Voters = omega arith
+
 -- a lent part, as its place and its size
 pub cut_part : (bytes : Bytes) (from size : ℕ) → take (from + size - from) (drop from bytes) ≡ part bytes from size
 unfolding part
@@ -45,13 +52,12 @@ module _ (book : Bytes) (h : ℕ) (within : Within book h) where
     pub status_at : byte_at book (from + 1) ≡ (at (decode book) h).status
     status_at = rw place (named (λ x. x.status) (read_status book (h - 1) inside))
 
-    pub mask_at_lem : (which : MaskKind) →
-        word16 book (from + (2 + 2 * place_of which)) ≡ mask_at (at (decode book) h) (place_of which)
-    mask_at_lem MaskKind.Certificate =
-        rw place (named (λ x. x.certificate_mask) (read_certificate_mask book (h - 1) inside))
-    mask_at_lem MaskKind.Dummy = rw place (named (λ x. x.dummy_mask) (read_dummy_mask book (h - 1) inside))
-    mask_at_lem MaskKind.Finalize = rw place (named (λ x. x.finalize_mask) (read_finalize_mask book (h - 1) inside))
-    mask_at_lem MaskKind.Voters = rw place (named (λ x. x.voter_mask) (read_voter_mask book (h - 1) inside))
+    pub mask_at_lem : (k : ℕ) → k < 4 → word16 book (from + (2 + 2 * k)) ≡ mask_at (at (decode book) h) k
+    mask_at_lem zero l = rw place (named (λ x. x.certificate_mask) (read_certificate_mask book (h - 1) inside))
+    mask_at_lem (suc zero) l = rw place (named (λ x. x.dummy_mask) (read_dummy_mask book (h - 1) inside))
+    mask_at_lem (suc (suc zero)) l = rw place (named (λ x. x.finalize_mask) (read_finalize_mask book (h - 1) inside))
+    mask_at_lem (suc (suc (suc zero))) l = rw place (named (λ x. x.voter_mask) (read_voter_mask book (h - 1) inside))
+    mask_at_lem (suc (suc (suc (suc k)))) l = absurd (omega arith)
 
   module _ (from : ℕ) (place : from ≡ 576 + 16 * book_heights book + 864 * (h - 1)) where
     pub block_at_lem : (k : ℕ) → k < 2 → take (from + 176 * k + 176 - (from + 176 * k))

@@ -7,9 +7,8 @@ ghost use Rattle.protocol.specs.State.{head_number, head_put, most_heights};
 ghost use Rattle.protocol.specs.Move.{is_running};
 ghost use Rattle.protocol.specs.Block.{maximum_heights};
 ghost use Rattle.book_fields.specs.Book.{Readable, Ready, recoded};
-ghost use Rattle.book_fields.specs.Numbered.{bit_of};
 
-use crate::names::Flag;
+use wire::numbered::Numbered;
 
 // A number of any head: in a byte, and in edition 3 in two bytes elsewhere. Costs two or three reads.
 pub fn number(book: &[u8], short: usize, long: usize) -> usize
@@ -121,22 +120,25 @@ pub fn is_running(book: &[u8]) -> bool
     current(book) <= heights(book)
 }
 
-// Whether a flag of the current height is set.
-pub fn flag(book: &[u8], which: Flag) -> bool
-    requires { Readable book.now }
-    ensures { result ≡ is_flagged (bit_of which) (decode book.now) }
+// Whether a flag of the current height is set, by its name or by its number from 1 up.
+#[tactic(auto, unfolding(protocol::specs::State::flag))]
+pub fn flag<F: Numbered>(book: &[u8], which: F) -> bool
+    requires readable { Readable book.now }
+    requires le_k { 1 ≤ F.number which }
+    ensures { result ≡ is_flagged (F.number which) (decode book.now) }
 {
-    let bit = usize::from(which);
+    let bit = which.number();
     flags(book) / bit % 2 == 1
 }
 
-// Sets a flag of the current height, which is not set. Costs one store.
-pub fn set_flag(book: &mut [u8], which: Flag)
+// Sets a flag of the current height, which is not set, by its name or by its number up to 8. Costs one store.
+#[tactic(auto, using(crate::specs::Laws::HeadLaws::flag_set))]
+pub fn set_flag<F: Numbered>(book: &mut [u8], which: F)
     requires ready { Ready book.old }
-    requires book_bound { (decode book.old).flags < 16 }
-    ensures { book.new ≡ recoded book.old (with_flag (bit_of which)) }
+    requires book_bound { ((decode book.old).flags < 16) × (F.number which ≤ 8) }
+    ensures { book.new ≡ recoded book.old (with_flag (F.number which)) }
 {
-    let set = flags(book) + usize::from(which);
+    let set = flags(book) + which.number();
     book[3] = set as u8;
 }
 

@@ -8,5 +8,6 @@ pub mod kind;
 pub mod names;
 pub mod observed;
 pub mod pool;
+pub mod quorum;
 pub mod setting;
 pub mod weighing;

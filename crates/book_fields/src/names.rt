@@ -2,6 +2,8 @@
 ghost use Rattle.std.specs.Prelude.{◌≡◌};
 ghost use Rattle.book_fields.specs.Numbered.{bit_of, place_of};
 
+use wire::numbered::Numbered;
+
 // The flags of the current height.
 #[derive(Clone, Copy, Debug, PartialEq, Eq)]
 pub enum Flag {
@@ -22,6 +24,14 @@ impl From<Flag> for usize {
             Flag::BlockVoted => 4,
             Flag::Proposed => 8,
         }
+    }
+}
+
+impl Numbered for Flag {
+    ghost number = { bit_of };
+
+    fn number(self) -> usize {
+        usize::from(self)
     }
 }
 

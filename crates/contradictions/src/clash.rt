@@ -16,7 +16,7 @@ use book_fields::height::{
     holds_proposal, is_notarized, mask_at, notarized, proposal, vote_digest,
 };
 use book_fields::names::MaskKind;
-use frames::{FrameKind, frame_block, frame_digest, frame_kind, frame_signer};
+use frames::{FrameKind, frame_block, frame_digest, frame_signer, named_kind};
 use wire::bytes::same_bytes;
 use wire::mask::in_mask;
 
@@ -26,7 +26,7 @@ fn vote_agrees(book: &[u8], h: usize, frame: &[u8]) -> bool
     requires { Read book.now h frame.now }
     ensures { result ≡ vote_agrees (height_in book.now h) frame.now }
 {
-    let Some(FrameKind::BlockVote) = frame_kind(frame) else {
+    let Some(FrameKind::BlockVote) = named_kind(frame) else {
         return true;
     };
     let s = frame_signer(frame);
@@ -41,7 +41,7 @@ fn proposal_agrees(book: &[u8], h: usize, frame: &[u8]) -> bool
     requires { Read book.now h frame.now }
     ensures { result ≡ implies (second_proposal (decode book.now) frame.now) (eqb h (decode book.now).current) }
 {
-    let Some(FrameKind::Proposal) = frame_kind(frame) else {
+    let Some(FrameKind::Proposal) = named_kind(frame) else {
         return true;
     };
     let here = h == current(book);
@@ -55,7 +55,7 @@ fn certificate_agrees(book: &[u8], h: usize, frame: &[u8]) -> bool
     ensures { result ≡ implies (is_block_certificate (kind frame.now) && is_notarized (height_in book.now h))
         (same (height_in book.now h).notarized (frame_block frame.now)) }
 {
-    !matches!(frame_kind(frame), Some(FrameKind::BlockCertificate))
+    !matches!(named_kind(frame), Some(FrameKind::BlockCertificate))
         || !is_notarized(book, h)
         || same_bytes(notarized(book, h), frame_block(frame))
 }

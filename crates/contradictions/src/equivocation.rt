@@ -10,7 +10,7 @@ use answers::answer::Delivered;
 use book_fields::head::{current, flag, set_flag};
 use book_fields::height::{holds_proposal, proposal};
 use book_fields::names::Flag;
-use frames::{FrameKind, frame_block, frame_kind};
+use frames::{FrameKind, frame_block, named_kind};
 use wire::bytes::same_bytes;
 
 // Whether a frame that is read is a second proposal for the current height. Frames of other kinds cost one test.
@@ -19,7 +19,7 @@ pub fn leader_equivocates(book: &[u8], h: usize, frame: &[u8]) -> bool
     requires { Read book.now h frame.now }
     ensures { result ≡ leader_equivocates (decode book.now) frame.now }
 {
-    matches!(frame_kind(frame), Some(FrameKind::Proposal))
+    matches!(named_kind(frame), Some(FrameKind::Proposal))
         && h == current(book)
         && holds_proposal(book, h)
         && !same_bytes(proposal(book, h), frame_block(frame))

@@ -14,11 +14,11 @@ ghost use Rattle.book_fields.specs.Numbered.{place_of};
 use crate::notarize::{notarize, notarize_with};
 use answers::answer::Delivered;
 use book_changes::height::{set_mask, set_notarized, set_proposal, set_vote};
-use book_fields::height::{holds_proposal, is_notarized, mask_at};
+use book_fields::height::{holds_proposal, is_notarized, mask_at, voter_mask};
 use book_fields::names::MaskKind;
 use frames::{
-    FrameKind, frame_block, frame_block_digest, frame_digest, frame_kind, frame_mask, frame_signer,
-    frame_signers,
+    FrameKind, frame_block, frame_block_digest, frame_digest, frame_mask, frame_signer,
+    frame_signers, named_kind,
 };
 use wire::mask::in_mask;
 
@@ -45,7 +45,7 @@ fn keep_block_vote(book: &mut [u8], h: usize, frame: &[u8]) -> Delivered
         (keep_block_vote sha (book_view book.old) (height_in book.old h) frame.now) }
 {
     let s = frame_signer(frame);
-    if in_mask(mask_at(book, h, MaskKind::Voters), s) {
+    if in_mask(voter_mask(book, h), s) {
         return Delivered::Known;
     }
     set_vote(book, h, s, frame_digest(frame));
@@ -91,7 +91,7 @@ pub fn keep(book: &mut [u8], h: usize, frame: &[u8]) -> Delivered
     requires { Read book.old h frame.now }
     ensures { accepted_book result book.new ≡ kept_at book.old h (keeps sha (decode book.old) frame.now) }
 {
-    match frame_kind(frame) {
+    match named_kind(frame) {
         Some(FrameKind::Proposal) => keep_proposal(book, h, frame),
         Some(FrameKind::BlockVote) => keep_block_vote(book, h, frame),
         Some(FrameKind::BlockCertificate) => keep_block_certificate(book, h, frame),

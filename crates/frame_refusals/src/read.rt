@@ -12,7 +12,7 @@ use book_fields::head::{heights, replicas};
 use book_fields::height::leader;
 use book_fields::kind::{Replica, quorum};
 use frames::{
-    FrameKind, frame_height, frame_kind, frame_mask, frame_signer, frame_well_formed, is_statement,
+    FrameKind, frame_height, frame_mask, frame_signer, frame_well_formed, is_statement, named_kind,
 };
 use wire::mask::below;
 
@@ -39,7 +39,7 @@ fn leader_signed(book: &[u8], h: usize, frame: &[u8]) -> bool
     requires frame_len { length frame.now ≡ 224 }
     ensures { result ≡ leader_signed (decode book.now) h frame.now }
 {
-    !matches!(frame_kind(frame), Some(FrameKind::Proposal))
+    !matches!(named_kind(frame), Some(FrameKind::Proposal))
         || frame_signer(frame) == leader(book, h)
 }
 

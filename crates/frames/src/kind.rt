@@ -3,6 +3,8 @@ ghost use Rattle.std.specs.Prelude.{◌≡◌, ◌≤◌};
 ghost use Rattle.protocol.specs.Frame.{is_statement, is_certificate};
 ghost use Rattle.frames.specs.Kind.{number_of};
 
+use wire::numbered::Numbered;
+
 // Statements of one replica, and then the certificates of many, in the order of their numbers from 1 up.
 #[derive(Clone, Copy, Debug, PartialEq, Eq)]
 pub enum FrameKind {
@@ -28,6 +30,14 @@ impl From<FrameKind> for usize {
             FrameKind::DummyCertificate => 6,
             FrameKind::FinalizeCertificate => 7,
         }
+    }
+}
+
+impl Numbered for FrameKind {
+    ghost number = { number_of };
+
+    fn number(self) -> usize {
+        usize::from(self)
     }
 }
 

@@ -12,14 +12,22 @@ use crate::kind::FrameKind;
 use wire::bytes::{byte, word};
 use wire::mask::bit;
 
-// The kind of a frame, if its first byte is the number of one. Costs one read.
+// The kind of a frame as a number, its first byte. Costs one read.
 #[tactic(auto, unfolding(protocol::specs::Frame::kind))]
-pub fn frame_kind(frame: &[u8]) -> Option<FrameKind>
+pub fn frame_kind(frame: &[u8]) -> usize
+    requires { length frame.now ≡ 224 }
+    ensures { (result ≡ kind frame.now) × (result < 256) }
+{
+    byte(frame, 0)
+}
+
+// The kind of a frame by its name, if its number is that of one. Costs one read.
+pub fn named_kind(frame: &[u8]) -> Option<FrameKind>
     requires { length frame.now ≡ 224 }
     ensures { MatchOption result ((kind frame.now ≡ 0) ⊎ (7 < kind frame.now))
         (λ k. number_of k ≡ kind frame.now) }
 {
-    match byte(frame, 0) {
+    match frame_kind(frame) {
         1 => Some(FrameKind::Proposal),
         2 => Some(FrameKind::BlockVote),
         3 => Some(FrameKind::DummyVote),
@@ -90,7 +98,7 @@ pub fn is_statement(frame: &[u8]) -> bool
     requires { length frame.now ≡ 224 }
     ensures { result ≡ is_statement (kind frame.now) }
 {
-    matches!(frame_kind(frame), Some(kind) if kind.is_statement())
+    matches!(named_kind(frame), Some(kind) if kind.is_statement())
 }
 
 // Whether a frame is a certificate, kinds 5 to 7.
@@ -99,7 +107,7 @@ pub fn is_certificate(frame: &[u8]) -> bool
     requires { length frame.now ≡ 224 }
     ensures { result ≡ is_certificate (kind frame.now) }
 {
-    matches!(frame_kind(frame), Some(kind) if kind.is_certificate())
+    matches!(named_kind(frame), Some(kind) if kind.is_certificate())
 }
 
 // The mask of a frame's signers: the one of a statement, or those of a certificate.

@@ -4,7 +4,7 @@ ghost use Rattle.protocol.specs.Frame.{frame_well_formed};
 ghost use Rattle.frames.specs.Parts.{frame_fields, frame_rest, frame_block_part};
 
 use crate::kind::FrameKind;
-use crate::parts::{frame_digest, frame_height, frame_kind, frame_mask, frame_signer};
+use crate::parts::{frame_digest, frame_height, frame_mask, frame_signer, named_kind};
 use wire::block::block_well_formed;
 use wire::bytes::is_zero;
 
@@ -23,7 +23,7 @@ fn fields_fit(frame: &[u8]) -> bool
     requires { length frame.now ≡ 224 }
     ensures { result ≡ frame_fields frame.now }
 {
-    let Some(kind) = frame_kind(frame) else {
+    let Some(kind) = named_kind(frame) else {
         return false;
     };
     if kind.is_statement() {
@@ -40,7 +40,7 @@ fn rest_fits(frame: &[u8]) -> bool
     requires { length frame.now ≡ 224 }
     ensures { result ≡ frame_rest frame.now }
 {
-    let voted = matches!(frame_kind(frame), Some(FrameKind::BlockVote));
+    let voted = matches!(named_kind(frame), Some(FrameKind::BlockVote));
     is_zero(&frame[6..16]) && (voted || is_zero(frame_digest(frame))) && block_fits(frame)
 }
 
@@ -51,7 +51,7 @@ fn block_fits(frame: &[u8]) -> bool
     requires { length frame.now ≡ 224 }
     ensures { result ≡ frame_block_part frame.now }
 {
-    if let Some(FrameKind::Proposal | FrameKind::BlockCertificate) = frame_kind(frame) {
+    if let Some(FrameKind::Proposal | FrameKind::BlockCertificate) = named_kind(frame) {
         block_well_formed(&frame[48..224], frame_height(frame))
     } else {
         is_zero(&frame[48..224])

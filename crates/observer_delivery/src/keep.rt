@@ -13,7 +13,7 @@ ghost use Rattle.observer_delivery.specs.Certificate.{kept_at, CertificateRead};
 use answers::answer::Delivered;
 use book_fields::names::MaskKind;
 use book_fields::observed::{is_notarized, mask_at};
-use frames::{FrameKind, frame_block, frame_kind, frame_mask};
+use frames::{FrameKind, frame_block, frame_mask, named_kind};
 use observer_book::{set_mask, set_notarized};
 
 // Keeps a certified block with its signers where none is notarized.
@@ -56,7 +56,7 @@ pub fn keep(book: &mut [u8], h: usize, frame: &[u8]) -> Delivered
     ensures { accepted_book result book.new ≡
         kept_at book.old h (keeps sha (observer_state book.old) frame.now) }
 {
-    match frame_kind(frame) {
+    match named_kind(frame) {
         Some(FrameKind::BlockCertificate) => keep_block(book, h, frame),
         Some(FrameKind::DummyCertificate) => join_signers(
             book,

@@ -15,7 +15,7 @@ use answers::refusal::Refusal;
 use book_fields::kind::{Observer, heights, quorum, replicas};
 use book_fields::observed::{is_notarized, notarized};
 use frames::{
-    FrameKind, frame_block, frame_height, frame_kind, frame_mask, frame_well_formed, is_certificate,
+    FrameKind, frame_block, frame_height, frame_mask, frame_well_formed, is_certificate, named_kind,
 };
 use wire::bytes::same_bytes;
 use wire::mask::below;
@@ -29,7 +29,7 @@ fn certificate_agrees(book: &[u8], h: usize, frame: &[u8]) -> bool
     ensures { result ≡ implies (is_block_certificate (kind frame.now) && is_notarized (observed_in book.now h))
         (same (observed_in book.now h).notarized (frame_block frame.now)) }
 {
-    !matches!(frame_kind(frame), Some(FrameKind::BlockCertificate))
+    !matches!(named_kind(frame), Some(FrameKind::BlockCertificate))
         || !is_notarized(book, h)
         || same_bytes(notarized(book, h), frame_block(frame))
 }

@@ -13,7 +13,6 @@ use answers::answer::{Certificate, Moved};
 use book_fields::head::{current, enter, flag, own};
 use book_fields::names::Flag;
 use certificates::{CertificateKind, write_certificate};
-use frames::FrameKind;
 
 // Whether the timer of the current height has not fired.
 fn in_time(book: &[u8]) -> bool
@@ -38,7 +37,7 @@ pub fn pass(book: &mut [u8], reply: &mut [u8], by: Certificate) -> Moved
     let finalizes = in_time(book);
     write_certificate(book, CertificateKind::from(by), c, reply);
     if finalizes {
-        frames::write_plain(&mut reply[224..], FrameKind::Finalize, own(book), c, 0);
+        frames::write_finalize(&mut reply[224..], own(book), c);
     } else {
         wire::bytes::clear(reply, 224, 224);
     }

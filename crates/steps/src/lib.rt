@@ -29,7 +29,7 @@ pub fn cast_dummy_vote(book: &mut [u8], reply: &mut [u8]) -> Moved
         reply.old result book.new reply.new }
 {
     let c = current(book);
-    frames::write_plain(reply, FrameKind::DummyVote, own(book), c, 0);
+    frames::write_dummy_vote(reply, own(book), c);
     set_flag(book, Flag::DummyVoted);
     Moved::Dummy(c)
 }

@@ -10,9 +10,6 @@ ghost use Rattle.protocol.specs.State.{decode, vote_of, maximum_replicas};
 ghost use Rattle.protocol.specs.Deliver.{voters_for};
 ghost use Rattle.book_fields.specs.Book.{Readable, Within, height_in};
 
-use book_fields::height::mask_at;
-use book_fields::names::MaskKind;
-
 // 1 if replica `s` is one of the voters and its kept vote is for this digest, and 0 if not. Compares all 32 bytes,
 // whoever votes.
 fn votes_for(book: &[u8], h: usize, s: usize, voters: usize, digest: &[u8]) -> usize
@@ -36,7 +33,7 @@ pub fn voters_for(book: &[u8], h: usize, digest: &[u8]) -> usize
     ensures small { result < mask_limit }
 {
     let n = book_fields::head::replicas(book);
-    let voters = mask_at(book, h, MaskKind::Voters);
+    let voters = book_fields::height::voter_mask(book, h);
     let mut mask = 0;
     for s in 0..n {
         mask += wire::mask::bit(s) * votes_for(book, h, s, voters, digest);

@@ -12,7 +12,6 @@ use Rattle.passing.proofs.pass.Goals.{then-finalizes, else-finalizes}
 use Rattle.passing.proofs.pass.Goals as goal
 
 pub returns : goal.returns
-unfolding finalize
 returns c =
     let book = c.args.book.now in
     let s = decode book in
@@ -22,7 +21,7 @@ returns c =
     let second : c.if-finalizes.reply ≡ put middle 224 (finalize_on c.in_time-finalizes.result s) =
     elim c.if-finalizes.branch [
       | then-finalizes w ↦ w.reply-is ∙ rw
-          (w.if-finalizes.true, w.write_plain.ensures, w.own.ensures.0, c.current-c.ensures.0)
+          (w.if-finalizes.true, w.write_finalize.ensures, w.own.ensures.0, c.current-c.ensures.0)
           (front_in_part middle (finalize s.own s.current) 224 (length middle - 224) (omega arith)
           (omega (arith, finalize_size s.own s.current)))
       | else-finalizes w ↦ w.reply-is ∙ w.clear.ensures ∙ rw w.if-finalizes.false

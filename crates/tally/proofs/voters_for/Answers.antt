@@ -16,13 +16,13 @@ overflow_mul-mask c = omega (arith, times_small c.bit.result c.votes_for.result 
 
 pub overflow_add-mask : goal.overflow_add-mask
 overflow_add-mask c = let args = c.args in
-    let small = mask_small (votes (heightAt (decode args.book.now) args.h) c.mask_at-voters.result
+    let small = mask_small (votes (heightAt (decode args.book.now) args.h) c.voter_mask-voters.result
     args.digest.now) c.loop-s.s c.loop-s.mask (omega arith) c.loop-s.invariant in
     omega (arith, times_small c.bit.result c.votes_for.result c.votes_for.ensures.once)
 
 pub loop-s-preserved : goal.loop-s-preserved
 loop-s-preserved c = let args = c.args in
-    let test = votes (heightAt (decode args.book.now) args.h) c.mask_at-voters.result
+    let test = votes (heightAt (decode args.book.now) args.h) c.voter_mask-voters.result
     args.digest.now in
     mask_next test c.loop-s.s c.loop-s.mask c.bit.result c.votes_for.result c.loop-s.invariant
     c.bit.ensures.0 c.votes_for.ensures.vote
@@ -30,9 +30,9 @@ loop-s-preserved c = let args = c.args in
 pub returns : goal.returns
 returns c = let args = c.args in
     let height = heightAt (decode args.book.now) args.h in
-    let voters = c.mask_at-voters.result in record {
+    let voters = c.voter_mask-voters.result in record {
       voters = tallied height args.digest.now voters c.loop-s.mask c.loop-s.s (decode args.book.now).n
-          c.mask_at-voters.ensures.0
+          c.voter_mask-voters.ensures.0
           (omega arith)
           c.loop-s.invariant;
       small = mask_small (votes height voters args.digest.now) c.loop-s.s c.loop-s.mask (omega arith)

@@ -1,11 +1,9 @@
--- `mask_at` meets its contract: the 16-bit number that it reads stands at the place of that mask.
-use Rattle.std.proofs.Common.{◌∙◌}
-use Rattle.book_fields.proofs.Places.{mask_at_lem}
+-- `mask_at` meets its contract: each name has one of the four places.
+use Rattle.book_fields.proofs.Places.{place_small}
 use Rattle.book_fields.proofs.height.mask_at.Goals as goal
 
+pub mask_in-requires-clause-k_bound : goal.mask_in-requires-clause-k_bound
+mask_in-requires-clause-k_bound c = rw c.from.ensures (place_small c.args.which)
+
 pub returns : goal.returns
-returns c = (
-  rw c.from-k.ensures at c.word.ensures.0 ∙ mask_at_lem c.args.book.now c.args.h c.requires.within _
-      c.content_at-from.ensures c.args.which,
-  c.word.ensures.1,
-)
+returns c = rw c.from.ensures at c.mask_in.ensures

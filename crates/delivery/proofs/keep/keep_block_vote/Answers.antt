@@ -18,7 +18,7 @@ set_vote-requires c = let book = c.args.book.now in
     let h = c.args.h in
     let given = c.requires.read in
     let x = at (decode book) h in
-    let held = c.mask_at.ensures.0 in
+    let held = c.voter_mask.ensures.0 in
     let signed = c.frame_signer-s.ensures.0 in
     let here = c.frame_signer-s.result in
     let missing = sym (ap (λ (m : ℕ). in_mask m here) held) ∙ sym c.in_mask.ensures
@@ -54,7 +54,7 @@ pub returns-then-in_mask : goal.returns-then-in_mask
 unfolding keep_block_vote
 returns-then-in_mask c =
     known_frame c.args.book.now c.args.h _ _
-    (same_bit c.mask_at.ensures.0 c.frame_signer-s.ensures.0 c.in_mask.ensures ∙ c.if-in_mask.true)
+    (same_bit c.voter_mask.ensures.0 c.frame_signer-s.ensures.0 c.in_mask.ensures ∙ c.if-in_mask.true)
 
 pub returns : goal.returns
 unfolding keep_block_vote
@@ -64,7 +64,7 @@ returns c =
     let given = c.requires.read in
     let x = at (decode book) h in
     let signed = c.frame_signer-s.ensures.0 in
-    let missing = same_bit c.mask_at.ensures.0 signed c.in_mask.ensures ∙ c.if-in_mask.false in
+    let missing = same_bit c.voter_mask.ensures.0 signed c.in_mask.ensures ∙ c.if-in_mask.false in
     let named = c.frame_digest.ensures in
     let small = few_replicas _ given.spot.ready.readable in
     let fits = shaped_vote x c.frame_signer-s.result _ (omega (arith, signed, c.requires.frame_bound, small)) named.1
