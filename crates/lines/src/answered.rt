@@ -1,11 +1,12 @@
-// What a call answered, in the words of an exchange list, by what prints so: `Delivered`, `Counts`, `Moved`, `Refusal`.
+// What a call answered, in the words of an exchange list, by what prints so: `Delivered`, `Counts`, `Moved`; and a
+// refusal by its number.
 ghost use Rattle.std.specs.Prelude.{◌++◌, Some, codes};
 ghost use Rattle.std.specs.Fmt.{decimal};
 
 use crate::print::word;
-use answers::refusal::Refusal;
 use std::io::Write;
 use std::{fmt, io};
+use wire::numbered::Numbered;
 
 // Open, Signal, Submit and Fetch, where they are not refused.
 #[derive(Clone, Copy, Debug, PartialEq, Eq)]
@@ -32,14 +33,14 @@ impl fmt::Display for Size {
     }
 }
 
-// What a call answered, or why it is refused.
-pub fn answered<T: fmt::Display + Drop>(
+// What a call answered, or why it is refused: a refusal by name, or one of any number.
+pub fn answered<T: fmt::Display + Drop, R: Numbered>(
     out: &mut impl Write,
-    answer: Result<T, Refusal>,
+    answer: Result<T, R>,
 ) -> io::Result<()> {
     match answer {
         Ok(answer) => write!(out, "{answer}"),
-        Err(refusal) => write!(out, "{refusal}"),
+        Err(refusal) => word(out, b"deny", refusal.number()),
     }
 }
 
