@@ -1,6 +1,6 @@
 -- The blocks of a message as they are cut from it, hashed one after the other. Assumes nothing.
 use Rattle.std.specs.Simd.{first_chunks}
-use Rattle.std.proofs.Common.{◌≡◌, ℕ, zero, suc, ◌*◌, ◌/◌, ◌-◌, ◌%◌, List, ◌++◌, length, take, drop, fold, refl, sym, ap, ◌∙◌, arith, one-add, take_all}
+use Rattle.std.proofs.Common.{◌≡◌, ℕ, zero, suc, ◌*◌, ◌/◌, ◌-◌, ◌%◌, List, ◌++◌, length, take, drop, fold, refl, sym, ap, ◌∙◌, arith, one-add}
 use Rattle.sha256.specs.Bytes.{Bytes}
 use Rattle.sha256.specs.Compression.{compression}
 use Rattle.sha256.specs.Digest.{initial_hash, hash_blocks, hash_all, words_bytes, sha256}
@@ -20,10 +20,6 @@ pub all_blocks : (hash : List ℕ) (bytes : Bytes)
     → fold compression hash (first_chunks 64 (length bytes / 64) bytes) ≡ hash_all hash bytes
 unfolding hash_all
 all_blocks hash bytes = folded hash bytes (length bytes / 64)
-
-pub one_block : (hash : List ℕ) (bytes : Bytes) → length bytes ≡ 64 → hash_all hash bytes ≡ compression hash bytes
-unfolding hash_all hash_blocks block
-one_block hash bytes whole = rw (whole, take_all 64 bytes (omega arith))
 
 -- the digest by parts: the blocks that are cut from the message, then the rest with the padding
 pub parts : (message rest : Bytes) (blocks : List Bytes) → blocks ≡ first_chunks 64 (length message / 64) message

@@ -37,12 +37,12 @@ fn hash_rest(hash: [u32; 8], rest: &[u8], size: usize) -> [u32; 8]
     begin(&mut block, rest);
     if rest.len() < 56 {
         put_length(&mut block, size);
-        return compress(hash, &block);
+        return hash_blocks(hash, &block);
     }
-    let next = compress(hash, &block);
+    let next = hash_blocks(hash, &block);
     let mut last = [0u8; 64];
     put_length(&mut last, size);
-    compress(next, &last)
+    hash_blocks(next, &last)
 }
 
 // The words of a hash value as bytes, the most significant of each first.
