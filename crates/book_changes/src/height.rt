@@ -67,7 +67,8 @@ pub fn notarize_held(book: &mut [u8], h: usize, mask: usize)
     let content = content_at(h);
     let body = body_at(book, h);
     let held = status(book, h);
-    book.copy_within(body..body + 176, body + 176);
+    let (front, back) = book.split_at_mut(body + 176);
+    copy_to(back, 0, &front[body..]);
     mark_notarized(book, content, held, mask);
 }
 

@@ -15,7 +15,9 @@ pub fn move_entry(book: &mut [u8], from: usize, to: usize)
         with_pool s s.pending_count (put s.pool (16 * to) (part s.pool (16 * from) 16))) }
 {
     let at = 64 + 16 * from;
-    book.copy_within(at..at + 16, 64 + 16 * to);
+    let mut entry = [0; 16];
+    entry.copy_from_slice(&book[at..at + 16]);
+    copy_to(book, 64 + 16 * to, &entry);
 }
 
 // Makes the pool's first `count` places and one new entry all that is pending.
