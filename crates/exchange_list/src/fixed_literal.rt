@@ -1,7 +1,7 @@
 // The bytes of a word in the room that is lent for them.
 ghost use Rattle.std.specs.Prelude.{◌≡◌, ◌≤◌, ◌⊎◌, IfSome, length};
 
-use crate::literal::pair;
+use crate::literal::{pair, put_pairs};
 use crate::words::number;
 
 // Puts the bytes of one piece at the front of `room`. Answers how many, where it stands for some and they find room.
@@ -22,12 +22,7 @@ fn piece(piece: &[u8], room: &mut [u8]) -> Option<usize>
     if count == 0 || room.len() < count {
         return None;
     }
-    for (byte, digits) in room.iter_mut().zip(piece.chunks(2)) {
-        let [high, low] = digits else {
-            return None;
-        };
-        *byte = pair(*high, *low).ok()?;
-    }
+    put_pairs(room, piece).ok()?;
     Some(count)
 }
 

@@ -40,12 +40,25 @@ fn repeated(bytes: &mut Vec<u8>, high: u8, low: u8, count: usize) -> Result<(), 
         return Err(LiteralError::Malformed);
     }
     if 0 < count {
-        bytes.resize(bytes.len() + count, pair(high, low)?)?;
+        let byte = pair(high, low)?;
+        bytes.reserve_exact(count)?;
+        bytes.resize(bytes.len() + count, byte)?;
     }
     Ok(())
 }
 
-// Puts the bytes of one piece behind those before it.
+// Puts the byte of each two digits at the front of the room, from the first digits on.
+pub(crate) fn put_pairs(room: &mut [u8], digits: &[u8]) -> Result<(), LiteralError> {
+    for (byte, digits) in room.iter_mut().zip(digits.chunks(2)) {
+        let [high, low] = digits else {
+            return Err(LiteralError::Malformed);
+        };
+        *byte = pair(*high, *low)?;
+    }
+    Ok(())
+}
+
+// Puts the bytes of one piece behind those before it. Asks for memory once, for no more than these.
 fn piece(bytes: &mut Vec<u8>, piece: &[u8]) -> Result<(), LiteralError>
     requires { vec_len bytes.old ≤ 65536 }
     ensures { OnOk result (vec_len bytes.new ≤ 65536) }
@@ -57,13 +70,14 @@ fn piece(bytes: &mut Vec<u8>, piece: &[u8]) -> Result<(), LiteralError>
             repeated(bytes, *high, *low, count)
         }
         _ => {
-            for digits in piece.chunks(2) {
-                let [high, low] = digits else {
-                    return Err(LiteralError::Malformed);
-                };
-                repeated(bytes, *high, *low, 1)?;
+            let count = piece.len().div_ceil(2);
+            let held = bytes.len();
+            if ROOM - held < count {
+                return Err(LiteralError::Malformed);
             }
-            Ok(())
+            bytes.reserve_exact(count)?;
+            bytes.resize(held + count, 0)?;
+            put_pairs(&mut bytes[held..], piece)
         }
     }
 }
