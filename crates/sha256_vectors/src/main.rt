@@ -36,6 +36,11 @@ fn pattern() -> [u8; 1000] {
     bytes
 }
 
+// A million letters, without a heap.
+fn million() -> [u8; 1_000_000] {
+    [b'a'; 1_000_000]
+}
+
 fn main(rt: HostRuntime) -> io::Result<()> {
     let mut out = rt.stdout();
     named(&mut out, b"abc", b"abc")?;
@@ -50,6 +55,5 @@ fn main(rt: HostRuntime) -> io::Result<()> {
         b"abcdefghbcdefghicdefghijdefghijkefghijklfghijklmghijklmnhijklmnoijklmnopjklmnopqklmnopqrlmnopqrsmnopqrstnopqrstu",
     )?;
     lengths(&mut out, &pattern())?;
-    let letters = vec![in rt.alloc(); b'a'; 1_000_000]?;
-    named(&mut out, b"million", &letters)
+    named(&mut out, b"million", &million())
 }
