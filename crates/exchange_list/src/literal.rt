@@ -1,5 +1,5 @@
 // Bytes as words of a list: pieces joined by `+`, each pairs of hexadecimal digits, or one pair, `*` and how often.
-ghost use Rattle.std.specs.Prelude.{◌≡◌, ◌≤◌, IfOk, OnOk, vec_len};
+ghost use Rattle.std.specs.Prelude.{◌≡◌, ◌+◌, ◌≤◌, IfOk, OnOk, vec_len};
 ghost use Rattle.exchange_list.specs.declared.literal.LiteralError.TheVariants.{OutOfMemory};
 
 use crate::words::{digit, number};
@@ -31,6 +31,18 @@ pub(crate) fn pair(high: u8, low: u8) -> Result<u8, LiteralError> {
     }
 }
 
+// Finds memory for so many bytes more: at once for twice those that there are, but for no more than a literal has.
+fn grow(bytes: &mut Vec<u8>, count: usize) -> Result<(), AllocError>
+    requires { vec_len bytes.old + count ≤ 65536 }
+    ensures { vec_len bytes.new ≡ vec_len bytes.old }
+{
+    let held = bytes.len();
+    if bytes.capacity() < held + count {
+        bytes.reserve_exact(count.max(held.min(ROOM - held)))?;
+    }
+    Ok(())
+}
+
 // Puts the byte of one pair so often behind those before it. (Where that is never, the pair may be any two letters.)
 fn repeated(bytes: &mut Vec<u8>, high: u8, low: u8, count: usize) -> Result<(), LiteralError>
     requires { vec_len bytes.old ≤ 65536 }
@@ -41,7 +53,7 @@ fn repeated(bytes: &mut Vec<u8>, high: u8, low: u8, count: usize) -> Result<(), 
     }
     if 0 < count {
         let byte = pair(high, low)?;
-        bytes.reserve_exact(count)?;
+        grow(bytes, count)?;
         bytes.resize(bytes.len() + count, byte)?;
     }
     Ok(())
@@ -58,7 +70,7 @@ pub(crate) fn put_pairs(room: &mut [u8], digits: &[u8]) -> Result<(), LiteralErr
     Ok(())
 }
 
-// Puts the bytes of one piece behind those before it. Asks for memory once, for no more than these.
+// Puts the bytes of one piece behind those before it. What finds no room is refused before a digit is read.
 fn piece(bytes: &mut Vec<u8>, piece: &[u8]) -> Result<(), LiteralError>
     requires { vec_len bytes.old ≤ 65536 }
     ensures { OnOk result (vec_len bytes.new ≤ 65536) }
@@ -75,7 +87,7 @@ fn piece(bytes: &mut Vec<u8>, piece: &[u8]) -> Result<(), LiteralError>
             if ROOM - held < count {
                 return Err(LiteralError::Malformed);
             }
-            bytes.reserve_exact(count)?;
+            grow(bytes, count)?;
             bytes.resize(held + count, 0)?;
             put_pairs(&mut bytes[held..], piece)
         }
