@@ -16,8 +16,10 @@ const ROOM: usize = 1048576;
 fn main(rt: HostRuntime) -> io::Result<()> {
     let mut list = vec![in rt.alloc(); 0; ROOM]?;
     let size = read_full(&mut rt.stdin(), &mut list)?;
+    list.truncate(size);
+    list.shrink_to_fit();
     let mut player = Player::new(rt.stdout(), rt.alloc())?;
-    player.play(&list[..size])?;
+    player.play(&list)?;
     if size == ROOM {
         player.cut()?;
     }

@@ -14,7 +14,9 @@ ghost use Rattle.linking.specs.Parent.{parent_option};
 
 use book_fields::kind::Kind;
 
-// The digest that a block on the block of height `j` names: zeros for height 0. The memory keeps it.
+// The digest that a block on the block of height `j` names: zeros for height 0. The memory keeps it. Never inlined:
+// what asks for it calls itself for each block below, and would hold on the stack what the digest needs.
+#[inline(never)]
 pub fn parent_digest<K: Kind>(book: &[u8], j: usize, known: &mut [u8]) -> [u8; 32]
     requires shown { Shown K.kind book.now }
     requires memo_as { MemoAs K.kind book.now known.old }

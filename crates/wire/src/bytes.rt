@@ -55,7 +55,9 @@ pub fn copy_to(target: &mut [u8], at: usize, source: &[u8])
     requires { at + length source.now ≤ length target.old }
     ensures { target.new ≡ put target.old at source.now }
 {
-    target[at..at + source.len()].copy_from_slice(source);
+    for i in 0..source.len() {
+        target[at + i] = source[i];
+    }
 }
 
 // Makes `count` bytes zero, from `at` on. Costs a store for each.
