@@ -5,6 +5,7 @@ mod common;
 
 use common::{host, scratch};
 use std::fs;
+use std::os::unix::fs::symlink;
 use std::path::{Path, PathBuf};
 use std::process::{Command, Output};
 
@@ -214,8 +215,10 @@ fn a_library_of_another_interface_is_not_installed() {
     }
     let (copy, prefix) = (fresh("next"), fresh("not_there"));
     fs::create_dir_all(copy.join("include")).unwrap();
+    // Links: a script that this process had just written could not be run while a child of another test, begun
+    // meanwhile, still had it open for writing.
     for file in ["install", "Cargo.toml"] {
-        fs::copy(host(file), copy.join(file)).unwrap();
+        symlink(host(file), copy.join(file)).unwrap();
     }
     let text = fs::read_to_string(host("include/mavunilai.h")).unwrap();
     let number = |number| format!("#define MAVUNILAI_INTERFACE {number}u");
